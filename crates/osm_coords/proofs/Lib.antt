@@ -1,0 +1,3 @@
+mod FormRead
+mod Numerals
+mod ReadBack

@@ -1,0 +1,17 @@
+-- Longitudes, in ten-millionths of a degree.
+use Rattle.std.specs.Prelude.{ℕ, ℤ, List, Option}
+use Rattle.std.specs.Option.{option_and_then}
+use Rattle.osm_coords.specs.Coordinate.{coordinate}
+use Rattle.osm_coords.specs.Range.{value_within, IsWithin}
+
+-- z is a longitude: from -180 to 180 degrees
+abbrev pub IsLongitude : ℤ → Type 0
+IsLongitude z = IsWithin 1800000000 z
+
+-- z, where it is a longitude
+abbrev pub longitude : ℤ → Option ℤ
+longitude z = value_within 1800000000 z
+
+-- the longitude that a text says, where it says one
+abbrev pub longitude_of : List ℕ → Option ℤ
+longitude_of text = option_and_then longitude (coordinate text)

@@ -1,0 +1,84 @@
+//! Latitudes.
+ghost use Rattle.std.specs.Prelude.{◌≡◌, ◌≤◌, ◌+ℤ◌, take, drop};
+ghost use Rattle.std.specs.Str.{IsAscii};
+ghost use Rattle.osm_coords.specs.Latitude.{latitude, latitude_of, IsLatitude};
+ghost use Rattle.osm_coords.specs.Written.{written};
+
+use crate::{decimal, range};
+use std::marker::Model;
+
+/// 90 degrees, in ten-millionths of a degree.
+const LIMIT: u32 = 900_000_000;
+
+/// A latitude: whole ten-millionths of a degree, from -90 to 90 degrees.
+///
+/// Contracts see it as that whole number.
+#[derive(Clone, Copy, Debug, PartialEq, Eq, PartialOrd, Ord, Hash)]
+pub struct Lat {
+    ten_millionths: i32,
+}
+
+impl Model for Lat {
+    ghost use Rattle.std.specs.Prelude.{ℤ};
+    ghost use Rattle.osm_coords.specs.Latitude.{IsLatitude};
+
+    ghost Value = { ℤ };
+
+    ghost view = { λ a. a.ten_millionths };
+
+    ghost invariant = { λ a. IsLatitude a.ten_millionths };
+
+    ghost inverse = { λ z. record { ten_millionths = z } };
+}
+
+impl Lat {
+    /// The latitude of so many ten-millionths of a degree, or `None` where they are out of range.
+    pub fn new(ten_millionths: i32) -> Option<Lat>
+        ensures { result ≡ latitude ten_millionths }
+    {
+        let ten_millionths = range::value_within(LIMIT, i64::from(ten_millionths))?;
+        Some(Lat { ten_millionths })
+    }
+
+    /// The ten-millionths of a degree.
+    pub fn value(self) -> i32
+        ensures value { result ≡ self }
+        ensures range { IsLatitude result }
+    {
+        self.ten_millionths
+    }
+
+    /// The latitude that a text says, as `51.5`, `-0.0000001` or `007.5`.
+    ///
+    /// `None` where the text does not have a coordinate's form, as `+5`, `.5`, `5.`, ` 5` or one
+    /// with eight decimals, and where its value is out of range.
+    pub fn read(text: &str) -> Option<Lat>
+        ensures { result ≡ latitude_of text.now }
+    {
+        let ten_millionths = range::value_within(LIMIT, decimal::read(text)?)?;
+        Some(Lat { ten_millionths })
+    }
+
+    /// Writes the text at the front of the buffer, and answers how many bytes it has.
+    ///
+    /// The text is a `-` where the value is negative, the degrees with no needless zero in front, a
+    /// point, and exactly seven digits. The rest of the buffer stays as it was.
+    #[tactic(auto, using(crate::proofs::ReadBack::written_is_ascii))]
+    pub fn write(&self, buffer: &mut [u8; 12]) -> usize
+        ensures fits { result ≤ 12 }
+        ensures text { take result buffer.new ≡ written self.now }
+        ensures ascii { IsAscii (take result buffer.new) }
+        ensures rest { drop result buffer.new ≡ drop result buffer.old }
+    {
+        decimal::write(self.ten_millionths, buffer)
+    }
+
+    /// The latitude that is `by` ten-millionths of a degree further, or `None` where that is out of
+    /// range.
+    pub fn moved(self, by: i64) -> Option<Lat>
+        ensures { result ≡ latitude (self +ℤ by) }
+    {
+        let ten_millionths = range::moved(LIMIT, self.ten_millionths, by)?;
+        Some(Lat { ten_millionths })
+    }
+}

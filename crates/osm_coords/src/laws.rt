@@ -1,0 +1,31 @@
+//! Laws of the texts of coordinates, each the contract of a function that does nothing.
+ghost use Rattle.std.specs.Prelude.{◌≡◌, ◌≤◌, ◌↔◌, ℕ, ℤ, List, length};
+ghost use Rattle.osm_coords.specs.Coordinate.{coordinate};
+ghost use Rattle.osm_coords.specs.Form.{SaysCoordinate};
+ghost use Rattle.osm_coords.specs.Latitude.{latitude_of, IsLatitude};
+ghost use Rattle.osm_coords.specs.Longitude.{longitude_of, IsLongitude};
+ghost use Rattle.osm_coords.specs.Written.{written};
+
+/// A text is read as a value exactly where it has a coordinate's form and its parts say that value.
+pub fn exactly_the_form_is_read()
+    ensures { (text : List ℕ) (z : ℤ) → (coordinate text ≡ Some z) ↔ SaysCoordinate text z }
+{}
+
+/// Reading the text that is written for a latitude gives that latitude.
+#[tactic(auto, using(crate::proofs::ReadBack::latitude_read_back))]
+pub fn latitude_is_read_back()
+    ensures { (z : ℤ) → IsLatitude z → latitude_of (written z) ≡ Some z }
+{}
+
+/// Reading the text that is written for a longitude gives that longitude.
+#[tactic(auto, using(crate::proofs::ReadBack::longitude_read_back))]
+pub fn longitude_is_read_back()
+    ensures { (z : ℤ) → IsLongitude z → longitude_of (written z) ≡ Some z }
+{}
+
+/// The text of a longitude has at most 12 bytes, and so has that of a latitude, whose range is
+/// smaller.
+#[tactic(auto, using(crate::proofs::ReadBack::written_fits))]
+pub fn written_fits()
+    ensures { (z : ℤ) → IsLongitude z → length (written z) ≤ 12 }
+{}

@@ -1,0 +1,84 @@
+//! Longitudes.
+ghost use Rattle.std.specs.Prelude.{◌≡◌, ◌≤◌, ◌+ℤ◌, take, drop};
+ghost use Rattle.std.specs.Str.{IsAscii};
+ghost use Rattle.osm_coords.specs.Longitude.{longitude, longitude_of, IsLongitude};
+ghost use Rattle.osm_coords.specs.Written.{written};
+
+use crate::{decimal, range};
+use std::marker::Model;
+
+/// 180 degrees, in ten-millionths of a degree.
+const LIMIT: u32 = 1_800_000_000;
+
+/// A longitude: whole ten-millionths of a degree, from -180 to 180 degrees.
+///
+/// Contracts see it as that whole number.
+#[derive(Clone, Copy, Debug, PartialEq, Eq, PartialOrd, Ord, Hash)]
+pub struct Lon {
+    ten_millionths: i32,
+}
+
+impl Model for Lon {
+    ghost use Rattle.std.specs.Prelude.{ℤ};
+    ghost use Rattle.osm_coords.specs.Longitude.{IsLongitude};
+
+    ghost Value = { ℤ };
+
+    ghost view = { λ a. a.ten_millionths };
+
+    ghost invariant = { λ a. IsLongitude a.ten_millionths };
+
+    ghost inverse = { λ z. record { ten_millionths = z } };
+}
+
+impl Lon {
+    /// The longitude of so many ten-millionths of a degree, or `None` where they are out of range.
+    pub fn new(ten_millionths: i32) -> Option<Lon>
+        ensures { result ≡ longitude ten_millionths }
+    {
+        let ten_millionths = range::value_within(LIMIT, i64::from(ten_millionths))?;
+        Some(Lon { ten_millionths })
+    }
+
+    /// The ten-millionths of a degree.
+    pub fn value(self) -> i32
+        ensures value { result ≡ self }
+        ensures range { IsLongitude result }
+    {
+        self.ten_millionths
+    }
+
+    /// The longitude that a text says, as `51.5`, `-0.0000001` or `007.5`.
+    ///
+    /// `None` where the text does not have a coordinate's form, as `+5`, `.5`, `5.`, ` 5` or one
+    /// with eight decimals, and where its value is out of range.
+    pub fn read(text: &str) -> Option<Lon>
+        ensures { result ≡ longitude_of text.now }
+    {
+        let ten_millionths = range::value_within(LIMIT, decimal::read(text)?)?;
+        Some(Lon { ten_millionths })
+    }
+
+    /// Writes the text at the front of the buffer, and answers how many bytes it has.
+    ///
+    /// The text is a `-` where the value is negative, the degrees with no needless zero in front, a
+    /// point, and exactly seven digits. The rest of the buffer stays as it was.
+    #[tactic(auto, using(crate::proofs::ReadBack::written_is_ascii))]
+    pub fn write(&self, buffer: &mut [u8; 12]) -> usize
+        ensures fits { result ≤ 12 }
+        ensures text { take result buffer.new ≡ written self.now }
+        ensures ascii { IsAscii (take result buffer.new) }
+        ensures rest { drop result buffer.new ≡ drop result buffer.old }
+    {
+        decimal::write(self.ten_millionths, buffer)
+    }
+
+    /// The longitude that is `by` ten-millionths of a degree further, or `None` where that is out of
+    /// range.
+    pub fn moved(self, by: i64) -> Option<Lon>
+        ensures { result ≡ longitude (self +ℤ by) }
+    {
+        let ten_millionths = range::moved(LIMIT, self.ten_millionths, by)?;
+        Some(Lon { ten_millionths })
+    }
+}

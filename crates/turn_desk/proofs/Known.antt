@@ -1,0 +1,84 @@
+-- What is known of all seats, after a step of one.
+use Rattle.std.proofs.Common.{◌≡◌, ◌≢◌, ◌⊎◌, ℕ, List, set, sym, refl, ap, ◌∙◌, subst, ⊎_elim, inl, inr, Some, None}
+use mathlib.Core.Option.{some, some-injective}
+use mathlib.Core.Logic.{dite}
+use native.Mathlib.Decide.{ℕ_discrete}
+use lib.ListN.{get_elem?}
+use Rattle.atomic_table.proofs.Lists.{at_set, set_else}
+use Rattle.turn_desk.specs.History.{History}
+use Rattle.turn_desk.specs.Rule.{HasTurn, Agrees, IsSpent, Moment, HoldsTicket, Fits}
+use Rattle.turn_desk.specs.declared.view.View.{View}
+use Rattle.turn_desk.specs.declared.view.Stage.{Stage}
+use Rattle.turn_desk.specs.declared.view.Stage.TheVariants.{Idle, Waiting, Turning}
+
+pick : {P : Type 0} → Dec P → ℕ → ℕ → ℕ
+pick (yes _) a b = a
+pick (no _) a b = b
+
+-- the same numbers, but for one
+pub put : (ℕ → ℕ) → ℕ → ℕ → ℕ → ℕ
+put g k x n = pick (ℕ_discrete n k) x (g n)
+
+pub put_here : (g : ℕ → ℕ) (k x : ℕ) → put g k x k ≡ x
+unfolding put pick
+put_here g k x = go (ℕ_discrete k k)
+  where
+    go : (d : Dec (k ≡ k)) → pick d x (g k) ≡ x
+    go (yes _) = refl
+    go (no n) = absurd (n refl)
+
+pub put_else : (g : ℕ → ℕ) (k x n : ℕ) → n ≢ k → put g k x n ≡ g n
+unfolding put pick
+put_else g k x n other = go (ℕ_discrete n k)
+  where
+    go : (d : Dec (n ≡ k)) → pick d x (g n) ≡ g n
+    go (yes e) = absurd (other e)
+    go (no _) = refl
+
+-- a seat that has the turn has a ticket
+pub turn_ticket : (st : Stage) → HasTurn st → (t : ℕ) × (st ≡ Turning t)
+turn_ticket Idle h = absurd h
+turn_ticket (Waiting t) h = absurd h
+turn_ticket (Turning t) h = (t, refl)
+
+module _ {E F : Type 0} where
+  -- what the rule says of one seat
+  abbrev pub Known : Moment E → F → ℕ → View E F → Type 0
+  Known now f j v = IsSpent v ⊎ Fits now j f v
+
+  -- what a seat knows of its kin does not depend on where it is in its turn, nor on what it has seen
+  pub agrees_still : (h : History E) (v : View E F) (stage : Stage) (parts : ℕ) (seen : History E) (looks : List ℕ) → Agrees h v
+      → Agrees h (record v { stage = stage; parts = parts; seen = seen; looks = looks })
+  agrees_still h v stage parts seen looks a = record { kin = a.kin; apart = a.apart; supply = a.supply; stride = a.stride }
+
+  -- a seat with its fixed part was not met into another
+  pub fits : (now : Moment E) (f : F) (j : ℕ) (v : View E F) → v.fixed ≡ Some f → Known now f j v → Fits now j f v
+  fits now f j v own (inl spent) = let e : None ≡ Some f = sym spent.0 ∙ own in cc
+  fits now f j v own (inr it) = it
+
+  -- over a step that leaves the history, a seat knows what it did
+  pub fits_still : (now : Moment E) (drawn served : ℕ) (drawer : ℕ → ℕ) (j : ℕ) (f : F) (v : View E F) → Fits now j f v
+      → HoldsTicket (record now { drawn = drawn; served = served; drawer = drawer }) j v v.stage → Fits (record now { drawn = drawn; served = served; drawer = drawer }) j f v
+  fits_still now drawn served drawer j f v it ticket = record { fixed = it.fixed; seen = it.seen; told = it.told; agrees = it.agrees; kin = it.kin; supply = it.supply; ticket = ticket }
+
+  -- after a step of the seat `id`, each other seat knows what it did
+  pub seats_stay : (now later : Moment E) (f : F) (views : List (View E F)) (id : ℕ) (w : View E F) → Fits later id f w
+      → ((j : ℕ) (v : View E F) → j ≢ id → Fits now j f v → Fits later j f v) → ((j : ℕ) (v : View E F) → get_elem? views j ≡ some v → Known now f j v)
+      → (j : ℕ) (v : View E F) → get_elem? (set views id w) j ≡ some v → Known later f j v
+  seats_stay now later f views id w mine others known j v at = ⊎_elim
+      (λ (t : (j ≡ id) × (w ≡ v)). inr (subst (λ (x : ℕ × View E F). Fits later x.0 f x.1) (λ i. (sym t.0 i, t.1 i)) mine))
+      (λ (t : (j ≢ id) × (get_elem? views j ≡ some v)). ⊎_elim (λ (s : IsSpent v). inl s) (λ (s : Fits now j f v). inr (others j v t.0 s)) (known j v t.1))
+      (at_set views id j w v at)
+
+  -- where no seat has the turn after the seat's step, none had it before, unless the seat itself had
+  pub none_had_turn : (views : List (View E F)) (id : ℕ) (v w : View E F) → get_elem? views id ≡ some v → ¬ HasTurn v.stage
+      → ((j : ℕ) (u : View E F) → get_elem? (set views id w) j ≡ some u → ¬ HasTurn u.stage) → (j : ℕ) (u : View E F) → get_elem? views j ≡ some u → ¬ HasTurn u.stage
+  none_had_turn views id v w at idle none j u here = dite (ℕ_discrete j id)
+      (λ (e : j ≡ id). let same : v ≡ u = some-injective v u (sym at ∙ (ap (get_elem? views) (sym e) ∙ here)) in subst (λ (x : View E F). ¬ HasTurn x.stage) same idle)
+      (λ (other : j ≢ id). none j u (set_else views id j w other ∙ here))
+
+  -- a seat that has the turn is the one whose ticket is served
+  pub turner : (now : Moment E) (f : F) (j : ℕ) (v : View E F) → Known now f j v → HasTurn v.stage → now.drawer now.served ≡ j
+  turner now f j v (inl spent) turn = absurd (subst HasTurn spent.1 turn)
+  turner now f j v (inr it) turn = let t = turn_ticket v.stage turn in
+      let ticket : HoldsTicket now j v (Turning t.0) = subst (HoldsTicket now j v) t.1 it.ticket in ap now.drawer ticket.0 ∙ ticket.2

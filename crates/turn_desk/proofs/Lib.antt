@@ -1,0 +1,9 @@
+pub mod Lists
+pub mod Known
+pub mod Beginning
+pub mod Drawing
+pub mod Asking
+pub mod Storing
+pub mod Passing
+pub mod Looking
+pub mod Turning

@@ -1,0 +1,15 @@
+use Rattle.std.proofs.Common.{rules}
+use Rattle.turn_desk.proofs.Looking.{looks}
+use Rattle.turn_desk.proofs.steps.look.Goals as goal
+
+pub load-requires : goal.load-requires
+load-requires g c = (search rules, search rules, looks g.R.Turned.fixed g.R.Turned.list g.R.Turned.answers _ _ _ _ c.requires.seat.2 c.requires.idle.stage)
+
+pub returns-clause-place : goal.returns-clause-place
+returns-clause-place g c = let now = c.load.ensures.2 _ c.requires.seat.2 in search rules
+
+pub returns-clause-seat : goal.returns-clause-seat
+returns-clause-seat g c = let now = c.load.ensures.2 _ c.requires.seat.2 in search rules
+
+pub returns-clause-look : goal.returns-clause-look
+returns-clause-look g c = let now = c.load.ensures.2 _ c.requires.seat.2 in search rules

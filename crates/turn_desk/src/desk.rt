@@ -1,0 +1,94 @@
+//! A desk, at which a room is shared by turns.
+ghost use Rattle.std.specs.Prelude.{◌≡◌, [], IfOk};
+ghost use Rattle.turn_desk.specs.Desk.{IsAt, IsFirst, IsSameSeat, TurnsAt, LooksAt, HasKin, ClosesWith};
+
+use crate::Memory;
+use crate::law::InTurns;
+use crate::seat::Seat;
+use crate::steps::{look, take_last_turn, take_turn};
+use crate::turned::Turned;
+use crate::view::View;
+use atomic_table::Table;
+use std::alloc::Allocator;
+use std::marker::Model;
+use std::snapshot::Snapshot;
+use std::sync::Wait;
+
+/// A room that is shared by turns.
+///
+/// Contracts see it as the table of words that it shares with its seats, and the room's fixed part.
+/// Each call is handed one of the desk's own seats.
+#[derive(Drop)]
+pub struct Desk<R: Turned, A: Allocator> {
+    table: Table<Option<R>, View<R::Entry, R::Fixed>, Snapshot<R>, InTurns, A>,
+}
+
+impl<R: Turned, A: Allocator> Model for Desk<R, A> {
+    ghost use Rattle.turn_desk.specs.Desk.{DeskId};
+    ghost use Rattle.turn_desk.specs.Steps.{IsSized};
+
+    ghost Value = { DeskId R.Fixed };
+
+    ghost view = { λ d. record { table = d.table.shared.table_id; fixed = R.fixed d.table.shared.key.value } };
+
+    ghost invariant = { λ d. IsSized d.table.shared.table_id };
+}
+
+impl<R: Turned, A: Allocator> Desk<R, A> {
+    /// Opens a desk over a room whose list is empty, and gives it with its first seat, whose number is 0.
+    /// Where memory is refused, the room is dropped.
+    pub fn open(alloc: A, room: R) -> Result<(Desk<R, A>, Seat<R>), Memory>
+    where
+        A: Clone,
+        requires { R.list room ≡ [] }
+        ensures { IfOk result (λ r. IsAt r.0 r.1 × (r.0.fixed ≡ R.fixed room) × IsFirst r.1) }
+    {
+        let about = Snapshot::of(&room);
+        let mut slots = Vec::new(alloc.clone()?);
+        slots.push(Some(room))?;
+        let Ok((table, place)) = Table::new(alloc, &[0, 0, 0], slots, &about) else {
+            return Err(Memory);
+        };
+        Ok((Desk { table }, Seat { place }))
+    }
+
+    /// Waits for a turn, makes the call in it and gives the turn on.
+    ///
+    /// If it returns, the reply is the one that a single caller would get after some legal history, which begins with what the seat had seen.
+    /// The seat has then seen that history, with the call's entry if it was accepted.
+    /// It is not promised that the turn comes, in what time, or in which order.
+    pub fn turn<W: Wait>(&self, rt: &W, seat: &mut Seat<R>, call: R::Call) -> R::Reply
+        requires { IsAt self.now seat.old }
+        ensures desk { IsAt self.now seat.new }
+        ensures same { IsSameSeat seat.old seat.new }
+        ensures turn { TurnsAt R.answers self.now.fixed seat.old call result seat.new }
+        ensures kin { HasKin seat.new.seen seat.new }
+    {
+        take_turn(rt, &self.table.shared, &mut seat.place, call)
+    }
+
+    /// How long the history is. The seat has then seen that much of it.
+    ///
+    /// It waits for nobody. By the time that it returns, others may have made the history longer.
+    pub fn front(&self, seat: &mut Seat<R>) -> u64
+        requires { IsAt self.now seat.old }
+        ensures desk { IsAt self.now seat.new }
+        ensures same { IsSameSeat seat.old seat.new }
+        ensures look { LooksAt R.answers self.now.fixed seat.old result seat.new }
+        ensures kin { HasKin seat.new.seen seat.new }
+    {
+        look(&self.table.shared, &mut seat.place)
+    }
+
+    /// Waits for a last turn, makes no call in it and gives the room back.
+    ///
+    /// If it returns, the room stands for a legal history that begins with what the seat had seen. It has the entries of the seat's calls, and of those of each seat met into it.
+    /// It is not promised that the turn comes, or in what time.
+    pub fn close<W: Wait>(self, rt: &W, seat: Seat<R>) -> R
+        requires { IsAt self seat }
+        ensures { ClosesWith R.fixed R.list R.answers self.fixed seat result }
+    {
+        let mut place = seat.place;
+        take_last_turn(rt, &self.table.shared, &mut place)
+    }
+}

@@ -1,0 +1,73 @@
+//! The rule of a desk's table, and what each kind of step on it tells.
+use crate::turned::Turned;
+use crate::view::View;
+use atomic_table::{Play, Seat, Shared, TableRule};
+use std::snapshot::Snapshot;
+
+/// The rule by which turns are taken.
+pub(crate) struct InTurns;
+
+impl<R: Turned> TableRule<Option<R>, View<R::Entry, R::Fixed>, Snapshot<R>> for InTurns {
+    ghost use Rattle.turn_desk.specs.Rule.{Kept};
+    ghost use Rattle.turn_desk.specs.Opening.{first_view};
+
+    ghost holds = { λ key. Kept R.fixed R.list R.answers (R.fixed key.value) };
+
+    ghost first = { λ key. first_view (R.fixed key.value) };
+}
+
+/// The step that draws a ticket.
+pub(crate) struct Draw;
+
+impl<R: Turned> Play<Option<R>, View<R::Entry, R::Fixed>> for Draw {
+    ghost use Rattle.turn_desk.specs.Plays.{Draws};
+
+    ghost then = { λ _. Draws };
+}
+
+/// The step that asks for the turn.
+pub(crate) struct Ask;
+
+impl<R: Turned> Play<Option<R>, View<R::Entry, R::Fixed>> for Ask {
+    ghost use Rattle.turn_desk.specs.Plays.{Asks};
+
+    ghost then = { λ _. Asks R.fixed R.list R.answers };
+}
+
+/// The step that enters an event into the history.
+pub(crate) struct Store;
+
+impl<R: Turned> Play<Option<R>, View<R::Entry, R::Fixed>> for Store {
+    ghost use Rattle.turn_desk.specs.Plays.{Stores};
+
+    ghost then = { λ _. Stores R.fixed R.list R.answers };
+}
+
+/// The step that gives the turn on.
+pub(crate) struct PassOn;
+
+impl<R: Turned> Play<Option<R>, View<R::Entry, R::Fixed>> for PassOn {
+    ghost use Rattle.turn_desk.specs.Plays.{PassesOn};
+
+    ghost then = { λ _. PassesOn };
+}
+
+/// The step that looks at the length of the history.
+pub(crate) struct Look;
+
+impl<R: Turned> Play<Option<R>, View<R::Entry, R::Fixed>> for Look {
+    ghost use Rattle.turn_desk.specs.Plays.{Looks};
+
+    ghost then = { λ _. Looks R.fixed R.list R.answers };
+}
+
+/// The table as its seats share it.
+pub(crate) type Board<R> = Shared<
+    Option<R>,
+    View<<R as Turned>::Entry, <R as Turned>::Fixed>,
+    Snapshot<R>,
+    InTurns,
+>;
+
+/// A seat at the table.
+pub(crate) type Place<R> = Seat<Option<R>, View<<R as Turned>::Entry, <R as Turned>::Fixed>>;

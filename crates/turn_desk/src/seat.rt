@@ -1,0 +1,24 @@
+//! A seat at a desk.
+use crate::turned::Turned;
+use crate::view::View;
+use std::marker::Model;
+
+/// A seat at a desk. It has a number, under which the history has the entries of its own calls.
+///
+/// Contracts see it as its desk, its number, the history that it has seen, the entries of its own calls,
+/// the seats that were met into it, and the lengths of the history that it looked at.
+#[derive(Drop)]
+pub struct Seat<R: Turned> {
+    pub(crate) place: atomic_table::Seat<Option<R>, View<R::Entry, R::Fixed>>,
+}
+
+impl<R: Turned> Model for Seat<R> {
+    ghost use Rattle.turn_desk.specs.Desk.{Sitting, sitting};
+    ghost use Rattle.turn_desk.specs.Steps.{IsAtRest};
+
+    ghost Value = { Sitting R.Entry R.Fixed };
+
+    ghost view = { λ s. sitting s.place };
+
+    ghost invariant = { λ s. IsAtRest s.place.me };
+}

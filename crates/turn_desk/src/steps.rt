@@ -1,0 +1,197 @@
+//! The steps of a turn, each in a function of its own.
+//!
+//! Word 0 is the length of the history, word 1 the number of tickets drawn, and word 2 the number of tickets served, both modulo 2^64.
+//! The one slot holds the room while no seat has the turn. From the load that gives a seat the turn until it gives the turn on, the slot is the seat's.
+ghost use Rattle.std.specs.Prelude.{◌≡◌, ◌⊎◌, ℕ, ◌%◌, ◌^◌, ◌<◌, [], ◌∷◌, length, Some, None};
+ghost use Rattle.turn_desk.specs.Plays.{Draws, Asks, Stores, PassesOn, Looks, TakesTurn};
+ghost use Rattle.turn_desk.specs.Steps.{SitsAt, IsSamePlace, IsWaiting, IsTurning, IsAtRest, HoldsRoom, MayEnter, GetsTurn, MakesCall};
+ghost use Rattle.turn_desk.specs.Desk.{sitting, IsSameSeat, TurnsAt, LooksAt, ClosesWith};
+ghost use Rattle.turn_desk.specs.declared.view.Stage.TheVariants.{Idle, Waiting};
+
+use crate::law::{Ask, Board, Draw, Look, PassOn, Place, Store};
+use crate::turned::Turned;
+use std::sync::Wait;
+use std::thread;
+
+/// The word with the length of the history.
+const LENGTH: usize = 0;
+
+/// The word with the number of tickets drawn.
+const TICKET: usize = 1;
+
+/// The word with the number of tickets served.
+const SERVING: usize = 2;
+
+/// How often a waiting thread yields before it sleeps.
+const YIELDS: u32 = 64;
+
+/// What a sleeping thread watches of a word.
+const LOW_BITS: u64 = 0xffff_ffff;
+
+/// Draws a ticket, which is the number of tickets drawn before it, modulo 2^64.
+fn draw_ticket<R: Turned>(board: &Board<R>, place: &mut Place<R>) -> u64
+    requires seat { SitsAt board.now.table_id (R.fixed board.now.key.value) place.old }
+    requires idle { place.old.me.0.stage ≡ Idle }
+    ensures place { IsSamePlace place.old place.new }
+    ensures ticket { Draws place.old.me result place.new.me }
+{
+    board.fetch_add::<Draw>(place, TICKET, 1)
+}
+
+/// Loads the ticket that is served, modulo 2^64. Where it is the seat's own, the seat has the turn.
+fn ask<R: Turned>(board: &Board<R>, place: &mut Place<R>) -> u64
+    requires seat { SitsAt board.now.table_id (R.fixed board.now.key.value) place.old }
+    requires waiting { (t : ℕ) × (place.old.me.0.stage ≡ Waiting t) }
+    ensures place { IsSamePlace place.old place.new }
+    ensures turn { Asks R.fixed R.list R.answers place.old.me result place.new.me }
+{
+    board.load::<Ask>(place, SERVING)
+}
+
+/// Waits until the seat's ticket is served. The thread yields at first, and then sleeps until a turn is given on.
+fn wait_for_turn<R: Turned, W: Wait>(rt: &W, board: &Board<R>, place: &mut Place<R>, ticket: u64)
+    requires seat { SitsAt board.now.table_id (R.fixed board.now.key.value) place.old }
+    requires waiting { IsWaiting place.old.me.0 ticket }
+    ensures place { IsSamePlace place.old place.new }
+    ensures turn { (t : ℕ) → place.old.me.0.stage ≡ Waiting t →
+        TakesTurn R.fixed R.list R.answers (R.fixed board.now.key.value) t place.old.me place.new.me }
+{
+    let mut yields = 0;
+    'asking: for _ in rt.forever() {
+        let serving = ask(board, place);
+        if serving == ticket {
+            return;
+        }
+        if yields < YIELDS {
+            yields += 1;
+            thread::yield_now();
+        } else {
+            board.park(rt, SERVING, (serving & LOW_BITS) as u32);
+        }
+    }
+    unreachable!()
+}
+
+/// Takes the room out of the slot.
+fn take_room<R: Turned>(board: &Board<R>, place: &mut Place<R>) -> R
+    requires board { place.old.table_id ≡ board.now.table_id }
+    requires slot { (room : R) × (place.old.me.1 ≡ (0, Some room) ∷ []) }
+    ensures place { IsSamePlace place.old place.new }
+    ensures slot { (place.old.me.1 ≡ (0, Some result) ∷ [])
+        × (place.new.me ≡ (place.old.me.0, (0, None) ∷ [])) }
+{
+    let Some(room) = board.exchange(place, 0, None) else {
+        unreachable!()
+    };
+    room
+}
+
+/// Puts the room back into the slot.
+fn put_room<R: Turned>(board: &Board<R>, place: &mut Place<R>, room: R)
+    requires board { place.old.table_id ≡ board.now.table_id }
+    requires slot { place.old.me.1 ≡ (0, None) ∷ [] }
+    ensures place { IsSamePlace place.old place.new }
+    ensures slot { place.new.me ≡ (place.old.me.0, (0, Some room) ∷ []) }
+{
+    board.exchange(place, 0, Some(room));
+}
+
+/// Stores the length of the room's list. Here the turn's event enters the history.
+fn enter_event<R: Turned>(board: &Board<R>, place: &mut Place<R>, count: u64)
+    requires seat { SitsAt board.now.table_id (R.fixed board.now.key.value) place.old }
+    requires turn { IsTurning place.old.me.0 }
+    requires room { MayEnter R.fixed R.list R.answers (R.fixed board.now.key.value)
+        place.old.me count }
+    ensures place { IsSamePlace place.old place.new }
+    ensures event { Stores R.fixed R.list R.answers place.old.me count place.new.me }
+{
+    board.store::<Store>(place, LENGTH, count);
+}
+
+/// Gives the turn on, and wakes those who sleep until it is theirs.
+fn pass_on<R: Turned>(board: &Board<R>, place: &mut Place<R>)
+    requires seat { SitsAt board.now.table_id (R.fixed board.now.key.value) place.old }
+    requires turn { IsTurning place.old.me.0 }
+    requires room { HoldsRoom R.fixed R.list (R.fixed board.now.key.value) place.old.me }
+    ensures place { IsSamePlace place.old place.new }
+    ensures idle { PassesOn place.old.me 0 place.new.me }
+{
+    board.fetch_add::<PassOn>(place, SERVING, 1);
+    board.wake_all(SERVING);
+}
+
+/// Draws a ticket and waits until the turn is the seat's.
+fn get_turn<R: Turned, W: Wait>(rt: &W, board: &Board<R>, place: &mut Place<R>)
+    requires seat { SitsAt board.now.table_id (R.fixed board.now.key.value) place.old }
+    requires idle { IsAtRest place.old.me }
+    ensures place { IsSamePlace place.old place.new }
+    ensures turn { GetsTurn R.fixed R.list R.answers (R.fixed board.now.key.value)
+        place.old.me place.new.me }
+{
+    let ticket = draw_ticket(board, place);
+    wait_for_turn(rt, board, place, ticket);
+}
+
+/// Makes the call while the seat has the turn.
+fn make_call<R: Turned>(board: &Board<R>, place: &mut Place<R>, call: R::Call) -> R::Reply
+    requires seat { SitsAt board.now.table_id (R.fixed board.now.key.value) place.old }
+    requires turn { IsTurning place.old.me.0 }
+    requires room { HoldsRoom R.fixed R.list (R.fixed board.now.key.value) place.old.me }
+    ensures place { IsSamePlace place.old place.new }
+    ensures call { MakesCall R.fixed R.list R.answers (R.fixed board.now.key.value)
+        place.old.me call result place.new.me }
+{
+    let mut room = take_room(board, place);
+    let reply = room.turn(call);
+    let count = room.front();
+    put_room(board, place, room);
+    enter_event(board, place, count);
+    reply
+}
+
+/// Takes a turn and makes one call in it.
+pub(crate) fn take_turn<R: Turned, W: Wait>(
+    rt: &W,
+    board: &Board<R>,
+    place: &mut Place<R>,
+    call: R::Call,
+) -> R::Reply
+    requires seat { SitsAt board.now.table_id (R.fixed board.now.key.value) place.old }
+    requires idle { IsAtRest place.old.me }
+    ensures place { IsSamePlace place.old place.new × IsAtRest place.new.me }
+    ensures seat { IsSameSeat (sitting place.old) (sitting place.new) }
+    ensures turn { TurnsAt R.answers (R.fixed board.now.key.value)
+        (sitting place.old) call result (sitting place.new) }
+{
+    get_turn(rt, board, place);
+    let reply = make_call(board, place, call);
+    pass_on(board, place);
+    reply
+}
+
+/// Takes a last turn, and the room out in it.
+pub(crate) fn take_last_turn<R: Turned, W: Wait>(
+    rt: &W,
+    board: &Board<R>,
+    place: &mut Place<R>,
+) -> R
+    requires seat { SitsAt board.now.table_id (R.fixed board.now.key.value) place.old }
+    requires idle { IsAtRest place.old.me }
+    ensures { ClosesWith R.fixed R.list R.answers (R.fixed board.now.key.value)
+        (sitting place.old) result }
+{
+    get_turn(rt, board, place);
+    take_room(board, place)
+}
+
+/// Loads the length of the history.
+pub(crate) fn look<R: Turned>(board: &Board<R>, place: &mut Place<R>) -> u64
+    requires seat { SitsAt board.now.table_id (R.fixed board.now.key.value) place.old }
+    requires idle { IsAtRest place.old.me }
+    ensures place { IsSamePlace place.old place.new × IsAtRest place.new.me }
+    ensures seat { IsSameSeat (sitting place.old) (sitting place.new) }
+    ensures look { LooksAt R.answers (R.fixed board.now.key.value)
+        (sitting place.old) result (sitting place.new) }
+{
+    board.load::<Look>(place, LENGTH)
+}
