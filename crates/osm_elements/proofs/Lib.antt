@@ -1,0 +1,6 @@
+pub mod Buffers
+pub mod Examples
+pub mod Letters
+pub mod MapRows
+pub mod TagPlaces
+pub mod TagSearch

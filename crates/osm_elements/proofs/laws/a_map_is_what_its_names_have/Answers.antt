@@ -1,0 +1,5 @@
+use Rattle.osm_elements.specs.RowFacts.{same_rows}
+use Rattle.osm_elements.proofs.laws.a_map_is_what_its_names_have.Goals as goal
+
+pub returns : goal.returns
+returns g c = same_rows

@@ -1,0 +1,11 @@
+use Rattle.osm_elements.specs.RowFacts.{row_at-without_row_same, row_at-without_row_other, AreInOrder-without_row}
+use Rattle.osm_elements.proofs.laws.taking_out_changes_one_name.Goals as goal
+
+pub returns-clause-same : goal.returns-clause-same
+returns-clause-same g c = row_at-without_row_same
+
+pub returns-clause-other : goal.returns-clause-other
+returns-clause-other g c = row_at-without_row_other
+
+pub returns-clause-order : goal.returns-clause-order
+returns-clause-order g c = AreInOrder-without_row

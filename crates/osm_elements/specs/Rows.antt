@@ -1,0 +1,33 @@
+-- A map of elements as its rows in name order.
+use Rattle.std.specs.Prelude.{◌≡◌, T, Option, List, All}
+use Rattle.std.specs.Map.{lookup, remove_entry}
+use Rattle.std.specs.BTreeMap.{insert_entry, is_at}
+use Rattle.std.specs.FinMap.Entries.{is_sorted}
+use Rattle.osm_elements.specs.declared.name.Name.{Name}
+use Rattle.osm_elements.specs.declared.element.Element.{Element}
+use Rattle.osm_elements.specs.Elements.{kind_of}
+use Rattle.osm_elements.specs.NameOrder.{name_cmp}
+
+-- the element at a name
+abbrev pub row_at : {A : Type 0} → List (Name × Element A) → Name → Option (Element A)
+row_at rows name = lookup (is_at (name_cmp name)) rows
+
+-- the rows after an element was put at a name
+abbrev pub put_row : {A : Type 0} → List (Name × Element A) → Name → Element A → List (Name × Element A)
+put_row rows name element = insert_entry name_cmp rows name element
+
+-- the rows after a name was taken out
+abbrev pub without_row : {A : Type 0} → List (Name × Element A) → Name → List (Name × Element A)
+without_row rows name = remove_entry (is_at (name_cmp name)) rows
+
+-- the names rise
+abbrev pub AreInOrder : {A : Type 0} → List (Name × Element A) → Type 0
+AreInOrder rows = T (is_sorted name_cmp rows)
+
+-- each element is of its name's kind
+abbrev pub AreOfTheirKinds : {A : Type 0} → List (Name × Element A) → Type 0
+AreOfTheirKinds rows = All (λ r. kind_of r.1 ≡ r.0.kind) rows
+
+-- what holds of the rows of every map
+abbrev pub AreMapRows : {A : Type 0} → List (Name × Element A) → Type 0
+AreMapRows rows = AreInOrder rows × AreOfTheirKinds rows

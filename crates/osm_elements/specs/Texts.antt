@@ -1,0 +1,12 @@
+-- Which texts are refused.
+use Rattle.std.specs.Prelude.{ℕ, Bool, List, length, Option, Some, None, if◌then◌else◌, nat_lt}
+use Rattle.std.specs.Str.{chars}
+use Rattle.osm_elements.specs.declared.fault.TextFault.{TextFault}
+use Rattle.osm_elements.specs.declared.fault.TextFault.TheVariants.{TextTooLong}
+
+-- a text of more than 255 characters is too long
+unfoldable pub is_long : List ℕ → Bool
+is_long text = nat_lt 255 (length (chars text))
+
+abbrev pub text_refusal : List ℕ → Option TextFault
+text_refusal text = if is_long text then Some TextTooLong else None

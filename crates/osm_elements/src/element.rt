@@ -1,0 +1,74 @@
+//! Elements of a map.
+ghost use Rattle.std.specs.Prelude.{◌≡◌, IfOk};
+
+use crate::Memory;
+use crate::name::Kind;
+use crate::nodes::Nodes;
+use crate::tags::Tags;
+use osm_coords::{Lat, Lon};
+use std::alloc::{AllocError, Allocator};
+
+/// An element of a map, without its name (OpenStreetMap wiki, "Elements").
+#[derive(Drop)]
+#[derive_where(Debug)]
+pub enum Element<A: Allocator> {
+    /// A point with a position.
+    Node { lat: Lat, lon: Lon, tags: Tags<A> },
+    /// An ordered list of nodes.
+    Way { nodes: Nodes<A>, tags: Tags<A> },
+}
+
+impl<A: Allocator> Element<A> {
+    ghost use Rattle.osm_elements.specs.Elements.{kind_of, tags_of};
+
+    /// What kind of element it is.
+    pub fn kind(&self) -> Kind
+        ensures { result ≡ kind_of self.now }
+    {
+        match self {
+            Element::Node { .. } => Kind::Node,
+            Element::Way { .. } => Kind::Way,
+        }
+    }
+
+    /// The tags of the element.
+    pub fn tags(&self) -> &Tags<A>
+        ensures { result.now ≡ tags_of self.now }
+    {
+        match self {
+            Element::Node { tags, .. } => tags,
+            Element::Way { tags, .. } => tags,
+        }
+    }
+
+    /// A second element that is equal to this one, or `Memory`.
+    pub fn copy(&self) -> Result<Element<A>, Memory>
+    where
+        A: Clone,
+        ensures { IfOk result (λ e. e ≡ self.now) }
+    {
+        Ok(self.clone()?)
+    }
+}
+
+impl<A: Allocator + Clone> Clone for Element<A> {
+    ghost is_clone = { λ a b. b ≡ a };
+
+    fn clone(&self) -> Result<Element<A>, AllocError> {
+        match self {
+            Element::Node { lat, lon, tags } => {
+                let tags = tags.clone()?;
+                Ok(Element::Node {
+                    lat: *lat,
+                    lon: *lon,
+                    tags,
+                })
+            }
+            Element::Way { nodes, tags } => {
+                let nodes = nodes.clone()?;
+                let tags = tags.clone()?;
+                Ok(Element::Way { nodes, tags })
+            }
+        }
+    }
+}

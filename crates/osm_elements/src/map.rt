@@ -1,0 +1,260 @@
+//! A map of elements by their names.
+ghost use Rattle.std.specs.Prelude.{◌≡◌, ◌↔◌, [], length, map, IfOk, IfErr, IfSome, IsTrue, None};
+ghost use Rattle.std.specs.Option.{option_copied};
+ghost use Rattle.std.specs.Slice.Iter.{iter_rest};
+
+use crate::Memory;
+use crate::element::Element;
+use crate::name::Name;
+use std::alloc::{AllocError, Allocator};
+use std::collections::{BTreeMap, btree_map};
+use std::marker::Model;
+use std::slice::Iter;
+
+/// A row of a map: a name and the element that has it.
+#[derive(Drop)]
+#[derive_where(Debug)]
+pub struct Row<A: Allocator> {
+    pub name: Name,
+    pub element: Element<A>,
+}
+
+/// A list of rows, as [`OsmMap::rows`] answers it. It need not be in the order of the names.
+#[derive(Drop)]
+#[derive_where(Debug)]
+pub struct Rows<A: Allocator> {
+    rows: Vec<Row<A>, A>,
+}
+
+// Rows are seen as pairs of a name and an element.
+impl<A: Allocator> Model for Rows<A> {
+    ghost use Rattle.std.specs.Prelude.{List, map};
+    ghost use Rattle.osm_elements.specs.declared.name.Name.{Name};
+    ghost use Rattle.osm_elements.specs.declared.element.Element.{Element};
+
+    ghost Value = { List (Name × Element A) };
+
+    ghost use Rattle.osm_elements.specs.RowPairs.{row_pair};
+
+    ghost view = { λ r. map row_pair r.rows.items };
+}
+
+impl<A: Allocator> Row<A> {
+    /// A second row with the same name and an equal element, or `Memory`.
+    pub fn copy(&self) -> Result<Row<A>, Memory>
+    where
+        A: Clone,
+        ensures { IfOk result (λ r. r ≡ self.now) }
+    {
+        Ok(self.clone()?)
+    }
+}
+
+impl<A: Allocator> Rows<A> {
+    ghost use Rattle.osm_elements.specs.RowPairs.{row_pair};
+
+    /// These rows, in their order. It takes no memory.
+    pub fn from_vec(rows: Vec<Row<A>, A>) -> Rows<A>
+        ensures { result ≡ map row_pair rows.items }
+    {
+        Rows { rows }
+    }
+
+    /// The rows as a vector. It takes no memory.
+    pub fn into_vec(self) -> Vec<Row<A>, A>
+        ensures { map row_pair result.items ≡ self }
+    {
+        let Rows { rows } = self;
+        rows
+    }
+
+    /// The rows as a slice.
+    pub fn as_slice(&self) -> &[Row<A>]
+        ensures { map row_pair result.now ≡ self.now }
+    {
+        &self.rows
+    }
+
+    /// The rows, one after the other.
+    pub fn iter(&self) -> Iter<'_, Row<A>>
+        ensures { map row_pair (iter_rest result) ≡ self.now }
+    {
+        self.rows.iter()
+    }
+
+    /// A second list of equal rows, or `Memory`.
+    pub fn copy(&self) -> Result<Rows<A>, Memory>
+    where
+        A: Clone,
+        ensures { IfOk result (λ r. r ≡ self.now) }
+    {
+        Ok(self.clone()?)
+    }
+}
+
+/// A map of elements: at most one element has a name, and it is of the name's kind (OpenStreetMap wiki,
+/// "Elements"). A look-up or a change takes time logarithmic in the number of elements.
+#[derive(Drop)]
+#[derive_where(Debug)]
+pub struct OsmMap<A: Allocator> {
+    elements: BTreeMap<Name, Element<A>, A>,
+}
+
+// A map is seen as the list of its rows in the order of their names.
+impl<A: Allocator> Model for OsmMap<A> {
+    ghost use Rattle.std.specs.Prelude.{List};
+    ghost use Rattle.osm_elements.specs.declared.name.Name.{Name};
+    ghost use Rattle.osm_elements.specs.declared.element.Element.{Element};
+
+    ghost Value = { List (Name × Element A) };
+
+    ghost use Rattle.osm_elements.specs.Rows.{AreMapRows};
+
+    ghost view = { λ m. m.elements.entries };
+
+    ghost invariant = { λ m. AreMapRows m.elements.entries };
+}
+
+impl<A: Allocator> OsmMap<A> {
+    ghost use Rattle.osm_elements.specs.Elements.{kind_of};
+    ghost use Rattle.osm_elements.specs.Rows.{row_at, put_row, without_row, AreInOrder, AreOfTheirKinds};
+
+    /// A map with no element. It takes no memory.
+    pub fn new(alloc: A) -> OsmMap<A>
+        ensures { result ≡ [] }
+    {
+        OsmMap {
+            elements: BTreeMap::new(alloc),
+        }
+    }
+
+    /// How many elements there are.
+    pub fn len(&self) -> usize
+        ensures len { result ≡ length self.now }
+        // What holds of every map.
+        ensures in_order { AreInOrder self.now }
+        ensures kinds { AreOfTheirKinds self.now }
+    {
+        self.elements.len()
+    }
+
+    /// Whether there is no element.
+    pub fn is_empty(&self) -> bool
+        ensures { IsTrue result ↔ (self.now ≡ []) }
+    {
+        self.elements.is_empty()
+    }
+
+    /// The rows in name order.
+    pub fn iter(&self) -> btree_map::Iter<'_, Name, Element<A>>
+        ensures rest { result ≡ self.now }
+        // What holds of every map.
+        ensures in_order { AreInOrder self.now }
+        ensures kinds { AreOfTheirKinds self.now }
+    {
+        self.elements.iter()
+    }
+
+    /// The element with this name, or none.
+    pub fn get(&self, name: &Name) -> Option<&Element<A>>
+        ensures value { option_copied result ≡ row_at self.now name.now }
+        ensures kind { IfSome result (λ e. kind_of e.now ≡ name.now.kind) }
+    {
+        self.elements.get(name)
+    }
+
+    /// Takes the element with this name out of the map and answers it, or none where no element has
+    /// the name, and then the map is as before. It takes no memory.
+    pub fn take_out(&mut self, name: &Name) -> Option<Element<A>>
+        ensures value { result ≡ row_at self.old name.now }
+        ensures rest { self.new ≡ without_row self.old name.now }
+        ensures in_order { AreInOrder self.old }
+        ensures kind { IfSome result (λ e. kind_of e ≡ name.now.kind) }
+    {
+        self.elements.remove(name)
+    }
+
+    /// Gives a name an element of its kind, and answers the element that had the name before, or none.
+    /// A name that is there keeps its row, and that takes no memory. A new row is refused with `Memory`,
+    /// which hands the element back, and the map is as before.
+    pub fn put(
+        &mut self,
+        name: Name,
+        element: Element<A>,
+    ) -> Result<Option<Element<A>>, (Element<A>, Memory)>
+    where
+        A: Clone,
+        requires { kind_of element ≡ name.kind }
+        ensures ok { IfOk result (λ old.
+            (old ≡ row_at self.old name) × (self.new ≡ put_row self.old name element)) }
+        ensures old_kind { IfOk result (λ old. IfSome old (λ e. kind_of e ≡ name.kind)) }
+        ensures err { IfErr result (λ e.
+            (e.0 ≡ element) × (self.new ≡ self.old) × (row_at self.old name ≡ None)) }
+    {
+        match self.elements.insert(name, element) {
+            Ok(old) => Ok(old),
+            Err(refused) => {
+                let (_, element) = refused.value;
+                Err((element, Memory))
+            }
+        }
+    }
+
+    /// Copies of all rows in the order of their names, or `Memory`. It takes time linear in what the
+    /// map holds.
+    pub fn rows(&self, alloc: A) -> Result<Rows<A>, Memory>
+    where
+        A: Clone,
+        ensures rows { IfOk result (λ r. r ≡ self.now) }
+        ensures in_order { AreInOrder self.now }
+        ensures kinds { AreOfTheirKinds self.now }
+    {
+        let mut rows = Vec::new(alloc);
+        for (name, element) in &self.elements {
+            let element = element.copy()?;
+            rows.push(Row {
+                name: *name,
+                element,
+            })?;
+        }
+        Ok(Rows { rows })
+    }
+
+    /// A second map with equal rows, or `Memory`.
+    pub fn copy(&self) -> Result<OsmMap<A>, Memory>
+    where
+        A: Clone,
+        ensures { IfOk result (λ m. m ≡ self.now) }
+    {
+        Ok(self.clone()?)
+    }
+}
+
+impl<A: Allocator + Clone> Clone for Row<A> {
+    ghost is_clone = { λ a b. b ≡ a };
+
+    fn clone(&self) -> Result<Row<A>, AllocError> {
+        Ok(Row {
+            name: self.name,
+            element: self.element.clone()?,
+        })
+    }
+}
+
+impl<A: Allocator + Clone> Clone for Rows<A> {
+    ghost is_clone = { λ a b. b ≡ a };
+
+    fn clone(&self) -> Result<Rows<A>, AllocError> {
+        let rows = self.rows.clone()?;
+        Ok(Rows { rows })
+    }
+}
+
+impl<A: Allocator + Clone> Clone for OsmMap<A> {
+    ghost is_clone = { λ a b. b ≡ a };
+
+    fn clone(&self) -> Result<OsmMap<A>, AllocError> {
+        let elements = self.elements.clone()?;
+        Ok(OsmMap { elements })
+    }
+}

@@ -1,0 +1,131 @@
+//! The names of elements: a kind and an id.
+ghost use Rattle.std.specs.Prelude.{◌≡◌, ◌≢◌, ◌≤◌, pos, MatchOption, IfSome, IfNone, take, drop, ℤ, FitsSigned};
+ghost use Rattle.std.specs.Fmt.{signed_decimal};
+ghost use Rattle.std.specs.Int.{w64};
+ghost use Rattle.osm_elements.specs.Names.{Splits, NoLetter, letter_of};
+
+use itoa::Buffer;
+
+/// The kinds of elements, in the order in which maps are listed (OpenStreetMap wiki, "Elements").
+#[derive(Clone, Copy, Debug, PartialEq, Eq, PartialOrd, Ord)]
+pub enum Kind {
+    /// A point with a latitude and a longitude.
+    Node,
+    /// An ordered list of nodes.
+    Way,
+    /// An ordered list of members, each with a role.
+    Relation,
+}
+
+impl Kind {
+    /// The letter that begins a name of this kind: `n`, `w` or `r`.
+    pub fn letter(self) -> u8
+        ensures { result ≡ letter_of self }
+    {
+        match self {
+            Kind::Node => b'n',
+            Kind::Way => b'w',
+            Kind::Relation => b'r',
+        }
+    }
+}
+
+/// The name of an element: its kind and its id, any `i64` other than 0. Each kind has its own ids, so
+/// node 5 and way 5 differ (OpenStreetMap wiki, "Elements"). Names are ordered by kind (node, way,
+/// relation) and then by id as a number.
+#[derive(Clone, Copy, Debug, PartialEq, Eq, PartialOrd, Ord)]
+pub struct Name {
+    kind: Kind,
+    id: i64,
+    ghost not_zero: { id ≢ pos 0 },
+}
+
+/// The length in bytes of the longest text of a name, as of `n-9223372036854775808`.
+pub const NAME_LENGTH: usize = 21;
+
+impl Name {
+    ghost use Rattle.osm_elements.specs.NameTexts.{name_text, name_of};
+    ghost use Rattle.osm_elements.specs.declared.name.Name.{Name as AName};
+
+    /// The name of this kind with this id, or none where the id is 0.
+    pub fn new(kind: Kind, id: i64) -> Option<Name>
+        ensures { MatchOption result (id ≡ pos 0) (λ n. (n.kind ≡ kind) × (n.id ≡ id)) }
+    {
+        if id == 0 {
+            return None;
+        }
+        Some(Name { kind, id })
+    }
+
+    /// What kind of element has this name.
+    pub fn kind(&self) -> Kind
+        ensures { result ≡ self.now.kind }
+    {
+        self.kind
+    }
+
+    /// The id, which is not 0.
+    pub fn id(&self) -> i64
+        ensures { result ≡ self.now.id }
+    {
+        self.id
+    }
+
+    /// The name that a text is, or none where it is no name's text. A name has one text: `n`, `w` or `r`
+    /// and the id in decimal digits, with `-` before those of a negative one. A `+`, a leading zero, `-0`,
+    /// the id 0 and ids outside of `i64` are refused.
+    pub fn read(text: &str) -> Option<Name>
+        ensures value { result ≡ name_of text.now }
+        ensures found { IfSome result (λ n. text.now ≡ name_text n) }
+        ensures only { IfNone result ((n : AName) → FitsSigned w64 n.id → text.now ≢ name_text n) }
+    {
+        match split_letter(text) {
+            Some((kind, digits)) => match read_id(digits) {
+                Some(id) => Name::new(kind, id),
+                None => None,
+            },
+            None => None,
+        }
+    }
+
+    /// Writes the name's one text to the front of the buffer, and answers its length in bytes. What
+    /// follows in the buffer stays.
+    pub fn write(&self, buffer: &mut [u8; NAME_LENGTH]) -> usize
+        ensures length { result ≤ 21 }
+        ensures text { take result buffer.new ≡ name_text self.now }
+        ensures rest { drop result buffer.new ≡ drop result buffer.old }
+    {
+        let mut decimal = Buffer::new();
+        let digits = decimal.format(self.id).as_bytes();
+        let length = digits.len() + 1;
+        buffer[0] = self.kind.letter();
+        buffer[1..length].copy_from_slice(digits);
+        length
+    }
+}
+
+// The kind that a name's letter stands for, and what follows the letter.
+fn split_letter(text: &str) -> Option<(Kind, &str)>
+    ensures { MatchOption result (NoLetter text.now) (λ found. Splits text.now found.0 found.1.now) }
+{
+    if let Some(digits) = text.strip_prefix('n') {
+        Some((Kind::Node, digits))
+    } else if let Some(digits) = text.strip_prefix('w') {
+        Some((Kind::Way, digits))
+    } else if let Some(digits) = text.strip_prefix('r') {
+        Some((Kind::Relation, digits))
+    } else {
+        None
+    }
+}
+
+// The number that is written so in decimal.
+fn read_id(digits: &str) -> Option<i64>
+    ensures { MatchOption result ((id : ℤ) → FitsSigned w64 id → digits.now ≢ signed_decimal id)
+        (λ id. FitsSigned w64 id × (digits.now ≡ signed_decimal id)) }
+{
+    match digits.parse::<i64>() {
+        Ok(id) if Buffer::new().format(id) == digits => Some(id),
+        _ => None,
+    }
+}

@@ -1,0 +1,91 @@
+//! The nodes of a way.
+ghost use Rattle.std.specs.Prelude.{◌≡◌, ◌↔◌, [], ◌∷◌, ◌++◌, OnOk, OnErr, IfOk, length, IsTrue};
+ghost use Rattle.osm_elements.specs.declared.name.Kind.TheVariants.{Node};
+ghost use Rattle.osm_elements.specs.Nodes.{AreNodes};
+
+use crate::Memory;
+use crate::name::Name;
+use std::alloc::{AllocError, Allocator};
+use std::marker::Model;
+
+/// A list of names of kind node, in which a name may stand more than once (OpenStreetMap wiki,
+/// "Elements": a way is an ordered list of nodes).
+#[derive(Drop)]
+#[derive_where(Debug)]
+pub struct Nodes<A: Allocator> {
+    names: Vec<Name, A>,
+}
+
+// Nodes are seen as the list of their names.
+impl<A: Allocator> Model for Nodes<A> {
+    ghost use Rattle.std.specs.Prelude.{List};
+    ghost use Rattle.osm_elements.specs.declared.name.Name.{Name};
+    ghost use Rattle.osm_elements.specs.Nodes.{AreNodes};
+
+    ghost Value = { List Name };
+
+    ghost view = { λ n. n.names.items };
+
+    ghost invariant = { λ n. AreNodes n.names.items };
+}
+
+impl<A: Allocator> Nodes<A> {
+    /// No nodes. They take no memory.
+    pub fn empty(alloc: A) -> Nodes<A>
+        ensures { result ≡ [] }
+    {
+        Nodes {
+            names: Vec::new(alloc),
+        }
+    }
+
+    /// How many names there are.
+    pub fn len(&self) -> usize
+        ensures { result ≡ length self.now }
+    {
+        self.names.len()
+    }
+
+    /// Whether there is no name.
+    pub fn is_empty(&self) -> bool
+        ensures { IsTrue result ↔ (self.now ≡ []) }
+    {
+        self.names.is_empty()
+    }
+
+    /// The names in order, each of kind node.
+    pub fn names(&self) -> &[Name]
+        ensures names { result.now ≡ self.now }
+        ensures nodes { AreNodes self.now }
+    {
+        &self.names
+    }
+
+    /// Puts a node at the end, or refuses with `Memory` and leaves the list as it was.
+    pub fn push(&mut self, name: Name) -> Result<(), Memory>
+        requires { name.kind ≡ Node }
+        ensures ok { OnOk result (self.new ≡ self.old ++ name ∷ []) }
+        ensures err { OnErr result (self.new ≡ self.old) }
+    {
+        self.names.push(name)?;
+        Ok(())
+    }
+
+    /// A second list of the same names, or `Memory`.
+    pub fn copy(&self) -> Result<Nodes<A>, Memory>
+    where
+        A: Clone,
+        ensures { IfOk result (λ n. n ≡ self.now) }
+    {
+        Ok(self.clone()?)
+    }
+}
+
+impl<A: Allocator + Clone> Clone for Nodes<A> {
+    ghost is_clone = { λ a b. b ≡ a };
+
+    fn clone(&self) -> Result<Nodes<A>, AllocError> {
+        let names = self.names.clone()?;
+        Ok(Nodes { names })
+    }
+}
