@@ -1,0 +1,14 @@
+//! Tests that refuse each growth of a call in turn: after each refusal the object is as it was, and the same
+//! call with memory gives its answer.
+#![tactic(auto)]
+
+#[cfg(test)]
+mod copies;
+#[cfg(test)]
+mod map;
+#[cfg(test)]
+mod nodes;
+#[cfg(test)]
+mod tags;
+#[cfg(test)]
+mod text;

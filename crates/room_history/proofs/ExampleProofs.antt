@@ -1,0 +1,28 @@
+-- The worked examples, by evaluation.
+use Rattle.std.proofs.Common.{refl}
+use Rattle.osm_elements.specs.NameOrder.{name_cmp}
+use Rattle.room_history.specs.Examples.{first_run, range_ends, limit_one, limit_zero, last_first, every_refusal}
+
+pub first_run_lem : first_run
+unfolding first_run name_cmp
+first_run_lem = (refl, refl)
+
+pub range_ends_lem : range_ends
+unfolding range_ends name_cmp
+range_ends_lem = (refl, refl)
+
+pub limit_one_lem : limit_one
+unfolding limit_one name_cmp
+limit_one_lem = refl
+
+pub limit_zero_lem : limit_zero
+unfolding limit_zero name_cmp
+limit_zero_lem = refl
+
+pub last_first_lem : last_first
+unfolding last_first name_cmp
+last_first_lem = refl
+
+pub every_refusal_lem : every_refusal
+unfolding every_refusal name_cmp
+every_refusal_lem = (refl, refl, refl, refl)

@@ -1,0 +1,17 @@
+pub mod Among
+pub mod AtOnce
+pub mod Changing
+pub mod ExampleProofs
+pub mod FirstUsers
+pub mod Growing
+pub mod Holding
+pub mod KeepsSound
+pub mod LastFound
+pub mod LeastNames
+pub mod Padding
+pub mod Replaying
+pub mod SameElements
+pub mod SameNames
+pub mod SoundRows
+pub mod Stacking
+pub mod Stepping

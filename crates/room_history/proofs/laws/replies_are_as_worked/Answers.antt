@@ -1,0 +1,20 @@
+use Rattle.room_history.proofs.ExampleProofs.{first_run_lem, range_ends_lem, limit_one_lem, limit_zero_lem, last_first_lem, every_refusal_lem}
+use Rattle.room_history.proofs.laws.replies_are_as_worked.Goals as goal
+
+pub returns-clause-first_run : goal.returns-clause-first_run
+returns-clause-first_run c = first_run_lem
+
+pub returns-clause-range_ends : goal.returns-clause-range_ends
+returns-clause-range_ends c = range_ends_lem
+
+pub returns-clause-limit_one : goal.returns-clause-limit_one
+returns-clause-limit_one c = limit_one_lem
+
+pub returns-clause-limit_zero : goal.returns-clause-limit_zero
+returns-clause-limit_zero c = limit_zero_lem
+
+pub returns-clause-last_first : goal.returns-clause-last_first
+returns-clause-last_first c = last_first_lem
+
+pub returns-clause-every_refusal : goal.returns-clause-every_refusal
+returns-clause-every_refusal c = every_refusal_lem

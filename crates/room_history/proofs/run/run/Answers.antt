@@ -1,0 +1,41 @@
+use Rattle.std.proofs.Common.{◌≡◌, ◌++◌, ◌∷◌, [], List, length, refl, sym, ap, subst, ◌∙◌, rules, append_assoc, append-nil, arith}
+use Rattle.std.specs.Vec.Iter.{into_iter_items}
+use Rattle.room_history.specs.Runs.{IsRun}
+use Rattle.room_history.proofs.Holding.{run_more, empty_holds}
+use Rattle.room_history.proofs.run.run.Goals as goal
+
+empty_run : {A : Type 0} (limit : _) (rs : List _) (j : List _) → rs ≡ [] → j ≡ [] → IsRun {A = A} [] limit [] [] rs j
+empty_run limit rs j e f = subst (λ r. IsRun [] limit [] [] r j) (sym e) (empty_holds limit, f)
+
+nothing_left : {X : Type 0} (xs : List X) → length xs ≡ 0 → xs ≡ []
+nothing_left [] e = refl
+nothing_left (x ∷ xs) e = absurd (omega arith)
+
+pub loop-call-init : goal.loop-call-init
+loop-call-init g c = record {
+  all = c.into_iter-call-iterator.ensures.into_iter_gives.0;
+  base = ap (λ s. s.base) c.open-room.ensures;
+  limit = ap (λ s. s.limit) c.open-room.ensures;
+  run = empty_run c.args.limit c.in_ok-replies.replies.items c.open-room.result.journal c.in_ok-replies.ensures.items (ap (λ s. s.journal) c.open-room.ensures);
+}
+
+pub loop-call-preserved : goal.loop-call-preserved
+loop-call-preserved g c =
+    let i = c.loop-call.invariant in
+    let base = c.take.ensures.base ∙ i.base in
+    let limit = c.take.ensures.limit ∙ i.limit in
+    record {
+      all = append_assoc c.loop-call.yielded (c.in-Some.call ∷ []) (into_iter_items c.next.new.self) ∙ ap (λ cs. c.loop-call.yielded ++ cs) (sym c.in-Some.ensures.steps.0) ∙ i.all;
+      base = base;
+      limit = limit;
+      run = rw c.in_ok-push.ensures.items (run_more [] tt c.args.limit [] c.loop-call.yielded c.loop-call.replies.items c.loop-call.room.journal c.take.new.self.journal c.in-Some.call c.take.result i.run
+          (rw (← i.base, ← i.limit) c.take.ensures.step) (rw (← base, ← limit) c.take.ensures.holds));
+    }
+
+pub returns : goal.returns
+returns g c =
+    let i = c.loop-call.invariant in
+    let none : length (into_iter_items c.loop-call.call-iterator) ≡ 0 = search rules in
+    let empty : into_iter_items c.loop-call.call-iterator ≡ [] = nothing_left (into_iter_items c.loop-call.call-iterator) none in
+    let all = sym (append-nil c.loop-call.yielded) ∙ ap (λ cs. c.loop-call.yielded ++ cs) (sym empty) ∙ i.all in
+    rw (← all) i.run

@@ -1,0 +1,101 @@
+-- What a call is answered, and the journal that it leaves: an accepted call appends one entry, a refused one leaves the journal.
+use Rattle.std.specs.Prelude.{◌≡◌, ◌⊎◌, ◌+◌, ◌++◌, ◌&&◌, ℕ, Bool, not, List, [], ◌∷◌, Option, Some, None, is_none, length, nat_eq, nat_le, nat_lt}
+use Rattle.std.specs.Bool.{then_some}
+use Rattle.std.specs.List.{find, list_any, position}
+use Rattle.std.specs.Option.{option_map}
+use Rattle.room_history.specs.declared.author.Author.{Author}
+use Rattle.room_history.specs.declared.call.Call.{Call}
+use Rattle.room_history.specs.declared.call.Request.{Request}
+use Rattle.room_history.specs.declared.call.Request.TheVariants as requests
+use Rattle.room_history.specs.declared.entry.Entry.{Entry}
+use Rattle.room_history.specs.declared.entry.EntryKind.{EntryKind}
+use Rattle.room_history.specs.declared.entry.EntryKind.TheVariants.{Do, Undo}
+use Rattle.room_history.specs.declared.reply.Reply.{Reply}
+use Rattle.room_history.specs.declared.reply.Reply.TheVariants.{Memory, Done, Undid, Repeat, Full, NothingToUndo, NoSuch, NotYours, NotStanding, NotLast, Refused}
+use Rattle.room_history.specs.Maps.{Rows}
+use Rattle.room_history.specs.Refusals.{refusal, first_that_holds}
+use Rattle.room_history.specs.SameAuthors.{is_same_author}
+use Rattle.room_history.specs.Journals.{is_by, numbered, last, standing, undos}
+use Rattle.room_history.specs.Replays.{mapof}
+
+module _ {A : Type 0} where
+  -- an entry is the author's and spent the id
+  abbrev pub spends : Author → ℕ → Entry A → Bool
+  spends author id e = is_same_author author e.author && nat_eq id e.id
+
+  -- the number of the author's entry that spent the id
+  abbrev pub spent : List (Entry A) → Author → ℕ → Option ℕ
+  spent j author id = option_map (λ i. i + 1) (position (spends author id) j)
+
+  -- the first entry after s that stands
+  abbrev pub blocker : List (Entry A) → ℕ → Option ℕ
+  blocker j s = find (nat_lt s) (standing j)
+
+  -- which entry an undo asks for: without a number the author's last that stands
+  abbrev pub asked : List (Entry A) → Author → Option ℕ → Option ℕ
+  asked j author None = last (undos j author)
+  asked j author (Some s) = Some s
+
+  -- what a request would append
+  abbrev pub meant : List (Entry A) → Author → Request A → Option (EntryKind A)
+  meant j author (requests.Do a) = Some (Do a)
+  meant j author (requests.Undo s) = option_map Undo (asked j author s)
+
+  -- why an author's undo of s is refused, by the first check that holds
+  abbrev pub undo_refusal : List (Entry A) → Author → ℕ → Option Reply
+  undo_refusal j author s = first_that_holds (
+      then_some (is_none (numbered j s)) NoSuch
+      ∷ then_some (not (is_by author (numbered j s))) NotYours
+      ∷ then_some (not (list_any (λ t. nat_eq t s) (standing j))) NotStanding
+      ∷ option_map NotLast (blocker j s)
+      ∷ [])
+
+  -- why an entry cannot be appended
+  abbrev pub kind_refusal : Rows A → List (Entry A) → Author → EntryKind A → Option Reply
+  kind_refusal base j author (Do a) = option_map Refused (refusal (mapof base j) a)
+  kind_refusal base j author (Undo s) = undo_refusal j author s
+
+  abbrev pub meaning_refusal : Rows A → List (Entry A) → Author → Option (EntryKind A) → Option Reply
+  meaning_refusal base j author None = Some NothingToUndo
+  meaning_refusal base j author (Some k) = kind_refusal base j author k
+
+  -- the first refusal of a call, or none
+  abbrev pub call_refusal : Rows A → ℕ → List (Entry A) → Call A → Option Reply
+  call_refusal base limit j c = first_that_holds (
+      option_map Repeat (spent j c.author c.id)
+      ∷ then_some (nat_le limit (length j)) Full
+      ∷ meaning_refusal base j c.author (meant j c.author c.request)
+      ∷ [])
+
+  -- the reply to an accepted call, under its entry's number
+  abbrev pub accepted : ℕ → EntryKind A → Reply
+  accepted seq (Do a) = Done seq
+  accepted seq (Undo s) = Undid seq s
+
+  -- the journal with one more entry
+  abbrev pub with_entry : List (Entry A) → Author → ℕ → EntryKind A → List (Entry A)
+  with_entry j author id k = j ++ record { author = author; id = id; kind = k } ∷ []
+
+  abbrev pub answered : List (Entry A) → Author → ℕ → Option Reply → Option (EntryKind A) → Reply × List (Entry A)
+  answered j author id (Some refused) k = (refused, j)
+  answered j author id None None = (NothingToUndo, j)
+  answered j author id None (Some k) = (accepted (length j + 1) k, with_entry j author id k)
+
+  abbrev pub answer : Rows A → ℕ → List (Entry A) → Call A → Reply × List (Entry A)
+  answer base limit j c = answered j c.author c.id (call_refusal base limit j c) (meant j c.author c.request)
+
+  -- the replies to calls in turn, and the journal that they leave
+  abbrev pub answers : Rows A → ℕ → List (Entry A) → List (Call A) → List Reply × List (Entry A)
+  answers base limit j [] = ([], j)
+  answers base limit j (c ∷ cs) = let step = answer base limit j c in let rest = answers base limit step.1 cs in (step.0 ∷ rest.0, rest.1)
+
+  -- a reply by definition, or for want of memory with the journal as it was
+  abbrev pub IsOr : Reply × List (Entry A) → List (Entry A) → Reply → List (Entry A) → Type 0
+  IsOr by_definition j reply k = ((reply, k) ≡ by_definition) ⊎ ((reply ≡ Memory) × (k ≡ j))
+
+  -- the same of a request whose id is unspent, in a journal that is not full
+  abbrev pub IsDone : Rows A → List (Entry A) → Author → ℕ → EntryKind A → Reply → List (Entry A) → Type 0
+  IsDone base j author id kind = IsOr (answered j author id (kind_refusal base j author kind) (Some kind)) j
+
+  abbrev pub IsUndone : Rows A → List (Entry A) → Author → ℕ → Option ℕ → Reply → List (Entry A) → Type 0
+  IsUndone base j author id number = let kind = option_map Undo (asked j author number) in IsOr (answered j author id (meaning_refusal base j author kind) kind) j

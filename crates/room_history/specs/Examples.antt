@@ -1,0 +1,102 @@
+-- What the worked examples say of the definitions.
+use Rattle.std.specs.Prelude.{◌≡◌, ℕ, [], ◌∷◌, Some, None, true, pos, negsuc, replicate}
+use Rattle.room_history.specs.declared.action.Action.TheVariants.{Create, Delete}
+use Rattle.room_history.specs.declared.refusal.Refusal.TheVariants.{Absent, Present, WrongKind, TooFew, TooMany, InUse}
+use Rattle.room_history.specs.declared.reply.Reply.TheVariants.{Done, Undid, Repeat, Full, NothingToUndo, NoSuch, NotYours, NotStanding, NotLast, Refused}
+use Rattle.room_history.specs.Sound.{is_sound}
+use Rattle.room_history.specs.Replays.{replay, standing_actions}
+use Rattle.room_history.specs.Answers.{answers}
+use Rattle.room_history.specs.Scenes.{n-1, n1, n2, n3, w1, w2, anna, bob, node_at, way_of, does, undoes, replies, map_after}
+
+abbrev pub ample : ℕ
+ample = 1000000
+
+-- one create, and the map has its row
+unfoldable pub first_run : Type 0
+first_run =
+    (let calls = does anna 1 (Create n-1 (node_at (pos 515000000) (negsuc 999999))) ∷ [] in
+    (replies ample calls ≡ (Done 1 ∷ [])) × (map_after ample calls ≡ ((n-1, node_at (pos 515000000) (negsuc 999999)) ∷ [])))
+
+-- both ends of the range
+unfoldable pub range_ends : Type 0
+range_ends =
+    (let calls = does anna 1 (Create n1 (node_at (pos 900000000) (negsuc 1799999999))) ∷ does anna 2 (Create n2 (node_at (pos 0) (negsuc 0))) ∷ [] in
+    (replies ample calls ≡ (Done 1 ∷ Done 2 ∷ []))
+    × (map_after ample calls ≡ ((n1, node_at (pos 900000000) (negsuc 1799999999)) ∷ (n2, node_at (pos 0) (negsuc 0)) ∷ [])))
+
+-- a journal of one entry is full, and a spent id is told first
+unfoldable pub limit_one : Type 0
+limit_one = replies 1 (
+    does anna 1 (Create n1 (node_at (pos 0) (pos 0)))
+    ∷ undoes anna 2 None
+    ∷ does anna 1 (Delete n1)
+    ∷ does bob 1 (Delete n1)
+    ∷ []) ≡ (Done 1 ∷ Full ∷ Repeat 1 ∷ Full ∷ [])
+
+unfoldable pub limit_zero : Type 0
+limit_zero = replies 0 (does anna 1 (Create n1 (node_at (pos 0) (pos 0))) ∷ undoes anna 1 None ∷ []) ≡ (Full ∷ Full ∷ [])
+
+-- only the last entry that stands can be undone
+unfoldable pub last_first : Type 0
+last_first = replies ample (
+    does anna 1 (Create n1 (node_at (pos 0) (pos 0)))
+    ∷ does bob 1 (Create n2 (node_at (pos 0) (pos 0)))
+    ∷ undoes anna 2 None
+    ∷ undoes bob 2 None
+    ∷ undoes anna 2 None
+    ∷ []) ≡ (Done 1 ∷ Done 2 ∷ NotLast 2 ∷ Undid 3 2 ∷ Undid 4 1 ∷ [])
+
+-- each refusal of a create, a delete and an undo, in one run
+unfoldable pub every_refusal : Type 0
+every_refusal =
+    (let calls =
+    undoes anna 1 None
+    ∷ does anna 1 (Create w1 (node_at (pos 0) (pos 0)))
+    ∷ does anna 1 (Create w1 (way_of (n1 ∷ [])))
+    ∷ does anna 1 (Create w1 (way_of (replicate 2001 n1)))
+    ∷ does anna 1 (Create w1 (way_of (n3 ∷ n2 ∷ n1 ∷ [])))
+    ∷ does anna 1 (Delete n1)
+    ∷ does anna 1 (Create n1 (node_at (pos 1) (pos 1)))
+    ∷ does anna 2 (Create n1 (node_at (pos 2) (pos 2)))
+    ∷ does bob 1 (Create n2 (node_at (pos 2) (pos 2)))
+    ∷ does bob 2 (Create w2 (way_of (n2 ∷ n1 ∷ n2 ∷ [])))
+    ∷ does bob 3 (Create w1 (way_of (n2 ∷ n1 ∷ [])))
+    ∷ does anna 2 (Delete n1)
+    ∷ does anna 1 (Delete w1)
+    ∷ undoes anna 2 (Some 0)
+    ∷ undoes anna 2 (Some 9)
+    ∷ undoes anna 2 (Some 2)
+    ∷ undoes anna 2 (Some 1)
+    ∷ undoes bob 4 None
+    ∷ undoes bob 5 (Some 4)
+    ∷ undoes bob 5 (Some 5)
+    ∷ does anna 2 (Delete w2)
+    ∷ undoes bob 5 (Some 3)
+    ∷ [] in
+    (replies ample calls ≡ (
+    NothingToUndo
+    ∷ Refused (WrongKind w1)
+    ∷ Refused (TooFew w1)
+    ∷ Refused (TooMany w1)
+    ∷ Refused (Absent n1)
+    ∷ Refused (Absent n1)
+    ∷ Done 1
+    ∷ Refused (Present n1)
+    ∷ Done 2
+    ∷ Done 3
+    ∷ Done 4
+    ∷ Refused (InUse n1 w1)
+    ∷ Repeat 1
+    ∷ NoSuch
+    ∷ NoSuch
+    ∷ NotYours
+    ∷ NotLast 2
+    ∷ Undid 5 4
+    ∷ NotStanding
+    ∷ NotStanding
+    ∷ Done 6
+    ∷ NotLast 6
+    ∷ []))
+    × (map_after ample calls ≡ ((n1, node_at (pos 1) (pos 1)) ∷ (n2, node_at (pos 2) (pos 2)) ∷ []))
+    × (replay [] (standing_actions (answers [] ample [] calls).1) ≡ Some (map_after ample calls))
+    × (is_sound (map_after ample calls) ≡ true))

@@ -1,0 +1,27 @@
+-- What a plan answers, and the words of its parts.
+use Rattle.std.specs.Prelude.{ℕ, Option, Some, None, Result, Ok, Err}
+use Rattle.std.specs.Ordering.{ord_min}
+use Rattle.osm_elements.specs.declared.name.Name.{Name}
+use Rattle.osm_elements.specs.NameOrder.{name_cmp}
+use Rattle.room_history.specs.declared.refusal.Refusal.{Refusal}
+use Rattle.room_history.specs.declared.reply.Reply.{Reply}
+use Rattle.room_history.specs.declared.reply.Reply.TheVariants.{NothingToUndo}
+
+-- nothing, or the refusal
+abbrev pub planned : Option Refusal → Result (Unit {0}) Refusal
+planned None = Ok tt
+planned (Some r) = Err r
+
+-- the lesser of two names, if there are two
+abbrev pub lesser_of : Option Name → Name → Name
+lesser_of None x = x
+lesser_of (Some other) x = ord_min name_cmp other x
+
+-- an entry that can be undone, or the refusal
+abbrev pub undone_or : ℕ → Option Reply → Result ℕ Reply
+undone_or s None = Ok s
+undone_or s (Some r) = Err r
+
+abbrev pub asked_or : (ℕ → Option Reply) → Option ℕ → Result ℕ Reply
+asked_or refused None = Err NothingToUndo
+asked_or refused (Some s) = undone_or s (refused s)

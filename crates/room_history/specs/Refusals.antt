@@ -1,0 +1,58 @@
+-- Why an action is refused on a map: the first of its checks, in order, that holds. (OpenStreetMap API v0.6: an element in use is not deleted, nothing absent is named.)
+use Rattle.std.specs.Prelude.{◌&&◌, Bool, not, List, [], ◌∷◌, Option, Some, None, length, nat_lt}
+use Rattle.std.specs.Bool.{then_some}
+use Rattle.std.specs.List.{filter}
+use Rattle.std.specs.Option.{option_map}
+use Rattle.osm_elements.specs.declared.name.Name.{Name}
+use Rattle.osm_elements.specs.declared.element.Element.{Element}
+use Rattle.osm_elements.specs.Elements.{kind_of}
+use Rattle.osm_elements.specs.declared.element.Element.TheVariants.{Node, Way}
+use Rattle.room_history.specs.declared.action.Action.{Action}
+use Rattle.room_history.specs.declared.action.Action.TheVariants.{Create, Delete}
+use Rattle.room_history.specs.declared.refusal.Refusal.{Refusal}
+use Rattle.room_history.specs.declared.refusal.Refusal.TheVariants.{Absent, Present, WrongKind, TooFew, TooMany, InUse}
+use Rattle.room_history.specs.Maps.{Rows, is_same, is_kind, is_present, is_absent, least}
+use Rattle.room_history.specs.References.{users}
+use Rattle.room_history.specs.Sound.{most_nodes}
+
+-- the first of the checks that holds
+abbrev pub first_that_holds : {X : Type 0} → List (Option X) → Option X
+first_that_holds [] = None
+first_that_holds (None ∷ checks) = first_that_holds checks
+first_that_holds (Some x ∷ checks) = Some x
+
+-- the least of some names as a refusal
+abbrev pub the_least : (Name → Refusal) → List Name → Option Refusal
+the_least why names = option_map why (least names)
+
+module _ {A : Type 0} where
+  -- a name other than the new one that the map doesn't have
+  abbrev pub is_missing : Rows A → Name → Name → Bool
+  is_missing m x e = not (is_same x e) && is_absent m e
+
+  -- a way's list has 2 to 2,000 nodes, and they are there
+  abbrev pub list_checks : Rows A → Name → List Name → List (Option Refusal)
+  list_checks m x list =
+      then_some (nat_lt (length list) 2) (TooFew x)
+      ∷ then_some (nat_lt most_nodes (length list)) (TooMany x)
+      ∷ the_least Absent (filter (is_missing m x) list)
+      ∷ []
+
+  -- the checks of a new element's own list; a node has none
+  abbrev pub element_checks : Rows A → Name → Element A → List (Option Refusal)
+  element_checks m x (Node lat lon tags) = []
+  element_checks m x (Way nodes tags) = list_checks m x nodes
+
+  abbrev pub checks : Rows A → Action A → List (Option Refusal)
+  checks m (Create x v) =
+      then_some (not (is_kind (kind_of v) x.kind)) (WrongKind x)
+      ∷ then_some (is_present m x) (Present x)
+      ∷ element_checks m x v
+  checks m (Delete x) =
+      then_some (is_absent m x) (Absent x)
+      ∷ the_least (InUse x) (users m x)
+      ∷ []
+
+  -- the refusal of an action on a map, or none: it is accepted
+  abbrev pub refusal : Rows A → Action A → Option Refusal
+  refusal m a = first_that_holds (checks m a)

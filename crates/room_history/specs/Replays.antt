@@ -1,0 +1,44 @@
+-- The map of a journal, by folding each entry's changes from the base; and the replay of a list of actions.
+use Rattle.std.specs.Prelude.{◌++◌, List, [], ◌∷◌, Option, Some, None, is_none, if◌then◌else◌}
+use Rattle.std.specs.List.{fold, filter_map}
+use Rattle.std.specs.Option.{option_map_or}
+use Rattle.room_history.specs.declared.action.Action.{Action}
+use Rattle.room_history.specs.declared.entry.Entry.{Entry}
+use Rattle.room_history.specs.declared.entry.EntryKind.{EntryKind}
+use Rattle.room_history.specs.declared.entry.EntryKind.TheVariants.{Do, Undo}
+use Rattle.room_history.specs.Maps.{Rows}
+use Rattle.room_history.specs.After.{after}
+use Rattle.room_history.specs.Refusals.{refusal}
+use Rattle.room_history.specs.Changes.{Change, changes, inverse, changed}
+use Rattle.room_history.specs.Journals.{numbered, standing, action_of}
+
+-- a map, and what each entry that led to it changed
+pub record Past (A : Type 0) : Type 0 where
+  pub map : Rows A
+  pub changes : List (List (Change A))
+
+module _ {A : Type 0} where
+  -- what the next entry changes: an undo takes back what the entry that it names changed
+  abbrev pub changes_next : Past A → EntryKind A → List (Change A)
+  changes_next p (Do a) = changes p.map a
+  changes_next p (Undo s) = option_map_or inverse (numbered p.changes s) []
+
+  abbrev pub past_after : Past A → EntryKind A → Past A
+  past_after p k = let cs = changes_next p k in record { map = changed p.map cs; changes = p.changes ++ cs ∷ [] }
+
+  -- all that a journal on a base led to
+  abbrev pub past : Rows A → List (Entry A) → Past A
+  past base j = fold (λ p (e : Entry A). past_after p e.kind) (record { map = base; changes = [] }) j
+
+  -- the map that a journal leads to
+  abbrev pub mapof : Rows A → List (Entry A) → Rows A
+  mapof base j = (past base j).map
+
+  -- the actions one after another, or no value where one is refused
+  abbrev pub replay : Rows A → List (Action A) → Option (Rows A)
+  replay m [] = Some m
+  replay m (a ∷ rest) = if is_none (refusal m a) then replay (after m a) rest else None
+
+  -- the actions of the entries that stand, in order
+  abbrev pub standing_actions : List (Entry A) → List (Action A)
+  standing_actions j = filter_map (action_of j) (standing j)

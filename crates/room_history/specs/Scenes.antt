@@ -1,0 +1,64 @@
+-- People, names, elements and calls of the worked examples.
+use Rattle.std.specs.Prelude.{ℕ, ⊤, List, [], ◌∷◌, Option, ℤ, pos, negsuc}
+use Rattle.osm_elements.specs.declared.name.Name.{Name}
+use Rattle.osm_elements.specs.declared.name.Kind.TheVariants as kinds
+use Rattle.osm_elements.specs.declared.element.Element.{Element}
+use Rattle.osm_elements.specs.declared.element.Element.TheVariants.{Node, Way}
+use Rattle.osm_elements.specs.NameTexts.{named}
+use Rattle.room_history.specs.declared.action.Action.{Action}
+use Rattle.room_history.specs.declared.author.Author.{Author}
+use Rattle.room_history.specs.declared.call.Call.{Call}
+use Rattle.room_history.specs.declared.call.Request.TheVariants.{Do, Undo}
+use Rattle.room_history.specs.declared.reply.Reply.{Reply}
+use Rattle.room_history.specs.Maps.{Rows}
+use Rattle.room_history.specs.Answers.{answers}
+use Rattle.room_history.specs.Replays.{mapof}
+
+-- nothing in a definition looks at the allocator
+abbrev pub Any : Type 0
+Any = ⊤
+
+abbrev pub n-1 : Name
+n-1 = named kinds.Node (negsuc 0) tt
+
+abbrev pub n1 : Name
+n1 = named kinds.Node (pos 1) tt
+
+abbrev pub n2 : Name
+n2 = named kinds.Node (pos 2) tt
+
+abbrev pub n3 : Name
+n3 = named kinds.Node (pos 3) tt
+
+abbrev pub w1 : Name
+w1 = named kinds.Way (pos 1) tt
+
+abbrev pub w2 : Name
+w2 = named kinds.Way (pos 2) tt
+
+-- the names "anna" and "bob"
+abbrev pub anna : Author
+anna = 97 ∷ 110 ∷ 110 ∷ 97 ∷ []
+
+abbrev pub bob : Author
+bob = 98 ∷ 111 ∷ 98 ∷ []
+
+-- a node with no tags, at so many ten-millionths of a degree
+abbrev pub node_at : ℤ → ℤ → Element Any
+node_at lat lon = Node lat lon []
+
+abbrev pub way_of : List Name → Element Any
+way_of nodes = Way nodes []
+
+abbrev pub does : Author → ℕ → Action Any → Call Any
+does author id a = record { author = author; id = id; request = Do a }
+
+abbrev pub undoes : Author → ℕ → Option ℕ → Call Any
+undoes author id s = record { author = author; id = id; request = Undo s }
+
+-- the replies of an empty room with this limit, and the map that the calls leave
+abbrev pub replies : ℕ → List (Call Any) → List Reply
+replies limit calls = (answers [] limit [] calls).0
+
+abbrev pub map_after : ℕ → List (Call Any) → Rows Any
+map_after limit calls = mapof [] (answers [] limit [] calls).1

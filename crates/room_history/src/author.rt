@@ -1,0 +1,83 @@
+//! The authors of a room.
+ghost use Rattle.std.specs.Prelude.{◌≡◌};
+ghost use Rattle.std.specs.List.{list_all};
+ghost use Rattle.room_history.specs.Authors.{author_of, is_author, is_name_character};
+
+use std::marker::Model;
+
+/// The length of the longest name of an author, in bytes.
+pub const AUTHOR_LENGTH: usize = 32;
+
+/// An author's name: 1 to 32 characters of `a-z`, `0-9` and `_`. Room names have the same form.
+#[derive(Clone, Copy, Debug)]
+pub struct Author {
+    bytes: [u8; 32],
+    length: usize,
+}
+
+impl Model for Author {
+    ghost use Rattle.std.specs.Prelude.{List, ℕ, take};
+    ghost use Rattle.room_history.specs.Authors.{IsPadded};
+
+    ghost Value = { List ℕ };
+
+    ghost use Rattle.room_history.specs.AuthorInside.{inside_of, inside_of_view};
+
+    ghost view = { λ a. take a.length a.bytes };
+
+    ghost invariant = { λ a. IsPadded a.bytes a.length };
+
+    ghost inverse = { inside_of };
+
+    ghost inverse_ok = { inside_of_view };
+}
+
+impl Author {
+    ghost use Rattle.room_history.specs.SameAuthors.{is_same_author};
+
+    /// The author of this name, or none where the text is no name of an author.
+    pub fn read(text: &str) -> Option<Author>
+        ensures { result ≡ author_of text.now }
+    {
+        if !is_author(text) {
+            return None;
+        }
+        let length = text.len();
+        let mut bytes = [0; 32];
+        bytes[..length].copy_from_slice(text.as_bytes());
+        Some(Author { bytes, length })
+    }
+
+    /// The name.
+    pub fn as_bytes(&self) -> &[u8]
+        ensures { result.now ≡ self.now }
+    {
+        &self.bytes[..self.length]
+    }
+
+    /// Whether this is the other author.
+    pub fn is(&self, other: &Author) -> bool
+        ensures { result ≡ is_same_author self.now other.now }
+    {
+        self.as_bytes() == other.as_bytes()
+    }
+}
+
+// Whether a text has the form of an author's name.
+fn is_author(text: &str) -> bool
+    ensures { result ≡ is_author text.now }
+{
+    1 <= text.len() && text.len() <= AUTHOR_LENGTH && has_name_characters(text)
+}
+
+fn has_name_characters(text: &str) -> bool
+    ensures { result ≡ list_all is_name_character text.now }
+{
+    text.bytes().all(is_name_character)
+}
+
+fn is_name_character(byte: u8) -> bool
+    ensures { result ≡ is_name_character byte }
+{
+    matches!(byte, b'a'..=b'z' | b'0'..=b'9' | b'_')
+}

@@ -1,0 +1,26 @@
+//! What a room's journal keeps of an accepted call.
+use crate::action::Action;
+use crate::author::Author;
+use std::alloc::Allocator;
+
+/// What an entry did.
+#[derive(Drop)]
+#[derive_where(Debug)]
+pub enum EntryKind<A: Allocator> {
+    /// Did an action.
+    Do(Action<A>),
+    /// Undid the entry of this number.
+    Undo(u64),
+}
+
+/// An entry of the journal. Entries are numbered from 1.
+#[derive(Drop)]
+#[derive_where(Debug)]
+pub struct Entry<A: Allocator> {
+    /// Whose call it was.
+    pub author: Author,
+    /// The id that the call spent.
+    pub id: u64,
+    /// What it did.
+    pub kind: EntryKind<A>,
+}

@@ -1,0 +1,26 @@
+//! Laws of the definitions, each the contract of a function that does nothing.
+ghost use Rattle.std.specs.Prelude.{◌≡◌, ◌≢◌, true, None};
+ghost use Rattle.room_history.specs.declared.action.Action.{Action};
+ghost use Rattle.room_history.specs.After.{after};
+ghost use Rattle.room_history.specs.Maps.{Rows};
+ghost use Rattle.room_history.specs.Refusals.{refusal};
+ghost use Rattle.room_history.specs.Sound.{is_sound};
+ghost use Rattle.room_history.specs.Examples.{first_run, range_ends, limit_one, limit_zero, last_first, every_refusal};
+
+use std::alloc::Allocator;
+
+/// An accepted action keeps a sound map sound, and changes it.
+pub fn accepted_keeps_sound<A: Allocator>()
+    ensures { (m : Rows A) (a : Action A) → is_sound m ≡ true → refusal m a ≡ None
+        → (is_sound (after m a) ≡ true) × (after m a ≢ m) }
+{}
+
+/// What the definitions say of the worked examples is what was worked out by hand.
+pub fn replies_are_as_worked()
+    ensures first_run { first_run }
+    ensures range_ends { range_ends }
+    ensures limit_one { limit_one }
+    ensures limit_zero { limit_zero }
+    ensures last_first { last_first }
+    ensures every_refusal { every_refusal }
+{}

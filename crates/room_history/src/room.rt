@@ -1,0 +1,194 @@
+//! The room.
+ghost use Rattle.std.specs.Prelude.{◌≡◌, ◌+◌, ◌<◌, [], ◌∷◌, ◌++◌, None, length, IfOk, OnErr, vec_len, vec_capacity};
+ghost use Rattle.std.specs.Option.{option_copied};
+
+use crate::action::Action;
+use crate::author::Author;
+use crate::call::{Call, Request};
+use crate::entry::{Entry, EntryKind};
+use crate::journal::{numbered, spent};
+use crate::plan::{apply, plan};
+use crate::replay::replay;
+use crate::reply::Reply;
+use crate::undo::undoable;
+use osm_elements::Memory;
+use osm_elements::element::Element;
+use osm_elements::map::{OsmMap, Rows};
+use osm_elements::name::Name;
+use std::alloc::Allocator;
+use std::marker::Model;
+
+/// A room: one map, and the journal of what its authors did to it. It is as good as its base map (for now
+/// the empty one), its limit and its journal, and contracts see it so.
+#[derive(Drop)]
+#[derive_where(Debug)]
+pub struct Room<A: Allocator> {
+    limit: u32,
+    map: OsmMap<A>,
+    entries: Vec<Entry<A>, A>,
+    standing: Vec<u64, A>,
+}
+
+impl<A: Allocator> Model for Room<A> {
+    ghost use Rattle.std.specs.Prelude.{[]};
+    ghost use Rattle.room_history.specs.Rooms.{RoomState};
+    ghost use Rattle.room_history.specs.Stacks.{IsRoom};
+
+    ghost Value = { RoomState A };
+
+    ghost view = { λ r. record { base = []; limit = r.limit; journal = r.entries.items } };
+
+    ghost invariant = { λ r. IsRoom r.map r.standing.items [] r.entries.items };
+}
+
+impl<A: Allocator + Copy> Room<A> {
+    ghost use Rattle.room_history.specs.Answers.{undo_refusal, with_entry, IsDone, IsUndone};
+    ghost use Rattle.room_history.specs.Refusals.{refusal};
+    ghost use Rattle.room_history.specs.declared.entry.EntryKind.TheVariants.{Do, Undo};
+    ghost use Rattle.room_history.specs.Journals.{numbered};
+    ghost use Rattle.room_history.specs.Replays.{mapof};
+    ghost use Rattle.room_history.specs.Runs.{Holds, IsStep};
+    ghost use Rattle.osm_elements.specs.Rows.{row_at};
+
+    /// A room with an empty map, whose journal takes at most `limit` entries.
+    pub fn open(alloc: A, limit: u32) -> Room<A>
+        ensures { result ≡ record { base = []; limit = limit; journal = [] } }
+    {
+        Room {
+            limit,
+            map: OsmMap::new(alloc),
+            entries: Vec::new(alloc),
+            standing: Vec::new(alloc),
+        }
+    }
+
+    /// Answers a call. The refusals are tested in the order in which `Reply` lists them; after a refusal the
+    /// room is as it was, and the call's id is unspent. An undo replays the actions that stand from the base.
+    pub fn take(&mut self, call: Call<A>) -> Reply
+        ensures step { IsStep self.old.base self.old.limit self.old.journal call result self.new.journal }
+        ensures base { self.new.base ≡ self.old.base }
+        ensures limit { self.new.limit ≡ self.old.limit }
+        ensures holds { Holds self.new.base self.new.limit self.new.journal }
+    {
+        let Call {
+            author,
+            id,
+            request,
+        } = call;
+        if let Some(seq) = spent(&self.entries, &author, id) {
+            return Reply::Repeat { seq };
+        }
+        if self.entries.len() >= self.limit as usize {
+            return Reply::Full;
+        }
+        match request {
+            Request::Do(action) => self.act(author, id, action),
+            Request::Undo(number) => self.undo(author, id, number),
+        }
+    }
+
+    // Does an action, if it is accepted on the map.
+    fn act(&mut self, author: Author, id: u64, action: Action<A>) -> Reply
+        ensures step { IsDone self.old.base self.old.journal author id (Do action) result self.new.journal }
+        ensures base { self.new.base ≡ self.old.base }
+        ensures limit { self.new.limit ≡ self.old.limit }
+    {
+        if let Err(refusal) = plan(&self.map, &action) {
+            return Reply::Refused(refusal);
+        }
+        match self.append_do(author, id, action) {
+            Ok(seq) => Reply::Done { seq },
+            Err(_) => Reply::Memory,
+        }
+    }
+
+    // Appends the entry of an accepted action, and answers its number.
+    fn append_do(&mut self, author: Author, id: u64, action: Action<A>) -> Result<u64, Memory>
+        requires { refusal (mapof self.old.base self.old.journal) action ≡ None }
+        ensures ok { IfOk result (λ seq. (seq ≡ length self.old.journal + 1)
+            × (self.new ≡ record self.old { journal = with_entry self.old.journal author id (Do action) })) }
+        ensures err { OnErr result (self.new ≡ self.old) }
+    {
+        self.entries.try_reserve(1)?;
+        self.standing.try_reserve(1)?;
+        apply(&mut self.map, &action)?;
+        let seq = self.entries.len() as u64 + 1;
+        let kind = EntryKind::Do(action);
+        push_reserved(&mut self.entries, Entry { author, id, kind });
+        push_reserved(&mut self.standing, seq);
+        Ok(seq)
+    }
+
+    // Undoes an entry, if it is the last that stands and the author's own.
+    fn undo(&mut self, author: Author, id: u64, number: Option<u64>) -> Reply
+        ensures step { IsUndone self.old.base self.old.journal author id number result self.new.journal }
+        ensures base { self.new.base ≡ self.old.base }
+        ensures limit { self.new.limit ≡ self.old.limit }
+    {
+        match undoable(&self.entries, &self.standing, &author, number) {
+            Ok(of) => match self.append_undo(author, id, of) {
+                Ok(seq) => Reply::Undid { seq, of },
+                Err(_) => Reply::Memory,
+            },
+            Err(refusal) => refusal,
+        }
+    }
+
+    // Appends the undo of the last entry that stands, and answers its number.
+    fn append_undo(&mut self, author: Author, id: u64, of: u64) -> Result<u64, Memory>
+        requires { undo_refusal self.old.journal author of ≡ None }
+        ensures ok { IfOk result (λ seq. (seq ≡ length self.old.journal + 1)
+            × (self.new ≡ record self.old { journal = with_entry self.old.journal author id (Undo of) })) }
+        ensures err { OnErr result (self.new ≡ self.old) }
+    {
+        self.entries.try_reserve(1)?;
+        let alloc = *self.entries.allocator();
+        let rest = self.standing.len() - 1;
+        self.map = replay(alloc, &self.entries, &self.standing[..rest])?;
+        let seq = self.entries.len() as u64 + 1;
+        let kind = EntryKind::Undo(of);
+        push_reserved(&mut self.entries, Entry { author, id, kind });
+        self.standing.truncate(rest);
+        Ok(seq)
+    }
+
+    /// The element of a name, or none.
+    pub fn get(&self, name: &Name) -> Option<&Element<A>>
+        ensures { option_copied result ≡ row_at (mapof self.now.base self.now.journal) name.now }
+    {
+        self.map.get(name)
+    }
+
+    /// The rows of the map, in name order. It copies them; the one refusal is want of memory.
+    pub fn map_rows(&self) -> Result<Rows<A>, Memory>
+        ensures { IfOk result (λ rows. rows ≡ mapof self.now.base self.now.journal) }
+    {
+        self.map.rows(*self.entries.allocator())
+    }
+
+    /// How many entries the journal has.
+    pub fn front(&self) -> u64
+        ensures { result ≡ length self.now.journal }
+    {
+        self.entries.len() as u64
+    }
+
+    /// The entry of a number from 1 on, or none.
+    pub fn entry(&self, seq: u64) -> Option<&Entry<A>>
+        ensures { option_copied result ≡ numbered self.now.journal seq }
+    {
+        numbered(&self.entries, seq)
+    }
+}
+
+// Adds an item to a list that has room for it.
+fn push_reserved<T: Drop, A: Allocator>(list: &mut Vec<T, A>, item: T)
+    requires { vec_len list.old < vec_capacity list.old }
+    ensures items { list.new.items ≡ list.old.items ++ item ∷ [] }
+    ensures len { vec_len list.new ≡ vec_len list.old + 1 }
+{
+    match list.push(item) {
+        Ok(()) => {}
+        Err(_) => unreachable!(),
+    }
+}
