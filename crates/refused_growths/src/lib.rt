@@ -9,6 +9,8 @@ mod map;
 #[cfg(test)]
 mod nodes;
 #[cfg(test)]
+mod room;
+#[cfg(test)]
 mod tags;
 #[cfg(test)]
 mod text;
