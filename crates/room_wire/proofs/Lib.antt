@@ -1,0 +1,10 @@
+pub mod Ascii
+pub mod Empty
+pub mod ExampleProofs
+pub mod NeverMemory
+pub mod NoFloats
+pub mod NodeLists
+pub mod ReadBackProofs
+pub mod Shallow
+pub mod TagLists
+pub mod TagMembers

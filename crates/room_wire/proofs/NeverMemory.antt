@@ -1,0 +1,111 @@
+-- The definition of a message's fault never says that a growth was refused.
+use Rattle.std.proofs.Common.{◌≡◌, ◌≢◌, ℕ, List, Bool, true, false, cond, Option, Some, None, Result, Ok, Err, IfErr, codes, is_some, option_and_then, refl, sym, ◌∙◌}
+use Rattle.serde_json.specs.Data.{Data}
+use Rattle.serde_json.specs.Find.{get, as_str, as_object}
+use Rattle.serde_json.specs.Read.{read}
+use Rattle.room_wire.specs.Fields.{field_text}
+use Rattle.osm_elements.specs.declared.name.Kind.{Kind}
+use Rattle.osm_elements.specs.declared.name.Kind.TheVariants as kinds
+use Rattle.room_wire.specs.declared.bad.Fault.{Fault}
+use Rattle.room_wire.specs.declared.bad.Fault.TheVariants.{Memory, BadField, NotObject, BadId, UnknownDo}
+use Rattle.room_wire.specs.declared.incoming.Body.{Body}
+use Rattle.room_wire.specs.declared.incoming.Body.TheVariants.{Change, Get, Map}
+use Rattle.room_history.specs.declared.action.Action.TheVariants as actions
+use Rattle.room_history.specs.declared.call.Request.TheVariants as requests
+use Rattle.std.specs.Str.{bytes_eq}
+use Rattle.room_wire.specs.declared.field.Field.TheVariants.{El, Lat, Lon, Nodes, Tags, Seq}
+use Rattle.room_wire.specs.Reading.{◌>>=◌, or_fault}
+use Rattle.room_wire.specs.Spelling.{spells, ordinal, word_at, message_of, message_by, under, id_at, body_at, body_by, create_at, element_at, el_at, lat_at, lon_at, nodes_at, tags_at, tags_from, seq_at, seq_from}
+
+Fine : {X : Type 0} → Result X Fault → Type 0
+Fine r = IfErr r (λ f. f ≢ Memory)
+
+fine_or : {X : Type 0} (fault : Fault) (found : Option X) → fault ≢ Memory → Fine (or_fault fault found)
+unfolding Fine
+fine_or fault None h = h
+fine_or fault (Some x) h = tt
+
+fine_then : {A B : Type 0} (r : Result A Fault) (f : A → Result B Fault) → Fine r → ((x : A) → Fine (f x)) → Fine (r >>= f)
+unfolding Fine
+fine_then (Ok x) f h g = g x
+fine_then (Err e) f h g = h
+
+fine_if : {X : Type 0} (b : Bool) (r s : Result X Fault) → Fine r → Fine s → Fine (cond b r s)
+fine_if true r s h g = h
+fine_if false r s h g = g
+
+fine_ok : {X : Type 0} (x : X) → Fine (Ok x)
+unfolding Fine
+fine_ok x = tt
+
+el_is_fine : (d : Data) → Fine (el_at d)
+el_is_fine d = fine_or (BadField El) _ (λ e. cc)
+
+tags_are_fine : (found : Option Data) → Fine (tags_from found)
+tags_are_fine None = fine_ok _
+tags_are_fine (Some d) = fine_or (BadField Tags) _ (λ e. cc)
+
+seq_is_fine : (found : Option Data) → Fine (seq_from found)
+seq_is_fine None = fine_ok _
+seq_is_fine (Some d) = fine_or (BadField Seq) _ (λ e. cc)
+
+err_is_fine : {X : Type 0} (fault : Fault) (r : Result X Fault) → r ≡ Err fault → fault ≢ Memory → Fine r
+unfolding Fine
+err_is_fine fault (Ok x) e h = tt
+err_is_fine fault (Err f) e h = λ m. h (let same : f ≡ fault = cc in sym same ∙ m)
+
+element_is_fine : (kind : Kind) (d : Data) → Fine (element_at kind d)
+element_is_fine kinds.Node d =
+    fine_then (lat_at d) _ (fine_or (BadField Lat) _ (λ e. cc)) (λ lat. fine_then (lon_at d) _ (fine_or (BadField Lon) _ (λ e. cc))
+    (λ lon. fine_then (tags_at d) _ (tags_are_fine (get (field_text Tags) d)) (λ tags. fine_ok _)))
+element_is_fine kinds.Way d = fine_then (nodes_at d) _ (fine_or (BadField Nodes) _ (λ e. cc)) (λ nodes. fine_then (tags_at d) _ (tags_are_fine (get (field_text Tags) d)) (λ tags. fine_ok _))
+element_is_fine kinds.Relation d = err_is_fine (BadField El) _ refl (λ e. cc)
+
+create_is_fine : (d : Data) → Fine (create_at d)
+create_is_fine d = fine_then (el_at d) _ (el_is_fine d) (λ name. fine_then (element_at name.kind d) _ (element_is_fine name.kind d) (λ element. fine_ok _))
+
+body_is_fine : (word : List ℕ) (d : Data) → Fine (body_by word d)
+body_is_fine word d =
+    let creates : Result Body Fault = create_at d >>= λ action. Ok (Change (requests.Do action)) in
+    let deletes : Result Body Fault = el_at d >>= λ name. Ok (Change (requests.Do (actions.Delete name))) in
+    let undoes : Result Body Fault = seq_at d >>= λ seq. Ok (Change (requests.Undo seq)) in
+    let gets : Result Body Fault = el_at d >>= λ name. Ok (Get name) in
+    let maps : Result Body Fault = Ok Map in
+    let unknown : Result Body Fault = Err UnknownDo in
+    let is_map = bytes_eq word (codes "map") in
+    let is_get = bytes_eq word (codes "get") in
+    let is_undo = bytes_eq word (codes "undo") in
+    let is_delete = bytes_eq word (codes "delete") in
+    let from_map = fine_if is_map maps unknown (fine_ok Map) (err_is_fine UnknownDo unknown refl (λ e. cc)) in
+    let from_get = fine_if is_get gets (cond is_map maps unknown) (fine_then (el_at d) (λ name. Ok (Get name)) (el_is_fine d) (λ name. fine_ok (Get name))) from_map in
+    let from_undo = fine_if is_undo undoes (cond is_get gets (cond is_map maps unknown))
+    (fine_then (seq_at d) (λ seq. Ok (Change (requests.Undo seq))) (seq_is_fine (get (field_text Seq) d)) (λ seq. fine_ok (Change (requests.Undo seq)))) from_get in
+    let from_delete = fine_if is_delete deletes (cond is_undo undoes (cond is_get gets (cond is_map maps unknown)))
+    (fine_then (el_at d) (λ name. Ok (Change (requests.Do (actions.Delete name)))) (el_is_fine d) (λ name. fine_ok (Change (requests.Do (actions.Delete name))))) from_undo in
+    fine_if (bytes_eq word (codes "create")) creates (cond is_delete deletes (cond is_undo undoes (cond is_get gets (cond is_map maps unknown))))
+    (fine_then (create_at d) (λ action. Ok (Change (requests.Do action))) (create_is_fine d) (λ action. fine_ok (Change (requests.Do action)))) from_delete
+
+body_at_is_fine : (d : Data) → Fine (body_at d)
+body_at_is_fine d = fine_then (word_at d) (λ word. body_by word d) (fine_or UnknownDo (option_and_then as_str (get (codes "do") d)) (λ e. cc)) (λ word. body_is_fine word d)
+
+under_is_fine : (id : ℕ) (r : Result Body Fault) → Fine r → IfErr (under id r) (λ bad. bad.fault ≢ Memory)
+unfolding Fine
+under_is_fine id (Ok body) h = tt
+under_is_fine id (Err fault) h = h
+
+message_is_fine : (r : Result ℕ Fault) (d : Data) → Fine r → IfErr (message_by r d) (λ bad. bad.fault ≢ Memory)
+unfolding Fine
+message_is_fine (Ok id) d h = under_is_fine id (body_at d) (body_at_is_fine d)
+message_is_fine (Err fault) d h = h
+
+id_is_fine : (d : Data) → Fine (id_at d)
+id_is_fine d =
+    fine_if (is_some (as_object d)) (or_fault BadId (option_and_then ordinal (get (codes "id") d))) (Err NotObject)
+    (fine_or BadId (option_and_then ordinal (get (codes "id") d)) (λ e. cc)) (err_is_fine NotObject _ refl (λ e. cc))
+
+of_tree : (found : Option Data) → IfErr (message_of found) (λ bad. bad.fault ≢ Memory)
+of_tree None = λ e. cc
+of_tree (Some d) = message_is_fine (id_at d) d (id_is_fine d)
+
+pub spells_is_never_memory : (text : List ℕ) → IfErr (spells text) (λ bad. bad.fault ≢ Memory)
+spells_is_never_memory text = of_tree (read text)

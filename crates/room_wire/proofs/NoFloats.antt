@@ -1,0 +1,61 @@
+-- The trees of replies have whole numbers only.
+use Rattle.std.proofs.Common.{◌≡◌, ℕ, ℤ, pos, negsuc, List, [], ◌∷◌, map, false, refl}
+use Rattle.serde_json.specs.Data.{Data}
+use Rattle.serde_json.specs.View.{items_of}
+use Rattle.serde_json.specs.Written.{has_float, items_have_float, members_have_float}
+use Rattle.osm_elements.specs.declared.name.Name.{Name}
+use Rattle.osm_elements.specs.declared.element.Element.{Element}
+use Rattle.osm_elements.specs.declared.element.Element.TheVariants as elements
+use Rattle.osm_elements.specs.TagRows.{Pairs}
+use Rattle.room_wire.specs.declared.answer.Answer.{Answer}
+use Rattle.room_wire.specs.declared.answer.Answer.TheVariants.{Done, Undid, Is, Map, Absent, Present, WrongKind, TooFew, TooMany, InUse, Repeat, NotLast, BadField, Memory, Full, NothingToUndo, NoSuch, NotYours, NotStanding, NotJson, NotObject, BadId, UnknownDo, BadLine}
+use Rattle.room_wire.specs.Trees.{id_tree, nodes_tree, tag_members, element_tree, rows_tree, tree_of}
+use Rattle.serde_json.specs.Find.{of_integer, is_float}
+
+items_have_none : {X : Type 0} (f : X → Data) → ((x : X) → has_float (f x) ≡ false) → (xs : List X) → items_have_float (items_of (map f xs)) ≡ false
+items_have_none f h [] = refl
+items_have_none f h (x ∷ xs) = rw (h x, items_have_none f h xs) refl
+
+integer_is_none : (z : ℤ) → is_float (of_integer z) ≡ false
+integer_is_none (pos n) = refl
+integer_is_none (negsuc n) = refl
+
+tags_have_none : (tags : Pairs) → members_have_float (tag_members tags) ≡ false
+tags_have_none [] = refl
+tags_have_none (e ∷ es) = tags_have_none es
+
+nodes_have_none : (names : List Name) → has_float (nodes_tree names) ≡ false
+nodes_have_none names = items_have_none id_tree (λ n. integer_is_none n.id) names
+
+element_has_none : {A : Type 0} (name : Name) (e : Element A) → has_float (element_tree name e) ≡ false
+element_has_none name (elements.Node lat lon tags) = rw (tags_have_none tags) refl
+element_has_none name (elements.Way nodes tags) = rw (nodes_have_none nodes, tags_have_none tags) refl
+
+rows_have_none : {A : Type 0} (rows : List (Name × Element A)) → has_float (rows_tree rows) ≡ false
+rows_have_none rows = items_have_none (λ r. element_tree r.0 r.1) (λ r. element_has_none r.0 r.1) rows
+
+pub tree_has_no_float : (id : ℕ) (answer : Answer) → has_float (tree_of id answer) ≡ false
+tree_has_no_float id (Done seq) = refl
+tree_has_no_float id (Undid seq of) = refl
+tree_has_no_float id (Is name element) = rw (element_has_none name element.now) refl
+tree_has_no_float id (Map rows front) = rw (rows_have_none rows.now) refl
+tree_has_no_float id (Absent name) = refl
+tree_has_no_float id (Present name) = refl
+tree_has_no_float id (WrongKind name) = refl
+tree_has_no_float id (TooFew name) = refl
+tree_has_no_float id (TooMany name) = refl
+tree_has_no_float id (InUse name user) = refl
+tree_has_no_float id (Repeat seq) = refl
+tree_has_no_float id (NotLast blocker) = refl
+tree_has_no_float id (BadField field) = refl
+tree_has_no_float id Memory = refl
+tree_has_no_float id Full = refl
+tree_has_no_float id NothingToUndo = refl
+tree_has_no_float id NoSuch = refl
+tree_has_no_float id NotYours = refl
+tree_has_no_float id NotStanding = refl
+tree_has_no_float id NotJson = refl
+tree_has_no_float id NotObject = refl
+tree_has_no_float id BadId = refl
+tree_has_no_float id UnknownDo = refl
+tree_has_no_float id BadLine = refl

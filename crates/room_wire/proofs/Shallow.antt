@@ -1,0 +1,57 @@
+-- The trees of replies nest at most five deep.
+use Rattle.std.proofs.Common.{◌≤◌, ℕ, List, [], ◌∷◌, map, arith}
+use Rattle.std.proofs.Math.Nat.{max-le}
+use Rattle.serde_json.specs.Data.{Data, depth, items_depth, members_depth}
+use Rattle.serde_json.specs.View.{items_of}
+use Rattle.osm_elements.specs.declared.name.Name.{Name}
+use Rattle.osm_elements.specs.declared.element.Element.{Element}
+use Rattle.osm_elements.specs.declared.element.Element.TheVariants as elements
+use Rattle.osm_elements.specs.TagRows.{Pairs}
+use Rattle.room_wire.specs.declared.answer.Answer.{Answer}
+use Rattle.room_wire.specs.declared.answer.Answer.TheVariants.{Done, Undid, Is, Map, Absent, Present, WrongKind, TooFew, TooMany, InUse, Repeat, NotLast, BadField, Memory, Full, NothingToUndo, NoSuch, NotYours, NotStanding, NotJson, NotObject, BadId, UnknownDo, BadLine}
+use Rattle.room_wire.specs.Trees.{id_tree, tag_members, element_tree, rows_tree, tree_of}
+
+items_are_shallow : {X : Type 0} (k : ℕ) (f : X → Data) → ((x : X) → depth (f x) ≤ k) → (xs : List X) → items_depth (items_of (map f xs)) ≤ k
+items_are_shallow k f h [] = omega arith
+items_are_shallow k f h (x ∷ xs) = max-le (h x) (items_are_shallow k f h xs)
+
+tags_are_flat : (tags : Pairs) → members_depth (tag_members tags) ≤ 0
+tags_are_flat [] = omega arith
+tags_are_flat (e ∷ es) = max-le (omega arith) (tags_are_flat es)
+
+nodes_are_flat : (names : List Name) → items_depth (items_of (map id_tree names)) ≤ 0
+nodes_are_flat names = items_are_shallow 0 id_tree (λ n. omega arith) names
+
+-- an array or an object is one deeper than what it holds
+element_is_shallow : {A : Type 0} (name : Name) (e : Element A) → depth (element_tree name e) ≤ 2
+element_is_shallow name (elements.Node lat lon tags) = let t = tags_are_flat tags in omega arith
+element_is_shallow name (elements.Way nodes tags) = let t = tags_are_flat tags in let n = nodes_are_flat nodes in omega arith
+
+rows_are_shallow : {A : Type 0} (rows : List (Name × Element A)) → depth (rows_tree rows) ≤ 3
+rows_are_shallow rows = let r = items_are_shallow 2 (λ r. element_tree r.0 r.1) (λ r. element_is_shallow r.0 r.1) rows in omega arith
+
+pub tree_is_shallow : (id : ℕ) (answer : Answer) → depth (tree_of id answer) ≤ 127
+tree_is_shallow id (Done seq) = omega arith
+tree_is_shallow id (Undid seq of) = omega arith
+tree_is_shallow id (Is name element) = let e = element_is_shallow name element.now in omega arith
+tree_is_shallow id (Map rows front) = let r = rows_are_shallow rows.now in omega arith
+tree_is_shallow id (Absent name) = omega arith
+tree_is_shallow id (Present name) = omega arith
+tree_is_shallow id (WrongKind name) = omega arith
+tree_is_shallow id (TooFew name) = omega arith
+tree_is_shallow id (TooMany name) = omega arith
+tree_is_shallow id (InUse name user) = omega arith
+tree_is_shallow id (Repeat seq) = omega arith
+tree_is_shallow id (NotLast blocker) = omega arith
+tree_is_shallow id (BadField field) = omega arith
+tree_is_shallow id Memory = omega arith
+tree_is_shallow id Full = omega arith
+tree_is_shallow id NothingToUndo = omega arith
+tree_is_shallow id NoSuch = omega arith
+tree_is_shallow id NotYours = omega arith
+tree_is_shallow id NotStanding = omega arith
+tree_is_shallow id NotJson = omega arith
+tree_is_shallow id NotObject = omega arith
+tree_is_shallow id BadId = omega arith
+tree_is_shallow id UnknownDo = omega arith
+tree_is_shallow id BadLine = omega arith

@@ -1,0 +1,99 @@
+-- The tags that are read of an object, member by member.
+use Rattle.std.proofs.Common.{◌≡◌, ◌<◌, ◌≤◌, ℕ, suc, List, [], ◌∷◌, ◌++◌, length, String, string_bytes, Global, Option, Some, None, option_map, option_and_then, Ok, Bool, cond, nat_eq, Less, Greater, nat_le, true, false, refl, sym, ap, ◌∙◌, arith, append_assoc, append-nil}
+use Rattle.std.specs.Map.{keys_of}
+use Rattle.std.specs.List.Sorted.{IsStrictlySortedBy}
+use Rattle.std.specs.List.{AllByRecursion}
+use Rattle.std.specs.String.{string_cmp}
+use Rattle.std.specs.Ordering.{ordering_reverse}
+use Rattle.std.specs.FinMap.Entries.{put}
+use Rattle.std.proofs.lemmas.Cmp.{nat_list_cmp_total}
+use Rattle.serde_json.specs.Data.{Data, Members, no_members, member}
+use Rattle.serde_json.specs.View.{members_view}
+use Rattle.serde_json.proofs.Views.{Entry, members_len-members_view}
+use Rattle.osm_elements.specs.TagRows.{Pairs, text_cmp}
+use Rattle.room_wire.specs.Spelling.{text_of, tag_of, tags_in, tags_of}
+use Rattle.std.proofs.lemmas.Bool.Decides.{nat_tests}
+use Rattle.serde_json.specs.Find.{as_str}
+use Rattle.osm_elements.specs.Texts.{is_long}
+use Rattle.room_wire.specs.declared.bad.Fault.{Fault}
+use Rattle.room_wire.specs.Reading.{or_fault}
+
+-- the tags that were read, and those of the members that are left
+abbrev pub with_front : Pairs → Members → Option Pairs
+with_front front ms = option_map (λ ts. front ++ ts) (tags_in ms)
+
+one_more : (front : Pairs) (t : List ℕ × List ℕ) (rest : Option Pairs) → option_map (λ ts. front ++ ts) (option_map (λ ts. t ∷ ts) rest) ≡ option_map (λ ts. (front ++ t ∷ []) ++ ts) rest
+one_more front t None = refl
+one_more front t (Some ts) = ap Some (sym (append_assoc front (t ∷ []) ts))
+
+pub tags_in-some : (front : Pairs) (t : List ℕ × List ℕ) (k : List ℕ) (d : Data) (ms : Members) → tag_of k d ≡ Some t → with_front front (member k d ms) ≡ with_front (front ++ t ∷ []) ms
+tags_in-some front t k d ms h = rw h (one_more front t (tags_in ms))
+
+pub tags_in-none : (front : Pairs) (k : List ℕ) (d : Data) (ms : Members) → tag_of k d ≡ None → with_front front (member k d ms) ≡ None
+tags_in-none front k d ms h = rw h refl
+
+pub tags_in-nil : (front : Pairs) → with_front front no_members ≡ Some front
+tags_in-nil front = ap Some (append-nil front)
+
+-- the keys of the tags are those of the members
+abbrev pub SameKeys : Pairs → List Entry → Type 0
+SameKeys [] [] = Unit {0}
+SameKeys [] (e ∷ es) = ⊥
+SameKeys (t ∷ ts) [] = ⊥
+SameKeys (t ∷ ts) (e ∷ es) = (t.0 ≡ string_bytes e.0) × SameKeys ts es
+
+pub same_keys_more : (tags : Pairs) (done : List Entry) (t : List ℕ × List ℕ) (e : Entry) → SameKeys tags done → t.0 ≡ string_bytes e.0 → SameKeys (tags ++ t ∷ []) (done ++ e ∷ [])
+same_keys_more [] [] t e h is = (is, tt)
+same_keys_more [] (x ∷ done) t e h is = absurd h
+same_keys_more (s ∷ tags) [] t e h is = absurd h
+same_keys_more (s ∷ tags) (x ∷ done) t e h is = (h.0, same_keys_more tags done t e h.1 is)
+
+pub same_keys_length : (tags : Pairs) (done : List Entry) → SameKeys tags done → length tags ≡ length done
+same_keys_length [] [] h = refl
+same_keys_length [] (x ∷ done) h = absurd h
+same_keys_length (s ∷ tags) [] h = absurd h
+same_keys_length (s ∷ tags) (x ∷ done) h = ap suc (same_keys_length tags done h.1)
+
+below_middle : (k : String Global) (done : List Entry) (e : Entry) (more : List Entry) → AllByRecursion (λ y. string_cmp k y ≡ Less) (keys_of (done ++ e ∷ more)) → string_cmp k e.0 ≡ Less
+below_middle k [] e more h = h.0
+below_middle k (x ∷ done) e more h = below_middle k done e more h.1
+
+-- a key that is above those before it goes last
+pub put_last : (tags : Pairs) (done : List Entry) (e : Entry) (more : List Entry) (value : List ℕ) → SameKeys tags done → IsStrictlySortedBy string_cmp (keys_of (done ++ e ∷ more))
+    → put text_cmp (string_bytes e.0) value tags ≡ tags ++ (string_bytes e.0, value) ∷ []
+unfolding IsStrictlySortedBy
+put_last [] done e more value same h = refl
+put_last (t ∷ tags) [] e more value same h = absurd same
+put_last (t ∷ tags) (x ∷ done) e more value same h =
+    let above : text_cmp (string_bytes e.0) t.0 ≡ Greater =
+    ap (text_cmp (string_bytes e.0)) same.0 ∙ nat_list_cmp_total.antisymm (string_bytes e.0) (string_bytes x.0) ∙ ap ordering_reverse (below_middle x.0 done e more h.0) in
+    rw above (ap (λ ts. t ∷ ts) (put_last tags done e more value same.1 h.1))
+
+-- what was found
+pub or_fault_ok : {X : Type 0} (fault : Fault) (found : Option X) (x : X) → or_fault fault found ≡ Ok x → found ≡ Some x
+or_fault_ok fault None x h = absurd (cc)
+or_fault_ok fault (Some y) x h = cc
+
+by_tests : (a b : Bool) (k : List ℕ) (v : Option (List ℕ)) (t : List ℕ × List ℕ) → option_and_then (λ key. option_map (λ value. (key, value)) v) (cond a None (cond b None (Some k))) ≡ Some t → t.0 ≡ k
+by_tests true b k v t h = absurd (cc)
+by_tests false true k v t h = absurd (cc)
+by_tests false false k None t h = absurd (cc)
+by_tests false false k (Some x) t h = let e : (k, x) ≡ t = cc in sym (ap (λ p. p.0) e)
+
+-- a tag has the key that it was read of
+pub tag_of-key : (k : List ℕ) (d : Data) (t : List ℕ × List ℕ) → tag_of k d ≡ Some t → t.0 ≡ k
+tag_of-key k d t h = by_tests (nat_eq (length k) 0) (is_long k) k (option_and_then text_of (as_str d)) t h
+
+few : (n : ℕ) (b : Bool) → n ≤ 1000 → nat_le n 1000 ≡ b → b ≡ true
+few n true h e = refl
+few n false h e = absurd (grind (arith, nat_tests))
+
+many : (n : ℕ) (b : Bool) → 1000 < n → nat_le n 1000 ≡ b → b ≡ false
+many n true h e = absurd (grind (arith, nat_tests))
+many n false h e = refl
+
+pub tags_of-few : (es : List Entry) → length es ≤ 1000 → tags_of (members_view es) ≡ tags_in (members_view es)
+tags_of-few es h = rw (members_len-members_view es, few (length es) _ h refl) refl
+
+pub tags_of-many : (es : List Entry) → 1000 < length es → tags_of (members_view es) ≡ None
+tags_of-many es h = rw (members_len-members_view es, many (length es) _ h refl) refl

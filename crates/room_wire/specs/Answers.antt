@@ -1,0 +1,39 @@
+-- What a reply of the room, a refusal and a fault are answered with.
+use Rattle.room_history.specs.declared.refusal.Refusal.{Refusal}
+use Rattle.room_history.specs.declared.refusal.Refusal.TheVariants as refusals
+use Rattle.room_history.specs.declared.reply.Reply.{Reply}
+use Rattle.room_history.specs.declared.reply.Reply.TheVariants as replies
+use Rattle.room_wire.specs.declared.bad.Fault.{Fault}
+use Rattle.room_wire.specs.declared.bad.Fault.TheVariants as faults
+use Rattle.room_wire.specs.declared.answer.Answer.{Answer}
+use Rattle.room_wire.specs.declared.answer.Answer.TheVariants.{Done, Undid, Absent, Present, WrongKind, TooFew, TooMany, InUse, Repeat, NotLast, BadField, Memory, Full, NothingToUndo, NoSuch, NotYours, NotStanding, NotJson, NotObject, BadId, UnknownDo}
+
+abbrev pub refusal_answer : Refusal → Answer
+refusal_answer (refusals.Absent name) = Absent name
+refusal_answer (refusals.Present name) = Present name
+refusal_answer (refusals.WrongKind name) = WrongKind name
+refusal_answer (refusals.TooFew name) = TooFew name
+refusal_answer (refusals.TooMany name) = TooMany name
+refusal_answer (refusals.InUse name user) = InUse name user
+refusal_answer refusals.Memory = Memory
+
+abbrev pub reply_answer : Reply → Answer
+reply_answer (replies.Done seq) = Done seq
+reply_answer (replies.Undid seq of) = Undid seq of
+reply_answer (replies.Repeat seq) = Repeat seq
+reply_answer replies.Full = Full
+reply_answer replies.NothingToUndo = NothingToUndo
+reply_answer replies.NoSuch = NoSuch
+reply_answer replies.NotYours = NotYours
+reply_answer replies.NotStanding = NotStanding
+reply_answer (replies.NotLast blocker) = NotLast blocker
+reply_answer (replies.Refused refusal) = refusal_answer refusal
+reply_answer replies.Memory = Memory
+
+abbrev pub fault_answer : Fault → Answer
+fault_answer faults.NotJson = NotJson
+fault_answer faults.NotObject = NotObject
+fault_answer faults.BadId = BadId
+fault_answer faults.UnknownDo = UnknownDo
+fault_answer (faults.BadField field) = BadField field
+fault_answer faults.Memory = Memory

@@ -1,0 +1,96 @@
+-- What worked examples say of the definitions.
+use Rattle.std.specs.Prelude.{◌≡◌, ℕ, pos, negsuc, [], ◌∷◌, Some, None, Result, Ok, Err, codes}
+use Rattle.std.specs.declared.alloc.Global.{Global}
+use Rattle.osm_elements.specs.declared.name.Name.{Name}
+use Rattle.osm_elements.specs.declared.name.Kind.TheVariants as kinds
+use Rattle.osm_elements.specs.declared.element.Element.{Element}
+use Rattle.osm_elements.specs.declared.element.Element.TheVariants.{Node, Way}
+use Rattle.osm_elements.specs.NameTexts.{named}
+use Rattle.room_history.specs.declared.action.Action.TheVariants.{Create, Delete}
+use Rattle.room_history.specs.declared.call.Request.TheVariants.{Do, Undo}
+use Rattle.room_wire.specs.declared.field.Field.TheVariants.{El, Lat, Nodes, Tags, Seq}
+use Rattle.room_wire.specs.declared.bad.Bad.{Bad}
+use Rattle.room_wire.specs.declared.bad.Fault.{Fault}
+use Rattle.room_wire.specs.declared.bad.Fault.TheVariants.{NotJson, NotObject, BadId, UnknownDo, BadField}
+use Rattle.room_wire.specs.declared.incoming.Incoming.{Incoming}
+use Rattle.room_wire.specs.declared.incoming.Body.{Body}
+use Rattle.room_wire.specs.declared.incoming.Body.TheVariants.{Change, Get, Map}
+use Rattle.room_wire.specs.declared.answer.Answer.TheVariants as answers
+use Rattle.serde_json.specs.Written.{compact_text}
+use Rattle.room_wire.specs.Spelling.{spells}
+use Rattle.room_wire.specs.Trees.{tree_of, element_tree, rows_tree}
+
+abbrev pub n-1 : Name
+n-1 = named kinds.Node (negsuc 0) tt
+
+abbrev pub n7 : Name
+n7 = named kinds.Node (pos 7) tt
+
+abbrev pub w1 : Name
+w1 = named kinds.Way (pos 1) tt
+
+-- 51.5 degrees north and 0.1 degrees west
+abbrev pub greenwich : Element Global
+greenwich = Node (pos 515000000) (negsuc 999999) []
+
+abbrev pub asks : ℕ → Body → Result Incoming Bad
+asks id body = Ok (record { id = id; body = body })
+
+abbrev pub fails : ℕ → Fault → Result Incoming Bad
+fails id fault = Err (record { id = id; fault = fault })
+
+-- one message of each word, with needless space and members, and a doubled key whose last value counts
+unfoldable pub reads_messages : Type 0
+reads_messages =
+    (spells (codes "{\"id\":1,\"do\":\"create\",\"el\":\"n-1\",\"lat\":\"51.5\",\"lon\":\"-0.1\",\"tags\":{}}") ≡ asks 1 (Change (Do (Create n-1 greenwich))))
+    × (spells (codes "{\"tags\": {\"b\": \"2\", \"a\": \"1\"}, \"nodes\": [-1, 7, -1], \"el\": \"w1\", \"x\": [null], \"do\": \"create\", \"id\": 2}")
+    ≡ asks 2 (Change (Do (Create w1 (Way (n-1 ∷ n7 ∷ n-1 ∷ []) ((codes "a", codes "1") ∷ (codes "b", codes "2") ∷ []))))))
+    × (spells (codes "{\"id\":0,\"do\":\"delete\",\"el\":\"w1\",\"id\":3}") ≡ asks 3 (Change (Do (Delete w1))))
+    × (spells (codes "{\"id\":4,\"do\":\"undo\",\"seq\":9}") ≡ asks 4 (Change (Undo (Some 9))))
+    × (spells (codes "{\"id\":5,\"do\":\"undo\"}") ≡ asks 5 (Change (Undo None)))
+    × (spells (codes "{\"id\":6,\"do\":\"get\",\"el\":\"n7\"}") ≡ asks 6 (Get n7))
+    × (spells (codes "{\"id\":9007199254740991,\"do\":\"map\"}") ≡ asks 9007199254740991 Map)
+
+-- what has no id that can be told back
+unfoldable pub tells_no_id : Type 0
+tells_no_id =
+    (spells (codes "{\"id\":1,\"do\":\"cre") ≡ fails 0 NotJson)
+    × (spells (codes "[1]") ≡ fails 0 NotObject)
+    × (spells (codes "{\"do\":\"map\"}") ≡ fails 0 BadId)
+    × (spells (codes "{\"id\":0,\"do\":\"map\"}") ≡ fails 0 BadId)
+    × (spells (codes "{\"id\":9007199254740992,\"do\":\"map\"}") ≡ fails 0 BadId)
+    × (spells (codes "{\"id\":18446744073709551616,\"do\":\"map\"}") ≡ fails 0 BadId)
+    × (spells (codes "{\"id\":\"1\",\"do\":\"map\"}") ≡ fails 0 BadId)
+    × (spells (codes "{\"id\":1.0,\"do\":\"map\"}") ≡ fails 0 BadId)
+    × (spells (codes "{\"id\":1e2,\"do\":\"dance\"}") ≡ fails 0 BadId)
+    × (spells (codes "{\"id\":-0,\"do\":\"map\"}") ≡ fails 0 BadId)
+
+-- the faults under an id, each before those of later fields
+unfoldable pub tells_an_id : Type 0
+tells_an_id =
+    (spells (codes "{\"id\":1}") ≡ fails 1 UnknownDo)
+    × (spells (codes "{\"id\":1,\"do\":\"dance\",\"el\":1}") ≡ fails 1 UnknownDo)
+    × (spells (codes "{\"id\":1,\"do\":\"get\",\"el\":\"n05\"}") ≡ fails 1 (BadField El))
+    × (spells (codes "{\"id\":1,\"do\":\"create\",\"el\":\"r1\",\"tags\":1}") ≡ fails 1 (BadField El))
+    × (spells (codes "{\"id\":1,\"do\":\"create\",\"el\":\"n7\",\"lat\":\"90.0000001\",\"lon\":0,\"tags\":1}") ≡ fails 1 (BadField Lat))
+    × (spells (codes "{\"id\":1,\"do\":\"create\",\"el\":\"w1\",\"nodes\":[1,0],\"tags\":1}") ≡ fails 1 (BadField Nodes))
+    × (spells (codes "{\"id\":1,\"do\":\"create\",\"el\":\"w1\",\"nodes\":[],\"tags\":null}") ≡ fails 1 (BadField Tags))
+    × (spells (codes "{\"id\":1,\"do\":\"undo\",\"seq\":null}") ≡ fails 1 (BadField Seq))
+
+-- the texts of some replies
+unfoldable pub writes_replies : Type 0
+writes_replies =
+    (compact_text (tree_of 1 (answers.Done 1)) ≡ codes "{\"id\":1,\"ok\":{\"seq\":1}}")
+    × (compact_text (tree_of 2 (answers.Undid 3 2)) ≡ codes "{\"id\":2,\"ok\":{\"seq\":3,\"undid\":2}}")
+    × (compact_text (tree_of 1 (answers.InUse n-1 w1)) ≡ codes "{\"id\":1,\"no\":{\"by\":\"w1\",\"el\":\"n-1\",\"why\":\"in_use\"}}")
+    × (compact_text (tree_of 1 (answers.Repeat 1)) ≡ codes "{\"id\":1,\"no\":{\"seq\":1,\"why\":\"repeat\"}}")
+    × (compact_text (tree_of 2 (answers.NotLast 2)) ≡ codes "{\"id\":2,\"no\":{\"why\":\"not_last\",\"with\":2}}")
+    × (compact_text (tree_of 3 (answers.BadField El)) ≡ codes "{\"id\":3,\"no\":{\"field\":\"el\",\"why\":\"bad_field\"}}")
+    × (compact_text (tree_of 0 answers.BadLine) ≡ codes "{\"id\":0,\"no\":{\"why\":\"bad_line\"}}")
+
+-- the texts of elements
+unfoldable pub writes_elements : Type 0
+writes_elements =
+    (compact_text (element_tree n-1 greenwich) ≡ codes "{\"el\":\"n-1\",\"lat\":\"51.5000000\",\"lon\":\"-0.1000000\",\"tags\":{}}")
+    × (let way : Element Global = Way (n-1 ∷ n7 ∷ []) ((codes "a\"", codes "\n") ∷ []) in
+    compact_text (rows_tree ((w1, way) ∷ [])) ≡ codes "[{\"el\":\"w1\",\"nodes\":[-1,7],\"tags\":{\"a\\\"\":\"\\n\"}}]")

@@ -1,0 +1,7 @@
+pub mod Answers
+pub mod Examples
+pub mod Fields
+pub mod ReadBack
+pub mod Reading
+pub mod Spelling
+pub mod Trees

@@ -1,0 +1,32 @@
+-- How a reader answers.
+use Rattle.std.specs.Prelude.{◌≡◌, ◌⊎◌, ℕ, Option, Some, None, Result, Ok, Err}
+use Rattle.room_wire.specs.declared.bad.Fault.{Fault}
+use Rattle.room_wire.specs.declared.bad.Fault.TheVariants.{Memory}
+use Rattle.room_wire.specs.declared.bad.Bad.{Bad}
+use Rattle.room_wire.specs.declared.incoming.Incoming.{Incoming}
+
+infixl 10 ◌>>=◌
+-- one step after another, up to the first fault
+abbrev pub ◌>>=◌ : {A B : Type 0} → Result A Fault → (A → Result B Fault) → Result B Fault
+(Ok x) >>= f = f x
+(Err e) >>= f = Err e
+
+-- what was found, or else the fault
+abbrev pub or_fault : {X : Type 0} → Fault → Option X → Result X Fault
+or_fault fault None = Err fault
+or_fault fault (Some x) = Ok x
+
+-- the answer is the one that is read, or a growth was refused
+abbrev pub Gives : {X : Type 0} → Result X Fault → Result X Fault → Type 0
+Gives (Ok x) read = read ≡ Ok x
+Gives (Err f) read = (f ≡ Memory) ⊎ (read ≡ Err f)
+
+-- the id that an answer tells
+abbrev pub id_told : Result Incoming Bad → ℕ
+id_told (Ok incoming) = incoming.id
+id_told (Err bad) = bad.id
+
+-- the same for a whole message: where a growth was refused, the id may have been read before
+abbrev pub GivesMessage : Result Incoming Bad → Result Incoming Bad → Type 0
+GivesMessage (Ok incoming) read = read ≡ Ok incoming
+GivesMessage (Err bad) read = ((bad.fault ≡ Memory) × ((bad.id ≡ 0) ⊎ (bad.id ≡ id_told read))) ⊎ (read ≡ Err bad)

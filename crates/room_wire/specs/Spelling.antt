@@ -1,0 +1,148 @@
+-- What a message is, by cases of the tree that its text is. (RFC 8259: the tree. The words and fields are this project's.)
+use Rattle.std.specs.Prelude.{ℕ, ℤ, ◌&&◌, List, [], ◌∷◌, length, Option, Some, None, Result, Ok, Err, codes, is_some, nat_le, nat_eq, if◌then◌else◌}
+use Rattle.std.specs.Option.{option_and_then, option_map}
+use Rattle.std.specs.Str.{bytes_eq}
+use Rattle.std.specs.declared.alloc.Global.{Global}
+use Rattle.serde_json.specs.Data.{Data, Items, no_items, item, Members, no_members, member}
+use Rattle.serde_json.specs.Events.{members_len}
+use Rattle.serde_json.specs.Find.{get, as_str, as_number, as_array, as_object, as_u64, as_i64}
+use Rattle.serde_json.specs.Read.{read}
+use Rattle.osm_coords.specs.Latitude.{latitude_of}
+use Rattle.osm_coords.specs.Longitude.{longitude_of}
+use Rattle.osm_elements.specs.declared.fault.TextFault.{TextFault}
+use Rattle.osm_elements.specs.declared.fault.TextFault.TheVariants as text_faults
+use Rattle.osm_elements.specs.declared.name.Name.{Name}
+use Rattle.osm_elements.specs.declared.name.Kind.{Kind}
+use Rattle.osm_elements.specs.declared.name.Kind.TheVariants as kinds
+use Rattle.osm_elements.specs.declared.element.Element.{Element}
+use Rattle.osm_elements.specs.declared.element.Element.TheVariants as elements
+use Rattle.osm_elements.specs.NameTexts.{name_of, name_with}
+use Rattle.osm_elements.specs.TagRows.{Pairs}
+use Rattle.osm_elements.specs.Texts.{is_long}
+use Rattle.room_history.specs.declared.action.Action.{Action}
+use Rattle.room_history.specs.declared.action.Action.TheVariants as actions
+use Rattle.room_history.specs.declared.call.Request.TheVariants as requests
+use Rattle.room_wire.specs.declared.field.Field.{Field}
+use Rattle.room_wire.specs.declared.field.Field.TheVariants.{El, Lat, Lon, Nodes, Tags, Seq}
+use Rattle.room_wire.specs.declared.bad.Fault.{Fault}
+use Rattle.room_wire.specs.declared.bad.Fault.TheVariants.{NotJson, NotObject, BadId, UnknownDo, BadField, Memory}
+use Rattle.room_wire.specs.declared.bad.Bad.{Bad}
+use Rattle.room_wire.specs.declared.incoming.Incoming.{Incoming}
+use Rattle.room_wire.specs.declared.incoming.Body.{Body}
+use Rattle.room_wire.specs.declared.incoming.Body.TheVariants.{Change, Get, Map}
+use Rattle.room_wire.specs.Fields.{field_text}
+use Rattle.room_wire.specs.Reading.{◌>>=◌, or_fault}
+
+-- a whole number in 1..=9007199254740991. (RFC 8259, section 6: integers up to 2^53 - 1 mean the same to every reader.)
+abbrev pub ordinal : Data → Option ℕ
+ordinal d = option_and_then (λ n. if nat_le 1 n && nat_le n 9007199254740991 then Some n else None) (option_and_then as_u64 (as_number d))
+
+-- the string of a field
+abbrev pub text_at : Field → Data → Option (List ℕ)
+text_at field d = option_and_then as_str (get (field_text field) d)
+
+-- the fields, each with its form
+abbrev pub el_at : Data → Result Name Fault
+el_at d = or_fault (BadField El) (option_and_then name_of (text_at El d))
+
+abbrev pub lat_at : Data → Result ℤ Fault
+lat_at d = or_fault (BadField Lat) (option_and_then latitude_of (text_at Lat d))
+
+abbrev pub lon_at : Data → Result ℤ Fault
+lon_at d = or_fault (BadField Lon) (option_and_then longitude_of (text_at Lon d))
+
+-- an array of whole numbers, each an i64 other than 0: the ids of nodes
+abbrev pub node_of : Data → Option Name
+node_of d = option_and_then (name_with kinds.Node) (option_and_then as_i64 (as_number d))
+
+abbrev pub nodes_in : Items → Option (List Name)
+nodes_in no_items = Some []
+nodes_in (item d ds) = option_and_then (λ n. option_map (λ ns. n ∷ ns) (nodes_in ds)) (node_of d)
+
+abbrev pub nodes_at : Data → Result (List Name) Fault
+nodes_at d = or_fault (BadField Nodes) (option_and_then nodes_in (option_and_then as_array (get (field_text Nodes) d)))
+
+-- an object of at most 1,000 keys, each of 1 to 255 characters, and each value a string of at most 255
+abbrev pub text_of : List ℕ → Option (List ℕ)
+text_of text = if is_long text then None else Some text
+
+abbrev pub key_of : List ℕ → Option (List ℕ)
+key_of text = if nat_eq (length text) 0 then None else text_of text
+
+abbrev pub tag_of : List ℕ → Data → Option (List ℕ × List ℕ)
+tag_of k d = option_and_then (λ key. option_map (λ value. (key, value)) (option_and_then text_of (as_str d))) (key_of k)
+
+abbrev pub tags_in : Members → Option Pairs
+tags_in no_members = Some []
+tags_in (member k d ms) = option_and_then (λ tag. option_map (λ tags. tag ∷ tags) (tags_in ms)) (tag_of k d)
+
+abbrev pub tags_of : Members → Option Pairs
+tags_of ms = if nat_le (members_len ms) 1000 then tags_in ms else None
+
+-- what refuses a text or a tag, to a message
+abbrev pub fault_of_tags : TextFault → Fault
+fault_of_tags text_faults.TextTooLong = BadField Tags
+fault_of_tags text_faults.EmptyKey = BadField Tags
+fault_of_tags text_faults.TooManyTags = BadField Tags
+fault_of_tags text_faults.Memory = Memory
+
+-- a field that may be missing
+abbrev pub tags_from : Option Data → Result Pairs Fault
+tags_from None = Ok []
+tags_from (Some d) = or_fault (BadField Tags) (option_and_then tags_of (as_object d))
+
+abbrev pub tags_at : Data → Result Pairs Fault
+tags_at d = tags_from (get (field_text Tags) d)
+
+abbrev pub seq_from : Option Data → Result (Option ℕ) Fault
+seq_from None = Ok None
+seq_from (Some d) = or_fault (BadField Seq) (option_map Some (ordinal d))
+
+abbrev pub seq_at : Data → Result (Option ℕ) Fault
+seq_at d = seq_from (get (field_text Seq) d)
+
+-- the element that a create makes, by the kind of its name
+abbrev pub element_at : Kind → Data → Result (Element Global) Fault
+element_at kinds.Node d = lat_at d >>= λ lat. lon_at d >>= λ lon. tags_at d >>= λ tags. Ok (elements.Node lat lon tags)
+element_at kinds.Way d = nodes_at d >>= λ nodes. tags_at d >>= λ tags. Ok (elements.Way nodes tags)
+element_at kinds.Relation d = Err (BadField El)
+
+abbrev pub create_at : Data → Result (Action Global) Fault
+create_at d = el_at d >>= λ name. element_at name.kind d >>= λ element. Ok (actions.Create name element)
+
+-- what the word asks for
+abbrev pub body_by : List ℕ → Data → Result Body Fault
+body_by word d =
+    if bytes_eq word (codes "create") then (create_at d >>= λ action. Ok (Change (requests.Do action)))
+    else (if bytes_eq word (codes "delete") then (el_at d >>= λ name. Ok (Change (requests.Do (actions.Delete name))))
+    else (if bytes_eq word (codes "undo") then (seq_at d >>= λ seq. Ok (Change (requests.Undo seq)))
+    else (if bytes_eq word (codes "get") then (el_at d >>= λ name. Ok (Get name))
+    else (if bytes_eq word (codes "map") then Ok Map
+    else Err UnknownDo))))
+
+-- the word of a message
+abbrev pub word_at : Data → Result (List ℕ) Fault
+word_at d = or_fault UnknownDo (option_and_then as_str (get (codes "do") d))
+
+abbrev pub body_at : Data → Result Body Fault
+body_at d = word_at d >>= λ word. body_by word d
+
+abbrev pub id_at : Data → Result ℕ Fault
+id_at d = if is_some (as_object d) then or_fault BadId (option_and_then ordinal (get (codes "id") d)) else Err NotObject
+
+-- a body under the id of its message
+abbrev pub under : ℕ → Result Body Fault → Result Incoming Bad
+under id (Ok body) = Ok (record { id = id; body = body })
+under id (Err fault) = Err (record { id = id; fault = fault })
+
+abbrev pub message_by : Result ℕ Fault → Data → Result Incoming Bad
+message_by (Ok id) d = under id (body_at d)
+message_by (Err fault) d = Err (record { id = 0; fault = fault })
+
+abbrev pub message_of : Option Data → Result Incoming Bad
+message_of None = Err (record { id = 0; fault = NotJson })
+message_of (Some d) = message_by (id_at d) d
+
+-- what a text says: a message, or its one fault
+abbrev pub spells : List ℕ → Result Incoming Bad
+spells text = message_of (read text)

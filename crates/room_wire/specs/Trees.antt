@@ -1,0 +1,85 @@
+-- The tree of each reply. (RFC 8259, sections 4 to 7. Which members a reply has is this project's.)
+use Rattle.std.specs.Prelude.{ℕ, List, [], ◌∷◌, map, codes}
+use Rattle.serde_json.specs.Data.{Data, number, string, array, object, unsigned, Members, no_members, member}
+use Rattle.serde_json.specs.Find.{of_integer}
+use Rattle.serde_json.specs.View.{items_of}
+use Rattle.osm_coords.specs.Written.{written}
+use Rattle.osm_elements.specs.declared.name.Name.{Name}
+use Rattle.osm_elements.specs.declared.element.Element.{Element}
+use Rattle.osm_elements.specs.declared.element.Element.TheVariants as elements
+use Rattle.osm_elements.specs.NameTexts.{name_text}
+use Rattle.osm_elements.specs.TagRows.{Pairs}
+use Rattle.room_wire.specs.declared.answer.Answer.{Answer}
+use Rattle.room_wire.specs.declared.answer.Answer.TheVariants.{Done, Undid, Is, Map, Absent, Present, WrongKind, TooFew, TooMany, InUse, Repeat, NotLast, BadField, Memory, Full, NothingToUndo, NoSuch, NotYours, NotStanding, NotJson, NotObject, BadId, UnknownDo, BadLine}
+use Rattle.room_wire.specs.Fields.{field_text}
+
+abbrev pub whole : ℕ → Data
+whole n = number (unsigned n)
+
+abbrev pub name_tree : Name → Data
+name_tree name = string (name_text name)
+
+-- a node of a way is its id
+abbrev pub id_tree : Name → Data
+id_tree name = number (of_integer name.id)
+
+abbrev pub nodes_tree : List Name → Data
+nodes_tree names = array (items_of (map id_tree names))
+
+-- a member for each tag
+abbrev pub tag_members : Pairs → Members
+tag_members [] = no_members
+tag_members (e ∷ es) = member e.0 (string e.1) (tag_members es)
+
+abbrev pub tags_tree : Pairs → Data
+tags_tree tags = object (tag_members tags)
+
+abbrev pub element_tree : {A : Type 0} → Name → Element A → Data
+element_tree name (elements.Node lat lon tags) =
+    object (member (codes "el") (name_tree name) (member (codes "lat") (string (written lat)) (member (codes "lon") (string (written lon)) (member (codes "tags") (tags_tree tags) no_members))))
+element_tree name (elements.Way nodes tags) =
+    object (member (codes "el") (name_tree name) (member (codes "nodes") (nodes_tree nodes) (member (codes "tags") (tags_tree tags) no_members)))
+
+abbrev pub rows_tree : {A : Type 0} → List (Name × Element A) → Data
+rows_tree rows = array (items_of (map (λ r. element_tree r.0 r.1) rows))
+
+-- the reply to a message that was answered, and to one that was refused
+abbrev pub ok_tree : ℕ → Data → Data
+ok_tree id d = object (member (codes "id") (whole id) (member (codes "ok") d no_members))
+
+abbrev pub no_tree : ℕ → Data → Data
+no_tree id d = object (member (codes "id") (whole id) (member (codes "no") d no_members))
+
+-- a refusal with nothing but its word, and one about an element
+abbrev pub bare : ℕ → List ℕ → Data
+bare id why = no_tree id (object (member (codes "why") (string why) no_members))
+
+abbrev pub about : ℕ → Name → List ℕ → Data
+about id name why = no_tree id (object (member (codes "el") (name_tree name) (member (codes "why") (string why) no_members)))
+
+-- the tree of the reply to the message with this id
+abbrev pub tree_of : ℕ → Answer → Data
+tree_of id (Done seq) = ok_tree id (object (member (codes "seq") (whole seq) no_members))
+tree_of id (Undid seq of) = ok_tree id (object (member (codes "seq") (whole seq) (member (codes "undid") (whole of) no_members)))
+tree_of id (Is name element) = ok_tree id (object (member (codes "is") (element_tree name element.now) no_members))
+tree_of id (Map rows front) = ok_tree id (object (member (codes "map") (rows_tree rows.now) (member (codes "seq") (whole front) no_members)))
+tree_of id (Absent name) = about id name (codes "absent")
+tree_of id (Present name) = about id name (codes "present")
+tree_of id (WrongKind name) = about id name (codes "wrong_kind")
+tree_of id (TooFew name) = about id name (codes "too_few")
+tree_of id (TooMany name) = about id name (codes "too_many")
+tree_of id (InUse name user) = no_tree id (object (member (codes "by") (name_tree user) (member (codes "el") (name_tree name) (member (codes "why") (string (codes "in_use")) no_members))))
+tree_of id (Repeat seq) = no_tree id (object (member (codes "seq") (whole seq) (member (codes "why") (string (codes "repeat")) no_members)))
+tree_of id (NotLast blocker) = no_tree id (object (member (codes "why") (string (codes "not_last")) (member (codes "with") (whole blocker) no_members)))
+tree_of id (BadField field) = no_tree id (object (member (codes "field") (string (field_text field)) (member (codes "why") (string (codes "bad_field")) no_members)))
+tree_of id Memory = bare id (codes "memory")
+tree_of id Full = bare id (codes "full")
+tree_of id NothingToUndo = bare id (codes "nothing_to_undo")
+tree_of id NoSuch = bare id (codes "no_such")
+tree_of id NotYours = bare id (codes "not_yours")
+tree_of id NotStanding = bare id (codes "not_standing")
+tree_of id NotJson = bare id (codes "not_json")
+tree_of id NotObject = bare id (codes "not_object")
+tree_of id BadId = bare id (codes "bad_id")
+tree_of id UnknownDo = bare id (codes "unknown_do")
+tree_of id BadLine = bare id (codes "bad_line")

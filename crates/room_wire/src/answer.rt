@@ -1,0 +1,150 @@
+//! The answers that replies tell.
+ghost use Rattle.std.specs.Prelude.{◌≡◌};
+
+use crate::bad::Fault;
+use crate::field::Field;
+use osm_elements::element::Element;
+use osm_elements::map::Rows;
+use osm_elements::name::Name;
+use room_history::refusal::Refusal;
+use room_history::reply::Reply;
+use std::alloc::Global;
+
+/// The answer to a message, with what its reply shows.
+#[derive(Clone, Copy, Debug)]
+pub enum Answer<'a> {
+    /// The action was done, as the entry of this number.
+    Done {
+        /// The number of the new entry.
+        seq: u64,
+    },
+    /// An entry was undone.
+    Undid {
+        /// The number of the new entry.
+        seq: u64,
+        /// The number of the entry that was undone.
+        of: u64,
+    },
+    /// The element that was asked for.
+    Is {
+        /// Its name.
+        name: Name,
+        /// The element.
+        element: &'a Element<Global>,
+    },
+    /// The whole map.
+    Map {
+        /// Its rows.
+        rows: &'a Rows<Global>,
+        /// The number of the last entry, or 0.
+        front: u64,
+    },
+    /// The map has no element of this name.
+    Absent(Name),
+    /// The map has an element of this name already.
+    Present(Name),
+    /// The name is of another kind than the element or the action wants.
+    WrongKind(Name),
+    /// This way has too few nodes.
+    TooFew(Name),
+    /// This way has too many nodes.
+    TooMany(Name),
+    /// The element is referred to.
+    InUse {
+        /// The name of the element.
+        name: Name,
+        /// The least name that refers to it.
+        user: Name,
+    },
+    /// The author's accepted entry of this number spent the id.
+    Repeat {
+        /// The number of that entry.
+        seq: u64,
+    },
+    /// A later entry stands.
+    NotLast {
+        /// The number of the first later entry that stands.
+        blocker: u64,
+    },
+    /// A field of the message is missing or not of its form.
+    BadField(Field),
+    /// A growth was refused.
+    Memory,
+    /// The journal has as many entries as it may have.
+    Full,
+    /// No entry of the author's stands.
+    NothingToUndo,
+    /// No entry has the number.
+    NoSuch,
+    /// The entry of the number is another author's.
+    NotYours,
+    /// The entry of the number is an undo, or has been undone.
+    NotStanding,
+    /// The text is no JSON.
+    NotJson,
+    /// The message is no object.
+    NotObject,
+    /// The message has no id of the right form.
+    BadId,
+    /// The message asks for nothing known.
+    UnknownDo,
+    /// The line is not an author, a space and a message.
+    BadLine,
+}
+
+impl From<Refusal> for Answer<'_> {
+    ghost use Rattle.room_wire.specs.Answers.{refusal_answer};
+
+    ghost from_gives = { λ r a. a ≡ refusal_answer r };
+
+    fn from(refusal: Refusal) -> Self {
+        match refusal {
+            Refusal::Absent(name) => Answer::Absent(name),
+            Refusal::Present(name) => Answer::Present(name),
+            Refusal::WrongKind(name) => Answer::WrongKind(name),
+            Refusal::TooFew(name) => Answer::TooFew(name),
+            Refusal::TooMany(name) => Answer::TooMany(name),
+            Refusal::InUse(name, user) => Answer::InUse { name, user },
+            Refusal::Memory => Answer::Memory,
+        }
+    }
+}
+
+impl From<Reply> for Answer<'_> {
+    ghost use Rattle.room_wire.specs.Answers.{reply_answer};
+
+    ghost from_gives = { λ r a. a ≡ reply_answer r };
+
+    fn from(reply: Reply) -> Self {
+        match reply {
+            Reply::Done { seq } => Answer::Done { seq },
+            Reply::Undid { seq, of } => Answer::Undid { seq, of },
+            Reply::Repeat { seq } => Answer::Repeat { seq },
+            Reply::Full => Answer::Full,
+            Reply::NothingToUndo => Answer::NothingToUndo,
+            Reply::NoSuch => Answer::NoSuch,
+            Reply::NotYours => Answer::NotYours,
+            Reply::NotStanding => Answer::NotStanding,
+            Reply::NotLast { blocker } => Answer::NotLast { blocker },
+            Reply::Refused(refusal) => Answer::from(refusal),
+            Reply::Memory => Answer::Memory,
+        }
+    }
+}
+
+impl From<Fault> for Answer<'_> {
+    ghost use Rattle.room_wire.specs.Answers.{fault_answer};
+
+    ghost from_gives = { λ f a. a ≡ fault_answer f };
+
+    fn from(fault: Fault) -> Self {
+        match fault {
+            Fault::NotJson => Answer::NotJson,
+            Fault::NotObject => Answer::NotObject,
+            Fault::BadId => Answer::BadId,
+            Fault::UnknownDo => Answer::UnknownDo,
+            Fault::BadField(field) => Answer::BadField(field),
+            Fault::Memory => Answer::Memory,
+        }
+    }
+}

@@ -1,0 +1,70 @@
+//! What is wrong with a message.
+ghost use Rattle.std.specs.Prelude.{◌≡◌, ◌⊎◌};
+ghost use Rattle.serde_json.specs.Errors.{IsMemory};
+ghost use Rattle.room_wire.specs.declared.bad.Fault.TheVariants.{Memory, NotJson};
+
+use crate::field::Field;
+use std::alloc::AllocError;
+use thiserror::Error;
+
+/// What is wrong with a message, in the order in which faults are told.
+#[derive(Clone, Copy, Debug, PartialEq, Eq, Error)]
+pub enum Fault {
+    /// The text is no JSON, nests deeper than 127, or has a number too large for a float.
+    #[error("the text is no JSON")]
+    NotJson,
+    /// The text is JSON, and no object.
+    #[error("the message is no object")]
+    NotObject,
+    /// `id` is missing or no whole number in `1..=9007199254740991`.
+    #[error("the message has no id")]
+    BadId,
+    /// `do` is missing, no string or no word of the protocol.
+    #[error("the message asks for nothing known")]
+    UnknownDo,
+    /// The first field that is missing or not of its form.
+    #[error("the field `{0}` is bad", .0.as_str())]
+    BadField(Field),
+    /// A growth was refused.
+    #[error("out of memory")]
+    Memory,
+}
+
+/// A message that was not read: its id, or 0 where that was not read, and what is wrong.
+#[derive(Clone, Copy, Debug, PartialEq, Eq, Error)]
+#[error("message {id}: {fault}")]
+pub struct Bad {
+    /// The id of the message, or 0.
+    pub id: u64,
+    /// What is wrong with the message.
+    pub fault: Fault,
+}
+
+impl Bad {
+    // A fault of a message whose id was not read.
+    pub(crate) fn unread(fault: Fault) -> Bad
+        ensures { result ≡ record { id = 0; fault = fault } }
+    {
+        Bad { id: 0, fault }
+    }
+}
+
+impl From<AllocError> for Fault {
+    ghost from_gives = { λ _ f. f ≡ Memory };
+
+    fn from(_error: AllocError) -> Fault {
+        Fault::Memory
+    }
+}
+
+impl From<serde_json::Error> for Fault {
+    ghost from_gives = { λ e f. (IsMemory e × (f ≡ Memory)) ⊎ ((¬ IsMemory e) × (f ≡ NotJson)) };
+
+    fn from(error: serde_json::Error) -> Fault {
+        if error.is_memory() {
+            Fault::Memory
+        } else {
+            Fault::NotJson
+        }
+    }
+}

@@ -1,0 +1,92 @@
+//! The trees of elements.
+ghost use Rattle.std.specs.Prelude.{◌≡◌, IfOk};
+ghost use Rattle.serde_json.specs.Data.{string};
+ghost use Rattle.serde_json.specs.View.{view};
+ghost use Rattle.std.specs.Str.{IsAscii};
+ghost use Rattle.room_wire.specs.Trees.{name_tree, nodes_tree, tags_tree, element_tree, rows_tree};
+
+use osm_elements::Memory;
+use osm_elements::element::Element;
+use osm_elements::map::Rows;
+use osm_elements::name::{NAME_LENGTH, Name};
+use osm_elements::nodes::Nodes;
+use osm_elements::tags::Tags;
+use serde_json::{Map, Value, json};
+use std::alloc::Global;
+use std::str;
+
+// An element under its name.
+pub fn element_tree(alloc: Global, name: Name, element: &Element<Global>) -> Result<Value, Memory>
+    ensures { IfOk result (λ v. view v ≡ element_tree name element.now) }
+{
+    match element {
+        Element::Node { lat, lon, tags } => {
+            let mut buffer = [0; 12];
+            let length = lat.write(&mut buffer);
+            let lat = ascii_tree(alloc, &buffer[..length])?;
+            let length = lon.write(&mut buffer);
+            let lon = ascii_tree(alloc, &buffer[..length])?;
+            let el = name_tree(alloc, name)?;
+            let tags = tags_tree(alloc, tags)?;
+            json!(in alloc; {"el": el, "lat": lat, "lon": lon, "tags": tags})
+        }
+        Element::Way { nodes, tags } => {
+            let el = name_tree(alloc, name)?;
+            let nodes = nodes_tree(alloc, nodes)?;
+            let tags = tags_tree(alloc, tags)?;
+            json!(in alloc; {"el": el, "nodes": nodes, "tags": tags})
+        }
+    }
+}
+
+// The rows of a map, one element after another.
+pub fn rows_tree(alloc: Global, rows: &Rows<Global>) -> Result<Value, Memory>
+    ensures { IfOk result (λ v. view v ≡ rows_tree rows.now) }
+{
+    let mut items = Vec::new(alloc);
+    for row in rows.as_slice() {
+        items.push(element_tree(alloc, row.name, &row.element)?)?;
+    }
+    Ok(Value::Array(items))
+}
+
+// A name as its text.
+pub fn name_tree(alloc: Global, name: Name) -> Result<Value, Memory>
+    ensures { IfOk result (λ v. view v ≡ name_tree name) }
+{
+    let mut buffer = [0; NAME_LENGTH];
+    let length = name.write(&mut buffer);
+    ascii_tree(alloc, &buffer[..length])
+}
+
+// A text of ASCII characters.
+fn ascii_tree(alloc: Global, text: &[u8]) -> Result<Value, Memory>
+    requires { IsAscii text.now }
+    ensures { IfOk result (λ v. view v ≡ string text.now) }
+{
+    let text = str::from_utf8(text).unwrap();
+    Value::try_from_str(alloc, text)
+}
+
+// The ids of a way's nodes.
+fn nodes_tree(alloc: Global, nodes: &Nodes<Global>) -> Result<Value, Memory>
+    ensures { IfOk result (λ v. view v ≡ nodes_tree nodes.now) }
+{
+    let mut items = Vec::new(alloc);
+    for node in nodes.names() {
+        items.push(Value::from(node.id()))?;
+    }
+    Ok(Value::Array(items))
+}
+
+// An object with a member for each tag.
+fn tags_tree(alloc: Global, tags: &Tags<Global>) -> Result<Value, Memory>
+    ensures { IfOk result (λ v. view v ≡ tags_tree tags.now) }
+{
+    let mut members = Map::new(alloc);
+    for tag in tags.rows() {
+        let value = Value::try_from_str(alloc, tag.value.as_str())?;
+        serde_json::put(&mut members, alloc, tag.key.as_str(), value)?;
+    }
+    Ok(Value::Object(members))
+}

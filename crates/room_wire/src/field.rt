@@ -1,0 +1,36 @@
+//! The fields of messages.
+ghost use Rattle.std.specs.Prelude.{◌≡◌};
+ghost use Rattle.room_wire.specs.Fields.{field_text};
+
+/// A field of a message.
+#[derive(Clone, Copy, Debug, PartialEq, Eq)]
+pub enum Field {
+    /// The name of an element.
+    El,
+    /// A node's latitude.
+    Lat,
+    /// A node's longitude.
+    Lon,
+    /// A way's nodes.
+    Nodes,
+    /// An element's tags.
+    Tags,
+    /// The number of an entry.
+    Seq,
+}
+
+impl Field {
+    /// The key under which a message has the field, which a reply about a bad field shows too.
+    pub fn as_str(self) -> &'static str
+        ensures { result.now ≡ field_text self }
+    {
+        match self {
+            Field::El => "el",
+            Field::Lat => "lat",
+            Field::Lon => "lon",
+            Field::Nodes => "nodes",
+            Field::Tags => "tags",
+            Field::Seq => "seq",
+        }
+    }
+}

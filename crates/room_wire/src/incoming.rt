@@ -1,0 +1,24 @@
+//! Messages to a room.
+use osm_elements::name::Name;
+use room_history::call::Request;
+use std::alloc::Global;
+
+/// What a message asks for.
+#[derive(Debug, Drop)]
+pub enum Body {
+    /// A change of the room.
+    Change(Request<Global>),
+    /// The element of this name.
+    Get(Name),
+    /// The whole map.
+    Map,
+}
+
+/// A message to a room.
+#[derive(Debug, Drop)]
+pub struct Incoming {
+    /// The id that the sender gave the message, in `1..=9007199254740991`.
+    pub id: u64,
+    /// What the message asks for.
+    pub body: Body,
+}

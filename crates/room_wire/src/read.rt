@@ -1,0 +1,130 @@
+//! Messages, read from their texts.
+ghost use Rattle.std.specs.Prelude.{◌≡◌, ◌⊎◌, ◌<◌, length, Some, None, IfOk, OnOk, IfErr};
+ghost use Rattle.serde_json.specs.Read.{read};
+ghost use Rattle.serde_json.specs.View.{view};
+ghost use Rattle.room_wire.specs.declared.bad.Fault.TheVariants.{NotJson, Memory};
+ghost use Rattle.room_wire.specs.Reading.{Gives, GivesMessage};
+ghost use Rattle.room_wire.specs.Spelling.{spells, id_at, body_at, body_by, create_at, element_at};
+
+use crate::bad::{Bad, Fault};
+use crate::field::Field;
+use crate::forms::{el_of, lat_of, lon_of, nodes_of, ordinal, seq_of, tags_of};
+use crate::incoming::{Body, Incoming};
+use osm_elements::element::Element;
+use osm_elements::name::Kind;
+use room_history::action::Action;
+use room_history::call::Request;
+use serde_json::Value;
+use std::alloc::Global;
+
+/// The message that a JSON text is (RFC 8259), or its first fault.
+///
+/// The text has to be JSON that nests at most 127 deep (`NotJson`), and an object (`NotObject`), whose
+/// `id` is a whole number in `1..=9007199254740991` (`BadId`) and whose `do` is a word of this
+/// project's protocol (`UnknownDo`):
+///
+/// | `do` | Fields, in the order in which they are read |
+/// |---|---|
+/// | `create` | `el`; for a node `lat` and `lon`, for a way `nodes`; then `tags`, which may be missing |
+/// | `delete`, `get` | `el` |
+/// | `undo` | `seq`, which may be missing |
+/// | `map` | none |
+///
+/// The first field that is missing or not of its form is told (`BadField`). `el` is the name of an
+/// element, and not of a relation in a `create`. `lat` and `lon` are strings that [`osm_coords`] reads.
+/// `nodes` is an array of whole numbers, each an `i64` other than 0. `tags` is an object of at most
+/// 1,000 keys, each of 1 to 255 characters, whose values are strings of at most 255 characters
+/// (OpenStreetMap wiki, "Elements"). `seq` has the form of `id`.
+///
+/// A whole number is one that is written without a point and an exponent and fits 64 bits, and is not
+/// `-0`. Of members with the same key the last counts, `null` is a value, and members that no message
+/// has are ignored. The faults from `UnknownDo` on carry the id that was read, and the others the id 0.
+///
+/// `Memory` stands in the place of any other answer where a growth was refused. The time is linear in
+/// the length of the text, but for the tags, whose number is limited.
+pub fn read_request(alloc: Global, text: &str) -> Result<Incoming, Bad>
+    ensures exact { GivesMessage result (spells text.now) }
+    ensures memory { IfErr result (λ bad. bad.fault ≡ Memory → 0 < length text.now) }
+{
+    let message = parse(alloc, text).map_err(Bad::unread)?;
+    let id = id_of(&message).map_err(Bad::unread)?;
+    let body = body_of(alloc, &message).map_err(|fault| Bad { id, fault })?;
+    Ok(Incoming { id, body })
+}
+
+// The tree of a text.
+#[tactic(auto, using(crate::proofs::Empty::read_is_filled))]
+fn parse(alloc: Global, text: &str) -> Result<Value, Fault>
+    ensures ok { IfOk result (λ v. read text.now ≡ Some (view v)) }
+    ensures filled { OnOk result (0 < length text.now) }
+    ensures err { IfErr result (λ f. (f ≡ Memory) ⊎ ((f ≡ NotJson) × (read text.now ≡ None))) }
+    ensures memory { IfErr result (λ f. f ≡ Memory → 0 < length text.now) }
+{
+    Ok(Value::from_str(alloc, text)?)
+}
+
+// The id of a message.
+fn id_of(message: &Value) -> Result<u64, Fault>
+    ensures { result ≡ id_at (view message.now) }
+{
+    if !message.is_object() {
+        return Err(Fault::NotObject);
+    }
+    message.get("id").and_then(ordinal).ok_or(Fault::BadId)
+}
+
+// What a message asks for.
+fn body_of(alloc: Global, message: &Value) -> Result<Body, Fault>
+    ensures { Gives result (body_at (view message.now)) }
+{
+    let word = message
+        .get("do")
+        .and_then(Value::as_str)
+        .ok_or(Fault::UnknownDo)?;
+    body_by(alloc, word, message)
+}
+
+// What a message with this word asks for.
+fn body_by(alloc: Global, word: &str, message: &Value) -> Result<Body, Fault>
+    ensures { Gives result (body_by word.now (view message.now)) }
+{
+    match word {
+        "create" => Ok(Body::Change(Request::Do(create_of(alloc, message)?))),
+        "delete" => Ok(Body::Change(Request::Do(Action::Delete {
+            name: el_of(message)?,
+        }))),
+        "undo" => Ok(Body::Change(Request::Undo(seq_of(message)?))),
+        "get" => Ok(Body::Get(el_of(message)?)),
+        "map" => Ok(Body::Map),
+        _ => Err(Fault::UnknownDo),
+    }
+}
+
+// The action of a `create`.
+fn create_of(alloc: Global, message: &Value) -> Result<Action<Global>, Fault>
+    ensures { Gives result (create_at (view message.now)) }
+{
+    let name = el_of(message)?;
+    let element = element_of(alloc, name.kind(), message)?;
+    Ok(Action::Create { name, element })
+}
+
+// The element of a `create`, by the kind of its name.
+fn element_of(alloc: Global, kind: Kind, message: &Value) -> Result<Element<Global>, Fault>
+    ensures { Gives result (element_at kind (view message.now)) }
+{
+    match kind {
+        Kind::Node => {
+            let lat = lat_of(message)?;
+            let lon = lon_of(message)?;
+            let tags = tags_of(alloc, message)?;
+            Ok(Element::Node { lat, lon, tags })
+        }
+        Kind::Way => {
+            let nodes = nodes_of(alloc, message)?;
+            let tags = tags_of(alloc, message)?;
+            Ok(Element::Way { nodes, tags })
+        }
+        Kind::Relation => Err(Fault::BadField(Field::El)),
+    }
+}

@@ -1,0 +1,180 @@
+//! The texts of replies.
+ghost use Rattle.std.specs.Prelude.{◌≡◌, Some, IfOk};
+ghost use Rattle.serde_json.specs.Read.{read};
+ghost use Rattle.serde_json.specs.View.{view};
+ghost use Rattle.serde_json.specs.Written.{compact_text};
+ghost use Rattle.room_wire.specs.Trees.{tree_of, ok_tree, no_tree, bare, about};
+
+use crate::answer::Answer;
+use crate::element::{element_tree, name_tree, rows_tree};
+use crate::field::Field;
+use crate::json::Json;
+use osm_elements::Memory;
+use osm_elements::element::Element;
+use osm_elements::map::Rows;
+use osm_elements::name::Name;
+use serde_json::{Value, json};
+use std::alloc::Global;
+
+/// The text of the reply to the message with this id: `{"id":ID,"ok":O}` where it was answered, and
+/// `{"id":ID,"no":N}` where it was refused. For a message whose id was not read the id is 0.
+///
+/// It is the compact text of a JSON tree (RFC 8259): no space, the keys of each object in the order of
+/// their bytes, whole numbers in decimal, and strings with `serde_json`'s escapes.
+///
+/// | Answer | O |
+/// |---|---|
+/// | `Done` | `{"seq":SEQ}` |
+/// | `Undid` | `{"seq":SEQ,"undid":OF}` |
+/// | `Is` | `{"is":ELEMENT}` |
+/// | `Map` | `{"map":[ELEMENT,..],"seq":FRONT}`, in the order of the rows |
+///
+/// | Answer | N |
+/// |---|---|
+/// | `Absent`, `Present`, `WrongKind`, `TooFew`, `TooMany` | `{"el":NAME,"why":WHY}` |
+/// | `InUse` | `{"by":USER,"el":NAME,"why":"in_use"}` |
+/// | `Repeat` | `{"seq":SEQ,"why":"repeat"}` |
+/// | `NotLast` | `{"why":"not_last","with":BLOCKER}` |
+/// | `BadField` | `{"field":FIELD,"why":"bad_field"}` |
+/// | every other | `{"why":WHY}` |
+///
+/// WHY is the answer's name in lower case, as `wrong_kind`. A node is
+/// `{"el":NAME,"lat":TEXT,"lon":TEXT,"tags":{..}}`, and a way is
+/// `{"el":NAME,"nodes":[ID,..],"tags":{..}}` (OpenStreetMap wiki, "Elements").
+///
+/// The one refusal is `Memory`. The time is that of the reply's length, but for the sorting of keys.
+#[tactic(auto, using(crate::proofs::NoFloats::tree_has_no_float, crate::proofs::Shallow::tree_is_shallow))]
+pub fn reply_text(alloc: Global, id: u64, answer: &Answer<'_>) -> Result<Json, Memory>
+    ensures text { IfOk result (λ json. json ≡ compact_text (tree_of id answer.now)) }
+    // Any reader of JSON finds the tree in it.
+    ensures reads_back { IfOk result (λ json. read json ≡ Some (tree_of id answer.now)) }
+{
+    let reply = reply_tree(alloc, id, answer)?;
+    let text = reply.to_string(alloc)?;
+    Ok(Json::from_string(text))
+}
+
+// The tree of the reply.
+fn reply_tree(alloc: Global, id: u64, answer: &Answer<'_>) -> Result<Value, Memory>
+    ensures { IfOk result (λ v. view v ≡ tree_of id answer.now) }
+{
+    match *answer {
+        Answer::Done { seq } => done(alloc, id, seq),
+        Answer::Undid { seq, of } => undid(alloc, id, seq, of),
+        Answer::Is { name, element } => is(alloc, id, name, element),
+        Answer::Map { rows, front } => whole_map(alloc, id, rows, front),
+        Answer::Absent(name) => about(alloc, id, name, "absent"),
+        Answer::Present(name) => about(alloc, id, name, "present"),
+        Answer::WrongKind(name) => about(alloc, id, name, "wrong_kind"),
+        Answer::TooFew(name) => about(alloc, id, name, "too_few"),
+        Answer::TooMany(name) => about(alloc, id, name, "too_many"),
+        Answer::InUse { name, user } => in_use(alloc, id, name, user),
+        Answer::Repeat { seq } => repeat(alloc, id, seq),
+        Answer::NotLast { blocker } => not_last(alloc, id, blocker),
+        Answer::BadField(field) => bad_field(alloc, id, field),
+        Answer::Memory => bare(alloc, id, "memory"),
+        Answer::Full => bare(alloc, id, "full"),
+        Answer::NothingToUndo => bare(alloc, id, "nothing_to_undo"),
+        Answer::NoSuch => bare(alloc, id, "no_such"),
+        Answer::NotYours => bare(alloc, id, "not_yours"),
+        Answer::NotStanding => bare(alloc, id, "not_standing"),
+        Answer::NotJson => bare(alloc, id, "not_json"),
+        Answer::NotObject => bare(alloc, id, "not_object"),
+        Answer::BadId => bare(alloc, id, "bad_id"),
+        Answer::UnknownDo => bare(alloc, id, "unknown_do"),
+        Answer::BadLine => bare(alloc, id, "bad_line"),
+    }
+}
+
+// The reply to a message that was answered.
+fn answered(alloc: Global, id: u64, answer: Value) -> Result<Value, Memory>
+    ensures { IfOk result (λ v. view v ≡ ok_tree id (view answer)) }
+{
+    json!(in alloc; {"id": id, "ok": answer})
+}
+
+// The reply to a message that was refused.
+fn refused(alloc: Global, id: u64, refusal: Value) -> Result<Value, Memory>
+    ensures { IfOk result (λ v. view v ≡ no_tree id (view refusal)) }
+{
+    json!(in alloc; {"id": id, "no": refusal})
+}
+
+fn done(alloc: Global, id: u64, seq: u64) -> Result<Value, Memory>
+    ensures { IfOk result (λ v. view v ≡ tree_of id (Answer.Done seq)) }
+{
+    answered(alloc, id, json!(in alloc; {"seq": seq})?)
+}
+
+fn undid(alloc: Global, id: u64, seq: u64, of: u64) -> Result<Value, Memory>
+    ensures { IfOk result (λ v. view v ≡ tree_of id (Answer.Undid seq of)) }
+{
+    answered(alloc, id, json!(in alloc; {"seq": seq, "undid": of})?)
+}
+
+fn is(alloc: Global, id: u64, name: Name, element: &Element<Global>) -> Result<Value, Memory>
+    ensures { IfOk result (λ v. view v ≡ tree_of id (Answer.Is name element.entry)) }
+{
+    let element = element_tree(alloc, name, element)?;
+    answered(alloc, id, json!(in alloc; {"is": element})?)
+}
+
+fn whole_map(alloc: Global, id: u64, rows: &Rows<Global>, front: u64) -> Result<Value, Memory>
+    ensures { IfOk result (λ v. view v ≡ tree_of id (Answer.Map rows.entry front)) }
+{
+    let rows = rows_tree(alloc, rows)?;
+    answered(alloc, id, json!(in alloc; {"map": rows, "seq": front})?)
+}
+
+fn in_use(alloc: Global, id: u64, name: Name, user: Name) -> Result<Value, Memory>
+    ensures { IfOk result (λ v. view v ≡ tree_of id (Answer.InUse name user)) }
+{
+    let name = name_tree(alloc, name)?;
+    let user = name_tree(alloc, user)?;
+    refused(
+        alloc,
+        id,
+        json!(in alloc; {"by": user, "el": name, "why": "in_use"})?,
+    )
+}
+
+fn repeat(alloc: Global, id: u64, seq: u64) -> Result<Value, Memory>
+    ensures { IfOk result (λ v. view v ≡ tree_of id (Answer.Repeat seq)) }
+{
+    refused(alloc, id, json!(in alloc; {"seq": seq, "why": "repeat"})?)
+}
+
+fn not_last(alloc: Global, id: u64, blocker: u64) -> Result<Value, Memory>
+    ensures { IfOk result (λ v. view v ≡ tree_of id (Answer.NotLast blocker)) }
+{
+    refused(
+        alloc,
+        id,
+        json!(in alloc; {"why": "not_last", "with": blocker})?,
+    )
+}
+
+fn bad_field(alloc: Global, id: u64, field: Field) -> Result<Value, Memory>
+    ensures { IfOk result (λ v. view v ≡ tree_of id (Answer.BadField field)) }
+{
+    refused(
+        alloc,
+        id,
+        json!(in alloc; {"field": field.as_str(), "why": "bad_field"})?,
+    )
+}
+
+// The reply with a refusal that shows nothing but why.
+fn bare(alloc: Global, id: u64, why: &str) -> Result<Value, Memory>
+    ensures { IfOk result (λ v. view v ≡ bare id why.now) }
+{
+    refused(alloc, id, json!(in alloc; {"why": why})?)
+}
+
+// The reply with a refusal that names an element.
+fn about(alloc: Global, id: u64, name: Name, why: &str) -> Result<Value, Memory>
+    ensures { IfOk result (λ v. view v ≡ about id name why.now) }
+{
+    let name = name_tree(alloc, name)?;
+    refused(alloc, id, json!(in alloc; {"el": name, "why": why})?)
+}
