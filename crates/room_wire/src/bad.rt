@@ -41,8 +41,8 @@ pub struct Bad {
 }
 
 impl Bad {
-    // A fault of a message whose id was not read.
-    pub(crate) fn unread(fault: Fault) -> Bad
+    /// A fault of a message whose id was not read, which is told under the id 0.
+    pub fn unread(fault: Fault) -> Bad
         ensures { result ≡ record { id = 0; fault = fault } }
     {
         Bad { id: 0, fault }

@@ -1,0 +1,5 @@
+pub mod LineLemmas
+pub mod RunLemmas
+pub mod StreamLemmas
+pub mod ProgressLemmas
+pub mod LineAnswerLemmas

@@ -1,0 +1,49 @@
+-- Bytes that a writer takes and a reader gives, one part after another.
+use Rattle.std.proofs.Common.{◌≡◌, ℕ, ◌-◌, List, [], ◌∷◌, ◌++◌, Option, Some, None, length, take, drop, refl, sym, ap, ◌∙◌, append_assoc, append-nil}
+use Rattle.std.proofs.lemmas.List.{take_rest, take-append-drop}
+use Rattle.std.proofs.Common.{Result, Ok, Err, OnErr}
+use Rattle.std.specs.Io.KnownBytes.{Appends, Consumes, Keeps}
+
+pub Appends-then : (old mid new : Option (List ℕ)) (xs ys : List ℕ) → Appends old mid xs → Appends mid new ys → Appends old new (xs ++ ys)
+Appends-then None mid new xs ys h k = tt
+Appends-then (Some a) None new xs ys h k = absurd h
+Appends-then (Some a) (Some b) None xs ys h k = absurd k
+Appends-then (Some a) (Some b) (Some c) xs ys h k = k ∙ (ap (λ bs. bs ++ ys) h ∙ append_assoc a xs ys)
+
+pub Consumes-then : (old mid new : Option (List ℕ)) (xs ys : List ℕ) → Consumes old mid xs → Consumes mid new ys → Consumes old new (xs ++ ys)
+Consumes-then None mid new xs ys h k = tt
+Consumes-then (Some a) None new xs ys h k = absurd h
+Consumes-then (Some a) (Some b) None xs ys h k = absurd k
+Consumes-then (Some a) (Some b) (Some c) xs ys h k = h ∙ (ap (λ bs. xs ++ bs) k ∙ sym (append_assoc xs ys c))
+
+pub put-more : (old mid new : Option (List ℕ)) (bytes front rest : List ℕ) (n : ℕ) → bytes ≡ front ++ rest → Appends old mid front → Appends mid new (take n rest) →
+    (x : List ℕ) × (bytes ≡ x ++ take (length rest - n) (drop n rest)) × Appends old new x
+put-more old mid new bytes front rest n e h k = (
+  front ++ take n rest,
+  rw take_rest (e ∙ (ap (λ bs. front ++ bs) (sym (take-append-drop n rest)) ∙ sym (append_assoc front (take n rest) (drop n rest)))),
+  Appends-then old mid new front (take n rest) h k,
+)
+
+pub Appends-none : (taken : Option (List ℕ)) → Appends taken taken []
+Appends-none None = tt
+Appends-none (Some xs) = sym (append-nil xs)
+
+pub Consumes-none : (left : Option (List ℕ)) → Consumes left left []
+Consumes-none None = tt
+Consumes-none (Some xs) = refl
+
+pub Consumes-kept : (old mid new : Option (List ℕ)) (xs : List ℕ) → Consumes old mid xs → Keeps mid new → Consumes old new xs
+Consumes-kept None mid new xs h k = tt
+Consumes-kept (Some a) None new xs h k = absurd h
+Consumes-kept (Some a) (Some b) None xs h k = absurd k
+Consumes-kept (Some a) (Some b) (Some c) xs h k = h ∙ ap (λ bs. xs ++ bs) (sym k)
+
+pub on_err : {T E P : Type 0} (r : Result T E) → P → OnErr r P
+on_err (Ok x) p = tt
+on_err (Err e) p = p
+
+-- a read of no byte
+pub Keeps-from_none : (old new : Option (List ℕ)) (n : ℕ) (buffer : List ℕ) → n ≡ 0 → Consumes old new (take n buffer) → Keeps old new
+Keeps-from_none None new n buffer e h = tt
+Keeps-from_none (Some xs) None n buffer e h = absurd h
+Keeps-from_none (Some xs) (Some ys) n buffer e h = sym (h ∙ ap (λ k. take k buffer ++ ys) e)

@@ -1,0 +1,88 @@
+-- What a line says, and what a room answers it.
+use Rattle.std.specs.Prelude.{◌==◌, ℕ, List, [], ◌∷◌, Option, Some, None, Result, Ok, Err, codes, length, if◌then◌else◌}
+use Rattle.std.specs.Option.{option_map, option_and_then}
+use Rattle.std.specs.Str.{is_utf8}
+use Rattle.std.specs.declared.alloc.Global.{Global}
+use Rattle.serde_json.specs.Data.{object, no_members, member}
+use Rattle.serde_json.specs.Written.{compact_text}
+use Rattle.osm_elements.specs.declared.name.Name.{Name}
+use Rattle.osm_elements.specs.declared.element.Element.{Element}
+use Rattle.osm_elements.specs.Rows.{row_at}
+use Rattle.room_history.specs.declared.author.Author.{Author}
+use Rattle.room_history.specs.Authors.{author_of}
+use Rattle.room_history.specs.Maps.{Rows}
+use Rattle.room_history.specs.Replays.{mapof}
+use Rattle.room_history.specs.Rooms.{RoomState}
+use Rattle.room_history.specs.Answers.{answer}
+use Rattle.room_wire.specs.declared.answer.Answer.{Answer}
+use Rattle.room_wire.specs.declared.answer.Answer.TheVariants as answers
+use Rattle.room_wire.specs.declared.bad.Bad.{Bad}
+use Rattle.room_wire.specs.declared.bad.Fault.TheVariants.{NotJson}
+use Rattle.room_wire.specs.declared.incoming.Incoming.{Incoming}
+use Rattle.room_wire.specs.declared.incoming.Body.{Body}
+use Rattle.room_wire.specs.declared.incoming.Body.TheVariants.{Change, Get, Map}
+use Rattle.room_wire.specs.Answers.{reply_answer, fault_answer}
+use Rattle.room_wire.specs.Reading.{id_told}
+use Rattle.room_wire.specs.Spelling.{spells}
+use Rattle.room_wire.specs.Trees.{tree_of, ok_tree, element_tree, rows_tree, whole}
+use Rattle.room_program.specs.Scripts.{Loss, Nothing, Answer_lost, Answer_and_id_lost, script_of}
+
+-- the bytes before the first space (32) and those after it, if there is one
+abbrev pub split_space : List ℕ → Option (List ℕ × List ℕ)
+split_space [] = None
+split_space (b ∷ bs) = if b == 32 then Some ([], bs) else option_map (λ p. (b ∷ p.0, p.1)) (split_space bs)
+
+-- an author's name and a message
+abbrev pub with_author : List ℕ × List ℕ → Option (Author × List ℕ)
+with_author p = option_map (λ author. (author, p.1)) (author_of p.0)
+
+-- the author that a line names before its first space, and its message
+abbrev pub said : List ℕ → Option (Author × List ℕ)
+said line = option_and_then with_author (split_space line)
+
+-- what the bytes of a message say: what they spell as a text, or that they are no JSON
+abbrev pub spelled : List ℕ → Result Incoming Bad
+spelled bytes = if is_utf8 bytes then spells bytes else Err (record { id = 0; fault = NotJson })
+
+abbrev pub text_of : ℕ → Answer → List ℕ
+text_of id a = compact_text (tree_of id a)
+
+-- the reply with an element, or with none of that name
+abbrev pub element_text : ℕ → Name → Option (Element Global) → List ℕ
+element_text id name None = text_of id (answers.Absent name)
+element_text id name (Some element) = compact_text (ok_tree id (object (member (codes "is") (element_tree name element) no_members)))
+
+-- the reply with the whole map, and the number of the last entry
+abbrev pub map_text : ℕ → Rows Global → ℕ → List ℕ
+map_text id rows front = compact_text (ok_tree id (object (member (codes "map") (rows_tree rows) (member (codes "seq") (whole front) no_members))))
+
+-- the reply to a message of an author's, and the room after it
+abbrev pub body_answer : RoomState Global → Author → ℕ → Body → List ℕ × RoomState Global
+body_answer room author id (Change request) =
+    let step = answer room.base room.limit room.journal (record { author = author; id = id; request = request }) in
+    (text_of id (reply_answer step.0), record { base = room.base; limit = room.limit; journal = step.1 })
+body_answer room author id (Get name) = (element_text id name (row_at (mapof room.base room.journal) name), room)
+body_answer room author id Map = (map_text id (mapof room.base room.journal) (length room.journal), room)
+
+abbrev pub message_answer : RoomState Global → Author → Result Incoming Bad → List ℕ × RoomState Global
+message_answer room author (Ok message) = body_answer room author message.id message.body
+message_answer room author (Err bad) = (text_of bad.id (fault_answer bad.fault), room)
+
+abbrev pub line_answer : RoomState Global → Option (Author × List ℕ) → List ℕ × RoomState Global
+line_answer room None = (text_of 0 answers.BadLine, room)
+line_answer room (Some p) = message_answer room p.0 (spelled p.1)
+
+-- the id that the message of a line tells, or 0
+abbrev pub line_id : Option (Author × List ℕ) → ℕ
+line_id None = 0
+line_id (Some p) = id_told (spelled p.1)
+
+-- a line is answered by what it says, or where its answer was lost that there was no memory
+unfoldable pub answered : Loss → RoomState Global → List ℕ → List ℕ × RoomState Global
+answered Nothing room line = line_answer room (said line)
+answered Answer_lost room line = (text_of (line_id (said line)) answers.Memory, room)
+answered Answer_and_id_lost room line = (text_of 0 answers.Memory, room)
+
+-- what is written for a stream by a room that begins with an empty map: the reply to each line, and a line feed
+unfoldable pub script : ℕ → List ℕ → List Loss → List ℕ
+script limit = script_of answered (record { base = []; limit = limit; journal = [] })

@@ -1,0 +1,31 @@
+-- What is written for lines: the reply to each, and a line feed.
+use Rattle.std.specs.Prelude.{ℕ, List, [], ◌∷◌, ◌++◌}
+use Rattle.room_program.specs.Lines.{lines}
+
+-- whether a line lost its answer for want of memory, and with it its id
+pub data Loss : Type 0 where
+  Nothing : Loss
+  Answer_lost : Loss
+  Answer_and_id_lost : Loss
+
+-- what the first line lost, and what the later ones did
+abbrev pub first_loss : List Loss → Loss
+first_loss [] = Nothing
+first_loss (x ∷ xs) = x
+
+abbrev pub later_losses : List Loss → List Loss
+later_losses [] = []
+later_losses (x ∷ xs) = xs
+
+-- a room answers a line with a text, and is left as another room
+module _ {R : Type 0} (answer : Loss → R → List ℕ → List ℕ × R) where
+  -- the replies to lines, the room going from line to line
+  abbrev pub replies : R → List (List ℕ) → List Loss → List ℕ
+  replies room [] lost = []
+  replies room (line ∷ later) lost =
+      let step = answer (first_loss lost) room line in
+      step.0 ++ 10 ∷ replies step.1 later (later_losses lost)
+
+  -- the script of a stream: the replies to its lines
+  abbrev pub script_of : R → List ℕ → List Loss → List ℕ
+  script_of room bytes lost = replies room (lines bytes) lost

@@ -1,0 +1,42 @@
+-- What a run over a reader and a writer did to their bytes, where those are known.
+use Rattle.std.specs.Prelude.{◌≡◌, ◌≢◌, ℕ, suc, zero, List, [], ◌++◌, Option, Result, Ok}
+use Rattle.std.specs.Io.KnownBytes.{Appends, Consumes, IsAtEnd}
+use Rattle.room_program.specs.declared.failed.Failed.{Failed}
+use Rattle.room_program.specs.Lines.{ended}
+use Rattle.room_program.specs.Scripts.{Loss}
+
+-- so many calls, each answered with a count, lead from one state of a reader to another
+abbrev pub Gets : {S : Type 0} → (S → Result ℕ Failed → S → Type 0) → ℕ → S → S → Type 0
+Gets gets zero before after = after ≡ before
+Gets {S} gets (suc n) before after = (between : S) × (count : ℕ) × Gets gets n before between × gets between (Ok count) after
+
+-- the last call of a writer took no byte of bytes that there were
+abbrev pub TookNone : {W : Type 0} → (W → List ℕ → Result ℕ Failed → W → Type 0) → W → Type 0
+TookNone {W} puts after = (before : W) × (rest : List ℕ) × (rest ≢ []) × puts before rest (Ok 0) after
+
+-- the text that is written for the bytes of a stream
+module _ (script : List ℕ → List Loss → List ℕ) where
+  -- all was read, and its script was written
+  pub record WritesAll (left left' taken taken' : Option (List ℕ)) : Type 0 where
+    pub read : List ℕ
+    pub lost : List Loss
+    pub consumed : Consumes left left' read
+    pub at_end : IsAtEnd left'
+    pub written : Appends taken taken' (script read lost)
+
+  -- the script was written of the lines whose line feeds were read
+  pub record WritesEnded (left left' taken taken' : Option (List ℕ)) : Type 0 where
+    pub read : List ℕ
+    pub lost : List Loss
+    pub consumed : Consumes left left' read
+    pub written : Appends taken taken' (script (ended read) lost)
+
+  -- a front of the script of what was read was written
+  pub record WritesFront (left left' taken taken' : Option (List ℕ)) : Type 0 where
+    pub read : List ℕ
+    pub lost : List Loss
+    pub written_bytes : List ℕ
+    pub unwritten : List ℕ
+    pub consumed : Consumes left left' read
+    pub script_is : script read lost ≡ written_bytes ++ unwritten
+    pub written : Appends taken taken' written_bytes

@@ -1,0 +1,156 @@
+//! The program's command line.
+ghost use Rattle.std.specs.Prelude.{◌≡◌, ◌≤◌, false};
+ghost use Rattle.room_program.specs.LineAnswers.{script};
+ghost use Rattle.room_program.specs.Streams.{WritesAll, WritesFront};
+
+use crate::replay::{ReplayFault, put_all, replay};
+use crate::sink::Sink;
+use crate::source::Source;
+use clap::error::ErrorKind;
+use clap::{Arg, Command, Error, value_parser};
+use std::alloc::{AllocError, Global};
+use std::convert::AsStr;
+
+/// The most entries that a room's journal can be given leave to take.
+pub const MOST_ENTRIES: u32 = 1_000_000;
+
+/// How often a replay reads at most.
+pub const MOST_READS: u64 = 1 << 40;
+
+/// The status of a run that came to the end of its input, or that showed a help.
+pub const DONE: u8 = 0;
+
+/// The status of a run that a fault ended.
+pub const FAILED: u8 = 1;
+
+/// The status of a run whose words were refused.
+pub const REFUSED: u8 = 2;
+
+/// The program: does what its words ask for, and answers its status. The first word is the program's name.
+///
+/// `replay` reads `input` to its end and writes the replies to `output` (status 0). A fault is told on `errors` by
+/// a line (status 1). Words that are refused are answered by a text on `errors` (status 2), and words that ask for
+/// help by a text on `output` (status 0). Texts other than replies are written as far as the streams take them.
+pub fn command<R: AllocGlobal, T: AsStr, S: Source, W: Sink, E: Sink>(
+    rt: &R,
+    words: &[T],
+    input: &mut S,
+    output: &mut W,
+    errors: &mut E,
+) -> u8
+    requires input_works { S.has_failed input.old ≡ false }
+    requires output_works { W.has_failed output.old ≡ false }
+    requires errors_work { E.has_failed errors.old ≡ false }
+    ensures { result ≤ REFUSED }
+{
+    let alloc = rt.alloc();
+    match limit_in(alloc, words) {
+        Ok(limit) => run(alloc, limit, input, output, errors),
+        Err(error) => answer_error(alloc, &error, output, errors),
+    }
+}
+
+// Runs a replay, and tells its fault.
+fn run<S: Source, W: Sink, E: Sink>(
+    alloc: Global,
+    limit: u32,
+    input: &mut S,
+    output: &mut W,
+    errors: &mut E,
+) -> u8
+    requires input_works { S.has_failed input.old ≡ false }
+    requires output_works { W.has_failed output.old ≡ false }
+    requires errors_work { E.has_failed errors.old ≡ false }
+    ensures status { result ≤ FAILED }
+    ensures done { result ≡ DONE → WritesAll (script limit)
+        (S.left input.old) (S.left input.new) (W.taken output.old) (W.taken output.new) }
+    ensures failed { result ≡ FAILED → WritesFront (script limit)
+        (S.left input.old) (S.left input.new) (W.taken output.old) (W.taken output.new) }
+{
+    match replay(alloc, input, output, limit, MOST_READS) {
+        Ok(()) => DONE,
+        Err(fault) => fail(errors, fault),
+    }
+}
+
+// The limit of the replay that the words ask for.
+fn limit_in<T: AsStr>(alloc: Global, words: &[T]) -> Result<u32, Error> {
+    let matches = command_line(alloc)?.try_get_matches_from(words)?;
+    let limit = matches
+        .subcommand_matches("replay")
+        .and_then(|replay| replay.get_one::<u32>("limit"));
+    Ok(limit.unwrap_or(MOST_ENTRIES))
+}
+
+// What the program's words can be.
+fn command_line<'a>(alloc: Global) -> Result<Command<'a>, AllocError> {
+    let limit = Arg::new(alloc, "limit")
+        .long("limit")
+        .value_name("N")
+        .value_parser(value_parser!(u32).range(0..=i64::from(MOST_ENTRIES)))
+        .default_value("1000000")
+        .help("How many changes the room accepts, from 0 to 1000000");
+    let replay = Command::new(alloc, "replay")
+        .about("Runs a room from the lines of standard input")
+        .long_about(REPLAY_HELP)
+        .arg(limit)?;
+    Command::new(alloc, "maproom")
+        .about("A room in which several mappers edit one map of OpenStreetMap")
+        .long_about(PROGRAM_HELP)
+        .subcommand_required(true)
+        .subcommand(replay)
+}
+
+const PROGRAM_HELP: &str = "\
+Maproom is a room in which several mappers edit one map of OpenStreetMap at the same time.
+Each change is one message of JSON, which the room answers by one line, and each mapper can take his own
+changes back.
+
+To run a room from a file of messages: maproom replay <messages.txt";
+
+const REPLAY_HELP: &str = "\
+Reads a line for each message from standard input, and writes a line for each reply to standard output.
+A line is the name of its author, a space, and the message as JSON. The room begins with an empty map,
+and lives as long as its input.
+
+Such a line: anna {\"id\":1,\"do\":\"create\",\"el\":\"n1\",\"lat\":\"51.5\",\"lon\":\"-0.1\"}";
+
+// Tells a fault.
+fn fail<E: Sink>(errors: &mut E, fault: ReplayFault) -> u8
+    requires { E.has_failed errors.old ≡ false }
+    ensures { result ≡ FAILED }
+{
+    let line = match fault {
+        ReplayFault::Read => "maproom: read failed\n",
+        ReplayFault::Write => "maproom: write failed\n",
+        ReplayFault::Memory => "maproom: no memory\n",
+    };
+    let _ = put_all(errors, line.as_bytes());
+    FAILED
+}
+
+// Writes what the reading of the words answered in the place of a limit.
+fn answer_error<W: Sink, E: Sink>(
+    alloc: Global,
+    error: &Error,
+    output: &mut W,
+    errors: &mut E,
+) -> u8
+    requires output_works { W.has_failed output.old ≡ false }
+    requires errors_work { E.has_failed errors.old ≡ false }
+    ensures { result ≤ REFUSED }
+{
+    if error.kind() == ErrorKind::OutOfMemory {
+        return fail(errors, ReplayFault::Memory);
+    }
+    let Ok(text) = error.to_string(alloc) else {
+        return fail(errors, ReplayFault::Memory);
+    };
+    if error.use_stderr() {
+        let _ = put_all(errors, text.as_bytes());
+        REFUSED
+    } else {
+        let _ = put_all(output, text.as_bytes());
+        DONE
+    }
+}

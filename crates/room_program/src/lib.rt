@@ -1,0 +1,17 @@
+//! The program: a room that is run from a stream of lines, and the command line that asks for it.
+//!
+//! The program itself is a `main` that hands [`command::command`] its words and the standard streams. Here are
+//! the same calls over any streams.
+#![tactic(auto)]
+
+pub mod answers;
+pub mod command;
+pub mod failed;
+pub mod io;
+pub mod line;
+pub mod lines;
+pub mod replay;
+pub mod sink;
+pub mod source;
+#[cfg(test)]
+mod tests;

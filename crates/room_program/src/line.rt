@@ -1,0 +1,149 @@
+//! What a line says, and what a room answers it.
+ghost use Rattle.std.specs.Prelude.{◌≡◌, ◌⊎◌, ℕ, Some, None, IfOk, MatchOption, length};
+ghost use Rattle.room_wire.specs.declared.incoming.Body.TheVariants.{Change, Get, Map};
+ghost use Rattle.osm_elements.specs.Rows.{row_at};
+ghost use Rattle.room_history.specs.Authors.{author_of};
+ghost use Rattle.room_history.specs.Replays.{mapof};
+ghost use Rattle.room_wire.specs.Reading.{GivesMessage, id_told};
+ghost use Rattle.room_program.specs.LineAnswers.{said, spelled, text_of, element_text, map_text, body_answer, message_answer, answered};
+ghost use Rattle.room_program.specs.LineReplies.{IsReply};
+
+use crate::answers::Answers;
+use memchr::memchr;
+use osm_elements::Memory;
+use osm_elements::name::Name;
+use room_history::author::Author;
+use room_history::call::{Call, Request};
+use room_history::room::Room;
+use room_wire::answer::Answer;
+use room_wire::bad::{Bad, Fault};
+use room_wire::incoming::{Body, Incoming};
+use room_wire::json::Json;
+use room_wire::{read_request, reply_text};
+use std::alloc::Global;
+use std::str;
+
+impl Answers for Room<Global> {
+    ghost answered = { answered };
+
+    fn answer(&mut self, alloc: Global, line: &[u8]) -> Result<Json, Memory> {
+        match split_author(line) {
+            Some(said) => answer_message(alloc, self, said.author, said.message),
+            None => reply_text(alloc, 0, &Answer::BadLine),
+        }
+    }
+}
+
+// A line of an author's.
+#[derive(Clone, Copy)]
+struct Said<'a> {
+    author: Author,
+    message: &'a [u8],
+}
+
+// The author whose name comes before the first space of a line, and the message after it.
+fn split_author(line: &[u8]) -> Option<Said<'_>>
+    ensures { MatchOption result (said line.now ≡ None)
+        (λ parts. said line.now ≡ Some (parts.author, parts.message.now)) }
+{
+    let space = memchr(b' ', line)?;
+    let author = read_author(&line[..space])?;
+    let message = &line[space + 1..];
+    Some(Said { author, message })
+}
+
+// Reads the bytes of an author's name.
+fn read_author(name: &[u8]) -> Option<Author>
+    ensures { result ≡ author_of name.now }
+{
+    match str::from_utf8(name) {
+        Ok(name) => Author::read(name),
+        Err(_) => None,
+    }
+}
+
+// Reads the bytes of a message.
+fn read_message(alloc: Global, bytes: &[u8]) -> Result<Incoming, Bad>
+    ensures { GivesMessage result (spelled bytes.now) }
+{
+    match str::from_utf8(bytes) {
+        Ok(text) => read_request(alloc, text),
+        Err(_) => Err(Bad::unread(Fault::NotJson)),
+    }
+}
+
+// Answers a message of an author's.
+fn answer_message(
+    alloc: Global,
+    room: &mut Room<Global>,
+    author: Author,
+    message: &[u8],
+) -> Result<Json, Memory>
+    ensures { IfOk result (λ text. IsReply (message_answer room.old author (spelled message.now))
+        (id_told (spelled message.now)) room.old text room.new) }
+{
+    match read_message(alloc, message) {
+        Ok(Incoming { id, body }) => answer_body(alloc, room, author, id, body),
+        Err(bad) => reply_text(alloc, bad.id, &Answer::from(bad.fault)),
+    }
+}
+
+// Answers what a message asks for.
+fn answer_body(
+    alloc: Global,
+    room: &mut Room<Global>,
+    author: Author,
+    id: u64,
+    body: Body,
+) -> Result<Json, Memory>
+    ensures { IfOk result (λ text. IsReply (body_answer room.old author id body)
+        id room.old text room.new) }
+{
+    match body {
+        Body::Change(request) => answer_change(alloc, room, author, id, request),
+        Body::Get(name) => answer_get(alloc, room, id, name),
+        Body::Map => answer_map(alloc, room, id),
+    }
+}
+
+fn answer_change(
+    alloc: Global,
+    room: &mut Room<Global>,
+    author: Author,
+    id: u64,
+    request: Request<Global>,
+) -> Result<Json, Memory>
+    ensures { IfOk result (λ text. IsReply (body_answer room.old author id (Change request))
+        id room.old text room.new) }
+{
+    let reply = room.take(Call {
+        author,
+        id,
+        request,
+    });
+    reply_text(alloc, id, &Answer::from(reply))
+}
+
+fn answer_get(alloc: Global, room: &Room<Global>, id: u64, name: Name) -> Result<Json, Memory>
+    ensures { IfOk result (λ text. text ≡ element_text id name
+        (row_at (mapof room.now.base room.now.journal) name)) }
+{
+    match room.get(&name) {
+        Some(element) => reply_text(alloc, id, &Answer::Is { name, element }),
+        None => reply_text(alloc, id, &Answer::Absent(name)),
+    }
+}
+
+fn answer_map(alloc: Global, room: &Room<Global>, id: u64) -> Result<Json, Memory>
+    ensures { IfOk result (λ text. (text ≡ map_text id
+        (mapof room.now.base room.now.journal) (length room.now.journal))
+        ⊎ (text ≡ text_of id Answer.Memory)) }
+{
+    match room.map_rows() {
+        Ok(rows) => {
+            let front = room.front();
+            reply_text(alloc, id, &Answer::Map { rows: &rows, front })
+        }
+        Err(_) => reply_text(alloc, id, &Answer::Memory),
+    }
+}

@@ -1,0 +1,226 @@
+//! A room that is run from a stream of lines to a stream of replies.
+ghost use Rattle.std.specs.Prelude.{◌≡◌, ◌≢◌, ◌++◌, ◌⊎◌, ℕ, List, [], ◌∷◌, true, false, OnOk, OnErr, Err, ◌<◌, length};
+ghost use Rattle.std.specs.Io.KnownBytes.{Appends};
+ghost use Rattle.room_program.specs.Lines.{IsLine};
+ghost use Rattle.room_program.specs.Scripts.{Loss, script_of};
+ghost use Rattle.room_program.specs.LineAnswers.{script};
+ghost use Rattle.room_program.specs.Runs.{AnswersFront, AnswersSome};
+ghost use Rattle.room_program.specs.Streams.{Gets, TookNone, WritesAll, WritesEnded, WritesFront};
+
+use crate::answers::Answers;
+use crate::lines::{LINE_FEED, push_line, split_line};
+use crate::sink::Sink;
+use crate::source::Source;
+use osm_elements::Memory;
+use room_history::room::Room;
+use std::alloc::{AllocError, Global};
+use thiserror::Error;
+
+/// How many bytes a read asks for.
+pub const BLOCK: usize = 65_536;
+
+/// What ends a replay before its time.
+#[derive(Clone, Copy, Debug, PartialEq, Eq, Error)]
+pub enum ReplayFault {
+    /// The reader failed, or the reads were used up.
+    #[error("read failed")]
+    Read,
+    /// The writer failed, or took nothing.
+    #[error("write failed")]
+    Write,
+    /// A growth was refused.
+    #[error("no memory")]
+    Memory,
+}
+
+impl From<AllocError> for ReplayFault {
+    ghost use Rattle.room_program.specs.declared.replay.ReplayFault.{ReplayFault};
+
+    ghost from_gives = { λ _ fault. fault ≡ ReplayFault.Memory };
+
+    fn from(_: AllocError) -> Self {
+        ReplayFault::Memory
+    }
+}
+
+// Writes all the bytes.
+pub(crate) fn put_all<W: Sink>(writer: &mut W, bytes: &[u8]) -> Result<(), ReplayFault>
+    requires { W.has_failed writer.old ≡ false }
+    ensures ok { OnOk result (Appends (W.taken writer.old) (W.taken writer.new) bytes.now) }
+    ensures works { OnOk result (W.has_failed writer.new ≡ false) }
+    ensures front { OnErr result ((front rest : List ℕ) × (bytes.now ≡ front ++ rest)
+        × Appends (W.taken writer.old) (W.taken writer.new) front) }
+    ensures fault { OnErr result (result ≡ Err ReplayFault.Write) }
+    ensures why { OnErr result ((W.has_failed writer.new ≡ true) ⊎ TookNone W.puts writer.new) }
+{
+    let mut rest = bytes;
+    while !rest.is_empty() {
+        match writer.put(rest) {
+            Ok(count) if count > 0 => rest = &rest[count..],
+            _ => return Err(ReplayFault::Write),
+        }
+    }
+    Ok(())
+}
+
+// Answers a line that began with the bytes that are held, and holds none.
+fn answer_line<A: Answers>(
+    alloc: Global,
+    answers: &mut A,
+    begun: &mut Vec<u8>,
+    line: &[u8],
+    replies: &mut Vec<u8>,
+) -> Result<(), Memory>
+    ensures ok { OnOk result ((loss : Loss) × (text : List ℕ) ×
+        (A.answered loss answers.old (begun.old.items ++ line.now) ≡ (text, answers.new))
+        × (replies.new.items ≡ replies.old.items ++ (text ++ 10 ∷ []))) }
+    ensures none_held { OnOk result (begun.new.items ≡ []) }
+    ensures err { OnErr result (replies.new.items ≡ replies.old.items) }
+{
+    begun.extend_from_slice(line)?;
+    let reply = answers.answer(alloc, begun.as_slice())?;
+    push_line(replies, reply.as_bytes())?;
+    begun.clear();
+    Ok(())
+}
+
+// Answers each line that ends in the block, and holds what comes after them.
+fn answer_lines<A: Answers>(
+    alloc: Global,
+    answers: &mut A,
+    begun: &mut Vec<u8>,
+    block: &[u8],
+    replies: &mut Vec<u8>,
+) -> Result<(), Memory>
+    requires held { IsLine begun.old.items }
+    requires empty { replies.old.items ≡ [] }
+    ensures ok { OnOk result (AnswersFront A.answered answers.old (begun.old.items ++ block.now)
+        replies.new.items begun.new.items answers.new) }
+    ensures held { OnOk result (IsLine begun.new.items) }
+    ensures some { AnswersSome A.answered answers.old (begun.old.items ++ block.now)
+        replies.new.items }
+{
+    let mut rest = block;
+    while let Some((line, after)) = split_line(rest) {
+        answer_line(alloc, answers, begun, line, replies)?;
+        rest = after;
+    }
+    begun.extend_from_slice(rest)?;
+    Ok(())
+}
+
+// Answers each line that ends in the block, writes the replies, and holds what comes after the last.
+fn answer_block<A: Answers, W: Sink>(
+    alloc: Global,
+    answers: &mut A,
+    writer: &mut W,
+    begun: &mut Vec<u8>,
+    block: &[u8],
+) -> Result<(), ReplayFault>
+    requires works { W.has_failed writer.old ≡ false }
+    requires held { IsLine begun.old.items }
+    ensures ok { OnOk result ((text : List ℕ)
+        × AnswersFront A.answered answers.old (begun.old.items ++ block.now) text
+        begun.new.items answers.new
+        × Appends (W.taken writer.old) (W.taken writer.new) text) }
+    ensures held { OnOk result (IsLine begun.new.items) }
+    ensures works { OnOk result (W.has_failed writer.new ≡ false) }
+    ensures front { OnErr result ((written : List ℕ) × (unwritten : List ℕ)
+        × AnswersSome A.answered answers.old (begun.old.items ++ block.now) (written ++ unwritten)
+        × Appends (W.taken writer.old) (W.taken writer.new) written) }
+    ensures not_read { result ≢ Err ReplayFault.Read }
+    ensures write { result ≡ Err ReplayFault.Write
+        → (W.has_failed writer.new ≡ true) ⊎ TookNone W.puts writer.new }
+{
+    let mut replies = Vec::new(alloc);
+    let answered = answer_lines(alloc, answers, begun, block, &mut replies);
+    put_all(writer, replies.as_slice())?;
+    answered?;
+    Ok(())
+}
+
+// Reads block after block, and answers the lines of each before it reads the next.
+fn replay_blocks<A: Answers, S: Source, W: Sink>(
+    alloc: Global,
+    answers: &mut A,
+    reader: &mut S,
+    writer: &mut W,
+    reads: u64,
+    block: &mut [u8],
+) -> Result<(), ReplayFault>
+    requires reader_works { S.has_failed reader.old ≡ false }
+    requires writer_works { W.has_failed writer.old ≡ false }
+    requires room { 0 < length block.old }
+    ensures ok { OnOk result (WritesAll (script_of A.answered answers.old)
+        (S.left reader.old) (S.left reader.new) (W.taken writer.old) (W.taken writer.new)) }
+    ensures works { OnOk result ((S.has_failed reader.new ≡ false)
+        × (W.has_failed writer.new ≡ false)) }
+    ensures read { result ≡ Err ReplayFault.Read → WritesEnded (script_of A.answered answers.old)
+        (S.left reader.old) (S.left reader.new) (W.taken writer.old) (W.taken writer.new) }
+    ensures front { OnErr result (WritesFront (script_of A.answered answers.old)
+        (S.left reader.old) (S.left reader.new) (W.taken writer.old) (W.taken writer.new)) }
+    ensures why_read { result ≡ Err ReplayFault.Read
+        → (S.has_failed reader.new ≡ true) ⊎ Gets S.gets reads reader.old reader.new }
+    ensures why_write { result ≡ Err ReplayFault.Write
+        → (W.has_failed writer.new ≡ true) ⊎ TookNone W.puts writer.new }
+{
+    let mut begun = Vec::new(alloc);
+    for _ in 0..reads {
+        let Ok(count) = reader.get(block) else {
+            return Err(ReplayFault::Read);
+        };
+        if count > 0 {
+            answer_block(alloc, answers, writer, &mut begun, &block[..count])?;
+        } else if begun.is_empty() {
+            return Ok(());
+        } else {
+            // The last line is answered as if its line feed had come.
+            return answer_block(alloc, answers, writer, &mut begun, &[LINE_FEED]);
+        }
+    }
+    Err(ReplayFault::Read)
+}
+
+/// Runs a room with an empty map, whose journal takes at most `limit` entries, over the lines of a stream, and
+/// writes the reply to each line and a line feed.
+///
+/// A line is an author's name, a space and a message; a line feed ends it, or the end of the stream. The stream is
+/// read in blocks, and the replies to the lines of a block are written before the next is read. After a fault the
+/// lines that were answered stay answered, and what was written of their replies stays written.
+///
+/// - `Read`: the reader failed, or `reads` reads were used up.
+/// - `Write`: the writer failed, or took no byte of those that were left.
+/// - `Memory`: a line could not be held, or the text of a reply could not be made.
+pub fn replay<S: Source, W: Sink>(
+    alloc: Global,
+    reader: &mut S,
+    writer: &mut W,
+    limit: u32,
+    reads: u64,
+) -> Result<(), ReplayFault>
+    requires reader_works { S.has_failed reader.old ≡ false }
+    requires writer_works { W.has_failed writer.old ≡ false }
+
+    // All was read, and its script was written.
+    ensures ok { OnOk result (WritesAll (script limit)
+        (S.left reader.old) (S.left reader.new) (W.taken writer.old) (W.taken writer.new)) }
+    ensures works { OnOk result ((S.has_failed reader.new ≡ false)
+        × (W.has_failed writer.new ≡ false)) }
+
+    // On `Read` what was written is the script of the lines whose line feeds were read, and on any
+    // fault a front of the script of what was read.
+    ensures read { result ≡ Err ReplayFault.Read → WritesEnded (script limit)
+        (S.left reader.old) (S.left reader.new) (W.taken writer.old) (W.taken writer.new) }
+    ensures front { OnErr result (WritesFront (script limit)
+        (S.left reader.old) (S.left reader.new) (W.taken writer.old) (W.taken writer.new)) }
+
+    // When each fault comes.
+    ensures why_read { result ≡ Err ReplayFault.Read
+        → (S.has_failed reader.new ≡ true) ⊎ Gets S.gets reads reader.old reader.new }
+    ensures why_write { result ≡ Err ReplayFault.Write
+        → (W.has_failed writer.new ≡ true) ⊎ TookNone W.puts writer.new }
+{
+    let mut room = Room::open(alloc, limit);
+    let mut block = vec![in alloc; 0u8; BLOCK]?;
+    replay_blocks(alloc, &mut room, reader, writer, reads, &mut block)
+}

@@ -1,0 +1,26 @@
+//! Where bytes come from.
+ghost use Rattle.std.specs.Prelude.{◌≡◌, ◌≤◌, ◌||◌, ℕ, Bool, List, Option, None, Result, IfOk, is_err, length};
+ghost use Rattle.std.specs.Io.KnownBytes.{ReadConsumes};
+ghost use Rattle.room_program.specs.declared.failed.Failed.{Failed};
+
+use crate::failed::Failed;
+
+/// A stream of bytes to read.
+pub trait Source {
+    /// The bytes that it has left, where they are known.
+    ghost left: { Self → Option (List ℕ) } = { λ _. None };
+
+    /// Whether it has failed.
+    ghost has_failed: { Self → Bool };
+
+    /// A call of `get` may answer so, and lead from the first state to the second.
+    ghost gets: { Self → Result ℕ Failed → Self → Type 0 } = { λ _ _ _. Unit {0} };
+
+    /// Reads bytes into the front of the buffer, and answers how many. Where the buffer is not empty, 0 says that
+    /// the stream has ended. A call that fails reads nothing.
+    fn get(&mut self, buffer: &mut [u8]) -> Result<usize, Failed>
+        ensures bound { IfOk result (λ count. count ≤ length buffer.new) }
+        ensures bytes { ReadConsumes (left self.old) (left self.new) result buffer.new }
+        ensures failed { has_failed self.new ≡ (has_failed self.old || is_err result) }
+        ensures gets { gets self.old result self.new };
+}

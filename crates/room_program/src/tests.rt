@@ -1,0 +1,248 @@
+//! Runs of a room over streams, and of the program over words.
+mod streams;
+
+use crate::command::{DONE, FAILED, REFUSED, command};
+use crate::replay::{ReplayFault, replay};
+use crate::tests::streams::{Pieces, Taker};
+use std::alloc::{AllocError, Global};
+use std::test::Fail;
+
+const ALL: usize = 1 << 30;
+
+const CREATE: &[u8] =
+    b"anna {\"id\":1,\"do\":\"create\",\"el\":\"n-1\",\"lat\":\"51.5\",\"lon\":\"-0.1\",\"tags\":{}}\n";
+
+const FIRST_RUN: &[u8] =
+    b"anna {\"id\":1,\"do\":\"create\",\"el\":\"n-1\",\"lat\":\"51.5\",\"lon\":\"-0.1\",\"tags\":{}}\nanna {\"id\":2,\"do\":\"get\",\"el\":\"n-1\"}\n";
+
+const CREATED: &[u8] = b"{\"id\":1,\"ok\":{\"seq\":1}}\n";
+
+const FIRST_REPLIES: &[u8] =
+    b"{\"id\":1,\"ok\":{\"seq\":1}}\n{\"id\":2,\"ok\":{\"is\":{\"el\":\"n-1\",\"lat\":\"51.5000000\",\"lon\":\"-0.1000000\",\"tags\":{}}}}\n";
+
+#[test]
+fn pieces_of_any_size(rt: HostRuntime) -> Result<(), Fail> {
+    for (read, written) in [
+        (1, 1),
+        (1, ALL),
+        (2, 3),
+        (74, 5),
+        (75, 1),
+        (76, 24),
+        (ALL, ALL),
+    ] {
+        let mut reader = Pieces::new(FIRST_RUN, read, false);
+        let mut writer = Taker::new(rt.alloc(), written, ALL);
+        let ended = replay(rt.alloc(), &mut reader, &mut writer, 9, 1000);
+        assert_eq!(rt; ended, Ok(()), "at {read} and {written}");
+        assert_eq!(rt;
+            writer.taken.as_slice(),
+            FIRST_REPLIES,
+            "at {read} and {written}"
+        );
+    }
+    Ok(())
+}
+
+#[test]
+fn lines_of_any_kind(rt: HostRuntime) -> Result<(), Fail> {
+    let bad_line: &[u8] = b"{\"id\":0,\"no\":{\"why\":\"bad_line\"}}\n";
+    let two_bad_lines: &[u8] =
+        b"{\"id\":0,\"no\":{\"why\":\"bad_line\"}}\n{\"id\":0,\"no\":{\"why\":\"bad_line\"}}\n";
+    let not_json: &[u8] = b"{\"id\":0,\"no\":{\"why\":\"not_json\"}}\n";
+    let empty_map: &[u8] = b"{\"id\":1,\"ok\":{\"map\":[],\"seq\":0}}\n";
+    let cases: [(&[u8], &[u8]); 14] = [
+        (b"", b""),
+        (b"\n", bad_line),
+        (b"\n\n", two_bad_lines),
+        (b" ", bad_line),
+        (b"anna", bad_line),
+        (b"Anna {\"id\":1,\"do\":\"map\"}", bad_line),
+        (b"\xff {\"id\":1,\"do\":\"map\"}", bad_line),
+        (
+            b"abcdefghijklmnopqrstuvwxyz0123456 {\"id\":1,\"do\":\"map\"}",
+            bad_line,
+        ),
+        (b"anna ", not_json),
+        (b"anna \xff\n", not_json),
+        (b"anna \"\xc3\"\n", not_json),
+        (b"anna {\"id\":1,\"do\":\"map\"}", empty_map),
+        (b"anna {\"id\":1,\"do\":\"map\"}\r\n", empty_map),
+        (b"anna\r\n", bad_line),
+    ];
+    for (input, output) in cases {
+        let mut reader = Pieces::new(input, ALL, false);
+        let mut writer = Taker::new(rt.alloc(), ALL, ALL);
+        let ended = replay(rt.alloc(), &mut reader, &mut writer, 9, 1000);
+        assert_eq!(rt; ended, Ok(()), "at {input:?}");
+        assert_eq!(rt; writer.taken.as_slice(), output, "at {input:?}");
+    }
+    Ok(())
+}
+
+#[test]
+fn no_last_line_feed(rt: HostRuntime) -> Result<(), Fail> {
+    let mut reader = Pieces::new(&FIRST_RUN[..FIRST_RUN.len() - 1], 10, false);
+    let mut writer = Taker::new(rt.alloc(), ALL, ALL);
+    let ended = replay(rt.alloc(), &mut reader, &mut writer, 9, 1000);
+    assert_eq!(rt; ended, Ok(()));
+    assert_eq!(rt; writer.taken.as_slice(), FIRST_REPLIES);
+    Ok(())
+}
+
+#[test]
+fn failing_streams(rt: HostRuntime) -> Result<(), Fail> {
+    let mut reader = Pieces::new(CREATE, ALL, true);
+    let mut writer = Taker::new(rt.alloc(), ALL, ALL);
+    let ended = replay(rt.alloc(), &mut reader, &mut writer, 9, 1000);
+    assert_eq!(rt; ended, Err(ReplayFault::Read));
+    assert_eq!(rt; writer.taken.as_slice(), CREATED);
+
+    let mut reader = Pieces::new(CREATE, ALL, false);
+    let mut writer = Taker::new(rt.alloc(), ALL, 5);
+    let ended = replay(rt.alloc(), &mut reader, &mut writer, 9, 1000);
+    assert_eq!(rt; ended, Err(ReplayFault::Write));
+    assert_eq!(rt; writer.taken.as_slice(), b"{\"id\"".as_slice());
+
+    // A reader that fails within a line, and a writer that takes nothing.
+    let mut reader = Pieces::new(&FIRST_RUN[..FIRST_RUN.len() - 1], ALL, true);
+    let mut writer = Taker::new(rt.alloc(), ALL, ALL);
+    let ended = replay(rt.alloc(), &mut reader, &mut writer, 9, 1000);
+    assert_eq!(rt; ended, Err(ReplayFault::Read));
+    assert_eq!(rt; writer.taken.as_slice(), CREATED);
+
+    let mut reader = Pieces::new(CREATE, ALL, false);
+    let mut writer = Taker::new(rt.alloc(), 0, ALL);
+    let ended = replay(rt.alloc(), &mut reader, &mut writer, 9, 1000);
+    assert_eq!(rt; ended, Err(ReplayFault::Write));
+    assert!(rt; writer.taken.is_empty());
+    Ok(())
+}
+
+#[test]
+fn reads_used_up(rt: HostRuntime) -> Result<(), Fail> {
+    let cases: [(u64, &[u8]); 4] = [(0, b""), (74, b""), (75, CREATED), (111, FIRST_REPLIES)];
+    for (reads, output) in cases {
+        let mut reader = Pieces::new(FIRST_RUN, 1, false);
+        let mut writer = Taker::new(rt.alloc(), ALL, ALL);
+        let ended = replay(rt.alloc(), &mut reader, &mut writer, 9, reads);
+        assert_eq!(rt; ended, Err(ReplayFault::Read), "at {reads}");
+        assert_eq!(rt; writer.taken.as_slice(), output, "at {reads}");
+    }
+    Ok(())
+}
+
+// A line that asks for the map and has so many bytes that no field needs, and then a short line.
+fn long_line(alloc: Global, length: usize) -> Result<Vec<u8>, AllocError> {
+    let mut input = Vec::new(alloc);
+    input.extend_from_slice(b"anna {\"id\":1,\"do\":\"map\",\"x\":\"")?;
+    for _ in 0..length {
+        input.push(b'x')?;
+    }
+    input.extend_from_slice(b"\"}\nanna {\"id\":2,\"do\":\"undo\"}\n")?;
+    Ok(input)
+}
+
+#[test]
+fn a_line_of_a_megabyte(rt: HostRuntime) -> Result<(), Fail> {
+    let alloc = rt.alloc();
+    let input = long_line(alloc, 1_000_000)?;
+    let output: &[u8] =
+        b"{\"id\":1,\"ok\":{\"map\":[],\"seq\":0}}\n{\"id\":2,\"no\":{\"why\":\"nothing_to_undo\"}}\n";
+    for piece in [1, 1000, ALL] {
+        let mut reader = Pieces::new(&input, piece, false);
+        let mut writer = Taker::new(alloc, ALL, ALL);
+        let ended = replay(alloc, &mut reader, &mut writer, 9, 2_000_000);
+        assert_eq!(rt; ended, Ok(()), "at {piece}");
+        assert_eq!(rt; writer.taken.as_slice(), output, "at {piece}");
+    }
+    Ok(())
+}
+
+#[test]
+fn bad_commands(rt: HostRuntime) -> Result<(), Fail> {
+    let cases: [&[&str]; 6] = [
+        &["maproom"],
+        &["maproom", "replay", "--limit", "1000001"],
+        &["maproom", "replay", "--limit", "-1"],
+        &["maproom", "replay", "--limit", "x"],
+        &["maproom", "replay", "more"],
+        &["maproom", "serve"],
+    ];
+    for words in cases {
+        let mut input = Pieces::new(FIRST_RUN, ALL, false);
+        let mut output = Taker::new(rt.alloc(), ALL, ALL);
+        let mut errors = Taker::new(rt.alloc(), ALL, ALL);
+        let status = command(&rt, words, &mut input, &mut output, &mut errors);
+        assert_eq!(rt; status, REFUSED, "at {words:?}");
+        assert!(rt; output.taken.is_empty(), "at {words:?}");
+        assert!(rt; !errors.taken.is_empty(), "at {words:?}");
+    }
+    Ok(())
+}
+
+#[test]
+fn help_is_shown(rt: HostRuntime) -> Result<(), Fail> {
+    let cases: [(&[&str], &str); 3] = [
+        (&["maproom", "--help"], "several mappers"),
+        (&["maproom", "replay", "--help"], "anna {\"id\":1,"),
+        (&["maproom", "replay", "--help"], "--limit <N>"),
+    ];
+    for (words, part) in cases {
+        let mut input = Pieces::new(FIRST_RUN, ALL, false);
+        let mut output = Taker::new(rt.alloc(), ALL, ALL);
+        let mut errors = Taker::new(rt.alloc(), ALL, ALL);
+        let status = command(&rt, words, &mut input, &mut output, &mut errors);
+        assert_eq!(rt; status, DONE, "at {words:?}");
+        assert!(rt; errors.taken.is_empty(), "at {words:?}");
+        let text = std::str::from_utf8(&output.taken)?;
+        assert!(rt; text.contains(part), "{text} has no {part}");
+    }
+    Ok(())
+}
+
+#[test]
+fn statuses_of_a_replay(rt: HostRuntime) -> Result<(), Fail> {
+    let full: &[u8] =
+        b"{\"id\":1,\"no\":{\"why\":\"full\"}}\n{\"id\":2,\"no\":{\"el\":\"n-1\",\"why\":\"absent\"}}\n";
+    let cases: [(&[&str], bool, usize, u8, &[u8], &[u8]); 4] = [
+        (&["maproom", "replay"], false, ALL, DONE, FIRST_REPLIES, b""),
+        (
+            &["maproom", "replay", "--limit", "0"],
+            false,
+            ALL,
+            DONE,
+            full,
+            b"",
+        ),
+        (
+            &["maproom", "replay"],
+            true,
+            ALL,
+            FAILED,
+            FIRST_REPLIES,
+            b"maproom: read failed\n",
+        ),
+        (
+            &["maproom", "replay", "--limit=1000000"],
+            false,
+            5,
+            FAILED,
+            b"{\"id\"",
+            b"maproom: write failed\n",
+        ),
+    ];
+    for (words, fails, room, status, replies, told) in cases {
+        let mut input = Pieces::new(FIRST_RUN, ALL, fails);
+        let mut output = Taker::new(rt.alloc(), ALL, room);
+        let mut errors = Taker::new(rt.alloc(), ALL, ALL);
+        assert_eq!(rt;
+            command(&rt, words, &mut input, &mut output, &mut errors),
+            status,
+            "at {words:?}"
+        );
+        assert_eq!(rt; output.taken.as_slice(), replies, "at {words:?}");
+        assert_eq!(rt; errors.taken.as_slice(), told, "at {words:?}");
+    }
+    Ok(())
+}
