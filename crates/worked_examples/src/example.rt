@@ -1,4 +1,5 @@
 //! A worked example.
+use crate::cut::cut_messages_are_not_json;
 use room_program::command::command;
 use room_program::io::Io;
 use std::alloc::AllocGlobal;
@@ -25,6 +26,8 @@ pub enum Difference {
     Errors,
     /// In its status.
     Status,
+    /// In the answer to a message that is cut short.
+    Cut,
 }
 
 impl Display for Difference {
@@ -33,6 +36,7 @@ impl Display for Difference {
             Difference::Output => "standard output differs",
             Difference::Errors => "standard error differs",
             Difference::Status => "the status differs",
+            Difference::Cut => "a message that is cut short is not answered not_json",
         })
     }
 }
@@ -53,8 +57,16 @@ impl Example {
         })
     }
 
-    /// Runs the example, and tells where the run first differs, if it does.
+    /// Runs the example, and its messages cut short, and tells where a run first differs, if one does.
     pub fn difference(&self, rt: &HostRuntime) -> io::Result<Option<Difference>> {
+        let difference = self.run_difference(rt)?;
+        if difference.is_none() && !cut_messages_are_not_json(rt, &self.input)? {
+            return Ok(Some(Difference::Cut));
+        }
+        Ok(difference)
+    }
+
+    fn run_difference(&self, rt: &HostRuntime) -> io::Result<Option<Difference>> {
         let mut output = Vec::new(rt.alloc());
         let mut errors = Vec::new(rt.alloc());
         let mut reader = Io::new(self.input.as_slice());

@@ -4,8 +4,11 @@
 //! The files of an example are `NAME.in`, the standard input, and `NAME.out`, the standard output; where they are
 //! there, also `NAME.args`, further words of the command line, one a line, `NAME.err`, the standard error (`?` for
 //! any text), and `NAME.status`, the status, which is else 0.
+//!
+//! Besides, each message of an example is cut short at each of its bytes, and has to be answered `not_json`.
 #![tactic(auto)]
 
+mod cut;
 mod example;
 
 use crate::example::Example;
