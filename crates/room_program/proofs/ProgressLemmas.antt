@@ -1,7 +1,7 @@
 -- How far a replay has come, and what that says when it ends.
-use Rattle.std.proofs.Common.{◌≡◌, ◌≢◌, ℕ, List, [], ◌∷◌, ◌++◌, Option, refl, sym, ap, subst, ◌∙◌, append_assoc, append-nil}
+use Rattle.std.proofs.Common.{◌≡◌, ◌≢◌, ℕ, List, [], ◌∷◌, ◌++◌, Option, sym, ap, subst, ◌∙◌, append_assoc, append-nil}
 use Rattle.std.specs.Io.KnownBytes.{Appends, Consumes, Keeps, IsAtEnd}
-use Rattle.room_program.specs.Lines.{lines, ended, IsLine}
+use Rattle.room_program.specs.Lines.{lines, IsLine}
 use Rattle.room_program.specs.Scripts.{Loss, replies, script_of}
 use Rattle.room_program.specs.Runs.{AnswersFront, AnswersSome}
 use Rattle.room_program.specs.Streams.{WritesAll, WritesEnded, WritesFront}

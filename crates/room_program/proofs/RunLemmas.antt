@@ -1,7 +1,7 @@
 -- How runs over lines follow one another, and what they say of the whole script.
 use Rattle.std.proofs.Common.{◌≡◌, ◌≢◌, ℕ, List, [], ◌∷◌, ◌++◌, refl, sym, ap, subst, ◌∙◌, append_assoc, append-nil}
 use Rattle.room_program.specs.Lines.{lines, ended, IsLine}
-use Rattle.room_program.specs.Scripts.{Loss, replies, first_loss, later_losses}
+use Rattle.room_program.specs.Scripts.{Loss, replies}
 use Rattle.room_program.specs.Runs.{joined, AreLines, Runs, AnswersFront}
 use Rattle.room_program.proofs.LineLemmas.{IsLine-append, joined-more, lines-joined, lines-fed, ended-joined, rest-fed}
 

@@ -1,5 +1,5 @@
 -- The first space ends the author's name.
-use Rattle.std.proofs.Common.{sym, ◌∙◌}
+use Rattle.std.proofs.Common.{sym}
 use Rattle.room_program.proofs.LineAnswerLemmas.{said-no_space, said-no_author, said-author}
 use Rattle.room_program.proofs.line.split_author.Goals as goal
 

@@ -1,5 +1,4 @@
 -- Each turn answers the next line.
-use Rattle.std.proofs.Common.{rules}
 use Rattle.room_program.proofs.LineLemmas.{IsLine-append}
 use Rattle.room_program.proofs.RunLemmas.{front-next}
 use Rattle.room_program.proofs.replay.answer_lines.Goals as goal

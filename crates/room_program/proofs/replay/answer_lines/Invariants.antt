@@ -1,4 +1,4 @@
-use Rattle.std.proofs.Common.{◌≡◌, ◌++◌, length}
+use Rattle.std.proofs.Common.{◌++◌, length}
 use Rattle.room_program.specs.Lines.{IsLine}
 use Rattle.room_program.specs.Runs.{AnswersFront}
 use Rattle.room_program.proofs.replay.answer_lines.Given as goal

@@ -1,5 +1,5 @@
 -- A call that takes some bytes leaves fewer.
-use Rattle.std.proofs.Common.{◌≡◌, ◌∙◌, ◌||◌, Bool, false, ap}
+use Rattle.std.proofs.Common.{◌∙◌, ◌||◌, Bool, false, ap}
 use Rattle.room_program.proofs.StreamLemmas.{put-more}
 use Rattle.room_program.proofs.replay.put_all.Goals as goal
 

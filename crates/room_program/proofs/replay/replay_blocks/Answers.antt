@@ -5,7 +5,7 @@ use Rattle.std.proofs.lemmas.Result.{on_err_weaker}
 use Rattle.room_program.specs.Streams.{Gets}
 use Rattle.room_program.proofs.StreamLemmas.{on_err, Keeps-from_none}
 use Rattle.room_program.proofs.LineLemmas.{nil-from_length}
-use Rattle.room_program.proofs.ProgressLemmas.{Progress, progress-block, progress-kept, progress-ended, progress-front, progress-all, progress-last, progress-stopped, progress-stopped_last}
+use Rattle.room_program.proofs.ProgressLemmas.{progress-block, progress-kept, progress-ended, progress-front, progress-all, progress-last, progress-stopped, progress-stopped_last}
 use Rattle.room_program.proofs.replay.replay_blocks.Goals as goal
 
 -- what both clauses say of an answer

@@ -1,7 +1,6 @@
 -- A line is answered by what it says.
 use Rattle.std.proofs.lemmas.Result.{IfOk-weaker}
 use Rattle.std.proofs.Common.{List, ℕ, ap, sym, ◌∙◌}
-use Rattle.room_history.specs.Rooms.{RoomState}
 use Rattle.room_program.proofs.LineAnswerLemmas.{answered-reply, answered-none}
 use Rattle.room_program.proofs.line.RoomGlobalAnswers.answer.Goals as goal
 
