@@ -1,5 +1,5 @@
 //! Laws of the definitions, each the contract of a function that does nothing.
-ghost use Rattle.std.specs.Prelude.{◌≡◌, ◌≢◌, List, ℕ, Ok, IfErr};
+ghost use Rattle.std.specs.Prelude.{◌≡◌, ◌≢◌, ◌≤◌, List, ℕ, Some, Ok, IfErr};
 ghost use Rattle.std.specs.declared.alloc.Global.{Global};
 ghost use Rattle.osm_elements.specs.Elements.{kind_of};
 ghost use Rattle.osm_elements.specs.declared.name.Name.{Name};
@@ -7,8 +7,8 @@ ghost use Rattle.osm_elements.specs.declared.element.Element.{Element};
 ghost use Rattle.room_history.specs.declared.action.Action.TheVariants.{Create};
 ghost use Rattle.room_wire.specs.declared.bad.Fault.TheVariants.{Memory};
 ghost use Rattle.room_wire.specs.ReadBack.{HasId, IsWhole};
-ghost use Rattle.room_wire.specs.Spelling.{spells, create_at};
-ghost use Rattle.room_wire.specs.Trees.{element_tree};
+ghost use Rattle.room_wire.specs.Spelling.{spells, create_at, ordinal};
+ghost use Rattle.room_wire.specs.Trees.{element_tree, whole};
 ghost use Rattle.room_wire.specs.Examples.{reads_messages, tells_no_id, tells_an_id, writes_replies, writes_elements};
 
 /// What the definitions say of worked examples is what was worked out by hand.
@@ -29,6 +29,11 @@ pub fn an_element_is_read_back()
     osm_coords::laws::latitude_is_read_back();
     osm_coords::laws::longitude_is_read_back();
 }
+
+/// A whole number of a reply is read as that number, where it can be the id of a message or the number of an entry.
+pub fn a_number_is_read_back()
+    ensures { (n : ℕ) → 1 ≤ n → n ≤ 9007199254740991 → ordinal (whole n) ≡ Some n }
+{}
 
 /// No text asks for the answer that a growth was refused.
 #[tactic(auto, using(crate::proofs::NeverMemory::spells_is_never_memory))]
