@@ -10,7 +10,7 @@ use Rattle.osm_elements.specs.declared.element.Element.{Element}
 use Rattle.osm_elements.specs.Elements.{kind_of}
 use Rattle.osm_elements.specs.NameOrder.{name_cmp}
 use Rattle.osm_elements.specs.Rows.{AreMapRows, AreOfTheirKinds}
-use Rattle.osm_elements.specs.RowFacts.{AreInOrder-put_row, AreInOrder-without_row, AreOfTheirKinds-put_row, AreOfTheirKinds-without_row, kind_of-row_at}
+use Rattle.osm_elements.specs.Facts.Rows.{AreInOrder-put_row, AreInOrder-without_row, AreOfTheirKinds-put_row, AreOfTheirKinds-without_row, kind_of-row_at}
 
 module _ {A : Type 0} (cmp : Name → Name → Ordering) (is : cmp ≡ name_cmp) (m n : List (Name × Element A)) (x : Name) where
   -- an insert that succeeds puts the row, and one that fails leaves the rows

@@ -12,7 +12,7 @@ use Rattle.std.proofs.lemmas.Bool.Decides.{nat_tests}
 use Rattle.osm_elements.specs.declared.tags.Tag.{Tag}
 use Rattle.osm_elements.specs.declared.fault.TextFault.{TextFault}
 use Rattle.osm_elements.specs.declared.fault.TextFault.TheVariants.{TooManyTags}
-use Rattle.osm_elements.specs.Entries.{both, first, second, find_below, without_below, below_less, below_equal}
+use Rattle.osm_elements.specs.Facts.Entries.{both, first, second, find_below, without_below, below_less, below_equal}
 use Rattle.osm_elements.specs.Texts.{is_long}
 use Rattle.osm_elements.specs.TagRows.{Pairs, tag_pair, text_cmp, further, place, is_tag, AreTagRows, set_refusal, value_at, without_key}
 

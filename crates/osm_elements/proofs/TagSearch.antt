@@ -9,7 +9,7 @@ use Rattle.std.specs.Ordering.{is_lt, ordering_index, ordering_reverse}
 use Rattle.std.specs.Cmp.{alike_right}
 use Rattle.std.specs.FinMap.Entries.{is_sorted, below_all}
 use Rattle.osm_elements.specs.declared.tags.Tag.{Tag}
-use Rattle.osm_elements.specs.Entries.{first, second}
+use Rattle.osm_elements.specs.Facts.Entries.{first, second}
 use Rattle.osm_elements.specs.TagRows.{tag_pair, text_cmp, further, place}
 use Rattle.osm_elements.proofs.TagPlaces.{text_total}
 

@@ -1,14 +1,10 @@
 pub mod Elements
-pub mod Entries
-pub mod KindOrder
-pub mod NameFacts
+pub mod Facts
 pub mod NameOrder
-pub mod NameReading
 pub mod NameTexts
 pub mod Names
 pub mod Nodes
 pub mod Refused
-pub mod RowFacts
 pub mod RowPairs
 pub mod Rows
 pub mod TagRows

@@ -12,7 +12,7 @@ ghost use Rattle.osm_elements.specs.Rows.{row_at, put_row, without_row, AreInOrd
 use std::alloc::Allocator;
 
 /// A text is read as a name exactly where it is the text that is written for that name.
-#[tactic(auto, using(crate::specs::NameReading::name_read_back))]
+#[tactic(auto, using(crate::specs::Facts::NameTexts::name_read_back))]
 pub fn a_name_has_one_text()
     ensures { (text : List ℕ) (n : Name) → FitsSigned w64 n.id → (name_of text ≡ Some n) ↔ (text ≡ name_text n) }
 {}

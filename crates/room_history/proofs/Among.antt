@@ -6,8 +6,8 @@ use Rattle.std.specs.declared.cmp.Ordering.{Ordering}
 use Rattle.std.specs.declared.cmp.Ordering.TheVariants.{Less, Equal, Greater}
 use Rattle.osm_elements.specs.declared.name.Name.{Name}
 use Rattle.osm_elements.specs.NameOrder.{name_cmp}
-use Rattle.osm_elements.specs.NameFacts.{name_cmp-IsAntisymmetric}
-use Rattle.osm_elements.specs.RowFacts.{same_names}
+use Rattle.osm_elements.specs.Facts.Names.{name_cmp-IsAntisymmetric}
+use Rattle.osm_elements.specs.Facts.Rows.{same_names}
 use Rattle.osm_elements.specs.Rows.{row_at}
 use Rattle.room_history.specs.Maps.{Rows, is_same, is_among, with_name, name_set, names_of, is_present}
 

@@ -4,9 +4,9 @@ use Rattle.std.specs.FinMap.Entries.{find-where_key, is_sorted-where_key}
 use Rattle.osm_elements.specs.declared.name.Name.{Name}
 use Rattle.osm_elements.specs.declared.element.Element.{Element}
 use Rattle.osm_elements.specs.NameOrder.{name_cmp}
-use Rattle.osm_elements.specs.NameFacts.{name_cmp-IsAntisymmetric}
+use Rattle.osm_elements.specs.Facts.Names.{name_cmp-IsAntisymmetric}
 use Rattle.osm_elements.specs.Rows.{AreInOrder, row_at}
-use Rattle.osm_elements.specs.RowFacts.{same_names, is_eq-name_cmp_itself, row_at_is_find, row_at-put_row, AreInOrder-put_row, same_rows}
+use Rattle.osm_elements.specs.Facts.Rows.{same_names, is_eq-name_cmp_itself, row_at_is_find, row_at-put_row, AreInOrder-put_row, same_rows}
 use Rattle.room_history.specs.Maps.{Rows, is_same, is_among, is_present, name_set, names_of, rows_but}
 use Rattle.room_history.specs.SameRows.{is_same_row}
 use Rattle.room_history.specs.Changes.{Change, differing, differences, inverse, with_row, changed}

@@ -8,9 +8,9 @@ use Rattle.std.specs.declared.cmp.Ordering.TheVariants.{Less, Equal, Greater}
 use Rattle.osm_elements.specs.declared.name.Name.{Name}
 use Rattle.osm_elements.specs.declared.element.Element.{Element}
 use Rattle.osm_elements.specs.NameOrder.{name_cmp}
-use Rattle.osm_elements.specs.NameFacts.{name_cmp_total}
+use Rattle.osm_elements.specs.Facts.Names.{name_cmp_total}
 use Rattle.osm_elements.specs.Rows.{AreInOrder}
-use Rattle.osm_elements.specs.Entries.{first, second}
+use Rattle.osm_elements.specs.Facts.Entries.{first, second}
 use Rattle.room_history.specs.Maps.{Rows, lesser, least, names_of}
 use Rattle.room_history.specs.References.{users, refers_to}
 use Rattle.room_history.proofs.LeastNames.{min_assoc}

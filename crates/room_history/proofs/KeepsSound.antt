@@ -10,7 +10,7 @@ use Rattle.osm_elements.specs.declared.element.Element.TheVariants.{Node, Way}
 use Rattle.osm_elements.specs.Elements.{kind_of}
 use Rattle.osm_elements.specs.NameOrder.{name_cmp}
 use Rattle.osm_elements.specs.Rows.{row_at, put_row}
-use Rattle.osm_elements.specs.RowFacts.{same_names, is_eq-name_cmp_itself, row_at-put_row, AreInOrder-put_row}
+use Rattle.osm_elements.specs.Facts.Rows.{same_names, is_eq-name_cmp_itself, row_at-put_row, AreInOrder-put_row}
 use Rattle.room_history.specs.declared.action.Action.{Action}
 use Rattle.room_history.specs.declared.action.Action.TheVariants.{Create, Delete}
 use Rattle.room_history.specs.declared.refusal.Refusal.{Refusal}

@@ -8,7 +8,7 @@ use Rattle.std.specs.declared.cmp.Ordering.{Ordering}
 use Rattle.std.specs.declared.cmp.Ordering.TheVariants.{Less, Equal, Greater}
 use Rattle.osm_elements.specs.declared.name.Name.{Name}
 use Rattle.osm_elements.specs.NameOrder.{name_cmp}
-use Rattle.osm_elements.specs.NameFacts.{name_cmp_total, name_cmp-IsAntisymmetric}
+use Rattle.osm_elements.specs.Facts.Names.{name_cmp_total, name_cmp-IsAntisymmetric}
 use Rattle.room_history.specs.Maps.{lesser, least}
 use Rattle.room_history.specs.Plans.{lesser_of}
 

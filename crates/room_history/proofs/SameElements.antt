@@ -5,7 +5,7 @@ use Rattle.std.specs.Cmp.Lexicographic.{pointwise, same_text}
 use Rattle.std.specs.FinMap.{int_cmp-IsAntisymmetric}
 use Rattle.osm_elements.specs.declared.element.Element.{Element}
 use Rattle.osm_elements.specs.declared.element.Element.TheVariants.{Node, Way}
-use Rattle.osm_elements.specs.RowFacts.{same, same_names}
+use Rattle.osm_elements.specs.Facts.Rows.{same, same_names}
 use Rattle.osm_elements.specs.TagRows.{Pairs}
 use Rattle.room_history.specs.Maps.{is_same}
 use Rattle.room_history.specs.SameAuthors.{is_same_text}

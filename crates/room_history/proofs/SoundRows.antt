@@ -7,8 +7,8 @@ use Rattle.osm_elements.specs.declared.name.Name.{Name}
 use Rattle.osm_elements.specs.declared.element.Element.{Element}
 use Rattle.osm_elements.specs.NameOrder.{name_cmp}
 use Rattle.osm_elements.specs.Rows.{AreInOrder, row_at}
-use Rattle.osm_elements.specs.Entries.{first, second, find_below}
-use Rattle.osm_elements.specs.RowFacts.{same_names, is_eq-name_cmp_itself, row_at_is_find}
+use Rattle.osm_elements.specs.Facts.Entries.{first, second, find_below}
+use Rattle.osm_elements.specs.Facts.Rows.{same_names, is_eq-name_cmp_itself, row_at_is_find}
 use Rattle.room_history.specs.Maps.{Rows}
 use Rattle.room_history.specs.Sound.{is_sound, is_sound_row}
 use Rattle.room_history.proofs.SameElements.{both_true, first_true, second_true}

@@ -9,7 +9,7 @@ use Rattle.room_history.specs.declared.action.Action.TheVariants.{Create, Delete
 use Rattle.room_history.specs.declared.entry.Entry.{Entry}
 use Rattle.room_history.specs.declared.entry.EntryKind.TheVariants.{Do, Undo}
 use Rattle.osm_elements.specs.Rows.{AreInOrder}
-use Rattle.osm_elements.specs.RowFacts.{AreInOrder-put_row}
+use Rattle.osm_elements.specs.Facts.Rows.{AreInOrder-put_row}
 use Rattle.room_history.specs.Maps.{Rows}
 use Rattle.room_history.specs.After.{after}
 use Rattle.room_history.specs.Refusals.{refusal}

@@ -17,7 +17,7 @@ use Rattle.osm_elements.specs.declared.name.Kind.TheVariants as kinds
 use Rattle.osm_elements.specs.declared.element.Element.{Element}
 use Rattle.osm_elements.specs.declared.element.Element.TheVariants.{Node, Way}
 use Rattle.osm_elements.specs.Elements.{kind_of}
-use Rattle.osm_elements.specs.NameReading.{name_of_text, name_with-some}
+use Rattle.osm_elements.specs.Facts.NameTexts.{name_of_text, name_with-some}
 use Rattle.osm_elements.specs.NameTexts.{name_with}
 use Rattle.osm_elements.specs.Nodes.{AreNodes}
 use Rattle.osm_elements.specs.TagRows.{Pairs, AreTagRows, is_tag}

@@ -1,4 +1,4 @@
-use Rattle.osm_elements.specs.RowFacts.{row_at-put_row_same, row_at-put_row_other, AreInOrder-put_row}
+use Rattle.osm_elements.specs.Facts.Rows.{row_at-put_row_same, row_at-put_row_other, AreInOrder-put_row}
 use Rattle.osm_elements.proofs.laws.a_put_changes_one_name.Goals as goal
 
 pub returns-clause-same : goal.returns-clause-same

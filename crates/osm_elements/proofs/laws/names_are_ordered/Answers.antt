@@ -1,4 +1,4 @@
-use Rattle.osm_elements.specs.NameFacts.{name_cmp_total, name_cmp-IsAntisymmetric}
+use Rattle.osm_elements.specs.Facts.Names.{name_cmp_total, name_cmp-IsAntisymmetric}
 use Rattle.osm_elements.proofs.laws.names_are_ordered.Goals as goal
 
 pub returns-clause-total : goal.returns-clause-total

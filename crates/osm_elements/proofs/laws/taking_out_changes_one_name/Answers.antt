@@ -1,4 +1,4 @@
-use Rattle.osm_elements.specs.RowFacts.{row_at-without_row_same, row_at-without_row_other, AreInOrder-without_row}
+use Rattle.osm_elements.specs.Facts.Rows.{row_at-without_row_same, row_at-without_row_other, AreInOrder-without_row}
 use Rattle.osm_elements.proofs.laws.taking_out_changes_one_name.Goals as goal
 
 pub returns-clause-same : goal.returns-clause-same

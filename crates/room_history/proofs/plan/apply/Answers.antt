@@ -1,5 +1,5 @@
 use Rattle.std.proofs.Common.{◌∙◌}
-use Rattle.osm_elements.specs.RowFacts.{without_row_is_filter}
+use Rattle.osm_elements.specs.Facts.Rows.{without_row_is_filter}
 use Rattle.room_history.proofs.plan.apply.Goals as goal
 
 pub returns-clause-ok : goal.returns-clause-ok

@@ -1,6 +1,6 @@
 use Rattle.std.proofs.Common.{ap, ◌∙◌}
 use Rattle.std.specs.Ordering.{ord_min}
-use Rattle.osm_elements.specs.KindOrder.{name_cmp_is}
+use Rattle.osm_elements.specs.Facts.NameOrder.{name_cmp_is}
 use Rattle.room_history.proofs.plan.lesser.Goals as goal
 
 pub returns-in-Some : goal.returns-in-Some

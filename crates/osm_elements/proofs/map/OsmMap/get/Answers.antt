@@ -1,5 +1,5 @@
 use Rattle.std.proofs.Common.{rules}
-use Rattle.osm_elements.specs.KindOrder.{name_cmp_is}
+use Rattle.osm_elements.specs.Facts.NameOrder.{name_cmp_is}
 use Rattle.osm_elements.proofs.MapRows.{kind_of-found}
 use Rattle.osm_elements.proofs.map.OsmMap.get.Goals as goal
 

@@ -1,6 +1,6 @@
 use Rattle.std.proofs.Common.{◌≡◌, IfOk, IfSome, rules}
 use Rattle.osm_elements.specs.Elements.{kind_of}
-use Rattle.osm_elements.specs.KindOrder.{name_cmp_is}
+use Rattle.osm_elements.specs.Facts.NameOrder.{name_cmp_is}
 use Rattle.osm_elements.proofs.MapRows.{AreMapRows-insert, kind_of-old}
 use Rattle.osm_elements.proofs.map.OsmMap.put.Goals as goal
 

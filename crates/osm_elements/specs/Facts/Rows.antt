@@ -12,9 +12,9 @@ use Rattle.std.proofs.lemmas.List.Elements.{All-nil, All-cons, All-head, All-tai
 use Rattle.osm_elements.specs.declared.name.Name.{Name}
 use Rattle.osm_elements.specs.declared.element.Element.{Element}
 use Rattle.osm_elements.specs.Elements.{kind_of}
-use Rattle.osm_elements.specs.Entries.{lookup_is_find, insert_is_put, without, remove_is_without}
+use Rattle.osm_elements.specs.Facts.Entries.{lookup_is_find, insert_is_put, without, remove_is_without}
 use Rattle.osm_elements.specs.NameOrder.{name_cmp}
-use Rattle.osm_elements.specs.NameFacts.{name_cmp_total, name_cmp-IsAntisymmetric}
+use Rattle.osm_elements.specs.Facts.Names.{name_cmp_total, name_cmp-IsAntisymmetric}
 use Rattle.osm_elements.specs.Rows.{row_at, put_row, without_row, AreInOrder, AreOfTheirKinds}
 
 -- names that compare as the same are equal

@@ -17,7 +17,7 @@ use Rattle.osm_elements.specs.declared.name.Name.{Name}
 use Rattle.osm_elements.specs.declared.name.Kind.{Kind}
 use Rattle.osm_elements.specs.declared.name.Kind.TheVariants.{Node, Way, Relation}
 use Rattle.osm_elements.specs.Names.{Splits, NoLetter, letter_of}
-use Rattle.osm_elements.specs.NameFacts.{same_name}
+use Rattle.osm_elements.specs.Facts.Names.{same_name}
 use Rattle.osm_elements.specs.NameTexts.{name_text, name_of, name_with, named, is_id, if_written, id_of, kind_of_letter, if_passed}
 
 -- the letters tell the kinds
@@ -67,18 +67,6 @@ if_written-signed_decimal id f = rw (is_id-fits id f, same_bytes (signed_decimal
 pub id_of-signed_decimal : (id : ℤ) → FitsSigned w64 id → id_of (signed_decimal id) ≡ Some id
 id_of-signed_decimal id f = ap (if_written (signed_decimal id)) (signed_digits_value-signed_decimal id f) ∙ if_written-signed_decimal id f
 
--- no i64 has these digits
-if_written-none : (digits : List ℕ) (id : ℤ) → (FitsSigned w64 id → digits ≢ signed_decimal id) → if_written digits id ≡ None
-if_written-none digits id h = by (is_id id) (pointwise nat_eq digits (signed_decimal id)) refl refl
-  where
-    by : (b c : Bool) → is_id id ≡ b → pointwise nat_eq digits (signed_decimal id) ≡ c → cond (b && c) (Some id) None ≡ None
-    by true true p q = absurd (h (fits-is_id id p) ((bytes_decides digits (signed_decimal id)).0 q))
-    by true false p q = refl
-    by false c p q = refl
-
-pub id_of-none : (digits : List ℕ) → ((id : ℤ) → FitsSigned w64 id → digits ≢ signed_decimal id) → id_of digits ≡ None
-id_of-none digits h = if_written-none digits (signed_digits_value 10 digits) (h (signed_digits_value 10 digits))
-
 -- what `Name::new` answers is the name of the kind and the id
 passed : {X : Type 0} (b : Bool) (f : T b → X) (t : T b) → if_passed b f ≡ Some (f t)
 passed true f t = refl
@@ -96,9 +84,6 @@ pub name_with-some : (n : Name) → name_with n.kind n.id ≡ Some n
 name_with-some n =
     let t = apart n.id n.not_zero in
     passed (not (int_eq n.id (pos 0))) (named n.kind n.id) t ∙ ap Some (same_name (named n.kind n.id t) n refl refl)
-
-pub name_with-zero : (kind : Kind) → name_with kind (pos 0) ≡ None
-name_with-zero kind = refl
 
 pub new_is : (kind : Kind) (id : ℤ) (r : Option Name) → MatchOption r (id ≡ pos 0) (λ n. (n.kind ≡ kind) × (n.id ≡ id)) → r ≡ name_with kind id
 new_is kind id None none = sym (ap (name_with kind) none)
@@ -178,10 +163,6 @@ name_text-name_of (c ∷ digits) n e = by (kind_of_letter c) (id_of digits) refl
         let letter = letter_of_found c kind p ∙ ap letter_of parts.0 in
         let written = digits_of_written digits (signed_digits_value 10 digits) id q ∙ ap signed_decimal parts.1 in
         λ i. letter i ∷ written i
-
--- two names with one text are the same
-pub name_text-injective : (x y : Name) → FitsSigned w64 x.id → FitsSigned w64 y.id → name_text x ≡ name_text y → x ≡ y
-name_text-injective x y f g e = ap (λ o. unwrap_or o x) (sym (name_of_text x f) ∙ ap name_of e ∙ name_of_text y g)
 
 -- a text is read as a name exactly where it is the name's text
 pub name_read_back : (text : List ℕ) (n : Name) → FitsSigned w64 n.id → (name_of text ≡ Some n) ↔ (text ≡ name_text n)

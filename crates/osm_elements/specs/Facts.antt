@@ -1,0 +1,6 @@
+-- What is proved of the definitions beside this folder, for the proofs here and in the crates above. No contract cites these.
+pub mod Entries
+pub mod NameOrder
+pub mod NameTexts
+pub mod Names
+pub mod Rows
