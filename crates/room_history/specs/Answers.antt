@@ -21,7 +21,7 @@ use Rattle.room_history.specs.Replays.{mapof}
 module _ {A : Type 0} where
   -- an entry is the author's and spent the id
   abbrev pub spends : Author → ℕ → Entry A → Bool
-  spends author id e = is_same_author author e.author && nat_eq id e.id
+  spends author id e = nat_eq id e.id && is_same_author author e.author
 
   -- the number of the author's entry that spent the id
   abbrev pub spent : List (Entry A) → Author → ℕ → Option ℕ

@@ -50,5 +50,5 @@ fn place_of_spent<A: Allocator>(entries: &[Entry<A>], author: &Author, id: u64) 
 fn spends<A: Allocator>(entry: &Entry<A>, author: &Author, id: u64) -> bool
     ensures { result ≡ spends author.now id entry.now }
 {
-    author.is(&entry.author) && id == entry.id
+    id == entry.id && author.is(&entry.author)
 }
