@@ -77,8 +77,12 @@ fn answer_line<A: Answers>(
     ensures none_held { OnOk result (begun.new.items ≡ []) }
     ensures err { OnErr result (replies.new.items ≡ replies.old.items) }
 {
-    begun.extend_from_slice(line)?;
-    let reply = answers.answer(alloc, begun.as_slice())?;
+    let reply = if begun.is_empty() {
+        answers.answer(alloc, line)?
+    } else {
+        begun.extend_from_slice(line)?;
+        answers.answer(alloc, begun.as_slice())?
+    };
     push_line(replies, reply.as_bytes())?;
     begun.clear();
     Ok(())
