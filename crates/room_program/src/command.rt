@@ -1,5 +1,5 @@
 //! The program's command line.
-ghost use Rattle.std.specs.Prelude.{◌≡◌, ◌≤◌, false};
+ghost use Rattle.std.specs.Prelude.{◌≡◌, ◌≢◌, ◌≤◌, ◌⊎◌, ℕ, false};
 ghost use Rattle.room_program.specs.LineAnswers.{script};
 ghost use Rattle.room_program.specs.Streams.{WritesAll, WritesFront};
 
@@ -41,7 +41,19 @@ pub fn command<R: AllocGlobal, T: AsStr, S: Source, W: Sink, E: Sink>(
     requires input_works { S.has_failed input.old ≡ false }
     requires output_works { W.has_failed output.old ≡ false }
     requires errors_work { E.has_failed errors.old ≡ false }
-    ensures { result ≤ REFUSED }
+    ensures status { result ≤ REFUSED }
+
+    // A room's script of all the input was written, or nothing was read.
+    ensures done { result ≡ DONE → (input.new ≡ input.old) ⊎ ((limit : ℕ) × WritesAll (script limit)
+        (S.left input.old) (S.left input.new) (W.taken output.old) (W.taken output.new)) }
+
+    // A front of a room's script was written, or nothing was read and nothing written.
+    ensures failed { result ≡ FAILED → ((input.new ≡ input.old) × (output.new ≡ output.old))
+        ⊎ ((limit : ℕ) × WritesFront (script limit)
+        (S.left input.old) (S.left input.new) (W.taken output.old) (W.taken output.new)) }
+
+    // Nothing was read, and nothing written to the output.
+    ensures refused { result ≡ REFUSED → (input.new ≡ input.old) × (output.new ≡ output.old) }
 {
     let alloc = rt.alloc();
     match limit_in(alloc, words) {
@@ -138,7 +150,8 @@ fn answer_error<W: Sink, E: Sink>(
 ) -> u8
     requires output_works { W.has_failed output.old ≡ false }
     requires errors_work { E.has_failed errors.old ≡ false }
-    ensures { result ≤ REFUSED }
+    ensures status { result ≤ REFUSED }
+    ensures quiet { result ≢ DONE → output.new ≡ output.old }
 {
     if error.kind() == ErrorKind::OutOfMemory {
         return fail(errors, ReplayFault::Memory);
