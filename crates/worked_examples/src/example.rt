@@ -2,7 +2,7 @@
 use crate::cut::cut_messages_are_not_json;
 use room_program::command::command;
 use room_program::io::Io;
-use std::alloc::AllocGlobal;
+use std::alloc::{AllocError, AllocGlobal, Global};
 use std::fmt::{self, Display, Formatter};
 use std::fs;
 use std::io::{self, ErrorKind};
@@ -12,16 +12,20 @@ use std::io::{self, ErrorKind};
 pub struct Example {
     words: Vec<String>,
     input: Vec<u8>,
-    output: Vec<u8>,
+    output: String,
     errors: String,
     status: u8,
 }
 
 /// Where a run differs from its example.
-#[derive(Clone, Copy, Debug, PartialEq, Eq)]
+#[derive(Drop, Debug)]
 pub enum Difference {
-    /// On standard output.
-    Output,
+    /// On standard output: the first line that differs, counted from 1, as it was wanted and as it was printed.
+    Output {
+        line: usize,
+        wanted: String,
+        printed: String,
+    },
     /// On standard error.
     Errors,
     /// In its status.
@@ -32,20 +36,26 @@ pub enum Difference {
 
 impl Display for Difference {
     fn fmt<W: fmt::Write>(&self, f: &mut Formatter<W>) -> fmt::Result {
-        f.write_str(match self {
-            Difference::Output => "standard output differs",
-            Difference::Errors => "standard error differs",
-            Difference::Status => "the status differs",
-            Difference::Cut => "a message that is cut short is not answered not_json",
-        })
+        match self {
+            Difference::Output {
+                line,
+                wanted,
+                printed,
+            } => write!(f, "line {line} is {printed:?} in place of {wanted:?}"),
+            Difference::Errors => f.write_str("standard error differs"),
+            Difference::Status => f.write_str("the status differs"),
+            Difference::Cut => {
+                f.write_str("a message that is cut short is not answered not_json")
+            }
+        }
     }
 }
 
 impl Example {
     /// Reads the files of an example. An `Err` says that one could not be read, or that a status is no number.
     pub fn read(rt: &HostRuntime, name: &str) -> io::Result<Example> {
-        let input = read_file(rt, name, "in")?;
-        let output = read_file(rt, name, "out")?;
+        let input = fs::read(rt, path_of(rt, name, "in")?.as_str())?;
+        let output = fs::read_to_string(rt, path_of(rt, name, "out")?.as_str())?;
         let errors = read_text(rt, name, "err")?;
         let status = read_text(rt, name, "status")?;
         Ok(Example {
@@ -73,8 +83,10 @@ impl Example {
         let mut writer = Io::new(&mut output);
         let mut teller = Io::new(&mut errors);
         let status = command(rt, &self.words, &mut reader, &mut writer, &mut teller);
-        Ok(if output.as_slice() != self.output.as_slice() {
-            Some(Difference::Output)
+        let output = String::from_utf8_lossy(rt.alloc(), &output)?;
+        let difference = output_difference(rt.alloc(), self.output.as_str(), output.as_str())?;
+        Ok(if difference.is_some() {
+            difference
         } else if !self.tells(&errors) {
             Some(Difference::Errors)
         } else if status != self.status {
@@ -94,16 +106,48 @@ impl Example {
     }
 }
 
-// A file of an example.
-fn read_file(rt: &HostRuntime, name: &str, ending: &str) -> io::Result<Vec<u8>> {
-    let path = format!(in rt.alloc(); "{name}.{ending}")?;
-    fs::read(rt, path.as_str())
+// The first line in which the output that is wanted and the output that was printed differ, with its line feed.
+fn output_difference(
+    alloc: Global,
+    wanted: &str,
+    printed: &str,
+) -> Result<Option<Difference>, AllocError> {
+    let mut others = printed.split_inclusive('\n');
+    let mut line = 1usize;
+    for one in wanted.split_inclusive('\n') {
+        let other = others.next().unwrap_or("");
+        if one != other {
+            return Ok(Some(at_line(alloc, line, one, other)?));
+        }
+        line = line.saturating_add(1);
+    }
+    match others.next() {
+        Some(other) => Ok(Some(at_line(alloc, line, "", other)?)),
+        None => Ok(None),
+    }
+}
+
+fn at_line(
+    alloc: Global,
+    line: usize,
+    wanted: &str,
+    printed: &str,
+) -> Result<Difference, AllocError> {
+    Ok(Difference::Output {
+        line,
+        wanted: String::from_str(alloc, wanted)?,
+        printed: String::from_str(alloc, printed)?,
+    })
+}
+
+// The path of a file of an example.
+fn path_of(rt: &HostRuntime, name: &str, ending: &str) -> Result<String, AllocError> {
+    format!(in rt.alloc(); "{name}.{ending}")
 }
 
 // The text of a file of an example, or none where there is no such file.
 fn read_text(rt: &HostRuntime, name: &str, ending: &str) -> io::Result<String> {
-    let path = format!(in rt.alloc(); "{name}.{ending}")?;
-    match fs::read_to_string(rt, path.as_str()) {
+    match fs::read_to_string(rt, path_of(rt, name, ending)?.as_str()) {
         Err(error) if error.kind() == ErrorKind::NotFound => Ok(String::new(rt.alloc())),
         text => text,
     }
