@@ -3,3 +3,8 @@ pub mod RunLemmas
 pub mod StreamLemmas
 pub mod ProgressLemmas
 pub mod LineAnswerLemmas
+pub mod WordExampleProofs
+pub mod WordLemmas
+pub mod WordWalks
+pub mod LimitLemmas
+pub mod CallLemmas

@@ -5,3 +5,5 @@ pub mod Runs
 pub mod Streams
 pub mod LineAnswers
 pub mod LineReplies
+pub mod Words
+pub mod WordExamples

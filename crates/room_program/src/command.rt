@@ -1,7 +1,10 @@
 //! The program's command line.
-ghost use Rattle.std.specs.Prelude.{◌≡◌, ◌≢◌, ◌≤◌, ◌⊎◌, ℕ, false};
+ghost use Rattle.std.specs.Prelude.{◌≡◌, ◌≢◌, ◌≤◌, ◌⊎◌, [], IfOk, MatchResult, false, map, true};
+ghost use Rattle.clap.specs.Words.{HasKind, app_of, kind_of};
 ghost use Rattle.room_program.specs.LineAnswers.{script};
 ghost use Rattle.room_program.specs.Streams.{WritesAll, WritesFront};
+ghost use Rattle.room_program.specs.Words.{IsTaken, asks_for_help, faults, has_mistake, is_mistake, is_request};
+ghost use Rattle.room_program.specs.Words.{limit_asked, program_app};
 
 use crate::replay::{ReplayFault, put_all, replay};
 use crate::sink::Sink;
@@ -43,17 +46,22 @@ pub fn command<R: AllocGlobal, T: AsStr, S: Source, W: Sink, E: Sink>(
     requires errors_work { E.has_failed errors.old ≡ false }
     ensures status { result ≤ REFUSED }
 
-    // A room's script of all the input was written, or nothing was read.
-    ensures done { result ≡ DONE → (input.new ≡ input.old) ⊎ ((limit : ℕ) × WritesAll (script limit)
-        (S.left input.old) (S.left input.new) (W.taken output.old) (W.taken output.new)) }
+    // The words were taken, and the script of all the input was written, of a room with the limit that they ask
+    // for. Or the words ask for help, and nothing was read.
+    ensures done { let texts = map T.text words.now in result ≡ DONE →
+        (IsTaken texts × WritesAll (script (limit_asked texts))
+        (S.left input.old) (S.left input.new) (W.taken output.old) (W.taken output.new))
+        ⊎ ((asks_for_help texts ≡ true) × (input.new ≡ input.old)) }
 
-    // A front of a room's script was written, or nothing was read and nothing written.
-    ensures failed { result ≡ FAILED → ((input.new ≡ input.old) × (output.new ≡ output.old))
-        ⊎ ((limit : ℕ) × WritesFront (script limit)
-        (S.left input.old) (S.left input.new) (W.taken output.old) (W.taken output.new)) }
+    // The words were taken, and a front of that script was written. Or nothing was read and nothing written.
+    ensures failed { let texts = map T.text words.now in result ≡ FAILED →
+        (IsTaken texts × WritesFront (script (limit_asked texts))
+        (S.left input.old) (S.left input.new) (W.taken output.old) (W.taken output.new))
+        ⊎ ((input.new ≡ input.old) × (output.new ≡ output.old)) }
 
-    // Nothing was read, and nothing written to the output.
-    ensures refused { result ≡ REFUSED → (input.new ≡ input.old) × (output.new ≡ output.old) }
+    // The words have a mistake, and nothing was read, and nothing written to the output.
+    ensures refused { result ≡ REFUSED → (has_mistake (map T.text words.now) ≡ true)
+        × (input.new ≡ input.old) × (output.new ≡ output.old) }
 {
     let alloc = rt.alloc();
     match limit_in(alloc, words) {
@@ -86,16 +94,22 @@ fn run<S: Source, W: Sink, E: Sink>(
 }
 
 // The limit of the replay that the words ask for.
-fn limit_in<T: AsStr>(alloc: Global, words: &[T]) -> Result<u32, Error> {
+fn limit_in<T: AsStr>(alloc: Global, words: &[T]) -> Result<u32, Error>
+    ensures { let texts = map T.text words.now in MatchResult result
+        (λ limit. IsTaken texts × (limit ≡ limit_asked texts)) (HasKind (faults texts)) }
+{
     let matches = command_line(alloc)?.try_get_matches_from(words)?;
-    let limit = matches
-        .subcommand_matches("replay")
-        .and_then(|replay| replay.get_one::<u32>("limit"));
+    let limit = match matches.subcommand_matches("replay") {
+        Some(replay) => replay.get_one::<u32>("limit"),
+        None => None,
+    };
     Ok(limit.unwrap_or(MOST_ENTRIES))
 }
 
 // What the program's words can be.
-fn command_line<'a>(alloc: Global) -> Result<Command<'a>, AllocError> {
+fn command_line<'a>(alloc: Global) -> Result<Command<'a>, AllocError>
+    ensures { IfOk result (λ line. app_of line ≡ program_app) }
+{
     let limit = Arg::new(alloc, "limit")
         .long("limit")
         .value_name("N")
@@ -152,6 +166,8 @@ fn answer_error<W: Sink, E: Sink>(
     requires errors_work { E.has_failed errors.old ≡ false }
     ensures status { result ≤ REFUSED }
     ensures quiet { result ≢ DONE → output.new ≡ output.old }
+    ensures shown { result ≡ DONE → is_request (kind_of error.now) ≡ true }
+    ensures refused { result ≡ REFUSED → is_mistake (kind_of error.now) ≡ true }
 {
     if error.kind() == ErrorKind::OutOfMemory {
         return fail(errors, ReplayFault::Memory);

@@ -8,6 +8,7 @@ pub mod answers;
 pub mod command;
 pub mod failed;
 pub mod io;
+pub mod laws;
 pub mod line;
 pub mod lines;
 pub mod replay;

@@ -5,7 +5,7 @@ ghost use Rattle.room_program.specs.Lines.{IsLine};
 ghost use Rattle.room_program.specs.Scripts.{Loss, script_of};
 ghost use Rattle.room_program.specs.LineAnswers.{script};
 ghost use Rattle.room_program.specs.Runs.{AnswersFront, AnswersSome};
-ghost use Rattle.room_program.specs.Streams.{Gets, TookNone, WritesAll, WritesEnded, WritesFront};
+ghost use Rattle.room_program.specs.Streams.{Gets, GetsAtMost, TookNone, WritesAll, WritesEnded, WritesFront};
 
 use crate::answers::Answers;
 use crate::lines::{LINE_FEED, push_line, split_line};
@@ -163,6 +163,7 @@ fn replay_blocks<A: Answers, S: Source, W: Sink>(
         (S.left reader.old) (S.left reader.new) (W.taken writer.old) (W.taken writer.new) }
     ensures front { OnErr result (WritesFront (script_of A.answered answers.old)
         (S.left reader.old) (S.left reader.new) (W.taken writer.old) (W.taken writer.new)) }
+    ensures calls { GetsAtMost S.gets reads reader.old reader.new }
     ensures why_read { result ≡ Err ReplayFault.Read
         → (S.has_failed reader.new ≡ true) ⊎ Gets S.gets reads reader.old reader.new }
     ensures why_write { result ≡ Err ReplayFault.Write
@@ -194,7 +195,7 @@ fn replay_blocks<A: Answers, S: Source, W: Sink>(
 ///
 /// - `Read`: the reader failed, or `reads` reads were used up.
 /// - `Write`: the writer failed, or took no byte of those that were left.
-/// - `Memory`: a line could not be held, or the text of a reply could not be made.
+/// - `Memory`: a line could not be held, or the text of a reply or the replies to a block's lines could not be made.
 pub fn replay<S: Source, W: Sink>(
     alloc: Global,
     reader: &mut S,
@@ -217,6 +218,9 @@ pub fn replay<S: Source, W: Sink>(
         (S.left reader.old) (S.left reader.new) (W.taken writer.old) (W.taken writer.new) }
     ensures front { OnErr result (WritesFront (script limit)
         (S.left reader.old) (S.left reader.new) (W.taken writer.old) (W.taken writer.new)) }
+
+    // At most so many reads were made.
+    ensures calls { GetsAtMost S.gets reads reader.old reader.new }
 
     // When each fault comes.
     ensures why_read { result ≡ Err ReplayFault.Read

@@ -4,6 +4,7 @@ use Rattle.room_program.specs.Scripts.{Loss}
 use Rattle.room_program.specs.Streams.{WritesAll, WritesEnded, WritesFront}
 use Rattle.room_program.proofs.LineAnswerLemmas.{script-opened, script-none}
 use Rattle.room_program.proofs.StreamLemmas.{on_err, Appends-none, Consumes-none}
+use Rattle.room_program.proofs.CallLemmas.{no_call}
 use Rattle.room_program.proofs.replay.replay.Goals as goal
 
 pub returns-in_err-block-clause-front : goal.returns-in_err-block-clause-front
@@ -32,3 +33,6 @@ pub returns-clause-front : goal.returns-clause-front
 returns-clause-front g c =
     subst (λ (s : List ℕ → List Loss → List ℕ). OnErr c.replay_blocks.result (WritesFront s (g.S.Source.left c.args.reader.now) (g.S.Source.left c.replay_blocks.new.reader) (g.W.Sink.taken c.args.writer.now) (g.W.Sink.taken c.replay_blocks.new.writer)))
     (script-opened c.args.limit c.open-room.result c.open-room.ensures) c.replay_blocks.ensures.front
+
+pub returns-in_err-block-clause-calls : goal.returns-in_err-block-clause-calls
+returns-in_err-block-clause-calls g c = no_call g.S.Source.gets c.args.reads c.args.reader.now

@@ -5,6 +5,7 @@ use Rattle.std.proofs.lemmas.Result.{on_err_weaker}
 use Rattle.room_program.specs.Streams.{Gets}
 use Rattle.room_program.proofs.StreamLemmas.{on_err, Keeps-from_none}
 use Rattle.room_program.proofs.LineLemmas.{nil-from_length}
+use Rattle.room_program.proofs.CallLemmas.{one_more, calls_made}
 use Rattle.room_program.proofs.ProgressLemmas.{progress-block, progress-kept, progress-ended, progress-front, progress-all, progress-last, progress-stopped, progress-stopped_last}
 use Rattle.room_program.proofs.replay.replay_blocks.Goals as goal
 
@@ -27,12 +28,18 @@ returns-in_default-clause-front g c =
     let p = progress-kept _ _ _ _ _ _ _ _ c.loop.invariant.progress (g.S.Source.left c.get.new.self) c.in_default.ensures.bytes in
     progress-front _ _ _ _ _ _ _ _ p
 
+pub returns-in_default-clause-calls : goal.returns-in_default-clause-calls
+returns-in_default-clause-calls g c = one_more g.S.Source.gets c.loop.counter _ _ _ _ _ (omega arith) c.loop.invariant.gets c.in_default.ensures.gets
+
 pub returns-in_err-answer_block-clause-front : goal.returns-in_err-answer_block-clause-front
 returns-in_err-answer_block-clause-front g c =
     let f = c.in_err-answer_block.ensures.front in
     on_err c.from_residual.result
     (progress-stopped _ _ _ _ _ _ _ _ c.loop.invariant.progress (g.S.Source.left c.get.new.self) (g.W.Sink.taken c.answer_block.new.writer) (take c.in-Ok.count c.get.new.buffer) f.0 f.1
     c.in-Ok.ensures.bytes.0 f.2 f.3)
+
+pub returns-in_err-answer_block-clause-calls : goal.returns-in_err-answer_block-clause-calls
+returns-in_err-answer_block-clause-calls g c = one_more g.S.Source.gets c.loop.counter _ _ _ _ _ (omega arith) c.loop.invariant.gets c.in-Ok.ensures.gets
 
 pub returns-then-is_empty-clause-ok : goal.returns-then-is_empty-clause-ok
 returns-then-is_empty-clause-ok g c =
@@ -41,6 +48,9 @@ returns-then-is_empty-clause-ok g c =
     let p = progress-kept _ _ _ _ _ _ _ _ c.loop.invariant.progress (g.S.Source.left c.get.new.self) (Keeps-from_none _ _ c.in-Ok.count c.get.new.buffer none bytes.0) in
     let empty = eqb-true (vec_len c.loop.begun) 0 (sym c.is_empty.ensures ∙ c.if-is_empty.true) in
     progress-all _ _ _ _ _ _ _ _ p (nil-from_length c.loop.begun.items (omega (arith, c.loop.begun.ok.0))) (bytes.1 none (omega arith))
+
+pub returns-then-is_empty-clause-calls : goal.returns-then-is_empty-clause-calls
+returns-then-is_empty-clause-calls g c = one_more g.S.Source.gets c.loop.counter _ _ _ _ _ (omega arith) c.loop.invariant.gets c.in-Ok.ensures.gets
 
 pub returns-else-is_empty-clause-ok : goal.returns-else-is_empty-clause-ok
 returns-else-is_empty-clause-ok g c =
@@ -63,6 +73,9 @@ returns-else-is_empty-clause-front g c =
     c.loop.invariant.held (has_begun c.loop.begun.items (vec_len c.loop.begun) c.loop.begun.ok.0 (sym c.is_empty.ensures ∙ c.if-is_empty.false)) f.2 f.3)
     c.answer_block-else-is_empty.ensures.front
 
+pub returns-else-is_empty-clause-calls : goal.returns-else-is_empty-clause-calls
+returns-else-is_empty-clause-calls g c = one_more g.S.Source.gets c.loop.counter _ _ _ _ _ (omega arith) c.loop.invariant.gets c.in-Ok.ensures.gets
+
 pub loop-preserved : goal.loop-preserved
 loop-preserved g c =
     let inv = c.loop.invariant in
@@ -82,3 +95,6 @@ returns-clause-read g c e = progress-ended _ _ _ _ _ _ _ _ c.loop.invariant.prog
 
 pub returns-clause-front : goal.returns-clause-front
 returns-clause-front g c = progress-front _ _ _ _ _ _ _ _ c.loop.invariant.progress
+
+pub returns-clause-calls : goal.returns-clause-calls
+returns-clause-calls g c = calls_made g.S.Source.gets c.loop.counter _ _ _ (omega arith) c.loop.invariant.gets

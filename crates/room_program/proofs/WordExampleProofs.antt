@@ -1,0 +1,20 @@
+-- The worked examples of words, by evaluation.
+use Rattle.std.proofs.Common.{refl}
+use Rattle.clap.proofs.OnLiterals.{clap_on_literals}
+use Rattle.room_program.specs.WordExamples.{taken, bad_limit, bad_word, help_asked}
+
+pub taken_lem : taken
+unfolding taken clap_on_literals
+taken_lem = ((refl, refl), (refl, refl), (refl, refl), (refl, refl), (refl, refl))
+
+pub bad_limit_lem : bad_limit
+unfolding bad_limit clap_on_literals
+bad_limit_lem = (refl, refl, refl, refl, refl)
+
+pub bad_word_lem : bad_word
+unfolding bad_word clap_on_literals
+bad_word_lem = (refl, refl, refl, refl)
+
+pub help_asked_lem : help_asked
+unfolding help_asked clap_on_literals
+help_asked_lem = (refl, refl, refl)

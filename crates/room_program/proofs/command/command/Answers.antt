@@ -1,0 +1,15 @@
+-- An error's kind stands among those that the words can be answered by.
+use Rattle.std.proofs.Common.{arith, inr, refl, map}
+use Rattle.room_program.specs.Words.{faults, is_mistake, is_request}
+use Rattle.room_program.proofs.WordLemmas.{kind_among}
+use Rattle.room_program.proofs.command.command.Goals as goal
+
+pub returns-in-Err-clause-done : goal.returns-in-Err-clause-done
+returns-in-Err-clause-done g c = λ done.
+    let kinds = faults (map g.T.AsStr.text c.args.words.now) in
+    inr (kind_among is_request kinds c.in-Err.error refl (c.answer_error.ensures.shown done) c.in-Err.ensures, refl)
+
+pub returns-in-Err-clause-refused : goal.returns-in-Err-clause-refused
+returns-in-Err-clause-refused g c = λ refused.
+    let kinds = faults (map g.T.AsStr.text c.args.words.now) in
+    (kind_among is_mistake kinds c.in-Err.error refl (c.answer_error.ensures.refused refused) c.in-Err.ensures, refl, c.answer_error.ensures.quiet (λ done. omega (arith, refused, done)))

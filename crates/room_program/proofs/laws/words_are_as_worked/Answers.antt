@@ -1,0 +1,14 @@
+use Rattle.room_program.proofs.WordExampleProofs.{taken_lem, bad_limit_lem, bad_word_lem, help_asked_lem}
+use Rattle.room_program.proofs.laws.words_are_as_worked.Goals as goal
+
+pub returns-clause-taken : goal.returns-clause-taken
+returns-clause-taken c = taken_lem
+
+pub returns-clause-bad_limit : goal.returns-clause-bad_limit
+returns-clause-bad_limit c = bad_limit_lem
+
+pub returns-clause-bad_word : goal.returns-clause-bad_word
+returns-clause-bad_word c = bad_word_lem
+
+pub returns-clause-help_asked : goal.returns-clause-help_asked
+returns-clause-help_asked c = help_asked_lem
