@@ -39,14 +39,17 @@ fn put_refuses_each_growth(rt: HostRuntime) -> Result<(), Fail> {
         let mut done = false;
         for growths in 0..20u64 {
             let element = node(&heap, 9).ok_or("range")?;
+            let given = format!(in rt.alloc(); "{element:?}")?;
             heap.set(growths);
             let answer = map.put(name, element);
             heap.set(u64::MAX);
-            if answer.is_ok() {
+            let Err((element, _)) = answer else {
                 done = true;
                 break;
-            }
+            };
             refused = refused.wrapping_add(1);
+            let back = format!(in rt.alloc(); "{element:?}")?;
+            assert_eq!(rt; back.as_str(), given.as_str(), "at growth {growths}");
             let after = format!(in rt.alloc(); "{map:?}")?;
             assert_eq!(rt; after.as_str(), before.as_str(), "at growth {growths}");
             assert!(rt; map.get(&name).is_none());
@@ -87,6 +90,7 @@ fn rows_refuse_each_growth(rt: HostRuntime) -> Result<(), Fail> {
         let _ = map.put(name, element);
     }
     let before = format!(in rt.alloc(); "{map:?}")?;
+    let wanted = format!(in rt.alloc(); "{:?}", map.rows(&heap)?)?;
     let mut refused = 0u64;
     let mut done = false;
     for growths in 0..40u64 {
@@ -94,7 +98,8 @@ fn rows_refuse_each_growth(rt: HostRuntime) -> Result<(), Fail> {
         let answer = map.rows(&heap);
         heap.set(u64::MAX);
         if let Ok(rows) = answer {
-            assert_eq!(rt; rows.as_slice().len(), 9);
+            let text = format!(in rt.alloc(); "{rows:?}")?;
+            assert_eq!(rt; text.as_str(), wanted.as_str());
             done = true;
             break;
         }

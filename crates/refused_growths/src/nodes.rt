@@ -11,7 +11,7 @@ fn push_refuses_each_growth(rt: HostRuntime) -> Result<(), Fail> {
     let mut refused = 0u64;
     for id in 1..40i64 {
         let name = Name::new(Kind::Node, id).ok_or("zero")?;
-        let before = nodes.len();
+        let before = format!(in rt.alloc(); "{nodes:?}")?;
         let mut done = false;
         for growths in 0..9u64 {
             heap.set(growths);
@@ -22,7 +22,8 @@ fn push_refuses_each_growth(rt: HostRuntime) -> Result<(), Fail> {
                 break;
             }
             refused = refused.wrapping_add(1);
-            assert_eq!(rt; nodes.len(), before, "at growth {growths}");
+            let after = format!(in rt.alloc(); "{nodes:?}")?;
+            assert_eq!(rt; after.as_str(), before.as_str(), "at growth {growths}");
         }
         assert!(rt; done, "never with memory");
         assert_eq!(rt; nodes.names().last(), Some(&name));
