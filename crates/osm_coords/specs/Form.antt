@@ -1,4 +1,4 @@
--- The form of a coordinate's text, by its parts. 45 is `-`, and 46 is `.`.
+-- The form of a coordinate's text, by its parts, which is this project's rule. 45 is `-`, and 46 is `.`.
 use Rattle.std.specs.Prelude.{◌≡◌, ◌⊎◌, ℕ, ℤ, pos, neg_ℤ, ◌+◌, ◌*◌, IsTrue, List, ◌∷◌, ◌++◌}
 use Rattle.std.specs.Str.Parse.{digits_value}
 use Rattle.osm_coords.specs.Coordinate.{is_numeral, filled}

@@ -1,4 +1,4 @@
--- The order of names.
+-- The order of names, which is this project's.
 use Rattle.std.specs.Ordering.{nat_cmp, int_cmp, on, then_cmp}
 use Rattle.std.specs.declared.cmp.Ordering.{Ordering}
 use Rattle.osm_elements.specs.declared.name.Name.{Name}

@@ -1,4 +1,4 @@
--- The one text of a name, and the name of a text.
+-- The one text of a name, and the name of a text, which are this project's.
 use Rattle.std.specs.Prelude.{◌≢◌, ◌^◌, ◌&&◌, ℕ, Bool, true, false, not, T, List, [], ◌∷◌, Option, Some, None, ℤ, pos, negsuc, nat_eq, nat_lt, if◌then◌else◌}
 use Rattle.std.specs.Fmt.{signed_decimal}
 use Rattle.std.specs.Ordering.{int_eq}

@@ -1,4 +1,4 @@
--- The nodes of a way.
+-- The nodes of a way. (OpenStreetMap wiki, "Elements": a way is an ordered list of nodes.)
 use Rattle.std.specs.Prelude.{◌≡◌, List, All}
 use Rattle.osm_elements.specs.declared.name.Name.{Name}
 use Rattle.osm_elements.specs.declared.name.Kind.TheVariants.{Node}

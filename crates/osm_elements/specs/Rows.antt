@@ -1,4 +1,4 @@
--- A map of elements as its rows in name order.
+-- A map of elements as its rows in name order. (OpenStreetMap wiki, "Elements": each kind has its own ids.)
 use Rattle.std.specs.Prelude.{◌≡◌, T, Option, List, All}
 use Rattle.std.specs.Map.{lookup, remove_entry}
 use Rattle.std.specs.BTreeMap.{insert_entry, is_at}

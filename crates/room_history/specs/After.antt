@@ -1,4 +1,4 @@
--- The map after an action that was accepted, over all rows at once.
+-- The map after an action that was accepted, over all rows at once. (The rules of a room are this project's.)
 use Rattle.osm_elements.specs.Rows.{put_row}
 use Rattle.room_history.specs.declared.action.Action.{Action}
 use Rattle.room_history.specs.declared.action.Action.TheVariants.{Create, Delete}

@@ -1,4 +1,4 @@
--- The journal: entries numbered from 1, and which of them stand.
+-- The journal: entries numbered from 1, and which of them stand. (The rules of a room are this project's.)
 use Rattle.std.specs.Prelude.{◌&&◌, ◌+◌, ℕ, suc, zero, Bool, true, false, not, List, [], ◌∷◌, Option, Some, None, reverse, nat_eq, slice_get, if◌then◌else◌}
 use Rattle.std.specs.List.{filter, list_any}
 use Rattle.std.specs.Option.{option_and_then}

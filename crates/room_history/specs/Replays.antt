@@ -1,4 +1,4 @@
--- The map of a journal, by folding each entry's changes from the base; and the replay of a list of actions.
+-- The map of a journal, by folding each entry's changes from the base; and the replay of a list of actions. (The rules of a room are this project's.)
 use Rattle.std.specs.Prelude.{◌++◌, List, [], ◌∷◌, Option, Some, None, is_none, if◌then◌else◌}
 use Rattle.std.specs.List.{fold, filter_map}
 use Rattle.std.specs.Option.{option_map_or}

@@ -1,4 +1,4 @@
--- What is written for lines: the reply to each, and a line feed.
+-- What is written for lines: the reply to each, and a line feed. (This project's.)
 use Rattle.std.specs.Prelude.{ℕ, List, [], ◌∷◌, ◌++◌}
 use Rattle.room_program.specs.Lines.{lines}
 

@@ -38,9 +38,10 @@ use std::alloc::Global;
 ///
 /// A whole number is one that is written without a point and an exponent and fits 64 bits, and is not
 /// `-0`. Of members with the same key the last counts, `null` is a value, and members that no message
-/// has are ignored. The faults from `UnknownDo` on carry the id that was read, and the others the id 0.
+/// has are ignored. `UnknownDo` and `BadField` carry the id that was read, and the faults before them the id 0.
 ///
-/// `Memory` stands in the place of any other answer where a growth was refused. The time is linear in
+/// `Memory` stands in the place of any other answer where a growth was refused, under the id if that was read
+/// before, or else under 0. The time is linear in
 /// the length of the text, but for the tags, whose number is limited.
 pub fn read_request(alloc: Global, text: &str) -> Result<Incoming, Bad>
     ensures exact { GivesMessage result (spells text.now) }
