@@ -1,4 +1,4 @@
--- Which texts are refused. (The limit of 255 Unicode characters is this project's, as OpenStreetMap API v0.6 has one.)
+-- Which texts are refused. (The limit of 255 Unicode characters is this project's.)
 use Rattle.std.specs.Prelude.{ℕ, Bool, List, length, Option, Some, None, if◌then◌else◌, nat_lt}
 use Rattle.std.specs.Str.{chars}
 use Rattle.osm_elements.specs.declared.fault.TextFault.{TextFault}
