@@ -39,6 +39,24 @@ impl<A: Allocator> Nodes<A> {
         }
     }
 
+    /// Takes the names of a vector, each of kind node, and gives them as a list, in their order. It takes no
+    /// memory.
+    pub fn from_vec(names: Vec<Name, A>) -> Nodes<A>
+        requires { AreNodes names.items }
+        ensures { result ≡ names.items }
+    {
+        Nodes { names }
+    }
+
+    /// Gives the names back as a vector, in their order, each of kind node. It takes no memory.
+    pub fn into_vec(self) -> Vec<Name, A>
+        ensures names { result.items ≡ self }
+        ensures nodes { AreNodes self }
+    {
+        let Nodes { names } = self;
+        names
+    }
+
     /// How many names there are.
     pub fn len(&self) -> usize
         ensures { result ≡ length self.now }

@@ -178,6 +178,20 @@ fn a_map_lists_its_rows_in_name_order(rt: HostRuntime) -> Result<(), Fail> {
 }
 
 #[test]
+fn nodes_are_made_of_names_and_give_them_back(rt: HostRuntime) -> Result<(), Fail> {
+    let (first, second) = (name(Kind::Node, -1)?, name(Kind::Node, 2)?);
+    let wanted = [second, first, second];
+    let mut names = Vec::new(rt.alloc());
+    names.push(second)?;
+    names.push(first)?;
+    names.push(second)?;
+    let nodes = Nodes::from_vec(names);
+    assert_eq!(rt; nodes.names(), wanted.as_slice());
+    assert_eq!(rt; nodes.into_vec().as_slice(), wanted.as_slice());
+    Ok(())
+}
+
+#[test]
 fn a_put_over_a_name_answers_the_old_element(rt: HostRuntime) -> Result<(), Fail> {
     let alloc = rt.alloc();
     let place = name(Kind::Node, -1)?;

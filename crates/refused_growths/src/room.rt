@@ -4,8 +4,8 @@ use osm_elements::name::{Kind, Name};
 use refusing::Refusing;
 use room_history::action::Action;
 use room_history::author::Author;
-use room_history::call::{Call, Request};
-use room_history::reply::Reply;
+use room_history::call::{Call, Calls, Request};
+use room_history::reply::{Replies, Reply};
 use room_history::room::Room;
 use room_history::run::run;
 use std::alloc::Global;
@@ -115,7 +115,11 @@ fn a_run_has_memory(rt: HostRuntime) -> Result<(), Fail> {
     for step in 0..STEPS {
         calls.push(call(&heap, step)?)?;
     }
+    let calls = Calls::from_vec(calls);
+    assert_eq!(rt; calls.as_slice().len(), STEPS);
     let (room, replies) = run(&heap, 5, calls)?;
+    assert!(rt; replies.as_slice() == &ANSWERS[..], "{replies:?}");
+    let replies = Replies::from_vec(replies.into_vec());
     assert!(rt; replies.as_slice() == &ANSWERS[..], "{replies:?}");
     assert_eq!(rt; room.front(), 5);
     let first = Name::new(Kind::Node, 1).ok_or("zero")?;

@@ -1,5 +1,9 @@
 //! What a room answers.
+ghost use Rattle.std.specs.Prelude.{◌≡◌};
+
 use crate::refusal::Refusal;
+use std::alloc::Allocator;
+use std::marker::Model;
 
 /// The answer to a call. After each of those from `Repeat` on the room is as it was before the call.
 #[derive(Clone, Copy, Debug, PartialEq, Eq)]
@@ -40,4 +44,45 @@ pub enum Reply {
     Refused(Refusal),
     /// A growth was refused.
     Memory,
+}
+
+/// A list of replies, in the order of the calls that they answer.
+#[derive(Drop)]
+#[derive_where(Debug)]
+pub struct Replies<A: Allocator> {
+    replies: Vec<Reply, A>,
+}
+
+// Replies are seen as the list of them.
+impl<A: Allocator> Model for Replies<A> {
+    ghost use Rattle.std.specs.Prelude.{List};
+    ghost use Rattle.room_history.specs.declared.reply.Reply.{Reply};
+
+    ghost Value = { List Reply };
+
+    ghost view = { λ r. r.replies.items };
+}
+
+impl<A: Allocator> Replies<A> {
+    /// Takes the replies of a vector and gives them as a list, in their order. It takes no memory.
+    pub fn from_vec(replies: Vec<Reply, A>) -> Replies<A>
+        ensures { result ≡ replies.items }
+    {
+        Replies { replies }
+    }
+
+    /// Gives the replies back as a vector, in their order. It takes no memory.
+    pub fn into_vec(self) -> Vec<Reply, A>
+        ensures { result.items ≡ self }
+    {
+        let Replies { replies } = self;
+        replies
+    }
+
+    /// The replies as a slice, in their order. It takes no memory.
+    pub fn as_slice(&self) -> &[Reply]
+        ensures { result.now ≡ self.now }
+    {
+        &self.replies
+    }
 }

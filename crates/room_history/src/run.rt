@@ -1,27 +1,30 @@
 //! A run of calls.
-ghost use Rattle.std.specs.Prelude.{[], IfOk};
+ghost use Rattle.std.specs.Prelude.{◌≡◌, [], IfOk};
 ghost use Rattle.room_history.specs.Runs.{IsRun};
 
-use crate::call::Call;
-use crate::reply::Reply;
+use crate::call::Calls;
+use crate::reply::Replies;
 use crate::room::Room;
 use osm_elements::Memory;
 use std::alloc::Allocator;
 
-/// Opens a room whose journal takes at most `limit` entries, and answers the calls in turn: the room after
-/// the last of them, and as many replies as calls. Each reply is the one that the definitions give, or
-/// `Memory` with the room as it was. The one refusal of the whole is want of memory for the replies.
+/// Opens a room with an empty map, whose journal takes at most `limit` entries, and answers the calls in turn:
+/// gives the room after the last of them, and as many replies as calls. Each reply is the one that the definitions
+/// give, or `Memory` with the room as it was. The one refusal of the whole is want of memory for the replies.
 pub fn run<A: Allocator + Copy>(
     alloc: A,
     limit: u32,
-    calls: Vec<Call<A>, A>,
-) -> Result<(Room<A>, Vec<Reply, A>), Memory>
-    ensures { IfOk result (λ run. IsRun [] limit [] calls.items run.1.items run.0.journal) }
+    calls: Calls<A>,
+) -> Result<(Room<A>, Replies<A>), Memory>
+    ensures run { IfOk result (λ run. IsRun [] limit [] calls run.1 run.0.journal) }
+    ensures limit { IfOk result (λ run. run.0.limit ≡ limit) }
+    ensures base { IfOk result (λ run. run.0.base ≡ []) }
 {
     let mut room = Room::open(alloc, limit);
+    let calls = calls.into_vec();
     let mut replies = Vec::with_capacity(alloc, calls.len())?;
     for call in calls {
         replies.push(room.take(call))?;
     }
-    Ok((room, replies))
+    Ok((room, Replies::from_vec(replies)))
 }

@@ -13,7 +13,7 @@ nothing_left (x ∷ xs) e = absurd (omega arith)
 
 pub loop-call-init : goal.loop-call-init
 loop-call-init g c = record {
-  all = c.into_iter-call-iterator.ensures.into_iter_gives.0;
+  all = c.into_iter-call-iterator.ensures.into_iter_gives.0 ∙ c.into_vec-calls.ensures;
   base = ap (λ s. s.base) c.open-room.ensures;
   limit = ap (λ s. s.limit) c.open-room.ensures;
   run = empty_run c.args.limit c.in_ok-replies.replies.items c.open-room.result.journal c.in_ok-replies.ensures.items (ap (λ s. s.journal) c.open-room.ensures);
@@ -32,10 +32,10 @@ loop-call-preserved g c =
           (rw (← i.base, ← i.limit) c.take.ensures.step) (rw (← base, ← limit) c.take.ensures.holds));
     }
 
-pub returns : goal.returns
-returns g c =
+pub returns-clause-run : goal.returns-clause-run
+returns-clause-run g c =
     let i = c.loop-call.invariant in
     let none : length (into_iter_items c.loop-call.call-iterator) ≡ 0 = search rules in
     let empty : into_iter_items c.loop-call.call-iterator ≡ [] = nothing_left (into_iter_items c.loop-call.call-iterator) none in
     let all = sym (append-nil c.loop-call.yielded) ∙ ap (λ cs. c.loop-call.yielded ++ cs) (sym empty) ∙ i.all in
-    rw (← all) i.run
+    rw (← all, c.from_vec.ensures) i.run

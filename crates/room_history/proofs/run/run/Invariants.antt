@@ -5,7 +5,7 @@ use Rattle.room_history.proofs.run.run.Given as goal
 
 abbrev pub invariant-loop-call : goal.invariant-loop-call
 invariant-loop-call g l = record {
-  all : l.yielded ++ into_iter_items l.call-iterator ≡ l.fn.calls.items;
+  all : l.yielded ++ into_iter_items l.call-iterator ≡ l.fn.calls;
   base : l.room.base ≡ [];
   limit : l.room.limit ≡ l.fn.limit;
   run : IsRun [] l.fn.limit [] l.yielded l.replies.items l.room.journal;
