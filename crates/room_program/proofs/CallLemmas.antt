@@ -11,9 +11,19 @@ module _ {S : Type 0} (gets : S → Result ℕ Failed → S → Type 0) where
   allowed (suc d) n (suc m) before after e h = inl (allowed d n m before after (omega arith) h)
 
   counted : (n : ℕ) (before after : S) → Gets gets n before after → GetsAtMost gets n before after
-  unfolding GetsAtMost
+  unfolding GetsAtMost Gets
   counted zero before after h = h
   counted (suc n) before after h = inr (h.0, Ok h.1, counted n before h.0 h.2, h.3)
+
+  -- no call leads to the same state
+  pub no_gets : (state : S) → Gets gets 0 state state
+  unfolding Gets
+  no_gets state = refl
+
+  -- and one more leads on
+  pub next_gets : (n count : ℕ) (before between after : S) → Gets gets n before between → gets between (Ok count) after → Gets gets (suc n) before after
+  unfolding Gets
+  next_gets n count before between after made last = (between, count, made, last)
 
   nothing : (state : S) → GetsAtMost gets 0 state state
   unfolding GetsAtMost

@@ -8,3 +8,4 @@ pub mod WordLemmas
 pub mod WordWalks
 pub mod LimitLemmas
 pub mod CallLemmas
+pub mod BlockLemmas

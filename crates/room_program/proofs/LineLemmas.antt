@@ -96,3 +96,7 @@ splits bs n h = (
 
 pub splits-not : (bs : List ℕ) → IsFirstByte (is_byte 10) bs None → IsLine bs
 splits-not bs h = IsLine-from_places bs (λ k lt e. h k (omega arith) lt (eq-eqb (get_or bs k 0) 10 e))
+
+-- what comes after a line is shorter
+pub after_shorter : (rest line after : List ℕ) → rest ≡ line ++ 10 ∷ after → length after < length rest
+after_shorter rest line after split = rw split (omega (arith, length-append line (10 ∷ after)))

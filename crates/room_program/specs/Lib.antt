@@ -3,6 +3,7 @@ pub mod Lines
 pub mod Scripts
 pub mod Runs
 pub mod Streams
+pub mod Faults
 pub mod LineAnswers
 pub mod LineReplies
 pub mod Words

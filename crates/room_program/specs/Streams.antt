@@ -6,7 +6,7 @@ use Rattle.room_program.specs.Lines.{ended}
 use Rattle.room_program.specs.Scripts.{Loss}
 
 -- so many calls, each answered with a count, lead from one state of a reader to another
-abbrev pub Gets : {S : Type 0} → (S → Result ℕ Failed → S → Type 0) → ℕ → S → S → Type 0
+unfoldable pub Gets : {S : Type 0} → (S → Result ℕ Failed → S → Type 0) → ℕ → S → S → Type 0
 Gets gets zero before after = after ≡ before
 Gets {S} gets (suc n) before after = (between : S) × (count : ℕ) × Gets gets n before between × gets between (Ok count) after
 

@@ -2,7 +2,8 @@
 ghost use Rattle.std.specs.Prelude.{◌≡◌, ◌≢◌, ◌≤◌, ◌⊎◌, [], IfOk, MatchResult, false, map, true};
 ghost use Rattle.clap.specs.Words.{HasKind, app_of, kind_of};
 ghost use Rattle.room_program.specs.LineAnswers.{script};
-ghost use Rattle.room_program.specs.Streams.{WritesAll, WritesFront};
+ghost use Rattle.room_program.specs.Faults.{Takes, fault_line};
+ghost use Rattle.room_program.specs.Streams.{Gets, TookNone, WritesAll, WritesFront};
 ghost use Rattle.room_program.specs.Words.{IsTaken, asks_for_help, faults, has_mistake, is_mistake, is_request};
 ghost use Rattle.room_program.specs.Words.{limit_asked, program_app};
 
@@ -59,6 +60,13 @@ pub fn command<R: AllocGlobal, T: AsStr, S: Source, W: Sink, E: Sink>(
         (S.left input.old) (S.left input.new) (W.taken output.old) (W.taken output.new))
         ⊎ ((input.new ≡ input.old) × (output.new ≡ output.old)) }
 
+    // A fault is told by its line, and it is one that there was. Nothing is told of a run that is done.
+    ensures told { result ≡ FAILED → (fault : ReplayFault)
+        × Takes E.taken E.has_failed E.puts errors.old errors.new (fault_line fault)
+        × (fault ≡ ReplayFault.Read → (S.has_failed input.new ≡ true) ⊎ Gets S.gets MOST_READS input.old input.new)
+        × (fault ≡ ReplayFault.Write → (W.has_failed output.new ≡ true) ⊎ TookNone W.puts output.new) }
+    ensures silent { result ≡ DONE → errors.new ≡ errors.old }
+
     // The words have a mistake, and nothing was read, and nothing written to the output.
     ensures refused { result ≡ REFUSED → (has_mistake (map T.text words.now) ≡ true)
         × (input.new ≡ input.old) × (output.new ≡ output.old) }
@@ -86,6 +94,11 @@ fn run<S: Source, W: Sink, E: Sink>(
         (S.left input.old) (S.left input.new) (W.taken output.old) (W.taken output.new) }
     ensures failed { result ≡ FAILED → WritesFront (script limit)
         (S.left input.old) (S.left input.new) (W.taken output.old) (W.taken output.new) }
+    ensures told { result ≡ FAILED → (fault : ReplayFault)
+        × Takes E.taken E.has_failed E.puts errors.old errors.new (fault_line fault)
+        × (fault ≡ ReplayFault.Read → (S.has_failed input.new ≡ true) ⊎ Gets S.gets MOST_READS input.old input.new)
+        × (fault ≡ ReplayFault.Write → (W.has_failed output.new ≡ true) ⊎ TookNone W.puts output.new) }
+    ensures silent { result ≡ DONE → errors.new ≡ errors.old }
 {
     match replay(alloc, input, output, limit, MOST_READS) {
         Ok(()) => DONE,
@@ -144,15 +157,22 @@ Such a line: anna {\"id\":1,\"do\":\"create\",\"el\":\"n1\",\"lat\":\"51.5\",\"l
 // Tells a fault.
 fn fail<E: Sink>(errors: &mut E, fault: ReplayFault) -> u8
     requires { E.has_failed errors.old ≡ false }
-    ensures { result ≡ FAILED }
+    ensures failed { result ≡ FAILED }
+    ensures told { Takes E.taken E.has_failed E.puts errors.old errors.new (fault_line fault) }
 {
-    let line = match fault {
+    let _ = put_all(errors, line_of(fault).as_bytes());
+    FAILED
+}
+
+// The line that tells a fault.
+fn line_of(fault: ReplayFault) -> &'static str
+    ensures { result.now ≡ fault_line fault }
+{
+    match fault {
         ReplayFault::Read => "maproom: read failed\n",
         ReplayFault::Write => "maproom: write failed\n",
         ReplayFault::Memory => "maproom: no memory\n",
-    };
-    let _ = put_all(errors, line.as_bytes());
-    FAILED
+    }
 }
 
 // Writes what the reading of the words answered in the place of a limit.
@@ -168,6 +188,9 @@ fn answer_error<W: Sink, E: Sink>(
     ensures quiet { result ≢ DONE → output.new ≡ output.old }
     ensures shown { result ≡ DONE → is_request (kind_of error.now) ≡ true }
     ensures refused { result ≡ REFUSED → is_mistake (kind_of error.now) ≡ true }
+    ensures told { result ≡ FAILED
+        → Takes E.taken E.has_failed E.puts errors.old errors.new (fault_line ReplayFault.Memory) }
+    ensures silent { result ≡ DONE → errors.new ≡ errors.old }
 {
     if error.kind() == ErrorKind::OutOfMemory {
         return fail(errors, ReplayFault::Memory);

@@ -1,5 +1,5 @@
 //! A room that is run from a stream of lines to a stream of replies.
-ghost use Rattle.std.specs.Prelude.{◌≡◌, ◌≢◌, ◌++◌, ◌⊎◌, ℕ, List, [], ◌∷◌, true, false, OnOk, OnErr, Err, ◌<◌, length};
+ghost use Rattle.std.specs.Prelude.{◌≡◌, ◌≢◌, ◌++◌, ◌⊎◌, ℕ, List, [], ◌∷◌, true, false, IfOk, OnOk, OnErr, Err, ◌<◌, length};
 ghost use Rattle.std.specs.Io.KnownBytes.{Appends};
 ghost use Rattle.room_program.specs.Lines.{IsLine};
 ghost use Rattle.room_program.specs.Scripts.{Loss, script_of};
@@ -88,29 +88,34 @@ fn answer_line<A: Answers>(
     Ok(())
 }
 
-// Answers each line that ends in the block, and holds what comes after them.
-fn answer_lines<A: Answers>(
+// Answers the lines that end in the block until their replies fill a block themselves, and gives what is left. Where
+// the lines come to their end first, what comes after the last is held, and nothing is left.
+fn answer_lines<'a, A: Answers>(
     alloc: Global,
     answers: &mut A,
     begun: &mut Vec<u8>,
-    block: &[u8],
+    block: &'a [u8],
     replies: &mut Vec<u8>,
-) -> Result<(), Memory>
+) -> Result<&'a [u8], Memory>
     requires held { IsLine begun.old.items }
     requires empty { replies.old.items ≡ [] }
-    ensures ok { OnOk result (AnswersFront A.answered answers.old (begun.old.items ++ block.now)
-        replies.new.items begun.new.items answers.new) }
+    ensures ok { IfOk result (λ rest. AnswersFront A.answered answers.old (begun.old.items ++ block.now)
+        replies.new.items (begun.new.items ++ rest.now) answers.new) }
     ensures held { OnOk result (IsLine begun.new.items) }
+    ensures less { IfOk result (λ rest. (rest.now ≡ []) ⊎ (length rest.now < length block.now)) }
     ensures some { AnswersSome A.answered answers.old (begun.old.items ++ block.now)
         replies.new.items }
 {
     let mut rest = block;
-    while let Some((line, after)) = split_line(rest) {
+    while replies.len() < BLOCK {
+        let Some((line, after)) = split_line(rest) else {
+            begun.extend_from_slice(rest)?;
+            return Ok(&[]);
+        };
         answer_line(alloc, answers, begun, line, replies)?;
         rest = after;
     }
-    begun.extend_from_slice(rest)?;
-    Ok(())
+    Ok(rest)
 }
 
 // Answers each line that ends in the block, writes the replies, and holds what comes after the last.
@@ -137,9 +142,13 @@ fn answer_block<A: Answers, W: Sink>(
         → (W.has_failed writer.new ≡ true) ⊎ TookNone W.puts writer.new }
 {
     let mut replies = Vec::new(alloc);
-    let answered = answer_lines(alloc, answers, begun, block, &mut replies);
-    put_all(writer, replies.as_slice())?;
-    answered?;
+    let mut rest = block;
+    while !rest.is_empty() {
+        let answered = answer_lines(alloc, answers, begun, rest, &mut replies);
+        put_all(writer, replies.as_slice())?;
+        replies.clear();
+        rest = answered?;
+    }
     Ok(())
 }
 
@@ -190,12 +199,13 @@ fn replay_blocks<A: Answers, S: Source, W: Sink>(
 /// writes the reply to each line and a line feed.
 ///
 /// A line is an author's name, a space and a message; a line feed ends it, or the end of the stream. The stream is
-/// read in blocks, and the replies to the lines of a block are written before the next is read. After a fault the
-/// lines that were answered stay answered, and what was written of their replies stays written.
+/// read in blocks, and the replies to the lines of a block are written before the next is read, or as soon as they fill
+/// a block themselves. After a fault the lines that were answered stay answered, and what was written of their replies
+/// stays written.
 ///
 /// - `Read`: the reader failed, or `reads` reads were used up.
 /// - `Write`: the writer failed, or took no byte of those that were left.
-/// - `Memory`: a line could not be held, or the text of a reply or the replies to a block's lines could not be made.
+/// - `Memory`: a line could not be held, or the text of a reply, or a block of replies, could not be made.
 pub fn replay<S: Source, W: Sink>(
     alloc: Global,
     reader: &mut S,

@@ -160,6 +160,32 @@ fn a_line_of_a_megabyte(rt: HostRuntime) -> Result<(), Fail> {
 }
 
 #[test]
+fn replies_of_more_than_a_block(rt: HostRuntime) -> Result<(), Fail> {
+    let alloc = rt.alloc();
+    let (mut input, mut replies) = (Vec::new(alloc), Vec::new(alloc));
+    for _ in 0..4500 {
+        input.extend_from_slice(b"a {\"do\":1}\n")?;
+        replies.extend_from_slice(b"{\"id\":0,\"no\":{\"why\":\"bad_id\"}}\n")?;
+    }
+    // The replies to one block are written in three parts.
+    for piece in [1000, ALL] {
+        let mut reader = Pieces::new(&input, piece, false);
+        let mut writer = Taker::new(alloc, ALL, ALL);
+        let ended = replay(alloc, &mut reader, &mut writer, 9, 1000);
+        assert_eq!(rt; ended, Ok(()), "at {piece}");
+        assert!(rt; writer.taken == replies, "at {piece}");
+    }
+    // A writer that fails within the second part has taken what came before.
+    let mut reader = Pieces::new(&input, ALL, false);
+    let mut writer = Taker::new(alloc, ALL, 100_000);
+    let ended = replay(alloc, &mut reader, &mut writer, 9, 1000);
+    assert_eq!(rt; ended, Err(ReplayFault::Write));
+    assert!(rt; replies.starts_with(&writer.taken));
+    assert_eq!(rt; writer.taken.len(), 100_000);
+    Ok(())
+}
+
+#[test]
 fn bad_commands(rt: HostRuntime) -> Result<(), Fail> {
     let cases: [&[&str]; 6] = [
         &["maproom"],

@@ -1,5 +1,7 @@
 -- An error's kind stands among those that the words can be answered by.
-use Rattle.std.proofs.Common.{arith, inr, refl, map}
+use Rattle.std.proofs.Common.{Bool, true, false, true≢false, ap, arith, inr, refl, map}
+use Rattle.room_program.specs.declared.replay.ReplayFault.{ReplayFault}
+use Rattle.room_program.specs.declared.replay.ReplayFault.TheVariants.{Memory}
 use Rattle.room_program.specs.Words.{faults, is_mistake, is_request}
 use Rattle.room_program.proofs.WordLemmas.{kind_among}
 use Rattle.room_program.proofs.command.command.Goals as goal
@@ -13,3 +15,12 @@ pub returns-in-Err-clause-refused : goal.returns-in-Err-clause-refused
 returns-in-Err-clause-refused g c = λ refused.
     let kinds = faults (map g.T.AsStr.text c.args.words.now) in
     (kind_among is_mistake kinds c.in-Err.error refl (c.answer_error.ensures.refused refused) c.in-Err.ensures, refl, c.answer_error.ensures.quiet (λ done. omega (arith, refused, done)))
+
+abbrev is_memory : ReplayFault → Bool
+is_memory Memory = true
+is_memory _ = false
+
+-- want of memory is no fault of a stream
+pub returns-in-Err-clause-told : goal.returns-in-Err-clause-told
+returns-in-Err-clause-told g c = λ failed.
+    (Memory, c.answer_error.ensures.told failed, λ read. absurd (true≢false (ap is_memory read)), λ write. absurd (true≢false (ap is_memory write)))

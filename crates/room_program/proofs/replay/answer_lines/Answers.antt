@@ -1,19 +1,23 @@
 -- Each turn answers the next line.
-use Rattle.room_program.proofs.LineLemmas.{IsLine-append}
+use Rattle.std.proofs.Common.{inr, arith}
+use Rattle.room_program.proofs.LineLemmas.{IsLine-append, after_shorter}
 use Rattle.room_program.proofs.RunLemmas.{front-next}
 use Rattle.room_program.proofs.replay.answer_lines.Goals as goal
 
-pub loop-line-preserved : goal.loop-line-preserved
-loop-line-preserved g c =
-    let inv = c.loop-line.invariant in
+pub loop-alloc-preserved : goal.loop-alloc-preserved
+loop-alloc-preserved g c =
+    let inv = c.loop-alloc.invariant in
     let said = c.in_ok-answer_line.ensures.ok in
-    let none_held = c.in_ok-answer_line.ensures.none_held in (
-      front-next g.A.Answers.answered c.args.answers.now _ c.loop-line.replies.items c.loop-line.begun.items c.loop-line.rest.now c.in-Some.line.now c.in-Some.after.now said.1
-          c.answer_line.new.replies.items c.answer_line.new.begun.items c.loop-line.answers c.answer_line.new.answers said.0
-          inv.0 inv.1 c.in-Some.ensures.0 c.in-Some.ensures.1 said.2 said.3 none_held,
-      rw none_held tt,
-    )
+    let shorter = after_shorter c.loop-alloc.rest.now c.in-Some.line.now c.in-Some.after.now c.in-Some.ensures.1 in
+    let none_held = c.in_ok-answer_line.ensures.none_held in record {
+      front = front-next g.A.Answers.answered c.args.answers.now _ c.loop-alloc.replies.items c.loop-alloc.begun.items c.loop-alloc.rest.now c.in-Some.line.now c.in-Some.after.now said.1
+          c.answer_line.new.replies.items c.answer_line.new.begun.items c.loop-alloc.answers c.answer_line.new.answers said.0
+          inv.front inv.held c.in-Some.ensures.0 c.in-Some.ensures.1 said.2 said.3 none_held;
+      held = rw none_held tt;
+      within = omega (arith, shorter);
+      less = inr (omega (arith, shorter));
+    }
 
-pub returns-clause-held : goal.returns-clause-held
-returns-clause-held g c =
-    rw c.in_ok-extend_from_slice.ensures.items (IsLine-append c.loop-line.begun.items c.loop-line.rest.now c.loop-line.invariant.1 c.in_default.ensures)
+pub returns-in_default-clause-held : goal.returns-in_default-clause-held
+returns-in_default-clause-held g c =
+    rw c.in_ok-extend_from_slice.ensures.items (IsLine-append c.loop-alloc.begun.items c.loop-alloc.rest.now c.loop-alloc.invariant.held c.in_default.ensures)

@@ -1,11 +1,15 @@
-use Rattle.std.proofs.Common.{◌++◌, length}
+use Rattle.std.proofs.Common.{◌≡◌, ◌≤◌, ◌<◌, ◌⊎◌, ◌++◌, [], length}
 use Rattle.room_program.specs.Lines.{IsLine}
 use Rattle.room_program.specs.Runs.{AnswersFront}
 use Rattle.room_program.proofs.replay.answer_lines.Given as goal
 
-abbrev pub invariant-loop-line : goal.invariant-loop-line
-invariant-loop-line g l =
-    AnswersFront g.A.Answers.answered l.initial.answers (l.initial.begun.items ++ l.block) l.replies.items (l.begun.items ++ l.rest) l.answers × IsLine l.begun.items
+abbrev pub invariant-loop-alloc : goal.invariant-loop-alloc
+invariant-loop-alloc g l = record {
+  front : AnswersFront g.A.Answers.answered l.initial.answers (l.initial.begun.items ++ l.block) l.replies.items (l.begun.items ++ l.rest) l.answers;
+  held : IsLine l.begun.items;
+  within : length l.rest ≤ length l.block;
+  less : (l.replies.items ≡ []) ⊎ (length l.rest < length l.block);
+}
 
-abbrev pub decreases-loop-line : goal.decreases-loop-line
-decreases-loop-line g l = length l.rest
+abbrev pub decreases-loop-alloc : goal.decreases-loop-alloc
+decreases-loop-alloc g l = length l.rest

@@ -5,8 +5,8 @@ use Rattle.std.proofs.lemmas.Result.{on_err_weaker}
 use Rattle.room_program.specs.Streams.{Gets}
 use Rattle.room_program.proofs.StreamLemmas.{on_err, Keeps-from_none}
 use Rattle.room_program.proofs.LineLemmas.{nil-from_length}
-use Rattle.room_program.proofs.CallLemmas.{one_more, calls_made}
-use Rattle.room_program.proofs.ProgressLemmas.{progress-block, progress-kept, progress-ended, progress-front, progress-all, progress-last, progress-stopped, progress-stopped_last}
+use Rattle.room_program.proofs.CallLemmas.{no_gets, next_gets, one_more, calls_made}
+use Rattle.room_program.proofs.ProgressLemmas.{progress-none, progress-block, progress-kept, progress-ended, progress-front, progress-all, progress-last, progress-stopped, progress-stopped_last}
 use Rattle.room_program.proofs.replay.replay_blocks.Goals as goal
 
 -- what both clauses say of an answer
@@ -80,7 +80,7 @@ pub loop-preserved : goal.loop-preserved
 loop-preserved g c =
     let inv = c.loop.invariant in
     let said = c.in_ok-answer_block.ensures.ok in
-    let more : Gets g.S.Source.gets (suc c.loop.counter) c.args.reader.now c.get.new.self = (c.loop.reader, c.in-Ok.count, inv.gets, c.in-Ok.ensures.gets) in
+    let more : Gets g.S.Source.gets (suc c.loop.counter) c.args.reader.now c.get.new.self = next_gets g.S.Source.gets c.loop.counter c.in-Ok.count c.args.reader.now c.loop.reader c.get.new.self inv.gets c.in-Ok.ensures.gets in
     record {
       progress = progress-block _ _ _ _ _ _ _ _ inv.progress (g.S.Source.left c.get.new.self) (g.W.Sink.taken c.answer_block.new.writer) (take c.in-Ok.count c.get.new.buffer) said.0 c.answer_block.new.begun.items c.answer_block.new.answers
           c.in-Ok.ensures.bytes.0 said.1 said.2;
@@ -98,3 +98,12 @@ returns-clause-front g c = progress-front _ _ _ _ _ _ _ _ c.loop.invariant.progr
 
 pub returns-clause-calls : goal.returns-clause-calls
 returns-clause-calls g c = calls_made g.S.Source.gets c.loop.counter _ _ _ (omega arith) c.loop.invariant.gets
+
+pub loop-init : goal.loop-init
+loop-init g c = record {
+  progress = rw c.new-begun.ensures.items (progress-none g.A.Answers.answered c.args.answers.now (g.S.Source.left c.args.reader.now) (g.W.Sink.taken c.args.writer.now));
+  held = rw c.new-begun.ensures.items tt;
+  reader_works = c.requires.reader_works;
+  writer_works = c.requires.writer_works;
+  gets = no_gets g.S.Source.gets c.args.reader.now;
+}
