@@ -1,24 +1,16 @@
 -- How far a block of lines has been answered, and what that says when it ends.
-use Rattle.std.proofs.Common.{ℕ, List, [], ◌++◌, Option, sym, subst, append_assoc}
+use Rattle.std.proofs.Common.{ℕ, List, ◌++◌, Option, sym, subst, append_assoc}
 use Rattle.std.specs.Io.KnownBytes.{Appends}
 use Rattle.room_program.specs.Scripts.{Loss}
 use Rattle.room_program.specs.Runs.{AnswersFront, AnswersSome}
-use Rattle.room_program.proofs.RunLemmas.{front-none, front-then}
-use Rattle.room_program.proofs.StreamLemmas.{Appends-none, Appends-then}
+use Rattle.room_program.proofs.RunLemmas.{front-then}
+use Rattle.room_program.proofs.StreamLemmas.{Appends-then}
 
 -- lines that the bytes begin with were answered and their replies written, and the rest is left
 pub record Written {R : Type 0} (answer : Loss → R → List ℕ → List ℕ × R) (start now : R) (bytes rest : List ℕ) (taken taken' : Option (List ℕ)) : Type 0 where
   pub text : List ℕ
   pub front : AnswersFront answer start bytes text rest now
   pub written : Appends taken taken' text
-
-pub written-none : {R : Type 0} (answer : Loss → R → List ℕ → List ℕ × R) (start : R) (bytes : List ℕ) (taken : Option (List ℕ)) →
-    Written answer start start bytes bytes taken taken
-written-none answer start bytes taken = record {
-  text = [];
-  front = front-none answer start bytes;
-  written = Appends-none taken;
-}
 
 module _ {R : Type 0} (answer : Loss → R → List ℕ → List ℕ × R) (start now : R) (bytes rest : List ℕ) (taken taken' : Option (List ℕ))
     (w : Written answer start now bytes rest taken taken') where

@@ -64,7 +64,8 @@ pub fn command<R: AllocGlobal, T: AsStr, S: Source, W: Sink, E: Sink>(
     ensures told { result ≡ FAILED → (fault : ReplayFault)
         × Takes E.taken E.has_failed E.puts errors.old errors.new (fault_line fault)
         × (fault ≡ ReplayFault.Read → (S.has_failed input.new ≡ true) ⊎ Gets S.gets MOST_READS input.old input.new)
-        × (fault ≡ ReplayFault.Write → (W.has_failed output.new ≡ true) ⊎ TookNone W.puts output.new) }
+        × (fault ≡ ReplayFault.Write → (W.has_failed output.new ≡ true) ⊎ TookNone W.puts output.new)
+        × (fault ≡ ReplayFault.Memory → (S.has_failed input.new ≡ false) × (W.has_failed output.new ≡ false)) }
     ensures silent { result ≡ DONE → errors.new ≡ errors.old }
 
     // The words have a mistake, and nothing was read, and nothing written to the output.
@@ -97,7 +98,8 @@ fn run<S: Source, W: Sink, E: Sink>(
     ensures told { result ≡ FAILED → (fault : ReplayFault)
         × Takes E.taken E.has_failed E.puts errors.old errors.new (fault_line fault)
         × (fault ≡ ReplayFault.Read → (S.has_failed input.new ≡ true) ⊎ Gets S.gets MOST_READS input.old input.new)
-        × (fault ≡ ReplayFault.Write → (W.has_failed output.new ≡ true) ⊎ TookNone W.puts output.new) }
+        × (fault ≡ ReplayFault.Write → (W.has_failed output.new ≡ true) ⊎ TookNone W.puts output.new)
+        × (fault ≡ ReplayFault.Memory → (S.has_failed input.new ≡ false) × (W.has_failed output.new ≡ false)) }
     ensures silent { result ≡ DONE → errors.new ≡ errors.old }
 {
     match replay(alloc, input, output, limit, MOST_READS) {

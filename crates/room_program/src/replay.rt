@@ -140,6 +140,7 @@ fn answer_block<A: Answers, W: Sink>(
     ensures not_read { result ≢ Err ReplayFault.Read }
     ensures write { result ≡ Err ReplayFault.Write
         → (W.has_failed writer.new ≡ true) ⊎ TookNone W.puts writer.new }
+    ensures memory { result ≡ Err ReplayFault.Memory → W.has_failed writer.new ≡ false }
 {
     let mut replies = Vec::new(alloc);
     let mut rest = block;
@@ -177,6 +178,8 @@ fn replay_blocks<A: Answers, S: Source, W: Sink>(
         → (S.has_failed reader.new ≡ true) ⊎ Gets S.gets reads reader.old reader.new }
     ensures why_write { result ≡ Err ReplayFault.Write
         → (W.has_failed writer.new ≡ true) ⊎ TookNone W.puts writer.new }
+    ensures why_memory { result ≡ Err ReplayFault.Memory
+        → (S.has_failed reader.new ≡ false) × (W.has_failed writer.new ≡ false) }
 {
     let mut begun = Vec::new(alloc);
     for _ in 0..reads {
@@ -237,6 +240,8 @@ pub fn replay<S: Source, W: Sink>(
         → (S.has_failed reader.new ≡ true) ⊎ Gets S.gets reads reader.old reader.new }
     ensures why_write { result ≡ Err ReplayFault.Write
         → (W.has_failed writer.new ≡ true) ⊎ TookNone W.puts writer.new }
+    ensures why_memory { result ≡ Err ReplayFault.Memory
+        → (S.has_failed reader.new ≡ false) × (W.has_failed writer.new ≡ false) }
 {
     let mut room = Room::open(alloc, limit);
     let mut block = vec![in alloc; 0u8; BLOCK]?;

@@ -1,5 +1,5 @@
 -- An error's kind stands among those that the words can be answered by.
-use Rattle.std.proofs.Common.{Bool, true, false, true≢false, ap, arith, inr, refl, map}
+use Rattle.std.proofs.Common.{Bool, true, false, true≢false, ap, ◌∙◌, arith, inr, refl, map}
 use Rattle.room_program.specs.declared.replay.ReplayFault.{ReplayFault}
 use Rattle.room_program.specs.declared.replay.ReplayFault.TheVariants.{Memory}
 use Rattle.room_program.specs.Words.{faults, is_mistake, is_request}
@@ -20,7 +20,13 @@ abbrev is_memory : ReplayFault → Bool
 is_memory Memory = true
 is_memory _ = false
 
--- want of memory is no fault of a stream
+-- want of memory is no fault of a stream, and no stream was touched
 pub returns-in-Err-clause-told : goal.returns-in-Err-clause-told
 returns-in-Err-clause-told g c = λ failed.
-    (Memory, c.answer_error.ensures.told failed, λ read. absurd (true≢false (ap is_memory read)), λ write. absurd (true≢false (ap is_memory write)))
+    let same = c.answer_error.ensures.quiet (λ done. omega (arith, failed, done)) in (
+      Memory,
+      c.answer_error.ensures.told failed,
+      λ read. absurd (true≢false (ap is_memory read)),
+      λ write. absurd (true≢false (ap is_memory write)),
+      λ memory. (c.requires.input_works, ap g.W.Sink.has_failed same ∙ c.requires.output_works),
+    )
