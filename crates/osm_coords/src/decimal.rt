@@ -13,6 +13,9 @@ const WHOLE_DIGITS: usize = 3;
 /// At most how many digits stand after the point.
 const DECIMALS: usize = 7;
 
+/// The length of the longest text of a coordinate, as `-180.0000000`, in bytes.
+pub const COORDINATE_LENGTH: usize = 12;
+
 /// The ten-millionths that a text says, or `None` where it does not have a coordinate's form.
 #[tactic(auto, using(crate::proofs::Numerals::coordinate_without_minus))]
 pub fn read(text: &str) -> Option<i64>
@@ -60,7 +63,7 @@ fn numeral(text: &str, most: usize) -> Option<u32>
 }
 
 /// Writes the text of a coordinate at the front of the buffer, and answers how many bytes it has.
-pub fn write(units: i32, buffer: &mut [u8; 12]) -> usize
+pub fn write(units: i32, buffer: &mut [u8; COORDINATE_LENGTH]) -> usize
     requires { unsigned_abs units ≤ 1800000000 }
     ensures fits { result ≤ 12 }
     ensures text { take result buffer.new ≡ written units }

@@ -4,7 +4,7 @@ ghost use Rattle.std.specs.Str.{IsAscii};
 ghost use Rattle.osm_coords.specs.Latitude.{latitude, latitude_of, IsLatitude};
 ghost use Rattle.osm_coords.specs.Written.{written};
 
-use crate::{decimal, range};
+use crate::{COORDINATE_LENGTH, decimal, range};
 use std::marker::Model;
 
 /// 90 degrees, in ten-millionths of a degree.
@@ -64,7 +64,7 @@ impl Lat {
     /// The text is a `-` where the value is negative, the degrees with no needless zero in front, a
     /// point, and exactly seven digits. The rest of the buffer stays as it was.
     #[tactic(auto, using(crate::proofs::ReadBack::written_is_ascii))]
-    pub fn write(&self, buffer: &mut [u8; 12]) -> usize
+    pub fn write(&self, buffer: &mut [u8; COORDINATE_LENGTH]) -> usize
         ensures fits { result ≤ 12 }
         ensures text { take result buffer.new ≡ written self.now }
         ensures ascii { IsAscii (take result buffer.new) }

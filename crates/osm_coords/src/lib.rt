@@ -17,5 +17,6 @@ mod range;
 #[cfg(test)]
 mod tests;
 
+pub use decimal::COORDINATE_LENGTH;
 pub use latitude::Lat;
 pub use longitude::Lon;
