@@ -1,9 +1,11 @@
 //! Tests that refuse each growth of a call in turn: after each refusal the object is as it was, and the same
-//! call with memory gives its answer.
+//! call with memory gives its answer, at its limits too.
 #![tactic(auto)]
 
 #[cfg(test)]
 mod copies;
+#[cfg(test)]
+mod limits;
 #[cfg(test)]
 mod map;
 #[cfg(test)]
