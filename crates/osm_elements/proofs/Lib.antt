@@ -1,6 +1,7 @@
 pub mod Buffers
 pub mod Examples
 pub mod Letters
+pub mod MadeElements
 pub mod MapRows
 pub mod TagPlaces
 pub mod TagSearch

@@ -1,5 +1,6 @@
 pub mod Elements
 pub mod Facts
+pub mod Made
 pub mod NameOrder
 pub mod NameTexts
 pub mod Names

@@ -1,11 +1,10 @@
 -- A map of elements as its rows in name order. (OpenStreetMap wiki, "Elements": each kind has its own ids.)
-use Rattle.std.specs.Prelude.{◌≡◌, T, Option, List, All}
+use Rattle.std.specs.Prelude.{T, Option, List}
 use Rattle.std.specs.Map.{lookup, remove_entry}
 use Rattle.std.specs.BTreeMap.{insert_entry, is_at}
 use Rattle.std.specs.FinMap.Entries.{is_sorted}
 use Rattle.osm_elements.specs.declared.name.Name.{Name}
 use Rattle.osm_elements.specs.declared.element.Element.{Element}
-use Rattle.osm_elements.specs.Elements.{kind_of}
 use Rattle.osm_elements.specs.NameOrder.{name_cmp}
 
 -- the element at a name
@@ -23,11 +22,3 @@ without_row rows name = remove_entry (is_at (name_cmp name)) rows
 -- the names rise
 abbrev pub AreInOrder : {A : Type 0} → List (Name × Element A) → Type 0
 AreInOrder rows = T (is_sorted name_cmp rows)
-
--- each element is of its name's kind
-abbrev pub AreOfTheirKinds : {A : Type 0} → List (Name × Element A) → Type 0
-AreOfTheirKinds rows = All (λ r. kind_of r.1 ≡ r.0.kind) rows
-
--- what holds of the rows of every map
-abbrev pub AreMapRows : {A : Type 0} → List (Name × Element A) → Type 0
-AreMapRows rows = AreInOrder rows × AreOfTheirKinds rows

@@ -1,5 +1,5 @@
 //! Elements of a map.
-ghost use Rattle.std.specs.Prelude.{◌≡◌, IfOk};
+ghost use Rattle.std.specs.Prelude.{◌≡◌, IfOk, true};
 
 use crate::Memory;
 use crate::name::Kind;
@@ -20,14 +20,36 @@ pub enum Element<A: Allocator> {
 
 impl<A: Allocator> Element<A> {
     ghost use Rattle.osm_elements.specs.Elements.{kind_of, tags_of};
+    ghost use Rattle.osm_elements.specs.Made.{is_made};
 
     /// What kind of element it is.
     pub fn kind(&self) -> Kind
-        ensures { result ≡ kind_of self.now }
+        ensures kind { result ≡ kind_of self.now }
+        // What holds of every element.
+        ensures made { is_made self.now ≡ true }
     {
+        self.keeps();
         match self {
             Element::Node { .. } => Kind::Node,
             Element::Way { .. } => Kind::Way,
+        }
+    }
+
+    // What the types of its parts keep. It does nothing.
+    #[tactic(auto, using(crate::proofs::MadeElements::made_node, crate::proofs::MadeElements::made_way))]
+    fn keeps(&self)
+        ensures { is_made self.now ≡ true }
+    {
+        match self {
+            Element::Node { lat, lon, tags } => {
+                let _ = lat.value();
+                let _ = lon.value();
+                let _ = tags.rows();
+            }
+            Element::Way { nodes, tags } => {
+                let _ = nodes.names();
+                let _ = tags.rows();
+            }
         }
     }
 

@@ -92,8 +92,8 @@ impl<A: Allocator> Rows<A> {
     }
 }
 
-/// A map of elements: at most one element has a name, and it is of the name's kind (OpenStreetMap wiki,
-/// "Elements"). A look-up or a change takes time logarithmic in the number of elements.
+/// A map of elements: at most one element has a name (OpenStreetMap wiki, "Elements"). It takes any row, also one
+/// whose element is of another kind than the name. A look-up or a change takes time logarithmic in the number of elements.
 #[derive(Drop)]
 #[derive_where(Debug)]
 pub struct OsmMap<A: Allocator> {
@@ -108,16 +108,15 @@ impl<A: Allocator> Model for OsmMap<A> {
 
     ghost Value = { List (Name × Element A) };
 
-    ghost use Rattle.osm_elements.specs.Rows.{AreMapRows};
+    ghost use Rattle.osm_elements.specs.Rows.{AreInOrder};
 
     ghost view = { λ m. m.elements.entries };
 
-    ghost invariant = { λ m. AreMapRows m.elements.entries };
+    ghost invariant = { λ m. AreInOrder m.elements.entries };
 }
 
 impl<A: Allocator> OsmMap<A> {
-    ghost use Rattle.osm_elements.specs.Elements.{kind_of};
-    ghost use Rattle.osm_elements.specs.Rows.{row_at, put_row, without_row, AreInOrder, AreOfTheirKinds};
+    ghost use Rattle.osm_elements.specs.Rows.{row_at, put_row, without_row, AreInOrder};
 
     /// A map with no element. It takes no memory.
     pub fn new(alloc: A) -> OsmMap<A>
@@ -133,7 +132,6 @@ impl<A: Allocator> OsmMap<A> {
         ensures len { result ≡ length self.now }
         // What holds of every map.
         ensures in_order { AreInOrder self.now }
-        ensures kinds { AreOfTheirKinds self.now }
     {
         self.elements.len()
     }
@@ -150,15 +148,13 @@ impl<A: Allocator> OsmMap<A> {
         ensures rest { result ≡ self.now }
         // What holds of every map.
         ensures in_order { AreInOrder self.now }
-        ensures kinds { AreOfTheirKinds self.now }
     {
         self.elements.iter()
     }
 
     /// The element with this name, or none.
     pub fn get(&self, name: &Name) -> Option<&Element<A>>
-        ensures value { option_copied result ≡ row_at self.now name.now }
-        ensures kind { IfSome result (λ e. kind_of e.now ≡ name.now.kind) }
+        ensures { option_copied result ≡ row_at self.now name.now }
     {
         self.elements.get(name)
     }
@@ -169,12 +165,11 @@ impl<A: Allocator> OsmMap<A> {
         ensures value { result ≡ row_at self.old name.now }
         ensures rest { self.new ≡ without_row self.old name.now }
         ensures in_order { AreInOrder self.old }
-        ensures kind { IfSome result (λ e. kind_of e ≡ name.now.kind) }
     {
         self.elements.remove(name)
     }
 
-    /// Gives a name an element of its kind, and answers the element that had the name before, or none.
+    /// Gives a name an element, and answers the element that had the name before, or none.
     /// A name that is there keeps its row, and that takes no memory. A new row is refused with `Memory`,
     /// which hands the element back, and the map is as before.
     pub fn put(
@@ -184,10 +179,8 @@ impl<A: Allocator> OsmMap<A> {
     ) -> Result<Option<Element<A>>, (Element<A>, Memory)>
     where
         A: Clone,
-        requires { kind_of element ≡ name.kind }
         ensures ok { IfOk result (λ old.
             (old ≡ row_at self.old name) × (self.new ≡ put_row self.old name element)) }
-        ensures old_kind { IfOk result (λ old. IfSome old (λ e. kind_of e ≡ name.kind)) }
         ensures err { IfErr result (λ e.
             (e.0 ≡ element) × (self.new ≡ self.old) × (row_at self.old name ≡ None)) }
     {
@@ -207,7 +200,6 @@ impl<A: Allocator> OsmMap<A> {
         A: Clone,
         ensures rows { IfOk result (λ r. r ≡ self.now) }
         ensures in_order { AreInOrder self.now }
-        ensures kinds { AreOfTheirKinds self.now }
     {
         let mut rows = Vec::new(alloc);
         for (name, element) in &self.elements {

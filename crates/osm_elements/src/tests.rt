@@ -1,8 +1,6 @@
 //! What no clause says: that each call that asks for memory succeeds where there is some, and answers
 //! as the sources of its rule say.
 ghost use Rattle.std.specs.Prelude.{◌≡◌, IfOk};
-ghost use Rattle.osm_elements.specs.Elements.{kind_of};
-ghost use Rattle.osm_elements.specs.declared.name.Kind.TheVariants as kinds;
 
 use crate::element::Element;
 use crate::fault::TextFault;
@@ -24,9 +22,7 @@ fn name(kind: Kind, id: i64) -> Result<Name, Fail>
     }
 }
 
-fn node(alloc: Global, lat: i32, lon: i32) -> Result<Element<Global>, Fail>
-    ensures { IfOk result (λ e. kind_of e ≡ kinds.Node) }
-{
+fn node(alloc: Global, lat: i32, lon: i32) -> Result<Element<Global>, Fail> {
     Ok(Element::Node {
         lat: Lat::new(lat).ok_or("latitude")?,
         lon: Lon::new(lon).ok_or("longitude")?,
@@ -206,5 +202,17 @@ fn a_put_over_a_name_answers_the_old_element(rt: HostRuntime) -> Result<(), Fail
     assert_eq!(rt; latitude(copy.take_out(&place).as_ref()), Some(3));
     assert!(rt; copy.is_empty());
     assert_eq!(rt; map.len(), 1);
+    Ok(())
+}
+
+#[test]
+fn a_row_of_another_kind_is_taken(rt: HostRuntime) -> Result<(), Fail> {
+    let alloc = rt.alloc();
+    let mut map = OsmMap::new(alloc);
+    let way = name(Kind::Way, 5)?;
+    assert!(rt; map.put(way, node(alloc, 1, 2)?).is_ok());
+    assert_eq!(rt; latitude(map.get(&way)), Some(1));
+    assert_eq!(rt; latitude(map.take_out(&way).as_ref()), Some(1));
+    assert!(rt; map.is_empty());
     Ok(())
 }

@@ -1,8 +1,4 @@
 //! Maps of elements.
-ghost use Rattle.std.specs.Prelude.{◌≡◌, IfSome};
-ghost use Rattle.osm_elements.specs.Elements.{kind_of};
-ghost use Rattle.osm_elements.specs.declared.name.Kind.TheVariants.{Node};
-
 use osm_coords::{Lat, Lon};
 use osm_elements::element::Element;
 use osm_elements::map::OsmMap;
@@ -13,9 +9,7 @@ use std::alloc::Allocator;
 use std::test::Fail;
 
 /// A node at so many ten-millionths of a degree, both ways.
-pub fn node<A: Allocator>(alloc: A, at: i32) -> Option<Element<A>>
-    ensures { IfSome result (λ e. kind_of e ≡ Node) }
-{
+pub fn node<A: Allocator>(alloc: A, at: i32) -> Option<Element<A>> {
     let lat = Lat::new(at)?;
     let lon = Lon::new(at)?;
     let tags = Tags::empty(alloc);

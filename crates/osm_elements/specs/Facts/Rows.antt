@@ -1,21 +1,17 @@
 -- What is found in a map's rows after a put and after a name was taken out.
-use Rattle.std.specs.Prelude.{◌≡◌, ◌≢◌, Bool, true, false, not, cond, T, List, [], ◌∷◌, Option, Some, None}
+use Rattle.std.specs.Prelude.{◌≡◌, ◌≢◌, Bool, true, false, not, cond, T, List, Some, None}
 use mathlib.Core.Path.{refl, sym, ap, subst, ◌∙◌}
-use Rattle.std.specs.Option.{unwrap_or}
-use Rattle.std.specs.BTreeMap.{is_at}
-use Rattle.std.specs.Ordering.{is_eq, match_ordering}
+use Rattle.std.specs.Ordering.{is_eq}
 use Rattle.std.specs.Cmp.{tied_itself}
 use Rattle.std.specs.FinMap.Entries.{put, find, find-put, is_sorted-put, find-where_key, is_sorted-where_key, same_entries}
 use Rattle.std.specs.declared.cmp.Ordering.{Ordering}
 use Rattle.std.specs.declared.cmp.Ordering.TheVariants.{Less, Equal, Greater}
-use Rattle.std.proofs.lemmas.List.Elements.{All-nil, All-cons, All-head, All-tail}
 use Rattle.osm_elements.specs.declared.name.Name.{Name}
 use Rattle.osm_elements.specs.declared.element.Element.{Element}
-use Rattle.osm_elements.specs.Elements.{kind_of}
 use Rattle.osm_elements.specs.Facts.Entries.{lookup_is_find, insert_is_put, without, remove_is_without}
 use Rattle.osm_elements.specs.NameOrder.{name_cmp}
 use Rattle.osm_elements.specs.Facts.Names.{name_cmp_total, name_cmp-IsAntisymmetric}
-use Rattle.osm_elements.specs.Rows.{row_at, put_row, without_row, AreInOrder, AreOfTheirKinds}
+use Rattle.osm_elements.specs.Rows.{row_at, put_row, without_row, AreInOrder}
 
 -- names that compare as the same are equal
 pub same : (o : Ordering) → is_eq o ≡ true → o ≡ Equal
@@ -110,34 +106,3 @@ module _ {A : Type 0} where
       at : (q : Name) (b : Bool) → is_eq (name_cmp q x) ≡ b → cond b (Some v) (row_at (without_row m x) q) ≡ row_at m q
       at q true e = sym some ∙ ap (row_at m) (sym (same_names q x e))
       at q false e = row_at-without_row_other m x q (not_same q x e) h
-
-  -- both keep that each element is of its name's kind
-  pub AreOfTheirKinds-put_row : (m : List (Name × Element A)) (x : Name) (v : Element A) → kind_of v ≡ x.kind → AreOfTheirKinds m → AreOfTheirKinds (put_row m x v)
-  AreOfTheirKinds-put_row [] x v k h = All-cons (λ r. kind_of r.1 ≡ r.0.kind) (x, v) [] k (All-nil (λ r. kind_of r.1 ≡ r.0.kind))
-  AreOfTheirKinds-put_row (e ∷ es) x v k h = by (name_cmp x e.0) refl (AreOfTheirKinds-put_row es x v k (All-tail (λ r. kind_of r.1 ≡ r.0.kind) e es h))
-    where
-      by : (o : Ordering) → name_cmp x e.0 ≡ o → AreOfTheirKinds (put_row es x v) → AreOfTheirKinds (match_ordering o ((x, v) ∷ e ∷ es) ((e.0, v) ∷ es) (e ∷ put_row es x v))
-      by Less p rest = All-cons (λ r. kind_of r.1 ≡ r.0.kind) (x, v) (e ∷ es) k h
-      by Equal p rest = All-cons (λ r. kind_of r.1 ≡ r.0.kind) (e.0, v) es (k ∙ ap (λ n. n.kind) (name_cmp-IsAntisymmetric x e.0 p)) (All-tail (λ r. kind_of r.1 ≡ r.0.kind) e es h)
-      by Greater p rest = All-cons (λ r. kind_of r.1 ≡ r.0.kind) e (put_row es x v) (All-head (λ r. kind_of r.1 ≡ r.0.kind) e es h) rest
-
-  pub AreOfTheirKinds-without_row : (m : List (Name × Element A)) (x : Name) → AreOfTheirKinds m → AreOfTheirKinds (without_row m x)
-  AreOfTheirKinds-without_row [] x h = h
-  AreOfTheirKinds-without_row (e ∷ es) x h = by (is_at (name_cmp x) e.0) (AreOfTheirKinds-without_row es x (All-tail (λ r. kind_of r.1 ≡ r.0.kind) e es h))
-    where
-      by : (b : Bool) → AreOfTheirKinds (without_row es x) → AreOfTheirKinds (cond b es (e ∷ without_row es x))
-      by true rest = All-tail (λ r. kind_of r.1 ≡ r.0.kind) e es h
-      by false rest = All-cons (λ r. kind_of r.1 ≡ r.0.kind) e (without_row es x) (All-head (λ r. kind_of r.1 ≡ r.0.kind) e es h) rest
-
-  -- the element at a name is of the name's kind
-  pub kind_of-row_at : (m : List (Name × Element A)) (x : Name) (v : Element A) → AreOfTheirKinds m → row_at m x ≡ Some v → kind_of v ≡ x.kind
-  kind_of-row_at [] x v h is = absurd (subst (λ (o : Option (Element A)). T (is_none_so o)) is tt)
-    where
-      is_none_so : Option (Element A) → Bool
-      is_none_so None = true
-      is_none_so (Some w) = false
-  kind_of-row_at (e ∷ es) x v h is = by (is_eq (name_cmp x e.0)) refl is (kind_of-row_at es x v (All-tail (λ r. kind_of r.1 ≡ r.0.kind) e es h))
-    where
-      by : (b : Bool) → is_eq (name_cmp x e.0) ≡ b → cond b (Some e.1) (row_at es x) ≡ Some v → (row_at es x ≡ Some v → kind_of v ≡ x.kind) → kind_of v ≡ x.kind
-      by true p f rest = ap kind_of (sym (ap (λ o. unwrap_or o v) f)) ∙ All-head (λ r. kind_of r.1 ≡ r.0.kind) e es h ∙ ap (λ n. n.kind) (sym (same_names x e.0 p))
-      by false p f rest = rest f
