@@ -26,7 +26,7 @@ abbrev pub Rise : ℕ → List ℕ → ℕ → Type 0
 Rise n [] end = n ≤ end
 Rise n (s ∷ ss) end = (n ≤ s) × Rise (s + 1) ss end
 
-Rise-from : (m n : ℕ) (ss : List ℕ) (end : ℕ) → m ≤ n → Rise n ss end → Rise m ss end
+pub Rise-from : (m n : ℕ) (ss : List ℕ) (end : ℕ) → m ≤ n → Rise n ss end → Rise m ss end
 Rise-from m n [] end h r = omega arith
 Rise-from m n (s ∷ ss) end h r = (omega (arith, r.0), r.1)
 
@@ -36,7 +36,7 @@ pub record IsLast (s : ℕ) (ss : List ℕ) : Type 0 where
   pub splits : ss ≡ front ++ s ∷ []
   pub others : filter (λ t. not (nat_eq t s)) ss ≡ front
 
-equal_numbers : (t s : ℕ) → nat_eq t s ≡ true → t ≡ s
+pub equal_numbers : (t s : ℕ) → nat_eq t s ≡ true → t ≡ s
 equal_numbers t s e = grind (arith, nat_tests)
 
 pub last_of : (s n : ℕ) (ss : List ℕ) (end : ℕ) → Rise n ss end → list_any (λ t. nat_eq t s) ss ≡ true → find (nat_lt s) ss ≡ None → IsLast s ss

@@ -17,6 +17,8 @@ use Rattle.room_history.specs.declared.refusal.Refusal.{Refusal}
 use Rattle.room_history.specs.declared.refusal.Refusal.TheVariants.{Absent, Present, WrongKind, TooFew, TooMany, InUse}
 use Rattle.room_history.specs.Maps.{Rows, is_same, is_among, is_kind, is_present, is_absent, names_of, rows_but}
 use Rattle.room_history.specs.References.{references, refers_to, users}
+use Rattle.osm_elements.specs.Made.{is_made}
+use Rattle.room_history.specs.LegalJournals.{is_made_action}
 use Rattle.room_history.specs.Sound.{is_sound, is_sound_row, is_of_length, most_nodes}
 use Rattle.room_history.specs.After.{after}
 use Rattle.room_history.specs.Refusals.{refusal, first_that_holds, the_least, is_missing, element_checks}
@@ -61,16 +63,24 @@ all_more p q (x ∷ names) step h =
     by y false i = i
 
 module _ {A : Type 0} where
+  -- a row is sound by its four tests
+  fit : (m : Rows A) (y : Name) (w : Element A) → is_kind (kind_of w) y.kind ≡ true → is_made w ≡ true → is_of_length w ≡ true → list_all (is_present m) (references w) ≡ true → is_sound_row m y w ≡ true
+  fit m y w kind made long refs =
+      both_true (is_kind (kind_of w) y.kind) (is_made w && (is_of_length w && list_all (is_present m) (references w))) kind
+      (both_true (is_made w) (is_of_length w && list_all (is_present m) (references w)) made (both_true (is_of_length w) (list_all (is_present m) (references w)) long refs))
+
   sound_row_by : (m n : Rows A) (y : Name) (w : Element A) → is_sound_row m y w ≡ true → list_all (is_present n) (references w) ≡ true → is_sound_row n y w ≡ true
   sound_row_by m n y w h refs =
-      let kind = first_true (is_kind (kind_of w) y.kind) (is_of_length w && list_all (is_present m) (references w)) h in
-      let rest = second_true (is_kind (kind_of w) y.kind) (is_of_length w && list_all (is_present m) (references w)) h in
-      both_true (is_kind (kind_of w) y.kind) (is_of_length w && list_all (is_present n) (references w)) kind
-      (both_true (is_of_length w) (list_all (is_present n) (references w)) (first_true (is_of_length w) (list_all (is_present m) (references w)) rest) refs)
+      let rest : (is_made w && (is_of_length w && list_all (is_present m) (references w))) ≡ true = second_true (is_kind (kind_of w) y.kind) (is_made w && (is_of_length w && list_all (is_present m) (references w))) h in
+      let last : (is_of_length w && list_all (is_present m) (references w)) ≡ true = second_true (is_made w) (is_of_length w && list_all (is_present m) (references w)) rest in
+      fit n y w (first_true (is_kind (kind_of w) y.kind) (is_made w && (is_of_length w && list_all (is_present m) (references w))) h)
+      (first_true (is_made w) (is_of_length w && list_all (is_present m) (references w)) rest)
+      (first_true (is_of_length w) (list_all (is_present m) (references w)) last) refs
 
   refs_present : (m : Rows A) (y : Name) (w : Element A) → is_sound_row m y w ≡ true → list_all (is_present m) (references w) ≡ true
   refs_present m y w h =
-      second_true (is_of_length w) (list_all (is_present m) (references w)) (second_true (is_kind (kind_of w) y.kind) (is_of_length w && list_all (is_present m) (references w)) h)
+      second_true (is_of_length w) (list_all (is_present m) (references w)) (second_true (is_made w) (is_of_length w && list_all (is_present m) (references w))
+      (second_true (is_kind (kind_of w) y.kind) (is_made w && (is_of_length w && list_all (is_present m) (references w))) h))
 
   -- the rows after a put are present, and so are those from before
   present_put : (m : Rows A) (x : Name) (v : Element A) (e : Name) → is_present (put_row m x v) e ≡ (is_same e x || is_present m e)
@@ -123,8 +133,8 @@ module _ {A : Type 0} where
         refs = parts.1;
       }
 
-  create_keeps_sound : (m : Rows A) (x : Name) (v : Element A) → is_sound m ≡ true → refusal m (Create x v) ≡ None → is_sound (put_row m x v) ≡ true
-  create_keeps_sound m x v sound e = sound_from_rows (put_row m x v) (AreInOrder-put_row m x v (sound_in_order m sound)) each
+  create_keeps_sound : (m : Rows A) (x : Name) (v : Element A) → is_sound m ≡ true → is_made v ≡ true → refusal m (Create x v) ≡ None → is_sound (put_row m x v) ≡ true
+  create_keeps_sound m x v sound made e = sound_from_rows (put_row m x v) (AreInOrder-put_row m x v (sound_in_order m sound)) each
     where
       c : Created m x v
       c = created m x v e
@@ -136,8 +146,7 @@ module _ {A : Type 0} where
           by true t f =
               let same : v ≡ w = cc in
               ap (is_sound_row (put_row m x v) y) (sym same) ∙ ap (λ q. is_sound_row (put_row m x v) q v) (same_names y x t)
-              ∙ both_true (is_kind (kind_of v) x.kind) (is_of_length v && list_all (is_present (put_row m x v)) (references v)) c.kind
-              (both_true (is_of_length v) (list_all (is_present (put_row m x v)) (references v)) c.lengthy c.refs)
+              ∙ fit (put_row m x v) x v c.kind made c.lengthy c.refs
           by false t f =
               let h = sound_row m sound y w f in
               sound_row_by m (put_row m x v) y w h (all_more (is_present m) (is_present (put_row m x v)) (references w)
@@ -193,11 +202,11 @@ module _ {A : Type 0} where
   differ_at m n x p q e = absurd (cc (sym p ∙ ap (λ k. is_present k x) e ∙ q))
 
   -- the law of refusals
-  pub accepted_keeps_sound : (m : Rows A) (a : Action A) → is_sound m ≡ true → refusal m a ≡ None → (is_sound (after m a) ≡ true) × (after m a ≢ m)
-  accepted_keeps_sound m (Create x v) sound e =
+  pub accepted_keeps_sound : (m : Rows A) (a : Action A) → is_sound m ≡ true → is_made_action a ≡ true → refusal m a ≡ None → (is_sound (after m a) ≡ true) × (after m a ≢ m)
+  accepted_keeps_sound m (Create x v) sound made e =
       let there : is_present (put_row m x v) x ≡ true = present_put m x v x ∙ ap (λ b. b || is_present m x) (is_eq-name_cmp_itself x) in
-      (create_keeps_sound m x v sound e, differ_at (put_row m x v) m x there (created m x v e).fresh)
-  accepted_keeps_sound m (Delete x) sound e =
+      (create_keeps_sound m x v sound made e, differ_at (put_row m x v) m x there (created m x v e).fresh)
+  accepted_keeps_sound m (Delete x) sound made e =
       let gone : is_present (rows_but x m) x ≡ false = present_but m x x ∙ ap (λ b. not b && is_present m x) (is_eq-name_cmp_itself x) in
       let here : is_present m x ≡ true = from_false (is_present m x) (not_so (is_absent m x) (Absent x) (first_none (then_some (is_absent m x) (Absent x)) (the_least (InUse x) (users m x) ∷ []) e).0) in
       (delete_keeps_sound m x sound e, λ same. differ_at m (rows_but x m) x here gone (sym same))

@@ -10,7 +10,7 @@ use Rattle.osm_elements.specs.declared.name.Name.{Name}
 use Rattle.osm_elements.specs.NameOrder.{name_cmp}
 use Rattle.osm_elements.specs.Facts.Names.{name_cmp_total, name_cmp-IsAntisymmetric}
 use Rattle.room_history.specs.Maps.{lesser, least}
-use Rattle.room_history.specs.Plans.{lesser_of}
+use Rattle.room_history.specs.Inner.Plans.{lesser_of}
 
 less : (r : Ordering) → is_lt r ≡ true → r ≡ Less
 less Less e = refl

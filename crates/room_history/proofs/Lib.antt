@@ -1,6 +1,7 @@
 pub mod Among
 pub mod AtOnce
 pub mod Changing
+pub mod Deciding
 pub mod ExampleProofs
 pub mod FirstUsers
 pub mod Growing
@@ -12,6 +13,9 @@ pub mod Padding
 pub mod Replaying
 pub mod SameElements
 pub mod SameNames
+pub mod Searching
 pub mod SoundRows
 pub mod Stacking
+pub mod Stacks
 pub mod Stepping
+pub mod Undoing

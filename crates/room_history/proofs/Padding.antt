@@ -4,7 +4,8 @@ use Rattle.std.proofs.Math.Seq.{take-append_seam, drop-append_seam}
 use Rattle.std.proofs.lemmas.List.{length-append, drop-replicate, length-replicate}
 use Rattle.std.proofs.lemmas.Bool.Decides.{nat_tests}
 use Rattle.std.specs.List.{list_all}
-use Rattle.room_history.specs.Authors.{IsPadded, is_author, is_name_character}
+use Rattle.room_history.specs.Authors.{is_author, is_name_character}
+use Rattle.room_history.specs.Inner.Authors.{IsPadded}
 
 second : (a b : Bool) → (a && b) ≡ true → b ≡ true
 second true b p = p

@@ -2,7 +2,7 @@
 use Rattle.std.proofs.Common.{◌≡◌, ◌+◌, ◌≤◌, ◌++◌, ◌∷◌, ℕ, suc, true, not, List, [], Some, None, map, length, is_none, refl, sym, ap, subst, ◌∙◌, cond, arith, nat_eq, nat_lt, append-nil, length-append}
 use Rattle.std.specs.List.{AllByRecursion, cons_option, filter, filter_map, find, fold, list_any}
 use Rattle.std.specs.Option.{option_and_then, option_map_or}
-use Rattle.std.proofs.lemmas.List.{map-append}
+use Rattle.std.proofs.lemmas.List.{map-append, length-map}
 use Rattle.std.proofs.lemmas.List.Sums.{fold-append}
 use Rattle.room_history.specs.declared.action.Action.{Action}
 use Rattle.room_history.specs.declared.action.Action.TheVariants.{Create, Delete}
@@ -16,7 +16,11 @@ use Rattle.room_history.specs.Refusals.{refusal}
 use Rattle.room_history.specs.Changes.{changes, inverse, changed}
 use Rattle.room_history.specs.Journals.{numbered, is_undo_of, action_by, action_of, standing}
 use Rattle.room_history.specs.Replays.{Past, past, past_after, changes_next, mapof, replay, standing_actions}
-use Rattle.room_history.specs.Stacks.{Frame, Chained, IsFrame, Stacked}
+use Rattle.room_history.specs.Sound.{is_sound}
+use Rattle.room_history.specs.LegalJournals.{is_made_action}
+use Rattle.room_history.proofs.KeepsSound.{accepted_keeps_sound}
+use Rattle.room_history.proofs.SoundRows.{sound_in_order}
+use Rattle.room_history.proofs.Stacks.{Frame, Chained, IsFrame, Stacked}
 use Rattle.room_history.proofs.Changing.{AreInOrder-rows_but, changed-differences, changed-inverse}
 use Rattle.room_history.proofs.Growing.{numbered_within, numbered_next, standing_from-append, Rise-standing_from, IsLast, last_of, new_number}
 
@@ -59,10 +63,6 @@ module _ {A : Type 0} where
   AreInOrder-after m (Create x v) h = AreInOrder-put_row m x v h
   AreInOrder-after m (Delete x) h = AreInOrder-rows_but m x h
 
-  pub Chained-in_order : (m : Rows A) (fs : List (Frame A)) (end : Rows A) → AreInOrder m → Chained m fs end → AreInOrder end
-  Chained-in_order m [] end h c = subst (λ n. AreInOrder n) c h
-  Chained-in_order m (f ∷ fs) end h c = Chained-in_order (after m f.action) fs end (AreInOrder-after m f.action h) c.2
-
   -- what the actions of a stack replay to
   pub replay-chained : (m : Rows A) (fs : List (Frame A)) (end : Rows A) → Chained m fs end → replay m (map (λ (f : Frame A). f.action) fs) ≡ Some end
   replay-chained m [] end c = ap Some c
@@ -96,6 +96,7 @@ module _ {A : Type 0} where
     recorded =
         (let here : f.number ≤ length (past base j).changes = omega (arith, h.within, recorded_each base j) in
         ap (λ cs. numbered cs f.number) (changes-append base j e) ∙ numbered_within (past base j).changes (changes_next (past base j) e.kind) f.number here ∙ h.recorded);
+    sound = h.sound;
   }
 
   -- the map after an accepted action
@@ -117,21 +118,22 @@ module _ {A : Type 0} where
       ∙ numbered_next (past base j).changes (changes_next (past base j) e.kind) ∙ ap (λ k. Some (changes_next (past base j) k)) k
 
   -- an accepted action goes on top
-  pub Stacked-do : (base : Rows A) (j : List (Entry A)) (e : Entry A) (a : Action A) → AreInOrder base → Stacked base j → e.kind ≡ Do a → refusal (mapof base j) a ≡ None → Stacked base (j ++ e ∷ [])
-  Stacked-do base j e a sorted s k r = record {
+  pub Stacked-do : (base : Rows A) (j : List (Entry A)) (e : Entry A) (a : Action A) → Stacked base j → e.kind ≡ Do a → is_made_action a ≡ true → refusal (mapof base j) a ≡ None → Stacked base (j ++ e ∷ [])
+  Stacked-do base j e a s k made r = record {
     frames = s.frames ++ top ∷ [];
     numbers =
         standing-do j e a k ∙ ap (λ ss. ss ++ (1 + length j) ∷ []) s.numbers
         ∙ ap (λ n. map (λ (f : Frame A). f.number) s.frames ++ n ∷ []) (let n : 1 + length j ≡ suc (length j) = omega arith in n) ∙ sym (map-append (λ (f : Frame A). f.number) s.frames (top ∷ []));
     each = each_last (IsFrame base (j ++ e ∷ [])) s.frames top (each_mapped (IsFrame-append base j e) s.frames s.each) is_top;
     chained = subst (λ n. Chained base (s.frames ++ top ∷ []) n) leads (Chained-append base s.frames (mapof base j) top s.chained refl r);
+    sound = subst (λ n. is_sound n ≡ true) leads (accepted_keeps_sound (mapof base j) a s.sound made r).0;
   }
     where
       top : Frame A
       top = record { number = suc (length j); action = a; before = mapof base j }
 
       here : AreInOrder (mapof base j)
-      here = Chained-in_order base s.frames (mapof base j) sorted s.chained
+      here = sound_in_order (mapof base j) s.sound
 
       leads : after (mapof base j) a ≡ mapof base (j ++ e ∷ [])
       leads = sym (mapof-do base j e a here k)
@@ -141,6 +143,7 @@ module _ {A : Type 0} where
         within = (let n : length (j ++ e ∷ []) ≡ length j + 1 = length-append j (e ∷ []) in omega (arith, n));
         does = ap (option_and_then (λ (e : Entry A). action_by e.kind)) (numbered_next j e) ∙ ap action_by k;
         recorded = recorded-do base j e a k;
+        sound = s.sound;
       }
 
   -- a list of frames whose numbers end with s
@@ -177,8 +180,8 @@ module _ {A : Type 0} where
   actions_of base j [] ps = refl
   actions_of base j (f ∷ fs) ps = ap (λ o. cons_option o (filter_map (action_of j) (map (λ (f : Frame A). f.number) fs))) ps.0.does ∙ ap (λ r. f.action ∷ r) (actions_of base j fs ps.1)
 
-  pub Stacked-undo : (base : Rows A) (j : List (Entry A)) (e : Entry A) (s : ℕ) → AreInOrder base → Stacked base j → e.kind ≡ Undo s → list_any (λ t. nat_eq t s) (standing j) ≡ true → find (nat_lt s) (standing j) ≡ None → Undone base j s e
-  Stacked-undo base j e s sorted st k there none = record {
+  pub Stacked-undo : (base : Rows A) (j : List (Entry A)) (e : Entry A) (s : ℕ) → Stacked base j → e.kind ≡ Undo s → list_any (λ t. nat_eq t s) (standing j) ≡ true → find (nat_lt s) (standing j) ≡ None → Undone base j s e
+  Stacked-undo base j e s st k there none = record {
     front = last.front;
     was = last.splits;
     standing_is = standing_is;
@@ -188,6 +191,7 @@ module _ {A : Type 0} where
       numbers = standing_is ∙ sym cut.numbers;
       each = each_mapped (IsFrame-append base j e) cut.low each.0;
       chained = subst (λ n. Chained base cut.low n) (sym map_is) top.below;
+      sound = subst (λ n. is_sound n ≡ true) (sym map_is) each.1.sound;
     };
     action = cut.top.action;
     does = ap (action_of j) (sym cut.number) ∙ each.1.does;
@@ -208,7 +212,7 @@ module _ {A : Type 0} where
       top = Chained-top base cut.low cut.top (mapof base j) (subst (λ fs. Chained base fs (mapof base j)) cut.both st.chained)
 
       below : AreInOrder cut.top.before
-      below = Chained-in_order base cut.low cut.top.before sorted top.below
+      below = sound_in_order cut.top.before each.1.sound
 
       standing_is : standing (j ++ e ∷ []) ≡ last.front
       standing_is =
@@ -226,3 +230,9 @@ module _ {A : Type 0} where
   pub replay-standing : (base : Rows A) (j : List (Entry A)) → Stacked base j → replay base (standing_actions j) ≡ Some (mapof base j)
   replay-standing base j st =
       ap (λ ns. replay base (filter_map (action_of j) ns)) st.numbers ∙ ap (replay base) (actions_of base j st.frames st.each) ∙ replay-chained base st.frames (mapof base j) st.chained
+
+  -- as many actions as entries that stand
+  pub none_dropped : (base : Rows A) (j : List (Entry A)) → Stacked base j → length (standing_actions j) ≡ length (standing j)
+  none_dropped base j st =
+      ap (λ ns. length (filter_map (action_of j) ns)) st.numbers ∙ ap length (actions_of base j st.frames st.each) ∙ length-map st.frames (λ (f : Frame A). f.action)
+      ∙ sym (length-map st.frames (λ (f : Frame A). f.number)) ∙ ap length (sym st.numbers)

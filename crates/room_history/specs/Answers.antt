@@ -1,7 +1,7 @@
 -- What a call is answered, and the journal that it leaves: an accepted call appends one entry, a refused one leaves the journal. (The rules of a room are this project's.)
-use Rattle.std.specs.Prelude.{◌≡◌, ◌⊎◌, ◌+◌, ◌++◌, ◌&&◌, ℕ, Bool, not, List, [], ◌∷◌, Option, Some, None, is_none, length, nat_eq, nat_le, nat_lt}
+use Rattle.std.specs.Prelude.{◌+◌, ◌++◌, ◌&&◌, ℕ, Bool, not, List, [], ◌∷◌, Option, Some, None, is_none, length, nat_eq, nat_le, nat_lt}
 use Rattle.std.specs.Bool.{then_some}
-use Rattle.std.specs.List.{find, list_any, position}
+use Rattle.std.specs.List.{find, position}
 use Rattle.std.specs.Option.{option_map}
 use Rattle.room_history.specs.declared.author.Author.{Author}
 use Rattle.room_history.specs.declared.call.Call.{Call}
@@ -11,11 +11,11 @@ use Rattle.room_history.specs.declared.entry.Entry.{Entry}
 use Rattle.room_history.specs.declared.entry.EntryKind.{EntryKind}
 use Rattle.room_history.specs.declared.entry.EntryKind.TheVariants.{Do, Undo}
 use Rattle.room_history.specs.declared.reply.Reply.{Reply}
-use Rattle.room_history.specs.declared.reply.Reply.TheVariants.{Memory, Done, Undid, Repeat, Full, NothingToUndo, NoSuch, NotYours, NotStanding, NotLast, Refused}
+use Rattle.room_history.specs.declared.reply.Reply.TheVariants.{Done, Undid, Repeat, Full, NothingToUndo, NoSuch, NotYours, NotStanding, NotLast, Refused}
 use Rattle.room_history.specs.Maps.{Rows}
 use Rattle.room_history.specs.Refusals.{refusal, first_that_holds}
 use Rattle.room_history.specs.SameAuthors.{is_same_author}
-use Rattle.room_history.specs.Journals.{is_by, numbered, last, standing, undos}
+use Rattle.room_history.specs.Journals.{is_by, is_standing, numbered, last, standing, undos}
 use Rattle.room_history.specs.Replays.{mapof}
 
 module _ {A : Type 0} where
@@ -46,7 +46,7 @@ module _ {A : Type 0} where
   undo_refusal j author s = first_that_holds (
       then_some (is_none (numbered j s)) NoSuch
       ∷ then_some (not (is_by author (numbered j s))) NotYours
-      ∷ then_some (not (list_any (λ t. nat_eq t s) (standing j))) NotStanding
+      ∷ then_some (not (is_standing j s)) NotStanding
       ∷ option_map NotLast (blocker j s)
       ∷ [])
 
@@ -88,14 +88,3 @@ module _ {A : Type 0} where
   abbrev pub answers : Rows A → ℕ → List (Entry A) → List (Call A) → List Reply × List (Entry A)
   answers base limit j [] = ([], j)
   answers base limit j (c ∷ cs) = let step = answer base limit j c in let rest = answers base limit step.1 cs in (step.0 ∷ rest.0, rest.1)
-
-  -- a reply by definition, or for want of memory with the journal as it was
-  abbrev pub IsOr : Reply × List (Entry A) → List (Entry A) → Reply → List (Entry A) → Type 0
-  IsOr by_definition j reply k = ((reply, k) ≡ by_definition) ⊎ ((reply ≡ Memory) × (k ≡ j))
-
-  -- the same of a request whose id is unspent, in a journal that is not full
-  abbrev pub IsDone : Rows A → List (Entry A) → Author → ℕ → EntryKind A → Reply → List (Entry A) → Type 0
-  IsDone base j author id kind = IsOr (answered j author id (kind_refusal base j author kind) (Some kind)) j
-
-  abbrev pub IsUndone : Rows A → List (Entry A) → Author → ℕ → Option ℕ → Reply → List (Entry A) → Type 0
-  IsUndone base j author id number = let kind = option_map Undo (asked j author number) in IsOr (answered j author id (meaning_refusal base j author kind) kind) j

@@ -46,6 +46,10 @@ module _ {A : Type 0} where
   abbrev pub standing : List (Entry A) → List ℕ
   standing j = standing_from 1 j
 
+  -- an entry stands
+  abbrev pub is_standing : List (Entry A) → ℕ → Bool
+  is_standing j s = list_any (λ t. nat_eq t s) (standing j)
+
   -- an entry is an author's own
   abbrev pub is_by : Author → Option (Entry A) → Bool
   is_by author None = false

@@ -1,12 +1,13 @@
 pub mod After
 pub mod Answers
-pub mod AuthorInside
 pub mod Authors
 pub mod Changes
 pub mod Examples
+pub mod Headline
+pub mod Inner
 pub mod Journals
+pub mod LegalJournals
 pub mod Maps
-pub mod Plans
 pub mod References
 pub mod Refusals
 pub mod Replays
@@ -16,4 +17,3 @@ pub mod SameAuthors
 pub mod SameRows
 pub mod Scenes
 pub mod Sound
-pub mod Stacks

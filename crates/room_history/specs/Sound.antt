@@ -1,11 +1,11 @@
 -- When a map is sound. (OpenStreetMap API v0.6: nothing absent is named. The greatest length is this project's.)
--- What the types of an element keep is not said again: ranges of coordinates, limits of texts and tags, and that a way lists nodes.
 use Rattle.std.specs.Prelude.{◌&&◌, ℕ, Bool, true, length, nat_le}
 use Rattle.std.specs.List.{list_all}
 use Rattle.std.specs.FinMap.Entries.{is_sorted}
 use Rattle.osm_elements.specs.declared.name.Name.{Name}
 use Rattle.osm_elements.specs.declared.element.Element.{Element}
 use Rattle.osm_elements.specs.Elements.{kind_of}
+use Rattle.osm_elements.specs.Made.{is_made}
 use Rattle.osm_elements.specs.declared.element.Element.TheVariants.{Node, Way}
 use Rattle.osm_elements.specs.NameOrder.{name_cmp}
 use Rattle.room_history.specs.Maps.{Rows, is_kind, is_present}
@@ -21,9 +21,9 @@ module _ {A : Type 0} where
   is_of_length (Node lat lon tags) = true
   is_of_length (Way nodes tags) = nat_le 2 (length nodes) && nat_le (length nodes) most_nodes
 
-  -- a row's element is of its name's kind, has its length and names present elements alone
+  -- a row's element is of its name's kind, is as its types keep it, has its length and names present elements alone
   abbrev pub is_sound_row : Rows A → Name → Element A → Bool
-  is_sound_row m x v = is_kind (kind_of v) x.kind && (is_of_length v && list_all (is_present m) (references v))
+  is_sound_row m x v = is_kind (kind_of v) x.kind && (is_made v && (is_of_length v && list_all (is_present m) (references v)))
 
   -- names rise and every row is sound
   abbrev pub is_sound : Rows A → Bool

@@ -17,11 +17,11 @@ pub struct Author {
 
 impl Model for Author {
     ghost use Rattle.std.specs.Prelude.{List, ℕ, take};
-    ghost use Rattle.room_history.specs.Authors.{IsPadded};
+    ghost use Rattle.room_history.specs.Inner.Authors.{IsPadded};
 
     ghost Value = { List ℕ };
 
-    ghost use Rattle.room_history.specs.AuthorInside.{inside_of, inside_of_view};
+    ghost use Rattle.room_history.specs.Inner.Authors.{inside_of, inside_of_view};
 
     ghost view = { λ a. take a.length a.bytes };
 

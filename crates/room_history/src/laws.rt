@@ -1,7 +1,10 @@
 //! Laws of the definitions, each the contract of a function that does nothing.
-ghost use Rattle.std.specs.Prelude.{◌≡◌, ◌≢◌, true, None};
+ghost use Rattle.std.specs.Prelude.{◌≡◌, ◌≢◌, ℕ, true, List, None};
 ghost use Rattle.room_history.specs.declared.action.Action.{Action};
+ghost use Rattle.room_history.specs.declared.entry.Entry.{Entry};
 ghost use Rattle.room_history.specs.After.{after};
+ghost use Rattle.room_history.specs.Headline.{Holds};
+ghost use Rattle.room_history.specs.LegalJournals.{is_made_action, IsJournal};
 ghost use Rattle.room_history.specs.Maps.{Rows};
 ghost use Rattle.room_history.specs.Refusals.{refusal};
 ghost use Rattle.room_history.specs.Sound.{is_sound};
@@ -9,10 +12,15 @@ ghost use Rattle.room_history.specs.Examples.{first_run, range_ends, limit_one, 
 
 use std::alloc::Allocator;
 
-/// An accepted action keeps a sound map sound, and changes it.
+/// An accepted action, with values as their types keep them, keeps a sound map sound, and changes it.
 pub fn accepted_keeps_sound<A: Allocator>()
-    ensures { (m : Rows A) (a : Action A) → is_sound m ≡ true → refusal m a ≡ None
+    ensures { (m : Rows A) (a : Action A) → is_sound m ≡ true → is_made_action a ≡ true → refusal m a ≡ None
         → (is_sound (after m a) ≡ true) × (after m a ≢ m) }
+{}
+
+/// Every journal that calls lead to from a sound base holds.
+pub fn journals_hold<A: Allocator>()
+    ensures { (base : Rows A) (limit : ℕ) (j : List (Entry A)) → is_sound base ≡ true → IsJournal base limit j → Holds base limit j }
 {}
 
 /// What the definitions say of the worked examples is what was worked out by hand.

@@ -1,13 +1,15 @@
 //! Plans: whether an action is accepted on a map, and if not why.
-ghost use Rattle.std.specs.Prelude.{◌≡◌, None, OnOk, OnErr, slice_get};
+ghost use Rattle.std.specs.Prelude.{◌≡◌, None, OnOk, OnErr, slice_get, true};
 ghost use Rattle.std.specs.List.{filter};
 ghost use Rattle.room_history.specs.declared.action.Action.TheVariants.{Create, Delete};
 ghost use Rattle.osm_elements.specs.Elements.{kind_of};
+ghost use Rattle.osm_elements.specs.Made.{is_made};
 ghost use Rattle.room_history.specs.Maps.{is_same, is_kind, is_present, least};
 ghost use Rattle.room_history.specs.References.{users, refers_to};
 ghost use Rattle.room_history.specs.Refusals.{refusal, is_missing, list_checks, first_that_holds};
 ghost use Rattle.room_history.specs.After.{after};
-ghost use Rattle.room_history.specs.Plans.{planned, lesser_of};
+ghost use Rattle.room_history.specs.LegalJournals.{is_made_action};
+ghost use Rattle.room_history.specs.Inner.Plans.{planned, lesser_of};
 
 use crate::action::Action;
 use crate::refusal::Refusal;
@@ -26,7 +28,9 @@ pub const MOST_NODES: usize = 2000;
 
 /// Whether an action is accepted on the map. The refusal is the first of the action's checks that holds.
 pub fn plan<A: Allocator>(map: &OsmMap<A>, action: &Action<A>) -> Result<(), Refusal>
-    ensures { result ≡ planned (refusal map.now action.now) }
+    ensures plan { result ≡ planned (refusal map.now action.now) }
+    // What holds of every action.
+    ensures made { is_made_action action.now ≡ true }
 {
     match action {
         Action::Create { name, element } => plan_create(map, name, element),
@@ -41,7 +45,9 @@ pub fn plan_create<A: Allocator>(
     name: &Name,
     element: &Element<A>,
 ) -> Result<(), Refusal>
-    ensures { result ≡ planned (refusal map.now (Create name.now element.now)) }
+    ensures plan { result ≡ planned (refusal map.now (Create name.now element.now)) }
+    // What holds of every element.
+    ensures made { is_made element.now ≡ true }
 {
     if !is_of_kind(element, name) {
         return Err(Refusal::WrongKind(*name));
@@ -57,7 +63,8 @@ pub fn plan_create<A: Allocator>(
 
 // Whether an element is of its name's kind.
 fn is_of_kind<A: Allocator>(element: &Element<A>, name: &Name) -> bool
-    ensures { result ≡ is_kind (kind_of element.now) name.now.kind }
+    ensures kind { result ≡ is_kind (kind_of element.now) name.now.kind }
+    ensures made { is_made element.now ≡ true }
 {
     element.kind() == name.kind()
 }

@@ -1,5 +1,5 @@
 //! The room.
-ghost use Rattle.std.specs.Prelude.{◌≡◌, ◌+◌, ◌<◌, [], ◌∷◌, ◌++◌, None, length, IfOk, OnErr, vec_len, vec_capacity};
+ghost use Rattle.std.specs.Prelude.{◌≡◌, ◌+◌, ◌<◌, [], ◌∷◌, ◌++◌, None, true, length, IfOk, OnErr, vec_len, vec_capacity};
 ghost use Rattle.std.specs.Option.{option_copied};
 
 use crate::action::Action;
@@ -17,12 +17,15 @@ use osm_elements::map::{OsmMap, Rows};
 use osm_elements::name::Name;
 use std::alloc::Allocator;
 use std::marker::Model;
+use std::snapshot::Snapshot;
 
 /// A room: one map, and the journal of what its authors did to it. It is as good as its base map (for now
 /// the empty one), its limit and its journal, and contracts see it so.
 #[derive(Drop)]
 #[derive_where(Debug)]
 pub struct Room<A: Allocator> {
+    #[derive_where(skip)]
+    base: Snapshot<OsmMap<A>>,
     limit: u32,
     map: OsmMap<A>,
     entries: Vec<Entry<A>, A>,
@@ -30,33 +33,38 @@ pub struct Room<A: Allocator> {
 }
 
 impl<A: Allocator> Model for Room<A> {
-    ghost use Rattle.std.specs.Prelude.{[]};
     ghost use Rattle.room_history.specs.Rooms.{RoomState};
-    ghost use Rattle.room_history.specs.Stacks.{IsRoom};
+    ghost use Rattle.room_history.specs.Inner.Rooms.{IsRoom};
 
     ghost Value = { RoomState A };
 
-    ghost view = { λ r. record { base = []; limit = r.limit; journal = r.entries.items } };
+    ghost view = { λ r. record { base = r.base.value; limit = r.limit; journal = r.entries.items } };
 
-    ghost invariant = { λ r. IsRoom r.map r.standing.items [] r.entries.items };
+    ghost invariant = { λ r. IsRoom r.map r.standing.items r.base.value r.limit r.entries.items };
 }
 
 impl<A: Allocator + Copy> Room<A> {
-    ghost use Rattle.room_history.specs.Answers.{undo_refusal, with_entry, IsDone, IsUndone};
+    ghost use Rattle.room_history.specs.Answers.{undo_refusal, with_entry};
+    ghost use Rattle.room_history.specs.declared.call.Request.TheVariants as requests;
     ghost use Rattle.room_history.specs.Refusals.{refusal};
     ghost use Rattle.room_history.specs.declared.entry.EntryKind.TheVariants.{Do, Undo};
     ghost use Rattle.room_history.specs.Journals.{numbered};
     ghost use Rattle.room_history.specs.Replays.{mapof};
-    ghost use Rattle.room_history.specs.Runs.{Holds, IsStep};
+    ghost use Rattle.room_history.specs.Headline.{Holds};
+    ghost use Rattle.room_history.specs.Inner.Rooms.{MayAppend};
+    ghost use Rattle.room_history.specs.LegalJournals.{is_made_action};
+    ghost use Rattle.room_history.specs.Runs.{IsStep};
     ghost use Rattle.osm_elements.specs.Rows.{row_at};
 
     /// A room with an empty map, whose journal takes at most `limit` entries.
     pub fn open(alloc: A, limit: u32) -> Room<A>
         ensures { result ≡ record { base = []; limit = limit; journal = [] } }
     {
+        let map = OsmMap::new(alloc);
         Room {
+            base: Snapshot::of(&map),
             limit,
-            map: OsmMap::new(alloc),
+            map,
             entries: Vec::new(alloc),
             standing: Vec::new(alloc),
         }
@@ -69,6 +77,24 @@ impl<A: Allocator + Copy> Room<A> {
         ensures base { self.new.base ≡ self.old.base }
         ensures limit { self.new.limit ≡ self.old.limit }
         ensures holds { Holds self.new.base self.new.limit self.new.journal }
+    {
+        let reply = self.answer(call);
+        self.holds();
+        reply
+    }
+
+    // What holds of every room. It does nothing.
+    fn holds(&self)
+        ensures { Holds self.now.base self.now.limit self.now.journal }
+    {
+        let _ = &self.entries;
+    }
+
+    // The answer to a call.
+    fn answer(&mut self, call: Call<A>) -> Reply
+        ensures step { IsStep self.old.base self.old.limit self.old.journal call result self.new.journal }
+        ensures base { self.new.base ≡ self.old.base }
+        ensures limit { self.new.limit ≡ self.old.limit }
     {
         let Call {
             author,
@@ -89,7 +115,9 @@ impl<A: Allocator + Copy> Room<A> {
 
     // Does an action, if it is accepted on the map.
     fn act(&mut self, author: Author, id: u64, action: Action<A>) -> Reply
-        ensures step { IsDone self.old.base self.old.journal author id (Do action) result self.new.journal }
+        requires { MayAppend self.old.limit self.old.journal author id }
+        ensures step { IsStep self.old.base self.old.limit self.old.journal
+            (record { author = author; id = id; request = requests.Do action }) result self.new.journal }
         ensures base { self.new.base ≡ self.old.base }
         ensures limit { self.new.limit ≡ self.old.limit }
     {
@@ -104,7 +132,9 @@ impl<A: Allocator + Copy> Room<A> {
 
     // Appends the entry of an accepted action, and answers its number.
     fn append_do(&mut self, author: Author, id: u64, action: Action<A>) -> Result<u64, Memory>
-        requires { refusal (mapof self.old.base self.old.journal) action ≡ None }
+        requires may { MayAppend self.old.limit self.old.journal author id }
+        requires made { is_made_action action ≡ true }
+        requires accepted { refusal (mapof self.old.base self.old.journal) action ≡ None }
         ensures ok { IfOk result (λ seq. (seq ≡ length self.old.journal + 1)
             × (self.new ≡ record self.old { journal = with_entry self.old.journal author id (Do action) })) }
         ensures err { OnErr result (self.new ≡ self.old) }
@@ -121,7 +151,9 @@ impl<A: Allocator + Copy> Room<A> {
 
     // Undoes an entry, if it is the last that stands and the author's own.
     fn undo(&mut self, author: Author, id: u64, number: Option<u64>) -> Reply
-        ensures step { IsUndone self.old.base self.old.journal author id number result self.new.journal }
+        requires { MayAppend self.old.limit self.old.journal author id }
+        ensures step { IsStep self.old.base self.old.limit self.old.journal
+            (record { author = author; id = id; request = requests.Undo number }) result self.new.journal }
         ensures base { self.new.base ≡ self.old.base }
         ensures limit { self.new.limit ≡ self.old.limit }
     {
@@ -136,7 +168,8 @@ impl<A: Allocator + Copy> Room<A> {
 
     // Appends the undo of the last entry that stands, and answers its number.
     fn append_undo(&mut self, author: Author, id: u64, of: u64) -> Result<u64, Memory>
-        requires { undo_refusal self.old.journal author of ≡ None }
+        requires may { MayAppend self.old.limit self.old.journal author id }
+        requires accepted { undo_refusal self.old.journal author of ≡ None }
         ensures ok { IfOk result (λ seq. (seq ≡ length self.old.journal + 1)
             × (self.new ≡ record self.old { journal = with_entry self.old.journal author id (Undo of) })) }
         ensures err { OnErr result (self.new ≡ self.old) }

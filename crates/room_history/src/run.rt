@@ -16,7 +16,7 @@ pub fn run<A: Allocator + Copy>(
     limit: u32,
     calls: Calls<A>,
 ) -> Result<(Room<A>, Replies<A>), Memory>
-    ensures run { IfOk result (λ run. IsRun [] limit [] calls run.1 run.0.journal) }
+    ensures run { IfOk result (λ run. IsRun run.0.base limit [] calls run.1 run.0.journal) }
     ensures limit { IfOk result (λ run. run.0.limit ≡ limit) }
     ensures base { IfOk result (λ run. run.0.base ≡ []) }
 {

@@ -2,7 +2,7 @@
 ghost use Rattle.std.specs.Prelude.{◌≡◌};
 ghost use Rattle.room_history.specs.Answers.{asked, undo_refusal};
 ghost use Rattle.room_history.specs.Journals.{standing};
-ghost use Rattle.room_history.specs.Plans.{asked_or, undone_or};
+ghost use Rattle.room_history.specs.Inner.Plans.{asked_or, undone_or};
 
 use crate::author::Author;
 use crate::entry::Entry;

@@ -4,8 +4,8 @@ use Rattle.room_history.specs.Runs.{IsRun}
 use Rattle.room_history.proofs.Holding.{run_more, empty_holds}
 use Rattle.room_history.proofs.run.run.Goals as goal
 
-empty_run : {A : Type 0} (limit : _) (rs : List _) (j : List _) → rs ≡ [] → j ≡ [] → IsRun {A = A} [] limit [] [] rs j
-empty_run limit rs j e f = subst (λ r. IsRun [] limit [] [] r j) (sym e) (empty_holds limit, f)
+empty_run : {A : Type 0} (base : _) (limit : _) (rs : List _) (j : List _) → base ≡ [] → rs ≡ [] → j ≡ [] → IsRun {A = A} base limit [] [] rs j
+empty_run base limit rs j b e f = subst (λ r. IsRun base limit [] [] r j) (sym e) (empty_holds base limit b, f)
 
 nothing_left : {X : Type 0} (xs : List X) → length xs ≡ 0 → xs ≡ []
 nothing_left [] e = refl
@@ -16,7 +16,7 @@ loop-call-init g c = record {
   all = c.into_iter-call-iterator.ensures.into_iter_gives.0 ∙ c.into_vec-calls.ensures;
   base = ap (λ s. s.base) c.open-room.ensures;
   limit = ap (λ s. s.limit) c.open-room.ensures;
-  run = empty_run c.args.limit c.in_ok-replies.replies.items c.open-room.result.journal c.in_ok-replies.ensures.items (ap (λ s. s.journal) c.open-room.ensures);
+  run = empty_run c.open-room.result.base c.args.limit c.in_ok-replies.replies.items c.open-room.result.journal (ap (λ s. s.base) c.open-room.ensures) c.in_ok-replies.ensures.items (ap (λ s. s.journal) c.open-room.ensures);
 }
 
 pub loop-call-preserved : goal.loop-call-preserved
@@ -28,8 +28,8 @@ loop-call-preserved g c =
       all = append_assoc c.loop-call.yielded (c.in-Some.call ∷ []) (into_iter_items c.next.new.self) ∙ ap (λ cs. c.loop-call.yielded ++ cs) (sym c.in-Some.ensures.steps.0) ∙ i.all;
       base = base;
       limit = limit;
-      run = rw c.in_ok-push.ensures.items (run_more [] tt c.args.limit [] c.loop-call.yielded c.loop-call.replies.items c.loop-call.room.journal c.take.new.self.journal c.in-Some.call c.take.result i.run
-          (rw (← i.base, ← i.limit) c.take.ensures.step) (rw (← base, ← limit) c.take.ensures.holds));
+      run = rw (c.in_ok-push.ensures.items, c.take.ensures.base) (run_more c.loop-call.room.base c.args.limit [] c.loop-call.yielded c.loop-call.replies.items c.loop-call.room.journal c.take.new.self.journal c.in-Some.call c.take.result i.run
+          (rw (← i.limit) c.take.ensures.step) (rw (← c.take.ensures.base, ← limit) c.take.ensures.holds));
     }
 
 pub returns-clause-run : goal.returns-clause-run

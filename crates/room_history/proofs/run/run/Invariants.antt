@@ -8,5 +8,5 @@ invariant-loop-call g l = record {
   all : l.yielded ++ into_iter_items l.call-iterator ≡ l.fn.calls;
   base : l.room.base ≡ [];
   limit : l.room.limit ≡ l.fn.limit;
-  run : IsRun [] l.fn.limit [] l.yielded l.replies.items l.room.journal;
+  run : IsRun l.room.base l.fn.limit [] l.yielded l.replies.items l.room.journal;
 }

@@ -1,9 +1,10 @@
--- The entries that stand as a stack of actions, each done on the map that those below it left.
-use Rattle.std.specs.Prelude.{◌≡◌, ◌≤◌, ℕ, List, [], ◌∷◌, Some, None, map, length}
+-- The entries that stand as a stack of actions, each done on the sound map that those below it left.
+use Rattle.std.proofs.Common.{◌≡◌, ◌≤◌, ℕ, true, List, [], ◌∷◌, Some, None, map, length}
 use Rattle.std.specs.List.{AllByRecursion}
 use Rattle.room_history.specs.declared.action.Action.{Action}
 use Rattle.room_history.specs.declared.entry.Entry.{Entry}
 use Rattle.room_history.specs.Maps.{Rows}
+use Rattle.room_history.specs.Sound.{is_sound}
 use Rattle.room_history.specs.After.{after}
 use Rattle.room_history.specs.Refusals.{refusal}
 use Rattle.room_history.specs.Changes.{changes}
@@ -27,6 +28,7 @@ module _ {A : Type 0} where
     pub within : f.number ≤ length j
     pub does : action_of j f.number ≡ Some f.action
     pub recorded : numbered (past base j).changes f.number ≡ Some (changes f.before f.action)
+    pub sound : is_sound f.before ≡ true
 
   -- the entries that stand are a stack, of which the map of the journal is the end
   pub record Stacked (base : Rows A) (j : List (Entry A)) : Type 0 where
@@ -34,9 +36,4 @@ module _ {A : Type 0} where
     pub numbers : standing j ≡ map (λ (f : Frame A). f.number) frames
     pub each : AllByRecursion (IsFrame base j) frames
     pub chained : Chained base frames (mapof base j)
-
-  -- what a room holds: the map and the numbers that stand are those of its entries
-  pub record IsRoom (rows : Rows A) (numbers : List ℕ) (base : Rows A) (j : List (Entry A)) : Type 0 where
-    pub rows_are : rows ≡ mapof base j
-    pub numbers_are : numbers ≡ standing j
-    pub stacked : Stacked base j
+    pub sound : is_sound (mapof base j) ≡ true

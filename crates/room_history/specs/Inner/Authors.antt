@@ -1,8 +1,19 @@
--- The bytes of an author come back from its name.
-use Rattle.std.proofs.Common.{◌≡◌, ◌++◌, ◌-◌, ℕ, List, length, take, replicate, sym, ap, ◌∙◌, arith}
+-- A name in 32 bytes, which come back from the name.
+use Rattle.std.proofs.Common.{◌≡◌, ◌≤◌, ◌++◌, ◌-◌, ℕ, true, List, length, take, drop, replicate, sym, ap, ◌∙◌, arith}
 use Rattle.std.proofs.lemmas.List.{take-append-drop, length-take-le}
-use Rattle.room_history.specs.Authors.{IsPadded, padded_author}
+use Rattle.room_history.specs.Authors.{is_author}
 use Rattle.room_history.specs.declared.author.Author.TheInside.{Inside}
+
+-- a name with zeros after it, 32 bytes in all
+abbrev pub padded_author : List ℕ → List ℕ
+padded_author text = text ++ replicate (32 - length text) 0
+
+-- 32 bytes are a name of this length and zeros
+pub record IsPadded (bytes : List ℕ) (n : ℕ) : Type 0 where
+  pub whole : length bytes ≡ 32
+  pub fits : n ≤ 32
+  pub zeros : drop n bytes ≡ replicate (32 - n) 0
+  pub name : is_author (take n bytes) ≡ true
 
 -- the 32 bytes that hold a name
 abbrev pub inside_of : List ℕ → Inside

@@ -1,0 +1,5 @@
+use Rattle.room_history.proofs.Holding.{journal_holds}
+use Rattle.room_history.proofs.laws.journals_hold.Goals as goal
+
+pub returns : goal.returns
+returns g c = λ base limit j sound h. journal_holds base sound limit j h

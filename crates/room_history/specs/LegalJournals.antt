@@ -1,0 +1,26 @@
+-- The journals that there are: those that calls lead to, where each entry is the one that an answer appends. (The rules of a room are this project's.)
+use Rattle.std.specs.Prelude.{◌≡◌, ℕ, Bool, true, List, []}
+use Rattle.osm_elements.specs.Made.{is_made}
+use Rattle.room_history.specs.declared.action.Action.{Action}
+use Rattle.room_history.specs.declared.action.Action.TheVariants.{Create, Delete}
+use Rattle.room_history.specs.declared.call.Call.{Call}
+use Rattle.room_history.specs.declared.call.Request.{Request}
+use Rattle.room_history.specs.declared.call.Request.TheVariants as requests
+use Rattle.room_history.specs.declared.entry.Entry.{Entry}
+use Rattle.room_history.specs.Maps.{Rows}
+use Rattle.room_history.specs.Answers.{answer}
+
+module _ {A : Type 0} where
+  -- an action's own values are as their types keep them
+  abbrev pub is_made_action : Action A → Bool
+  is_made_action (Create x v) = is_made v
+  is_made_action (Delete x) = true
+
+  abbrev pub is_made_request : Request A → Bool
+  is_made_request (requests.Do a) = is_made_action a
+  is_made_request (requests.Undo s) = true
+
+-- the empty journal, and the one that the answer to a call leaves after another
+pub data IsJournal {A : Type 0} (base : Rows A) (limit : ℕ) : List (Entry A) → Type 0 where
+  opened : IsJournal base limit []
+  called : (j : List (Entry A)) (c : Call A) → IsJournal base limit j → is_made_request c.request ≡ true → IsJournal base limit (answer base limit j c).1
