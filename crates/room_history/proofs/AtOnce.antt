@@ -2,7 +2,7 @@
 use Rattle.std.proofs.Common.{◌≡◌, ◌<◌, ◌≤◌, ◌+◌, ◌++◌, ◌∷◌, ◌⊎◌, ◌&&◌, ◌||◌, ℕ, suc, Bool, true, false, not, List, [], Option, Some, None, length, is_none, refl, sym, ap, ◌∙◌, cond, arith, inl, inr, nat_eq, nat_lt, nat_le, slice_get, length-append, append-nil}
 use Rattle.std.specs.Bool.{then_some}
 use Rattle.std.specs.List.{filter, find, list_any}
-use Rattle.std.specs.Option.{option_map, option_map_or}
+use Rattle.std.specs.Option.{option_map}
 use Rattle.std.proofs.lemmas.Bool.Decides.{nat_tests}
 use Rattle.std.proofs.lemmas.List.{reverse-append}
 use Rattle.std.proofs.lemmas.List.Elements.{filter-append}
@@ -24,7 +24,7 @@ use Rattle.room_history.specs.Refusals.{first_that_holds}
 use Rattle.room_history.specs.Changes.{changes, inverse, changed}
 use Rattle.room_history.specs.SameAuthors.{is_same_author, is_same_text}
 use Rattle.room_history.specs.Journals.{numbered, is_by, is_work, is_standing, standing, last, is_undo_of}
-use Rattle.room_history.specs.Replays.{past, mapof, changes_next}
+use Rattle.room_history.specs.Replays.{past, mapof, recorded_next, taken_back}
 use Rattle.room_history.specs.Answers.{spent, blocker, asked, meant, undo_refusal, meaning_refusal, answered, answer, answers}
 use Rattle.room_history.specs.Headline.{IsUndoneAtOnce}
 use Rattle.room_history.proofs.Changing.{changed-inverse}
@@ -112,13 +112,13 @@ module _ {A : Type 0} (base : Rows A) (j : List (Entry A)) (st : Stacked base j)
   stands : is_standing (j ++ e ∷ []) (length j + 1) ≡ true
   stands = ap (list_any (λ t. nat_eq t (length j + 1))) standing_is ∙ list_any-last (λ t. nat_eq t (length j + 1)) (standing j) (length j + 1) itself
 
-  unblocked : blocker (j ++ e ∷ []) (length j + 1) ≡ None
+  unblocked : blocker (past base (j ++ e ∷ [])) (j ++ e ∷ []) (length j + 1) ≡ None
   unblocked =
       ap (find (nat_lt (length j + 1))) standing_is
       ∙ find-append (nat_lt (length j + 1)) (standing j) (length j + 1) (none_above (length j + 1) 1 (standing j) (1 + length j) (Rise-standing_from 1 j) (omega arith)) not_above
 
-  undo_accepted : undo_refusal (j ++ e ∷ []) e.author (length j + 1) ≡ None
-  undo_accepted = own_refusal (j ++ e ∷ []) e.author (length j + 1) is_mine stands ∙ ap (option_map NotLast) unblocked
+  undo_accepted : undo_refusal (past base (j ++ e ∷ [])) (j ++ e ∷ []) e.author (length j + 1) ≡ None
+  undo_accepted = own_refusal (past base (j ++ e ∷ [])) (j ++ e ∷ []) e.author (length j + 1) is_mine stands ∙ ap (option_map NotLast) unblocked
 
   here : AreInOrder (mapof base j)
   here = sound_in_order (mapof base j) st.sound
@@ -127,9 +127,9 @@ module _ {A : Type 0} (base : Rows A) (j : List (Entry A)) (st : Stacked base j)
   back : (u : Entry A) → u.kind ≡ Undo (length j + 1) → mapof base ((j ++ e ∷ []) ++ u ∷ []) ≡ mapof base j
   back u is =
       mapof-append base (j ++ e ∷ []) u
-      ∙ ap (λ w. changed (mapof base (j ++ e ∷ [])) (changes_next (past base (j ++ e ∷ [])) w)) is
-      ∙ ap (λ n. changed (mapof base (j ++ e ∷ [])) (option_map_or inverse (numbered (past base (j ++ e ∷ [])).changes n) [])) (sym number)
-      ∙ ap (λ o. changed (mapof base (j ++ e ∷ [])) (option_map_or inverse o [])) (recorded-do base j e a does)
+      ∙ ap (λ w. changed (mapof base (j ++ e ∷ [])) (recorded_next (past base (j ++ e ∷ [])) w).changes) is
+      ∙ ap (λ n. changed (mapof base (j ++ e ∷ [])) (taken_back (numbered (past base (j ++ e ∷ [])).entries n)).changes) (sym number)
+      ∙ ap (λ o. changed (mapof base (j ++ e ∷ [])) (taken_back o).changes) (recorded-do base j e a does)
       ∙ ap (λ m. changed m (inverse (changes (mapof base j) a))) (mapof-do base j e a here does)
       ∙ changed-inverse (mapof base j) (after (mapof base j) a) here (AreInOrder-after (mapof base j) a here)
 
@@ -161,8 +161,8 @@ module _ {A : Type 0} (base : Rows A) (j : List (Entry A)) (st : Stacked base j)
       let size : length k ≡ length j + 1 = length-append j (e ∷ []) in
       let step_is : answer base limit (answers base limit k between).1 c ≡ (Undid (length j + 2) (length j + 1), k ++ u ∷ []) =
       ap (λ l. answer base limit l c) kept ∙ unspent base limit k c fresh room
-      ∙ ap (λ o. answered k c.author c.id (meaning_refusal base k c.author o) o) (asked_for asks)
-      ∙ ap (λ o. answered k c.author c.id o (Some (Undo (length j + 1)))) (ap (λ w. undo_refusal k w (length j + 1)) mine ∙ undo_accepted)
+      ∙ ap (λ o. answered k c (meaning_refusal (past base k) k c o) o) (asked_for asks)
+      ∙ ap (λ o. answered k c o (Some (Undo (length j + 1)))) (ap (λ w. undo_refusal (past base k) k w (length j + 1)) mine ∙ undo_accepted)
       ∙ ap (λ n. (Undid n (length j + 1), k ++ u ∷ [])) (ap (λ n. n + 1) size ∙ omega arith) in
       let map_is : mapof base (answer base limit (answers base limit k between).1 c).1 ≡ mapof base j = ap (λ (p : Reply × List (Entry A)). mapof base p.1) step_is ∙ back u refl in (
         ap (λ (p : Reply × List (Entry A)). p.0) step_is,

@@ -7,6 +7,7 @@ use Rattle.room_history.specs.declared.author.Author.{Author}
 use Rattle.room_history.specs.declared.call.Call.{Call}
 use Rattle.room_history.specs.declared.call.Request.TheVariants as requests
 use Rattle.room_history.specs.declared.entry.Entry.{Entry}
+use Rattle.room_history.specs.declared.entry.EntryKind.{EntryKind}
 use Rattle.room_history.specs.declared.entry.EntryKind.TheVariants.{Undo}
 use Rattle.room_history.specs.declared.reply.Reply.{Reply}
 use Rattle.room_history.specs.declared.reply.Reply.TheVariants.{Undid, Repeat, Full, NoSuch, NotYours, NotStanding, NotLast}
@@ -14,6 +15,7 @@ use Rattle.room_history.specs.Maps.{Rows}
 use Rattle.room_history.specs.Refusals.{first_that_holds}
 use Rattle.room_history.specs.Journals.{numbered, is_by, is_standing, standing}
 use Rattle.room_history.specs.Answers.{spent, blocker, asked, meant, undo_refusal, meaning_refusal, answered, answer}
+use Rattle.room_history.specs.Replays.{Past, past}
 use Rattle.room_history.specs.Headline.{Blocks, IsUndoneExactlyWhere, IsUndoOfLast}
 use Rattle.room_history.proofs.Growing.{Rise-standing_from}
 use Rattle.room_history.proofs.Searching.{First, none_found, found_first, greatest_is_last, Rise-filter, into_filter, out_of_filter}
@@ -25,63 +27,78 @@ only (Some x) = refl
 module _ {A : Type 0} where
   -- a call whose id is unspent, in a journal that is not full
   pub unspent : (base : Rows A) (limit : ℕ) (j : List (Entry A)) (c : Call A) → spent j c.author c.id ≡ None → nat_le limit (length j) ≡ false
-      → answer base limit j c ≡ answered j c.author c.id (meaning_refusal base j c.author (meant j c.author c.request)) (meant j c.author c.request)
+      → answer base limit j c ≡ answered j c (meaning_refusal (past base j) j c (meant j c.author c.request)) (meant j c.author c.request)
   unspent base limit j c fresh not_full =
       let k = meant j c.author c.request in
-      let why = meaning_refusal base j c.author k in
-      ap (λ o. answered j c.author c.id (first_that_holds (option_map Repeat o ∷ then_some (nat_le limit (length j)) Full ∷ why ∷ [])) k) fresh
-      ∙ ap (λ b. answered j c.author c.id (first_that_holds (then_some b Full ∷ why ∷ [])) k) not_full
-      ∙ ap (λ o. answered j c.author c.id o k) (only why)
+      let why = meaning_refusal (past base j) j c k in
+      ap (λ o. answered j c (first_that_holds (option_map Repeat o ∷ then_some (nat_le limit (length j)) Full ∷ why ∷ [])) k) fresh
+      ∙ ap (λ b. answered j c (first_that_holds (then_some b Full ∷ why ∷ [])) k) not_full
+      ∙ ap (λ o. answered j c o k) (only why)
 
   there : (author : Author) (o : Option (Entry A)) → is_by author o ≡ true → is_none o ≡ false
   there author None h = absurd (cc)
   there author (Some e) h = refl
 
   -- an author's undo of an entry of his that stands is refused by its blocker alone
-  pub own_refusal : (j : List (Entry A)) (author : Author) (s : ℕ) → is_by author (numbered j s) ≡ true → is_standing j s ≡ true → undo_refusal j author s ≡ option_map NotLast (blocker j s)
-  own_refusal j author s own stands =
-      ap (λ b. first_that_holds (then_some b NoSuch ∷ then_some (not (is_by author (numbered j s))) NotYours ∷ then_some (not (is_standing j s)) NotStanding ∷ option_map NotLast (blocker j s) ∷ [])) (there author (numbered j s) own)
-      ∙ ap (λ b. first_that_holds (then_some (not b) NotYours ∷ then_some (not (is_standing j s)) NotStanding ∷ option_map NotLast (blocker j s) ∷ [])) own
-      ∙ ap (λ b. first_that_holds (then_some (not b) NotStanding ∷ option_map NotLast (blocker j s) ∷ [])) stands
-      ∙ only (option_map NotLast (blocker j s))
+  pub own_refusal : (p : Past A) (j : List (Entry A)) (author : Author) (s : ℕ) → is_by author (numbered j s) ≡ true → is_standing j s ≡ true → undo_refusal p j author s ≡ option_map NotLast (blocker p j s)
+  own_refusal p j author s own stands =
+      ap (λ b. first_that_holds (then_some b NoSuch ∷ then_some (not (is_by author (numbered j s))) NotYours ∷ then_some (not (is_standing j s)) NotStanding ∷ option_map NotLast (blocker p j s) ∷ [])) (there author (numbered j s) own)
+      ∙ ap (λ b. first_that_holds (then_some (not b) NotYours ∷ then_some (not (is_standing j s)) NotStanding ∷ option_map NotLast (blocker p j s) ∷ [])) own
+      ∙ ap (λ b. first_that_holds (then_some (not b) NotStanding ∷ option_map NotLast (blocker p j s) ∷ [])) stands
+      ∙ only (option_map NotLast (blocker p j s))
 
   -- no blocker: nothing blocks; a blocker: it blocks, and none before it does
-  nothing_blocks : (j : List (Entry A)) (s : ℕ) → blocker j s ≡ None → (t : ℕ) → Blocks j s t → ⊥
-  nothing_blocks j s none t b = none_found s (standing j) none t b.0 b.1
+  nothing_blocks : (p : Past A) (j : List (Entry A)) (s : ℕ) → blocker p j s ≡ None → (t : ℕ) → Blocks j s t → ⊥
+  nothing_blocks p j s none t b = none_found s (standing j) none t b.0 b.1
 
-  first_blocks : (j : List (Entry A)) (s b : ℕ) → blocker j s ≡ Some b → Blocks j s b × ((u : ℕ) → Blocks j s u → b ≤ u)
-  first_blocks j s b h = let f : First s b (standing j) = found_first s b 1 (standing j) (1 + length j) (Rise-standing_from 1 j) h in ((f.up, f.there), λ u k. f.least u k.0 k.1)
+  first_blocks : (p : Past A) (j : List (Entry A)) (s b : ℕ) → blocker p j s ≡ Some b → Blocks j s b × ((u : ℕ) → Blocks j s u → b ≤ u)
+  first_blocks p j s b h = let f : First s b (standing j) = found_first s b 1 (standing j) (1 + length j) (Rise-standing_from 1 j) h in ((f.up, f.there), λ u k. f.least u k.0 k.1)
 
   pub is_undone_exactly_where : (base : Rows A) (limit : ℕ) (j : List (Entry A)) → IsUndoneExactlyWhere base limit j
-  is_undone_exactly_where base limit j author id s fresh room own stands = by (blocker j s) refl
+  is_undone_exactly_where base limit j author id s fresh room own stands = by (blocker p j s) refl
     where
+      p : Past A
+      p = past base j
+
       c : Call A
       c = record { author = author; id = id; request = requests.Undo (Some s) }
 
-      says : (answer base limit j c).0 ≡ (answered j author id (option_map NotLast (blocker j s)) (Some (Undo s))).0
-      says = ap (λ (p : Reply × List (Entry A)). p.0) (unspent base limit j c fresh room ∙ ap (λ o. answered j author id o (Some (Undo s))) (own_refusal j author s own stands))
+      says : (answer base limit j c).0 ≡ (answered j c (option_map NotLast (blocker p j s)) (Some (Undo s))).0
+      says = ap (λ (q : Reply × List (Entry A)). q.0) (unspent base limit j c fresh room ∙ ap (λ o. answered j c o (Some (Undo s))) (own_refusal p j author s own stands))
 
       not_both : (seq b : ℕ) → Undid seq s ≡ NotLast b → ⊥
       not_both seq b e = absurd (cc)
 
-      by : (o : Option ℕ) → blocker j s ≡ o
+      by : (o : Option ℕ) → blocker p j s ≡ o
           → (((answer base limit j c).0 ≡ Undid (length j + 1) s) ↔ ((t : ℕ) → Blocks j s t → ⊥))
           × ((t : ℕ) → Blocks j s t → (b : ℕ) × ((answer base limit j c).0 ≡ NotLast b) × Blocks j s b × ((u : ℕ) → Blocks j s u → b ≤ u))
       by None e = (
-        (λ _. nothing_blocks j s e, λ _. says ∙ ap (λ o. (answered j author id (option_map NotLast o) (Some (Undo s))).0) e),
-        λ t k. absurd (nothing_blocks j s e t k),
+        (λ _. nothing_blocks p j s e, λ _. says ∙ ap (λ o. (answered j c (option_map NotLast o) (Some (Undo s))).0) e),
+        λ t k. absurd (nothing_blocks p j s e t k),
       )
       by (Some b) e =
-          let first = first_blocks j s b e in
-          let refused : (answer base limit j c).0 ≡ NotLast b = says ∙ ap (λ o. (answered j author id (option_map NotLast o) (Some (Undo s))).0) e in (
+          let first = first_blocks p j s b e in
+          let refused : (answer base limit j c).0 ≡ NotLast b = says ∙ ap (λ o. (answered j c (option_map NotLast o) (Some (Undo s))).0) e in (
             (λ done. absurd (not_both (length j + 1) b (sym done ∙ refused)), λ free. absurd (free b first.0)),
             λ t k. (b, refused, first.0, first.1),
           )
 
   pub is_undo_of_last : (base : Rows A) (limit : ℕ) (j : List (Entry A)) → IsUndoOfLast base limit j
-  is_undo_of_last base limit j author id s own stands low =
-      ap (λ o. answered j author id (first_that_holds (option_map Repeat (spent j author id) ∷ then_some (nat_le limit (length j)) Full ∷ meaning_refusal base j author (option_map Undo o) ∷ [])) (option_map Undo o)) is_last
+  is_undo_of_last base limit j author id s own stands low = ap (λ o. answered j whole (refused (option_map Undo o)) (option_map Undo o)) is_last ∙ by (refused (Some (Undo s)))
     where
+      whole : Call A
+      whole = record { author = author; id = id; request = requests.Undo None }
+
+      one : Call A
+      one = record { author = author; id = id; request = requests.Undo (Some s) }
+
+      refused : Option (EntryKind A) → Option Reply
+      refused k = first_that_holds (option_map Repeat (spent j author id) ∷ then_some (nat_le limit (length j)) Full ∷ meaning_refusal (past base j) j whole k ∷ [])
+
+      by : (o : Option Reply) → answered j whole o (Some (Undo s)) ≡ answered j one o (Some (Undo s))
+      by None = refl
+      by (Some r) = refl
+
       is_last : asked j author None ≡ Some s
       is_last = greatest_is_last s 1 (filter (λ t. is_by author (numbered j t)) (standing j)) (1 + length j)
           (Rise-filter (λ t. is_by author (numbered j t)) 1 (standing j) (1 + length j) (Rise-standing_from 1 j))

@@ -16,7 +16,7 @@ use Rattle.room_history.specs.declared.reply.Reply.TheVariants.{Repeat, Full, Re
 use Rattle.room_history.specs.Maps.{Rows}
 use Rattle.room_history.specs.Sound.{is_sound}
 use Rattle.room_history.specs.Refusals.{refusal, first_that_holds}
-use Rattle.room_history.specs.Replays.{mapof}
+use Rattle.room_history.specs.Replays.{past, mapof}
 use Rattle.room_history.specs.Answers.{spent, asked, meant, undo_refusal, meaning_refusal, answered}
 use Rattle.room_history.specs.LegalJournals.{is_made_action, is_made_request, IsJournal, opened, called}
 use Rattle.room_history.specs.Headline.{Holds}
@@ -38,28 +38,28 @@ module _ {A : Type 0} where
   meant_made j author (requests.Undo s) made a e = absurd (no_action (asked j author s) a e)
 
   module _ (base : Rows A) (sound : is_sound base ≡ true) where
-    module _ (j : List (Entry A)) (st : Stacked base j) (author : Author) (id : ℕ) where
+    module _ (j : List (Entry A)) (st : Stacked base j) (c : Call A) where
       -- the journal that an answer leaves is stacked
       answered_stacked : (s : Option ℕ) (b : Bool) (k : Option (EntryKind A)) → ((a : Action A) → k ≡ Some (Do a) → is_made_action a ≡ true)
-          → Stacked base (answered j author id (first_that_holds (option_map Repeat s ∷ then_some b Full ∷ meaning_refusal base j author k ∷ [])) k).1
+          → Stacked base (answered j c (first_that_holds (option_map Repeat s ∷ then_some b Full ∷ meaning_refusal (past base j) j c k ∷ [])) k).1
       answered_stacked (Some t) b k made = st
       answered_stacked None true k made = st
       answered_stacked None false None made = st
       answered_stacked None false (Some (Do a)) made = by (refusal (mapof base j) a) refl
         where
-          by : (o : Option Refusal) → refusal (mapof base j) a ≡ o → Stacked base (answered j author id (first_that_holds (option_map Refused o ∷ [])) (Some (Do a))).1
-          by None e = Stacked-do base j (record { author = author; id = id; kind = Do a }) a st refl (made a refl) e
+          by : (o : Option Refusal) → refusal (mapof base j) a ≡ o → Stacked base (answered j c (first_that_holds (option_map Refused o ∷ [])) (Some (Do a))).1
+          by None e = Stacked-do base j (record { author = c.author; id = c.id; kind = Do a }) a st refl (made a refl) e
           by (Some r) e = st
-      answered_stacked None false (Some (Undo s)) made = by (undo_refusal j author s) refl
+      answered_stacked None false (Some (Undo s)) made = by (undo_refusal (past base j) j c.author s) refl
         where
-          by : (o : Option Reply) → undo_refusal j author s ≡ o → Stacked base (answered j author id (first_that_holds (o ∷ [])) (Some (Undo s))).1
-          by None e = let f = found j author s e in (Stacked-undo base j (record { author = author; id = id; kind = Undo s }) s st refl f.there f.last).stacked
+          by : (o : Option Reply) → undo_refusal (past base j) j c.author s ≡ o → Stacked base (answered j c (first_that_holds (o ∷ [])) (Some (Undo s))).1
+          by None e = let f = found (past base j) j c.author s e in (Stacked-undo base j (record { author = c.author; id = c.id; kind = Undo s }) s st refl f.there f.last).stacked
           by (Some r) e = st
 
     pub journal_stacked : (limit : ℕ) (j : List (Entry A)) → IsJournal base limit j → Stacked base j
     journal_stacked limit j opened = record { frames = []; numbers = refl; each = tt; chained = refl; sound = sound }
     journal_stacked limit j (called i c before made) =
-        answered_stacked i (journal_stacked limit i before) c.author c.id (spent i c.author c.id) (nat_le limit (length i)) (meant i c.author c.request) (meant_made i c.author c.request made)
+        answered_stacked i (journal_stacked limit i before) c (spent i c.author c.id) (nat_le limit (length i)) (meant i c.author c.request) (meant_made i c.author c.request made)
 
     pub journal_holds : (limit : ℕ) (j : List (Entry A)) → IsJournal base limit j → Holds base limit j
     journal_holds limit j h =

@@ -1,7 +1,7 @@
 -- The entries that stand as a stack of actions, each done on the map that those below it left.
 use Rattle.std.proofs.Common.{◌≡◌, ◌+◌, ◌≤◌, ◌++◌, ◌∷◌, ℕ, suc, true, not, List, [], Some, None, map, length, is_none, refl, sym, ap, subst, ◌∙◌, cond, arith, nat_eq, nat_lt, append-nil, length-append}
 use Rattle.std.specs.List.{AllByRecursion, cons_option, filter, filter_map, find, fold, list_any}
-use Rattle.std.specs.Option.{option_and_then, option_map_or}
+use Rattle.std.specs.Option.{option_and_then}
 use Rattle.std.proofs.lemmas.List.{map-append, length-map}
 use Rattle.std.proofs.lemmas.List.Sums.{fold-append}
 use Rattle.room_history.specs.declared.action.Action.{Action}
@@ -15,7 +15,7 @@ use Rattle.room_history.specs.After.{after}
 use Rattle.room_history.specs.Refusals.{refusal}
 use Rattle.room_history.specs.Changes.{changes, inverse, changed}
 use Rattle.room_history.specs.Journals.{numbered, is_undo_of, action_by, action_of, standing}
-use Rattle.room_history.specs.Replays.{Past, past, past_after, changes_next, mapof, replay, standing_actions}
+use Rattle.room_history.specs.Replays.{Past, past, past_after, recorded_of, recorded_next, taken_back, mapof, replay, standing_actions}
 use Rattle.room_history.specs.Sound.{is_sound}
 use Rattle.room_history.specs.LegalJournals.{is_made_action}
 use Rattle.room_history.proofs.KeepsSound.{accepted_keeps_sound}
@@ -71,22 +71,22 @@ module _ {A : Type 0} where
 
   -- the past of a longer journal
   pub past-append : (base : Rows A) (j : List (Entry A)) (e : Entry A) → past base (j ++ e ∷ []) ≡ past_after (past base j) e.kind
-  past-append base j e = fold-append (λ (p : Past A) (e : Entry A). past_after p e.kind) (record { map = base; changes = [] }) j (e ∷ [])
+  past-append base j e = fold-append (λ (p : Past A) (e : Entry A). past_after p e.kind) (record { map = base; entries = [] }) j (e ∷ [])
 
-  fold-kept : (p : Past A) (j : List (Entry A)) → length (fold (λ (p : Past A) (e : Entry A). past_after p e.kind) p j).changes ≡ length p.changes + length j
+  fold-kept : (p : Past A) (j : List (Entry A)) → length (fold (λ (p : Past A) (e : Entry A). past_after p e.kind) p j).entries ≡ length p.entries + length j
   fold-kept p [] = omega arith
   fold-kept p (e ∷ j) =
-      let longer : length (p.changes ++ changes_next p e.kind ∷ []) ≡ length p.changes + 1 = length-append p.changes (changes_next p e.kind ∷ []) in
+      let longer : length (p.entries ++ recorded_next p e.kind ∷ []) ≡ length p.entries + 1 = length-append p.entries (recorded_next p e.kind ∷ []) in
       fold-kept (past_after p e.kind) j ∙ omega (arith, longer)
 
   -- each entry's changes are recorded
-  pub recorded_each : (base : Rows A) (j : List (Entry A)) → length (past base j).changes ≡ length j
-  recorded_each base j = fold-kept (record { map = base; changes = [] }) j ∙ omega arith
+  pub recorded_each : (base : Rows A) (j : List (Entry A)) → length (past base j).entries ≡ length j
+  recorded_each base j = fold-kept (record { map = base; entries = [] }) j ∙ omega arith
 
-  changes-append : (base : Rows A) (j : List (Entry A)) (e : Entry A) → (past base (j ++ e ∷ [])).changes ≡ (past base j).changes ++ changes_next (past base j) e.kind ∷ []
-  changes-append base j e = ap (λ (p : Past A). p.changes) (past-append base j e)
+  entries-append : (base : Rows A) (j : List (Entry A)) (e : Entry A) → (past base (j ++ e ∷ [])).entries ≡ (past base j).entries ++ recorded_next (past base j) e.kind ∷ []
+  entries-append base j e = ap (λ (p : Past A). p.entries) (past-append base j e)
 
-  pub mapof-append : (base : Rows A) (j : List (Entry A)) (e : Entry A) → mapof base (j ++ e ∷ []) ≡ changed (mapof base j) (changes_next (past base j) e.kind)
+  pub mapof-append : (base : Rows A) (j : List (Entry A)) (e : Entry A) → mapof base (j ++ e ∷ []) ≡ changed (mapof base j) (recorded_next (past base j) e.kind).changes
   mapof-append base j e = ap (λ (p : Past A). p.map) (past-append base j e)
 
   IsFrame-append : (base : Rows A) (j : List (Entry A)) (e : Entry A) (f : Frame A) → IsFrame base j f → IsFrame base (j ++ e ∷ []) f
@@ -94,15 +94,15 @@ module _ {A : Type 0} where
     within = (let n : length (j ++ e ∷ []) ≡ length j + 1 = length-append j (e ∷ []) in omega (arith, h.within, n));
     does = ap (option_and_then (λ (e : Entry A). action_by e.kind)) (numbered_within j e f.number h.within) ∙ h.does;
     recorded =
-        (let here : f.number ≤ length (past base j).changes = omega (arith, h.within, recorded_each base j) in
-        ap (λ cs. numbered cs f.number) (changes-append base j e) ∙ numbered_within (past base j).changes (changes_next (past base j) e.kind) f.number here ∙ h.recorded);
+        (let here : f.number ≤ length (past base j).entries = omega (arith, h.within, recorded_each base j) in
+        ap (λ cs. numbered cs f.number) (entries-append base j e) ∙ numbered_within (past base j).entries (recorded_next (past base j) e.kind) f.number here ∙ h.recorded);
     sound = h.sound;
   }
 
   -- the map after an accepted action
   pub mapof-do : (base : Rows A) (j : List (Entry A)) (e : Entry A) (a : Action A) → AreInOrder (mapof base j) → e.kind ≡ Do a → mapof base (j ++ e ∷ []) ≡ after (mapof base j) a
   mapof-do base j e a here k =
-      mapof-append base j e ∙ ap (λ k. changed (mapof base j) (changes_next (past base j) k)) k
+      mapof-append base j e ∙ ap (λ k. changed (mapof base j) (recorded_next (past base j) k).changes) k
       ∙ changed-differences (mapof base j) (after (mapof base j) a) here (AreInOrder-after (mapof base j) a here)
 
   -- the numbers that stand after it
@@ -112,10 +112,10 @@ module _ {A : Type 0} where
       ∙ ap (λ ss. ss ++ (1 + length j) ∷ []) (unfiltered (standing j))
 
   -- what it changed is recorded under its number
-  pub recorded-do : (base : Rows A) (j : List (Entry A)) (e : Entry A) (a : Action A) → e.kind ≡ Do a → numbered (past base (j ++ e ∷ [])).changes (suc (length j)) ≡ Some (changes (mapof base j) a)
+  pub recorded-do : (base : Rows A) (j : List (Entry A)) (e : Entry A) (a : Action A) → e.kind ≡ Do a → numbered (past base (j ++ e ∷ [])).entries (suc (length j)) ≡ Some (recorded_of (mapof base j) a)
   recorded-do base j e a k =
-      ap (λ n. numbered (past base (j ++ e ∷ [])).changes (suc n)) (sym (recorded_each base j)) ∙ ap (λ cs. numbered cs (suc (length (past base j).changes))) (changes-append base j e)
-      ∙ numbered_next (past base j).changes (changes_next (past base j) e.kind) ∙ ap (λ k. Some (changes_next (past base j) k)) k
+      ap (λ n. numbered (past base (j ++ e ∷ [])).entries (suc n)) (sym (recorded_each base j)) ∙ ap (λ cs. numbered cs (suc (length (past base j).entries))) (entries-append base j e)
+      ∙ numbered_next (past base j).entries (recorded_next (past base j) e.kind) ∙ ap (λ k. Some (recorded_next (past base j) k)) k
 
   -- an accepted action goes on top
   pub Stacked-do : (base : Rows A) (j : List (Entry A)) (e : Entry A) (a : Action A) → Stacked base j → e.kind ≡ Do a → is_made_action a ≡ true → refusal (mapof base j) a ≡ None → Stacked base (j ++ e ∷ [])
@@ -218,8 +218,8 @@ module _ {A : Type 0} where
       standing_is =
           standing_from-append 1 j e ∙ ap (λ k. filter (λ t. not (is_undo_of t k)) (standing j) ++ new_number k (1 + length j)) k ∙ append-nil (filter (λ t. not (nat_eq t s)) (standing j)) ∙ last.others
 
-      next : changes_next (past base j) e.kind ≡ inverse (changes cut.top.before cut.top.action)
-      next = ap (changes_next (past base j)) k ∙ ap (λ o. option_map_or inverse o []) (ap (numbered (past base j).changes) (sym cut.number) ∙ each.1.recorded)
+      next : (recorded_next (past base j) e.kind).changes ≡ inverse (changes cut.top.before cut.top.action)
+      next = ap (λ k. (recorded_next (past base j) k).changes) k ∙ ap (λ o. (taken_back o).changes) (ap (numbered (past base j).entries) (sym cut.number) ∙ each.1.recorded)
 
       map_is : mapof base (j ++ e ∷ []) ≡ cut.top.before
       map_is =

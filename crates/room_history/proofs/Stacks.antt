@@ -7,9 +7,8 @@ use Rattle.room_history.specs.Maps.{Rows}
 use Rattle.room_history.specs.Sound.{is_sound}
 use Rattle.room_history.specs.After.{after}
 use Rattle.room_history.specs.Refusals.{refusal}
-use Rattle.room_history.specs.Changes.{changes}
 use Rattle.room_history.specs.Journals.{numbered, action_of, standing}
-use Rattle.room_history.specs.Replays.{past, mapof}
+use Rattle.room_history.specs.Replays.{past, mapof, recorded_of}
 
 -- an entry that stands, with its action and the map that it was done on
 pub record Frame (A : Type 0) : Type 0 where
@@ -27,7 +26,7 @@ module _ {A : Type 0} where
   pub record IsFrame (base : Rows A) (j : List (Entry A)) (f : Frame A) : Type 0 where
     pub within : f.number ≤ length j
     pub does : action_of j f.number ≡ Some f.action
-    pub recorded : numbered (past base j).changes f.number ≡ Some (changes f.before f.action)
+    pub recorded : numbered (past base j).entries f.number ≡ Some (recorded_of f.before f.action)
     pub sound : is_sound f.before ≡ true
 
   -- the entries that stand are a stack, of which the map of the journal is the end

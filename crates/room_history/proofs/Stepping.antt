@@ -20,7 +20,7 @@ use Rattle.room_history.specs.Sound.{is_sound}
 use Rattle.room_history.specs.After.{after}
 use Rattle.room_history.specs.Refusals.{refusal, first_that_holds}
 use Rattle.room_history.specs.Journals.{action_of, standing}
-use Rattle.room_history.specs.Replays.{mapof, replay}
+use Rattle.room_history.specs.Replays.{past, mapof, replay}
 use Rattle.room_history.specs.Answers.{spent, asked, meant, undo_refusal, meaning_refusal, with_entry, answered, answer}
 use Rattle.room_history.specs.LegalJournals.{is_made_action, IsJournal, opened, called}
 use Rattle.room_history.specs.Runs.{IsStep}
@@ -52,10 +52,10 @@ module _ {A : Type 0} where
   pub step_full : (base : Rows A) (limit : ℕ) (j : List (Entry A)) (c : Call A) → spent j c.author c.id ≡ None → limit ≤ length j → IsStep base limit j c Full j
   step_full base limit j c fresh full =
       let k = meant j c.author c.request in
-      let why = meaning_refusal base j c.author k in
+      let why = meaning_refusal (past base j) j c k in
       let is_full : nat_le limit (length j) ≡ true = grind (arith, nat_tests) in
-      inl (sym (ap (λ o. answered j c.author c.id (first_that_holds (option_map Repeat o ∷ then_some (nat_le limit (length j)) Full ∷ why ∷ [])) k) fresh
-      ∙ ap (λ b. answered j c.author c.id (first_that_holds (then_some b Full ∷ why ∷ [])) k) is_full))
+      inl (sym (ap (λ o. answered j c (first_that_holds (option_map Repeat o ∷ then_some (nat_le limit (length j)) Full ∷ why ∷ [])) k) fresh
+      ∙ ap (λ b. answered j c (first_that_holds (then_some b Full ∷ why ∷ [])) k) is_full))
 
   -- a call is known by its parts
   pub same_call : (base : Rows A) (limit : ℕ) (j k : List (Entry A)) (c : Call A) (r : Request A) (reply : Reply) → c.request ≡ r → IsStep base limit j (record { author = c.author; id = c.id; request = r }) reply k → IsStep base limit j c reply k
@@ -63,14 +63,14 @@ module _ {A : Type 0} where
 
   module _ (base : Rows A) (limit : ℕ) (j : List (Entry A)) (author : Author) (id : ℕ) (may : MayAppend limit j author id) where
     -- the answer to a call whose id is unspent, in a journal that is not full
-    answer_is : (r : Request A) → answer base limit j (record { author = author; id = id; request = r }) ≡ answered j author id (meaning_refusal base j author (meant j author r)) (meant j author r)
+    answer_is : (r : Request A) → answer base limit j (record { author = author; id = id; request = r }) ≡ answered j (record { author = author; id = id; request = r }) (meaning_refusal (past base j) j (record { author = author; id = id; request = r }) (meant j author r)) (meant j author r)
     answer_is r = unspent base limit j (record { author = author; id = id; request = r }) may.0 (below limit (length j) may.1)
 
     done_is : (a : Action A) → refusal (mapof base j) a ≡ None → answer base limit j (record { author = author; id = id; request = requests.Do a }) ≡ (Done (length j + 1), with_entry j author id (Do a))
-    done_is a e = answer_is (requests.Do a) ∙ ap (λ o. answered j author id (option_map Refused o) (Some (Do a))) e
+    done_is a e = answer_is (requests.Do a) ∙ ap (λ o. answered j (record { author = author; id = id; request = requests.Do a }) (option_map Refused o) (Some (Do a))) e
 
     pub step_refused : (a : Action A) (r : Refusal) → refusal (mapof base j) a ≡ Some r → IsStep base limit j (record { author = author; id = id; request = requests.Do a }) (Refused r) j
-    step_refused a r e = inl (sym (answer_is (requests.Do a) ∙ ap (λ o. answered j author id (option_map Refused o) (Some (Do a))) e))
+    step_refused a r e = inl (sym (answer_is (requests.Do a) ∙ ap (λ o. answered j (record { author = author; id = id; request = requests.Do a }) (option_map Refused o) (Some (Do a))) e))
 
     pub step_done : (a : Action A) (seq : ℕ) → refusal (mapof base j) a ≡ None → seq ≡ length j + 1 → IsStep base limit j (record { author = author; id = id; request = requests.Do a }) (Done seq) (with_entry j author id (Do a))
     step_done a seq e is = inl (ap (λ n. (Done n, with_entry j author id (Do a))) is ∙ sym (done_is a e))
@@ -78,42 +78,42 @@ module _ {A : Type 0} where
     legal_do : IsJournal base limit j → (a : Action A) → is_made_action a ≡ true → refusal (mapof base j) a ≡ None → IsJournal base limit (with_entry j author id (Do a))
     legal_do h a made e = subst (λ k. IsJournal base limit k) (ap (λ (p : Reply × List (Entry A)). p.1) (done_is a e)) (called j (record { author = author; id = id; request = requests.Do a }) h made)
 
-    legal_undo : IsJournal base limit j → (s : ℕ) → undo_refusal j author s ≡ None → IsJournal base limit (with_entry j author id (Undo s))
+    legal_undo : IsJournal base limit j → (s : ℕ) → undo_refusal (past base j) j author s ≡ None → IsJournal base limit (with_entry j author id (Undo s))
     legal_undo h s e =
-        subst (λ k. IsJournal base limit k) (ap (λ (p : Reply × List (Entry A)). p.1) (answer_is (requests.Undo (Some s)) ∙ ap (λ o. answered j author id o (Some (Undo s))) e))
+        subst (λ k. IsJournal base limit k) (ap (λ (p : Reply × List (Entry A)). p.1) (answer_is (requests.Undo (Some s)) ∙ ap (λ o. answered j (record { author = author; id = id; request = requests.Undo (Some s) }) o (Some (Undo s))) e))
         (called j (record { author = author; id = id; request = requests.Undo (Some s) }) h refl)
 
     -- which entry an undo takes back, or why none
     record Taken (number : Option ℕ) (s : ℕ) : Type 0 where
       is : asked j author number ≡ Some s
-      ok : undo_refusal j author s ≡ None
+      ok : undo_refusal (past base j) j author s ≡ None
 
-    taken_by : (number o : Option ℕ) (s : ℕ) → asked j author number ≡ o → Ok s ≡ asked_or (undo_refusal j author) o → Taken number s
+    taken_by : (number o : Option ℕ) (s : ℕ) → asked j author number ≡ o → Ok s ≡ asked_or (undo_refusal (past base j) j author) o → Taken number s
     taken_by number None s is e = absurd (cc)
-    taken_by number (Some t) s is e = by (undo_refusal j author t) refl e
+    taken_by number (Some t) s is e = by (undo_refusal (past base j) j author t) refl e
       where
-        by : (o : Option Reply) → undo_refusal j author t ≡ o → Ok s ≡ undone_or t o → Taken number s
-        by None ok e = let same : t ≡ s = cc in record { is = is ∙ ap Some same; ok = ap (undo_refusal j author) (sym same) ∙ ok }
+        by : (o : Option Reply) → undo_refusal (past base j) j author t ≡ o → Ok s ≡ undone_or t o → Taken number s
+        by None ok e = let same : t ≡ s = cc in record { is = is ∙ ap Some same; ok = ap (undo_refusal (past base j) j author) (sym same) ∙ ok }
         by (Some r) ok e = absurd (cc)
 
-    pub can_undo : (number : Option ℕ) (s : ℕ) → Ok s ≡ asked_or (undo_refusal j author) (asked j author number) → undo_refusal j author s ≡ None
+    pub can_undo : (number : Option ℕ) (s : ℕ) → Ok s ≡ asked_or (undo_refusal (past base j) j author) (asked j author number) → undo_refusal (past base j) j author s ≡ None
     can_undo number s e = (taken_by number (asked j author number) s refl e).ok
 
-    pub step_undid : (number : Option ℕ) (s seq : ℕ) → Ok s ≡ asked_or (undo_refusal j author) (asked j author number) → seq ≡ length j + 1
+    pub step_undid : (number : Option ℕ) (s seq : ℕ) → Ok s ≡ asked_or (undo_refusal (past base j) j author) (asked j author number) → seq ≡ length j + 1
         → IsStep base limit j (record { author = author; id = id; request = requests.Undo number }) (Undid seq s) (with_entry j author id (Undo s))
     step_undid number s seq e is =
         let t = taken_by number (asked j author number) s refl e in
         inl (ap (λ n. (Undid n s, with_entry j author id (Undo s))) is
-        ∙ sym (answer_is (requests.Undo number) ∙ ap (λ o. answered j author id (meaning_refusal base j author (option_map Undo o)) (option_map Undo o)) t.is ∙ ap (λ o. answered j author id o (Some (Undo s))) t.ok))
+        ∙ sym (answer_is (requests.Undo number) ∙ ap (λ o. answered j (record { author = author; id = id; request = requests.Undo number }) (meaning_refusal (past base j) j (record { author = author; id = id; request = requests.Undo number }) (option_map Undo o)) (option_map Undo o)) t.is ∙ ap (λ o. answered j (record { author = author; id = id; request = requests.Undo number }) o (Some (Undo s))) t.ok))
 
-    pub step_not_undone : (number : Option ℕ) (r : Reply) → Err r ≡ asked_or (undo_refusal j author) (asked j author number) → IsStep base limit j (record { author = author; id = id; request = requests.Undo number }) r j
+    pub step_not_undone : (number : Option ℕ) (r : Reply) → Err r ≡ asked_or (undo_refusal (past base j) j author) (asked j author number) → IsStep base limit j (record { author = author; id = id; request = requests.Undo number }) r j
     step_not_undone number r e = inl (sym (answer_is (requests.Undo number) ∙ by (asked j author number) e))
       where
-        by : (o : Option ℕ) → Err r ≡ asked_or (undo_refusal j author) o → answered j author id (meaning_refusal base j author (option_map Undo o)) (option_map Undo o) ≡ (r, j)
+        by : (o : Option ℕ) → Err r ≡ asked_or (undo_refusal (past base j) j author) o → answered j (record { author = author; id = id; request = requests.Undo number }) (meaning_refusal (past base j) j (record { author = author; id = id; request = requests.Undo number }) (option_map Undo o)) (option_map Undo o) ≡ (r, j)
         by None e = ap (λ p. (p, j)) (cc)
-        by (Some t) e = why (undo_refusal j author t) e
+        by (Some t) e = why (undo_refusal (past base j) j author t) e
           where
-            why : (o : Option Reply) → Err r ≡ undone_or t o → answered j author id o (Some (Undo t)) ≡ (r, j)
+            why : (o : Option Reply) → Err r ≡ undone_or t o → answered j (record { author = author; id = id; request = requests.Undo number }) o (Some (Undo t)) ≡ (r, j)
             why None e = absurd (cc)
             why (Some p) e = ap (λ q. (q, j)) (cc)
 
@@ -150,9 +150,9 @@ module _ {A : Type 0} where
     pub leaves : (id : ℕ) (k : List (Entry A)) (rows' : Rows A) → MayAppend limit j author id → k ≡ with_entry j author id (Undo s) → replay [] (filter_map (action_of j) (take rest numbers)) ≡ Some rows'
         → IsRoom rows' (take rest numbers) base limit k
 
-  module _ (rows : Rows A) (numbers : List ℕ) (base : Rows A) (limit : ℕ) (j : List (Entry A)) (author : Author) (s : ℕ) (r : IsRoom rows numbers base limit j) (ok : undo_refusal j author s ≡ None) where
+  module _ (rows : Rows A) (numbers : List ℕ) (base : Rows A) (limit : ℕ) (j : List (Entry A)) (author : Author) (s : ℕ) (r : IsRoom rows numbers base limit j) (ok : undo_refusal (past base j) j author s ≡ None) where
     undone : (id : ℕ) → Undone base j s (record { author = author; id = id; kind = Undo s })
-    undone id = let f = found j author s ok in Stacked-undo base j (record { author = author; id = id; kind = Undo s }) s (room_stacked rows numbers base limit j r) refl f.there f.last
+    undone id = let f = found (past base j) j author s ok in Stacked-undo base j (record { author = author; id = id; kind = Undo s }) s (room_stacked rows numbers base limit j r) refl f.there f.last
 
     size_of : (id : ℕ) → length numbers ≡ length (undone id).front + 1
     size_of id = ap length (r.numbers_are ∙ (undone id).was) ∙ length-append (undone id).front (s ∷ [])

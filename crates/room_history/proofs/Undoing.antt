@@ -8,6 +8,7 @@ use Rattle.room_history.specs.declared.entry.Entry.{Entry}
 use Rattle.room_history.specs.declared.reply.Reply.TheVariants.{NotLast, NotStanding, NotYours, NoSuch}
 use Rattle.room_history.specs.Refusals.{first_that_holds}
 use Rattle.room_history.specs.Journals.{numbered, is_by, is_standing, standing}
+use Rattle.room_history.specs.Replays.{Past}
 use Rattle.room_history.specs.Answers.{blocker, undo_refusal}
 
 -- where the last two of four checks are looked at, none holds
@@ -32,7 +33,7 @@ module _ {A : Type 0} where
     pub there : list_any (λ t. nat_eq t s) (standing j) ≡ true
     pub last : find (nat_lt s) (standing j) ≡ None
 
-  pub found : (j : List (Entry A)) (author : Author) (s : ℕ) → undo_refusal j author s ≡ None → Found j s
-  found j author s e =
-      let two = last_two (then_some (is_none (numbered j s)) NoSuch) (then_some (not (is_by author (numbered j s))) NotYours) (then_some (not (is_standing j s)) NotStanding) (option_map NotLast (blocker j s)) e in
-      record { there = passed (is_standing j s) NotStanding two.0; last = mapped_none NotLast (blocker j s) two.1 }
+  pub found : (p : Past A) (j : List (Entry A)) (author : Author) (s : ℕ) → undo_refusal p j author s ≡ None → Found j s
+  found p j author s e =
+      let two = last_two (then_some (is_none (numbered j s)) NoSuch) (then_some (not (is_by author (numbered j s))) NotYours) (then_some (not (is_standing j s)) NotStanding) (option_map NotLast (blocker p j s)) e in
+      record { there = passed (is_standing j s) NotStanding two.0; last = mapped_none NotLast (blocker p j s) two.1 }

@@ -16,7 +16,7 @@ use Rattle.room_history.specs.Maps.{Rows}
 use Rattle.room_history.specs.Refusals.{refusal, first_that_holds}
 use Rattle.room_history.specs.SameAuthors.{is_same_author}
 use Rattle.room_history.specs.Journals.{is_by, is_standing, numbered, last, standing, undos}
-use Rattle.room_history.specs.Replays.{mapof}
+use Rattle.room_history.specs.Replays.{Past, past}
 
 module _ {A : Type 0} where
   -- an entry is the author's and spent the id
@@ -27,9 +27,9 @@ module _ {A : Type 0} where
   abbrev pub spent : List (Entry A) → Author → ℕ → Option ℕ
   spent j author id = option_map (λ i. i + 1) (position (spends author id) j)
 
-  -- the first entry after s that stands
-  abbrev pub blocker : List (Entry A) → ℕ → Option ℕ
-  blocker j s = find (nat_lt s) (standing j)
+  -- the first entry after s that stands, whatever the past recorded of the two
+  abbrev pub blocker : Past A → List (Entry A) → ℕ → Option ℕ
+  blocker p j s = find (nat_lt s) (standing j)
 
   -- which entry an undo asks for: without a number the author's last that stands
   abbrev pub asked : List (Entry A) → Author → Option ℕ → Option ℕ
@@ -41,30 +41,35 @@ module _ {A : Type 0} where
   meant j author (requests.Do a) = Some (Do a)
   meant j author (requests.Undo s) = option_map Undo (asked j author s)
 
+  -- the refusal where a request means nothing
+  abbrev pub nothing_meant : Request A → Reply
+  nothing_meant (requests.Do a) = NothingToUndo
+  nothing_meant (requests.Undo s) = NothingToUndo
+
   -- why an author's undo of s is refused, by the first check that holds
-  abbrev pub undo_refusal : List (Entry A) → Author → ℕ → Option Reply
-  undo_refusal j author s = first_that_holds (
+  abbrev pub undo_refusal : Past A → List (Entry A) → Author → ℕ → Option Reply
+  undo_refusal p j author s = first_that_holds (
       then_some (is_none (numbered j s)) NoSuch
       ∷ then_some (not (is_by author (numbered j s))) NotYours
       ∷ then_some (not (is_standing j s)) NotStanding
-      ∷ option_map NotLast (blocker j s)
+      ∷ option_map NotLast (blocker p j s)
       ∷ [])
 
   -- why an entry cannot be appended
-  abbrev pub kind_refusal : Rows A → List (Entry A) → Author → EntryKind A → Option Reply
-  kind_refusal base j author (Do a) = option_map Refused (refusal (mapof base j) a)
-  kind_refusal base j author (Undo s) = undo_refusal j author s
+  abbrev pub kind_refusal : Past A → List (Entry A) → Author → EntryKind A → Option Reply
+  kind_refusal p j author (Do a) = option_map Refused (refusal p.map a)
+  kind_refusal p j author (Undo s) = undo_refusal p j author s
 
-  abbrev pub meaning_refusal : Rows A → List (Entry A) → Author → Option (EntryKind A) → Option Reply
-  meaning_refusal base j author None = Some NothingToUndo
-  meaning_refusal base j author (Some k) = kind_refusal base j author k
+  abbrev pub meaning_refusal : Past A → List (Entry A) → Call A → Option (EntryKind A) → Option Reply
+  meaning_refusal p j c None = Some (nothing_meant c.request)
+  meaning_refusal p j c (Some k) = kind_refusal p j c.author k
 
   -- the first refusal of a call, or none
   abbrev pub call_refusal : Rows A → ℕ → List (Entry A) → Call A → Option Reply
   call_refusal base limit j c = first_that_holds (
       option_map Repeat (spent j c.author c.id)
       ∷ then_some (nat_le limit (length j)) Full
-      ∷ meaning_refusal base j c.author (meant j c.author c.request)
+      ∷ meaning_refusal (past base j) j c (meant j c.author c.request)
       ∷ [])
 
   -- the reply to an accepted call, under its entry's number
@@ -76,13 +81,13 @@ module _ {A : Type 0} where
   abbrev pub with_entry : List (Entry A) → Author → ℕ → EntryKind A → List (Entry A)
   with_entry j author id k = j ++ record { author = author; id = id; kind = k } ∷ []
 
-  abbrev pub answered : List (Entry A) → Author → ℕ → Option Reply → Option (EntryKind A) → Reply × List (Entry A)
-  answered j author id (Some refused) k = (refused, j)
-  answered j author id None None = (NothingToUndo, j)
-  answered j author id None (Some k) = (accepted (length j + 1) k, with_entry j author id k)
+  abbrev pub answered : List (Entry A) → Call A → Option Reply → Option (EntryKind A) → Reply × List (Entry A)
+  answered j c (Some refused) k = (refused, j)
+  answered j c None None = (nothing_meant c.request, j)
+  answered j c None (Some k) = (accepted (length j + 1) k, with_entry j c.author c.id k)
 
   abbrev pub answer : Rows A → ℕ → List (Entry A) → Call A → Reply × List (Entry A)
-  answer base limit j c = answered j c.author c.id (call_refusal base limit j c) (meant j c.author c.request)
+  answer base limit j c = answered j c (call_refusal base limit j c) (meant j c.author c.request)
 
   -- the replies to calls in turn, and the journal that they leave
   abbrev pub answers : Rows A → ℕ → List (Entry A) → List (Call A) → List Reply × List (Entry A)

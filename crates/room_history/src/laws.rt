@@ -2,7 +2,9 @@
 ghost use Rattle.std.specs.Prelude.{◌≡◌, ◌≢◌, ℕ, true, List, None};
 ghost use Rattle.room_history.specs.declared.action.Action.{Action};
 ghost use Rattle.room_history.specs.declared.entry.Entry.{Entry};
+ghost use Rattle.osm_elements.specs.Rows.{AreInOrder};
 ghost use Rattle.room_history.specs.After.{after};
+ghost use Rattle.room_history.specs.Changes.{changed, differences, inverse};
 ghost use Rattle.room_history.specs.Headline.{Holds};
 ghost use Rattle.room_history.specs.LegalJournals.{is_made_action, IsJournal};
 ghost use Rattle.room_history.specs.Maps.{Rows};
@@ -21,6 +23,12 @@ pub fn accepted_keeps_sound<A: Allocator>()
 /// Every journal that calls lead to from a sound base holds.
 pub fn journals_hold<A: Allocator>()
     ensures { (base : Rows A) (limit : ℕ) (j : List (Entry A)) → is_sound base ≡ true → IsJournal base limit j → Holds base limit j }
+{}
+
+/// The changes between two maps lead from the one to the other, and taken back to the one again.
+pub fn changes_lead_there_and_back<A: Allocator>()
+    ensures there { (m n : Rows A) → AreInOrder m → AreInOrder n → changed m (differences m n) ≡ n }
+    ensures back { (m n : Rows A) → AreInOrder m → AreInOrder n → changed n (inverse (differences m n)) ≡ m }
 {}
 
 /// What the definitions say of the worked examples is what was worked out by hand.

@@ -49,7 +49,7 @@ impl<A: Allocator + Copy> Room<A> {
     ghost use Rattle.room_history.specs.Refusals.{refusal};
     ghost use Rattle.room_history.specs.declared.entry.EntryKind.TheVariants.{Do, Undo};
     ghost use Rattle.room_history.specs.Journals.{numbered};
-    ghost use Rattle.room_history.specs.Replays.{mapof};
+    ghost use Rattle.room_history.specs.Replays.{past, mapof};
     ghost use Rattle.room_history.specs.Headline.{Holds};
     ghost use Rattle.room_history.specs.Inner.Rooms.{MayAppend};
     ghost use Rattle.room_history.specs.LegalJournals.{is_made_action};
@@ -169,7 +169,7 @@ impl<A: Allocator + Copy> Room<A> {
     // Appends the undo of the last entry that stands, and answers its number.
     fn append_undo(&mut self, author: Author, id: u64, of: u64) -> Result<u64, Memory>
         requires may { MayAppend self.old.limit self.old.journal author id }
-        requires accepted { undo_refusal self.old.journal author of ≡ None }
+        requires accepted { undo_refusal (past self.old.base self.old.journal) self.old.journal author of ≡ None }
         ensures ok { IfOk result (λ seq. (seq ≡ length self.old.journal + 1)
             × (self.new ≡ record self.old { journal = with_entry self.old.journal author id (Undo of) })) }
         ensures err { OnErr result (self.new ≡ self.old) }

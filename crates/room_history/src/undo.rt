@@ -2,6 +2,7 @@
 ghost use Rattle.std.specs.Prelude.{◌≡◌};
 ghost use Rattle.room_history.specs.Answers.{asked, undo_refusal};
 ghost use Rattle.room_history.specs.Journals.{standing};
+ghost use Rattle.room_history.specs.Replays.{Past};
 ghost use Rattle.room_history.specs.Inner.Plans.{asked_or, undone_or};
 
 use crate::author::Author;
@@ -21,7 +22,7 @@ pub fn undoable<A: Allocator>(
     number: Option<u64>,
 ) -> Result<u64, Reply>
     requires { numbers.now ≡ standing entries.now }
-    ensures { result ≡ asked_or (undo_refusal entries.now author.now) (asked entries.now author.now number) }
+    ensures { (p : Past A) → result ≡ asked_or (undo_refusal p entries.now author.now) (asked entries.now author.now number) }
 {
     match number {
         Some(seq) => checked(entries, numbers, author, seq),
@@ -40,7 +41,7 @@ fn checked<A: Allocator>(
     seq: u64,
 ) -> Result<u64, Reply>
     requires { numbers.now ≡ standing entries.now }
-    ensures { result ≡ undone_or seq (undo_refusal entries.now author.now seq) }
+    ensures { (p : Past A) → result ≡ undone_or seq (undo_refusal p entries.now author.now seq) }
 {
     match numbered(entries, seq) {
         None => Err(Reply::NoSuch),

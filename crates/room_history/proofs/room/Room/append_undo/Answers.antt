@@ -1,6 +1,7 @@
 use Rattle.std.proofs.Common.{◌≡◌, ◌-◌, ◌++◌, ◌∷◌, [], length, sym, ap, subst, ◌∙◌, arith, rules}
 use Rattle.room_history.specs.declared.entry.EntryKind.TheVariants.{Undo}
 use Rattle.room_history.specs.Answers.{undo_refusal}
+use Rattle.room_history.specs.Replays.{past}
 use Rattle.room_history.specs.Inner.Rooms.{MayAppend}
 use Rattle.room_history.proofs.Stepping.{numbers_left, undoing}
 use Rattle.room_history.proofs.room.Room.append_undo.Goals as goal
@@ -8,7 +9,7 @@ use Rattle.room_history.proofs.room.Room.append_undo.Goals as goal
 pub overflow_sub-rest : goal.overflow_sub-rest
 overflow_sub-rest g c =
     let room = c.self.inside in
-    let ok = ap (λ s. undo_refusal s.journal c.args.author c.args.of) c.self.view_is ∙ c.requires.accepted in
+    let ok = ap (λ s. undo_refusal (past s.base s.journal) s.journal c.args.author c.args.of) c.self.view_is ∙ c.requires.accepted in
     let left = numbers_left room.map room.standing.items room.base.value room.limit room.entries.items c.args.author c.args.of c.self.invariant ok in
     let count : c.len-rest.result ≡ length c.self.inside.standing.items = search rules in
     omega (arith, left, count)
@@ -16,7 +17,7 @@ overflow_sub-rest g c =
 pub replay-requires : goal.replay-requires
 replay-requires g c =
     let room = c.self.inside in
-    let ok = ap (λ s. undo_refusal s.journal c.args.author c.args.of) c.self.view_is ∙ c.requires.accepted in
+    let ok = ap (λ s. undo_refusal (past s.base s.journal) s.journal c.args.author c.args.of) c.self.view_is ∙ c.requires.accepted in
     let left = numbers_left room.map room.standing.items room.base.value room.limit room.entries.items c.args.author c.args.of c.self.invariant ok in
     let count : c.len-rest.result ≡ length c.self.inside.standing.items = search rules in
     let u = undoing room.map room.standing.items room.base.value room.limit room.entries.items c.args.author c.args.of c.self.invariant ok (c.len-rest.result - 1) (omega (arith, left, count)) in
@@ -26,7 +27,7 @@ replay-requires g c =
 pub invariant_of-self-2 : goal.invariant_of-self-2
 invariant_of-self-2 g c =
     let room = c.self.inside in
-    let ok = ap (λ s. undo_refusal s.journal c.args.author c.args.of) c.self.view_is ∙ c.requires.accepted in
+    let ok = ap (λ s. undo_refusal (past s.base s.journal) s.journal c.args.author c.args.of) c.self.view_is ∙ c.requires.accepted in
     let left = numbers_left room.map room.standing.items room.base.value room.limit room.entries.items c.args.author c.args.of c.self.invariant ok in
     let count : c.len-rest.result ≡ length c.self.inside.standing.items = search rules in
     let u = undoing room.map room.standing.items room.base.value room.limit room.entries.items c.args.author c.args.of c.self.invariant ok (c.len-rest.result - 1) (omega (arith, left, count)) in

@@ -1,19 +1,30 @@
 use Rattle.std.proofs.Common.{ap, ◌∙◌}
 use Rattle.room_history.specs.Answers.{asked, undo_refusal}
+use Rattle.room_history.specs.Replays.{past}
 use Rattle.room_history.specs.Inner.Plans.{asked_or}
-use Rattle.room_history.proofs.Stepping.{step_undid, step_not_undone}
+use Rattle.room_history.proofs.Stepping.{can_undo, step_undid, step_not_undone}
 use Rattle.room_history.proofs.room.Room.undo.Goals as goal
 
 pub returns-in-Err-clause-step : goal.returns-in-Err-clause-step
 returns-in-Err-clause-step g c =
     let state = c.args.self.now in
-    let why = rw c.deref.ensures.value at c.in-Err.ensures in
+    let past_is = past state.base state.journal in
+    let why = rw c.deref.ensures.value at (c.in-Err.ensures past_is) in
     step_not_undone state.base state.limit state.journal c.args.author c.args.id c.requires c.args.number c.in-Err.refusal
-    (why ∙ ap (λ s. asked_or (undo_refusal s.journal c.args.author) (asked s.journal c.args.author c.args.number)) c.self.view_is)
+    (why ∙ ap (λ s. asked_or (undo_refusal past_is s.journal c.args.author) (asked s.journal c.args.author c.args.number)) c.self.view_is)
+
+pub append_undo-requires-clause-accepted : goal.append_undo-requires-clause-accepted
+append_undo-requires-clause-accepted g c =
+    let state = c.args.self.now in
+    let past_is = past state.base state.journal in
+    let why = rw c.deref.ensures.value at (c.in-Ok.ensures past_is) in
+    can_undo state.base state.limit state.journal c.args.author c.args.id c.requires c.args.number c.in-Ok.of
+    (why ∙ ap (λ s. asked_or (undo_refusal past_is s.journal c.args.author) (asked s.journal c.args.author c.args.number)) c.self.view_is)
 
 pub returns-in-Ok-append_undo-clause-step : goal.returns-in-Ok-append_undo-clause-step
 returns-in-Ok-append_undo-clause-step g c =
     let state = c.args.self.now in
-    let why = rw c.deref.ensures.value at c.in-Ok.ensures in
+    let past_is = past state.base state.journal in
+    let why = rw c.deref.ensures.value at (c.in-Ok.ensures past_is) in
     rw c.in-Ok-append_undo.ensures.ok.1 (step_undid state.base state.limit state.journal c.args.author c.args.id c.requires c.args.number c.in-Ok.of c.in-Ok-append_undo.seq
-    (why ∙ ap (λ s. asked_or (undo_refusal s.journal c.args.author) (asked s.journal c.args.author c.args.number)) c.self.view_is) c.in-Ok-append_undo.ensures.ok.0)
+    (why ∙ ap (λ s. asked_or (undo_refusal past_is s.journal c.args.author) (asked s.journal c.args.author c.args.number)) c.self.view_is) c.in-Ok-append_undo.ensures.ok.0)
