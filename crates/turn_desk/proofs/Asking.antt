@@ -8,8 +8,8 @@ use lib.ListN.{get_elem?}
 use Rattle.atomic_table.specs.Table.{State, Me, keeps, takes, Allows}
 use Rattle.atomic_table.proofs.Lists.{set_again, one_turn}
 use Rattle.turn_desk.specs.Rule.{HasTurn, HoldsTicket, Kept}
-use Rattle.turn_desk.specs.Plays.{turning, TakesTurn, Asks}
-use Rattle.turn_desk.specs.Steps.{IsWaiting}
+use Rattle.turn_desk.specs.Inner.Plays.{turning, TakesTurn, Asks}
+use Rattle.turn_desk.specs.Inner.Steps.{IsWaiting}
 use Rattle.turn_desk.specs.declared.view.View.{View}
 use Rattle.turn_desk.specs.declared.view.Stage.TheVariants.{Waiting}
 use Rattle.turn_desk.proofs.Lists.{total-set, set_at, starts_with_itself}

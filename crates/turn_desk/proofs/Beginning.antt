@@ -6,7 +6,7 @@ use lib.ListN.{get_elem?}
 use Rattle.atomic_table.specs.Table.{opening}
 use Rattle.turn_desk.specs.History.{entries_by}
 use Rattle.turn_desk.specs.Rule.{Supplies, Moment, Fits, Kept}
-use Rattle.turn_desk.specs.Opening.{first_view}
+use Rattle.turn_desk.specs.Inner.Opening.{first_view}
 use Rattle.turn_desk.specs.declared.view.View.{View}
 use Rattle.turn_desk.proofs.Lists.{All-more}
 use Rattle.turn_desk.proofs.Known.{Known}

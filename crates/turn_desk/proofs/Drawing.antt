@@ -3,7 +3,7 @@ use Rattle.std.proofs.Common.{◌≡◌, ℕ, ◌+◌, ◌%◌, ◌^◌, ◌<◌
 use Rattle.std.proofs.Math.Nat.{mod-add-mod}
 use Rattle.atomic_table.specs.Table.{Me, keeps, Allows}
 use Rattle.turn_desk.specs.Rule.{HasTurn, Moment, HoldsTicket, Kept}
-use Rattle.turn_desk.specs.Plays.{Draws, waiting}
+use Rattle.turn_desk.specs.Inner.Plays.{Draws, waiting}
 use Rattle.turn_desk.specs.declared.view.View.{View}
 use Rattle.turn_desk.specs.declared.view.Stage.{Stage}
 use Rattle.turn_desk.specs.declared.view.Stage.TheVariants.{Idle, Waiting, Turning}

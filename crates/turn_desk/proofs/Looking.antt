@@ -2,7 +2,7 @@
 use Rattle.std.proofs.Common.{◌≡◌, ℕ, List, slice_index, slice_set, sym, refl, ap, subst, arith, Option, Some}
 use Rattle.atomic_table.specs.Table.{Me, keeps, Allows}
 use Rattle.turn_desk.specs.Rule.{HasTurn, HoldsTicket, Kept}
-use Rattle.turn_desk.specs.Plays.{looking, Sees, Looks}
+use Rattle.turn_desk.specs.Inner.Plays.{looking, Sees, Looks}
 use Rattle.turn_desk.specs.declared.view.View.{View}
 use Rattle.turn_desk.specs.declared.view.Stage.{Stage}
 use Rattle.turn_desk.specs.declared.view.Stage.TheVariants.{Idle}

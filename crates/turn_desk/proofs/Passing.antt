@@ -4,7 +4,7 @@ use Rattle.std.proofs.Math.Nat.{mod-add-mod}
 use mathlib.Core.Option.{some}
 use Rattle.atomic_table.specs.Table.{Me, gives, put_back, rest, Allows}
 use Rattle.turn_desk.specs.Rule.{Moment, HoldsTicket, StandsFor, Kept}
-use Rattle.turn_desk.specs.Plays.{resting, PassesOn}
+use Rattle.turn_desk.specs.Inner.Plays.{resting, PassesOn}
 use Rattle.turn_desk.specs.declared.view.View.{View}
 use Rattle.turn_desk.specs.declared.view.Stage.{Stage}
 use Rattle.turn_desk.specs.declared.view.Stage.TheVariants.{Idle, Waiting, Turning}

@@ -7,8 +7,8 @@ use lib.ListN.{get_elem?}
 use Rattle.atomic_table.specs.Table.{State, Me, Act, keeps, takes, gives, put_back, rest, stepped, Allows, opening}
 use Rattle.turn_desk.specs.History.{History, entries, entries_by, StartsWith, MayFollow, IsLegal}
 use Rattle.turn_desk.specs.Rule.{HasTurn, kin_of, Agrees, Moment, HoldsTicket, Fits, StandsFor, Kept}
-use Rattle.turn_desk.specs.Plays.{looking, Grows, Enters, Stores}
-use Rattle.turn_desk.specs.Steps.{MayLead}
+use Rattle.turn_desk.specs.Inner.Plays.{looking, Grows, Enters, Stores}
+use Rattle.turn_desk.specs.Inner.Steps.{MayLead}
 use Rattle.turn_desk.specs.declared.view.View.{View}
 use Rattle.turn_desk.specs.declared.view.Stage.{Stage}
 use Rattle.turn_desk.specs.declared.view.Stage.TheVariants.{Idle, Waiting, Turning}

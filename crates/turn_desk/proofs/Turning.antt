@@ -3,8 +3,8 @@ use Rattle.std.proofs.Common.{◌≡◌, ℕ, List, [], ◌∷◌, sym, ap, ◌�
 use Rattle.atomic_table.specs.Table.{Me}
 use Rattle.turn_desk.specs.History.{entries, StartsWith}
 use Rattle.turn_desk.specs.Rule.{Agrees}
-use Rattle.turn_desk.specs.Plays.{Draws, Stores, waiting, turning, looking, TakesTurn, Enters}
-use Rattle.turn_desk.specs.Steps.{IsAtRest, HoldsRoom, GetsTurn, MakesCall}
+use Rattle.turn_desk.specs.Inner.Plays.{Draws, Stores, waiting, turning, looking, TakesTurn, Enters}
+use Rattle.turn_desk.specs.Inner.Steps.{IsAtRest, HoldsRoom, GetsTurn, MakesCall}
 use Rattle.turn_desk.specs.declared.view.View.{View}
 use Rattle.turn_desk.specs.declared.view.Stage.TheVariants.{Waiting}
 use Rattle.turn_desk.proofs.Known.{agrees_still}

@@ -1,6 +1,4 @@
 pub mod History
 pub mod Desk
 pub mod Rule
-pub mod Opening
-pub mod Plays
-pub mod Steps
+pub mod Inner

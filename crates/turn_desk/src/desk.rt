@@ -25,7 +25,7 @@ pub struct Desk<R: Turned, A: Allocator> {
 
 impl<R: Turned, A: Allocator> Model for Desk<R, A> {
     ghost use Rattle.turn_desk.specs.Desk.{DeskId};
-    ghost use Rattle.turn_desk.specs.Steps.{IsSized};
+    ghost use Rattle.turn_desk.specs.Inner.Steps.{IsSized};
 
     ghost Value = { DeskId R.Fixed };
 

@@ -9,7 +9,7 @@ pub(crate) struct InTurns;
 
 impl<R: Turned> TableRule<Option<R>, View<R::Entry, R::Fixed>, Snapshot<R>> for InTurns {
     ghost use Rattle.turn_desk.specs.Rule.{Kept};
-    ghost use Rattle.turn_desk.specs.Opening.{first_view};
+    ghost use Rattle.turn_desk.specs.Inner.Opening.{first_view};
 
     ghost holds = { λ key. Kept R.fixed R.list R.answers (R.fixed key.value) };
 
@@ -20,7 +20,7 @@ impl<R: Turned> TableRule<Option<R>, View<R::Entry, R::Fixed>, Snapshot<R>> for 
 pub(crate) struct Draw;
 
 impl<R: Turned> Play<Option<R>, View<R::Entry, R::Fixed>> for Draw {
-    ghost use Rattle.turn_desk.specs.Plays.{Draws};
+    ghost use Rattle.turn_desk.specs.Inner.Plays.{Draws};
 
     ghost then = { λ _. Draws };
 }
@@ -29,7 +29,7 @@ impl<R: Turned> Play<Option<R>, View<R::Entry, R::Fixed>> for Draw {
 pub(crate) struct Ask;
 
 impl<R: Turned> Play<Option<R>, View<R::Entry, R::Fixed>> for Ask {
-    ghost use Rattle.turn_desk.specs.Plays.{Asks};
+    ghost use Rattle.turn_desk.specs.Inner.Plays.{Asks};
 
     ghost then = { λ _. Asks R.fixed R.list R.answers };
 }
@@ -38,7 +38,7 @@ impl<R: Turned> Play<Option<R>, View<R::Entry, R::Fixed>> for Ask {
 pub(crate) struct Store;
 
 impl<R: Turned> Play<Option<R>, View<R::Entry, R::Fixed>> for Store {
-    ghost use Rattle.turn_desk.specs.Plays.{Stores};
+    ghost use Rattle.turn_desk.specs.Inner.Plays.{Stores};
 
     ghost then = { λ _. Stores R.fixed R.list R.answers };
 }
@@ -47,7 +47,7 @@ impl<R: Turned> Play<Option<R>, View<R::Entry, R::Fixed>> for Store {
 pub(crate) struct PassOn;
 
 impl<R: Turned> Play<Option<R>, View<R::Entry, R::Fixed>> for PassOn {
-    ghost use Rattle.turn_desk.specs.Plays.{PassesOn};
+    ghost use Rattle.turn_desk.specs.Inner.Plays.{PassesOn};
 
     ghost then = { λ _. PassesOn };
 }
@@ -56,7 +56,7 @@ impl<R: Turned> Play<Option<R>, View<R::Entry, R::Fixed>> for PassOn {
 pub(crate) struct Look;
 
 impl<R: Turned> Play<Option<R>, View<R::Entry, R::Fixed>> for Look {
-    ghost use Rattle.turn_desk.specs.Plays.{Looks};
+    ghost use Rattle.turn_desk.specs.Inner.Plays.{Looks};
 
     ghost then = { λ _. Looks R.fixed R.list R.answers };
 }

@@ -14,7 +14,7 @@ pub struct Seat<R: Turned> {
 
 impl<R: Turned> Model for Seat<R> {
     ghost use Rattle.turn_desk.specs.Desk.{Sitting, sitting};
-    ghost use Rattle.turn_desk.specs.Steps.{IsAtRest};
+    ghost use Rattle.turn_desk.specs.Inner.Steps.{IsAtRest};
 
     ghost Value = { Sitting R.Entry R.Fixed };
 

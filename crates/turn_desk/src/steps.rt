@@ -3,8 +3,8 @@
 //! Word 0 is the length of the history, word 1 the number of tickets drawn, and word 2 the number of tickets served, both modulo 2^64.
 //! The one slot holds the room while no seat has the turn. From the load that gives a seat the turn until it gives the turn on, the slot is the seat's.
 ghost use Rattle.std.specs.Prelude.{◌≡◌, ◌⊎◌, ℕ, ◌%◌, ◌^◌, ◌<◌, [], ◌∷◌, length, Some, None};
-ghost use Rattle.turn_desk.specs.Plays.{Draws, Asks, Stores, PassesOn, Looks, TakesTurn};
-ghost use Rattle.turn_desk.specs.Steps.{SitsAt, IsSamePlace, IsWaiting, IsTurning, IsAtRest, HoldsRoom, MayEnter, GetsTurn, MakesCall};
+ghost use Rattle.turn_desk.specs.Inner.Plays.{Draws, Asks, Stores, PassesOn, Looks, TakesTurn};
+ghost use Rattle.turn_desk.specs.Inner.Steps.{SitsAt, IsSamePlace, IsWaiting, IsTurning, IsAtRest, HoldsRoom, MayEnter, GetsTurn, MakesCall};
 ghost use Rattle.turn_desk.specs.Desk.{sitting, IsSameSeat, TurnsAt, LooksAt, ClosesWith};
 ghost use Rattle.turn_desk.specs.declared.view.Stage.TheVariants.{Idle, Waiting};
 

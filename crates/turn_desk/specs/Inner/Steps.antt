@@ -5,7 +5,7 @@ use Rattle.atomic_table.specs.Seated.{TableId}
 use Rattle.atomic_table.specs.declared.shared.Seat.{Seat}
 use Rattle.turn_desk.specs.History.{History, entries, StartsWith, MayFollow, IsLegal}
 use Rattle.turn_desk.specs.Rule.{Agrees, StandsFor}
-use Rattle.turn_desk.specs.Plays.{waiting, turning, looking, Grows}
+use Rattle.turn_desk.specs.Inner.Plays.{waiting, turning, looking, Grows}
 use Rattle.turn_desk.specs.declared.view.View.{View}
 use Rattle.turn_desk.specs.declared.view.Stage.TheVariants.{Idle, Waiting, Turning}
 
