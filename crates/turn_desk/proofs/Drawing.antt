@@ -46,7 +46,7 @@ module _ {R E F C P : Type 0} (fixed : R → F) (list : R → List E) (answers :
             fixed = it.fixed;
             seen = it.seen;
             told = it.told;
-            agrees = agrees_still now.log me.0 w.stage w.parts w.seen w.looks it.agrees;
+            agrees = agrees_still now.log me.0 w.stage w.parts w.seen w.looks w.tickets it.agrees;
             kin = it.kin;
             supply = it.supply;
             ticket = (order, omega arith, put_here now.drawer now.drawn id);

@@ -47,9 +47,9 @@ module _ {E F : Type 0} where
   Known now f j v = IsSpent v ⊎ Fits now j f v
 
   -- what a seat knows of its kin does not depend on where it is in its turn, nor on what it has seen
-  pub agrees_still : (h : History E) (v : View E F) (stage : Stage) (parts : ℕ) (seen : History E) (looks : List ℕ) → Agrees h v
-      → Agrees h (record v { stage = stage; parts = parts; seen = seen; looks = looks })
-  agrees_still h v stage parts seen looks a = record { kin = a.kin; apart = a.apart; supply = a.supply; stride = a.stride }
+  pub agrees_still : (h : History E) (v : View E F) (stage : Stage) (parts : ℕ) (seen : History E) (looks tickets : List ℕ) → Agrees h v
+      → Agrees h (record v { stage = stage; parts = parts; seen = seen; looks = looks; tickets = tickets })
+  agrees_still h v stage parts seen looks tickets a = record { kin = a.kin; apart = a.apart; supply = a.supply; stride = a.stride }
 
   -- a seat with its fixed part was not met into another
   pub fits : (now : Moment E) (f : F) (j : ℕ) (v : View E F) → v.fixed ≡ Some f → Known now f j v → Fits now j f v

@@ -1,6 +1,9 @@
 -- The step that looks at the length of the history.
-use Rattle.std.proofs.Common.{◌≡◌, ℕ, List, slice_index, slice_set, sym, refl, ap, subst, arith, Option, Some}
+use Rattle.std.proofs.Common.{◌≡◌, ℕ, List, length, slice_index, slice_set, sym, refl, ap, ◌∙◌, subst, arith, Option, Some}
 use Rattle.atomic_table.specs.Table.{Me, keeps, Allows}
+use Rattle.atomic_table.specs.declared.shared.Seat.{Seat}
+use Rattle.turn_desk.specs.Desk.{sitting, LooksAt}
+use Rattle.turn_desk.specs.History.{History, StartsWith, IsLegal}
 use Rattle.turn_desk.specs.Rule.{HasTurn, HoldsTicket, Kept}
 use Rattle.turn_desk.specs.Inner.Plays.{looking, Sees, Looks}
 use Rattle.turn_desk.specs.declared.view.View.{View}
@@ -33,7 +36,7 @@ module _ {R E F C P : Type 0} (fixed : R → F) (list : R → List E) (answers :
             fixed = it.fixed;
             seen = starts_with_itself now.log;
             told = it.told;
-            agrees = agrees_still now.log me.0 w.stage w.parts w.seen w.looks it.agrees;
+            agrees = agrees_still now.log me.0 w.stage w.parts w.seen w.looks w.tickets it.agrees;
             kin = it.kin;
             supply = it.supply;
             ticket = subst (HoldsTicket now id w) (sym idle) (subst (HoldsTicket now id me.0) idle it.ticket);
@@ -49,3 +52,20 @@ module _ {R E F C P : Type 0} (fixed : R → F) (list : R → List E) (answers :
           after = refl;
         },
       )
+
+  -- what a look makes of the seat
+  pub looked : (before after : Seat (Option R) (View E F)) (found : ℕ) → Sees fixed list answers f found before.me after.me → LooksAt answers f (sitting before) found (sitting after)
+  looked before after found it =
+      let is = it.after in
+      let seen : after.me.0.seen ≡ it.h = ap (λ (x : Me (Option R) (View E F)). x.0.seen) is in record {
+        h = it.h;
+        legal = it.legal;
+        front = subst (StartsWith it.h) (sym seen) (starts_with_itself it.h);
+        begins = subst (λ (x : History E). StartsWith x before.me.0.seen) (sym seen) it.seen;
+        stays_legal = subst (IsLegal answers f) (sym seen) it.legal;
+        whole = it.length_is;
+        count_is = ap length seen ∙ it.length_is;
+        look = ap (λ (x : Me (Option R) (View E F)). x.0.looks) is;
+        mine = ap (λ (x : Me (Option R) (View E F)). x.0.mine) is;
+        tickets = ap (λ (x : Me (Option R) (View E F)). x.0.tickets) is;
+      }

@@ -56,7 +56,7 @@ module _ {R E F C P : Type 0} (fixed : R → F) (list : R → List E) (answers :
             fixed = it.fixed;
             seen = it.seen;
             told = it.told;
-            agrees = agrees_still now.log me.0 w.stage w.parts w.seen w.looks it.agrees;
+            agrees = agrees_still now.log me.0 w.stage w.parts w.seen w.looks w.tickets it.agrees;
             kin = it.kin;
             supply = it.supply;
             ticket = omega arith;

@@ -90,7 +90,7 @@ module _ {R E F C P : Type 0} (fixed : R → F) (list : R → List E) (answers :
             fixed = it.fixed;
             seen = starts_with_itself h;
             told = told;
-            agrees = agrees_still h v w.stage w.parts w.seen w.looks agrees;
+            agrees = agrees_still h v w.stage w.parts w.seen w.looks w.tickets agrees;
             kin = All-more (λ k. now.owner k.0 ≡ id) (v.number, mine) v.met (All-head (λ k. now.owner k.0 ≡ id) (v.number, me.0.mine) v.met it.kin) (All-tail (λ k. now.owner k.0 ≡ id) (v.number, me.0.mine) v.met it.kin);
             supply = it.supply;
             ticket = subst (HoldsTicket (record now { log = h }) id w) (sym stage) (ticket.0, ticket.1, ticket.2, refl);

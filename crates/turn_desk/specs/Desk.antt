@@ -11,7 +11,8 @@ pub record DeskId (F : Type 0) : Type 0 where
   pub fixed : F
 
 -- A seat: its desk's table and fixed part (an Option, since what is left of a seat that was met into another has none), its number, the history that it has seen, the entries of its own calls, the seats met into it, each with its number and the entries of its calls,
--- the lengths of the history that it loaded or stored, in order, and its parts of the 2^64 - 1 that a desk has. Each seat has at least one, so that there are fewer than 2^64 seats at once
+-- the lengths of the history that it loaded or stored, in order, the tickets that it drew, in order, and its parts of the 2^64 - 1 that a desk has. Each seat has at least one, so that there are fewer than 2^64 seats at once.
+-- A seat that is split gives a 64th of its parts to the new one, and at least one part
 pub record Sitting (E F : Type 0) : Type 0 where
   pub table : TableId
   pub fixed : Option F
@@ -20,12 +21,13 @@ pub record Sitting (E F : Type 0) : Type 0 where
   pub mine : List E
   pub met : List (ℕ × List E)
   pub looks : List ℕ
+  pub tickets : List ℕ
   pub parts : ℕ
 
 module _ {E F : Type 0} where
   -- what contracts see of a seat at a table
   abbrev pub sitting : {S : Type 0} → Seat S (View E F) → Sitting E F
-  sitting seat = let v = seat.me.0 in record { table = seat.table_id; fixed = v.fixed; number = v.number; seen = v.seen; mine = v.mine; met = v.met; looks = v.looks; parts = v.parts }
+  sitting seat = let v = seat.me.0 in record { table = seat.table_id; fixed = v.fixed; number = v.number; seen = v.seen; mine = v.mine; met = v.met; looks = v.looks; tickets = v.tickets; parts = v.parts }
 
   -- the seat is one of the desk's
   abbrev pub IsAt : DeskId F → Sitting E F → Type 0
@@ -47,14 +49,19 @@ module _ {E F : Type 0} where
     pub met : after.met ≡ before.met
     pub parts : after.parts ≡ before.parts
 
-  -- the first seat of a desk: its number is 0, it has seen nothing, made no call and looked at no length, has no kin but itself, and has every part
+  -- the first seat of a desk: its number is 0, it has seen nothing, made no call, looked at no length and drawn no ticket, has no kin but itself, and has every part
   pub record IsFirst (seat : Sitting E F) : Type 0 where
     pub number : seat.number ≡ 0
     pub seen : seat.seen ≡ []
     pub mine : seat.mine ≡ []
     pub met : seat.met ≡ []
     pub looks : seat.looks ≡ []
+    pub tickets : seat.tickets ≡ []
     pub parts : seat.parts ≡ 2 ^ 64 - 1
+
+  -- the seat drew one ticket
+  abbrev pub DrawsOne : Sitting E F → Sitting E F → Type 0
+  DrawsOne before after = (ticket : ℕ) × (after.tickets ≡ before.tickets ++ ticket ∷ [])
 
   -- the call left the history as it was
   abbrev pub Leaves : History E → Sitting E F → Sitting E F → Type 0
@@ -75,16 +82,25 @@ module _ {F E C P : Type 0} (answers : F → List E → C → P → List E → T
     -- what is then seen is this history, with the call's entry where it was accepted
     pub entry : Leaves h before after ⊎ Adds h before after
     pub stays_legal : IsLegal answers f after.seen
-    -- the seat looked at the length once
+    -- the seat looked at the length once, and drew one ticket
     pub look : after.looks ≡ before.looks ++ length after.seen ∷ []
+    pub ticket : DrawsOne before after
 
-  -- The seat has looked at the length of the history, and has seen it
+  -- The seat has looked at the length of a legal history
   pub record LooksAt (before : Sitting E F) (count : ℕ) (after : Sitting E F) : Type 0 where
-    pub legal : IsLegal answers f after.seen
+    pub h : History E
+    pub legal : IsLegal answers f h
+    -- what is seen begins this history, and begins with all that the seat had seen
+    pub front : StartsWith h after.seen
     pub begins : StartsWith after.seen before.seen
+    pub stays_legal : IsLegal answers f after.seen
+    -- the answer is how long it is, and all of it was seen
+    pub whole : length h ≡ count
     pub count_is : length after.seen ≡ count
+    -- the seat looked once, made no call and drew no ticket
     pub look : after.looks ≡ before.looks ++ count ∷ []
     pub mine : after.mine ≡ before.mine
+    pub tickets : after.tickets ≡ before.tickets
 
 module _ {R F E C P : Type 0} (fixed : R → F) (list : R → List E) (answers : F → List E → C → P → List E → Type 0) (f : F) where
   -- The room has the fixed part and stands for a legal history, which begins with what the seat has seen and has the calls of its kin

@@ -55,7 +55,7 @@ impl<R: Turned, A: Allocator> Desk<R, A> {
     /// Waits for a turn, makes the call in it and gives the turn on.
     ///
     /// If it returns, the reply is the one that a single caller would get after some legal history, which begins with what the seat had seen.
-    /// The seat has then seen that history, with the call's entry if it was accepted.
+    /// The seat has then seen that history, with the call's entry if it was accepted. It draws one ticket.
     /// It is not promised that the turn comes, in what time, or in which order.
     pub fn turn<W: Wait>(&self, rt: &W, seat: &mut Seat<R>, call: R::Call) -> R::Reply
         requires { IsAt self.now seat.old }
@@ -67,8 +67,9 @@ impl<R: Turned, A: Allocator> Desk<R, A> {
         take_turn(rt, &self.table.shared, &mut seat.place, call)
     }
 
-    /// How long the history is. The seat has then seen that much of it.
+    /// How long the history is. The seat has then seen all of it, as it was at one moment of this call.
     ///
+    /// What it has seen begins with what it had seen, and begins the history at which each later call through this seat is made.
     /// It waits for nobody. By the time that it returns, others may have made the history longer.
     pub fn front(&self, seat: &mut Seat<R>) -> u64
         requires { IsAt self.now seat.old }

@@ -25,7 +25,9 @@ pub(crate) struct View<E, F> {
     pub met: LinkedList<(u64, LinkedList<E>)>,
     /// The lengths that it loaded or stored.
     pub looks: LinkedList<u64>,
-    /// Its parts of the right to sit at the desk. A ticket takes one until it is served.
+    /// The tickets that it drew.
+    pub tickets: LinkedList<u64>,
+    /// Its parts of the right to sit at the desk. A ticket takes one until it is served. A seat that is split off it gets a 64th of them, and at least one.
     pub parts: u64,
     /// The numbers `next`, `next + stride`, `next + 2 * stride` and so on are for seats that are split off it.
     pub next: u64,

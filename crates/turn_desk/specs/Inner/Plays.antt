@@ -7,9 +7,9 @@ use Rattle.turn_desk.specs.declared.view.View.{View}
 use Rattle.turn_desk.specs.declared.view.Stage.TheVariants.{Idle, Waiting, Turning}
 
 module _ {E F : Type 0} where
-  -- the seat with a ticket, which took one of its parts
+  -- the seat that drew a ticket, which took one of its parts
   abbrev pub waiting : ℕ → View E F → View E F
-  waiting t v = record v { stage = Waiting t; parts = v.parts - 1 }
+  waiting t v = record v { stage = Waiting t; parts = v.parts - 1; tickets = v.tickets ++ t ∷ [] }
 
   -- the seat that has the turn, and has seen the history
   abbrev pub turning : ℕ → History E → View E F → View E F

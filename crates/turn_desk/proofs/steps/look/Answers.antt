@@ -1,5 +1,5 @@
 use Rattle.std.proofs.Common.{rules}
-use Rattle.turn_desk.proofs.Looking.{looks}
+use Rattle.turn_desk.proofs.Looking.{looks, looked}
 use Rattle.turn_desk.proofs.steps.look.Goals as goal
 
 pub load-requires : goal.load-requires
@@ -12,4 +12,4 @@ pub returns-clause-seat : goal.returns-clause-seat
 returns-clause-seat g c = let now = c.load.ensures.2 _ c.requires.seat.2 in search rules
 
 pub returns-clause-look : goal.returns-clause-look
-returns-clause-look g c = let now = c.load.ensures.2 _ c.requires.seat.2 in search rules
+returns-clause-look g c = looked g.R.Turned.fixed g.R.Turned.list g.R.Turned.answers _ c.args.place.now c.load.new.seat _ (c.load.ensures.2 _ c.requires.seat.2)
