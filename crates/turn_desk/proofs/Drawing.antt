@@ -1,6 +1,7 @@
 -- The step that draws a ticket.
 use Rattle.std.proofs.Common.{◌≡◌, ℕ, ◌+◌, ◌%◌, ◌^◌, ◌<◌, List, [], ◌∷◌, length, slice_index, slice_set, sym, refl, ap, ◌∙◌, subst, arith, Option, Some}
 use Rattle.std.proofs.Math.Nat.{mod-add-mod}
+use native.Mathlib.Decide.{ℕ_discrete}
 use Rattle.atomic_table.specs.Table.{Me, keeps, Allows}
 use Rattle.turn_desk.specs.Rule.{HasTurn, Moment, HoldsTicket, Kept}
 use Rattle.turn_desk.specs.Inner.Plays.{Draws, waiting}
@@ -13,13 +14,13 @@ use Rattle.turn_desk.proofs.Known.{put, put_here, put_else, agrees_still, fits, 
 module _ {R E F C P : Type 0} (fixed : R → F) (list : R → List E) (answers : F → List E → C → P → List E → Type 0) (f : F) where
   -- the moment after: one ticket more was drawn, by the seat
   abbrev with_ticket : Moment E → ℕ → Moment E
-  with_ticket now id = record now { drawn = now.drawn + 1; drawer = put now.drawer now.drawn id }
+  with_ticket now id = record now { drawn = now.drawn + 1; drawer = put (λ t. t ≡ now.drawn) (λ t. ℕ_discrete t now.drawn) now.drawer id }
 
   -- a ticket of another seat is its own still
   others_keep : (now : Moment E) (id j : ℕ) (v : View E F) (st : Stage) → HoldsTicket now j v st → HoldsTicket (with_ticket now id) j v st
   others_keep now id j v Idle h = h
-  others_keep now id j v (Waiting t) h = let low = h.1 in (h.0, omega arith, put_else now.drawer now.drawn id t (λ e. omega arith) ∙ h.2)
-  others_keep now id j v (Turning t) h = let low = h.1 in (h.0, omega arith, put_else now.drawer now.drawn id t (λ e. omega arith) ∙ h.2, h.3)
+  others_keep now id j v (Waiting t) h = let low = h.1 in (h.0, omega arith, put_else (λ t. t ≡ now.drawn) (λ t. ℕ_discrete t now.drawn) now.drawer id t (λ e. omega arith) ∙ h.2)
+  others_keep now id j v (Turning t) h = let low = h.1 in (h.0, omega arith, put_else (λ t. t ≡ now.drawn) (λ t. ℕ_discrete t now.drawn) now.drawer id t (λ e. omega arith) ∙ h.2, h.3)
 
   pub draws : (slots id : ℕ) (me : Me (Option R) (View E F)) → me.0.fixed ≡ Some f → me.0.stage ≡ Idle
       → Allows (Kept fixed list answers f) slots id me 1 (λ n. (n + 1) % 2 ^ 64) (Draws me)
@@ -49,7 +50,7 @@ module _ {R E F C P : Type 0} (fixed : R → F) (list : R → List E) (answers :
             agrees = agrees_still now.log me.0 w.stage w.parts w.seen w.looks w.tickets it.agrees;
             kin = it.kin;
             supply = it.supply;
-            ticket = (order, omega arith, put_here now.drawer now.drawn id);
+            ticket = (order, omega arith, put_here (λ t. t ≡ now.drawn) (λ t. ℕ_discrete t now.drawn) now.drawer id now.drawn refl);
           } (λ j v other known. fits_still now later.drawn later.served later.drawer j f v known (others_keep now id j v v.stage known.ticket)) r.seats;
         },
         (now.drawn, ap (λ (ws : List ℕ). slice_index ws 1) r.words, has_part, refl),

@@ -15,24 +15,24 @@ pick : {P : Type 0} → Dec P → ℕ → ℕ → ℕ
 pick (yes _) a b = a
 pick (no _) a b = b
 
--- the same numbers, but for one
-pub put : (ℕ → ℕ) → ℕ → ℕ → ℕ → ℕ
-put g k x n = pick (ℕ_discrete n k) x (g n)
+-- the same numbers, but for x where P holds
+pub put : (P : ℕ → Type 0) → ((n : ℕ) → Dec (P n)) → (ℕ → ℕ) → ℕ → ℕ → ℕ
+put P is g x n = pick (is n) x (g n)
 
-pub put_here : (g : ℕ → ℕ) (k x : ℕ) → put g k x k ≡ x
+pub put_here : (P : ℕ → Type 0) (is : (n : ℕ) → Dec (P n)) (g : ℕ → ℕ) (x n : ℕ) → P n → put P is g x n ≡ x
 unfolding put pick
-put_here g k x = go (ℕ_discrete k k)
+put_here P is g x n here = go (is n)
   where
-    go : (d : Dec (k ≡ k)) → pick d x (g k) ≡ x
+    go : (d : Dec (P n)) → pick d x (g n) ≡ x
     go (yes _) = refl
-    go (no n) = absurd (n refl)
+    go (no other) = absurd (other here)
 
-pub put_else : (g : ℕ → ℕ) (k x n : ℕ) → n ≢ k → put g k x n ≡ g n
+pub put_else : (P : ℕ → Type 0) (is : (n : ℕ) → Dec (P n)) (g : ℕ → ℕ) (x n : ℕ) → ¬ P n → put P is g x n ≡ g n
 unfolding put pick
-put_else g k x n other = go (ℕ_discrete n k)
+put_else P is g x n other = go (is n)
   where
-    go : (d : Dec (n ≡ k)) → pick d x (g n) ≡ g n
-    go (yes e) = absurd (other e)
+    go : (d : Dec (P n)) → pick d x (g n) ≡ g n
+    go (yes here) = absurd (other here)
     go (no _) = refl
 
 -- a seat that has the turn has a ticket
@@ -60,6 +60,12 @@ module _ {E F : Type 0} where
   pub fits_still : (now : Moment E) (drawn served : ℕ) (drawer : ℕ → ℕ) (j : ℕ) (f : F) (v : View E F) → Fits now j f v
       → HoldsTicket (record now { drawn = drawn; served = served; drawer = drawer }) j v v.stage → Fits (record now { drawn = drawn; served = served; drawer = drawer }) j f v
   fits_still now drawn served drawer j f v it ticket = record { fixed = it.fixed; seen = it.seen; told = it.told; agrees = it.agrees; kin = it.kin; supply = it.supply; ticket = ticket }
+
+  -- with which seat the numbers are says nothing of tickets
+  pub same_ticket : (now : Moment E) (owner : ℕ → ℕ) (j : ℕ) (v : View E F) (st : Stage) → HoldsTicket now j v st → HoldsTicket (record now { owner = owner }) j v st
+  same_ticket now owner j v Idle k = k
+  same_ticket now owner j v (Waiting t) k = k
+  same_ticket now owner j v (Turning t) k = k
 
   -- after a step of the seat `id`, each other seat knows what it did
   pub seats_stay : (now later : Moment E) (f : F) (views : List (View E F)) (id : ℕ) (w : View E F) → Fits later id f w

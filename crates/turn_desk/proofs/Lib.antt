@@ -6,4 +6,6 @@ pub mod Asking
 pub mod Storing
 pub mod Passing
 pub mod Looking
+pub mod Splitting
+pub mod Meeting
 pub mod Turning

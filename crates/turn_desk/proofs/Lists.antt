@@ -1,5 +1,5 @@
 -- Lists: sums, entries under a number, beginnings, and legal histories.
-use Rattle.std.proofs.Common.{◌≡◌, ◌≢◌, ℕ, Bool, true, false, if◌then◌else◌, zero, suc, ◌+◌, ◌==◌, eq-eqb, ne_eqb, List, [], ◌∷◌, ◌++◌, set, sym, refl, ap, ◌∙◌, subst, arith, append_assoc, All}
+use Rattle.std.proofs.Common.{◌≡◌, ◌≢◌, ◌⊎◌, ℕ, Bool, true, false, if◌then◌else◌, zero, suc, ◌+◌, ◌==◌, eq-eqb, ne_eqb, List, [], ◌∷◌, ◌++◌, length, set, sym, refl, ap, ◌∙◌, subst, ⊎_elim, inl, inr, arith, append_assoc, All}
 use Rattle.std.proofs.lemmas.List.{append-nil, map-append}
 use mathlib.Core.Option.{some, some-injective, some-ne-none}
 use lib.ListN.{get_elem?}
@@ -12,6 +12,18 @@ module _ {A : Type 0} where
   total-set f [] i x y e = absurd (some-ne-none x (sym e))
   total-set f (z ∷ zs) zero x y e = let same : f z ≡ f x = ap f (some-injective z x e) in omega arith
   total-set f (z ∷ zs) (suc i) x y e = let later = total-set f zs i x y e in omega arith
+
+  -- the sum of two lists, one after the other
+  pub total-append : (f : A → ℕ) (xs ys : List A) → total f (xs ++ ys) ≡ total f xs + total f ys
+  total-append f [] ys = omega arith
+  total-append f (x ∷ xs) ys = let later = total-append f xs ys in omega arith
+
+  -- what stands in a list with one element more
+  pub at_end : (xs : List A) (x y : A) (j : ℕ) → get_elem? (xs ++ x ∷ []) j ≡ some y → (get_elem? xs j ≡ some y) ⊎ ((j ≡ length xs) × (x ≡ y))
+  at_end [] x y zero e = inr (refl, some-injective x y e)
+  at_end [] x y (suc j) e = absurd (some-ne-none y (sym e))
+  at_end (z ∷ xs) x y zero e = inl e
+  at_end (z ∷ xs) x y (suc j) e = ⊎_elim (λ here. inl here) (λ t. inr (ap suc t.0, t.1)) (at_end xs x y j e)
 
   -- where there is an element, another can be set
   pub set_at : (xs : List A) (i : ℕ) (x y : A) → get_elem? xs i ≡ some x → get_elem? (set xs i y) i ≡ some y

@@ -1,5 +1,5 @@
 -- What contracts see of a desk and its seats, and what the calls of a desk say of them.
-use Rattle.std.specs.Prelude.{◌≡◌, ◌⊎◌, ℕ, List, [], ◌∷◌, ◌++◌, ◌-◌, ◌^◌, length, Option, Some, All}
+use Rattle.std.specs.Prelude.{◌≡◌, ◌≢◌, ◌⊎◌, ℕ, List, [], ◌∷◌, ◌++◌, ◌+◌, ◌-◌, ◌/◌, ◌^◌, max, length, Option, Some, All}
 use Rattle.atomic_table.specs.Seated.{TableId}
 use Rattle.turn_desk.specs.History.{History, entries, entries_by, StartsWith, IsLegal}
 use Rattle.atomic_table.specs.declared.shared.Seat.{Seat}
@@ -23,6 +23,10 @@ pub record Sitting (E F : Type 0) : Type 0 where
   pub looks : List ℕ
   pub tickets : List ℕ
   pub parts : ℕ
+
+-- what a seat with so many parts gives to a seat that is split off it: a 64th of them, and at least one
+abbrev pub share : ℕ → ℕ
+share parts = max 1 (parts / 64)
 
 module _ {E F : Type 0} where
   -- what contracts see of a seat at a table
@@ -58,6 +62,23 @@ module _ {E F : Type 0} where
     pub looks : seat.looks ≡ []
     pub tickets : seat.tickets ≡ []
     pub parts : seat.parts ≡ 2 ^ 64 - 1
+
+  -- A seat was split in two, of which both have seen what it had seen
+  pub record SplitsInto (before kept new : Sitting E F) : Type 0 where
+    pub seen : (kept.seen ≡ before.seen) × (new.seen ≡ before.seen)
+    -- one keeps its number, its calls, its kin, its looks and its tickets
+    pub number : kept.number ≡ before.number
+    pub mine : kept.mine ≡ before.mine
+    pub met : kept.met ≡ before.met
+    pub looks : kept.looks ≡ before.looks
+    pub tickets : kept.tickets ≡ before.tickets
+    -- the number of the other is none of that kin, and the history has no entry under it
+    pub apart : All (λ k. k.0 ≢ new.number) (kin before)
+    pub free : entries_by new.number before.seen ≡ []
+    -- the other has made no call, looked at no length and drawn no ticket, and has no kin but itself
+    pub fresh : (new.mine ≡ []) × (new.looks ≡ []) × (new.tickets ≡ []) × (new.met ≡ [])
+    -- it got its share of the parts
+    pub parts : (new.parts ≡ share before.parts) × (kept.parts ≡ before.parts - share before.parts)
 
   -- the seat drew one ticket
   abbrev pub DrawsOne : Sitting E F → Sitting E F → Type 0
@@ -101,6 +122,22 @@ module _ {F E C P : Type 0} (answers : F → List E → C → P → List E → T
     pub look : after.looks ≡ before.looks ++ count ∷ []
     pub mine : after.mine ≡ before.mine
     pub tickets : after.tickets ≡ before.tickets
+
+  -- The other seat was met into the seat
+  pub record MeetsAt (before other after : Sitting E F) : Type 0 where
+    -- what is seen is legal, and begins with all that both had seen
+    pub legal : IsLegal answers f after.seen
+    pub begins : StartsWith after.seen before.seen
+    pub other_begins : StartsWith after.seen other.seen
+    -- the kin are those of both
+    pub number : after.number ≡ before.number
+    pub mine : after.mine ≡ before.mine
+    pub met : after.met ≡ before.met ++ kin other
+    -- the seat looked at the length once, and drew no ticket
+    pub look : after.looks ≡ before.looks ++ length after.seen ∷ []
+    pub tickets : after.tickets ≡ before.tickets
+    -- it has the parts of both
+    pub parts : after.parts ≡ before.parts + other.parts
 
 module _ {R F E C P : Type 0} (fixed : R → F) (list : R → List E) (answers : F → List E → C → P → List E → Type 0) (f : F) where
   -- The room has the fixed part and stands for a legal history, which begins with what the seat has seen and has the calls of its kin

@@ -1,11 +1,11 @@
 //! A desk, at which a room is shared by turns.
-ghost use Rattle.std.specs.Prelude.{◌≡◌, [], IfOk};
-ghost use Rattle.turn_desk.specs.Desk.{IsAt, IsFirst, IsSameSeat, TurnsAt, LooksAt, HasKin, ClosesWith};
+ghost use Rattle.std.specs.Prelude.{◌≡◌, ◌≤◌, [], IfOk};
+ghost use Rattle.turn_desk.specs.Desk.{IsAt, IsFirst, IsSameSeat, SplitsInto, MeetsAt, TurnsAt, LooksAt, HasKin, ClosesWith};
 
 use crate::Memory;
 use crate::law::InTurns;
 use crate::seat::Seat;
-use crate::steps::{look, take_last_turn, take_turn};
+use crate::steps::{cut, look, take_in, take_last_turn, take_turn};
 use crate::turned::Turned;
 use crate::view::View;
 use atomic_table::Table;
@@ -50,6 +50,36 @@ impl<R: Turned, A: Allocator> Desk<R, A> {
             return Err(Memory);
         };
         Ok((Desk { table }, Seat { place }))
+    }
+
+    /// Splits a seat in two, of which both have seen what it had seen.
+    ///
+    /// The first is the seat with fewer parts. The second has made no call, looked at no length and met no seat.
+    /// It has a number that no seat of the desk ever had, and a 64th of the parts, at least one:
+    /// so the first seat of a desk can be split some two thousand times, and each of the new ones in turn.
+    pub fn split(&self, seat: Seat<R>) -> (Seat<R>, Seat<R>)
+        requires seat { IsAt self.now seat }
+        requires parts { 2 ≤ seat.parts }
+        ensures desk { IsAt self.now result.0 × IsAt self.now result.1 }
+        ensures split { SplitsInto seat result.0 result.1 }
+        ensures kin { HasKin result.0.seen result.0 × HasKin result.1.seen result.1 }
+    {
+        let mut place = seat.place;
+        let other = cut(&self.table.shared, &mut place);
+        (Seat { place }, Seat { place: other })
+    }
+
+    /// Meets another seat into the seat, which has then seen all that either had seen, and has the kin and the parts of both.
+    ///
+    /// It waits for nobody. The seat looks at the length of the history once.
+    pub fn meet(&self, seat: &mut Seat<R>, other: Seat<R>)
+        requires seat { IsAt self.now seat.old }
+        requires other { IsAt self.now other }
+        ensures desk { IsAt self.now seat.new }
+        ensures meet { MeetsAt R.answers self.now.fixed seat.old other seat.new }
+        ensures kin { HasKin seat.new.seen seat.new }
+    {
+        take_in(&self.table.shared, &mut seat.place, other.place);
     }
 
     /// Waits for a turn, makes the call in it and gives the turn on.

@@ -1,7 +1,7 @@
 //! The rule of a desk's table, and what each kind of step on it tells.
 use crate::turned::Turned;
 use crate::view::View;
-use atomic_table::{Play, Seat, Shared, TableRule};
+use atomic_table::{Join, Play, Seat, Shared, Split, TableRule};
 use std::snapshot::Snapshot;
 
 /// The rule by which turns are taken.
@@ -59,6 +59,28 @@ impl<R: Turned> Play<Option<R>, View<R::Entry, R::Fixed>> for Look {
     ghost use Rattle.turn_desk.specs.Inner.Plays.{Looks};
 
     ghost then = { λ _. Looks R.fixed R.list R.answers };
+}
+
+/// How a seat is cut in two.
+pub(crate) struct Cut;
+
+impl<E, F> Split<View<E, F>> for Cut {
+    ghost use Rattle.turn_desk.specs.Inner.Sharing.{kept, split_off};
+
+    ghost left = { kept };
+
+    ghost right = { split_off };
+}
+
+/// How one seat is met into another.
+pub(crate) struct Meeting;
+
+impl<E, F> Join<View<E, F>> for Meeting {
+    ghost use Rattle.turn_desk.specs.Inner.Sharing.{joined, spent};
+
+    ghost both = { joined };
+
+    ghost spent = { spent };
 }
 
 /// The table as its seats share it.

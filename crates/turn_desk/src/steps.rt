@@ -2,13 +2,13 @@
 //!
 //! Word 0 is the length of the history, word 1 the number of tickets drawn, and word 2 the number of tickets served, both modulo 2^64.
 //! The one slot holds the room while no seat has the turn. From the load that gives a seat the turn until it gives the turn on, the slot is the seat's.
-ghost use Rattle.std.specs.Prelude.{◌≡◌, ◌⊎◌, ℕ, ◌%◌, ◌^◌, ◌<◌, [], ◌∷◌, length, Some, None};
+ghost use Rattle.std.specs.Prelude.{◌≡◌, ◌⊎◌, ℕ, ◌%◌, ◌^◌, ◌<◌, ◌≤◌, [], ◌∷◌, length, Some, None};
 ghost use Rattle.turn_desk.specs.Inner.Plays.{Draws, Asks, Stores, PassesOn, Looks, TakesTurn};
 ghost use Rattle.turn_desk.specs.Inner.Steps.{SitsAt, IsSamePlace, IsWaiting, IsTurning, IsAtRest, HoldsRoom, MayEnter, GetsTurn, MakesCall};
-ghost use Rattle.turn_desk.specs.Desk.{sitting, IsSameSeat, TurnsAt, LooksAt, ClosesWith};
+ghost use Rattle.turn_desk.specs.Desk.{sitting, IsSameSeat, TurnsAt, LooksAt, SplitsInto, MeetsAt, ClosesWith};
 ghost use Rattle.turn_desk.specs.declared.view.Stage.TheVariants.{Idle, Waiting};
 
-use crate::law::{Ask, Board, Draw, Look, PassOn, Place, Store};
+use crate::law::{Ask, Board, Cut, Draw, Look, Meeting, PassOn, Place, Store};
 use crate::turned::Turned;
 use std::sync::Wait;
 use std::thread;
@@ -185,6 +185,16 @@ pub(crate) fn take_last_turn<R: Turned, W: Wait>(
 }
 
 /// Loads the length of the history.
+fn load_length<R: Turned>(board: &Board<R>, place: &mut Place<R>) -> u64
+    requires seat { SitsAt board.now.table_id (R.fixed board.now.key.value) place.old }
+    requires idle { place.old.me.0.stage ≡ Idle }
+    ensures place { IsSamePlace place.old place.new }
+    ensures look { Looks R.fixed R.list R.answers place.old.me result place.new.me }
+{
+    board.load::<Look>(place, LENGTH)
+}
+
+/// Looks at the length of the history.
 pub(crate) fn look<R: Turned>(board: &Board<R>, place: &mut Place<R>) -> u64
     requires seat { SitsAt board.now.table_id (R.fixed board.now.key.value) place.old }
     requires idle { IsAtRest place.old.me }
@@ -193,5 +203,32 @@ pub(crate) fn look<R: Turned>(board: &Board<R>, place: &mut Place<R>) -> u64
     ensures look { LooksAt R.answers (R.fixed board.now.key.value)
         (sitting place.old) result (sitting place.new) }
 {
-    board.load::<Look>(place, LENGTH)
+    load_length(board, place)
+}
+
+/// Cuts the seat in two, by a load that tells nothing, and gives the new one.
+pub(crate) fn cut<R: Turned>(board: &Board<R>, place: &mut Place<R>) -> Place<R>
+    requires seat { SitsAt board.now.table_id (R.fixed board.now.key.value) place.old }
+    requires idle { IsAtRest place.old.me }
+    requires parts { 2 ≤ place.old.me.0.parts }
+    ensures place { IsSamePlace place.old place.new × IsAtRest place.new.me }
+    ensures seats { SitsAt board.now.table_id (R.fixed board.now.key.value) place.new
+        × SitsAt board.now.table_id (R.fixed board.now.key.value) result × IsAtRest result.me }
+    ensures split { SplitsInto (sitting place.old) (sitting place.new) (sitting result) }
+{
+    board.split_seat::<Cut>(place)
+}
+
+/// Takes the other seat into the seat, by a load that tells nothing, and loads the length of the history.
+pub(crate) fn take_in<R: Turned>(board: &Board<R>, place: &mut Place<R>, other: Place<R>)
+    requires seat { SitsAt board.now.table_id (R.fixed board.now.key.value) place.old }
+    requires other { SitsAt board.now.table_id (R.fixed board.now.key.value) other }
+    requires idle { IsAtRest place.old.me × IsAtRest other.me }
+    ensures place { IsSamePlace place.old place.new × IsAtRest place.new.me }
+    ensures seat { SitsAt board.now.table_id (R.fixed board.now.key.value) place.new }
+    ensures meet { MeetsAt R.answers (R.fixed board.now.key.value)
+        (sitting place.old) (sitting other) (sitting place.new) }
+{
+    board.join_seat::<Meeting>(place, other);
+    load_length(board, place);
 }

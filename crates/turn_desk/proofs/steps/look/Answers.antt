@@ -1,15 +1,12 @@
 use Rattle.std.proofs.Common.{rules}
-use Rattle.turn_desk.proofs.Looking.{looks, looked}
+use Rattle.turn_desk.proofs.Looking.{looked}
 use Rattle.turn_desk.proofs.steps.look.Goals as goal
 
-pub load-requires : goal.load-requires
-load-requires g c = (search rules, search rules, looks g.R.Turned.fixed g.R.Turned.list g.R.Turned.answers _ _ _ _ c.requires.seat.2 c.requires.idle.stage)
-
 pub returns-clause-place : goal.returns-clause-place
-returns-clause-place g c = let now = c.load.ensures.2 _ c.requires.seat.2 in search rules
+returns-clause-place g c = let now = c.load_length.ensures.look _ c.requires.seat.2 in search rules
 
 pub returns-clause-seat : goal.returns-clause-seat
-returns-clause-seat g c = let now = c.load.ensures.2 _ c.requires.seat.2 in search rules
+returns-clause-seat g c = let now = c.load_length.ensures.look _ c.requires.seat.2 in search rules
 
 pub returns-clause-look : goal.returns-clause-look
-returns-clause-look g c = looked g.R.Turned.fixed g.R.Turned.list g.R.Turned.answers _ c.args.place.now c.load.new.seat _ (c.load.ensures.2 _ c.requires.seat.2)
+returns-clause-look g c = looked g.R.Turned.fixed g.R.Turned.list g.R.Turned.answers _ c.args.place.now c.load_length.new.place _ (c.load_length.ensures.look _ c.requires.seat.2)
