@@ -8,4 +8,5 @@ pub mod WordLemmas
 pub mod WordWalks
 pub mod LimitLemmas
 pub mod CallLemmas
+pub mod NoteLemmas
 pub mod BlockLemmas

@@ -1,12 +1,27 @@
 -- What a stream of the system is seen as.
-use Rattle.std.specs.Prelude.{Bool}
+use Rattle.std.specs.Prelude.{ℕ, Bool, List, Result, length}
+use Rattle.room_program.specs.declared.failed.Failed.{Failed}
+use Rattle.room_program.specs.declared.noted.Calls.{Calls}
 use Rattle.room_program.specs.declared.io.Io.{Io}
+use Rattle.room_program.specs.Calls.{Answers}
+use Rattle.room_program.specs.Noted as noted
 
 module _ {T : Type 0} where
   -- the stream
   abbrev pub stream_of : Io T → T
-  stream_of io = io.stream
+  stream_of io = noted.stream_of io.below
+
+  -- its calls
+  abbrev pub calls_of : Io T → Calls
+  calls_of io = noted.calls_of io.below
 
   -- whether a call of it has failed
   abbrev pub failed_of : Io T → Bool
   failed_of io = io.has_failed
+
+  -- a read of some length, and a write of these bytes, answers what the stream did
+  abbrev pub Gets : Io T → Result ℕ Failed → Io T → Type 0
+  Gets before answer after = (asked : ℕ) × Answers (calls_of before) asked answer (calls_of after)
+
+  abbrev pub Puts : Io T → List ℕ → Result ℕ Failed → Io T → Type 0
+  Puts before bytes answer after = Answers (calls_of before) (length bytes) answer (calls_of after)

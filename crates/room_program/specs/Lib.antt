@@ -1,3 +1,5 @@
+pub mod Calls
+pub mod Noted
 pub mod Io
 pub mod Lines
 pub mod Scripts

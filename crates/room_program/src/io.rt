@@ -1,44 +1,51 @@
 //! The streams of the system as sources and sinks.
 ghost use Rattle.std.specs.Prelude.{◌≡◌, false};
+ghost use Rattle.room_program.specs.Calls.{unnoted};
 
 use crate::failed::Failed;
+use crate::noted::{Noted, Stop};
 use crate::sink::Sink;
 use crate::source::Source;
-use std::io::{ErrorKind, Read, Write};
+use std::io::{Read, Write};
 
 /// A source of anything that reads, and a sink of anything that writes. It repeats a call that was interrupted.
 #[derive(Drop)]
 pub struct Io<T> {
-    stream: T,
+    below: Noted<T>,
     has_failed: bool,
 }
 
 impl<T> Io<T> {
-    ghost use Rattle.room_program.specs.Io.{stream_of, failed_of};
+    ghost use Rattle.room_program.specs.Io.{calls_of, failed_of, stream_of};
 
     /// The stream as a source or a sink, which has not failed yet.
     pub fn new(stream: T) -> Io<T>
         ensures stream { stream_of result ≡ stream }
+        ensures uncalled { calls_of result ≡ unnoted }
         ensures works { failed_of result ≡ false }
     {
         Io {
-            stream,
+            below: Noted::new(stream),
             has_failed: false,
         }
     }
 }
 
 impl<R: Read> Source for Io<R> {
-    ghost left = { λ io. R.remaining io.stream };
+    ghost use Rattle.room_program.specs.Io.{Gets, failed_of, stream_of};
 
-    ghost has_failed = { λ io. io.has_failed };
+    ghost left = { λ io. R.remaining (stream_of io) };
+
+    ghost has_failed = { failed_of };
+
+    ghost gets = { Gets };
 
     fn get(&mut self, buffer: &mut [u8]) -> Result<usize, Failed> {
         for _ in 0..u64::MAX {
-            match self.stream.read(buffer) {
+            match self.below.read(buffer) {
                 Ok(count) => return Ok(count),
-                Err(error) if error.kind() == ErrorKind::Interrupted => {}
-                Err(_) => break,
+                Err(Stop::Interrupted) => {}
+                Err(Stop::Failed) => break,
             }
         }
         self.has_failed = true;
@@ -47,16 +54,20 @@ impl<R: Read> Source for Io<R> {
 }
 
 impl<W: Write> Sink for Io<W> {
-    ghost taken = { λ io. W.contents io.stream };
+    ghost use Rattle.room_program.specs.Io.{Puts, failed_of, stream_of};
 
-    ghost has_failed = { λ io. io.has_failed };
+    ghost taken = { λ io. W.contents (stream_of io) };
+
+    ghost has_failed = { failed_of };
+
+    ghost puts = { Puts };
 
     fn put(&mut self, bytes: &[u8]) -> Result<usize, Failed> {
         for _ in 0..u64::MAX {
-            match self.stream.write(bytes) {
+            match self.below.write(bytes) {
                 Ok(taken) => return Ok(taken),
-                Err(error) if error.kind() == ErrorKind::Interrupted => {}
-                Err(_) => break,
+                Err(Stop::Interrupted) => {}
+                Err(Stop::Failed) => break,
             }
         }
         self.has_failed = true;

@@ -1,7 +1,15 @@
 //! Laws of the definitions, each the contract of a function that does nothing.
-ghost use Rattle.std.specs.Prelude.{◌≡◌, ◌≤◌, ℕ, List, [], is_some, true};
+ghost use Rattle.std.specs.Prelude.{◌≡◌, ◌≤◌, ◌<◌, ◌+◌, ◌^◌, ℕ, List, [], Ok, Some, is_some, true};
+ghost use Rattle.room_program.specs.declared.io.Io.{Io};
+ghost use Rattle.room_program.specs.Io.{calls_of};
+ghost use Rattle.room_program.specs.Streams.{Gets, TookNone};
 ghost use Rattle.room_program.specs.Words.{IsTaken, limit_asked, limit_text};
 ghost use Rattle.room_program.specs.WordExamples.{taken, bad_limit, bad_word, help_asked};
+
+use crate::io::Io;
+use crate::sink::Sink;
+use crate::source::Source;
+use std::io::{Read, Write};
 
 /// What the definitions say of worked examples of words is what was worked out by hand.
 pub fn words_are_as_worked()
@@ -15,4 +23,14 @@ pub fn words_are_as_worked()
 pub fn limits_are_in_range()
     ensures told { (words : List (List ℕ)) → IsTaken words → is_some (limit_text words) ≡ true }
     ensures small { (words : List (List ℕ)) → IsTaken words → limit_asked words ≤ 1000000 }
+{}
+
+/// What the relations of streams say of the system's: that so many reads were made says that the stream below answered
+/// so many calls, and that a sink took no byte of some says that the last call of the stream below was so answered.
+pub fn calls_are_noted<R: Read, W: Write>()
+    ensures reads { (n : ℕ) (before after : Io R) → (calls_of before).answered + n < 2 ^ 64
+        → Gets ⟦<Io<R> as Source>⟧.gets n before after
+        → (calls_of after).answered ≡ (calls_of before).answered + n }
+    ensures none_taken { (after : Io W) → TookNone ⟦<Io<W> as Sink>⟧.puts after
+        → (asked : ℕ) × (0 < asked) × ((calls_of after).last ≡ Some (record { asked = asked; answer = Ok 0 })) }
 {}

@@ -11,6 +11,7 @@ pub mod io;
 pub mod laws;
 pub mod line;
 pub mod lines;
+pub mod noted;
 pub mod replay;
 pub mod sink;
 pub mod source;

@@ -203,7 +203,7 @@ fn replay_blocks<A: Answers, S: Source, W: Sink>(
 ///
 /// A line is an author's name, a space and a message; a line feed ends it, or the end of the stream. The stream is
 /// read in blocks, and the replies to the lines of a block are written before the next is read, or as soon as they fill
-/// a block themselves. After a fault the lines that were answered stay answered, and what was written of their replies
+/// a block themselves. After a read that gives the end no other is made. After a fault the lines that were answered stay answered, and what was written of their replies
 /// stays written.
 ///
 /// - `Read`: the reader failed, or `reads` reads were used up.
@@ -232,7 +232,7 @@ pub fn replay<S: Source, W: Sink>(
     ensures front { OnErr result (WritesFront (script limit)
         (S.left reader.old) (S.left reader.new) (W.taken writer.old) (W.taken writer.new)) }
 
-    // At most so many reads were made.
+    // At most so many reads were made, and none after one that gave the end.
     ensures calls { GetsAtMost S.gets reads reader.old reader.new }
 
     // When each fault comes.

@@ -1,9 +1,12 @@
 //! Runs of a room over streams, and of the program over words.
 mod streams;
+mod system;
 
 use crate::command::{DONE, FAILED, REFUSED, command};
+use crate::io::Io;
 use crate::replay::{ReplayFault, replay};
 use crate::tests::streams::{Pieces, Taker};
+use crate::tests::system::{Giver, Habit, Keeper};
 use std::alloc::{AllocError, Global};
 use std::test::Fail;
 
@@ -129,6 +132,84 @@ fn reads_used_up(rt: HostRuntime) -> Result<(), Fail> {
         assert_eq!(rt; ended, Err(ReplayFault::Read), "at {reads}");
         assert_eq!(rt; writer.taken.as_slice(), output, "at {reads}");
     }
+    Ok(())
+}
+
+const PLAIN: Habit = Habit {
+    piece: ALL,
+    interruptions: 0,
+    nothing_at: ALL,
+};
+
+#[test]
+fn interrupted_and_small_calls(rt: HostRuntime) -> Result<(), Fail> {
+    let habits = [
+        PLAIN,
+        Habit { piece: 1, ..PLAIN },
+        Habit {
+            interruptions: 1,
+            ..PLAIN
+        },
+        Habit {
+            piece: 1,
+            interruptions: 1,
+            ..PLAIN
+        },
+        Habit {
+            piece: 10,
+            interruptions: 1000,
+            ..PLAIN
+        },
+    ];
+    for reads in habits {
+        for writes in habits {
+            let mut giver = Giver::new(FIRST_RUN, reads);
+            let mut keeper = Keeper::new(rt.alloc(), writes);
+            let mut reader = Io::new(&mut giver);
+            let mut writer = Io::new(&mut keeper);
+            let ended = replay(rt.alloc(), &mut reader, &mut writer, 9, 1000);
+            assert_eq!(rt; ended, Ok(()), "at {reads:?} and {writes:?}");
+            assert_eq!(rt;
+                keeper.kept.as_slice(),
+                FIRST_REPLIES,
+                "at {reads:?} and {writes:?}"
+            );
+        }
+    }
+    Ok(())
+}
+
+#[test]
+fn nothing_and_then_something(rt: HostRuntime) -> Result<(), Fail> {
+    // A read of nothing is the end, after which no other is made.
+    for (nothing_at, replies) in [(0, b"".as_slice()), (75, CREATED)] {
+        let habit = Habit {
+            piece: 1,
+            nothing_at,
+            ..PLAIN
+        };
+        let mut giver = Giver::new(FIRST_RUN, habit);
+        let mut keeper = Keeper::new(rt.alloc(), PLAIN);
+        let mut reader = Io::new(&mut giver);
+        let mut writer = Io::new(&mut keeper);
+        let ended = replay(rt.alloc(), &mut reader, &mut writer, 9, 1000);
+        assert_eq!(rt; ended, Ok(()), "at {nothing_at}");
+        assert_eq!(rt; keeper.kept.as_slice(), replies, "at {nothing_at}");
+        assert_eq!(rt; giver.answered, nothing_at + 1);
+    }
+    // A write of nothing ends the run.
+    let habit = Habit {
+        piece: 5,
+        nothing_at: 1,
+        ..PLAIN
+    };
+    let mut giver = Giver::new(FIRST_RUN, PLAIN);
+    let mut keeper = Keeper::new(rt.alloc(), habit);
+    let mut reader = Io::new(&mut giver);
+    let mut writer = Io::new(&mut keeper);
+    let ended = replay(rt.alloc(), &mut reader, &mut writer, 9, 1000);
+    assert_eq!(rt; ended, Err(ReplayFault::Write));
+    assert_eq!(rt; keeper.kept.as_slice(), b"{\"id\"".as_slice());
     Ok(())
 }
 

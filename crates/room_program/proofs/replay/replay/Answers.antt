@@ -1,10 +1,9 @@
 -- The room is opened with an empty map.
-use Rattle.std.proofs.Common.{List, [], ℕ, subst, OnOk, OnErr}
+use Rattle.std.proofs.Common.{List, [], ℕ, subst, OnOk, OnErr, inl, refl}
 use Rattle.room_program.specs.Scripts.{Loss}
 use Rattle.room_program.specs.Streams.{WritesAll, WritesEnded, WritesFront}
 use Rattle.room_program.proofs.LineAnswerLemmas.{script-opened, script-none}
 use Rattle.room_program.proofs.StreamLemmas.{on_err, Appends-none, Consumes-none}
-use Rattle.room_program.proofs.CallLemmas.{no_call}
 use Rattle.room_program.proofs.replay.replay.Goals as goal
 
 pub returns-in_err-block-clause-front : goal.returns-in_err-block-clause-front
@@ -35,4 +34,4 @@ returns-clause-front g c =
     (script-opened c.args.limit c.open-room.result c.open-room.ensures) c.replay_blocks.ensures.front
 
 pub returns-in_err-block-clause-calls : goal.returns-in_err-block-clause-calls
-returns-in_err-block-clause-calls g c = no_call g.S.Source.gets c.args.reads c.args.reader.now
+returns-in_err-block-clause-calls g c = inl refl

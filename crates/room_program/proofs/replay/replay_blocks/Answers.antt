@@ -80,7 +80,7 @@ pub loop-preserved : goal.loop-preserved
 loop-preserved g c =
     let inv = c.loop.invariant in
     let said = c.in_ok-answer_block.ensures.ok in
-    let more : Gets g.S.Source.gets (suc c.loop.counter) c.args.reader.now c.get.new.self = next_gets g.S.Source.gets c.loop.counter c.in-Ok.count c.args.reader.now c.loop.reader c.get.new.self inv.gets c.in-Ok.ensures.gets in
+    let more : Gets g.S.Source.gets (suc c.loop.counter) c.args.reader.now c.get.new.self = next_gets g.S.Source.gets c.loop.counter c.in-Ok.count c.args.reader.now c.loop.reader c.get.new.self (omega arith) inv.gets c.in-Ok.ensures.gets in
     record {
       progress = progress-block _ _ _ _ _ _ _ _ inv.progress (g.S.Source.left c.get.new.self) (g.W.Sink.taken c.answer_block.new.writer) (take c.in-Ok.count c.get.new.buffer) said.0 c.answer_block.new.begun.items c.answer_block.new.answers
           c.in-Ok.ensures.bytes.0 said.1 said.2;

@@ -1,7 +1,13 @@
-use Rattle.std.proofs.Common.{◌≡◌}
+use Rattle.std.proofs.Common.{◌≡◌, ◌≤◌}
 use Rattle.std.specs.Io.KnownBytes.{Keeps}
+use Rattle.room_program.specs.Io.{calls_of, stream_of}
 use Rattle.room_program.proofs.io.IoSource.get.Given as goal
 
+-- all the calls so far were interrupted
 abbrev pub invariant-loop : goal.invariant-loop
-invariant-loop g l =
-    Keeps (g.R.Read.remaining l.initial.self.stream) (g.R.Read.remaining l.self.stream) × (l.self.has_failed ≡ l.initial.self.has_failed)
+invariant-loop g l = record {
+  kept : Keeps (g.R.Read.remaining (stream_of l.initial.self)) (g.R.Read.remaining (stream_of l.self));
+  works : l.self.has_failed ≡ l.initial.self.has_failed;
+  unanswered : (calls_of l.self).answered ≡ (calls_of l.initial.self).answered;
+  interrupted : l.counter ≤ (calls_of l.self).interrupted;
+}

@@ -1,0 +1,31 @@
+-- What is noted of the calls of a stream.
+use Rattle.std.specs.Prelude.{◌≡◌, ◌⊎◌, ◌≤◌, ℕ, ◌+◌, ◌-◌, ◌^◌, min, true, Option, Some, None, Result, Ok, Err, is_err}
+use Rattle.room_program.specs.declared.failed.Failed.{Failed}
+use Rattle.room_program.specs.declared.noted.Call.{Call}
+use Rattle.room_program.specs.declared.noted.Calls.{Calls}
+use Rattle.room_program.specs.declared.noted.Stop.{Stop}
+use Rattle.room_program.specs.declared.noted.Stop.TheVariants as stops
+
+-- no call
+abbrev pub unnoted : Calls
+unnoted = record { answered = 0; interrupted = 0; last = None }
+
+-- one more, in a count that stops at 2^64 - 1
+abbrev pub one_more : ℕ → ℕ
+one_more n = min (n + 1) (2 ^ 64 - 1)
+
+-- a call that was answered is one more of these and the last, and one that was interrupted is one more of those
+abbrev pub noted : Calls → ℕ → Result ℕ Stop → Calls
+noted calls asked (Ok count) = record { answered = one_more calls.answered; interrupted = calls.interrupted; last = Some (record { asked = asked; answer = Ok count }) }
+noted calls asked (Err stops.Failed) = record { answered = one_more calls.answered; interrupted = calls.interrupted; last = Some (record { asked = asked; answer = Err (record {}) }) }
+noted calls asked (Err stops.Interrupted) = record calls { interrupted = one_more calls.interrupted }
+
+-- one more call with so many bytes was answered, and so
+pub record IsAnswered (before after : Calls) (asked : ℕ) (answer : Result ℕ Failed) : Type 0 where
+  pub once : after.answered ≡ one_more before.answered
+  pub last : after.last ≡ Some (record { asked = asked; answer = answer })
+
+-- that, or 2^64 - 1 calls were interrupted, which is told as a failure
+abbrev pub Answers : Calls → ℕ → Result ℕ Failed → Calls → Type 0
+Answers before asked answer after =
+    IsAnswered before after asked answer ⊎ ((is_err answer ≡ true) × (2 ^ 64 - 1 ≤ after.interrupted))

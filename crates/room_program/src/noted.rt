@@ -1,0 +1,128 @@
+//! A stream of the system, with a note of its calls.
+ghost use Rattle.std.specs.Prelude.{◌≡◌, Some, length};
+ghost use Rattle.std.specs.Io.{ReadsAtMost, WritesAtMost};
+ghost use Rattle.std.specs.Io.KnownBytes.{ReadConsumes, WriteAppends};
+ghost use Rattle.room_program.specs.Calls.{noted, unnoted};
+
+use crate::failed::Failed;
+use std::io::{Error, ErrorKind, Read, Write};
+use thiserror::Error;
+
+/// A call that was answered.
+#[derive(Clone, Copy, Debug, PartialEq, Eq)]
+pub struct Call {
+    /// For how many bytes it asked, or how many it was handed.
+    pub asked: usize,
+    /// How many it gave or took, or that it failed.
+    pub answer: Result<usize, Failed>,
+}
+
+/// What is noted of the calls of a stream. The counts stop at `u64::MAX`.
+#[derive(Clone, Copy, Debug, PartialEq, Eq)]
+pub struct Calls {
+    /// How many were answered.
+    pub answered: u64,
+    /// How many were interrupted, and so not answered.
+    pub interrupted: u64,
+    /// The last that was answered.
+    pub last: Option<Call>,
+}
+
+/// Why a call gave no count.
+#[derive(Clone, Copy, Debug, PartialEq, Eq, Error)]
+pub enum Stop {
+    /// It was interrupted, and is to be made again.
+    #[error("the call was interrupted")]
+    Interrupted,
+    /// It failed.
+    #[error("the call failed")]
+    Failed,
+}
+
+/// A stream with a note of its calls. Nothing but `read` and `write` calls the stream or changes the note.
+#[derive(Drop)]
+pub struct Noted<T> {
+    stream: T,
+    calls: Calls,
+}
+
+impl<T> Noted<T> {
+    ghost use Rattle.room_program.specs.Noted.{calls_of, stream_of};
+
+    /// A stream of which no call is noted yet.
+    pub fn new(stream: T) -> Noted<T>
+        ensures stream { stream_of result ≡ stream }
+        ensures none { calls_of result ≡ unnoted }
+    {
+        let calls = Calls {
+            answered: 0,
+            interrupted: 0,
+            last: None,
+        };
+        Noted { stream, calls }
+    }
+}
+
+impl<R: Read> Noted<R> {
+    ghost use Rattle.room_program.specs.Noted.{calls_of, stream_of};
+
+    /// Reads once, and notes the answer.
+    pub fn read(&mut self, buffer: &mut [u8]) -> Result<usize, Stop>
+        ensures bound { ReadsAtMost result buffer.new }
+        ensures bytes { ReadConsumes (R.remaining (stream_of self.old))
+            (R.remaining (stream_of self.new)) result buffer.new }
+        ensures noted { calls_of self.new ≡ noted (calls_of self.old) (length buffer.new) result }
+    {
+        let answer = self.stream.read(buffer).map_err(stop_of);
+        self.calls = self.calls.note(buffer.len(), answer);
+        answer
+    }
+}
+
+impl<W: Write> Noted<W> {
+    ghost use Rattle.room_program.specs.Noted.{calls_of, stream_of};
+
+    /// Writes once, and notes the answer.
+    pub fn write(&mut self, bytes: &[u8]) -> Result<usize, Stop>
+        ensures bound { WritesAtMost result bytes.now }
+        ensures bytes { WriteAppends (W.contents (stream_of self.old))
+            (W.contents (stream_of self.new)) result bytes.now }
+        ensures noted { calls_of self.new ≡ noted (calls_of self.old) (length bytes.now) result }
+    {
+        let answer = self.stream.write(bytes).map_err(stop_of);
+        self.calls = self.calls.note(bytes.len(), answer);
+        answer
+    }
+}
+
+impl Calls {
+    // These calls and one more.
+    fn note(self, asked: usize, answer: Result<usize, Stop>) -> Calls
+        ensures { result ≡ noted self asked answer }
+    {
+        let answer = match answer {
+            Ok(count) => Ok(count),
+            Err(Stop::Failed) => Err(Failed),
+            Err(Stop::Interrupted) => {
+                let interrupted = self.interrupted.saturating_add(1);
+                return Calls {
+                    interrupted,
+                    ..self
+                };
+            }
+        };
+        Calls {
+            answered: self.answered.saturating_add(1),
+            interrupted: self.interrupted,
+            last: Some(Call { asked, answer }),
+        }
+    }
+}
+
+fn stop_of(error: Error) -> Stop {
+    if error.kind() == ErrorKind::Interrupted {
+        Stop::Interrupted
+    } else {
+        Stop::Failed
+    }
+}
