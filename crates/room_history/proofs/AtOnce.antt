@@ -164,11 +164,11 @@ module _ {A : Type 0} (base : Rows A) (j : List (Entry A)) (st : Stacked base j)
       ∙ ap (λ o. answered k c (meaning_refusal (past base k) k c o) o) (asked_for asks)
       ∙ ap (λ o. answered k c o (Some (Undo (length j + 1)))) (ap (λ w. undo_refusal (past base k) k w (length j + 1)) mine ∙ undo_accepted)
       ∙ ap (λ n. (Undid n (length j + 1), k ++ u ∷ [])) (ap (λ n. n + 1) size ∙ omega arith) in
-      let map_is : mapof base (answer base limit (answers base limit k between).1 c).1 ≡ mapof base j = ap (λ (p : Reply × List (Entry A)). mapof base p.1) step_is ∙ back u refl in (
-        ap (λ (p : Reply × List (Entry A)). p.0) step_is,
+      let map_is : mapof base (answer base limit (answers base limit k between).1 c).1 ≡ mapof base j = ap (λ (p : Reply A × List (Entry A)). mapof base p.1) step_is ∙ back u refl in (
+        ap (λ (p : Reply A × List (Entry A)). p.0) step_is,
         map_is,
         λ x. ap (λ m. users m x) map_is,
-        ap (λ (p : Reply × List (Entry A)). standing p.1) step_is ∙ stands_again u refl,
+        ap (λ (p : Reply A × List (Entry A)). standing p.1) step_is ∙ stands_again u refl,
       )
     where
       asked_for : (c.request ≡ requests.Undo None) ⊎ (c.request ≡ requests.Undo (Some (length j + 1))) → meant (j ++ e ∷ []) c.author c.request ≡ Some (Undo (length j + 1))

@@ -64,10 +64,10 @@ module _ {A : Type 0} where
       c = record { author = author; id = id; request = requests.Undo (Some s) }
 
       says : (answer base limit j c).0 ≡ (answered j c (option_map NotLast (blocker p j s)) (Some (Undo s))).0
-      says = ap (λ (q : Reply × List (Entry A)). q.0) (unspent base limit j c fresh room ∙ ap (λ o. answered j c o (Some (Undo s))) (own_refusal p j author s own stands))
+      says = ap (λ (q : Reply A × List (Entry A)). q.0) (unspent base limit j c fresh room ∙ ap (λ o. answered j c o (Some (Undo s))) (own_refusal p j author s own stands))
 
-      not_both : (seq b : ℕ) → Undid seq s ≡ NotLast b → ⊥
-      not_both seq b e = absurd (cc)
+      not_both : (r : Reply A) (seq b : ℕ) → r ≡ Undid seq s → r ≡ NotLast b → ⊥
+      not_both r seq b e f = absurd (cc (sym e ∙ f))
 
       by : (o : Option ℕ) → blocker p j s ≡ o
           → (((answer base limit j c).0 ≡ Undid (length j + 1) s) ↔ ((t : ℕ) → Blocks j s t → ⊥))
@@ -79,7 +79,7 @@ module _ {A : Type 0} where
       by (Some b) e =
           let first = first_blocks p j s b e in
           let refused : (answer base limit j c).0 ≡ NotLast b = says ∙ ap (λ o. (answered j c (option_map NotLast o) (Some (Undo s))).0) e in (
-            (λ done. absurd (not_both (length j + 1) b (sym done ∙ refused)), λ free. absurd (free b first.0)),
+            (λ done. absurd (not_both (answer base limit j c).0 (length j + 1) b done refused), λ free. absurd (free b first.0)),
             λ t k. (b, refused, first.0, first.1),
           )
 
@@ -92,10 +92,10 @@ module _ {A : Type 0} where
       one : Call A
       one = record { author = author; id = id; request = requests.Undo (Some s) }
 
-      refused : Option (EntryKind A) → Option Reply
+      refused : Option (EntryKind A) → Option (Reply A)
       refused k = first_that_holds (option_map Repeat (spent j author id) ∷ then_some (nat_le limit (length j)) Full ∷ meaning_refusal (past base j) j whole k ∷ [])
 
-      by : (o : Option Reply) → answered j whole o (Some (Undo s)) ≡ answered j one o (Some (Undo s))
+      by : (o : Option (Reply A)) → answered j whole o (Some (Undo s)) ≡ answered j one o (Some (Undo s))
       by None = refl
       by (Some r) = refl
 

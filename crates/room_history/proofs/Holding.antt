@@ -47,12 +47,12 @@ module _ {A : Type 0} where
       answered_stacked None false None made = st
       answered_stacked None false (Some (Do a)) made = by (refusal (mapof base j) a) refl
         where
-          by : (o : Option Refusal) → refusal (mapof base j) a ≡ o → Stacked base (answered j c (first_that_holds (option_map Refused o ∷ [])) (Some (Do a))).1
+          by : (o : Option (Refusal A)) → refusal (mapof base j) a ≡ o → Stacked base (answered j c (first_that_holds (option_map Refused o ∷ [])) (Some (Do a))).1
           by None e = Stacked-do base j (record { author = c.author; id = c.id; kind = Do a }) a st refl (made a refl) e
           by (Some r) e = st
       answered_stacked None false (Some (Undo s)) made = by (undo_refusal (past base j) j c.author s) refl
         where
-          by : (o : Option Reply) → undo_refusal (past base j) j c.author s ≡ o → Stacked base (answered j c (first_that_holds (o ∷ [])) (Some (Undo s))).1
+          by : (o : Option (Reply A)) → undo_refusal (past base j) j c.author s ≡ o → Stacked base (answered j c (first_that_holds (o ∷ [])) (Some (Undo s))).1
           by None e = let f = found (past base j) j c.author s e in (Stacked-undo base j (record { author = c.author; id = c.id; kind = Undo s }) s st refl f.there f.last).stacked
           by (Some r) e = st
 
@@ -74,7 +74,7 @@ module _ {A : Type 0} where
         }
 
   -- a run goes on by one step
-  pub run_more : (base : Rows A) (limit : ℕ) (j : List (Entry A)) (cs : List (Call A)) (rs : List Reply) (k l : List (Entry A)) (c : Call A) (r : Reply) → IsRun base limit j cs rs k → IsStep base limit k c r l → Holds base limit l
+  pub run_more : (base : Rows A) (limit : ℕ) (j : List (Entry A)) (cs : List (Call A)) (rs : List (Reply A)) (k l : List (Entry A)) (c : Call A) (r : Reply A) → IsRun base limit j cs rs k → IsStep base limit k c r l → Holds base limit l
       → IsRun base limit j (cs ++ c ∷ []) (rs ++ r ∷ []) l
   run_more base limit j [] [] k l c r run step holds = (run.0, (l, subst (λ m. IsStep base limit m c r l) run.1 step, (holds, refl)))
   run_more base limit j [] (s ∷ rs) k l c r run step holds = absurd run

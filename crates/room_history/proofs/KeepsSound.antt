@@ -34,7 +34,7 @@ not_so : {X : Type 0} (b : Bool) (x : X) → then_some b x ≡ None → b ≡ fa
 not_so true x e = absurd (cc)
 not_so false x e = refl
 
-no_least : (why : Name → Refusal) (names : List Name) → the_least why names ≡ None → names ≡ []
+no_least : {A : Type 0} (why : Name → Refusal A) (names : List Name) → the_least why names ≡ None → names ≡ []
 no_least why [] e = refl
 no_least why (x ∷ names) e = absurd (cc)
 
@@ -100,9 +100,9 @@ module _ {A : Type 0} where
   created_element : (m : Rows A) (x : Name) (w v : Element A) → first_that_holds (element_checks m x v) ≡ None → (is_of_length v ≡ true) × (list_all (is_present (put_row m x w)) (references v) ≡ true)
   created_element m x w (Node lat lon tags) e = (refl, refl)
   created_element m x w (Way nodes tags) e =
-      let few = first_none (then_some (nat_lt (length nodes) 2) (TooFew x)) (then_some (nat_lt most_nodes (length nodes)) (TooMany x) ∷ the_least Absent (filter (is_missing m x) nodes) ∷ []) e in
-      let many = first_none (then_some (nat_lt most_nodes (length nodes)) (TooMany x)) (the_least Absent (filter (is_missing m x) nodes) ∷ []) few.1 in
-      let none = first_none (the_least Absent (filter (is_missing m x) nodes)) [] many.1 in
+      let few = first_none (then_some (nat_lt (length nodes) 2) (TooFew x)) (then_some (nat_lt most_nodes (length nodes)) (TooMany x) ∷ the_least {A = A} Absent (filter (is_missing m x) nodes) ∷ []) e in
+      let many = first_none (then_some (nat_lt most_nodes (length nodes)) (TooMany x)) (the_least {A = A} Absent (filter (is_missing m x) nodes) ∷ []) few.1 in
+      let none = first_none (the_least {A = A} Absent (filter (is_missing m x) nodes)) [] many.1 in
       let two : nat_lt (length nodes) 2 ≡ false = not_so (nat_lt (length nodes) 2) (TooFew x) few.0 in
       let most : nat_lt most_nodes (length nodes) ≡ false = not_so (nat_lt most_nodes (length nodes)) (TooMany x) many.0 in
       let low : nat_le 2 (length nodes) ≡ true = grind (arith, nat_tests) in
@@ -165,7 +165,7 @@ module _ {A : Type 0} where
       by false = refl
 
   -- no row of a map refers to a name that has no user
-  no_user : (m : Rows A) (x : Name) → the_least (InUse x) (users m x) ≡ None → (y : Name) (w : Element A) → row_at m y ≡ Some w → refers_to w x ≡ false
+  no_user : (m : Rows A) (x : Name) → the_least {A = A} (InUse x) (users m x) ≡ None → (y : Name) (w : Element A) → row_at m y ≡ Some w → refers_to w x ≡ false
   no_user m x e y w is =
       by (refers_to w x) refl (found_passes (λ z v. not (refers_to v x)) m (none_passes (λ r. refers_to r.1 x) m (mapped_empty (filter (λ r. refers_to r.1 x) m) (no_least (InUse x) (users m x) e))) y w is)
     where
@@ -180,8 +180,8 @@ module _ {A : Type 0} where
   delete_keeps_sound : (m : Rows A) (x : Name) → is_sound m ≡ true → refusal m (Delete x) ≡ None → is_sound (rows_but x m) ≡ true
   delete_keeps_sound m x sound e = sound_from_rows (rows_but x m) (AreInOrder-rows_but m x (sound_in_order m sound)) each
     where
-      unused : the_least (InUse x) (users m x) ≡ None
-      unused = (first_none (the_least (InUse x) (users m x)) [] (first_none (then_some (is_absent m x) (Absent x)) (the_least (InUse x) (users m x) ∷ []) e).1).0
+      unused : the_least {A = A} (InUse x) (users m x) ≡ None
+      unused = (first_none (the_least {A = A} (InUse x) (users m x)) [] (first_none (then_some (is_absent m x) (Absent x)) (the_least {A = A} (InUse x) (users m x) ∷ []) e).1).0
 
       each : (y : Name) (w : Element A) → row_at (rows_but x m) y ≡ Some w → is_sound_row (rows_but x m) y w ≡ true
       each y w is = by (is_same y x) refl (sym (row_at-rows_but m x y) ∙ is)
@@ -208,5 +208,5 @@ module _ {A : Type 0} where
       (create_keeps_sound m x v sound made e, differ_at (put_row m x v) m x there (created m x v e).fresh)
   accepted_keeps_sound m (Delete x) sound made e =
       let gone : is_present (rows_but x m) x ≡ false = present_but m x x ∙ ap (λ b. not b && is_present m x) (is_eq-name_cmp_itself x) in
-      let here : is_present m x ≡ true = from_false (is_present m x) (not_so (is_absent m x) (Absent x) (first_none (then_some (is_absent m x) (Absent x)) (the_least (InUse x) (users m x) ∷ []) e).0) in
+      let here : is_present m x ≡ true = from_false (is_present m x) (not_so (is_absent m x) (Absent x) (first_none (then_some (is_absent m x) (Absent x)) (the_least {A = A} (InUse x) (users m x) ∷ []) e).0) in
       (delete_keeps_sound m x sound e, λ same. differ_at m (rows_but x m) x here gone (sym same))

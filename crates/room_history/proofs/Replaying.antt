@@ -12,7 +12,7 @@ module _ {A : Type 0} where
   pub replay_accepts : (m : Rows A) (a : Action A) (rest : List (Action A)) → IsSome (replay m (a ∷ rest)) → refusal m a ≡ None
   replay_accepts m a rest h = by (refusal m a) h
     where
-      by : (o : Option Refusal) → IsSome (cond (is_none o) (replay (after m a) rest) None) → o ≡ None
+      by : (o : Option (Refusal A)) → IsSome (cond (is_none o) (replay (after m a) rest) None) → o ≡ None
       by None h = refl
       by (Some r) h = absurd (cc)
 

@@ -37,11 +37,11 @@ some_inside : {X : Type 0} (x y : X) → Some x ≡ Some y → x ≡ y
 some_inside x y e = cc
 
 -- a plan's answer is the action's refusal
-pub refused : (o : Option Refusal) (r : Refusal) → Err r ≡ planned o → o ≡ Some r
+pub refused : {A : Type 0} (o : Option (Refusal A)) (r : Refusal A) → Err r ≡ planned o → o ≡ Some r
 refused None r e = absurd (cc)
 refused (Some s) r e = cc
 
-pub accepted_by : (o : Option Refusal) (t : Unit {0}) → Ok t ≡ planned o → o ≡ None
+pub accepted_by : {A : Type 0} (o : Option (Refusal A)) (t : Unit {0}) → Ok t ≡ planned o → o ≡ None
 accepted_by None t e = refl
 accepted_by (Some s) t e = absurd (cc)
 
@@ -58,7 +58,7 @@ module _ {A : Type 0} where
       ∙ ap (λ b. answered j c (first_that_holds (then_some b Full ∷ why ∷ [])) k) is_full))
 
   -- a call is known by its parts
-  pub same_call : (base : Rows A) (limit : ℕ) (j k : List (Entry A)) (c : Call A) (r : Request A) (reply : Reply) → c.request ≡ r → IsStep base limit j (record { author = c.author; id = c.id; request = r }) reply k → IsStep base limit j c reply k
+  pub same_call : (base : Rows A) (limit : ℕ) (j k : List (Entry A)) (c : Call A) (r : Request A) (reply : Reply A) → c.request ≡ r → IsStep base limit j (record { author = c.author; id = c.id; request = r }) reply k → IsStep base limit j c reply k
   same_call base limit j k c r reply is h = subst (λ q. IsStep base limit j (record { author = c.author; id = c.id; request = q }) reply k) (sym is) h
 
   module _ (base : Rows A) (limit : ℕ) (j : List (Entry A)) (author : Author) (id : ℕ) (may : MayAppend limit j author id) where
@@ -69,18 +69,18 @@ module _ {A : Type 0} where
     done_is : (a : Action A) → refusal (mapof base j) a ≡ None → answer base limit j (record { author = author; id = id; request = requests.Do a }) ≡ (Done (length j + 1), with_entry j author id (Do a))
     done_is a e = answer_is (requests.Do a) ∙ ap (λ o. answered j (record { author = author; id = id; request = requests.Do a }) (option_map Refused o) (Some (Do a))) e
 
-    pub step_refused : (a : Action A) (r : Refusal) → refusal (mapof base j) a ≡ Some r → IsStep base limit j (record { author = author; id = id; request = requests.Do a }) (Refused r) j
+    pub step_refused : (a : Action A) (r : Refusal A) → refusal (mapof base j) a ≡ Some r → IsStep base limit j (record { author = author; id = id; request = requests.Do a }) (Refused r) j
     step_refused a r e = inl (sym (answer_is (requests.Do a) ∙ ap (λ o. answered j (record { author = author; id = id; request = requests.Do a }) (option_map Refused o) (Some (Do a))) e))
 
     pub step_done : (a : Action A) (seq : ℕ) → refusal (mapof base j) a ≡ None → seq ≡ length j + 1 → IsStep base limit j (record { author = author; id = id; request = requests.Do a }) (Done seq) (with_entry j author id (Do a))
     step_done a seq e is = inl (ap (λ n. (Done n, with_entry j author id (Do a))) is ∙ sym (done_is a e))
 
     legal_do : IsJournal base limit j → (a : Action A) → is_made_action a ≡ true → refusal (mapof base j) a ≡ None → IsJournal base limit (with_entry j author id (Do a))
-    legal_do h a made e = subst (λ k. IsJournal base limit k) (ap (λ (p : Reply × List (Entry A)). p.1) (done_is a e)) (called j (record { author = author; id = id; request = requests.Do a }) h made)
+    legal_do h a made e = subst (λ k. IsJournal base limit k) (ap (λ (p : Reply A × List (Entry A)). p.1) (done_is a e)) (called j (record { author = author; id = id; request = requests.Do a }) h made)
 
     legal_undo : IsJournal base limit j → (s : ℕ) → undo_refusal (past base j) j author s ≡ None → IsJournal base limit (with_entry j author id (Undo s))
     legal_undo h s e =
-        subst (λ k. IsJournal base limit k) (ap (λ (p : Reply × List (Entry A)). p.1) (answer_is (requests.Undo (Some s)) ∙ ap (λ o. answered j (record { author = author; id = id; request = requests.Undo (Some s) }) o (Some (Undo s))) e))
+        subst (λ k. IsJournal base limit k) (ap (λ (p : Reply A × List (Entry A)). p.1) (answer_is (requests.Undo (Some s)) ∙ ap (λ o. answered j (record { author = author; id = id; request = requests.Undo (Some s) }) o (Some (Undo s))) e))
         (called j (record { author = author; id = id; request = requests.Undo (Some s) }) h refl)
 
     -- which entry an undo takes back, or why none
@@ -92,7 +92,7 @@ module _ {A : Type 0} where
     taken_by number None s is e = absurd (cc)
     taken_by number (Some t) s is e = by (undo_refusal (past base j) j author t) refl e
       where
-        by : (o : Option Reply) → undo_refusal (past base j) j author t ≡ o → Ok s ≡ undone_or t o → Taken number s
+        by : (o : Option (Reply A)) → undo_refusal (past base j) j author t ≡ o → Ok s ≡ undone_or t o → Taken number s
         by None ok e = let same : t ≡ s = cc in record { is = is ∙ ap Some same; ok = ap (undo_refusal (past base j) j author) (sym same) ∙ ok }
         by (Some r) ok e = absurd (cc)
 
@@ -106,14 +106,14 @@ module _ {A : Type 0} where
         inl (ap (λ n. (Undid n s, with_entry j author id (Undo s))) is
         ∙ sym (answer_is (requests.Undo number) ∙ ap (λ o. answered j (record { author = author; id = id; request = requests.Undo number }) (meaning_refusal (past base j) j (record { author = author; id = id; request = requests.Undo number }) (option_map Undo o)) (option_map Undo o)) t.is ∙ ap (λ o. answered j (record { author = author; id = id; request = requests.Undo number }) o (Some (Undo s))) t.ok))
 
-    pub step_not_undone : (number : Option ℕ) (r : Reply) → Err r ≡ asked_or (undo_refusal (past base j) j author) (asked j author number) → IsStep base limit j (record { author = author; id = id; request = requests.Undo number }) r j
+    pub step_not_undone : (number : Option ℕ) (r : Reply A) → Err r ≡ asked_or (undo_refusal (past base j) j author) (asked j author number) → IsStep base limit j (record { author = author; id = id; request = requests.Undo number }) r j
     step_not_undone number r e = inl (sym (answer_is (requests.Undo number) ∙ by (asked j author number) e))
       where
         by : (o : Option ℕ) → Err r ≡ asked_or (undo_refusal (past base j) j author) o → answered j (record { author = author; id = id; request = requests.Undo number }) (meaning_refusal (past base j) j (record { author = author; id = id; request = requests.Undo number }) (option_map Undo o)) (option_map Undo o) ≡ (r, j)
         by None e = ap (λ p. (p, j)) (cc)
         by (Some t) e = why (undo_refusal (past base j) j author t) e
           where
-            why : (o : Option Reply) → Err r ≡ undone_or t o → answered j (record { author = author; id = id; request = requests.Undo number }) o (Some (Undo t)) ≡ (r, j)
+            why : (o : Option (Reply A)) → Err r ≡ undone_or t o → answered j (record { author = author; id = id; request = requests.Undo number }) o (Some (Undo t)) ≡ (r, j)
             why None e = absurd (cc)
             why (Some p) e = ap (λ q. (q, j)) (cc)
 

@@ -42,12 +42,12 @@ module _ {A : Type 0} where
   meant j author (requests.Undo s) = option_map Undo (asked j author s)
 
   -- the refusal where a request means nothing
-  abbrev pub nothing_meant : Request A → Reply
+  abbrev pub nothing_meant : Request A → Reply A
   nothing_meant (requests.Do a) = NothingToUndo
   nothing_meant (requests.Undo s) = NothingToUndo
 
   -- why an author's undo of s is refused, by the first check that holds
-  abbrev pub undo_refusal : Past A → List (Entry A) → Author → ℕ → Option Reply
+  abbrev pub undo_refusal : Past A → List (Entry A) → Author → ℕ → Option (Reply A)
   undo_refusal p j author s = first_that_holds (
       then_some (is_none (numbered j s)) NoSuch
       ∷ then_some (not (is_by author (numbered j s))) NotYours
@@ -56,16 +56,16 @@ module _ {A : Type 0} where
       ∷ [])
 
   -- why an entry cannot be appended
-  abbrev pub kind_refusal : Past A → List (Entry A) → Author → EntryKind A → Option Reply
+  abbrev pub kind_refusal : Past A → List (Entry A) → Author → EntryKind A → Option (Reply A)
   kind_refusal p j author (Do a) = option_map Refused (refusal p.map a)
   kind_refusal p j author (Undo s) = undo_refusal p j author s
 
-  abbrev pub meaning_refusal : Past A → List (Entry A) → Call A → Option (EntryKind A) → Option Reply
+  abbrev pub meaning_refusal : Past A → List (Entry A) → Call A → Option (EntryKind A) → Option (Reply A)
   meaning_refusal p j c None = Some (nothing_meant c.request)
   meaning_refusal p j c (Some k) = kind_refusal p j c.author k
 
   -- the first refusal of a call, or none
-  abbrev pub call_refusal : Rows A → ℕ → List (Entry A) → Call A → Option Reply
+  abbrev pub call_refusal : Rows A → ℕ → List (Entry A) → Call A → Option (Reply A)
   call_refusal base limit j c = first_that_holds (
       option_map Repeat (spent j c.author c.id)
       ∷ then_some (nat_le limit (length j)) Full
@@ -73,7 +73,7 @@ module _ {A : Type 0} where
       ∷ [])
 
   -- the reply to an accepted call, under its entry's number
-  abbrev pub accepted : ℕ → EntryKind A → Reply
+  abbrev pub accepted : ℕ → EntryKind A → Reply A
   accepted seq (Do a) = Done seq
   accepted seq (Undo s) = Undid seq s
 
@@ -81,15 +81,15 @@ module _ {A : Type 0} where
   abbrev pub with_entry : List (Entry A) → Author → ℕ → EntryKind A → List (Entry A)
   with_entry j author id k = j ++ record { author = author; id = id; kind = k } ∷ []
 
-  abbrev pub answered : List (Entry A) → Call A → Option Reply → Option (EntryKind A) → Reply × List (Entry A)
+  abbrev pub answered : List (Entry A) → Call A → Option (Reply A) → Option (EntryKind A) → Reply A × List (Entry A)
   answered j c (Some refused) k = (refused, j)
   answered j c None None = (nothing_meant c.request, j)
   answered j c None (Some k) = (accepted (length j + 1) k, with_entry j c.author c.id k)
 
-  abbrev pub answer : Rows A → ℕ → List (Entry A) → Call A → Reply × List (Entry A)
+  abbrev pub answer : Rows A → ℕ → List (Entry A) → Call A → Reply A × List (Entry A)
   answer base limit j c = answered j c (call_refusal base limit j c) (meant j c.author c.request)
 
   -- the replies to calls in turn, and the journal that they leave
-  abbrev pub answers : Rows A → ℕ → List (Entry A) → List (Call A) → List Reply × List (Entry A)
+  abbrev pub answers : Rows A → ℕ → List (Entry A) → List (Call A) → List (Reply A) × List (Entry A)
   answers base limit j [] = ([], j)
   answers base limit j (c ∷ cs) = let step = answer base limit j c in let rest = answers base limit step.1 cs in (step.0 ∷ rest.0, rest.1)

@@ -22,7 +22,7 @@ first_that_holds (None ∷ checks) = first_that_holds checks
 first_that_holds (Some x ∷ checks) = Some x
 
 -- the least of some names as a refusal
-abbrev pub the_least : (Name → Refusal) → List Name → Option Refusal
+abbrev pub the_least : {A : Type 0} → (Name → Refusal A) → List Name → Option (Refusal A)
 the_least why names = option_map why (least names)
 
 module _ {A : Type 0} where
@@ -31,7 +31,7 @@ module _ {A : Type 0} where
   is_missing m x e = not (is_same x e) && is_absent m e
 
   -- a way's list has 2 to 2,000 nodes, and they are there
-  abbrev pub list_checks : Rows A → Name → List Name → List (Option Refusal)
+  abbrev pub list_checks : Rows A → Name → List Name → List (Option (Refusal A))
   list_checks m x list =
       then_some (nat_lt (length list) 2) (TooFew x)
       ∷ then_some (nat_lt most_nodes (length list)) (TooMany x)
@@ -39,11 +39,11 @@ module _ {A : Type 0} where
       ∷ []
 
   -- the checks of a new element's own list; a node has none
-  abbrev pub element_checks : Rows A → Name → Element A → List (Option Refusal)
+  abbrev pub element_checks : Rows A → Name → Element A → List (Option (Refusal A))
   element_checks m x (Node lat lon tags) = []
   element_checks m x (Way nodes tags) = list_checks m x nodes
 
-  abbrev pub checks : Rows A → Action A → List (Option Refusal)
+  abbrev pub checks : Rows A → Action A → List (Option (Refusal A))
   checks m (Create x v) =
       then_some (not (is_kind (kind_of v) x.kind)) (WrongKind x)
       ∷ then_some (is_present m x) (Present x)
@@ -54,5 +54,5 @@ module _ {A : Type 0} where
       ∷ []
 
   -- the refusal of an action on a map, or none: it is accepted
-  abbrev pub refusal : Rows A → Action A → Option Refusal
+  abbrev pub refusal : Rows A → Action A → Option (Refusal A)
   refusal m a = first_that_holds (checks m a)

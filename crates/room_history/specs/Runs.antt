@@ -10,11 +10,11 @@ use Rattle.room_history.specs.Headline.{Holds}
 
 module _ {A : Type 0} where
   -- one call: answered by the definition, or for want of memory with the journal as it was
-  abbrev pub IsStep : Rows A → ℕ → List (Entry A) → Call A → Reply → List (Entry A) → Type 0
+  abbrev pub IsStep : Rows A → ℕ → List (Entry A) → Call A → Reply A → List (Entry A) → Type 0
   IsStep base limit j c reply k = ((reply, k) ≡ answer base limit j c) ⊎ ((reply ≡ Memory) × (k ≡ j))
 
   -- calls and replies in turn: as many replies as calls, and the room holds before the first and after each
-  abbrev pub IsRun : Rows A → ℕ → List (Entry A) → List (Call A) → List Reply → List (Entry A) → Type 0
+  abbrev pub IsRun : Rows A → ℕ → List (Entry A) → List (Call A) → List (Reply A) → List (Entry A) → Type 0
   IsRun base limit j [] [] end = Holds base limit j × (end ≡ j)
   IsRun base limit j [] (r ∷ rs) end = ⊥
   IsRun base limit j (c ∷ cs) [] end = ⊥

@@ -57,7 +57,7 @@ abbrev pub undoes : Author → ℕ → Option ℕ → Call Any
 undoes author id s = record { author = author; id = id; request = Undo s }
 
 -- the replies of an empty room with this limit, and the map that the calls leave
-abbrev pub replies : ℕ → List (Call Any) → List Reply
+abbrev pub replies : ℕ → List (Call Any) → List (Reply Any)
 replies limit calls = (answers [] limit [] calls).0
 
 abbrev pub map_after : ℕ → List (Call Any) → Rows Any

@@ -27,7 +27,7 @@ pub const FEWEST_NODES: usize = 2;
 pub const MOST_NODES: usize = 2000;
 
 /// Whether an action is accepted on the map. The refusal is the first of the action's checks that holds.
-pub fn plan<A: Allocator>(map: &OsmMap<A>, action: &Action<A>) -> Result<(), Refusal>
+pub fn plan<A: Allocator>(map: &OsmMap<A>, action: &Action<A>) -> Result<(), Refusal<A>>
     ensures plan { result ≡ planned (refusal map.now action.now) }
     // What holds of every action.
     ensures made { is_made_action action.now ≡ true }
@@ -44,7 +44,7 @@ pub fn plan_create<A: Allocator>(
     map: &OsmMap<A>,
     name: &Name,
     element: &Element<A>,
-) -> Result<(), Refusal>
+) -> Result<(), Refusal<A>>
     ensures plan { result ≡ planned (refusal map.now (Create name.now element.now)) }
     // What holds of every element.
     ensures made { is_made element.now ≡ true }
@@ -77,7 +77,7 @@ fn is_present<A: Allocator>(map: &OsmMap<A>, name: &Name) -> bool
 }
 
 // Whether a new way can list these nodes.
-fn check_nodes<A: Allocator>(map: &OsmMap<A>, name: &Name, nodes: &[Name]) -> Result<(), Refusal>
+fn check_nodes<A: Allocator>(map: &OsmMap<A>, name: &Name, nodes: &[Name]) -> Result<(), Refusal<A>>
     ensures { result ≡ planned (first_that_holds (list_checks map.now name.now nodes.now)) }
 {
     if nodes.len() < FEWEST_NODES {
@@ -130,7 +130,7 @@ fn lesser(least: Option<Name>, name: Name) -> Name
 }
 
 /// Whether an element can be deleted: it is there, and nothing refers to it. It looks at every row.
-pub fn plan_delete<A: Allocator>(map: &OsmMap<A>, name: &Name) -> Result<(), Refusal>
+pub fn plan_delete<A: Allocator>(map: &OsmMap<A>, name: &Name) -> Result<(), Refusal<A>>
     ensures { result ≡ planned (refusal map.now (Delete name.now)) }
 {
     if !is_present(map, name) {

@@ -1,9 +1,12 @@
 //! Why an action is refused.
 use osm_elements::name::Name;
+use osm_elements::text::Text;
+use std::alloc::Allocator;
 
 /// Why an action is refused on a map.
-#[derive(Clone, Copy, Debug, PartialEq, Eq)]
-pub enum Refusal {
+#[derive(Drop)]
+#[derive_where(Debug)]
+pub enum Refusal<A: Allocator> {
     /// The map has no element of this name.
     Absent(Name),
     /// The map has an element of this name already.
@@ -16,6 +19,8 @@ pub enum Refusal {
     TooMany(Name),
     /// The element of the first name is referred to; the second is the least name that does.
     InUse(Name, Name),
+    /// Two elements that are to be one have different values at this key. No action is answered so yet.
+    TagConflict(Text<A>),
     /// A growth was refused.
     Memory,
 }

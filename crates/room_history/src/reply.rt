@@ -6,8 +6,9 @@ use std::alloc::Allocator;
 use std::marker::Model;
 
 /// The answer to a call. After each of those from `Repeat` on the room is as it was before the call.
-#[derive(Clone, Copy, Debug, PartialEq, Eq)]
-pub enum Reply {
+#[derive(Drop)]
+#[derive_where(Debug)]
+pub enum Reply<A: Allocator> {
     /// The action was done, as the entry of this number.
     Done {
         /// The number of the new entry.
@@ -41,7 +42,7 @@ pub enum Reply {
         blocker: u64,
     },
     /// The action is refused on the map as it is.
-    Refused(Refusal),
+    Refused(Refusal<A>),
     /// A growth was refused.
     Memory,
 }
@@ -50,7 +51,7 @@ pub enum Reply {
 #[derive(Drop)]
 #[derive_where(Debug)]
 pub struct Replies<A: Allocator> {
-    replies: Vec<Reply, A>,
+    replies: Vec<Reply<A>, A>,
 }
 
 // Replies are seen as the list of them.
@@ -58,21 +59,21 @@ impl<A: Allocator> Model for Replies<A> {
     ghost use Rattle.std.specs.Prelude.{List};
     ghost use Rattle.room_history.specs.declared.reply.Reply.{Reply};
 
-    ghost Value = { List Reply };
+    ghost Value = { List (Reply A) };
 
     ghost view = { λ r. r.replies.items };
 }
 
 impl<A: Allocator> Replies<A> {
     /// Takes the replies of a vector and gives them as a list, in their order. It takes no memory.
-    pub fn from_vec(replies: Vec<Reply, A>) -> Replies<A>
+    pub fn from_vec(replies: Vec<Reply<A>, A>) -> Replies<A>
         ensures { result ≡ replies.items }
     {
         Replies { replies }
     }
 
     /// Gives the replies back as a vector, in their order. It takes no memory.
-    pub fn into_vec(self) -> Vec<Reply, A>
+    pub fn into_vec(self) -> Vec<Reply<A>, A>
         ensures { result.items ≡ self }
     {
         let Replies { replies } = self;
@@ -80,7 +81,7 @@ impl<A: Allocator> Replies<A> {
     }
 
     /// The replies as a slice, in their order. It takes no memory.
-    pub fn as_slice(&self) -> &[Reply]
+    pub fn as_slice(&self) -> &[Reply<A>]
         ensures { result.now ≡ self.now }
     {
         &self.replies

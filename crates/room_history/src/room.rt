@@ -72,7 +72,7 @@ impl<A: Allocator + Copy> Room<A> {
 
     /// Answers a call. The refusals are tested in the order in which `Reply` lists them; after a refusal the
     /// room is as it was, and the call's id is unspent. An undo replays the actions that stand from the base.
-    pub fn take(&mut self, call: Call<A>) -> Reply
+    pub fn take(&mut self, call: Call<A>) -> Reply<A>
         ensures step { IsStep self.old.base self.old.limit self.old.journal call result self.new.journal }
         ensures base { self.new.base ≡ self.old.base }
         ensures limit { self.new.limit ≡ self.old.limit }
@@ -91,7 +91,7 @@ impl<A: Allocator + Copy> Room<A> {
     }
 
     // The answer to a call.
-    fn answer(&mut self, call: Call<A>) -> Reply
+    fn answer(&mut self, call: Call<A>) -> Reply<A>
         ensures step { IsStep self.old.base self.old.limit self.old.journal call result self.new.journal }
         ensures base { self.new.base ≡ self.old.base }
         ensures limit { self.new.limit ≡ self.old.limit }
@@ -114,7 +114,7 @@ impl<A: Allocator + Copy> Room<A> {
     }
 
     // Does an action, if it is accepted on the map.
-    fn act(&mut self, author: Author, id: u64, action: Action<A>) -> Reply
+    fn act(&mut self, author: Author, id: u64, action: Action<A>) -> Reply<A>
         requires { MayAppend self.old.limit self.old.journal author id }
         ensures step { IsStep self.old.base self.old.limit self.old.journal
             (record { author = author; id = id; request = requests.Do action }) result self.new.journal }
@@ -150,7 +150,7 @@ impl<A: Allocator + Copy> Room<A> {
     }
 
     // Undoes an entry, if it is the last that stands and the author's own.
-    fn undo(&mut self, author: Author, id: u64, number: Option<u64>) -> Reply
+    fn undo(&mut self, author: Author, id: u64, number: Option<u64>) -> Reply<A>
         requires { MayAppend self.old.limit self.old.journal author id }
         ensures step { IsStep self.old.base self.old.limit self.old.journal
             (record { author = author; id = id; request = requests.Undo number }) result self.new.journal }

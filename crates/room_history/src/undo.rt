@@ -20,7 +20,7 @@ pub fn undoable<A: Allocator>(
     numbers: &[u64],
     author: &Author,
     number: Option<u64>,
-) -> Result<u64, Reply>
+) -> Result<u64, Reply<A>>
     requires { numbers.now ≡ standing entries.now }
     ensures { (p : Past A) → result ≡ asked_or (undo_refusal p entries.now author.now) (asked entries.now author.now number) }
 {
@@ -39,7 +39,7 @@ fn checked<A: Allocator>(
     numbers: &[u64],
     author: &Author,
     seq: u64,
-) -> Result<u64, Reply>
+) -> Result<u64, Reply<A>>
     requires { numbers.now ≡ standing entries.now }
     ensures { (p : Past A) → result ≡ undone_or seq (undo_refusal p entries.now author.now seq) }
 {

@@ -121,7 +121,7 @@ fn answer_change(
         id,
         request,
     });
-    reply_text(alloc, id, &Answer::from(reply))
+    reply_text(alloc, id, &Answer::from(&reply))
 }
 
 fn answer_get(alloc: Global, room: &Room<Global>, id: u64, name: Name) -> Result<Json, Memory>

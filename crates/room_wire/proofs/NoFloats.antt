@@ -8,7 +8,7 @@ use Rattle.osm_elements.specs.declared.element.Element.{Element}
 use Rattle.osm_elements.specs.declared.element.Element.TheVariants as elements
 use Rattle.osm_elements.specs.TagRows.{Pairs}
 use Rattle.room_wire.specs.declared.answer.Answer.{Answer}
-use Rattle.room_wire.specs.declared.answer.Answer.TheVariants.{Done, Undid, Is, Map, Absent, Present, WrongKind, TooFew, TooMany, InUse, Repeat, NotLast, BadField, Memory, Full, NothingToUndo, NoSuch, NotYours, NotStanding, NotJson, NotObject, BadId, UnknownDo, BadLine}
+use Rattle.room_wire.specs.declared.answer.Answer.TheVariants.{Done, Undid, Is, Map, Absent, Present, WrongKind, TooFew, TooMany, InUse, TagConflict, Repeat, NotLast, BadField, Memory, Full, NothingToUndo, NoSuch, NotYours, NotStanding, NotJson, NotObject, BadId, UnknownDo, BadLine}
 use Rattle.room_wire.specs.Trees.{id_tree, nodes_tree, tag_members, element_tree, rows_tree, tree_of}
 use Rattle.serde_json.specs.Find.{of_integer, is_float}
 
@@ -45,6 +45,7 @@ tree_has_no_float id (WrongKind name) = refl
 tree_has_no_float id (TooFew name) = refl
 tree_has_no_float id (TooMany name) = refl
 tree_has_no_float id (InUse name user) = refl
+tree_has_no_float id (TagConflict key) = refl
 tree_has_no_float id (Repeat seq) = refl
 tree_has_no_float id (NotLast blocker) = refl
 tree_has_no_float id (BadField field) = refl

@@ -8,7 +8,7 @@ use Rattle.osm_elements.specs.declared.element.Element.{Element}
 use Rattle.osm_elements.specs.declared.element.Element.TheVariants as elements
 use Rattle.osm_elements.specs.TagRows.{Pairs}
 use Rattle.room_wire.specs.declared.answer.Answer.{Answer}
-use Rattle.room_wire.specs.declared.answer.Answer.TheVariants.{Done, Undid, Is, Map, Absent, Present, WrongKind, TooFew, TooMany, InUse, Repeat, NotLast, BadField, Memory, Full, NothingToUndo, NoSuch, NotYours, NotStanding, NotJson, NotObject, BadId, UnknownDo, BadLine}
+use Rattle.room_wire.specs.declared.answer.Answer.TheVariants.{Done, Undid, Is, Map, Absent, Present, WrongKind, TooFew, TooMany, InUse, TagConflict, Repeat, NotLast, BadField, Memory, Full, NothingToUndo, NoSuch, NotYours, NotStanding, NotJson, NotObject, BadId, UnknownDo, BadLine}
 use Rattle.room_wire.specs.Trees.{id_tree, tag_members, element_tree, rows_tree, tree_of}
 
 items_are_shallow : {X : Type 0} (k : ℕ) (f : X → Data) → ((x : X) → depth (f x) ≤ k) → (xs : List X) → items_depth (items_of (map f xs)) ≤ k
@@ -41,6 +41,7 @@ tree_is_shallow id (WrongKind name) = omega arith
 tree_is_shallow id (TooFew name) = omega arith
 tree_is_shallow id (TooMany name) = omega arith
 tree_is_shallow id (InUse name user) = omega arith
+tree_is_shallow id (TagConflict key) = omega arith
 tree_is_shallow id (Repeat seq) = omega arith
 tree_is_shallow id (NotLast blocker) = omega arith
 tree_is_shallow id (BadField field) = omega arith

@@ -1,5 +1,5 @@
 -- The tree of each reply. (RFC 8259, sections 4 to 7. Which members a reply has is this project's.)
-use Rattle.std.specs.Prelude.{ℕ, List, [], ◌∷◌, map, codes}
+use Rattle.std.specs.Prelude.{◌≡◌, ℕ, List, [], ◌∷◌, map, codes}
 use Rattle.serde_json.specs.Data.{Data, number, string, array, object, unsigned, Members, no_members, member}
 use Rattle.serde_json.specs.Find.{of_integer}
 use Rattle.serde_json.specs.View.{items_of}
@@ -10,7 +10,7 @@ use Rattle.osm_elements.specs.declared.element.Element.TheVariants as elements
 use Rattle.osm_elements.specs.NameTexts.{name_text}
 use Rattle.osm_elements.specs.TagRows.{Pairs}
 use Rattle.room_wire.specs.declared.answer.Answer.{Answer}
-use Rattle.room_wire.specs.declared.answer.Answer.TheVariants.{Done, Undid, Is, Map, Absent, Present, WrongKind, TooFew, TooMany, InUse, Repeat, NotLast, BadField, Memory, Full, NothingToUndo, NoSuch, NotYours, NotStanding, NotJson, NotObject, BadId, UnknownDo, BadLine}
+use Rattle.room_wire.specs.declared.answer.Answer.TheVariants.{Done, Undid, Is, Map, Absent, Present, WrongKind, TooFew, TooMany, InUse, TagConflict, Repeat, NotLast, BadField, Memory, Full, NothingToUndo, NoSuch, NotYours, NotStanding, NotJson, NotObject, BadId, UnknownDo, BadLine}
 use Rattle.room_wire.specs.Fields.{field_text}
 
 abbrev pub whole : ℕ → Data
@@ -69,6 +69,7 @@ tree_of id (WrongKind name) = about id name (codes "wrong_kind")
 tree_of id (TooFew name) = about id name (codes "too_few")
 tree_of id (TooMany name) = about id name (codes "too_many")
 tree_of id (InUse name user) = no_tree id (object (member (codes "by") (name_tree user) (member (codes "el") (name_tree name) (member (codes "why") (string (codes "in_use")) no_members))))
+tree_of id (TagConflict key) = no_tree id (object (member (codes "key") (string key.now) (member (codes "why") (string (codes "tag_conflict")) no_members)))
 tree_of id (Repeat seq) = no_tree id (object (member (codes "seq") (whole seq) (member (codes "why") (string (codes "repeat")) no_members)))
 tree_of id (NotLast blocker) = no_tree id (object (member (codes "why") (string (codes "not_last")) (member (codes "with") (whole blocker) no_members)))
 tree_of id (BadField field) = no_tree id (object (member (codes "field") (string (field_text field)) (member (codes "why") (string (codes "bad_field")) no_members)))
@@ -83,3 +84,7 @@ tree_of id NotObject = bare id (codes "not_object")
 tree_of id BadId = bare id (codes "bad_id")
 tree_of id UnknownDo = bare id (codes "unknown_do")
 tree_of id BadLine = bare id (codes "bad_line")
+
+-- two answers have the same replies
+abbrev pub AreToldAlike : Answer → Answer → Type 0
+AreToldAlike a b = (id : ℕ) → tree_of id a ≡ tree_of id b

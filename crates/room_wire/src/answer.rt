@@ -6,6 +6,7 @@ use crate::field::Field;
 use osm_elements::element::Element;
 use osm_elements::map::Rows;
 use osm_elements::name::Name;
+use osm_elements::text::Text;
 use room_history::refusal::Refusal;
 use room_history::reply::Reply;
 use std::alloc::Global;
@@ -56,6 +57,8 @@ pub enum Answer<'a> {
         /// The least name that refers to it.
         user: Name,
     },
+    /// Two elements that are to be one have different values at this key.
+    TagConflict(&'a Text<Global>),
     /// The author's accepted entry of this number spent the id.
     Repeat {
         /// The number of that entry.
@@ -92,40 +95,46 @@ pub enum Answer<'a> {
     BadLine,
 }
 
-impl From<Refusal> for Answer<'_> {
+impl<'a> From<&'a Refusal<Global>> for Answer<'a> {
     ghost use Rattle.room_wire.specs.Answers.{refusal_answer};
+    ghost use Rattle.room_wire.specs.Trees.{AreToldAlike};
 
-    ghost from_gives = { λ r a. a ≡ refusal_answer r };
+    ghost from_gives = { λ r a. AreToldAlike a (refusal_answer r.now) };
 
-    fn from(refusal: Refusal) -> Self {
+    fn from(refusal: &'a Refusal<Global>) -> Self {
         match refusal {
-            Refusal::Absent(name) => Answer::Absent(name),
-            Refusal::Present(name) => Answer::Present(name),
-            Refusal::WrongKind(name) => Answer::WrongKind(name),
-            Refusal::TooFew(name) => Answer::TooFew(name),
-            Refusal::TooMany(name) => Answer::TooMany(name),
-            Refusal::InUse(name, user) => Answer::InUse { name, user },
+            Refusal::Absent(name) => Answer::Absent(*name),
+            Refusal::Present(name) => Answer::Present(*name),
+            Refusal::WrongKind(name) => Answer::WrongKind(*name),
+            Refusal::TooFew(name) => Answer::TooFew(*name),
+            Refusal::TooMany(name) => Answer::TooMany(*name),
+            Refusal::InUse(name, user) => Answer::InUse {
+                name: *name,
+                user: *user,
+            },
+            Refusal::TagConflict(key) => Answer::TagConflict(key),
             Refusal::Memory => Answer::Memory,
         }
     }
 }
 
-impl From<Reply> for Answer<'_> {
+impl<'a> From<&'a Reply<Global>> for Answer<'a> {
     ghost use Rattle.room_wire.specs.Answers.{reply_answer};
+    ghost use Rattle.room_wire.specs.Trees.{AreToldAlike};
 
-    ghost from_gives = { λ r a. a ≡ reply_answer r };
+    ghost from_gives = { λ r a. AreToldAlike a (reply_answer r.now) };
 
-    fn from(reply: Reply) -> Self {
+    fn from(reply: &'a Reply<Global>) -> Self {
         match reply {
-            Reply::Done { seq } => Answer::Done { seq },
-            Reply::Undid { seq, of } => Answer::Undid { seq, of },
-            Reply::Repeat { seq } => Answer::Repeat { seq },
+            Reply::Done { seq } => Answer::Done { seq: *seq },
+            Reply::Undid { seq, of } => Answer::Undid { seq: *seq, of: *of },
+            Reply::Repeat { seq } => Answer::Repeat { seq: *seq },
             Reply::Full => Answer::Full,
             Reply::NothingToUndo => Answer::NothingToUndo,
             Reply::NoSuch => Answer::NoSuch,
             Reply::NotYours => Answer::NotYours,
             Reply::NotStanding => Answer::NotStanding,
-            Reply::NotLast { blocker } => Answer::NotLast { blocker },
+            Reply::NotLast { blocker } => Answer::NotLast { blocker: *blocker },
             Reply::Refused(refusal) => Answer::from(refusal),
             Reply::Memory => Answer::Memory,
         }

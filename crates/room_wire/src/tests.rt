@@ -379,42 +379,47 @@ fn texts_are_escaped_as_json_does(rt: HostRuntime) -> Result<(), Fail> {
 fn writes_replies(rt: HostRuntime) -> Result<(), Fail> {
     let name = Name::new(Kind::Node, -1).ok_or("a name")?;
     let user = Name::new(Kind::Way, 1).ok_or("a name")?;
+    let key = Refusal::TagConflict(Text::new(rt.alloc(), "name")?);
     let rows = [
-        (Answer::from(Reply::Done { seq: 7 }), r#""ok":{"seq":7}"#),
+        (Answer::from(&Reply::Done { seq: 7 }), r#""ok":{"seq":7}"#),
         (
-            Answer::from(Reply::Undid { seq: 9, of: 8 }),
+            Answer::from(&Reply::Undid { seq: 9, of: 8 }),
             r#""ok":{"seq":9,"undid":8}"#,
         ),
         (
-            Answer::from(Refusal::Absent(name)),
+            Answer::from(&Refusal::Absent(name)),
             r#""no":{"el":"n-1","why":"absent"}"#,
         ),
         (
-            Answer::from(Refusal::Present(name)),
+            Answer::from(&Refusal::Present(name)),
             r#""no":{"el":"n-1","why":"present"}"#,
         ),
         (
-            Answer::from(Refusal::WrongKind(name)),
+            Answer::from(&Refusal::WrongKind(name)),
             r#""no":{"el":"n-1","why":"wrong_kind"}"#,
         ),
         (
-            Answer::from(Refusal::TooFew(user)),
+            Answer::from(&Refusal::TooFew(user)),
             r#""no":{"el":"w1","why":"too_few"}"#,
         ),
         (
-            Answer::from(Refusal::TooMany(user)),
+            Answer::from(&Refusal::TooMany(user)),
             r#""no":{"el":"w1","why":"too_many"}"#,
         ),
         (
-            Answer::from(Reply::Refused(Refusal::InUse(name, user))),
+            Answer::from(&Reply::Refused(Refusal::InUse(name, user))),
             r#""no":{"by":"w1","el":"n-1","why":"in_use"}"#,
         ),
         (
-            Answer::from(Reply::Repeat { seq: 1 }),
+            Answer::from(&key),
+            r#""no":{"key":"name","why":"tag_conflict"}"#,
+        ),
+        (
+            Answer::from(&Reply::Repeat { seq: 1 }),
             r#""no":{"seq":1,"why":"repeat"}"#,
         ),
         (
-            Answer::from(Reply::NotLast { blocker: 2 }),
+            Answer::from(&Reply::NotLast { blocker: 2 }),
             r#""no":{"why":"not_last","with":2}"#,
         ),
         (
@@ -422,17 +427,20 @@ fn writes_replies(rt: HostRuntime) -> Result<(), Fail> {
             r#""no":{"field":"lat","why":"bad_field"}"#,
         ),
         (Answer::from(Fault::Memory), r#""no":{"why":"memory"}"#),
-        (Answer::from(Reply::Memory), r#""no":{"why":"memory"}"#),
-        (Answer::from(Refusal::Memory), r#""no":{"why":"memory"}"#),
-        (Answer::from(Reply::Full), r#""no":{"why":"full"}"#),
+        (Answer::from(&Reply::Memory), r#""no":{"why":"memory"}"#),
+        (Answer::from(&Refusal::Memory), r#""no":{"why":"memory"}"#),
+        (Answer::from(&Reply::Full), r#""no":{"why":"full"}"#),
         (
-            Answer::from(Reply::NothingToUndo),
+            Answer::from(&Reply::NothingToUndo),
             r#""no":{"why":"nothing_to_undo"}"#,
         ),
-        (Answer::from(Reply::NoSuch), r#""no":{"why":"no_such"}"#),
-        (Answer::from(Reply::NotYours), r#""no":{"why":"not_yours"}"#),
+        (Answer::from(&Reply::NoSuch), r#""no":{"why":"no_such"}"#),
         (
-            Answer::from(Reply::NotStanding),
+            Answer::from(&Reply::NotYours),
+            r#""no":{"why":"not_yours"}"#,
+        ),
+        (
+            Answer::from(&Reply::NotStanding),
             r#""no":{"why":"not_standing"}"#,
         ),
         (Answer::BadLine, r#""no":{"why":"bad_line"}"#),

@@ -13,6 +13,7 @@ use osm_elements::Memory;
 use osm_elements::element::Element;
 use osm_elements::map::Rows;
 use osm_elements::name::Name;
+use osm_elements::text::Text;
 use serde_json::{Value, json};
 use std::alloc::Global;
 
@@ -33,6 +34,7 @@ use std::alloc::Global;
 /// |---|---|
 /// | `Absent`, `Present`, `WrongKind`, `TooFew`, `TooMany` | `{"el":NAME,"why":WHY}` |
 /// | `InUse` | `{"by":USER,"el":NAME,"why":"in_use"}` |
+/// | `TagConflict` | `{"key":KEY,"why":"tag_conflict"}` |
 /// | `Repeat` | `{"seq":SEQ,"why":"repeat"}` |
 /// | `NotLast` | `{"why":"not_last","with":BLOCKER}` |
 /// | `BadField` | `{"field":FIELD,"why":"bad_field"}` |
@@ -69,6 +71,7 @@ fn reply_tree(alloc: Global, id: u64, answer: &Answer<'_>) -> Result<Value, Memo
         Answer::TooFew(name) => about(alloc, id, name, "too_few"),
         Answer::TooMany(name) => about(alloc, id, name, "too_many"),
         Answer::InUse { name, user } => in_use(alloc, id, name, user),
+        Answer::TagConflict(key) => tag_conflict(alloc, id, key),
         Answer::Repeat { seq } => repeat(alloc, id, seq),
         Answer::NotLast { blocker } => not_last(alloc, id, blocker),
         Answer::BadField(field) => bad_field(alloc, id, field),
@@ -135,6 +138,17 @@ fn in_use(alloc: Global, id: u64, name: Name, user: Name) -> Result<Value, Memor
         alloc,
         id,
         json!(in alloc; {"by": user, "el": name, "why": "in_use"})?,
+    )
+}
+
+fn tag_conflict(alloc: Global, id: u64, key: &Text<Global>) -> Result<Value, Memory>
+    ensures { IfOk result (λ v. view v ≡ tree_of id (Answer.TagConflict key.entry)) }
+{
+    let key = key.as_str();
+    refused(
+        alloc,
+        id,
+        json!(in alloc; {"key": key, "why": "tag_conflict"})?,
     )
 }
 

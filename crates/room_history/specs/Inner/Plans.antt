@@ -8,7 +8,7 @@ use Rattle.room_history.specs.declared.reply.Reply.{Reply}
 use Rattle.room_history.specs.declared.reply.Reply.TheVariants.{NothingToUndo}
 
 -- nothing, or the refusal
-abbrev pub planned : Option Refusal → Result (Unit {0}) Refusal
+abbrev pub planned : {A : Type 0} → Option (Refusal A) → Result (Unit {0}) (Refusal A)
 planned None = Ok tt
 planned (Some r) = Err r
 
@@ -18,10 +18,10 @@ lesser_of None x = x
 lesser_of (Some other) x = ord_min name_cmp other x
 
 -- an entry that can be undone, or the refusal
-abbrev pub undone_or : ℕ → Option Reply → Result ℕ Reply
+abbrev pub undone_or : {A : Type 0} → ℕ → Option (Reply A) → Result ℕ (Reply A)
 undone_or s None = Ok s
 undone_or s (Some r) = Err r
 
-abbrev pub asked_or : (ℕ → Option Reply) → Option ℕ → Result ℕ Reply
+abbrev pub asked_or : {A : Type 0} → (ℕ → Option (Reply A)) → Option ℕ → Result ℕ (Reply A)
 asked_or refused None = Err NothingToUndo
 asked_or refused (Some s) = undone_or s (refused s)
