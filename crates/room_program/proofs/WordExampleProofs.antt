@@ -1,7 +1,7 @@
 -- The worked examples of words, by evaluation.
 use Rattle.std.proofs.Common.{refl}
 use Rattle.clap.proofs.OnLiterals.{clap_on_literals}
-use Rattle.room_program.specs.WordExamples.{taken, bad_limit, bad_word, help_asked}
+use Rattle.room_program.specs.WordExamples.{taken, bad_limit, bad_word, help_asked, version_asked}
 
 pub taken_lem : taken
 unfolding taken clap_on_literals
@@ -18,3 +18,7 @@ bad_word_lem = (refl, refl, refl, refl)
 pub help_asked_lem : help_asked
 unfolding help_asked clap_on_literals
 help_asked_lem = (refl, refl, refl)
+
+pub version_asked_lem : version_asked
+unfolding version_asked clap_on_literals
+version_asked_lem = (refl, refl, refl)

@@ -20,3 +20,7 @@ module _ {W : Type 0} (taken : W → Option (List ℕ)) (has_failed : W → Bool
     pub text_is : text ≡ front ++ rest
     pub written : Appends (taken before) (taken after) front
     pub why : (rest ≡ []) ⊎ ((has_failed after ≡ true) ⊎ TookNone puts after)
+
+  -- a writer took one text so, whichever
+  abbrev pub TakesOne : W → W → Type 0
+  TakesOne before after = (text : List ℕ) × Takes before after text

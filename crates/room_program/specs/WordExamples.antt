@@ -1,7 +1,7 @@
 -- What the worked examples of words say of the definitions.
 use Rattle.std.specs.Prelude.{◌≡◌, ℕ, List, [], ◌∷◌, codes}
 use Rattle.clap.specs.Words.{Kinds, Text}
-use Rattle.clap.specs.declared.error.kind.ErrorKind.TheVariants.{ArgumentConflict, DisplayHelp}
+use Rattle.clap.specs.declared.error.kind.ErrorKind.TheVariants.{ArgumentConflict, DisplayHelp, DisplayVersion}
 use Rattle.clap.specs.declared.error.kind.ErrorKind.TheVariants.{InvalidSubcommand, InvalidValue}
 use Rattle.clap.specs.declared.error.kind.ErrorKind.TheVariants.{MissingSubcommand, UnknownArgument, ValueValidation}
 use Rattle.room_program.specs.Words.{faults, limit_asked}
@@ -39,6 +39,13 @@ bad_word =
     × FailsBy (UnknownArgument ∷ InvalidSubcommand ∷ []) (codes "play" ∷ [])
     × FailsBy (UnknownArgument ∷ []) (codes "--limit=1" ∷ codes "replay" ∷ [])
     × FailsBy (UnknownArgument ∷ []) (codes "replay" ∷ codes "more" ∷ [])
+
+-- the ways to ask for the version, which the program has and `replay` has not
+unfoldable pub version_asked : Type 0
+version_asked =
+    FailsBy (DisplayVersion ∷ []) (codes "--version" ∷ [])
+    × FailsBy (DisplayVersion ∷ []) (codes "-V" ∷ [])
+    × FailsBy (UnknownArgument ∷ []) (codes "replay" ∷ codes "--version" ∷ [])
 
 -- the ways to ask for help, of which the word `help` may have a mistake after it
 unfoldable pub help_asked : Type 0

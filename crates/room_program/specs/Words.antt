@@ -24,10 +24,10 @@ limit_option = record (new_rule (codes "limit")) {
 abbrev pub replay_app : App
 replay_app = with_rule (new_app (codes "replay")) limit_option
 
--- the program, which wants its subcommand
+-- the program, which wants its subcommand, and can tell its version
 abbrev pub program_app : App
 program_app = let app = with_subcommand (new_app (codes "maproom")) replay_app.top in
-    record app { top = record app.top { subcommand_required = true } }
+    record app { top = record app.top { subcommand_required = true; has_version = true } }
 
 -- the kinds of error that the words can be answered by, and none where they are taken
 abbrev pub faults : List Text → Kinds
@@ -47,7 +47,7 @@ is_mistake DisplayVersion = false
 is_mistake OutOfMemory = false
 is_mistake _ = true
 
--- the words can ask for a help
+-- the words can ask for a help, or for the version
 abbrev pub asks_for_help : List Text → Bool
 asks_for_help words = list_any is_request (faults words)
 

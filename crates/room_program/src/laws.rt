@@ -4,7 +4,7 @@ ghost use Rattle.room_program.specs.declared.io.Io.{Io};
 ghost use Rattle.room_program.specs.Io.{calls_of};
 ghost use Rattle.room_program.specs.Streams.{Gets, TookNone};
 ghost use Rattle.room_program.specs.Words.{IsTaken, limit_asked, limit_text};
-ghost use Rattle.room_program.specs.WordExamples.{taken, bad_limit, bad_word, help_asked};
+ghost use Rattle.room_program.specs.WordExamples.{taken, bad_limit, bad_word, help_asked, version_asked};
 
 use crate::io::Io;
 use crate::sink::Sink;
@@ -17,6 +17,7 @@ pub fn words_are_as_worked()
     ensures bad_limit { bad_limit }
     ensures bad_word { bad_word }
     ensures help_asked { help_asked }
+    ensures version_asked { version_asked }
 {}
 
 /// Taken words give a limit, as it was written or by default, which is a million at most.

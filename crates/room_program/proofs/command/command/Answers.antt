@@ -9,12 +9,14 @@ use Rattle.room_program.proofs.command.command.Goals as goal
 pub returns-in-Err-clause-done : goal.returns-in-Err-clause-done
 returns-in-Err-clause-done g c = λ done.
     let kinds = faults (map g.T.AsStr.text c.args.words.now) in
-    inr (kind_among is_request kinds c.in-Err.error refl (c.answer_error.ensures.shown done) c.in-Err.ensures, refl)
+    let said = c.answer_error.ensures.shown done in
+    inr (kind_among is_request kinds c.in-Err.error refl said.0 c.in-Err.ensures, refl, said.1)
 
 pub returns-in-Err-clause-refused : goal.returns-in-Err-clause-refused
 returns-in-Err-clause-refused g c = λ refused.
     let kinds = faults (map g.T.AsStr.text c.args.words.now) in
-    (kind_among is_mistake kinds c.in-Err.error refl (c.answer_error.ensures.refused refused) c.in-Err.ensures, refl, c.answer_error.ensures.quiet (λ done. omega (arith, refused, done)))
+    let said = c.answer_error.ensures.refused refused in
+    (kind_among is_mistake kinds c.in-Err.error refl said.0 c.in-Err.ensures, refl, c.answer_error.ensures.quiet (λ done. omega (arith, refused, done)), said.1)
 
 abbrev is_memory : ReplayFault → Bool
 is_memory Memory = true

@@ -7,7 +7,7 @@ use Rattle.room_program.specs.Words.{limit_option, replay_app}
 use Rattle.room_program.proofs.command.command_line.Goals as goal
 
 abbrev needs_subcommand : App → App
-needs_subcommand a = record a { top = record a.top { subcommand_required = true } }
+needs_subcommand a = record a { top = record a.top { subcommand_required = true; has_version = true } }
 
 pub returns : goal.returns
 returns c =

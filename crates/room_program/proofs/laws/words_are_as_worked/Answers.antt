@@ -1,4 +1,4 @@
-use Rattle.room_program.proofs.WordExampleProofs.{taken_lem, bad_limit_lem, bad_word_lem, help_asked_lem}
+use Rattle.room_program.proofs.WordExampleProofs.{taken_lem, bad_limit_lem, bad_word_lem, help_asked_lem, version_asked_lem}
 use Rattle.room_program.proofs.laws.words_are_as_worked.Goals as goal
 
 pub returns-clause-taken : goal.returns-clause-taken
@@ -12,3 +12,6 @@ returns-clause-bad_word c = bad_word_lem
 
 pub returns-clause-help_asked : goal.returns-clause-help_asked
 returns-clause-help_asked c = help_asked_lem
+
+pub returns-clause-version_asked : goal.returns-clause-version_asked
+returns-clause-version_asked c = version_asked_lem
