@@ -15,6 +15,8 @@
 mod desk;
 mod law;
 mod seat;
+#[cfg(test)]
+mod seat_tests;
 mod steps;
 #[cfg(test)]
 mod tests;

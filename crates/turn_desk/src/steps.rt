@@ -66,6 +66,9 @@ fn wait_for_turn<R: Turned, W: Wait>(rt: &W, board: &Board<R>, place: &mut Place
             yields += 1;
             thread::yield_now();
         } else {
+            // The thread goes to sleep only if the low half of the word is still what was loaded, and the system compares and puts it to sleep in one step.
+            // A turn is given on by changing the word first and then waking all who sleep on it: so a thread that loaded the word before the change does not go to sleep any more, or is woken.
+            // The low half is the same again only after 2^32 turns, which would all have to be given on between the load and the sleep.
             board.park(rt, SERVING, (serving & LOW_BITS) as u32);
         }
     }
@@ -116,6 +119,7 @@ fn pass_on<R: Turned>(board: &Board<R>, place: &mut Place<R>)
     ensures place { IsSamePlace place.old place.new }
     ensures idle { PassesOn place.old.me 0 place.new.me }
 {
+    // The word is changed before the wake, so that no one who saw it as it was sleeps on. All are woken, since one alone might be one whose turn it is not.
     board.fetch_add::<PassOn>(place, SERVING, 1);
     board.wake_all(SERVING);
 }

@@ -1,0 +1,5 @@
+use Rattle.turn_desk.proofs.seat_tests.+split_and_met.Given as goal
+
+-- how many seats are still to be split off
+abbrev pub decreases-split_and_met : goal.decreases-split_and_met
+decreases-split_and_met g l = l.others

@@ -1,0 +1,229 @@
+//! Desks with several seats, on one thread and on several.
+ghost use Rattle.std.specs.Prelude.{◌≡◌, ◌+◌, ◌*◌, ◌^◌, ◌<◌, ◌≤◌, ◌++◌, ◌∷◌, [], replicate};
+ghost use Rattle.turn_desk.specs.Desk.{IsAt};
+
+use crate::{Desk, Seat, Turned};
+use std::alloc::Global;
+use std::sync::Wait;
+use std::test::Fail;
+use std::thread::{self, Threads, join};
+
+// A count of the calls that were made. A call says how often the turn yields while it is held, and is answered the count before it.
+#[derive(Drop)]
+struct Tally {
+    count: u64,
+}
+
+impl Turned for Tally {
+    type Call = u32;
+
+    type Reply = Option<u64>;
+
+    type Entry = ();
+
+    type Fixed = ();
+
+    ghost use Rattle.std.specs.Prelude.{Some, None, MatchOption, length};
+
+    ghost fixed = { λ s. tt };
+
+    ghost list = { λ s. replicate s.count tt };
+
+    ghost answers = { λ _ before call reply after. MatchOption reply (after ≡ before) (λ n. (after ≡ before ++ tt ∷ []) × (n ≡ length before)) };
+
+    fn turn(&mut self, yields: u32) -> Option<u64> {
+        for _ in 0..yields {
+            thread::yield_now();
+        }
+        let count = self.count;
+        self.count = count.checked_add(1)?;
+        Some(count)
+    }
+
+    fn front(&self) -> u64 {
+        self.count
+    }
+}
+
+#[test]
+fn others_calls_are_seen(rt: HostRuntime) -> Result<(), Fail> {
+    let (desk, first) = Desk::open(rt.alloc(), Tally { count: 0 })?;
+    let (first, mut second) = desk.split(first);
+    let (mut first, mut third) = desk.split(first);
+    assert_eq!(rt; desk.turn(&rt, &mut first, 0), Some(0));
+    assert_eq!(rt; desk.front(&mut second), 1);
+    assert_eq!(rt; desk.turn(&rt, &mut third, 0), Some(1));
+    assert_eq!(rt; desk.turn(&rt, &mut second, 0), Some(2));
+    desk.meet(&mut second, third);
+    desk.meet(&mut first, second);
+    assert_eq!(rt; desk.front(&mut first), 3);
+    assert_eq!(rt; desk.close(&rt, first).count, 3);
+    Ok(())
+}
+
+// Splits so many seats off a seat, and when all are there each makes a call and is met into it again.
+fn split_and_met<W: Wait>(
+    rt: &W,
+    desk: &Desk<Tally, Global>,
+    seat: Seat<Tally>,
+    others: u32,
+) -> Seat<Tally>
+    requires seat { IsAt desk.now seat }
+    requires most { seat.parts < 2 ^ 64 }
+    requires least { others * 2 ^ 58 ≤ seat.parts + 1 }
+    ensures { IsAt desk.now result }
+{
+    if others == 0 {
+        return seat;
+    }
+    let (kept, mut other) = desk.split(seat);
+    let mut kept = split_and_met(rt, desk, kept, others - 1);
+    desk.turn(rt, &mut other, 0);
+    desk.meet(&mut kept, other);
+    kept
+}
+
+#[test]
+fn a_seat_is_split_into_sixty_five(rt: HostRuntime) -> Result<(), Fail> {
+    let (desk, seat) = Desk::open(rt.alloc(), Tally { count: 0 })?;
+    let seat = split_and_met(&rt, &desk, seat, 64);
+    assert_eq!(rt; desk.close(&rt, seat).front(), 64);
+    Ok(())
+}
+
+// Makes so many calls, the k-th of which yields k modulo `up_to` times, or never where that is 0.
+fn calls<W: Wait>(
+    rt: &W,
+    desk: &Desk<Tally, Global>,
+    mut seat: Seat<Tally>,
+    count: u32,
+    up_to: u32,
+) -> Seat<Tally>
+    requires { IsAt desk.now seat }
+    ensures { IsAt desk.now result }
+{
+    for k in 0..count {
+        let yields = if up_to == 0 { 0 } else { k % up_to };
+        desk.turn(rt, &mut seat, yields);
+    }
+    seat
+}
+
+fn in_two_threads<R: Threads + Wait + Sync>(
+    rt: &R,
+    desk: &Desk<Tally, Global>,
+    seat: Seat<Tally>,
+    count: u32,
+    up_to: u32,
+) -> Seat<Tally>
+    requires seat { IsAt desk.now seat }
+    requires parts { 2 ≤ seat.parts }
+    ensures { IsAt desk.now result }
+{
+    let (one, two) = desk.split(seat);
+    let (mut one, two) = join(
+        rt,
+        || -> Seat<Tally>
+            requires { IsAt desk.now one }
+            ensures { IsAt desk.entry.now result }
+        { calls(rt, desk, one, count, up_to) },
+        || -> Seat<Tally>
+            requires { IsAt desk.now two }
+            ensures { IsAt desk.entry.now result }
+        { calls(rt, desk, two, count, up_to) },
+    );
+    desk.meet(&mut one, two);
+    one
+}
+
+fn in_four_threads<R: Threads + Wait + Sync>(
+    rt: &R,
+    desk: &Desk<Tally, Global>,
+    seat: Seat<Tally>,
+    count: u32,
+    up_to: u32,
+) -> Seat<Tally>
+    requires seat { IsAt desk.now seat }
+    requires parts { 128 ≤ seat.parts }
+    ensures { IsAt desk.now result }
+{
+    let (one, two) = desk.split(seat);
+    let (mut one, two) = join(
+        rt,
+        || -> Seat<Tally>
+            requires seat { IsAt desk.now one }
+            requires parts { 2 ≤ one.parts }
+            ensures { IsAt desk.entry.now result }
+        { in_two_threads(rt, desk, one, count, up_to) },
+        || -> Seat<Tally>
+            requires seat { IsAt desk.now two }
+            requires parts { 2 ≤ two.parts }
+            ensures { IsAt desk.entry.now result }
+        { in_two_threads(rt, desk, two, count, up_to) },
+    );
+    desk.meet(&mut one, two);
+    one
+}
+
+fn in_eight_threads<R: Threads + Wait + Sync>(
+    rt: &R,
+    desk: &Desk<Tally, Global>,
+    seat: Seat<Tally>,
+    count: u32,
+    up_to: u32,
+) -> Seat<Tally>
+    requires seat { IsAt desk.now seat }
+    requires parts { 8192 ≤ seat.parts }
+    ensures { IsAt desk.now result }
+{
+    let (one, two) = desk.split(seat);
+    let (mut one, two) = join(
+        rt,
+        || -> Seat<Tally>
+            requires seat { IsAt desk.now one }
+            requires parts { 128 ≤ one.parts }
+            ensures { IsAt desk.entry.now result }
+        { in_four_threads(rt, desk, one, count, up_to) },
+        || -> Seat<Tally>
+            requires seat { IsAt desk.now two }
+            requires parts { 128 ≤ two.parts }
+            ensures { IsAt desk.entry.now result }
+        { in_four_threads(rt, desk, two, count, up_to) },
+    );
+    desk.meet(&mut one, two);
+    one
+}
+
+#[test]
+fn two_threads_make_a_hundred_calls_each(rt: HostRuntime) -> Result<(), Fail> {
+    let (desk, seat) = Desk::open(rt.alloc(), Tally { count: 0 })?;
+    let seat = in_two_threads(&rt, &desk, seat, 100, 0);
+    assert_eq!(rt; desk.close(&rt, seat).front(), 200);
+    Ok(())
+}
+
+#[test]
+fn eight_threads_take_ten_thousand_short_turns_each(rt: HostRuntime) -> Result<(), Fail> {
+    let (desk, seat) = Desk::open(rt.alloc(), Tally { count: 0 })?;
+    let seat = in_eight_threads(&rt, &desk, seat, 10_000, 0);
+    assert_eq!(rt; desk.close(&rt, seat).front(), 80_000);
+    Ok(())
+}
+
+// A turn is held for far longer than a waiting thread yields, so that those who wait sleep.
+#[test]
+fn those_who_sleep_are_woken(rt: HostRuntime) -> Result<(), Fail> {
+    let (desk, seat) = Desk::open(rt.alloc(), Tally { count: 0 })?;
+    let seat = in_four_threads(&rt, &desk, seat, 100, 4_000);
+    assert_eq!(rt; desk.close(&rt, seat).front(), 400);
+    Ok(())
+}
+
+// A turn is held for about as long as a waiting thread yields, so that some go to sleep just as the turn is given on.
+#[test]
+fn no_wake_up_is_lost(rt: HostRuntime) -> Result<(), Fail> {
+    let (desk, seat) = Desk::open(rt.alloc(), Tally { count: 0 })?;
+    let seat = in_two_threads(&rt, &desk, seat, 50_000, 200);
+    assert_eq!(rt; desk.close(&rt, seat).front(), 100_000);
+    Ok(())
+}
