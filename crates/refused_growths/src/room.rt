@@ -3,6 +3,7 @@ use crate::map::node;
 use osm_elements::name::{Kind, Name};
 use refusing::Refusing;
 use room_history::action::Action;
+use room_history::ask::{RoomCall, RoomReply};
 use room_history::author::Author;
 use room_history::call::{Call, Calls, Request};
 use room_history::reply::{Replies, Reply};
@@ -131,5 +132,43 @@ fn a_run_has_memory(rt: HostRuntime) -> Result<(), Fail> {
     let second = Name::new(Kind::Node, 2).ok_or("zero")?;
     assert!(rt; room.get(&first).is_some());
     assert!(rt; room.get(&second).is_none());
+    Ok(())
+}
+
+// A query is answered with copies, or for want of memory, and leaves the room as it was.
+#[test]
+fn ask_refuses_each_growth(rt: HostRuntime) -> Result<(), Fail> {
+    let heap = Refusing::new(rt.alloc(), u64::MAX);
+    let mut room = Room::open(&heap, 5);
+    for (step, answer) in ANSWERS[..2].iter().enumerate() {
+        let reply = room.ask(RoomCall::Take(call(&heap, step)?));
+        let reply = format!(in rt.alloc(); "{reply:?}")?;
+        let wanted = format!(in rt.alloc(); "Take({answer})")?;
+        assert_eq!(rt; reply.as_str(), wanted.as_str());
+    }
+    let second = Name::new(Kind::Node, 2).ok_or("zero")?;
+    let found = room.ask(RoomCall::Get(second));
+    let found = format!(in rt.alloc(); "{found:?}")?;
+    let wanted = node(&heap, 8).ok_or("range")?;
+    let wanted = format!(in rt.alloc(); "Get(Ok(Some({wanted:?})))")?;
+    assert_eq!(rt; found.as_str(), wanted.as_str());
+    let before = format!(in rt.alloc(); "{room:?}")?;
+    let mut refused = 0u64;
+    let mut done = false;
+    for growths in 0..10u64 {
+        heap.set(growths);
+        let reply = room.ask(RoomCall::Rows);
+        heap.set(u64::MAX);
+        if let RoomReply::Rows(Ok((front, rows))) = reply {
+            assert_eq!(rt; front, 2);
+            assert_eq!(rt; rows.as_slice().len(), 2);
+            done = true;
+            break;
+        }
+        refused = refused.wrapping_add(1);
+        let after = format!(in rt.alloc(); "{room:?}")?;
+        assert_eq!(rt; after.as_str(), before.as_str(), "at growth {growths}");
+    }
+    assert!(rt; done && refused > 0, "no growth was refused, or all were");
     Ok(())
 }

@@ -1,6 +1,5 @@
 -- An accepted action that is undone at once.
-use Rattle.std.proofs.Common.{◌≡◌, ◌<◌, ◌≤◌, ◌+◌, ◌++◌, ◌∷◌, ◌⊎◌, ◌&&◌, ◌||◌, ℕ, suc, Bool, true, false, not, List, [], Option, Some, None, length, is_none, refl, sym, ap, ◌∙◌, cond, arith, inl, inr, nat_eq, nat_lt, nat_le, slice_get, length-append, append-nil}
-use Rattle.std.specs.Bool.{then_some}
+use Rattle.std.proofs.Common.{◌≡◌, ◌<◌, ◌≤◌, ◌+◌, ◌++◌, ◌∷◌, ◌⊎◌, ◌&&◌, ◌||◌, ℕ, suc, Bool, true, false, not, List, [], Some, None, length, refl, sym, ap, ◌∙◌, cond, arith, inl, inr, nat_eq, nat_lt, nat_le, slice_get, length-append, append-nil}
 use Rattle.std.specs.List.{filter, find, list_any}
 use Rattle.std.specs.Option.{option_map}
 use Rattle.std.proofs.lemmas.Bool.Decides.{nat_tests}
@@ -9,18 +8,16 @@ use Rattle.std.proofs.lemmas.List.Elements.{filter-append}
 use Rattle.osm_elements.specs.declared.name.Name.{Name}
 use Rattle.osm_elements.specs.Rows.{AreInOrder}
 use Rattle.room_history.specs.declared.action.Action.{Action}
-use Rattle.room_history.specs.declared.author.Author.{Author}
 use Rattle.room_history.specs.declared.call.Call.{Call}
 use Rattle.room_history.specs.declared.call.Request.TheVariants as requests
 use Rattle.room_history.specs.declared.entry.Entry.{Entry}
 use Rattle.room_history.specs.declared.entry.EntryKind.{EntryKind}
 use Rattle.room_history.specs.declared.entry.EntryKind.TheVariants.{Do, Undo}
 use Rattle.room_history.specs.declared.reply.Reply.{Reply}
-use Rattle.room_history.specs.declared.reply.Reply.TheVariants.{Undid, NoSuch, NotYours, NotStanding, NotLast}
+use Rattle.room_history.specs.declared.reply.Reply.TheVariants.{Undid, NotLast}
 use Rattle.room_history.specs.Maps.{Rows}
 use Rattle.room_history.specs.References.{users}
 use Rattle.room_history.specs.After.{after}
-use Rattle.room_history.specs.Refusals.{first_that_holds}
 use Rattle.room_history.specs.Changes.{changes, inverse, changed}
 use Rattle.room_history.specs.SameAuthors.{is_same_author, is_same_text}
 use Rattle.room_history.specs.Journals.{numbered, is_by, is_work, is_standing, standing, last, is_undo_of}

@@ -1,5 +1,5 @@
 -- What decides an undo: it is refused by its blocker alone, which is the first later entry that stands.
-use Rattle.std.proofs.Common.{◌≡◌, ◌↔◌, ◌+◌, ◌<◌, ◌≤◌, ℕ, Bool, true, false, not, List, [], ◌∷◌, Option, Some, None, is_none, length, refl, sym, ap, ◌∙◌, cond, nat_le, nat_lt}
+use Rattle.std.proofs.Common.{◌≡◌, ◌↔◌, ◌+◌, ◌≤◌, ℕ, true, false, not, List, [], ◌∷◌, Option, Some, None, is_none, length, refl, sym, ap, ◌∙◌, nat_le}
 use Rattle.std.specs.Bool.{then_some}
 use Rattle.std.specs.List.{filter}
 use Rattle.std.specs.Option.{option_map}

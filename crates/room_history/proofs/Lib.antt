@@ -1,4 +1,5 @@
 pub mod Among
+pub mod Asking
 pub mod AtOnce
 pub mod Changing
 pub mod Deciding

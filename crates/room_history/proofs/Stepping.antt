@@ -1,5 +1,5 @@
 -- One step of a room.
-use Rattle.std.proofs.Common.{◌≡◌, ◌<◌, ◌≤◌, ◌+◌, ◌++◌, ◌∷◌, ℕ, Bool, true, false, List, [], Option, Some, None, IsSome, Ok, Err, length, take, refl, sym, ap, subst, ◌∙◌, arith, inl, nat_le, length-append}
+use Rattle.std.proofs.Common.{◌≡◌, ◌<◌, ◌≤◌, ◌+◌, ◌++◌, ◌∷◌, ℕ, true, false, List, [], Option, Some, None, IsSome, Ok, Err, length, take, refl, sym, ap, subst, ◌∙◌, arith, inl, nat_le, length-append}
 use Rattle.std.specs.Bool.{then_some}
 use Rattle.std.specs.List.{filter_map}
 use Rattle.std.specs.Option.{option_map}
@@ -24,7 +24,8 @@ use Rattle.room_history.specs.Replays.{past, mapof, replay}
 use Rattle.room_history.specs.Answers.{spent, asked, meant, undo_refusal, meaning_refusal, with_entry, answered, answer}
 use Rattle.room_history.specs.LegalJournals.{is_made_action, IsJournal, opened, called}
 use Rattle.room_history.specs.Runs.{IsStep}
-use Rattle.room_history.specs.Inner.Plans.{planned, undone_or, asked_or}
+use Rattle.room_history.specs.Plans.{planned}
+use Rattle.room_history.specs.Inner.Plans.{undone_or, asked_or}
 use Rattle.room_history.specs.Inner.Rooms.{IsRoom, MayAppend}
 use Rattle.room_history.proofs.Deciding.{unspent}
 use Rattle.room_history.proofs.Holding.{journal_stacked}

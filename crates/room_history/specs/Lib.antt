@@ -1,5 +1,6 @@
 pub mod After
 pub mod Answers
+pub mod Asking
 pub mod Authors
 pub mod Changes
 pub mod Examples
@@ -8,6 +9,7 @@ pub mod Inner
 pub mod Journals
 pub mod LegalJournals
 pub mod Maps
+pub mod Plans
 pub mod References
 pub mod Refusals
 pub mod Replays

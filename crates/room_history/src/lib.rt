@@ -2,6 +2,7 @@
 #![tactic(auto)]
 
 pub mod action;
+pub mod ask;
 pub mod author;
 pub mod call;
 pub mod entry;

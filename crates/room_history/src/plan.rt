@@ -9,7 +9,8 @@ ghost use Rattle.room_history.specs.References.{users, refers_to};
 ghost use Rattle.room_history.specs.Refusals.{refusal, is_missing, list_checks, first_that_holds};
 ghost use Rattle.room_history.specs.After.{after};
 ghost use Rattle.room_history.specs.LegalJournals.{is_made_action};
-ghost use Rattle.room_history.specs.Inner.Plans.{planned, lesser_of};
+ghost use Rattle.room_history.specs.Plans.{planned};
+ghost use Rattle.room_history.specs.Inner.Plans.{lesser_of};
 
 use crate::action::Action;
 use crate::refusal::Refusal;

@@ -3,6 +3,7 @@ ghost use Rattle.std.specs.Prelude.{◌≡◌, ◌+◌, ◌<◌, [], ◌∷◌, 
 ghost use Rattle.std.specs.Option.{option_copied};
 
 use crate::action::Action;
+use crate::ask::{RoomCall, RoomReply};
 use crate::author::Author;
 use crate::call::{Call, Request};
 use crate::entry::{Entry, EntryKind};
@@ -54,6 +55,7 @@ impl<A: Allocator + Copy> Room<A> {
     ghost use Rattle.room_history.specs.Inner.Rooms.{MayAppend};
     ghost use Rattle.room_history.specs.LegalJournals.{is_made_action};
     ghost use Rattle.room_history.specs.Runs.{IsStep};
+    ghost use Rattle.room_history.specs.Asking.{IsAnswered};
     ghost use Rattle.osm_elements.specs.Rows.{row_at};
 
     /// A room with an empty map, whose journal takes at most `limit` entries.
@@ -183,6 +185,37 @@ impl<A: Allocator + Copy> Room<A> {
         push_reserved(&mut self.entries, Entry { author, id, kind });
         self.standing.truncate(rest);
         Ok(seq)
+    }
+
+    /// Answers what the room is asked, in the form of what it was asked: a call as [`Room::take`] does, a query with
+    /// copies of what the map holds. Where a growth was refused the reply tells it, and the room is as it was.
+    pub fn ask(&mut self, call: RoomCall<A>) -> RoomReply<A>
+        ensures answer { IsAnswered self.old.base self.old.limit self.old.journal call result self.new.journal }
+        ensures base { self.new.base ≡ self.old.base }
+        ensures limit { self.new.limit ≡ self.old.limit }
+    {
+        match call {
+            RoomCall::Take(call) => RoomReply::Take(self.take(call)),
+            RoomCall::Get(name) => RoomReply::Get(self.copy_of(&name)),
+            RoomCall::Rows => RoomReply::Rows(self.front_and_rows()),
+        }
+    }
+
+    // A copy of the element of a name, or none.
+    fn copy_of(&self, name: &Name) -> Result<Option<Element<A>>, Memory>
+        ensures { IfOk result (λ found. found ≡ row_at (mapof self.now.base self.now.journal) name.now) }
+    {
+        match self.get(name) {
+            Some(element) => Ok(Some(element.copy()?)),
+            None => Ok(None),
+        }
+    }
+
+    // How many entries the journal has, and copies of the rows.
+    fn front_and_rows(&self) -> Result<(u64, Rows<A>), Memory>
+        ensures { IfOk result (λ rows. rows ≡ (length self.now.journal, mapof self.now.base self.now.journal)) }
+    {
+        Ok((self.front(), self.map_rows()?))
     }
 
     /// The element of a name, or none.

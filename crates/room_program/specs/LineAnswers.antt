@@ -1,5 +1,5 @@
 -- What a line says, and what a room answers it.
-use Rattle.std.specs.Prelude.{◌==◌, ℕ, List, [], ◌∷◌, Option, Some, None, Result, Ok, Err, codes, length, if◌then◌else◌}
+use Rattle.std.specs.Prelude.{◌==◌, ℕ, List, [], ◌∷◌, Option, Some, None, Result, Ok, Err, codes, if◌then◌else◌}
 use Rattle.std.specs.Option.{option_map, option_and_then}
 use Rattle.std.specs.Str.{is_utf8}
 use Rattle.std.specs.declared.alloc.Global.{Global}
@@ -7,13 +7,15 @@ use Rattle.serde_json.specs.Data.{object, no_members, member}
 use Rattle.serde_json.specs.Written.{compact_text}
 use Rattle.osm_elements.specs.declared.name.Name.{Name}
 use Rattle.osm_elements.specs.declared.element.Element.{Element}
-use Rattle.osm_elements.specs.Rows.{row_at}
 use Rattle.room_history.specs.declared.author.Author.{Author}
 use Rattle.room_history.specs.Authors.{author_of}
 use Rattle.room_history.specs.Maps.{Rows}
-use Rattle.room_history.specs.Replays.{mapof}
 use Rattle.room_history.specs.Rooms.{RoomState}
-use Rattle.room_history.specs.Answers.{answer}
+use Rattle.room_history.specs.Asking.{room_answer}
+use Rattle.room_history.specs.declared.ask.RoomCall.{RoomCall}
+use Rattle.room_history.specs.declared.ask.RoomCall.TheVariants as calls
+use Rattle.room_history.specs.declared.ask.RoomReply.{RoomReply}
+use Rattle.room_history.specs.declared.ask.RoomReply.TheVariants as replies
 use Rattle.room_wire.specs.declared.answer.Answer.{Answer}
 use Rattle.room_wire.specs.declared.answer.Answer.TheVariants as answers
 use Rattle.room_wire.specs.declared.bad.Bad.{Bad}
@@ -56,13 +58,25 @@ element_text id name (Some element) = compact_text (ok_tree id (object (member (
 abbrev pub map_text : ℕ → Rows Global → ℕ → List ℕ
 map_text id rows front = compact_text (ok_tree id (object (member (codes "map") (rows_tree rows) (member (codes "seq") (whole front) no_members))))
 
+-- what a message of an author's asks of the room
+abbrev pub asked_by : Author → ℕ → Body → RoomCall Global
+asked_by author id (Change request) = calls.Take (record { author = author; id = id; request = request })
+asked_by author id (Get name) = calls.Get name
+asked_by author id Map = calls.Rows
+
+-- the reply to a message, from what the room was asked and answered
+abbrev pub told : ℕ → RoomCall Global → RoomReply Global → List ℕ
+told id call (replies.Take reply) = text_of id (reply_answer reply)
+told id (calls.Get name) (replies.Get (Ok found)) = element_text id name found
+told id call (replies.Rows (Ok rows)) = map_text id rows.1 rows.0
+told id call reply = text_of id answers.Memory
+
 -- the reply to a message of an author's, and the room after it
 abbrev pub body_answer : RoomState Global → Author → ℕ → Body → List ℕ × RoomState Global
-body_answer room author id (Change request) =
-    let step = answer room.base room.limit room.journal (record { author = author; id = id; request = request }) in
-    (text_of id (reply_answer step.0), record { base = room.base; limit = room.limit; journal = step.1 })
-body_answer room author id (Get name) = (element_text id name (row_at (mapof room.base room.journal) name), room)
-body_answer room author id Map = (map_text id (mapof room.base room.journal) (length room.journal), room)
+body_answer room author id body =
+    let call = asked_by author id body in
+    let step = room_answer room.base room.limit room.journal call in
+    (told id call step.0, record { base = room.base; limit = room.limit; journal = step.1 })
 
 abbrev pub message_answer : RoomState Global → Author → Result Incoming Bad → List ℕ × RoomState Global
 message_answer room author (Ok message) = body_answer room author message.id message.body

@@ -1,6 +1,5 @@
 -- What a reply of the room, a refusal and a fault are answered with.
 use denote.Bor.{Bor}
-use Rattle.std.specs.Prelude.{ℕ}
 use Rattle.room_history.specs.declared.refusal.Refusal.{Refusal}
 use Rattle.room_history.specs.declared.refusal.Refusal.TheVariants as refusals
 use Rattle.room_history.specs.declared.reply.Reply.{Reply}

@@ -1,16 +1,10 @@
--- What a plan answers, and the words of its parts.
+-- Words of the parts of plans, and of the choice of what an undo takes back.
 use Rattle.std.specs.Prelude.{ℕ, Option, Some, None, Result, Ok, Err}
 use Rattle.std.specs.Ordering.{ord_min}
 use Rattle.osm_elements.specs.declared.name.Name.{Name}
 use Rattle.osm_elements.specs.NameOrder.{name_cmp}
-use Rattle.room_history.specs.declared.refusal.Refusal.{Refusal}
 use Rattle.room_history.specs.declared.reply.Reply.{Reply}
 use Rattle.room_history.specs.declared.reply.Reply.TheVariants.{NothingToUndo}
-
--- nothing, or the refusal
-abbrev pub planned : {A : Type 0} → Option (Refusal A) → Result (Unit {0}) (Refusal A)
-planned None = Ok tt
-planned (Some r) = Err r
 
 -- the lesser of two names, if there are two
 abbrev pub lesser_of : Option Name → Name → Name

@@ -1,0 +1,17 @@
+use Rattle.room_history.proofs.Asking.{took, got, listed}
+use Rattle.room_history.proofs.room.Room.ask.Goals as goal
+
+pub returns-in-Take-clause-answer : goal.returns-in-Take-clause-answer
+returns-in-Take-clause-answer g c =
+    let state = c.args.self.now in
+    rw c.in-Take.is (took state.base state.limit state.journal c.take.new.self.journal c.in-Take.call c.take.result c.take.ensures.step)
+
+pub returns-in-Get-clause-answer : goal.returns-in-Get-clause-answer
+returns-in-Get-clause-answer g c =
+    let state = c.args.self.now in
+    rw c.in-Get.is (got state.base state.limit state.journal c.in-Get.name c.copy_of.result c.copy_of.ensures)
+
+pub returns-in-Rows-clause-answer : goal.returns-in-Rows-clause-answer
+returns-in-Rows-clause-answer g c =
+    let state = c.args.self.now in
+    rw c.in-Rows.is (listed state.base state.limit state.journal c.front_and_rows.result c.front_and_rows.ensures)

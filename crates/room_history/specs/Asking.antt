@@ -1,0 +1,29 @@
+-- What a room is asked and what it answers, over its fixed part, which is the base and the limit, and its journal.
+use Rattle.std.specs.Prelude.{◌≡◌, ◌⊎◌, ℕ, List, Ok, Err, alloc_error, length}
+use Rattle.osm_elements.specs.Rows.{row_at}
+use Rattle.room_history.specs.declared.ask.RoomCall.{RoomCall}
+use Rattle.room_history.specs.declared.ask.RoomCall.TheVariants.{Take, Get, Rows as AllRows}
+use Rattle.room_history.specs.declared.ask.RoomReply.{RoomReply}
+use Rattle.room_history.specs.declared.ask.RoomReply.TheVariants as replies
+use Rattle.room_history.specs.declared.entry.Entry.{Entry}
+use Rattle.room_history.specs.declared.reply.Reply.TheVariants.{Memory}
+use Rattle.room_history.specs.Maps.{Rows}
+use Rattle.room_history.specs.Replays.{mapof}
+use Rattle.room_history.specs.Answers.{answer}
+
+module _ {A : Type 0} where
+  -- the reply, and the journal after it: a query leaves the journal
+  abbrev pub room_answer : Rows A → ℕ → List (Entry A) → RoomCall A → RoomReply A × List (Entry A)
+  room_answer base limit j (Take c) = let step = answer base limit j c in (replies.Take step.0, step.1)
+  room_answer base limit j (Get x) = (replies.Get (Ok (row_at (mapof base j) x)), j)
+  room_answer base limit j AllRows = (replies.Rows (Ok (length j, mapof base j)), j)
+
+  -- want of memory, in the form of what was asked
+  abbrev pub wanting : RoomCall A → RoomReply A
+  wanting (Take c) = replies.Take Memory
+  wanting (Get x) = replies.Get (Err alloc_error)
+  wanting AllRows = replies.Rows (Err alloc_error)
+
+  -- asked so, the room gives the reply by the definition, or tells want of memory with the journal as it was
+  abbrev pub IsAnswered : Rows A → ℕ → List (Entry A) → RoomCall A → RoomReply A → List (Entry A) → Type 0
+  IsAnswered base limit j c reply k = ((reply, k) ≡ room_answer base limit j c) ⊎ ((reply ≡ wanting c) × (k ≡ j))

@@ -1,0 +1,32 @@
+//! All that a room is asked: its calls, and the queries.
+use crate::call::Call;
+use crate::reply::Reply;
+use osm_elements::Memory;
+use osm_elements::element::Element;
+use osm_elements::map::Rows;
+use osm_elements::name::Name;
+use std::alloc::Allocator;
+
+/// What a room is asked.
+#[derive(Drop)]
+#[derive_where(Debug)]
+pub enum RoomCall<A: Allocator> {
+    /// To take a call.
+    Take(Call<A>),
+    /// For the element of a name.
+    Get(Name),
+    /// For the rows of its map, and how many entries its journal has.
+    Rows,
+}
+
+/// What a room answers, in the form of what it was asked. It shares nothing with the room.
+#[derive(Drop)]
+#[derive_where(Debug)]
+pub enum RoomReply<A: Allocator> {
+    /// The answer to a call.
+    Take(Reply<A>),
+    /// The element, or none where the map has none of that name. The one refusal is want of memory.
+    Get(Result<Option<Element<A>>, Memory>),
+    /// How many entries the journal has, and the rows in name order. The one refusal is want of memory.
+    Rows(Result<(u64, Rows<A>), Memory>),
+}
