@@ -375,80 +375,95 @@ fn texts_are_escaped_as_json_does(rt: HostRuntime) -> Result<(), Fail> {
     Ok(())
 }
 
+// Checks the reply with this answer to message 9.
+fn is_written(
+    rt: &impl Abort,
+    alloc: Global,
+    answer: &Answer<'_>,
+    outcome: &str,
+) -> Result<(), AllocError> {
+    let reply = format!(in alloc; "{{\"id\":9,{outcome}}}")?;
+    let json = reply_text(alloc, 9, answer)?;
+    assert_eq!(rt; json.as_bytes(), reply.as_str().as_bytes(), "{reply}");
+    Ok(())
+}
+
 #[test]
 fn writes_replies(rt: HostRuntime) -> Result<(), Fail> {
     let name = Name::new(Kind::Node, -1).ok_or("a name")?;
     let user = Name::new(Kind::Way, 1).ok_or("a name")?;
-    let key = Refusal::TagConflict(Text::new(rt.alloc(), "name")?);
-    let rows = [
-        (Answer::from(&Reply::Done { seq: 7 }), r#""ok":{"seq":7}"#),
+    let rows: [(Reply<Global>, &str); 11] = [
+        (Reply::Done { seq: 7 }, r#""ok":{"seq":7}"#),
         (
-            Answer::from(&Reply::Undid { seq: 9, of: 8 }),
+            Reply::Undid { seq: 9, of: 8 },
             r#""ok":{"seq":9,"undid":8}"#,
         ),
         (
-            Answer::from(&Refusal::Absent(name)),
-            r#""no":{"el":"n-1","why":"absent"}"#,
+            Reply::Refused(Refusal::InUse(name, user)),
+            r#""no":{"by":"w1","el":"n-1","why":"in_use"}"#,
         ),
+        (Reply::Repeat { seq: 1 }, r#""no":{"seq":1,"why":"repeat"}"#),
         (
-            Answer::from(&Refusal::Present(name)),
+            Reply::NotLast { blocker: 2 },
+            r#""no":{"why":"not_last","with":2}"#,
+        ),
+        (Reply::Memory, r#""no":{"why":"memory"}"#),
+        (Reply::Full, r#""no":{"why":"full"}"#),
+        (Reply::NothingToUndo, r#""no":{"why":"nothing_to_undo"}"#),
+        (Reply::NoSuch, r#""no":{"why":"no_such"}"#),
+        (Reply::NotYours, r#""no":{"why":"not_yours"}"#),
+        (Reply::NotStanding, r#""no":{"why":"not_standing"}"#),
+    ];
+    for (reply, outcome) in &rows {
+        is_written(&rt, rt.alloc(), &Answer::from(reply), outcome)?;
+    }
+    Ok(())
+}
+
+#[test]
+fn writes_refusals(rt: HostRuntime) -> Result<(), Fail> {
+    let name = Name::new(Kind::Node, -1).ok_or("a name")?;
+    let user = Name::new(Kind::Way, 1).ok_or("a name")?;
+    let key = Text::new(rt.alloc(), "name")?;
+    let rows: [(Refusal<Global>, &str); 7] = [
+        (Refusal::Absent(name), r#""no":{"el":"n-1","why":"absent"}"#),
+        (
+            Refusal::Present(name),
             r#""no":{"el":"n-1","why":"present"}"#,
         ),
         (
-            Answer::from(&Refusal::WrongKind(name)),
+            Refusal::WrongKind(name),
             r#""no":{"el":"n-1","why":"wrong_kind"}"#,
         ),
+        (Refusal::TooFew(user), r#""no":{"el":"w1","why":"too_few"}"#),
         (
-            Answer::from(&Refusal::TooFew(user)),
-            r#""no":{"el":"w1","why":"too_few"}"#,
-        ),
-        (
-            Answer::from(&Refusal::TooMany(user)),
+            Refusal::TooMany(user),
             r#""no":{"el":"w1","why":"too_many"}"#,
         ),
         (
-            Answer::from(&Reply::Refused(Refusal::InUse(name, user))),
-            r#""no":{"by":"w1","el":"n-1","why":"in_use"}"#,
-        ),
-        (
-            Answer::from(&key),
+            Refusal::TagConflict(key),
             r#""no":{"key":"name","why":"tag_conflict"}"#,
         ),
-        (
-            Answer::from(&Reply::Repeat { seq: 1 }),
-            r#""no":{"seq":1,"why":"repeat"}"#,
-        ),
-        (
-            Answer::from(&Reply::NotLast { blocker: 2 }),
-            r#""no":{"why":"not_last","with":2}"#,
-        ),
+        (Refusal::Memory, r#""no":{"why":"memory"}"#),
+    ];
+    for (refusal, outcome) in &rows {
+        is_written(&rt, rt.alloc(), &Answer::from(refusal), outcome)?;
+    }
+    Ok(())
+}
+
+#[test]
+fn writes_faults(rt: HostRuntime) -> Result<(), Fail> {
+    let rows = [
         (
             Answer::from(Fault::BadField(Field::Lat)),
             r#""no":{"field":"lat","why":"bad_field"}"#,
         ),
         (Answer::from(Fault::Memory), r#""no":{"why":"memory"}"#),
-        (Answer::from(&Reply::Memory), r#""no":{"why":"memory"}"#),
-        (Answer::from(&Refusal::Memory), r#""no":{"why":"memory"}"#),
-        (Answer::from(&Reply::Full), r#""no":{"why":"full"}"#),
-        (
-            Answer::from(&Reply::NothingToUndo),
-            r#""no":{"why":"nothing_to_undo"}"#,
-        ),
-        (Answer::from(&Reply::NoSuch), r#""no":{"why":"no_such"}"#),
-        (
-            Answer::from(&Reply::NotYours),
-            r#""no":{"why":"not_yours"}"#,
-        ),
-        (
-            Answer::from(&Reply::NotStanding),
-            r#""no":{"why":"not_standing"}"#,
-        ),
         (Answer::BadLine, r#""no":{"why":"bad_line"}"#),
     ];
-    for (answer, outcome) in rows {
-        let reply = format!(in rt.alloc(); "{{\"id\":9,{outcome}}}")?;
-        let json = reply_text(rt.alloc(), 9, &answer)?;
-        assert_eq!(rt; json.as_bytes(), reply.as_str().as_bytes(), "{reply}");
+    for (answer, outcome) in &rows {
+        is_written(&rt, rt.alloc(), answer, outcome)?;
     }
     Ok(())
 }
