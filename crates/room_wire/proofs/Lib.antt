@@ -8,3 +8,5 @@ pub mod ReadBackProofs
 pub mod Shallow
 pub mod TagLists
 pub mod TagMembers
+pub mod WellFormedProofs
+pub mod FaultProofs

@@ -61,7 +61,7 @@ members_len-tag_members : (tags : Pairs) → members_len (tag_members tags) ≡ 
 members_len-tag_members [] = refl
 members_len-tag_members (e ∷ es) = ap suc (members_len-tag_members es)
 
-tags_of-tag_members : (tags : Pairs) → AreTagRows tags → tags_of (tag_members tags) ≡ Some tags
+pub tags_of-tag_members : (tags : Pairs) → AreTagRows tags → tags_of (tag_members tags) ≡ Some tags
 tags_of-tag_members tags h =
     let rest : T (nat_le (length tags) 1000 && list_all is_tag tags) = second_test _ _ h in
     let few : nat_le (length tags) 1000 ≡ true = passed (nat_le (length tags) 1000) (first_test (nat_le (length tags) 1000) (list_all is_tag tags) rest) in
@@ -75,7 +75,7 @@ as_i64-of_integer (negsuc n) f = refl
 node_of-id_tree : (n : Name) → n.kind ≡ kinds.Node → HasId n → node_of (id_tree n) ≡ Some n
 node_of-id_tree n kind f = ap (option_and_then (name_with kinds.Node)) (as_i64-of_integer n.id f) ∙ ap (λ k. name_with k n.id) (sym kind) ∙ name_with-some n
 
-nodes_in-ids : (names : List Name) → AreNodes names → All HasId names → nodes_in (items_of (map id_tree names)) ≡ Some names
+pub nodes_in-ids : (names : List Name) → AreNodes names → All HasId names → nodes_in (items_of (map id_tree names)) ≡ Some names
 nodes_in-ids [] h f = refl
 nodes_in-ids (n ∷ ns) h f =
     let first = node_of-id_tree n (h 0 n (omega arith)) (f 0 n (omega arith)) in
@@ -83,14 +83,14 @@ nodes_in-ids (n ∷ ns) h f =
     rw (first, rest) refl
 
 -- steps that all succeed
-two : {A B C : Type 0} (f : A → B → C) (r : Result A Fault) (s : Result B Fault) (a : A) (b : B) → r ≡ Ok a → s ≡ Ok b → (r >>= λ x. s >>= λ y. Ok (f x y)) ≡ Ok (f a b)
+pub two : {A B C : Type 0} (f : A → B → C) (r : Result A Fault) (s : Result B Fault) (a : A) (b : B) → r ≡ Ok a → s ≡ Ok b → (r >>= λ x. s >>= λ y. Ok (f x y)) ≡ Ok (f a b)
 two f r s a b h g = rw (h, g) refl
 
-three : {A B C D : Type 0} (f : A → B → C → D) (r : Result A Fault) (s : Result B Fault) (t : Result C Fault) (a : A) (b : B) (c : C) → r ≡ Ok a → s ≡ Ok b → t ≡ Ok c
+pub three : {A B C D : Type 0} (f : A → B → C → D) (r : Result A Fault) (s : Result B Fault) (t : Result C Fault) (a : A) (b : B) (c : C) → r ≡ Ok a → s ≡ Ok b → t ≡ Ok c
     → (r >>= λ x. s >>= λ y. t >>= λ z. Ok (f x y z)) ≡ Ok (f a b c)
 three f r s t a b c h g k = rw (h, g, k) refl
 
-created : (d : Data) (name : Name) (element : Element Global) → el_at d ≡ Ok name → element_at name.kind d ≡ Ok element → create_at d ≡ Ok (Create name element)
+pub created : (d : Data) (name : Name) (element : Element Global) → el_at d ≡ Ok name → element_at name.kind d ≡ Ok element → create_at d ≡ Ok (Create name element)
 created d name element h g = rw (h, g) refl
 
 module _ (latitude_back : (z : ℤ) → IsLatitude z → latitude_of (written z) ≡ Some z) (longitude_back : (z : ℤ) → IsLongitude z → longitude_of (written z) ≡ Some z) where

@@ -5,3 +5,4 @@ pub mod ReadBack
 pub mod Reading
 pub mod Spelling
 pub mod Trees
+pub mod WellFormed

@@ -180,7 +180,7 @@ fn text_of(alloc: Global, text: &str) -> Result<Text<Global>, Fault>
 // Gives a key its value, where there is room for one more tag.
 fn put_tag(tags: &mut Tags<Global>, key: Text<Global>, value: Text<Global>) -> Result<(), Fault>
     requires key { key ≢ [] }
-    requires room { length tags.old < MOST_TAGS }
+    requires room { length tags.old < 1000 }
     ensures ok { OnOk result (tags.new ≡ put text_cmp key value tags.old) }
     ensures err { IfErr result (λ f. f ≡ Memory) }
 {

@@ -1,14 +1,20 @@
 //! Laws of the definitions, each the contract of a function that does nothing.
-ghost use Rattle.std.specs.Prelude.{◌≡◌, ◌≢◌, ◌≤◌, List, ℕ, Some, Ok, IfErr};
+ghost use Rattle.std.specs.Prelude.{◌≡◌, ◌≢◌, ◌≤◌, ◌↔◌, List, ℕ, None, Some, Ok, Err, IfErr, IsOk, is_some, true};
 ghost use Rattle.std.specs.declared.alloc.Global.{Global};
 ghost use Rattle.osm_elements.specs.Elements.{kind_of};
 ghost use Rattle.osm_elements.specs.declared.name.Name.{Name};
 ghost use Rattle.osm_elements.specs.declared.element.Element.{Element};
 ghost use Rattle.room_history.specs.declared.action.Action.TheVariants.{Create};
-ghost use Rattle.room_wire.specs.declared.bad.Fault.TheVariants.{Memory};
+ghost use Rattle.room_wire.specs.declared.bad.Fault.TheVariants.{BadField, BadId, Memory, NotJson, NotObject, UnknownDo};
+ghost use Rattle.room_wire.specs.declared.field.Field.{Field};
 ghost use Rattle.room_wire.specs.ReadBack.{HasId, IsWhole};
 ghost use Rattle.room_wire.specs.Spelling.{spells, create_at, ordinal};
 ghost use Rattle.room_wire.specs.Trees.{element_tree, whole};
+ghost use Rattle.room_wire.specs.WellFormed.{AreGood, HasWord, IsFirstBad, IsMessage, MessageId, Word, slots};
+ghost use Rattle.room_wire.specs.declared.incoming.Incoming.{Incoming};
+ghost use Rattle.serde_json.specs.Data.{Data};
+ghost use Rattle.serde_json.specs.Find.{as_object};
+ghost use Rattle.serde_json.specs.Read.{read};
 ghost use Rattle.room_wire.specs.Examples.{reads_messages, tells_no_id, tells_an_id, writes_replies, writes_elements};
 
 /// What the definitions say of worked examples is what was worked out by hand.
@@ -39,4 +45,29 @@ pub fn a_number_is_read_back()
 #[tactic(auto, using(crate::proofs::NeverMemory::spells_is_never_memory))]
 pub fn no_text_spells_memory()
     ensures { (text : List ℕ) → IfErr (spells text) (λ bad. bad.fault ≢ Memory) }
+{}
+
+/// Every text that is a well-formed message spells that message, however its members are ordered and whatever else it
+/// holds.
+pub fn a_message_spells_itself()
+    ensures { (text : List ℕ) (d : Data) (message : Incoming) → read text ≡ Some d → IsMessage d message
+        → spells text ≡ Ok message }
+{}
+
+/// Each fault of a text comes exactly where it should: by the tree of the text, by its id and its word, and then by
+/// the first field, in the order in which they are read, that is not well formed. Under the same premises the text
+/// spells a message exactly where every field is well formed.
+pub fn each_fault_is_told()
+    ensures not_json { (text : List ℕ) → read text ≡ None → spells text ≡ Err (record { id = 0; fault = NotJson }) }
+    ensures not_object { (text : List ℕ) (d : Data) → read text ≡ Some d → as_object d ≡ None
+        → spells text ≡ Err (record { id = 0; fault = NotObject }) }
+    ensures bad_id { (text : List ℕ) (d : Data) → read text ≡ Some d → is_some (as_object d) ≡ true
+        → ((id : ℕ) → ¬ MessageId d id) → spells text ≡ Err (record { id = 0; fault = BadId }) }
+    ensures unknown_do { (text : List ℕ) (d : Data) (id : ℕ) → read text ≡ Some d → MessageId d id
+        → ((word : Word) → ¬ HasWord d word) → spells text ≡ Err (record { id = id; fault = UnknownDo }) }
+    ensures bad_field { (text : List ℕ) (d : Data) (id : ℕ) (word : Word) (field : Field) → read text ≡ Some d
+        → MessageId d id → HasWord d word
+        → (spells text ≡ Err (record { id = id; fault = BadField field })) ↔ IsFirstBad (slots word d) field }
+    ensures well_formed { (text : List ℕ) (d : Data) (id : ℕ) (word : Word) → read text ≡ Some d
+        → MessageId d id → HasWord d word → IsOk (spells text) ↔ AreGood (slots word d) }
 {}

@@ -1,0 +1,95 @@
+-- Every well-formed message spells itself.
+use Rattle.std.proofs.Common.{◌≡◌, ◌&&◌, ◌∙◌, ℕ, List, codes, true, Option, Some, None, Ok, inl, inr, is_some, option_map, nat_le, refl, sym, ap, arith}
+use Rattle.std.specs.declared.alloc.Global.{Global}
+use Rattle.std.specs.Option.{option_and_then}
+use Rattle.std.proofs.lemmas.Bool.Decides.{nat_tests}
+use Rattle.serde_json.specs.Data.{Data, null, boolean, number, string, array, object}
+use Rattle.serde_json.specs.Find.{get, as_array, as_object, as_str}
+use Rattle.serde_json.specs.Read.{read}
+use Rattle.osm_coords.specs.Latitude.{latitude_of}
+use Rattle.osm_coords.specs.Longitude.{longitude_of}
+use Rattle.osm_elements.specs.declared.name.Name.{Name}
+use Rattle.osm_elements.specs.declared.element.Element.{Element}
+use Rattle.osm_elements.specs.declared.element.Element.TheVariants as elements
+use Rattle.osm_elements.specs.Elements.{kind_of}
+use Rattle.osm_elements.specs.Facts.NameTexts.{name_of_text}
+use Rattle.osm_elements.specs.NameTexts.{name_of}
+use Rattle.osm_elements.specs.TagRows.{AreTagRows, Pairs}
+use Rattle.room_history.specs.declared.action.Action.TheVariants as actions
+use Rattle.room_history.specs.declared.call.Request.TheVariants as requests
+use Rattle.room_wire.specs.declared.bad.Fault.TheVariants.{BadField, UnknownDo}
+use Rattle.room_wire.specs.declared.field.Field.{Field}
+use Rattle.room_wire.specs.declared.field.Field.TheVariants.{El, Lat, Lon, Nodes, Tags, Seq}
+use Rattle.room_wire.specs.declared.incoming.Incoming.{Incoming}
+use Rattle.room_wire.specs.declared.incoming.Body.{Body}
+use Rattle.room_wire.specs.declared.incoming.Body.TheVariants as bodies
+use Rattle.room_wire.specs.ReadBack.{IsWhole}
+use Rattle.room_wire.specs.Reading.{◌>>=◌, or_fault}
+use Rattle.room_wire.specs.Spelling.{body_at, body_by, el_at, element_at, id_at, lat_at, lon_at, message_by, message_of, nodes_at, nodes_in, ordinal, seq_at, seq_from, spells, tags_at, tags_from, text_at, under}
+use Rattle.room_wire.specs.Trees.{whole}
+use Rattle.room_wire.specs.WellFormed.{Asks, Create, Delete, Get, HasElement, HasName, HasSeq, HasTags, HasText, HasWord, IsMessage, IsNumber, Map, MessageId, Undo, Word, word_text}
+use Rattle.room_wire.proofs.ReadBackProofs.{created, nodes_in-ids, tags_of-tag_members, three, two}
+
+number_read : (n : ℕ) → IsNumber n → ordinal (whole n) ≡ Some n
+number_read n h =
+    let low = h.0 in
+    let high = h.1 in
+    let inside : (nat_le 1 n && nat_le n 9007199254740991) ≡ true = grind (arith, nat_tests) in
+    rw inside refl
+
+is_object : (d : Data) (k : List ℕ) (v : Data) → get k d ≡ Some v → is_some (as_object d) ≡ true
+is_object null k v h = cc
+is_object (boolean b) k v h = cc
+is_object (number n) k v h = cc
+is_object (string s) k v h = cc
+is_object (array ds) k v h = cc
+is_object (object ms) k v h = refl
+
+pub id_read : (d : Data) (id : ℕ) → MessageId d id → id_at d ≡ Ok id
+id_read d id h = rw (is_object d (codes "id") (whole id) h.0, h.0) (ap (or_fault _) (number_read id h.1))
+
+-- what a message says, once its id and its word are read
+pub spells-body : (text : List ℕ) (d : Data) (id : ℕ) → read text ≡ Some d → id_at d ≡ Ok id → spells text ≡ under id (body_at d)
+spells-body text d id tree is = ap message_of tree ∙ ap (λ r. message_by r d) is
+
+pub word_read : (d : Data) (word : Word) → HasWord d word → body_at d ≡ body_by (word_text word) d
+word_read d word h = ap (λ o. or_fault UnknownDo (option_and_then as_str o) >>= λ text. body_by text d) h
+
+text_read : {X : Type 0} (d : Data) (field : Field) (reading : List ℕ → Option X) (x : X) → HasText d field reading x → or_fault (BadField field) (option_and_then reading (text_at field d)) ≡ Ok x
+text_read d field reading x h = ap (λ o. or_fault (BadField field) (option_and_then reading (option_and_then as_str o))) h.1 ∙ ap (or_fault (BadField field)) h.2
+
+el_read : (d : Data) (name : Name) → HasName d name → el_at d ≡ Ok name
+el_read d name h = text_read d El name_of name (_, h.0, name_of_text name h.1)
+
+tags_read : (d : Data) (tags : Pairs) → HasTags d tags → AreTagRows tags → tags_at d ≡ Ok tags
+tags_read d tags (inl h) rows = ap tags_from h ∙ ap (or_fault (BadField Tags)) (tags_of-tag_members tags rows)
+tags_read d tags (inr (missing, none)) rows = ap tags_from missing ∙ ap Ok (sym none)
+
+seq_read : (d : Data) (seq : Option ℕ) → HasSeq d seq → seq_at d ≡ Ok seq
+seq_read d None h = ap seq_from h
+seq_read d (Some n) h = ap seq_from h.0 ∙ ap (λ o. or_fault (BadField Seq) (option_map Some o)) (number_read n h.1)
+
+element_read : (d : Data) (element : Element Global) → HasElement d element → IsWhole element → element_at (kind_of element) d ≡ Ok element
+element_read d (elements.Node lat lon tags) h whole =
+    three {D = Element Global} (λ x y z. elements.Node x y z) (lat_at d) (lon_at d) (tags_at d) lat lon tags
+    (text_read d Lat latitude_of lat h.0) (text_read d Lon longitude_of lon h.1) (tags_read d tags h.2 whole.2)
+element_read d (elements.Way nodes tags) h whole =
+    let nodes_are : nodes_at d ≡ Ok nodes =
+    ap (λ o. or_fault (BadField Nodes) (option_and_then nodes_in (option_and_then as_array o))) h.0 ∙ ap (or_fault (BadField Nodes)) (nodes_in-ids nodes whole.0 whole.1) in
+    two {C = Element Global} (λ x y. elements.Way x y) (nodes_at d) (tags_at d) nodes tags nodes_are (tags_read d tags h.1 whole.2)
+
+asked : (d : Data) (body : Body) → Asks d body → body_at d ≡ Ok body
+asked d (bodies.Change (requests.Do (actions.Create name element))) (word, named, has, kind, whole) =
+    let element_is : element_at name.kind d ≡ Ok element = ap (λ k. element_at k d) (sym kind) ∙ element_read d element has whole in
+    word_read d Create word ∙ ap (λ r. r >>= λ action. Ok (bodies.Change (requests.Do action))) (created d name element (el_read d name named) element_is)
+asked d (bodies.Change (requests.Do (actions.Delete name))) (word, named) =
+    word_read d Delete word ∙ ap (λ r. r >>= λ name. Ok (bodies.Change (requests.Do (actions.Delete name)))) (el_read d name named)
+asked d (bodies.Change (requests.Undo seq)) (word, has) =
+    word_read d Undo word ∙ ap (λ r. r >>= λ seq. Ok (bodies.Change (requests.Undo seq))) (seq_read d seq has)
+asked d (bodies.Get name) (word, named) =
+    word_read d Get word ∙ ap (λ r. r >>= λ name. Ok (bodies.Get name)) (el_read d name named)
+asked d bodies.Map word = word_read d Map word
+
+pub message_spelled : (text : List ℕ) (d : Data) (message : Incoming) → read text ≡ Some d → IsMessage d message → spells text ≡ Ok message
+message_spelled text d message tree (id, asks) =
+    spells-body text d message.id tree (id_read d message.id id) ∙ ap (under message.id) (asked d message.body asks)

@@ -1,0 +1,132 @@
+-- Well-formed messages, and the first field of another one that is not well formed. (The words and fields are this project's.)
+use Rattle.std.specs.Prelude.{◌≡◌, ◌≤◌, ◌⊎◌, ℕ, Bool, true, false, List, [], ◌∷◌, Option, Some, None, Result, Ok, Err, codes, is_ok}
+use Rattle.serde_json.specs.Data.{Data, string}
+use Rattle.serde_json.specs.Find.{get}
+use Rattle.osm_coords.specs.Latitude.{latitude_of}
+use Rattle.osm_coords.specs.Longitude.{longitude_of}
+use Rattle.osm_elements.specs.declared.name.Name.{Name}
+use Rattle.osm_elements.specs.declared.name.Kind.{Kind}
+use Rattle.osm_elements.specs.declared.name.Kind.TheVariants as kinds
+use Rattle.osm_elements.specs.declared.element.Element.{Element}
+use Rattle.osm_elements.specs.declared.element.Element.TheVariants as elements
+use Rattle.osm_elements.specs.Elements.{kind_of}
+use Rattle.osm_elements.specs.TagRows.{Pairs}
+use Rattle.room_history.specs.declared.action.Action.TheVariants as actions
+use Rattle.room_history.specs.declared.call.Request.TheVariants as requests
+use Rattle.room_wire.specs.declared.bad.Fault.{Fault}
+use Rattle.room_wire.specs.declared.field.Field.{Field}
+use Rattle.room_wire.specs.declared.field.Field.TheVariants.{El, Lat, Lon, Nodes, Tags, Seq}
+use Rattle.room_wire.specs.declared.incoming.Incoming.{Incoming}
+use Rattle.room_wire.specs.declared.incoming.Body.{Body}
+use Rattle.room_wire.specs.declared.incoming.Body.TheVariants as bodies
+use Rattle.room_wire.specs.Fields.{field_text}
+use Rattle.room_wire.specs.ReadBack.{HasId, IsWhole}
+use Rattle.room_wire.specs.Spelling.{el_at, lat_at, lon_at, nodes_at, seq_at, tags_at}
+use Rattle.room_wire.specs.Trees.{name_tree, nodes_tree, tags_tree, whole}
+
+-- the words of messages, and their texts
+pub data Word : Type 0 where
+  Create : Word
+  Delete : Word
+  Undo : Word
+  Get : Word
+  Map : Word
+
+abbrev pub word_text : Word → List ℕ
+word_text Create = codes "create"
+word_text Delete = codes "delete"
+word_text Undo = codes "undo"
+word_text Get = codes "get"
+word_text Map = codes "map"
+
+-- a message asks for something by this word
+abbrev pub HasWord : Data → Word → Type 0
+HasWord d word = get (codes "do") d ≡ Some (string (word_text word))
+
+-- the id of a message, or the number of an entry
+abbrev pub IsNumber : ℕ → Type 0
+IsNumber n = (1 ≤ n) × (n ≤ 9007199254740991)
+
+abbrev pub MessageId : Data → ℕ → Type 0
+MessageId d id = (get (codes "id") d ≡ Some (whole id)) × IsNumber id
+
+-- ---- the members of a well-formed message
+
+-- a field has this tree
+abbrev pub Has : Data → Field → Data → Type 0
+Has d field value = get (field_text field) d ≡ Some value
+
+-- a field has a text that is read so
+abbrev pub HasText : {X : Type 0} → Data → Field → (List ℕ → Option X) → X → Type 0
+HasText d field reading x = (text : List ℕ) × Has d field (string text) × (reading text ≡ Some x)
+
+-- a field that may be missing
+abbrev pub IsMissing : Data → Field → Type 0
+IsMissing d field = get (field_text field) d ≡ None
+
+abbrev pub HasTags : Data → Pairs → Type 0
+HasTags d tags = Has d Tags (tags_tree tags) ⊎ (IsMissing d Tags × (tags ≡ []))
+
+abbrev pub HasSeq : Data → Option ℕ → Type 0
+HasSeq d None = IsMissing d Seq
+HasSeq d (Some seq) = Has d Seq (whole seq) × IsNumber seq
+
+-- the name of an element, whose id is an i64
+abbrev pub HasName : Data → Name → Type 0
+HasName d name = Has d El (name_tree name) × HasId name
+
+-- an element, of whose parts holds what their types keep
+abbrev pub HasElement : {A : Type 0} → Data → Element A → Type 0
+HasElement d (elements.Node lat lon tags) = HasText d Lat latitude_of lat × HasText d Lon longitude_of lon × HasTags d tags
+HasElement d (elements.Way nodes tags) = Has d Nodes (nodes_tree nodes) × HasTags d tags
+
+-- the word and the fields of a message, by what it asks for
+abbrev pub Asks : Data → Body → Type 0
+Asks d (bodies.Change (requests.Do (actions.Create name element))) =
+    HasWord d Create × HasName d name × HasElement d element × (kind_of element ≡ name.kind) × IsWhole element
+Asks d (bodies.Change (requests.Do (actions.Delete name))) = HasWord d Delete × HasName d name
+Asks d (bodies.Change (requests.Undo seq)) = HasWord d Undo × HasSeq d seq
+Asks d (bodies.Get name) = HasWord d Get × HasName d name
+Asks d bodies.Map = HasWord d Map
+
+-- the tree has the members of this message, in whatever order it had them, and whatever else it has
+abbrev pub IsMessage : Data → Incoming → Type 0
+IsMessage d message = MessageId d message.id × Asks d message.body
+
+-- ---- the fields of a message, in the order in which they are read
+
+-- a field, and whether it is well formed
+abbrev pub Slot : Type 0
+Slot = Field × Bool
+
+abbrev pub slot : {X : Type 0} → Field → Result X Fault → Slot
+slot field read = (field, is_ok read)
+
+-- the fields of an element, by its kind (a relation is no element of a `create` yet)
+abbrev pub element_slots : Kind → Data → List Slot
+element_slots kinds.Node d = slot Lat (lat_at d) ∷ slot Lon (lon_at d) ∷ slot Tags (tags_at d) ∷ []
+element_slots kinds.Way d = slot Nodes (nodes_at d) ∷ slot Tags (tags_at d) ∷ []
+element_slots kinds.Relation d = (El, false) ∷ []
+
+abbrev pub named_slots : Result Name Fault → Data → List Slot
+named_slots (Ok name) d = element_slots name.kind d
+named_slots (Err fault) d = []
+
+abbrev pub slots : Word → Data → List Slot
+slots Create d = slot El (el_at d) ∷ named_slots (el_at d) d
+slots Delete d = slot El (el_at d) ∷ []
+slots Undo d = slot Seq (seq_at d) ∷ []
+slots Get d = slot El (el_at d) ∷ []
+slots Map d = []
+
+-- the fields before it are well formed, and this one is not
+abbrev pub IsFirstBad : List Slot → Field → Type 0
+IsFirstBad [] field = ⊥
+IsFirstBad ((first, true) ∷ later) field = IsFirstBad later field
+IsFirstBad ((first, false) ∷ later) field = first ≡ field
+
+-- every field is well formed
+abbrev pub AreGood : List Slot → Type 0
+AreGood [] = Unit {0}
+AreGood ((first, true) ∷ later) = AreGood later
+AreGood ((first, false) ∷ later) = ⊥
