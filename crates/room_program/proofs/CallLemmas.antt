@@ -1,5 +1,5 @@
 -- Calls of a reader, counted.
-use Rattle.std.proofs.Common.{◌≡◌, ◌≤◌, ◌<◌, ℕ, suc, zero, Result, Ok, inl, inr, refl, arith}
+use Rattle.std.proofs.Common.{◌≤◌, ◌<◌, ℕ, suc, zero, Result, Ok, inl, inr, refl, arith}
 use Rattle.room_program.specs.declared.failed.Failed.{Failed}
 use Rattle.room_program.specs.Streams.{Gets, GetsAtMost}
 

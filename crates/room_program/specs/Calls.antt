@@ -1,7 +1,6 @@
 -- What is noted of the calls of a stream.
-use Rattle.std.specs.Prelude.{◌≡◌, ◌⊎◌, ◌≤◌, ℕ, ◌+◌, ◌-◌, ◌^◌, min, true, Option, Some, None, Result, Ok, Err, is_err}
+use Rattle.std.specs.Prelude.{◌≡◌, ◌⊎◌, ◌≤◌, ℕ, ◌+◌, ◌-◌, ◌^◌, min, true, Some, None, Result, Ok, Err, is_err}
 use Rattle.room_program.specs.declared.failed.Failed.{Failed}
-use Rattle.room_program.specs.declared.noted.Call.{Call}
 use Rattle.room_program.specs.declared.noted.Calls.{Calls}
 use Rattle.room_program.specs.declared.noted.Stop.{Stop}
 use Rattle.room_program.specs.declared.noted.Stop.TheVariants as stops
