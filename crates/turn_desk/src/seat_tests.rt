@@ -91,19 +91,19 @@ fn a_seat_is_split_into_sixty_five(rt: HostRuntime) -> Result<(), Fail> {
     Ok(())
 }
 
-// Makes so many calls, the k-th of which yields k modulo `up_to` times, or never where that is 0.
+// Makes so many calls. In the first the turn is held for so many yields, in each further one for one less, and after 1 for so many again.
 fn calls<W: Wait>(
     rt: &W,
     desk: &Desk<Tally, Global>,
     mut seat: Seat<Tally>,
     count: u32,
-    up_to: u32,
+    yields: u32,
 ) -> Seat<Tally>
     requires { IsAt desk.now seat }
     ensures { IsAt desk.now result }
 {
     for k in 0..count {
-        let yields = if up_to == 0 { 0 } else { k % up_to };
+        let yields = if yields == 0 { 0 } else { yields - k % yields };
         desk.turn(rt, &mut seat, yields);
     }
     seat
@@ -114,7 +114,7 @@ fn in_two_threads<R: Threads + Wait + Sync>(
     desk: &Desk<Tally, Global>,
     seat: Seat<Tally>,
     count: u32,
-    up_to: u32,
+    yields: u32,
 ) -> Seat<Tally>
     requires seat { IsAt desk.now seat }
     requires parts { 2 ≤ seat.parts }
@@ -126,11 +126,11 @@ fn in_two_threads<R: Threads + Wait + Sync>(
         || -> Seat<Tally>
             requires { IsAt desk.now one }
             ensures { IsAt desk.entry.now result }
-        { calls(rt, desk, one, count, up_to) },
+        { calls(rt, desk, one, count, yields) },
         || -> Seat<Tally>
             requires { IsAt desk.now two }
             ensures { IsAt desk.entry.now result }
-        { calls(rt, desk, two, count, up_to) },
+        { calls(rt, desk, two, count, yields) },
     );
     desk.meet(&mut one, two);
     one
@@ -141,7 +141,7 @@ fn in_four_threads<R: Threads + Wait + Sync>(
     desk: &Desk<Tally, Global>,
     seat: Seat<Tally>,
     count: u32,
-    up_to: u32,
+    yields: u32,
 ) -> Seat<Tally>
     requires seat { IsAt desk.now seat }
     requires parts { 128 ≤ seat.parts }
@@ -154,12 +154,12 @@ fn in_four_threads<R: Threads + Wait + Sync>(
             requires seat { IsAt desk.now one }
             requires parts { 2 ≤ one.parts }
             ensures { IsAt desk.entry.now result }
-        { in_two_threads(rt, desk, one, count, up_to) },
+        { in_two_threads(rt, desk, one, count, yields) },
         || -> Seat<Tally>
             requires seat { IsAt desk.now two }
             requires parts { 2 ≤ two.parts }
             ensures { IsAt desk.entry.now result }
-        { in_two_threads(rt, desk, two, count, up_to) },
+        { in_two_threads(rt, desk, two, count, yields) },
     );
     desk.meet(&mut one, two);
     one
@@ -170,7 +170,7 @@ fn in_eight_threads<R: Threads + Wait + Sync>(
     desk: &Desk<Tally, Global>,
     seat: Seat<Tally>,
     count: u32,
-    up_to: u32,
+    yields: u32,
 ) -> Seat<Tally>
     requires seat { IsAt desk.now seat }
     requires parts { 8192 ≤ seat.parts }
@@ -183,12 +183,12 @@ fn in_eight_threads<R: Threads + Wait + Sync>(
             requires seat { IsAt desk.now one }
             requires parts { 128 ≤ one.parts }
             ensures { IsAt desk.entry.now result }
-        { in_four_threads(rt, desk, one, count, up_to) },
+        { in_four_threads(rt, desk, one, count, yields) },
         || -> Seat<Tally>
             requires seat { IsAt desk.now two }
             requires parts { 128 ≤ two.parts }
             ensures { IsAt desk.entry.now result }
-        { in_four_threads(rt, desk, two, count, up_to) },
+        { in_four_threads(rt, desk, two, count, yields) },
     );
     desk.meet(&mut one, two);
     one
@@ -214,8 +214,8 @@ fn eight_threads_take_ten_thousand_short_turns_each(rt: HostRuntime) -> Result<(
 #[test]
 fn those_who_sleep_are_woken(rt: HostRuntime) -> Result<(), Fail> {
     let (desk, seat) = Desk::open(rt.alloc(), Tally { count: 0 })?;
-    let seat = in_four_threads(&rt, &desk, seat, 100, 4_000);
-    assert_eq!(rt; desk.close(&rt, seat).front(), 400);
+    let seat = in_four_threads(&rt, &desk, seat, 50, 2_000);
+    assert_eq!(rt; desk.close(&rt, seat).front(), 200);
     Ok(())
 }
 
@@ -223,7 +223,7 @@ fn those_who_sleep_are_woken(rt: HostRuntime) -> Result<(), Fail> {
 #[test]
 fn no_wake_up_is_lost(rt: HostRuntime) -> Result<(), Fail> {
     let (desk, seat) = Desk::open(rt.alloc(), Tally { count: 0 })?;
-    let seat = in_two_threads(&rt, &desk, seat, 50_000, 200);
-    assert_eq!(rt; desk.close(&rt, seat).front(), 100_000);
+    let seat = in_two_threads(&rt, &desk, seat, 5_000, 130);
+    assert_eq!(rt; desk.close(&rt, seat).front(), 10_000);
     Ok(())
 }
