@@ -56,7 +56,7 @@ impl<R: Turned, A: Allocator> Desk<R, A> {
     ///
     /// The first is the seat with fewer parts. The second has made no call, looked at no length and met no seat.
     /// It has a number that no seat of the desk ever had, and a 64th of the parts, at least one:
-    /// so the first seat of a desk can be split some two thousand times, and each of the new ones in turn.
+    /// so the first seat of a desk can be split more than two thousand times, and so can each of the new ones.
     pub fn split(&self, seat: Seat<R>) -> (Seat<R>, Seat<R>)
         requires seat { IsAt self.now seat }
         requires parts { 2 ≤ seat.parts }

@@ -1,4 +1,4 @@
-//! The steps of a turn, each in a function of its own.
+//! The steps of a turn, of a look, and of splitting and meeting seats, each in a function of its own.
 //!
 //! Word 0 is the length of the history, word 1 the number of tickets drawn, and word 2 the number of tickets served, both modulo 2^64.
 //! The one slot holds the room while no seat has the turn. From the load that gives a seat the turn until it gives the turn on, the slot is the seat's.
