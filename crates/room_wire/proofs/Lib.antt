@@ -1,12 +1,14 @@
 pub mod Ascii
 pub mod Empty
 pub mod ExampleProofs
+pub mod FaultProofs
 pub mod NeverMemory
 pub mod NoFloats
 pub mod NodeLists
 pub mod ReadBackProofs
 pub mod Shallow
+pub mod SpelledMade
 pub mod TagLists
 pub mod TagMembers
+pub mod TreesInOrder
 pub mod WellFormedProofs
-pub mod FaultProofs

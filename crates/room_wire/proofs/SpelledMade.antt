@@ -1,0 +1,244 @@
+-- What a text spells has its values as their types keep them.
+use Rattle.std.proofs.Common.{◌≡◌, ◌&&◌, ◌≤◌, ℕ, ℤ, pos, suc, Bool, true, false, not, cond, T, List, [], ◌∷◌, length, Option, Some, None, IfSome, Result, Ok, Err, IfOk, codes, is_some, option_map, option_and_then, nat_eq, nat_le, refl, ap, subst, sym, ◌∙◌}
+use Rattle.std.specs.List.{list_all}
+use Rattle.std.specs.Str.{bytes_eq}
+use Rattle.std.specs.Prelude.{int_le, neg_ℤ}
+use Rattle.std.specs.Ordering.{is_lt, int_eq}
+use Rattle.std.specs.FinMap.Entries as entries
+use Rattle.serde_json.specs.Data.{Data, null, boolean, number, string, array, object, Items, no_items, item, Members, no_members, member}
+use Rattle.serde_json.specs.Events.{members_len}
+use Rattle.serde_json.specs.Find.{get, as_str, as_number, as_i64, as_array, as_object}
+use Rattle.serde_json.specs.Read.{read}
+use Rattle.osm_coords.specs.Coordinate.{coordinate}
+use Rattle.osm_coords.specs.Latitude.{latitude, latitude_of}
+use Rattle.osm_coords.specs.Longitude.{longitude, longitude_of}
+use Rattle.osm_coords.specs.Range.{value_within}
+use Rattle.osm_elements.specs.declared.name.Name.{Name}
+use Rattle.osm_elements.specs.declared.name.Kind.{Kind}
+use Rattle.osm_elements.specs.declared.name.Kind.TheVariants as kinds
+use Rattle.osm_elements.specs.Made.{is_node, are_nodes, is_made}
+use Rattle.osm_elements.specs.NameTexts.{name_with, named, if_passed}
+use Rattle.osm_elements.specs.TagRows.{Pairs, text_cmp, is_tag, are_tags}
+use Rattle.osm_elements.specs.Texts.{is_long}
+use Rattle.room_history.specs.LegalJournals.{is_made_action}
+use Rattle.room_history.specs.declared.action.Action.TheVariants as actions
+use Rattle.room_history.specs.declared.call.Request.TheVariants as requests
+use Rattle.room_wire.specs.declared.bad.Fault.{Fault}
+use Rattle.room_wire.specs.declared.bad.Fault.TheVariants.{BadField, UnknownDo}
+use Rattle.room_wire.specs.declared.bad.Bad.{Bad}
+use Rattle.room_wire.specs.declared.field.Field.TheVariants.{El, Lat, Lon, Nodes, Tags, Seq}
+use Rattle.room_wire.specs.declared.incoming.Body.{Body}
+use Rattle.room_wire.specs.declared.incoming.Body.TheVariants.{Change, Get, Map}
+use Rattle.room_wire.specs.Fields.{field_text}
+use Rattle.room_wire.specs.Made.{is_made_body}
+use Rattle.room_wire.specs.Reading.{◌>>=◌, or_fault}
+use Rattle.room_wire.specs.Spelling.{text_at, text_of, key_of, tag_of, tags_in, tags_of, tags_from, tags_at, node_of, nodes_in, nodes_at, lat_at, lon_at, el_at, seq_at, element_at, create_at, body_by, body_at, word_at, id_at, message_by, message_of, under, spells}
+use Rattle.room_wire.proofs.TreesInOrder.{pairs_of, IsInOrder, if_map, if_then, if_more, if_any, get_in_order, read_in_order}
+
+both : (a b : Bool) → a ≡ true → b ≡ true → (a && b) ≡ true
+both true b p q = q
+both false b p q = p
+
+both_T : (a b : Bool) → T a → T b → T (a && b)
+both_T true b p q = q
+both_T false b p q = p
+
+first_T : (a b : Bool) → T (a && b) → T a
+first_T true b p = tt
+first_T false b p = p
+
+second_T : (a b : Bool) → T (a && b) → T b
+second_T true b p = p
+second_T false b p = absurd p
+
+passed : (b : Bool) → T b → b ≡ true
+passed true t = refl
+passed false t = absurd t
+
+-- what holds of the value of a choice, where the test says so
+if_chosen : {X : Type 0} (P : X → Type 0) (b : Bool) (o : Option X) → (b ≡ true → IfSome o P) → IfSome (cond b o None) P
+if_chosen P true o h = h refl
+if_chosen P false o h = tt
+
+if_not : {X : Type 0} (P : X → Type 0) (b : Bool) (o : Option X) → (not b ≡ true → IfSome o P) → IfSome (cond b None o) P
+if_not P true o h = tt
+if_not P false o h = h refl
+
+-- a text, a key and a value keep their limits
+text_facts : (t : List ℕ) → IfSome (text_of t) (λ x. (x ≡ t) × (not (is_long x) ≡ true))
+text_facts t = if_not (λ x. (x ≡ t) × (not (is_long x) ≡ true)) (is_long t) (Some t) (λ e. (refl, e))
+
+abbrev IsKey : List ℕ → List ℕ → Type 0
+IsKey k x = (x ≡ k) × (not (nat_eq (length x) 0) ≡ true) × (not (is_long x) ≡ true)
+
+key_facts : (k : List ℕ) → IfSome (key_of k) (IsKey k)
+key_facts k = if_not (IsKey k) (nat_eq (length k) 0) (text_of k) (λ e. if_not (IsKey k) (is_long k) (Some k) (λ f. (refl, e, f)))
+
+value_facts : (d : Data) → IfSome (option_and_then text_of (as_str d)) (λ v. not (is_long v) ≡ true)
+value_facts d = if_then (λ v. not (is_long v) ≡ true) (as_str d) text_of (if_any (λ t. IfSome (text_of t) (λ v. not (is_long v) ≡ true)) (as_str d)
+    (λ t. if_more (λ x. (x ≡ t) × (not (is_long x) ≡ true)) (λ v. not (is_long v) ≡ true) (text_of t) (text_facts t) (λ x h. h.1)))
+
+abbrev IsTagOf : List ℕ → List ℕ × List ℕ → Type 0
+IsTagOf k t = (t.0 ≡ k) × (is_tag t ≡ true)
+
+tag_facts : (k : List ℕ) (d : Data) → IfSome (tag_of k d) (IsTagOf k)
+tag_facts k d =
+    let value : Option (List ℕ) = option_and_then text_of (as_str d) in
+    if_then (IsTagOf k) (key_of k) (λ key. option_map (λ v. (key, v)) value) (if_more (IsKey k) (λ key. IfSome (option_map (λ v. (key, v)) value) (IsTagOf k)) (key_of k) (key_facts k)
+    (λ key h. if_map (IsTagOf k) (λ v. (key, v)) value (if_more (λ v. not (is_long v) ≡ true) (λ v. IsTagOf k (key, v)) value (value_facts d)
+    (λ v g. (h.0, both (not (nat_eq (length key) 0)) (not (is_long key) && not (is_long v)) h.1 (both (not (is_long key)) (not (is_long v)) h.2 g))))))
+
+-- the tags that are read of members: their keys are those of the members, in their order
+record ReadsTags (ms : Members) (ts : Pairs) : Type 0 where
+  below : (q : List ℕ) → T (entries.below_all text_cmp q (pairs_of ms)) → T (entries.below_all text_cmp q ts)
+  sorted : T (entries.is_sorted text_cmp (pairs_of ms)) → T (entries.is_sorted text_cmp ts)
+  tags : list_all is_tag ts ≡ true
+  count : length ts ≡ members_len ms
+
+reads_next : (k : List ℕ) (d : Data) (ms : Members) (t : List ℕ × List ℕ) (ts : Pairs) → IsTagOf k t → ReadsTags ms ts → ReadsTags (member k d ms) (t ∷ ts)
+reads_next k d ms t ts h g = record {
+    below = λ q b. both_T (is_lt (text_cmp q t.0)) (entries.below_all text_cmp q ts) (subst (λ x. T (is_lt (text_cmp q x))) (sym h.0) (first_T (is_lt (text_cmp q k)) (entries.below_all text_cmp q (pairs_of ms)) b))
+        (g.below q (second_T (is_lt (text_cmp q k)) (entries.below_all text_cmp q (pairs_of ms)) b));
+    sorted = λ s. both_T (entries.below_all text_cmp t.0 ts) (entries.is_sorted text_cmp ts)
+        (subst (λ x. T (entries.below_all text_cmp x ts)) (sym h.0) (g.below k (first_T (entries.below_all text_cmp k (pairs_of ms)) (entries.is_sorted text_cmp (pairs_of ms)) s)))
+        (g.sorted (second_T (entries.below_all text_cmp k (pairs_of ms)) (entries.is_sorted text_cmp (pairs_of ms)) s));
+    tags = both (is_tag t) (list_all is_tag ts) h.1 g.tags;
+    count = ap suc g.count
+  }
+
+tags_in_facts : (ms : Members) → IfSome (tags_in ms) (ReadsTags ms)
+tags_in_facts no_members = record { below = λ q b. tt; sorted = λ s. tt; tags = refl; count = refl }
+tags_in_facts (member k d ms) =
+    let P : Pairs → Type 0 = ReadsTags (member k d ms) in
+    if_then P (tag_of k d) (λ t. option_map (λ ts. t ∷ ts) (tags_in ms)) (if_more (IsTagOf k) (λ t. IfSome (option_map (λ ts. t ∷ ts) (tags_in ms)) P) (tag_of k d) (tag_facts k d)
+    (λ t h. if_map P (λ ts. t ∷ ts) (tags_in ms) (if_more (ReadsTags ms) (λ ts. P (t ∷ ts)) (tags_in ms) (tags_in_facts ms) (λ ts g. reads_next k d ms t ts h g))))
+
+AreMade : Pairs → Type 0
+AreMade ts = are_tags ts ≡ true
+
+tags_of_made : (ms : Members) → T (entries.is_sorted text_cmp (pairs_of ms)) → IfSome (tags_of ms) AreMade
+unfolding AreMade
+tags_of_made ms s = if_chosen AreMade (nat_le (members_len ms) 1000) (tags_in ms)
+    (λ few. if_more (ReadsTags ms) AreMade (tags_in ms) (tags_in_facts ms)
+    (λ ts g. both (entries.is_sorted text_cmp ts) (nat_le (length ts) 1000 && list_all is_tag ts) (passed _ (g.sorted s))
+    (both (nat_le (length ts) 1000) (list_all is_tag ts) (ap (λ n. nat_le n 1000) g.count ∙ few) g.tags)))
+
+object_sorted : (d : Data) → IsInOrder d → IfSome (as_object d) (λ ms. T (entries.is_sorted text_cmp (pairs_of ms)))
+object_sorted null h = tt
+object_sorted (boolean b) h = tt
+object_sorted (number n) h = tt
+object_sorted (string s) h = tt
+object_sorted (array ds) h = tt
+object_sorted (object ms) h = h.0
+
+-- what holds of an answer
+ok_or : {X : Type 0} (P : X → Type 0) (fault : Fault) (o : Option X) → IfSome o P → IfOk (or_fault fault o) P
+ok_or P fault None h = tt
+ok_or P fault (Some x) h = h
+
+ok_then : {X Y : Type 0} (Q : X → Type 0) (P : Y → Type 0) (r : Result X Fault) (f : X → Result Y Fault) → IfOk r Q → ((x : X) → Q x → IfOk (f x) P) → IfOk (r >>= f) P
+ok_then Q P (Ok x) f h g = g x h
+ok_then Q P (Err e) f h g = tt
+
+ok_any : {X : Type 0} (P : X → Type 0) (r : Result X Fault) → ((x : X) → P x) → IfOk r P
+ok_any P (Ok x) g = g x
+ok_any P (Err e) g = tt
+
+ok_if : {X : Type 0} (P : X → Type 0) (b : Bool) (r s : Result X Fault) → IfOk r P → IfOk s P → IfOk (cond b r s) P
+ok_if P true r s h g = h
+ok_if P false r s h g = g
+
+no_tags_made : AreMade []
+unfolding AreMade
+no_tags_made = refl
+
+tags_made : (found : Option Data) → IfSome found IsInOrder → IfOk (tags_from found) AreMade
+tags_made None h = no_tags_made
+tags_made (Some d) h = ok_or AreMade (BadField Tags) (option_and_then tags_of (as_object d)) (if_then AreMade (as_object d) tags_of
+    (if_more (λ ms. T (entries.is_sorted text_cmp (pairs_of ms))) (λ ms. IfSome (tags_of ms) AreMade) (as_object d) (object_sorted d h) tags_of_made))
+
+-- nodes
+passed_node : (b : Bool) (f : T b → Name) → ((t : T b) → is_node (f t).kind ≡ true) → IfSome (if_passed b f) (λ n. is_node n.kind ≡ true)
+passed_node true f h = h tt
+passed_node false f h = tt
+
+node_made : (d : Data) → IfSome (node_of d) (λ n. is_node n.kind ≡ true)
+node_made d = if_then (λ n. is_node n.kind ≡ true) (option_and_then as_i64 (as_number d)) (name_with kinds.Node)
+    (if_any (λ i. IfSome (name_with kinds.Node i) (λ n. is_node n.kind ≡ true)) (option_and_then as_i64 (as_number d)) (λ i. passed_node (not (int_eq i (pos 0))) (named kinds.Node i) (λ t. refl)))
+
+AreNodesOf : List Name → Type 0
+AreNodesOf names = are_nodes names ≡ true
+
+nodes_made : (ds : Items) → IfSome (nodes_in ds) AreNodesOf
+unfolding AreNodesOf
+nodes_made no_items = refl
+nodes_made (item d ds) =
+    if_then AreNodesOf (node_of d) (λ n. option_map (λ ns. n ∷ ns) (nodes_in ds)) (if_more (λ n. is_node n.kind ≡ true) (λ n. IfSome (option_map (λ ns. n ∷ ns) (nodes_in ds)) AreNodesOf) (node_of d) (node_made d)
+    (λ n h. if_map AreNodesOf (λ ns. n ∷ ns) (nodes_in ds) (if_more AreNodesOf (λ ns. AreNodesOf (n ∷ ns)) (nodes_in ds) (nodes_made ds) (λ ns g. both (is_node n.kind) (are_nodes ns) h g))))
+
+-- coordinates
+within_made : (limit : ℕ) (z : ℤ) → IfSome (value_within limit z) (λ w. is_some (value_within limit w) ≡ true)
+within_made limit z = let test : Bool = int_le (neg_ℤ (pos limit)) z && int_le z (pos limit) in
+    if_chosen (λ w. is_some (value_within limit w) ≡ true) test (Some z) (λ e. ap (λ b. is_some (cond b (Some z) None)) e)
+
+latitude_made : (text : List ℕ) → IfSome (latitude_of text) (λ w. is_some (latitude w) ≡ true)
+latitude_made text = if_then (λ w. is_some (latitude w) ≡ true) (coordinate text) latitude (if_any (λ z. IfSome (latitude z) (λ w. is_some (latitude w) ≡ true)) (coordinate text) (within_made 900000000))
+
+longitude_made : (text : List ℕ) → IfSome (longitude_of text) (λ w. is_some (longitude w) ≡ true)
+longitude_made text = if_then (λ w. is_some (longitude w) ≡ true) (coordinate text) longitude (if_any (λ z. IfSome (longitude z) (λ w. is_some (longitude w) ≡ true)) (coordinate text) (within_made 1800000000))
+
+lat_made : (d : Data) → IfOk (lat_at d) (λ w. is_some (latitude w) ≡ true)
+lat_made d = let P : ℤ → Type 0 = λ w. is_some (latitude w) ≡ true in
+    ok_or P (BadField Lat) (option_and_then latitude_of (text_at Lat d)) (if_then P (text_at Lat d) latitude_of (if_any (λ t. IfSome (latitude_of t) P) (text_at Lat d) latitude_made))
+
+lon_made : (d : Data) → IfOk (lon_at d) (λ w. is_some (longitude w) ≡ true)
+lon_made d = let P : ℤ → Type 0 = λ w. is_some (longitude w) ≡ true in
+    ok_or P (BadField Lon) (option_and_then longitude_of (text_at Lon d)) (if_then P (text_at Lon d) longitude_of (if_any (λ t. IfSome (longitude_of t) P) (text_at Lon d) longitude_made))
+
+-- the element of a create
+element_made : (kind : Kind) (d : Data) → IsInOrder d → IfOk (element_at kind d) (λ v. is_made v ≡ true)
+unfolding AreMade AreNodesOf
+element_made kinds.Node d h =
+    ok_then (λ w. is_some (latitude w) ≡ true) (λ v. is_made v ≡ true) (lat_at d) _ (lat_made d) (λ lat at.
+    ok_then (λ w. is_some (longitude w) ≡ true) (λ v. is_made v ≡ true) (lon_at d) _ (lon_made d) (λ lon on.
+    ok_then AreMade (λ v. is_made v ≡ true) (tags_at d) _ (tags_made (get (field_text Tags) d) (get_in_order (field_text Tags) d h)) (λ tags made.
+    both (is_some (latitude lat)) (is_some (longitude lon) && are_tags tags) at (both (is_some (longitude lon)) (are_tags tags) on made))))
+element_made kinds.Way d h =
+    ok_then AreNodesOf (λ v. is_made v ≡ true) (nodes_at d) _ (ok_or AreNodesOf (BadField Nodes) (option_and_then nodes_in (option_and_then as_array (get (field_text Nodes) d)))
+        (if_then AreNodesOf (option_and_then as_array (get (field_text Nodes) d)) nodes_in (if_any (λ ds. IfSome (nodes_in ds) AreNodesOf) (option_and_then as_array (get (field_text Nodes) d)) nodes_made))) (λ nodes are.
+    ok_then AreMade (λ v. is_made v ≡ true) (tags_at d) _ (tags_made (get (field_text Tags) d) (get_in_order (field_text Tags) d h)) (λ tags made.
+    both (are_nodes nodes) (are_tags tags) are made))
+element_made kinds.Relation d h = tt
+
+IsMadeBody : Body → Type 0
+IsMadeBody body = is_made_body body ≡ true
+
+body_made : (word : List ℕ) (d : Data) → IsInOrder d → IfOk (body_by word d) IsMadeBody
+unfolding IsMadeBody
+body_made word d h =
+    ok_if IsMadeBody (bytes_eq word (codes "create")) _ _ (ok_then (λ a. is_made_action a ≡ true) IsMadeBody (create_at d) _
+        (ok_then (λ _. Unit {0}) (λ a. is_made_action a ≡ true) (el_at d) _ (ok_any (λ _. Unit {0}) (el_at d) (λ _. tt)) (λ name _.
+        ok_then (λ v. is_made v ≡ true) (λ a. is_made_action a ≡ true) (element_at name.kind d) _ (element_made name.kind d h) (λ v made. made))) (λ a made. made))
+    (ok_if IsMadeBody (bytes_eq word (codes "delete")) _ _ (ok_then (λ _. Unit {0}) IsMadeBody (el_at d) _ (ok_any (λ _. Unit {0}) (el_at d) (λ _. tt)) (λ name _. refl))
+    (ok_if IsMadeBody (bytes_eq word (codes "undo")) _ _ (ok_then (λ _. Unit {0}) IsMadeBody (seq_at d) _ (ok_any (λ _. Unit {0}) (seq_at d) (λ _. tt)) (λ seq _. refl))
+    (ok_if IsMadeBody (bytes_eq word (codes "get")) _ _ (ok_then (λ _. Unit {0}) IsMadeBody (el_at d) _ (ok_any (λ _. Unit {0}) (el_at d) (λ _. tt)) (λ name _. refl))
+    (ok_if IsMadeBody (bytes_eq word (codes "map")) _ _ refl tt))))
+
+body_at_made : (d : Data) → IsInOrder d → IfOk (body_at d) IsMadeBody
+body_at_made d h = ok_then (λ _. Unit {0}) IsMadeBody (word_at d) _ (ok_any (λ _. Unit {0}) (word_at d) (λ _. tt)) (λ word _. body_made word d h)
+
+under_made : (id : ℕ) (r : Result Body Fault) → IfOk r IsMadeBody → IfOk (under id r) (λ message. is_made_body message.body ≡ true)
+unfolding IsMadeBody
+under_made id (Ok body) h = h
+under_made id (Err fault) h = tt
+
+message_made : (id : Result ℕ Fault) (d : Data) → IsInOrder d → IfOk (message_by id d) (λ message. is_made_body message.body ≡ true)
+message_made (Ok id) d h = under_made id (body_at d) (body_at_made d h)
+message_made (Err fault) d h = tt
+
+found_made : (found : Option Data) → IfSome found IsInOrder → IfOk (message_of found) (λ message. is_made_body message.body ≡ true)
+found_made None h = tt
+found_made (Some d) h = message_made (id_at d) d h
+
+pub spelled_is_made : (text : List ℕ) → IfOk (spells text) (λ message. is_made_body message.body ≡ true)
+spelled_is_made text = found_made (read text) (read_in_order text)
