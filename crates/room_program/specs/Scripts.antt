@@ -26,6 +26,11 @@ module _ {R : Type 0} (answer : Loss → R → List ℕ → List ℕ × R) where
       let step = answer (first_loss lost) room line in
       step.0 ++ 10 ∷ replies step.1 later (later_losses lost)
 
+  -- the room after the lines
+  abbrev pub room_after : R → List (List ℕ) → List Loss → R
+  room_after room [] lost = room
+  room_after room (line ∷ later) lost = room_after (answer (first_loss lost) room line).1 later (later_losses lost)
+
   -- the script of a stream: the replies to its lines
   abbrev pub script_of : R → List ℕ → List Loss → List ℕ
   script_of room bytes lost = replies room (lines bytes) lost

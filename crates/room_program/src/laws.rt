@@ -1,5 +1,10 @@
 //! Laws of the definitions, each the contract of a function that does nothing.
 ghost use Rattle.std.specs.Prelude.{◌≡◌, ◌≤◌, ◌<◌, ◌+◌, ◌^◌, ℕ, List, [], Ok, Some, is_some, true};
+ghost use Rattle.std.specs.declared.alloc.Global.{Global};
+ghost use Rattle.room_history.specs.Headline.{Holds};
+ghost use Rattle.room_history.specs.LegalJournals.{IsJournal};
+ghost use Rattle.room_program.specs.LineAnswers.{answered, opened_with};
+ghost use Rattle.room_program.specs.Scripts.{Loss, room_after};
 ghost use Rattle.room_program.specs.declared.io.Io.{Io};
 ghost use Rattle.room_program.specs.Io.{calls_of};
 ghost use Rattle.room_program.specs.Streams.{Gets, TookNone};
@@ -9,6 +14,7 @@ ghost use Rattle.room_program.specs.WordExamples.{taken, bad_limit, bad_word, he
 use crate::io::Io;
 use crate::sink::Sink;
 use crate::source::Source;
+use std::alloc::Global;
 use std::io::{Read, Write};
 
 /// What the definitions say of worked examples of words is what was worked out by hand.
@@ -35,3 +41,16 @@ pub fn calls_are_noted<R: Read, W: Write>()
     ensures none_taken { (after : Io W) → TookNone ⟦<Io<W> as Sink>⟧.puts after
         → (asked : ℕ) × (0 < asked) × ((calls_of after).last ≡ Some (record { asked = asked; answer = Ok 0 })) }
 {}
+
+/// After any lines of a script, whatever they say and whatever of their answers was lost, the journal of the room is one
+/// that calls lead to from the empty map, and so the theorem holds of it: the map is sound, and equals the standing
+/// actions replayed in order.
+pub fn a_script_holds()
+    ensures journals { (limit : ℕ) (lines : List (List ℕ)) (lost : List Loss)
+        → IsJournal [] limit (room_after answered (opened_with limit) lines lost).journal }
+    ensures holds { (limit : ℕ) (lines : List (List ℕ)) (lost : List Loss)
+        → Holds [] limit (room_after answered (opened_with limit) lines lost).journal }
+{
+    room_history::laws::journals_hold::<Global>();
+    room_wire::laws::what_is_spelled_is_made();
+}

@@ -71,6 +71,8 @@ pub fn each_fault_is_told()
         → (spells text ≡ Err (record { id = id; fault = BadField field })) ↔ IsFirstBad (slots word d) field }
     ensures well_formed { (text : List ℕ) (d : Data) (id : ℕ) (word : Word) → read text ≡ Some d
         → MessageId d id → HasWord d word → IsOk (spells text) ↔ AreGood (slots word d) }
+{}
+
 /// What a text spells has its values as their types keep them: coordinates in their ranges, tags in order and within
 /// their limits, and of a way nodes.
 #[tactic(auto, using(crate::proofs::SpelledMade::spelled_is_made))]
