@@ -12,6 +12,9 @@ use crate::text::Text;
 use std::alloc::{AllocError, Allocator};
 use std::marker::Model;
 
+/// The most tags that an element has, a limit of this project.
+pub const MOST_TAGS: usize = 1000;
+
 /// A tag: a key and its value (OpenStreetMap wiki, "Elements").
 #[derive(Drop)]
 #[derive_where(Debug)]
@@ -116,7 +119,7 @@ impl<A: Allocator> Tags<A> {
                 Ok(())
             }
             Err(at) => {
-                if self.rows.len() >= 1000 {
+                if self.rows.len() >= MOST_TAGS {
                     return Err(TextFault::TooManyTags);
                 }
                 self.rows.insert(at, Tag { key, value })?;

@@ -9,6 +9,9 @@ use crate::fault::TextFault;
 use std::alloc::{AllocError, Allocator};
 use std::marker::Model;
 
+/// The most characters that a text has, a limit of this project.
+pub const MOST_CHARACTERS: usize = 255;
+
 /// A text of at most 255 Unicode characters, which is this project's limit on keys and values.
 #[derive(Drop)]
 #[derive_where(Debug)]
@@ -77,5 +80,5 @@ impl<A: Allocator + Clone> Clone for Text<A> {
 fn is_too_long(text: &str) -> bool
     ensures { result ≡ is_long text.now }
 {
-    text.chars().count() > 255
+    text.chars().count() > MOST_CHARACTERS
 }

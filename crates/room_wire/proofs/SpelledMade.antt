@@ -97,14 +97,14 @@ record ReadsTags (ms : Members) (ts : Pairs) : Type 0 where
 
 reads_next : (k : List ℕ) (d : Data) (ms : Members) (t : List ℕ × List ℕ) (ts : Pairs) → IsTagOf k t → ReadsTags ms ts → ReadsTags (member k d ms) (t ∷ ts)
 reads_next k d ms t ts h g = record {
-    below = λ q b. both_T (is_lt (text_cmp q t.0)) (entries.below_all text_cmp q ts) (subst (λ x. T (is_lt (text_cmp q x))) (sym h.0) (first_T (is_lt (text_cmp q k)) (entries.below_all text_cmp q (pairs_of ms)) b))
-        (g.below q (second_T (is_lt (text_cmp q k)) (entries.below_all text_cmp q (pairs_of ms)) b));
-    sorted = λ s. both_T (entries.below_all text_cmp t.0 ts) (entries.is_sorted text_cmp ts)
-        (subst (λ x. T (entries.below_all text_cmp x ts)) (sym h.0) (g.below k (first_T (entries.below_all text_cmp k (pairs_of ms)) (entries.is_sorted text_cmp (pairs_of ms)) s)))
-        (g.sorted (second_T (entries.below_all text_cmp k (pairs_of ms)) (entries.is_sorted text_cmp (pairs_of ms)) s));
-    tags = both (is_tag t) (list_all is_tag ts) h.1 g.tags;
-    count = ap suc g.count
-  }
+  below = λ q b. both_T (is_lt (text_cmp q t.0)) (entries.below_all text_cmp q ts) (subst (λ x. T (is_lt (text_cmp q x))) (sym h.0) (first_T (is_lt (text_cmp q k)) (entries.below_all text_cmp q (pairs_of ms)) b))
+      (g.below q (second_T (is_lt (text_cmp q k)) (entries.below_all text_cmp q (pairs_of ms)) b));
+  sorted = λ s. both_T (entries.below_all text_cmp t.0 ts) (entries.is_sorted text_cmp ts)
+      (subst (λ x. T (entries.below_all text_cmp x ts)) (sym h.0) (g.below k (first_T (entries.below_all text_cmp k (pairs_of ms)) (entries.is_sorted text_cmp (pairs_of ms)) s)))
+      (g.sorted (second_T (entries.below_all text_cmp k (pairs_of ms)) (entries.is_sorted text_cmp (pairs_of ms)) s));
+  tags = both (is_tag t) (list_all is_tag ts) h.1 g.tags;
+  count = ap suc g.count;
+}
 
 tags_in_facts : (ms : Members) → IfSome (tags_in ms) (ReadsTags ms)
 tags_in_facts no_members = record { below = λ q b. tt; sorted = λ s. tt; tags = refl; count = refl }
@@ -205,7 +205,7 @@ element_made kinds.Node d h =
     both (is_some (latitude lat)) (is_some (longitude lon) && are_tags tags) at (both (is_some (longitude lon)) (are_tags tags) on made))))
 element_made kinds.Way d h =
     ok_then AreNodesOf (λ v. is_made v ≡ true) (nodes_at d) _ (ok_or AreNodesOf (BadField Nodes) (option_and_then nodes_in (option_and_then as_array (get (field_text Nodes) d)))
-        (if_then AreNodesOf (option_and_then as_array (get (field_text Nodes) d)) nodes_in (if_any (λ ds. IfSome (nodes_in ds) AreNodesOf) (option_and_then as_array (get (field_text Nodes) d)) nodes_made))) (λ nodes are.
+    (if_then AreNodesOf (option_and_then as_array (get (field_text Nodes) d)) nodes_in (if_any (λ ds. IfSome (nodes_in ds) AreNodesOf) (option_and_then as_array (get (field_text Nodes) d)) nodes_made))) (λ nodes are.
     ok_then AreMade (λ v. is_made v ≡ true) (tags_at d) _ (tags_made (get (field_text Tags) d) (get_in_order (field_text Tags) d h)) (λ tags made.
     both (are_nodes nodes) (are_tags tags) are made))
 element_made kinds.Relation d h = tt
@@ -217,8 +217,8 @@ body_made : (word : List ℕ) (d : Data) → IsInOrder d → IfOk (body_by word 
 unfolding IsMadeBody
 body_made word d h =
     ok_if IsMadeBody (bytes_eq word (codes "create")) _ _ (ok_then (λ a. is_made_action a ≡ true) IsMadeBody (create_at d) _
-        (ok_then (λ _. Unit {0}) (λ a. is_made_action a ≡ true) (el_at d) _ (ok_any (λ _. Unit {0}) (el_at d) (λ _. tt)) (λ name _.
-        ok_then (λ v. is_made v ≡ true) (λ a. is_made_action a ≡ true) (element_at name.kind d) _ (element_made name.kind d h) (λ v made. made))) (λ a made. made))
+    (ok_then (λ _. Unit {0}) (λ a. is_made_action a ≡ true) (el_at d) _ (ok_any (λ _. Unit {0}) (el_at d) (λ _. tt)) (λ name _.
+    ok_then (λ v. is_made v ≡ true) (λ a. is_made_action a ≡ true) (element_at name.kind d) _ (element_made name.kind d h) (λ v made. made))) (λ a made. made))
     (ok_if IsMadeBody (bytes_eq word (codes "delete")) _ _ (ok_then (λ _. Unit {0}) IsMadeBody (el_at d) _ (ok_any (λ _. Unit {0}) (el_at d) (λ _. tt)) (λ name _. refl))
     (ok_if IsMadeBody (bytes_eq word (codes "undo")) _ _ (ok_then (λ _. Unit {0}) IsMadeBody (seq_at d) _ (ok_any (λ _. Unit {0}) (seq_at d) (λ _. tt)) (λ seq _. refl))
     (ok_if IsMadeBody (bytes_eq word (codes "get")) _ _ (ok_then (λ _. Unit {0}) IsMadeBody (el_at d) _ (ok_any (λ _. Unit {0}) (el_at d) (λ _. tt)) (λ name _. refl))

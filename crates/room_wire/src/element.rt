@@ -5,6 +5,7 @@ ghost use Rattle.serde_json.specs.View.{view};
 ghost use Rattle.std.specs.Str.{IsAscii};
 ghost use Rattle.room_wire.specs.Trees.{name_tree, nodes_tree, tags_tree, element_tree, rows_tree};
 
+use osm_coords::COORDINATE_LENGTH;
 use osm_elements::Memory;
 use osm_elements::element::Element;
 use osm_elements::map::Rows;
@@ -21,7 +22,7 @@ pub fn element_tree(alloc: Global, name: Name, element: &Element<Global>) -> Res
 {
     match element {
         Element::Node { lat, lon, tags } => {
-            let mut buffer = [0; 12];
+            let mut buffer = [0; COORDINATE_LENGTH];
             let length = lat.write(&mut buffer);
             let lat = ascii_tree(alloc, &buffer[..length])?;
             let length = lon.write(&mut buffer);

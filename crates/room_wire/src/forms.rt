@@ -17,16 +17,13 @@ use osm_coords::{Lat, Lon};
 use osm_elements::fault::TextFault;
 use osm_elements::name::{Kind, Name};
 use osm_elements::nodes::Nodes;
-use osm_elements::tags::Tags;
+use osm_elements::tags::{MOST_TAGS, Tags};
 use osm_elements::text::Text;
 use serde_json::{Map, Value};
 use std::alloc::Global;
 
 // The greatest whole number that means the same to every reader of JSON.
 const GREATEST_NUMBER: u64 = 9_007_199_254_740_991;
-
-// An element has at most so many tags.
-const MOST_TAGS: usize = 1_000;
 
 // A whole number in `1..=9007199254740991`.
 pub fn ordinal(value: &Value) -> Option<u64>

@@ -52,8 +52,8 @@ returns-in_ok-insert-in-Err-clause-ok g c =
     let small : length c.self.inside.rows.items < 1000 = search rules in
     rw (← c.self.view_is, c.in_ok-insert-in-Err.ensures.items) (new_row c.args.key _ some_key gap.none (simp length-map small), gap.puts c.args.value)
 
-pub returns-then-len-ge1000-clause-err : goal.returns-then-len-ge1000-clause-err
-returns-then-len-ge1000-clause-err g c =
+pub returns-then-len-ge-MOST_TAGS-clause-err : goal.returns-then-len-ge-MOST_TAGS-clause-err
+returns-then-len-ge-MOST_TAGS-clause-err g c =
     let e = rw (c.as_str-2.ensures.value, c.deref.ensures.value) at c.in-Err.ensures in
     let gap = gap_at c.args.key c.self.inside.rows.items c.self.invariant c.in-Err.at e in
     let some_key : nat_eq (length c.args.key) 0 ≡ false = grind (arith, nat_tests, c.as_str.ensures.value) in
