@@ -3,6 +3,7 @@ pub mod Asking
 pub mod AtOnce
 pub mod Changing
 pub mod Deciding
+pub mod Differing
 pub mod ExampleProofs
 pub mod FirstUsers
 pub mod Growing

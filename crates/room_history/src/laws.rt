@@ -1,10 +1,14 @@
 //! Laws of the definitions, each the contract of a function that does nothing.
-ghost use Rattle.std.specs.Prelude.{◌≡◌, ◌≢◌, ℕ, true, List, None};
+ghost use Rattle.std.specs.Prelude.{◌≡◌, ◌≢◌, ℕ, true, List, [], ◌∷◌, Some, None};
+ghost use Rattle.osm_elements.specs.declared.name.Name.{Name};
+ghost use Rattle.osm_elements.specs.declared.element.Element.{Element};
+ghost use Rattle.osm_elements.specs.Rows.{row_at};
+ghost use Rattle.room_history.specs.declared.action.Action.TheVariants.{Create, Delete};
 ghost use Rattle.room_history.specs.declared.action.Action.{Action};
 ghost use Rattle.room_history.specs.declared.entry.Entry.{Entry};
 ghost use Rattle.osm_elements.specs.Rows.{AreInOrder};
 ghost use Rattle.room_history.specs.After.{after};
-ghost use Rattle.room_history.specs.Changes.{changed, differences, inverse};
+ghost use Rattle.room_history.specs.Changes.{changed, changes, differences, inverse};
 ghost use Rattle.room_history.specs.Headline.{Holds};
 ghost use Rattle.room_history.specs.LegalJournals.{is_made_action, IsJournal};
 ghost use Rattle.room_history.specs.Maps.{Rows};
@@ -29,6 +33,14 @@ pub fn journals_hold<A: Allocator>()
 pub fn changes_lead_there_and_back<A: Allocator>()
     ensures there { (m n : Rows A) → AreInOrder m → AreInOrder n → changed m (differences m n) ≡ n }
     ensures back { (m n : Rows A) → AreInOrder m → AreInOrder n → changed n (inverse (differences m n)) ≡ m }
+{}
+
+/// An accepted create changes its name from nothing to the element, and a delete of what is there its name to nothing.
+pub fn one_name_is_changed<A: Allocator>()
+    ensures create { (m : Rows A) (x : Name) (v : Element A) → row_at m x ≡ None
+        → changes m (Create x v) ≡ record { name = x; before = None; after = Some v } ∷ [] }
+    ensures delete { (m : Rows A) (x : Name) (v : Element A) → row_at m x ≡ Some v
+        → changes m (Delete x) ≡ record { name = x; before = Some v; after = None } ∷ [] }
 {}
 
 /// What the definitions say of the worked examples is what was worked out by hand.

@@ -1,0 +1,8 @@
+use Rattle.room_history.proofs.Differing.{created, deleted}
+use Rattle.room_history.proofs.laws.one_name_is_changed.Goals as goal
+
+pub returns-clause-create : goal.returns-clause-create
+returns-clause-create g c = created
+
+pub returns-clause-delete : goal.returns-clause-delete
+returns-clause-delete g c = deleted
