@@ -1,7 +1,7 @@
 -- The worked examples, by evaluation.
 use Rattle.std.proofs.Common.{refl}
 use Rattle.osm_elements.specs.NameOrder.{name_cmp}
-use Rattle.room_history.specs.Examples.{first_run, range_ends, limit_one, limit_zero, last_first, every_refusal}
+use Rattle.room_history.specs.Examples.{first_run, range_ends, limit_one, limit_zero, last_first, refusals_in_turn}
 
 pub first_run_lem : first_run
 unfolding first_run name_cmp
@@ -23,6 +23,6 @@ pub last_first_lem : last_first
 unfolding last_first name_cmp
 last_first_lem = refl
 
-pub every_refusal_lem : every_refusal
-unfolding every_refusal name_cmp
-every_refusal_lem = (refl, refl, refl, refl)
+pub refusals_in_turn_lem : refusals_in_turn
+unfolding refusals_in_turn name_cmp
+refusals_in_turn_lem = (refl, refl, refl, refl)

@@ -47,8 +47,8 @@ last_first = replies ample (
     ∷ []) ≡ (Done 1 ∷ Done 2 ∷ NotLast 2 ∷ Undid 3 2 ∷ Undid 4 1 ∷ [])
 
 -- each refusal of a create, a delete and an undo, in one run
-unfoldable pub every_refusal : Type 0
-every_refusal =
+unfoldable pub refusals_in_turn : Type 0
+refusals_in_turn =
     (let calls =
     undoes anna 1 None
     ∷ does anna 1 (Create w1 (node_at (pos 0) (pos 0)))

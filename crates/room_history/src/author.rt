@@ -11,7 +11,7 @@ pub const AUTHOR_LENGTH: usize = 32;
 /// An author's name: 1 to 32 characters of `a-z`, `0-9` and `_`. Room names have the same form.
 #[derive(Clone, Copy, Debug)]
 pub struct Author {
-    bytes: [u8; 32],
+    bytes: [u8; AUTHOR_LENGTH],
     length: usize,
 }
 
@@ -43,7 +43,7 @@ impl Author {
             return None;
         }
         let length = text.len();
-        let mut bytes = [0; 32];
+        let mut bytes = [0; AUTHOR_LENGTH];
         bytes[..length].copy_from_slice(text.as_bytes());
         Some(Author { bytes, length })
     }

@@ -14,7 +14,7 @@ ghost use Rattle.room_history.specs.LegalJournals.{is_made_action, IsJournal};
 ghost use Rattle.room_history.specs.Maps.{Rows};
 ghost use Rattle.room_history.specs.Refusals.{refusal};
 ghost use Rattle.room_history.specs.Sound.{is_sound};
-ghost use Rattle.room_history.specs.Examples.{first_run, range_ends, limit_one, limit_zero, last_first, every_refusal};
+ghost use Rattle.room_history.specs.Examples.{first_run, range_ends, limit_one, limit_zero, last_first, refusals_in_turn};
 
 use std::alloc::Allocator;
 
@@ -50,5 +50,5 @@ pub fn replies_are_as_worked()
     ensures limit_one { limit_one }
     ensures limit_zero { limit_zero }
     ensures last_first { last_first }
-    ensures every_refusal { every_refusal }
+    ensures refusals_in_turn { refusals_in_turn }
 {}

@@ -1,4 +1,4 @@
-use Rattle.room_history.proofs.ExampleProofs.{first_run_lem, range_ends_lem, limit_one_lem, limit_zero_lem, last_first_lem, every_refusal_lem}
+use Rattle.room_history.proofs.ExampleProofs.{first_run_lem, range_ends_lem, limit_one_lem, limit_zero_lem, last_first_lem, refusals_in_turn_lem}
 use Rattle.room_history.proofs.laws.replies_are_as_worked.Goals as goal
 
 pub returns-clause-first_run : goal.returns-clause-first_run
@@ -16,5 +16,5 @@ returns-clause-limit_zero c = limit_zero_lem
 pub returns-clause-last_first : goal.returns-clause-last_first
 returns-clause-last_first c = last_first_lem
 
-pub returns-clause-every_refusal : goal.returns-clause-every_refusal
-returns-clause-every_refusal c = every_refusal_lem
+pub returns-clause-refusals_in_turn : goal.returns-clause-refusals_in_turn
+returns-clause-refusals_in_turn c = refusals_in_turn_lem
