@@ -105,36 +105,58 @@ fn an_element_has_a_thousand_tags(rt: HostRuntime) -> Result<(), Fail> {
     Ok(())
 }
 
+// The same names as the list of a way.
+fn long_list(alloc: Global) -> Result<Nodes<Global>, Fail> {
+    let mut nodes = Nodes::empty(alloc);
+    for id in [i64::MIN, i64::MAX] {
+        let name = Name::new(Kind::Node, id).ok_or("zero")?;
+        nodes.push(name)?;
+    }
+    for id in 1..1999i64 {
+        let name = Name::new(Kind::Node, id).ok_or("zero")?;
+        nodes.push(name)?;
+    }
+    Ok(nodes)
+}
+
 #[test]
 fn a_way_has_two_thousand_nodes(rt: HostRuntime) -> Result<(), Fail> {
     let alloc = rt.alloc();
     let wanted = names(alloc)?;
-    let mut nodes = Nodes::empty(alloc);
-    for id in [i64::MIN, i64::MAX] {
-        nodes.push(Name::new(Kind::Node, id).ok_or("zero")?)?;
-    }
-    for id in 1..1999i64 {
-        nodes.push(Name::new(Kind::Node, id).ok_or("zero")?)?;
-    }
+    let nodes = long_list(alloc)?;
     assert!(rt; nodes.names() == wanted.as_slice());
     let tags = thousand_tags(alloc)?;
     let way = Element::Way { nodes, tags };
-    match way.copy()? {
-        Element::Way { nodes, tags } => {
-            assert!(rt; nodes.names() == wanted.as_slice());
-            are_thousand(&rt, alloc, &tags)?;
-        }
-        _ => assert!(rt; false, "no way"),
-    }
+    let copy = way.copy()?;
+    lists(&rt, alloc, &copy, wanted.as_slice())?;
     Ok(())
+}
+
+// The way lists these nodes, and has a thousand tags.
+fn lists(
+    rt: &impl Abort,
+    alloc: Global,
+    way: &Element<Global>,
+    names: &[Name],
+) -> Result<(), AllocError> {
+    match way {
+        Element::Way { nodes, tags } => {
+            assert!(rt; nodes.names() == names);
+            are_thousand(rt, alloc, tags)
+        }
+        _ => {
+            assert!(rt; false, "no way");
+            Ok(())
+        }
+    }
 }
 
 // A map of 3,000 nodes, put in out of their order (14 is a primitive root of 3,001); each stands at as many ten-millionths as its id says.
 fn large_map(alloc: Global) -> Result<OsmMap<Global>, Fail> {
     let mut map = OsmMap::new(alloc);
-    let mut id = 1i64;
+    let mut id = 1u32;
     for _ in 0..3000u32 {
-        let name = Name::new(Kind::Node, id).ok_or("zero")?;
+        let name = Name::new(Kind::Node, i64::from(id)).ok_or("zero")?;
         let element = node(alloc, (id % 3001) as i32).ok_or("range")?;
         if map.put(name, element).is_err() {
             return Err(Fail::from("no memory"));
@@ -164,11 +186,11 @@ fn a_map_has_thousands_of_rows(rt: HostRuntime) -> Result<(), Fail> {
         map.rows(alloc)?.copy()?,
     ] {
         assert_eq!(rt; copy.as_slice().len(), 3000);
-        let mut id = 0i64;
+        let mut id = 0u32;
         for row in copy.as_slice() {
             id = id.wrapping_add(1);
             assert!(rt;
-                row.name.id() == id && row.name.kind() == Kind::Node,
+                row.name.id() == i64::from(id) && row.name.kind() == Kind::Node,
                 "row {id}"
             );
             assert!(rt; stands_at(&row.element, (id % 3001) as i32), "row {id}");
@@ -187,8 +209,8 @@ fn call(id: u64, request: Request<Global>) -> Result<Call<Global>, Fail> {
     })
 }
 
-fn create(alloc: Global, id: i64) -> Result<Request<Global>, Fail> {
-    let name = Name::new(Kind::Node, id).ok_or("zero")?;
+fn create(alloc: Global, id: u32) -> Result<Request<Global>, Fail> {
+    let name = Name::new(Kind::Node, i64::from(id)).ok_or("zero")?;
     let element = node(alloc, (id % 3001) as i32).ok_or("range")?;
     Ok(Request::Do(Action::Create { name, element }))
 }
@@ -210,10 +232,10 @@ fn is_whole(rt: &impl Abort, alloc: Global, way: &Element<Global>) -> Result<(),
     match way {
         Element::Way { nodes, tags } => {
             assert_eq!(rt; nodes.len(), 2000);
-            let mut id = 0i64;
+            let mut id = 0u32;
             for node in nodes.names() {
                 id = id.wrapping_add(1);
-                assert!(rt; node.id() == id, "node {id}");
+                assert!(rt; node.id() == i64::from(id), "node {id}");
             }
             are_thousand(rt, alloc, tags)
         }
@@ -227,14 +249,11 @@ fn is_whole(rt: &impl Abort, alloc: Global, way: &Element<Global>) -> Result<(),
 // 3,000 creates of nodes, by the greatest ids there are, and then one of a long way.
 fn large_room(rt: &impl Abort, alloc: Global) -> Result<Room<Global>, Fail> {
     let mut room = Room::open(alloc, u32::MAX);
-    let mut id = 0i64;
-    for spent in u64::MAX - 3000..u64::MAX {
-        id = id.wrapping_add(1);
+    for id in 1..3001u32 {
+        let spent = u64::MAX - 3001 + u64::from(id);
         let reply = room.take(call(spent, create(alloc, id)?)?);
-        assert!(rt;
-            matches!(&reply, Reply::Done { seq } if *seq == id as u64),
-            "create {id}: {reply:?}"
-        );
+        let is_done = matches!(&reply, Reply::Done { seq } if *seq == u64::from(id));
+        assert!(rt; is_done, "create {id}: {reply:?}");
     }
     let reply = room.take(call(u64::MAX, create_way(alloc)?)?);
     assert!(rt; matches!(&reply, Reply::Done { seq: 3001 }), "{reply:?}");
@@ -278,14 +297,14 @@ fn a_room_has_thousands_of_entries(rt: HostRuntime) -> Result<(), Fail> {
 fn a_run_has_thousands_of_calls(rt: HostRuntime) -> Result<(), Fail> {
     let alloc = rt.alloc();
     let mut calls = Vec::new(alloc);
-    for id in 1..3001i64 {
-        calls.push(call(id as u64, create(alloc, id)?)?)?;
+    for id in 1..3001u32 {
+        calls.push(call(u64::from(id), create(alloc, id)?)?)?;
     }
     let (room, replies) = run(alloc, 2999, Calls::from_vec(calls))?;
     assert_eq!(rt; replies.as_slice().len(), 3000);
     for (place, reply) in replies.as_slice().iter().enumerate() {
         let is_right = match reply {
-            Reply::Done { seq } => place < 2999 && *seq == place as u64 + 1,
+            Reply::Done { seq } => place < 2999 && *seq == (place as u64).wrapping_add(1),
             Reply::Full => place == 2999,
             _ => false,
         };

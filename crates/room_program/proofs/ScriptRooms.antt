@@ -35,7 +35,7 @@ body_step limit room author id (Change request) made h =
       base = h.base;
       limit_is = h.limit_is;
       journal = subst (λ (b : Rows Global). IsJournal [] limit (answer b room.limit room.journal c).1) (sym h.base)
-          (subst (λ l. IsJournal [] limit (answer [] l room.journal c).1) (sym h.limit_is) (called room.journal c h.journal made))
+          (subst (λ l. IsJournal [] limit (answer [] l room.journal c).1) (sym h.limit_is) (called room.journal c h.journal made));
     }
 body_step limit room author id (Get name) made h = record { base = h.base; limit_is = h.limit_is; journal = h.journal }
 body_step limit room author id Map made h = record { base = h.base; limit_is = h.limit_is; journal = h.journal }
