@@ -7,7 +7,9 @@ pub mod NoteLemmas
 pub mod ProgressLemmas
 pub mod RunLemmas
 pub mod ScriptRooms
+pub mod SpelledMade
 pub mod StreamLemmas
+pub mod TreesInOrder
 pub mod WordExampleProofs
 pub mod WordLemmas
 pub mod WordWalks

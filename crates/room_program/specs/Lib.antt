@@ -10,3 +10,4 @@ pub mod LineAnswers
 pub mod LineReplies
 pub mod Words
 pub mod WordExamples
+pub mod Made

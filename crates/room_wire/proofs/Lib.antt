@@ -7,8 +7,6 @@ pub mod NoFloats
 pub mod NodeLists
 pub mod ReadBackProofs
 pub mod Shallow
-pub mod SpelledMade
 pub mod TagLists
 pub mod TagMembers
-pub mod TreesInOrder
 pub mod WellFormedProofs

@@ -1,7 +1,6 @@
 pub mod Answers
 pub mod Examples
 pub mod Fields
-pub mod Made
 pub mod ReadBack
 pub mod Reading
 pub mod Spelling

@@ -1,5 +1,5 @@
 //! Laws of the definitions, each the contract of a function that does nothing.
-ghost use Rattle.std.specs.Prelude.{◌≡◌, ◌≢◌, ◌≤◌, ◌↔◌, List, ℕ, None, Some, Ok, Err, IfErr, IfOk, IsOk, is_some, true};
+ghost use Rattle.std.specs.Prelude.{◌≡◌, ◌≢◌, ◌≤◌, ◌↔◌, List, ℕ, None, Some, Ok, Err, IfErr, IsOk, is_some, true};
 ghost use Rattle.std.specs.declared.alloc.Global.{Global};
 ghost use Rattle.osm_elements.specs.Elements.{kind_of};
 ghost use Rattle.osm_elements.specs.declared.name.Name.{Name};
@@ -7,7 +7,6 @@ ghost use Rattle.osm_elements.specs.declared.element.Element.{Element};
 ghost use Rattle.room_history.specs.declared.action.Action.TheVariants.{Create};
 ghost use Rattle.room_wire.specs.declared.bad.Fault.TheVariants.{BadField, BadId, Memory, NotJson, NotObject, UnknownDo};
 ghost use Rattle.room_wire.specs.declared.field.Field.{Field};
-ghost use Rattle.room_wire.specs.Made.{is_made_body};
 ghost use Rattle.room_wire.specs.ReadBack.{HasId, IsWhole};
 ghost use Rattle.room_wire.specs.Spelling.{spells, create_at, ordinal};
 ghost use Rattle.room_wire.specs.Trees.{element_tree, whole};
@@ -71,11 +70,4 @@ pub fn each_fault_is_told()
         → (spells text ≡ Err (record { id = id; fault = BadField field })) ↔ IsFirstBad (slots word d) field }
     ensures well_formed { (text : List ℕ) (d : Data) (id : ℕ) (word : Word) → read text ≡ Some d
         → MessageId d id → HasWord d word → IsOk (spells text) ↔ AreGood (slots word d) }
-{}
-
-/// What a text spells has its values as their types keep them: coordinates in their ranges, tags in order and within
-/// their limits, and of a way nodes.
-#[tactic(auto, using(crate::proofs::SpelledMade::spelled_is_made))]
-pub fn what_is_spelled_is_made()
-    ensures { (text : List ℕ) → IfOk (spells text) (λ message. is_made_body message.body ≡ true) }
 {}

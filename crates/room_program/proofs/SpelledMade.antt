@@ -30,10 +30,10 @@ use Rattle.room_wire.specs.declared.field.Field.TheVariants.{El, Lat, Lon, Nodes
 use Rattle.room_wire.specs.declared.incoming.Body.{Body}
 use Rattle.room_wire.specs.declared.incoming.Body.TheVariants.{Change, Get, Map}
 use Rattle.room_wire.specs.Fields.{field_text}
-use Rattle.room_wire.specs.Made.{is_made_body}
+use Rattle.room_program.specs.Made.{is_made_body}
 use Rattle.room_wire.specs.Reading.{◌>>=◌, or_fault}
 use Rattle.room_wire.specs.Spelling.{text_at, text_of, key_of, tag_of, tags_in, tags_of, tags_from, tags_at, node_of, nodes_in, nodes_at, lat_at, lon_at, el_at, seq_at, element_at, create_at, body_by, body_at, word_at, id_at, message_by, message_of, under, spells}
-use Rattle.room_wire.proofs.TreesInOrder.{pairs_of, IsInOrder, if_map, if_then, if_more, if_any, get_in_order, read_in_order}
+use Rattle.room_program.proofs.TreesInOrder.{pairs_of, IsInOrder, if_map, if_then, if_more, if_any, get_in_order, read_in_order}
 
 both : (a b : Bool) → a ≡ true → b ≡ true → (a && b) ≡ true
 both true b p q = q
