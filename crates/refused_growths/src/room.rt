@@ -159,9 +159,9 @@ fn ask_refuses_each_growth(rt: HostRuntime) -> Result<(), Fail> {
         heap.set(growths);
         let reply = room.ask(RoomCall::Rows);
         heap.set(u64::MAX);
-        if let RoomReply::Rows(Ok((front, rows))) = reply {
-            assert_eq!(rt; front, 2);
-            assert_eq!(rt; rows.as_slice().len(), 2);
+        if matches!(&reply, RoomReply::Rows(Ok(_))) {
+            let told = format!(in rt.alloc(); "{reply:?}")?;
+            assert!(rt; told.as_str().starts_with("Rows(Ok((2, "), "{told}");
             done = true;
             break;
         }
