@@ -7,8 +7,9 @@ use Rattle.osm_coords.specs.Longitude.{longitude, IsLongitude}
 use Rattle.osm_coords.specs.Range.{value_within, IsWithin}
 use Rattle.osm_elements.specs.declared.name.Name.{Name}
 use Rattle.osm_elements.specs.declared.element.Element.{Element}
-use Rattle.osm_elements.specs.declared.element.Element.TheVariants.{Node, Way}
+use Rattle.osm_elements.specs.declared.element.Element.TheVariants.{Node, Way, Relation}
 use Rattle.osm_elements.specs.Made.{is_node, are_nodes, is_made}
+use Rattle.osm_elements.specs.Members.{are_members, AreMembers}
 use Rattle.osm_elements.specs.Nodes.{AreNodes}
 use Rattle.osm_elements.specs.TagRows.{Pairs, AreTagRows, are_tags}
 
@@ -36,3 +37,6 @@ module _ {A : Type 0} where
 
   pub made_way : (e : Element A) (nodes : List Name) (tags : Pairs) → e ≡ Way nodes tags → AreNodes nodes → AreTagRows tags → is_made e ≡ true
   made_way e nodes tags is names rows = rw is (both (are_nodes nodes) (are_tags tags) (all_nodes nodes names) (passed (are_tags tags) rows))
+
+  pub made_relation : (e : Element A) (members : List (Name × List ℕ)) (tags : Pairs) → e ≡ Relation members tags → AreMembers members → AreTagRows tags → is_made e ≡ true
+  made_relation e members tags is roles rows = rw is (both (are_members members) (are_tags tags) (passed (are_members members) roles) (passed (are_tags tags) rows))

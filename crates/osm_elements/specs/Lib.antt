@@ -1,6 +1,8 @@
 pub mod Elements
 pub mod Facts
 pub mod Made
+pub mod Maps
+pub mod Members
 pub mod NameOrder
 pub mod NameTexts
 pub mod Names

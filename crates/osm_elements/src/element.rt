@@ -2,6 +2,7 @@
 ghost use Rattle.std.specs.Prelude.{◌≡◌, IfOk, true};
 
 use crate::Memory;
+use crate::members::Members;
 use crate::name::Kind;
 use crate::nodes::Nodes;
 use crate::tags::Tags;
@@ -16,6 +17,8 @@ pub enum Element<A: Allocator> {
     Node { lat: Lat, lon: Lon, tags: Tags<A> },
     /// An ordered list of nodes.
     Way { nodes: Nodes<A>, tags: Tags<A> },
+    /// An ordered list of members, each with a role.
+    Relation { members: Members<A>, tags: Tags<A> },
 }
 
 impl<A: Allocator> Element<A> {
@@ -32,11 +35,12 @@ impl<A: Allocator> Element<A> {
         match self {
             Element::Node { .. } => Kind::Node,
             Element::Way { .. } => Kind::Way,
+            Element::Relation { .. } => Kind::Relation,
         }
     }
 
     // What the types of its parts keep. It does nothing.
-    #[tactic(auto, using(crate::proofs::MadeElements::made_node, crate::proofs::MadeElements::made_way))]
+    #[tactic(auto, using(crate::proofs::MadeElements::made_node, crate::proofs::MadeElements::made_way, crate::proofs::MadeElements::made_relation))]
     fn keeps(&self)
         ensures { is_made self.now ≡ true }
     {
@@ -50,6 +54,10 @@ impl<A: Allocator> Element<A> {
                 let _ = nodes.names();
                 let _ = tags.rows();
             }
+            Element::Relation { members, tags } => {
+                let _ = members.as_slice();
+                let _ = tags.rows();
+            }
         }
     }
 
@@ -60,6 +68,7 @@ impl<A: Allocator> Element<A> {
         match self {
             Element::Node { tags, .. } => tags,
             Element::Way { tags, .. } => tags,
+            Element::Relation { tags, .. } => tags,
         }
     }
 
@@ -90,6 +99,11 @@ impl<A: Allocator + Clone> Clone for Element<A> {
                 let nodes = nodes.clone()?;
                 let tags = tags.clone()?;
                 Ok(Element::Way { nodes, tags })
+            }
+            Element::Relation { members, tags } => {
+                let members = members.clone()?;
+                let tags = tags.clone()?;
+                Ok(Element::Relation { members, tags })
             }
         }
     }

@@ -8,11 +8,12 @@ pub mod element;
 pub mod fault;
 pub mod laws;
 pub mod map;
+pub mod member;
+pub mod members;
 pub mod name;
+pub mod names;
 pub mod nodes;
 pub mod tags;
-#[cfg(test)]
-mod tests;
 pub mod text;
 
 /// A growth was refused: there was no memory for it.

@@ -9,7 +9,7 @@ use Rattle.room_history.specs.declared.ask.RoomReply.TheVariants as replies
 use Rattle.room_history.specs.declared.call.Call.{Call}
 use Rattle.room_history.specs.declared.entry.Entry.{Entry}
 use Rattle.room_history.specs.declared.reply.Reply.{Reply}
-use Rattle.room_history.specs.Maps.{Rows}
+use Rattle.osm_elements.specs.Maps.{Rows}
 use Rattle.room_history.specs.Replays.{mapof}
 use Rattle.room_history.specs.Runs.{IsStep}
 use Rattle.room_history.specs.Asking.{IsAnswered}

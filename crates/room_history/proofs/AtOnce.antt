@@ -15,20 +15,21 @@ use Rattle.room_history.specs.declared.entry.EntryKind.{EntryKind}
 use Rattle.room_history.specs.declared.entry.EntryKind.TheVariants.{Do, Undo}
 use Rattle.room_history.specs.declared.reply.Reply.{Reply}
 use Rattle.room_history.specs.declared.reply.Reply.TheVariants.{Undid, NotLast}
-use Rattle.room_history.specs.Maps.{Rows}
-use Rattle.room_history.specs.References.{users}
-use Rattle.room_history.specs.After.{after}
-use Rattle.room_history.specs.Changes.{changes, inverse, changed}
-use Rattle.room_history.specs.SameAuthors.{is_same_author, is_same_text}
+use Rattle.osm_elements.specs.Maps.{Rows}
+use Rattle.osm_refs.specs.References.{users}
+use Rattle.room_history.specs.After.{after, changes}
+use Rattle.osm_changes.specs.Changes.{inverse, changed}
+use Rattle.room_history.specs.SameAuthors.{is_same_author}
+use Rattle.osm_elements.specs.Texts.{is_same_text}
 use Rattle.room_history.specs.Journals.{numbered, is_by, is_work, is_standing, standing, last, is_undo_of}
 use Rattle.room_history.specs.Replays.{past, mapof, recorded_next, taken_back}
 use Rattle.room_history.specs.Answers.{spent, blocker, asked, meant, undo_refusal, meaning_refusal, answered, answer, answers}
 use Rattle.room_history.specs.Headline.{IsUndoneAtOnce}
-use Rattle.room_history.proofs.Changing.{changed-inverse}
+use Rattle.osm_changes.specs.Facts.Changing.{changed-inverse}
 use Rattle.room_history.proofs.Growing.{numbered_next, Rise, Rise-standing_from, standing_from-append, new_number}
 use Rattle.room_history.proofs.Stacks.{Stacked}
 use Rattle.room_history.proofs.Stacking.{AreInOrder-after, mapof-do, mapof-append, standing-do, recorded-do}
-use Rattle.room_history.proofs.SoundRows.{sound_in_order}
+use Rattle.osm_changes.specs.Facts.SoundRows.{sound_in_order}
 use Rattle.room_history.proofs.Deciding.{unspent, own_refusal}
 
 pub same_author : (text : List ℕ) → is_same_author text text ≡ true

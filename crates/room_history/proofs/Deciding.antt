@@ -11,7 +11,7 @@ use Rattle.room_history.specs.declared.entry.EntryKind.{EntryKind}
 use Rattle.room_history.specs.declared.entry.EntryKind.TheVariants.{Undo}
 use Rattle.room_history.specs.declared.reply.Reply.{Reply}
 use Rattle.room_history.specs.declared.reply.Reply.TheVariants.{Undid, Repeat, Full, NoSuch, NotYours, NotStanding, NotLast}
-use Rattle.room_history.specs.Maps.{Rows}
+use Rattle.osm_elements.specs.Maps.{Rows}
 use Rattle.room_history.specs.Refusals.{first_that_holds}
 use Rattle.room_history.specs.Journals.{numbered, is_by, is_standing, standing}
 use Rattle.room_history.specs.Answers.{spent, blocker, asked, meant, undo_refusal, meaning_refusal, answered, answer}

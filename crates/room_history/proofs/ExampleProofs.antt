@@ -1,7 +1,9 @@
 -- The worked examples, by evaluation.
 use Rattle.std.proofs.Common.{refl}
+use Rattle.std.specs.Str.{chars}
 use Rattle.osm_elements.specs.NameOrder.{name_cmp}
-use Rattle.room_history.specs.Examples.{first_run, range_ends, limit_one, limit_zero, last_first, refusals_in_turn}
+use Rattle.osm_elements.specs.Texts.{is_long}
+use Rattle.room_history.specs.Examples.{first_run, range_ends, limit_one, limit_zero, last_first, refusals_in_turn, relations_in_turn}
 
 pub first_run_lem : first_run
 unfolding first_run name_cmp
@@ -26,3 +28,7 @@ last_first_lem = refl
 pub refusals_in_turn_lem : refusals_in_turn
 unfolding refusals_in_turn name_cmp
 refusals_in_turn_lem = (refl, refl, refl, refl)
+
+pub relations_in_turn_lem : relations_in_turn
+unfolding relations_in_turn name_cmp is_long chars
+relations_in_turn_lem = (refl, refl, refl, refl)

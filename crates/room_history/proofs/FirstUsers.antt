@@ -11,8 +11,8 @@ use Rattle.osm_elements.specs.NameOrder.{name_cmp}
 use Rattle.osm_elements.specs.Facts.Names.{name_cmp_total}
 use Rattle.osm_elements.specs.Rows.{AreInOrder}
 use Rattle.osm_elements.specs.Facts.Entries.{first, second}
-use Rattle.room_history.specs.Maps.{Rows, lesser, least, names_of}
-use Rattle.room_history.specs.References.{users, refers_to}
+use Rattle.osm_elements.specs.Maps.{Rows, lesser, least, names_of}
+use Rattle.osm_refs.specs.References.{users, refers_to}
 use Rattle.room_history.proofs.LeastNames.{min_assoc}
 
 less : (r : Ordering) → T (is_lt r) → r ≡ Less

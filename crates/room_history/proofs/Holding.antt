@@ -13,8 +13,8 @@ use Rattle.room_history.specs.declared.entry.EntryKind.TheVariants.{Do, Undo}
 use Rattle.room_history.specs.declared.refusal.Refusal.{Refusal}
 use Rattle.room_history.specs.declared.reply.Reply.{Reply}
 use Rattle.room_history.specs.declared.reply.Reply.TheVariants.{Repeat, Full, Refused}
-use Rattle.room_history.specs.Maps.{Rows}
-use Rattle.room_history.specs.Sound.{is_sound}
+use Rattle.osm_elements.specs.Maps.{Rows}
+use Rattle.osm_changes.specs.Sound.{is_sound}
 use Rattle.room_history.specs.Refusals.{refusal, first_that_holds}
 use Rattle.room_history.specs.Replays.{past, mapof}
 use Rattle.room_history.specs.Answers.{spent, asked, meant, undo_refusal, meaning_refusal, answered}

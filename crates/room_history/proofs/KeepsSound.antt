@@ -1,12 +1,12 @@
 -- An accepted create or delete keeps a sound map sound, and changes it.
-use Rattle.std.proofs.Common.{◌≡◌, ◌≢◌, Bool, true, false, not, ◌&&◌, ◌||◌, List, [], ◌∷◌, Option, Some, None, is_some, length, nat_lt, nat_le, refl, sym, ap, ◌∙◌, cond, arith}
+use Rattle.std.proofs.Common.{◌≡◌, ◌≢◌, Bool, true, false, not, ◌&&◌, ◌||◌, ◌++◌, List, [], ◌∷◌, Option, Some, None, is_some, length, nat_lt, nat_le, refl, sym, ap, ◌∙◌, cond, arith}
 use Rattle.std.specs.Bool.{then_some}
 use Rattle.std.specs.List.{filter, list_all}
 use Rattle.std.specs.Ordering.{is_eq}
 use Rattle.std.proofs.lemmas.Bool.Decides.{nat_tests}
 use Rattle.osm_elements.specs.declared.name.Name.{Name}
 use Rattle.osm_elements.specs.declared.element.Element.{Element}
-use Rattle.osm_elements.specs.declared.element.Element.TheVariants.{Node, Way}
+use Rattle.osm_elements.specs.declared.element.Element.TheVariants.{Node, Way, Relation}
 use Rattle.osm_elements.specs.Elements.{kind_of}
 use Rattle.osm_elements.specs.NameOrder.{name_cmp}
 use Rattle.osm_elements.specs.Rows.{row_at, put_row}
@@ -15,20 +15,25 @@ use Rattle.room_history.specs.declared.action.Action.{Action}
 use Rattle.room_history.specs.declared.action.Action.TheVariants.{Create, Delete}
 use Rattle.room_history.specs.declared.refusal.Refusal.{Refusal}
 use Rattle.room_history.specs.declared.refusal.Refusal.TheVariants.{Absent, Present, WrongKind, TooFew, TooMany, InUse}
-use Rattle.room_history.specs.Maps.{Rows, is_same, is_among, is_kind, is_present, is_absent, names_of, rows_but}
-use Rattle.room_history.specs.References.{references, refers_to, users}
+use Rattle.osm_elements.specs.Maps.{Rows, is_same, is_among, is_kind, is_present, is_absent, names_of, rows_but}
+use Rattle.osm_refs.specs.References.{references, refers_to, users}
 use Rattle.osm_elements.specs.Made.{is_made}
 use Rattle.room_history.specs.LegalJournals.{is_made_action}
-use Rattle.room_history.specs.Sound.{is_sound, is_sound_row, is_of_length, most_nodes}
+use Rattle.osm_changes.specs.Sound.{is_sound, is_sound_row, is_of_length, most_nodes, most_members}
 use Rattle.room_history.specs.After.{after}
-use Rattle.room_history.specs.Refusals.{refusal, first_that_holds, the_least, is_missing, element_checks}
-use Rattle.room_history.proofs.Changing.{row_at-rows_but, AreInOrder-rows_but}
-use Rattle.room_history.proofs.SameElements.{both_true, first_true, second_true}
-use Rattle.room_history.proofs.SoundRows.{found_passes, sound_row, sound_in_order, sound_from_rows, none_passes}
+use Rattle.room_history.specs.Refusals.{refusal, first_that_holds, the_least, is_missing, length_checks, element_checks}
+use Rattle.osm_elements.specs.Facts.Dropped.{row_at-rows_but, AreInOrder-rows_but}
+use Rattle.osm_elements.specs.Facts.Tests.{both_true, first_true, second_true}
+use Rattle.osm_changes.specs.Facts.SoundRows.{found_passes, sound_row, sound_in_order, sound_from_rows, none_passes}
 
 first_none : {X : Type 0} (o : Option X) (os : List (Option X)) → first_that_holds (o ∷ os) ≡ None → (o ≡ None) × (first_that_holds os ≡ None)
 first_none None os e = (refl, e)
 first_none (Some x) os e = absurd (cc)
+
+none_of_both : {X : Type 0} (os ps : List (Option X)) → first_that_holds (os ++ ps) ≡ None → (first_that_holds os ≡ None) × (first_that_holds ps ≡ None)
+none_of_both [] ps e = (refl, e)
+none_of_both (None ∷ os) ps e = none_of_both os ps e
+none_of_both (Some x ∷ os) ps e = absurd (cc)
 
 not_so : {X : Type 0} (b : Bool) (x : X) → then_some b x ≡ None → b ≡ false
 not_so true x e = absurd (cc)
@@ -97,17 +102,26 @@ module _ {A : Type 0} where
     lengthy : is_of_length v ≡ true
     refs : list_all (is_present (put_row m x v)) (references v) ≡ true
 
-  created_element : (m : Rows A) (x : Name) (w v : Element A) → first_that_holds (element_checks m x v) ≡ None → (is_of_length v ≡ true) × (list_all (is_present (put_row m x w)) (references v) ≡ true)
-  created_element m x w (Node lat lon tags) e = (refl, refl)
-  created_element m x w (Way nodes tags) e =
-      let few = first_none (then_some (nat_lt (length nodes) 2) (TooFew x)) (then_some (nat_lt most_nodes (length nodes)) (TooMany x) ∷ the_least {A = A} Absent (filter (is_missing m x) nodes) ∷ []) e in
-      let many = first_none (then_some (nat_lt most_nodes (length nodes)) (TooMany x)) (the_least {A = A} Absent (filter (is_missing m x) nodes) ∷ []) few.1 in
-      let none = first_none (the_least {A = A} Absent (filter (is_missing m x) nodes)) [] many.1 in
+  of_length : (x : Name) (v : Element A) → first_that_holds (length_checks x v) ≡ None → is_of_length v ≡ true
+  of_length x (Node lat lon tags) e = refl
+  of_length x (Way nodes tags) e =
+      let few = first_none (then_some (nat_lt (length nodes) 2) (TooFew x)) (then_some (nat_lt most_nodes (length nodes)) (TooMany x) ∷ []) e in
+      let many = first_none (then_some (nat_lt most_nodes (length nodes)) (TooMany x)) [] few.1 in
       let two : nat_lt (length nodes) 2 ≡ false = not_so (nat_lt (length nodes) 2) (TooFew x) few.0 in
       let most : nat_lt most_nodes (length nodes) ≡ false = not_so (nat_lt most_nodes (length nodes)) (TooMany x) many.0 in
       let low : nat_le 2 (length nodes) ≡ true = grind (arith, nat_tests) in
       let high : nat_le (length nodes) most_nodes ≡ true = grind (arith, nat_tests) in
-      (both_true (nat_le 2 (length nodes)) (nat_le (length nodes) most_nodes) low high, all_kept (is_present m) (is_present (put_row m x w)) (is_missing m x) kept nodes (no_least Absent (filter (is_missing m x) nodes) none.0))
+      both_true (nat_le 2 (length nodes)) (nat_le (length nodes) most_nodes) low high
+  of_length x (Relation members tags) e =
+      let many = first_none (then_some (nat_lt most_members (length members)) (TooMany x)) [] e in
+      let most : nat_lt most_members (length members) ≡ false = not_so (nat_lt most_members (length members)) (TooMany x) many.0 in
+      grind (arith, nat_tests)
+
+  created_element : (m : Rows A) (x : Name) (w v : Element A) → first_that_holds (element_checks m x v) ≡ None → (is_of_length v ≡ true) × (list_all (is_present (put_row m x w)) (references v) ≡ true)
+  created_element m x w v e =
+      let parts = none_of_both (length_checks x v) (the_least {A = A} Absent (filter (is_missing m x) (references v)) ∷ []) e in
+      let none = first_none (the_least {A = A} Absent (filter (is_missing m x) (references v))) [] parts.1 in
+      (of_length x v parts.0, all_kept (is_present m) (is_present (put_row m x w)) (is_missing m x) kept (references v) (no_least Absent (filter (is_missing m x) (references v)) none.0))
     where
       kept : (e : Name) → is_missing m x e ≡ false → is_present (put_row m x w) e ≡ true
       kept e f = present_put m x w e ∙ by (is_same x e) refl (is_present m e) refl f

@@ -9,7 +9,7 @@ use Rattle.std.specs.declared.cmp.Ordering.TheVariants.{Less, Equal, Greater}
 use Rattle.osm_elements.specs.declared.name.Name.{Name}
 use Rattle.osm_elements.specs.NameOrder.{name_cmp}
 use Rattle.osm_elements.specs.Facts.Names.{name_cmp_total, name_cmp-IsAntisymmetric}
-use Rattle.room_history.specs.Maps.{lesser, least}
+use Rattle.osm_elements.specs.Maps.{lesser, least}
 use Rattle.room_history.specs.Inner.Plans.{lesser_of}
 
 less : (r : Ordering) → is_lt r ≡ true → r ≡ Less
@@ -50,17 +50,18 @@ pub least-append : (xs : List Name) (x : Name) → least (xs ++ x ∷ []) ≡ So
 least-append [] x = refl
 least-append (y ∷ xs) x = ap (λ o. Some (lesser y o)) (least-append xs x) ∙ ap Some (lesser_last y x (least xs))
 
-module _ (p : Name → Bool) (names : List Name) (i : ℕ) (x : Name) (h : i < length names) (is : x ≡ get_or names i x) where
-  filter_more : filter p (take (i + 1) names) ≡ filter p (take i names) ++ cond (p x) (x ∷ []) []
-  filter_more = ap (filter p) (take_more names i x h ∙ ap (λ y. take i names ++ y ∷ []) (sym is)) ∙ filter-append p (take i names) (x ∷ [])
+-- a name after those before it
+pub next_name : (names : List Name) (i : ℕ) (x : Name) → i < length names → x ≡ get_or names i x → take (i + 1) names ≡ take i names ++ x ∷ []
+next_name names i x h is = take_more names i x h ∙ ap (λ y. take i names ++ y ∷ []) (sym is)
 
+module _ (p : Name → Bool) (names : List Name) (x : Name) where
   -- the least of the names that pass, where the next name passes
-  pub least_taken : (old : Option Name) → old ≡ least (filter p (take i names)) → true ≡ p x → Some (lesser_of old x) ≡ least (filter p (take (i + 1) names))
+  pub least_taken : (old : Option Name) → old ≡ least (filter p names) → true ≡ p x → Some (lesser_of old x) ≡ least (filter p (names ++ x ∷ []))
   least_taken old e t =
-      ap (λ o. Some (lesser_of o x)) e ∙ sym (least-append (filter p (take i names)) x)
-      ∙ ap (λ b. least (filter p (take i names) ++ cond b (x ∷ []) [])) t ∙ ap least (sym filter_more)
+      ap (λ o. Some (lesser_of o x)) e ∙ sym (least-append (filter p names) x)
+      ∙ ap (λ b. least (filter p names ++ cond b (x ∷ []) [])) t ∙ ap least (sym (filter-append p names (x ∷ [])))
 
   -- and where it doesn't
-  pub least_passed : (old : Option Name) → old ≡ least (filter p (take i names)) → false ≡ p x → old ≡ least (filter p (take (i + 1) names))
+  pub least_passed : (old : Option Name) → old ≡ least (filter p names) → false ≡ p x → old ≡ least (filter p (names ++ x ∷ []))
   least_passed old e t =
-      e ∙ ap least (sym (append-nil (filter p (take i names)))) ∙ ap (λ b. least (filter p (take i names) ++ cond b (x ∷ []) [])) t ∙ ap least (sym filter_more)
+      e ∙ ap least (sym (append-nil (filter p names))) ∙ ap (λ b. least (filter p names ++ cond b (x ∷ []) [])) t ∙ ap least (sym (filter-append p names (x ∷ [])))

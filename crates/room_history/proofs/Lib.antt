@@ -1,9 +1,6 @@
-pub mod Among
 pub mod Asking
 pub mod AtOnce
-pub mod Changing
 pub mod Deciding
-pub mod Differing
 pub mod ExampleProofs
 pub mod FirstUsers
 pub mod Growing
@@ -11,12 +8,10 @@ pub mod Holding
 pub mod KeepsSound
 pub mod LastFound
 pub mod LeastNames
+pub mod MemberNames
 pub mod Padding
 pub mod Replaying
-pub mod SameElements
-pub mod SameNames
 pub mod Searching
-pub mod SoundRows
 pub mod Stacking
 pub mod Stacks
 pub mod Stepping

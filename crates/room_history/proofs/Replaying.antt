@@ -2,7 +2,7 @@
 use Rattle.std.proofs.Common.{◌≡◌, ◌<◌, ◌+◌, ℕ, List, ◌∷◌, Option, Some, None, IsSome, is_none, length, get_or, drop, refl, sym, ap, subst, ◌∙◌, cond, add-one, drop-cons}
 use Rattle.std.specs.List.{filter_map, cons_option}
 use Rattle.room_history.specs.declared.action.Action.{Action}
-use Rattle.room_history.specs.Maps.{Rows}
+use Rattle.osm_elements.specs.Maps.{Rows}
 use Rattle.room_history.specs.After.{after}
 use Rattle.room_history.specs.declared.refusal.Refusal.{Refusal}
 use Rattle.room_history.specs.Refusals.{refusal}

@@ -10,18 +10,19 @@ use Rattle.room_history.specs.declared.entry.Entry.{Entry}
 use Rattle.room_history.specs.declared.entry.EntryKind.TheVariants.{Do, Undo}
 use Rattle.osm_elements.specs.Rows.{AreInOrder}
 use Rattle.osm_elements.specs.Facts.Rows.{AreInOrder-put_row}
-use Rattle.room_history.specs.Maps.{Rows}
-use Rattle.room_history.specs.After.{after}
+use Rattle.osm_elements.specs.Maps.{Rows}
+use Rattle.room_history.specs.After.{after, changes}
 use Rattle.room_history.specs.Refusals.{refusal}
-use Rattle.room_history.specs.Changes.{changes, inverse, changed}
+use Rattle.osm_changes.specs.Changes.{inverse, changed}
 use Rattle.room_history.specs.Journals.{numbered, is_undo_of, action_by, action_of, standing}
 use Rattle.room_history.specs.Replays.{Past, past, past_after, recorded_of, recorded_next, taken_back, mapof, replay, standing_actions}
-use Rattle.room_history.specs.Sound.{is_sound}
+use Rattle.osm_changes.specs.Sound.{is_sound}
 use Rattle.room_history.specs.LegalJournals.{is_made_action}
 use Rattle.room_history.proofs.KeepsSound.{accepted_keeps_sound}
-use Rattle.room_history.proofs.SoundRows.{sound_in_order}
+use Rattle.osm_changes.specs.Facts.SoundRows.{sound_in_order}
 use Rattle.room_history.proofs.Stacks.{Frame, Chained, IsFrame, Stacked}
-use Rattle.room_history.proofs.Changing.{AreInOrder-rows_but, changed-differences, changed-inverse}
+use Rattle.osm_elements.specs.Facts.Dropped.{AreInOrder-rows_but}
+use Rattle.osm_changes.specs.Facts.Changing.{changed-differences, changed-inverse}
 use Rattle.room_history.proofs.Growing.{numbered_within, numbered_next, standing_from-append, Rise-standing_from, IsLast, last_of, new_number}
 
 unfiltered : (ss : List ℕ) → filter (λ _. true) ss ≡ ss

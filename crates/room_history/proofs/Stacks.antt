@@ -3,8 +3,8 @@ use Rattle.std.proofs.Common.{◌≡◌, ◌≤◌, ℕ, true, List, [], ◌∷�
 use Rattle.std.specs.List.{AllByRecursion}
 use Rattle.room_history.specs.declared.action.Action.{Action}
 use Rattle.room_history.specs.declared.entry.Entry.{Entry}
-use Rattle.room_history.specs.Maps.{Rows}
-use Rattle.room_history.specs.Sound.{is_sound}
+use Rattle.osm_elements.specs.Maps.{Rows}
+use Rattle.osm_changes.specs.Sound.{is_sound}
 use Rattle.room_history.specs.After.{after}
 use Rattle.room_history.specs.Refusals.{refusal}
 use Rattle.room_history.specs.Journals.{numbered, action_of, standing}

@@ -15,8 +15,8 @@ use Rattle.room_history.specs.declared.entry.EntryKind.TheVariants.{Do, Undo}
 use Rattle.room_history.specs.declared.refusal.Refusal.{Refusal}
 use Rattle.room_history.specs.declared.reply.Reply.{Reply}
 use Rattle.room_history.specs.declared.reply.Reply.TheVariants.{Done, Undid, Repeat, Full, Refused}
-use Rattle.room_history.specs.Maps.{Rows}
-use Rattle.room_history.specs.Sound.{is_sound}
+use Rattle.osm_elements.specs.Maps.{Rows}
+use Rattle.osm_changes.specs.Sound.{is_sound}
 use Rattle.room_history.specs.After.{after}
 use Rattle.room_history.specs.Refusals.{refusal, first_that_holds}
 use Rattle.room_history.specs.Journals.{action_of, standing}
@@ -29,7 +29,7 @@ use Rattle.room_history.specs.Inner.Plans.{undone_or, asked_or}
 use Rattle.room_history.specs.Inner.Rooms.{IsRoom, MayAppend}
 use Rattle.room_history.proofs.Deciding.{unspent}
 use Rattle.room_history.proofs.Holding.{journal_stacked}
-use Rattle.room_history.proofs.SoundRows.{sound_in_order}
+use Rattle.osm_changes.specs.Facts.SoundRows.{sound_in_order}
 use Rattle.room_history.proofs.Stacks.{Stacked}
 use Rattle.room_history.proofs.Stacking.{Stacked-undo, Undone, mapof-do, standing-do}
 use Rattle.room_history.proofs.Undoing.{found}

@@ -12,7 +12,7 @@ use Rattle.room_history.specs.declared.entry.EntryKind.{EntryKind}
 use Rattle.room_history.specs.declared.entry.EntryKind.TheVariants.{Do, Undo}
 use Rattle.room_history.specs.declared.reply.Reply.{Reply}
 use Rattle.room_history.specs.declared.reply.Reply.TheVariants.{Done, Undid, Repeat, Full, NothingToUndo, NoSuch, NotYours, NotStanding, NotLast, Refused}
-use Rattle.room_history.specs.Maps.{Rows}
+use Rattle.osm_elements.specs.Maps.{Rows}
 use Rattle.room_history.specs.Refusals.{refusal, first_that_holds}
 use Rattle.room_history.specs.SameAuthors.{is_same_author}
 use Rattle.room_history.specs.Journals.{is_by, is_standing, numbered, last, standing, undos}

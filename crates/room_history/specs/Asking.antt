@@ -7,7 +7,7 @@ use Rattle.room_history.specs.declared.ask.RoomReply.{RoomReply}
 use Rattle.room_history.specs.declared.ask.RoomReply.TheVariants as replies
 use Rattle.room_history.specs.declared.entry.Entry.{Entry}
 use Rattle.room_history.specs.declared.reply.Reply.TheVariants.{Memory}
-use Rattle.room_history.specs.Maps.{Rows}
+use Rattle.osm_elements.specs.Maps.{Rows}
 use Rattle.room_history.specs.Replays.{mapof}
 use Rattle.room_history.specs.Answers.{answer}
 

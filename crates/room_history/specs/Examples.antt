@@ -3,10 +3,10 @@ use Rattle.std.specs.Prelude.{◌≡◌, ℕ, [], ◌∷◌, Some, None, true, p
 use Rattle.room_history.specs.declared.action.Action.TheVariants.{Create, Delete}
 use Rattle.room_history.specs.declared.refusal.Refusal.TheVariants.{Absent, Present, WrongKind, TooFew, TooMany, InUse}
 use Rattle.room_history.specs.declared.reply.Reply.TheVariants.{Done, Undid, Repeat, Full, NothingToUndo, NoSuch, NotYours, NotStanding, NotLast, Refused}
-use Rattle.room_history.specs.Sound.{is_sound}
+use Rattle.osm_changes.specs.Sound.{is_sound}
 use Rattle.room_history.specs.Replays.{replay, standing_actions}
 use Rattle.room_history.specs.Answers.{answers}
-use Rattle.room_history.specs.Scenes.{n-1, n1, n2, n3, w1, w2, anna, bob, node_at, way_of, does, undoes, replies, map_after}
+use Rattle.room_history.specs.Scenes.{n-1, n1, n2, n3, w1, w2, r1, r2, r3, anna, bob, node_at, way_of, relation_of, does, undoes, replies, map_after}
 
 abbrev pub ample : ℕ
 ample = 1000000
@@ -98,5 +98,44 @@ refusals_in_turn =
     ∷ NotLast 6
     ∷ []))
     × (map_after ample calls ≡ ((n1, node_at (pos 1) (pos 1)) ∷ (n2, node_at (pos 2) (pos 2)) ∷ []))
+    × (replay [] (standing_actions (answers [] ample [] calls).1) ≡ Some (map_after ample calls))
+    × (is_sound (map_after ample calls) ≡ true))
+
+-- relations, which may be empty and their own members, and what they refuse
+unfoldable pub relations_in_turn : Type 0
+relations_in_turn =
+    (let calls =
+    does anna 1 (Create r1 (relation_of (r1 ∷ [])))
+    ∷ does anna 2 (Delete r1)
+    ∷ does anna 2 (Create r2 (relation_of (w1 ∷ n1 ∷ r1 ∷ r2 ∷ [])))
+    ∷ does anna 2 (Create n1 (node_at (pos 1) (pos 1)))
+    ∷ does anna 3 (Create r2 (relation_of (w1 ∷ n1 ∷ r2 ∷ [])))
+    ∷ does anna 3 (Create w1 (way_of (n1 ∷ n1 ∷ [])))
+    ∷ does bob 1 (Create w2 (relation_of []))
+    ∷ does bob 1 (Create r2 (relation_of (replicate 32001 n3)))
+    ∷ does bob 1 (Create r2 (relation_of []))
+    ∷ does bob 2 (Create r3 (relation_of (w1 ∷ n1 ∷ w1 ∷ [])))
+    ∷ does bob 3 (Delete w1)
+    ∷ does bob 3 (Delete n1)
+    ∷ undoes bob 3 None
+    ∷ does bob 4 (Delete w1)
+    ∷ [] in
+    (replies ample calls ≡ (
+    Done 1
+    ∷ Refused (InUse r1 r1)
+    ∷ Refused (Absent n1)
+    ∷ Done 2
+    ∷ Refused (Absent w1)
+    ∷ Done 3
+    ∷ Refused (WrongKind w2)
+    ∷ Refused (TooMany r2)
+    ∷ Done 4
+    ∷ Done 5
+    ∷ Refused (InUse w1 r3)
+    ∷ Refused (InUse n1 w1)
+    ∷ Undid 6 5
+    ∷ Done 7
+    ∷ []))
+    × (map_after ample calls ≡ ((n1, node_at (pos 1) (pos 1)) ∷ (r1, relation_of (r1 ∷ [])) ∷ (r2, relation_of []) ∷ []))
     × (replay [] (standing_actions (answers [] ample [] calls).1) ≡ Some (map_after ample calls))
     × (is_sound (map_after ample calls) ≡ true))

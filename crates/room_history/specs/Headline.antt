@@ -6,9 +6,9 @@ use Rattle.room_history.specs.declared.call.Call.{Call}
 use Rattle.room_history.specs.declared.call.Request.TheVariants.{Undo}
 use Rattle.room_history.specs.declared.entry.Entry.{Entry}
 use Rattle.room_history.specs.declared.reply.Reply.TheVariants.{Undid, NotLast}
-use Rattle.room_history.specs.Maps.{Rows}
-use Rattle.room_history.specs.References.{users}
-use Rattle.room_history.specs.Sound.{is_sound}
+use Rattle.osm_elements.specs.Maps.{Rows}
+use Rattle.osm_refs.specs.References.{users}
+use Rattle.osm_changes.specs.Sound.{is_sound}
 use Rattle.room_history.specs.Journals.{numbered, standing, is_standing, is_by, is_work}
 use Rattle.room_history.specs.Replays.{mapof, replay, standing_actions}
 use Rattle.room_history.specs.Answers.{answer, answers, spent}

@@ -7,7 +7,7 @@ use Rattle.room_history.specs.declared.call.Call.{Call}
 use Rattle.room_history.specs.declared.call.Request.{Request}
 use Rattle.room_history.specs.declared.call.Request.TheVariants as requests
 use Rattle.room_history.specs.declared.entry.Entry.{Entry}
-use Rattle.room_history.specs.Maps.{Rows}
+use Rattle.osm_elements.specs.Maps.{Rows}
 use Rattle.room_history.specs.Answers.{answer}
 
 module _ {A : Type 0} where

@@ -5,10 +5,11 @@ use Rattle.room_history.specs.declared.action.Action.{Action}
 use Rattle.room_history.specs.declared.entry.Entry.{Entry}
 use Rattle.room_history.specs.declared.entry.EntryKind.{EntryKind}
 use Rattle.room_history.specs.declared.entry.EntryKind.TheVariants.{Do, Undo}
-use Rattle.room_history.specs.Maps.{Rows}
-use Rattle.room_history.specs.After.{after}
+use Rattle.osm_elements.specs.Maps.{Rows}
+use Rattle.room_history.specs.After.{after, changes}
 use Rattle.room_history.specs.Refusals.{refusal}
-use Rattle.room_history.specs.Changes.{Change, changes, inverse, changed}
+use Rattle.osm_changes.specs.declared.change.Change.{Change}
+use Rattle.osm_changes.specs.Changes.{inverse, changed}
 use Rattle.room_history.specs.Journals.{numbered, standing, action_of}
 
 -- what is recorded of an entry: its action, if it did one, and what it changed

@@ -4,7 +4,7 @@ use Rattle.room_history.specs.declared.call.Call.{Call}
 use Rattle.room_history.specs.declared.entry.Entry.{Entry}
 use Rattle.room_history.specs.declared.reply.Reply.{Reply}
 use Rattle.room_history.specs.declared.reply.Reply.TheVariants.{Memory}
-use Rattle.room_history.specs.Maps.{Rows}
+use Rattle.osm_elements.specs.Maps.{Rows}
 use Rattle.room_history.specs.Answers.{answer}
 use Rattle.room_history.specs.Headline.{Holds}
 

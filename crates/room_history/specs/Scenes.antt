@@ -1,16 +1,16 @@
 -- People, names, elements and calls of the worked examples.
-use Rattle.std.specs.Prelude.{ℕ, ⊤, List, [], ◌∷◌, Option, ℤ, pos, negsuc}
+use Rattle.std.specs.Prelude.{ℕ, ⊤, List, [], ◌∷◌, map, Option, ℤ, pos, negsuc}
 use Rattle.osm_elements.specs.declared.name.Name.{Name}
 use Rattle.osm_elements.specs.declared.name.Kind.TheVariants as kinds
 use Rattle.osm_elements.specs.declared.element.Element.{Element}
-use Rattle.osm_elements.specs.declared.element.Element.TheVariants.{Node, Way}
+use Rattle.osm_elements.specs.declared.element.Element.TheVariants.{Node, Way, Relation}
 use Rattle.osm_elements.specs.NameTexts.{named}
 use Rattle.room_history.specs.declared.action.Action.{Action}
 use Rattle.room_history.specs.declared.author.Author.{Author}
 use Rattle.room_history.specs.declared.call.Call.{Call}
 use Rattle.room_history.specs.declared.call.Request.TheVariants.{Do, Undo}
 use Rattle.room_history.specs.declared.reply.Reply.{Reply}
-use Rattle.room_history.specs.Maps.{Rows}
+use Rattle.osm_elements.specs.Maps.{Rows}
 use Rattle.room_history.specs.Answers.{answers}
 use Rattle.room_history.specs.Replays.{mapof}
 
@@ -36,6 +36,15 @@ w1 = named kinds.Way (pos 1) tt
 abbrev pub w2 : Name
 w2 = named kinds.Way (pos 2) tt
 
+abbrev pub r1 : Name
+r1 = named kinds.Relation (pos 1) tt
+
+abbrev pub r2 : Name
+r2 = named kinds.Relation (pos 2) tt
+
+abbrev pub r3 : Name
+r3 = named kinds.Relation (pos 3) tt
+
 -- the names "anna" and "bob"
 abbrev pub anna : Author
 anna = 97 ∷ 110 ∷ 110 ∷ 97 ∷ []
@@ -49,6 +58,10 @@ node_at lat lon = Node lat lon []
 
 abbrev pub way_of : List Name → Element Any
 way_of nodes = Way nodes []
+
+-- a relation in which each member has the empty role
+abbrev pub relation_of : List Name → Element Any
+relation_of names = Relation (map (λ x. (x, [])) names) []
 
 abbrev pub does : Author → ℕ → Action Any → Call Any
 does author id a = record { author = author; id = id; request = Do a }

@@ -6,15 +6,13 @@ ghost use Rattle.osm_elements.specs.Rows.{row_at};
 ghost use Rattle.room_history.specs.declared.action.Action.TheVariants.{Create, Delete};
 ghost use Rattle.room_history.specs.declared.action.Action.{Action};
 ghost use Rattle.room_history.specs.declared.entry.Entry.{Entry};
-ghost use Rattle.osm_elements.specs.Rows.{AreInOrder};
-ghost use Rattle.room_history.specs.After.{after};
-ghost use Rattle.room_history.specs.Changes.{changed, changes, differences, inverse};
+ghost use Rattle.room_history.specs.After.{after, changes};
 ghost use Rattle.room_history.specs.Headline.{Holds};
 ghost use Rattle.room_history.specs.LegalJournals.{is_made_action, IsJournal};
-ghost use Rattle.room_history.specs.Maps.{Rows};
+ghost use Rattle.osm_elements.specs.Maps.{Rows};
 ghost use Rattle.room_history.specs.Refusals.{refusal};
-ghost use Rattle.room_history.specs.Sound.{is_sound};
-ghost use Rattle.room_history.specs.Examples.{first_run, range_ends, limit_one, limit_zero, last_first, refusals_in_turn};
+ghost use Rattle.osm_changes.specs.Sound.{is_sound};
+ghost use Rattle.room_history.specs.Examples.{first_run, range_ends, limit_one, limit_zero, last_first, refusals_in_turn, relations_in_turn};
 
 use std::alloc::Allocator;
 
@@ -27,12 +25,6 @@ pub fn accepted_keeps_sound<A: Allocator>()
 /// Every journal that calls lead to from a sound base holds.
 pub fn journals_hold<A: Allocator>()
     ensures { (base : Rows A) (limit : ℕ) (j : List (Entry A)) → is_sound base ≡ true → IsJournal base limit j → Holds base limit j }
-{}
-
-/// The changes between two maps lead from the one to the other, and taken back to the one again.
-pub fn changes_lead_there_and_back<A: Allocator>()
-    ensures there { (m n : Rows A) → AreInOrder m → AreInOrder n → changed m (differences m n) ≡ n }
-    ensures back { (m n : Rows A) → AreInOrder m → AreInOrder n → changed n (inverse (differences m n)) ≡ m }
 {}
 
 /// An accepted create changes its name from nothing to the element, and a delete of what is there its name to nothing.
@@ -51,4 +43,5 @@ pub fn replies_are_as_worked()
     ensures limit_zero { limit_zero }
     ensures last_first { last_first }
     ensures refusals_in_turn { refusals_in_turn }
+    ensures relations_in_turn { relations_in_turn }
 {}

@@ -1,22 +1,23 @@
 //! Plans: whether an action is accepted on a map, and if not why.
 ghost use Rattle.std.specs.Prelude.{◌≡◌, None, OnOk, OnErr, slice_get, true};
-ghost use Rattle.std.specs.List.{filter};
+ghost use Rattle.std.specs.List.{filter, list_any};
 ghost use Rattle.room_history.specs.declared.action.Action.TheVariants.{Create, Delete};
 ghost use Rattle.osm_elements.specs.Elements.{kind_of};
 ghost use Rattle.osm_elements.specs.Made.{is_made};
-ghost use Rattle.room_history.specs.Maps.{is_same, is_kind, is_present, least};
-ghost use Rattle.room_history.specs.References.{users, refers_to};
-ghost use Rattle.room_history.specs.Refusals.{refusal, is_missing, list_checks, first_that_holds};
+ghost use Rattle.osm_elements.specs.Maps.{is_same, is_kind, is_present, least};
+ghost use Rattle.osm_refs.specs.References.{references, users, refers_to};
+ghost use Rattle.room_history.specs.Refusals.{refusal, is_missing, length_checks, first_that_holds};
 ghost use Rattle.room_history.specs.After.{after};
 ghost use Rattle.room_history.specs.LegalJournals.{is_made_action};
 ghost use Rattle.room_history.specs.Plans.{planned};
-ghost use Rattle.room_history.specs.Inner.Plans.{lesser_of};
+ghost use Rattle.room_history.specs.Inner.Plans.{has_name, lesser_of, member_names};
 
 use crate::action::Action;
 use crate::refusal::Refusal;
 use osm_elements::Memory;
 use osm_elements::element::Element;
 use osm_elements::map::OsmMap;
+use osm_elements::member::Member;
 use osm_elements::name::Name;
 use std::alloc::Allocator;
 use std::collections::btree_map::Iter;
@@ -26,6 +27,9 @@ pub const FEWEST_NODES: usize = 2;
 
 /// The most nodes that a way has, a limit of this project.
 pub const MOST_NODES: usize = 2000;
+
+/// The most members that a relation has, a limit of this project.
+pub const MOST_MEMBERS: usize = 32_000;
 
 /// Whether an action is accepted on the map. The refusal is the first of the action's checks that holds.
 pub fn plan<A: Allocator>(map: &OsmMap<A>, action: &Action<A>) -> Result<(), Refusal<A>>
@@ -40,7 +44,8 @@ pub fn plan<A: Allocator>(map: &OsmMap<A>, action: &Action<A>) -> Result<(), Ref
 }
 
 /// Whether an element can be made: the element is of its name's kind, the name is not there, a way has 2 to
-/// 2,000 nodes, and what the element refers to is there.
+/// 2,000 nodes and a relation at most 32,000 members, and what the element refers to is there. A relation may have
+/// no members, and may be a member of itself.
 pub fn plan_create<A: Allocator>(
     map: &OsmMap<A>,
     name: &Name,
@@ -56,9 +61,10 @@ pub fn plan_create<A: Allocator>(
     if is_present(map, name) {
         return Err(Refusal::Present(*name));
     }
-    match element {
-        Element::Node { .. } => Ok(()),
-        Element::Way { nodes, .. } => check_nodes(map, name, nodes.names()),
+    check_length(name, element)?;
+    match least_missing(map, name, element) {
+        Some(absent) => Err(Refusal::Absent(absent)),
+        None => Ok(()),
     }
 }
 
@@ -77,19 +83,28 @@ fn is_present<A: Allocator>(map: &OsmMap<A>, name: &Name) -> bool
     map.get(name).is_some()
 }
 
-// Whether a new way can list these nodes.
-fn check_nodes<A: Allocator>(map: &OsmMap<A>, name: &Name, nodes: &[Name]) -> Result<(), Refusal<A>>
-    ensures { result ≡ planned (first_that_holds (list_checks map.now name.now nodes.now)) }
+// Whether a new element's list is neither too short nor too long.
+fn check_length<A: Allocator>(name: &Name, element: &Element<A>) -> Result<(), Refusal<A>>
+    ensures { result ≡ planned (first_that_holds (length_checks name.now element.now)) }
 {
-    if nodes.len() < FEWEST_NODES {
-        return Err(Refusal::TooFew(*name));
+    match element {
+        Element::Way { nodes, .. } if nodes.len() < FEWEST_NODES => Err(Refusal::TooFew(*name)),
+        Element::Way { nodes, .. } if nodes.len() > MOST_NODES => Err(Refusal::TooMany(*name)),
+        Element::Relation { members, .. } if members.len() > MOST_MEMBERS => {
+            Err(Refusal::TooMany(*name))
+        }
+        _ => Ok(()),
     }
-    if nodes.len() > MOST_NODES {
-        return Err(Refusal::TooMany(*name));
-    }
-    match least_absent(map, name, nodes) {
-        Some(absent) => Err(Refusal::Absent(absent)),
-        None => Ok(()),
+}
+
+// The least name that a new element refers to, other than its own, that the map doesn't have.
+fn least_missing<A: Allocator>(map: &OsmMap<A>, new: &Name, element: &Element<A>) -> Option<Name>
+    ensures { result ≡ least (filter (is_missing map.now new.now) (references element.now)) }
+{
+    match element {
+        Element::Node { .. } => None,
+        Element::Way { nodes, .. } => least_absent(map, new, nodes.names()),
+        Element::Relation { members, .. } => least_absent_member(map, new, members.as_slice()),
     }
 }
 
@@ -101,6 +116,23 @@ fn least_absent<A: Allocator>(map: &OsmMap<A>, new: &Name, names: &[Name]) -> Op
     for name in names {
         if is_missing(map, new, name) {
             least = Some(lesser(least, *name));
+        }
+    }
+    least
+}
+
+// The same of the names of members.
+fn least_absent_member<A: Allocator>(
+    map: &OsmMap<A>,
+    new: &Name,
+    members: &[Member<A>],
+) -> Option<Name>
+    ensures { result ≡ least (filter (is_missing map.now new.now) (member_names members.now)) }
+{
+    let mut least = None;
+    for member in members {
+        if is_missing(map, new, &member.name) {
+            least = Some(lesser(least, member.name));
         }
     }
     least
@@ -169,7 +201,15 @@ fn refers_to<A: Allocator>(element: &Element<A>, name: &Name) -> bool
     match element {
         Element::Node { .. } => false,
         Element::Way { nodes, .. } => nodes.names().iter().any(|node| is_same(name, node)),
+        Element::Relation { members, .. } => names_a_member(members.as_slice(), name),
     }
+}
+
+// Whether the name is that of a member.
+fn names_a_member<A: Allocator>(members: &[Member<A>], name: &Name) -> bool
+    ensures { result ≡ list_any (has_name name.now) members.now }
+{
+    members.iter().any(|member| is_same(name, &member.name))
 }
 
 /// Does an action that is accepted. An `Err` leaves the map as it was.

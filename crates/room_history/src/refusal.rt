@@ -15,7 +15,7 @@ pub enum Refusal<A: Allocator> {
     WrongKind(Name),
     /// This way has fewer than 2 nodes.
     TooFew(Name),
-    /// This way has more than 2,000 nodes.
+    /// This way has more than 2,000 nodes, or this relation more than 32,000 members.
     TooMany(Name),
     /// The element of the first name is referred to; the second is the least name that does.
     InUse(Name, Name),

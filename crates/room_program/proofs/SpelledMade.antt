@@ -1,5 +1,5 @@
 -- What a text spells has its values as their types keep them.
-use Rattle.std.proofs.Common.{◌≡◌, ◌&&◌, ◌≤◌, ℕ, ℤ, pos, suc, Bool, true, false, not, cond, T, List, [], ◌∷◌, length, Option, Some, None, IfSome, Result, Ok, Err, IfOk, codes, is_some, option_map, option_and_then, nat_eq, nat_le, refl, ap, subst, sym, ◌∙◌}
+use Rattle.std.proofs.Common.{◌≡◌, ◌&&◌, ℕ, ℤ, pos, suc, Bool, true, false, not, cond, T, List, [], ◌∷◌, length, Option, Some, None, IfSome, Result, Ok, Err, IfOk, codes, is_some, option_map, option_and_then, nat_eq, nat_le, refl, ap, subst, sym, ◌∙◌}
 use Rattle.std.specs.List.{list_all}
 use Rattle.std.specs.Str.{bytes_eq}
 use Rattle.std.specs.Prelude.{int_le, neg_ℤ}
@@ -17,22 +17,20 @@ use Rattle.osm_elements.specs.declared.name.Name.{Name}
 use Rattle.osm_elements.specs.declared.name.Kind.{Kind}
 use Rattle.osm_elements.specs.declared.name.Kind.TheVariants as kinds
 use Rattle.osm_elements.specs.Made.{is_node, are_nodes, is_made}
-use Rattle.osm_elements.specs.NameTexts.{name_with, named, if_passed}
+use Rattle.osm_elements.specs.Members.{are_members}
+use Rattle.osm_elements.specs.NameTexts.{name_of, name_with, named, if_passed}
 use Rattle.osm_elements.specs.TagRows.{Pairs, text_cmp, is_tag, are_tags}
 use Rattle.osm_elements.specs.Texts.{is_long}
 use Rattle.room_history.specs.LegalJournals.{is_made_action}
-use Rattle.room_history.specs.declared.action.Action.TheVariants as actions
-use Rattle.room_history.specs.declared.call.Request.TheVariants as requests
 use Rattle.room_wire.specs.declared.bad.Fault.{Fault}
-use Rattle.room_wire.specs.declared.bad.Fault.TheVariants.{BadField, UnknownDo}
-use Rattle.room_wire.specs.declared.bad.Bad.{Bad}
+use Rattle.room_wire.specs.declared.bad.Fault.TheVariants.{BadField}
 use Rattle.room_wire.specs.declared.field.Field.TheVariants.{El, Lat, Lon, Nodes, Tags, Seq}
+use Rattle.room_wire.specs.declared.field.Field.TheVariants as fields
 use Rattle.room_wire.specs.declared.incoming.Body.{Body}
-use Rattle.room_wire.specs.declared.incoming.Body.TheVariants.{Change, Get, Map}
 use Rattle.room_wire.specs.Fields.{field_text}
 use Rattle.room_program.specs.Made.{is_made_body}
 use Rattle.room_wire.specs.Reading.{◌>>=◌, or_fault}
-use Rattle.room_wire.specs.Spelling.{text_at, text_of, key_of, tag_of, tags_in, tags_of, tags_from, tags_at, node_of, nodes_in, nodes_at, lat_at, lon_at, el_at, seq_at, element_at, create_at, body_by, body_at, word_at, id_at, message_by, message_of, under, spells}
+use Rattle.room_wire.specs.Spelling.{text_at, text_of, key_of, tag_of, tags_in, tags_of, tags_from, tags_at, items_in, node_of, nodes_in, nodes_at, member_in, member_of, members_in, members_at, lat_at, lon_at, el_at, seq_at, element_at, create_at, body_by, body_at, word_at, id_at, message_by, message_of, under, spells}
 use Rattle.room_program.proofs.TreesInOrder.{pairs_of, IsInOrder, if_map, if_then, if_more, if_any, get_in_order, read_in_order}
 
 both : (a b : Bool) → a ≡ true → b ≡ true → (a && b) ≡ true
@@ -157,6 +155,15 @@ tags_made None h = no_tags_made
 tags_made (Some d) h = ok_or AreMade (BadField Tags) (option_and_then tags_of (as_object d)) (if_then AreMade (as_object d) tags_of
     (if_more (λ ms. T (entries.is_sorted text_cmp (pairs_of ms))) (λ ms. IfSome (tags_of ms) AreMade) (as_object d) (object_sorted d h) tags_of_made))
 
+-- the items of an array pass a test that each of them passes
+items_pass : {X : Type 0} (p : X → Bool) (reading : Data → Option X) → ((d : Data) → IfSome (reading d) (λ x. p x ≡ true)) → (ds : Items) → IfSome (items_in reading ds) (λ xs. list_all p xs ≡ true)
+items_pass p reading each no_items = refl
+items_pass {X = X} p reading each (item d ds) =
+    let P : List X → Type 0 = λ xs. list_all p xs ≡ true in
+    let rest = items_in reading ds in
+    if_then P (reading d) (λ x. option_map (λ xs. x ∷ xs) rest) (if_more (λ x. p x ≡ true) (λ x. IfSome (option_map (λ xs. x ∷ xs) rest) P) (reading d) (each d)
+    (λ x h. if_map P (λ xs. x ∷ xs) rest (if_more P (λ xs. P (x ∷ xs)) rest (items_pass p reading each ds) (λ xs g. both (p x) (list_all p xs) h g))))
+
 -- nodes
 passed_node : (b : Bool) (f : T b → Name) → ((t : T b) → is_node (f t).kind ≡ true) → IfSome (if_passed b f) (λ n. is_node n.kind ≡ true)
 passed_node true f h = h tt
@@ -171,10 +178,31 @@ AreNodesOf names = are_nodes names ≡ true
 
 nodes_made : (ds : Items) → IfSome (nodes_in ds) AreNodesOf
 unfolding AreNodesOf
-nodes_made no_items = refl
-nodes_made (item d ds) =
-    if_then AreNodesOf (node_of d) (λ n. option_map (λ ns. n ∷ ns) (nodes_in ds)) (if_more (λ n. is_node n.kind ≡ true) (λ n. IfSome (option_map (λ ns. n ∷ ns) (nodes_in ds)) AreNodesOf) (node_of d) (node_made d)
-    (λ n h. if_map AreNodesOf (λ ns. n ∷ ns) (nodes_in ds) (if_more AreNodesOf (λ ns. AreNodesOf (n ∷ ns)) (nodes_in ds) (nodes_made ds) (λ ns g. both (is_node n.kind) (are_nodes ns) h g))))
+nodes_made ds = items_pass (λ n. is_node n.kind) node_of node_made ds
+
+-- members
+HasShortRole : Name × List ℕ → Type 0
+HasShortRole m = not (is_long m.1) ≡ true
+
+member_in_made : (ds : Items) → IfSome (member_in ds) HasShortRole
+unfolding HasShortRole
+member_in_made no_items = tt
+member_in_made (item d no_items) = tt
+member_in_made (item d (item e no_items)) =
+    let role : Option (List ℕ) = option_and_then text_of (as_str e) in
+    let name : Option Name = option_and_then name_of (as_str d) in
+    if_then HasShortRole name (λ n. option_map (λ r. (n, r)) role) (if_any (λ n. IfSome (option_map (λ r. (n, r)) role) HasShortRole) name (λ n. if_map HasShortRole (λ r. (n, r)) role (value_facts e)))
+member_in_made (item d (item e (item f ds))) = tt
+
+member_made : (d : Data) → IfSome (member_of d) HasShortRole
+member_made d = if_then HasShortRole (as_array d) member_in (if_any (λ ds. IfSome (member_in ds) HasShortRole) (as_array d) member_in_made)
+
+AreMembersOf : List (Name × List ℕ) → Type 0
+AreMembersOf members = are_members members ≡ true
+
+members_made : (ds : Items) → IfSome (members_in ds) AreMembersOf
+unfolding AreMembersOf HasShortRole
+members_made ds = items_pass (λ (m : Name × List ℕ). not (is_long m.1)) member_of member_made ds
 
 -- coordinates
 within_made : (limit : ℕ) (z : ℤ) → IfSome (value_within limit z) (λ w. is_some (value_within limit w) ≡ true)
@@ -197,7 +225,7 @@ lon_made d = let P : ℤ → Type 0 = λ w. is_some (longitude w) ≡ true in
 
 -- the element of a create
 element_made : (kind : Kind) (d : Data) → IsInOrder d → IfOk (element_at kind d) (λ v. is_made v ≡ true)
-unfolding AreMade AreNodesOf
+unfolding AreMade AreNodesOf AreMembersOf
 element_made kinds.Node d h =
     ok_then (λ w. is_some (latitude w) ≡ true) (λ v. is_made v ≡ true) (lat_at d) _ (lat_made d) (λ lat at.
     ok_then (λ w. is_some (longitude w) ≡ true) (λ v. is_made v ≡ true) (lon_at d) _ (lon_made d) (λ lon on.
@@ -208,7 +236,12 @@ element_made kinds.Way d h =
     (if_then AreNodesOf (option_and_then as_array (get (field_text Nodes) d)) nodes_in (if_any (λ ds. IfSome (nodes_in ds) AreNodesOf) (option_and_then as_array (get (field_text Nodes) d)) nodes_made))) (λ nodes are.
     ok_then AreMade (λ v. is_made v ≡ true) (tags_at d) _ (tags_made (get (field_text Tags) d) (get_in_order (field_text Tags) d h)) (λ tags made.
     both (are_nodes nodes) (are_tags tags) are made))
-element_made kinds.Relation d h = tt
+element_made kinds.Relation d h =
+    let items : Option Items = option_and_then as_array (get (field_text fields.Members) d) in
+    ok_then AreMembersOf (λ v. is_made v ≡ true) (members_at d) _ (ok_or AreMembersOf (BadField fields.Members) (option_and_then members_in items)
+    (if_then AreMembersOf items members_in (if_any (λ ds. IfSome (members_in ds) AreMembersOf) items members_made))) (λ members are.
+    ok_then AreMade (λ v. is_made v ≡ true) (tags_at d) _ (tags_made (get (field_text Tags) d) (get_in_order (field_text Tags) d h)) (λ tags made.
+    both (are_members members) (are_tags tags) are made))
 
 IsMadeBody : Body → Type 0
 IsMadeBody body = is_made_body body ≡ true

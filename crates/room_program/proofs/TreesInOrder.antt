@@ -1,5 +1,5 @@
 -- In what is read of a text each object has its keys in order, each once.
-use Rattle.std.proofs.Common.{◌≡◌, ◌&&◌, ℕ, T, List, [], ◌∷◌, Option, Some, None, IfSome, option_map, option_and_then, refl, ap, subst, sym, Ordering, Less, Equal, Greater}
+use Rattle.std.proofs.Common.{◌≡◌, ℕ, T, List, [], ◌∷◌, Option, Some, None, IfSome, option_map, option_and_then, refl, ap, subst, sym, Ordering, Less, Equal, Greater}
 use Rattle.std.specs.Ordering.{match_ordering}
 use Rattle.std.specs.FinMap.Entries as entries
 use Rattle.std.proofs.lemmas.Cmp.{nat_list_cmp_total}

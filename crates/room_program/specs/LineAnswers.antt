@@ -9,7 +9,7 @@ use Rattle.osm_elements.specs.declared.name.Name.{Name}
 use Rattle.osm_elements.specs.declared.element.Element.{Element}
 use Rattle.room_history.specs.declared.author.Author.{Author}
 use Rattle.room_history.specs.Authors.{author_of}
-use Rattle.room_history.specs.Maps.{Rows}
+use Rattle.osm_elements.specs.Maps.{Rows}
 use Rattle.room_history.specs.Rooms.{RoomState}
 use Rattle.room_history.specs.Asking.{room_answer}
 use Rattle.room_history.specs.declared.ask.RoomCall.{RoomCall}

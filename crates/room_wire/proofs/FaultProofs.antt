@@ -19,12 +19,12 @@ use Rattle.room_wire.specs.declared.bad.Bad.{Bad}
 use Rattle.room_wire.specs.declared.bad.Fault.{Fault}
 use Rattle.room_wire.specs.declared.bad.Fault.TheVariants.{BadField, BadId, NotJson, NotObject, UnknownDo}
 use Rattle.room_wire.specs.declared.field.Field.{Field}
-use Rattle.room_wire.specs.declared.field.Field.TheVariants.{El, Lat, Lon, Nodes, Tags, Seq}
+use Rattle.room_wire.specs.declared.field.Field.TheVariants.{El, Lat, Lon, Nodes, Members, Tags, Seq}
 use Rattle.room_wire.specs.declared.incoming.Incoming.{Incoming}
 use Rattle.room_wire.specs.declared.incoming.Body.{Body}
 use Rattle.room_wire.specs.declared.incoming.Body.TheVariants as bodies
 use Rattle.room_wire.specs.Reading.{◌>>=◌, or_fault}
-use Rattle.room_wire.specs.Spelling.{body_by, create_at, el_at, element_at, lat_at, lon_at, message_by, message_of, nodes_at, ordinal, seq_at, seq_from, spells, tags_at, tags_from, under}
+use Rattle.room_wire.specs.Spelling.{body_by, create_at, el_at, element_at, lat_at, lon_at, message_by, message_of, members_at, nodes_at, ordinal, seq_at, seq_from, spells, tags_at, tags_from, under}
 use Rattle.room_wire.specs.Trees.{whole}
 use Rattle.room_wire.specs.WellFormed.{AreGood, Create, Delete, Get, HasWord, IsFirstBad, IsNumber, Map, MessageId, Slot, Undo, Word, element_slots, slot, slots, word_text}
 use Rattle.room_wire.proofs.WellFormedProofs.{id_read, spells-body, word_read}
@@ -71,7 +71,8 @@ element_tells kinds.Node d =
     step Lat (lat_at d) _ _ (only_field Lat _) (λ lat e. step Lon (lon_at d) _ _ (only_field Lon _) (λ lon e. step Tags (tags_at d) (λ tags. let node : Element Global = elements.Node lat lon tags in Ok node) [] (only_tags (get (codes "tags") d)) (λ tags e. tt)))
 element_tells kinds.Way d =
     step Nodes (nodes_at d) _ _ (only_field Nodes _) (λ nodes e. step Tags (tags_at d) (λ tags. let way : Element Global = elements.Way nodes tags in Ok way) [] (only_tags (get (codes "tags") d)) (λ tags e. tt))
-element_tells kinds.Relation d = (El, refl, refl)
+element_tells kinds.Relation d =
+    step Members (members_at d) _ _ (only_field Members _) (λ members e. step Tags (tags_at d) (λ tags. let relation : Element Global = elements.Relation members tags in Ok relation) [] (only_tags (get (codes "tags") d)) (λ tags e. tt))
 
 body_tells : (word : Word) (d : Data) → Tells (body_by (word_text word) d) (slots word d)
 body_tells Create d =

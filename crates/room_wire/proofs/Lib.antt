@@ -2,9 +2,10 @@ pub mod Ascii
 pub mod Empty
 pub mod ExampleProofs
 pub mod FaultProofs
+pub mod ItemLists
+pub mod MemberPairs
 pub mod NeverMemory
 pub mod NoFloats
-pub mod NodeLists
 pub mod ReadBackProofs
 pub mod Shallow
 pub mod TagLists

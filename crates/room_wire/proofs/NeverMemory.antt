@@ -13,9 +13,9 @@ use Rattle.room_wire.specs.declared.incoming.Body.TheVariants.{Change, Get, Map}
 use Rattle.room_history.specs.declared.action.Action.TheVariants as actions
 use Rattle.room_history.specs.declared.call.Request.TheVariants as requests
 use Rattle.std.specs.Str.{bytes_eq}
-use Rattle.room_wire.specs.declared.field.Field.TheVariants.{El, Lat, Lon, Nodes, Tags, Seq}
+use Rattle.room_wire.specs.declared.field.Field.TheVariants.{El, Lat, Lon, Nodes, Members, Tags, Seq}
 use Rattle.room_wire.specs.Reading.{◌>>=◌, or_fault}
-use Rattle.room_wire.specs.Spelling.{spells, ordinal, word_at, message_of, message_by, under, id_at, body_at, body_by, create_at, element_at, el_at, lat_at, lon_at, nodes_at, tags_at, tags_from, seq_at, seq_from}
+use Rattle.room_wire.specs.Spelling.{spells, ordinal, word_at, message_of, message_by, under, id_at, body_at, body_by, create_at, element_at, el_at, lat_at, lon_at, nodes_at, members_at, tags_at, tags_from, seq_at, seq_from}
 
 Fine : {X : Type 0} → Result X Fault → Type 0
 Fine r = IfErr r (λ f. f ≢ Memory)
@@ -59,7 +59,7 @@ element_is_fine kinds.Node d =
     fine_then (lat_at d) _ (fine_or (BadField Lat) _ (λ e. cc)) (λ lat. fine_then (lon_at d) _ (fine_or (BadField Lon) _ (λ e. cc))
     (λ lon. fine_then (tags_at d) _ (tags_are_fine (get (field_text Tags) d)) (λ tags. fine_ok _)))
 element_is_fine kinds.Way d = fine_then (nodes_at d) _ (fine_or (BadField Nodes) _ (λ e. cc)) (λ nodes. fine_then (tags_at d) _ (tags_are_fine (get (field_text Tags) d)) (λ tags. fine_ok _))
-element_is_fine kinds.Relation d = err_is_fine (BadField El) _ refl (λ e. cc)
+element_is_fine kinds.Relation d = fine_then (members_at d) _ (fine_or (BadField Members) _ (λ e. cc)) (λ members. fine_then (tags_at d) _ (tags_are_fine (get (field_text Tags) d)) (λ tags. fine_ok _))
 
 create_is_fine : (d : Data) → Fine (create_at d)
 create_is_fine d = fine_then (el_at d) _ (el_is_fine d) (λ name. fine_then (element_at name.kind d) _ (element_is_fine name.kind d) (λ element. fine_ok _))

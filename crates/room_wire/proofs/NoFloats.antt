@@ -9,7 +9,7 @@ use Rattle.osm_elements.specs.declared.element.Element.TheVariants as elements
 use Rattle.osm_elements.specs.TagRows.{Pairs}
 use Rattle.room_wire.specs.declared.answer.Answer.{Answer}
 use Rattle.room_wire.specs.declared.answer.Answer.TheVariants.{Done, Undid, Is, Map, Absent, Present, WrongKind, TooFew, TooMany, InUse, TagConflict, Repeat, NotLast, BadField, Memory, Full, NothingToUndo, NoSuch, NotYours, NotStanding, NotJson, NotObject, BadId, UnknownDo, BadLine}
-use Rattle.room_wire.specs.Trees.{id_tree, nodes_tree, tag_members, element_tree, rows_tree, tree_of}
+use Rattle.room_wire.specs.Trees.{id_tree, nodes_tree, member_tree, members_tree, tag_members, element_tree, rows_tree, tree_of}
 use Rattle.serde_json.specs.Find.{of_integer, is_float}
 
 items_have_none : {X : Type 0} (f : X → Data) → ((x : X) → has_float (f x) ≡ false) → (xs : List X) → items_have_float (items_of (map f xs)) ≡ false
@@ -27,9 +27,13 @@ tags_have_none (e ∷ es) = tags_have_none es
 nodes_have_none : (names : List Name) → has_float (nodes_tree names) ≡ false
 nodes_have_none names = items_have_none id_tree (λ n. integer_is_none n.id) names
 
+members_have_none : (members : List (Name × List ℕ)) → has_float (members_tree members) ≡ false
+members_have_none members = items_have_none member_tree (λ m. refl) members
+
 element_has_none : {A : Type 0} (name : Name) (e : Element A) → has_float (element_tree name e) ≡ false
 element_has_none name (elements.Node lat lon tags) = rw (tags_have_none tags) refl
 element_has_none name (elements.Way nodes tags) = rw (nodes_have_none nodes, tags_have_none tags) refl
+element_has_none name (elements.Relation members tags) = rw (members_have_none members, tags_have_none tags) refl
 
 rows_have_none : {A : Type 0} (rows : List (Name × Element A)) → has_float (rows_tree rows) ≡ false
 rows_have_none rows = items_have_none (λ r. element_tree r.0 r.1) (λ r. element_has_none r.0 r.1) rows

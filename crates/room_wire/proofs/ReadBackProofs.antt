@@ -1,5 +1,5 @@
 -- What is written of an element is read as that element.
-use Rattle.std.proofs.Common.{◌≡◌, ◌<◌, ◌^◌, ◌&&◌, ℕ, suc, ℤ, pos, negsuc, List, [], ◌∷◌, length, map, Bool, true, false, not, cond, T, Some, None, Result, Ok, option_map, All, FitsSigned, nat_lt, nat_le, nat_eq, refl, sym, ap, ◌∙◌, arith}
+use Rattle.std.proofs.Common.{◌≡◌, ◌<◌, ◌^◌, ◌&&◌, ℕ, suc, ℤ, pos, negsuc, List, [], ◌∷◌, length, map, Bool, true, false, not, cond, T, Option, Some, None, Result, Ok, option_map, All, FitsSigned, nat_lt, nat_le, nat_eq, refl, sym, ap, ◌∙◌, arith}
 use Rattle.std.specs.declared.alloc.Global.{Global}
 use Rattle.std.specs.List.{list_all}
 use Rattle.std.specs.Option.{option_and_then}
@@ -15,10 +15,11 @@ use Rattle.osm_coords.specs.Written.{written}
 use Rattle.osm_elements.specs.declared.name.Name.{Name}
 use Rattle.osm_elements.specs.declared.name.Kind.TheVariants as kinds
 use Rattle.osm_elements.specs.declared.element.Element.{Element}
-use Rattle.osm_elements.specs.declared.element.Element.TheVariants.{Node, Way}
+use Rattle.osm_elements.specs.declared.element.Element.TheVariants.{Node, Way, Relation}
 use Rattle.osm_elements.specs.Elements.{kind_of}
 use Rattle.osm_elements.specs.Facts.NameTexts.{name_of_text, name_with-some}
-use Rattle.osm_elements.specs.NameTexts.{name_with}
+use Rattle.osm_elements.specs.NameTexts.{name_of, name_text, name_with}
+use Rattle.osm_elements.specs.Members.{AreMembers, are_members}
 use Rattle.osm_elements.specs.Nodes.{AreNodes}
 use Rattle.osm_elements.specs.TagRows.{Pairs, AreTagRows, is_tag}
 use Rattle.osm_elements.specs.Texts.{is_long}
@@ -28,8 +29,8 @@ use Rattle.room_wire.specs.declared.bad.Fault.TheVariants.{BadField}
 use Rattle.room_wire.specs.declared.field.Field.TheVariants as fields
 use Rattle.room_wire.specs.ReadBack.{HasId, IsWhole}
 use Rattle.room_wire.specs.Reading.{◌>>=◌, or_fault}
-use Rattle.room_wire.specs.Spelling.{create_at, element_at, el_at, lat_at, lon_at, nodes_at, tags_at, node_of, nodes_in, tags_in, tags_of}
-use Rattle.room_wire.specs.Trees.{id_tree, tag_members, element_tree}
+use Rattle.room_wire.specs.Spelling.{create_at, element_at, el_at, lat_at, lon_at, nodes_at, members_at, tags_at, node_of, nodes_in, member_of, members_in, tags_in, tags_of}
+use Rattle.room_wire.specs.Trees.{id_tree, member_tree, tag_members, element_tree}
 
 first_test : (a b : Bool) → T (a && b) → T a
 first_test true b p = tt
@@ -82,6 +83,24 @@ nodes_in-ids (n ∷ ns) h f =
     let rest = nodes_in-ids ns (λ k d l. h (suc k) d (omega arith)) (λ k d l. f (suc k) d (omega arith)) in
     rw (first, rest) refl
 
+-- members
+short_role : (n : Name) (role : List ℕ) (o : Option Name) (a : Bool) → o ≡ Some n → a ≡ false → option_and_then {U = Name × List ℕ} (λ name. option_map (λ r. (name, r)) (cond a None (Some role))) o ≡ Some (n, role)
+short_role n role o a h g = rw (h, g) refl
+
+is_short : (a b : Bool) → T (not a && b) → a ≡ false
+is_short true b p = absurd (first_test false b p)
+is_short false b p = refl
+
+member_of-member_tree : (m : Name × List ℕ) → is_long m.1 ≡ false → HasId m.0 → member_of (member_tree m) ≡ Some m
+member_of-member_tree m short f = short_role m.0 m.1 (name_of (name_text m.0)) (is_long m.1) (name_of_text m.0 f) short
+
+pub members_in-trees : (members : List (Name × List ℕ)) → AreMembers members → All (λ (m : Name × List ℕ). HasId m.0) members → members_in (items_of (map member_tree members)) ≡ Some members
+members_in-trees [] h f = refl
+members_in-trees (m ∷ ms) h f =
+    let first = member_of-member_tree m (is_short (is_long m.1) (are_members ms) h) (f 0 m (omega arith)) in
+    let rest = members_in-trees ms (second_test (not (is_long m.1)) (are_members ms) h) (λ k d l. f (suc k) d (omega arith)) in
+    rw (first, rest) refl
+
 -- steps that all succeed
 pub two : {A B C : Type 0} (f : A → B → C) (r : Result A Fault) (s : Result B Fault) (a : A) (b : B) → r ≡ Ok a → s ≡ Ok b → (r >>= λ x. s >>= λ y. Ok (f x y)) ≡ Ok (f a b)
 two f r s a b h g = rw (h, g) refl
@@ -110,3 +129,10 @@ module _ (latitude_back : (z : ℤ) → IsLatitude z → latitude_of (written z)
       let tags_are : tags_at d ≡ Ok tags = ap (or_fault (BadField fields.Tags)) (tags_of-tag_members tags whole.2) in
       created d name way (ap (or_fault (BadField fields.El)) (name_of_text name f))
       (ap (λ k. element_at k d) (sym kind) ∙ two {C = Element Global} (λ x y. Way x y) (nodes_at d) (tags_at d) nodes tags nodes_are tags_are)
+  element_read_back name (Relation members tags) f kind whole =
+      let relation : Element Global = Relation members tags in
+      let d = element_tree name relation in
+      let members_are : members_at d ≡ Ok members = ap (or_fault (BadField fields.Members)) (members_in-trees members whole.0 whole.1) in
+      let tags_are : tags_at d ≡ Ok tags = ap (or_fault (BadField fields.Tags)) (tags_of-tag_members tags whole.2) in
+      created d name relation (ap (or_fault (BadField fields.El)) (name_of_text name f))
+      (ap (λ k. element_at k d) (sym kind) ∙ two {C = Element Global} (λ x y. Relation x y) (members_at d) (tags_at d) members tags members_are tags_are)

@@ -1,4 +1,4 @@
--- The trees of replies nest at most five deep.
+-- The trees of replies nest at most six deep.
 use Rattle.std.proofs.Common.{◌≤◌, ℕ, List, [], ◌∷◌, map, arith}
 use Rattle.std.proofs.Math.Nat.{max-le}
 use Rattle.serde_json.specs.Data.{Data, depth, items_depth, members_depth}
@@ -9,7 +9,7 @@ use Rattle.osm_elements.specs.declared.element.Element.TheVariants as elements
 use Rattle.osm_elements.specs.TagRows.{Pairs}
 use Rattle.room_wire.specs.declared.answer.Answer.{Answer}
 use Rattle.room_wire.specs.declared.answer.Answer.TheVariants.{Done, Undid, Is, Map, Absent, Present, WrongKind, TooFew, TooMany, InUse, TagConflict, Repeat, NotLast, BadField, Memory, Full, NothingToUndo, NoSuch, NotYours, NotStanding, NotJson, NotObject, BadId, UnknownDo, BadLine}
-use Rattle.room_wire.specs.Trees.{id_tree, tag_members, element_tree, rows_tree, tree_of}
+use Rattle.room_wire.specs.Trees.{id_tree, member_tree, tag_members, element_tree, rows_tree, tree_of}
 
 items_are_shallow : {X : Type 0} (k : ℕ) (f : X → Data) → ((x : X) → depth (f x) ≤ k) → (xs : List X) → items_depth (items_of (map f xs)) ≤ k
 items_are_shallow k f h [] = omega arith
@@ -22,13 +22,17 @@ tags_are_flat (e ∷ es) = max-le (omega arith) (tags_are_flat es)
 nodes_are_flat : (names : List Name) → items_depth (items_of (map id_tree names)) ≤ 0
 nodes_are_flat names = items_are_shallow 0 id_tree (λ n. omega arith) names
 
+members_are_shallow : (members : List (Name × List ℕ)) → items_depth (items_of (map member_tree members)) ≤ 1
+members_are_shallow members = items_are_shallow 1 member_tree (λ m. omega arith) members
+
 -- an array or an object is one deeper than what it holds
-element_is_shallow : {A : Type 0} (name : Name) (e : Element A) → depth (element_tree name e) ≤ 2
+element_is_shallow : {A : Type 0} (name : Name) (e : Element A) → depth (element_tree name e) ≤ 3
 element_is_shallow name (elements.Node lat lon tags) = let t = tags_are_flat tags in omega arith
 element_is_shallow name (elements.Way nodes tags) = let t = tags_are_flat tags in let n = nodes_are_flat nodes in omega arith
+element_is_shallow name (elements.Relation members tags) = let t = tags_are_flat tags in let m = members_are_shallow members in omega arith
 
-rows_are_shallow : {A : Type 0} (rows : List (Name × Element A)) → depth (rows_tree rows) ≤ 3
-rows_are_shallow rows = let r = items_are_shallow 2 (λ r. element_tree r.0 r.1) (λ r. element_is_shallow r.0 r.1) rows in omega arith
+rows_are_shallow : {A : Type 0} (rows : List (Name × Element A)) → depth (rows_tree rows) ≤ 4
+rows_are_shallow rows = let r = items_are_shallow 3 (λ r. element_tree r.0 r.1) (λ r. element_is_shallow r.0 r.1) rows in omega arith
 
 pub tree_is_shallow : (id : ℕ) (answer : Answer) → depth (tree_of id answer) ≤ 127
 tree_is_shallow id (Done seq) = omega arith

@@ -19,16 +19,16 @@ use Rattle.room_history.specs.declared.action.Action.TheVariants as actions
 use Rattle.room_history.specs.declared.call.Request.TheVariants as requests
 use Rattle.room_wire.specs.declared.bad.Fault.TheVariants.{BadField, UnknownDo}
 use Rattle.room_wire.specs.declared.field.Field.{Field}
-use Rattle.room_wire.specs.declared.field.Field.TheVariants.{El, Lat, Lon, Nodes, Tags, Seq}
+use Rattle.room_wire.specs.declared.field.Field.TheVariants.{El, Lat, Lon, Nodes, Members, Tags, Seq}
 use Rattle.room_wire.specs.declared.incoming.Incoming.{Incoming}
 use Rattle.room_wire.specs.declared.incoming.Body.{Body}
 use Rattle.room_wire.specs.declared.incoming.Body.TheVariants as bodies
 use Rattle.room_wire.specs.ReadBack.{IsWhole}
 use Rattle.room_wire.specs.Reading.{◌>>=◌, or_fault}
-use Rattle.room_wire.specs.Spelling.{body_at, body_by, el_at, element_at, id_at, lat_at, lon_at, message_by, message_of, nodes_at, nodes_in, ordinal, seq_at, seq_from, spells, tags_at, tags_from, text_at, under}
+use Rattle.room_wire.specs.Spelling.{body_at, body_by, el_at, element_at, id_at, lat_at, lon_at, message_by, message_of, members_at, members_in, nodes_at, nodes_in, ordinal, seq_at, seq_from, spells, tags_at, tags_from, text_at, under}
 use Rattle.room_wire.specs.Trees.{whole}
 use Rattle.room_wire.specs.WellFormed.{Asks, Create, Delete, Get, HasElement, HasName, HasSeq, HasTags, HasText, HasWord, IsMessage, IsNumber, Map, MessageId, Undo, Word, word_text}
-use Rattle.room_wire.proofs.ReadBackProofs.{created, nodes_in-ids, tags_of-tag_members, three, two}
+use Rattle.room_wire.proofs.ReadBackProofs.{created, members_in-trees, nodes_in-ids, tags_of-tag_members, three, two}
 
 number_read : (n : ℕ) → IsNumber n → ordinal (whole n) ≡ Some n
 number_read n h =
@@ -77,6 +77,10 @@ element_read d (elements.Way nodes tags) h whole =
     let nodes_are : nodes_at d ≡ Ok nodes =
     ap (λ o. or_fault (BadField Nodes) (option_and_then nodes_in (option_and_then as_array o))) h.0 ∙ ap (or_fault (BadField Nodes)) (nodes_in-ids nodes whole.0 whole.1) in
     two {C = Element Global} (λ x y. elements.Way x y) (nodes_at d) (tags_at d) nodes tags nodes_are (tags_read d tags h.1 whole.2)
+element_read d (elements.Relation members tags) h whole =
+    let members_are : members_at d ≡ Ok members =
+    ap (λ o. or_fault (BadField Members) (option_and_then members_in (option_and_then as_array o))) h.0 ∙ ap (or_fault (BadField Members)) (members_in-trees members whole.0 whole.1) in
+    two {C = Element Global} (λ x y. elements.Relation x y) (members_at d) (tags_at d) members tags members_are (tags_read d tags h.1 whole.2)
 
 asked : (d : Data) (body : Body) → Asks d body → body_at d ≡ Ok body
 asked d (bodies.Change (requests.Do (actions.Create name element))) (word, named, has, kind, whole) =

@@ -4,11 +4,11 @@ use Rattle.std.specs.declared.alloc.Global.{Global}
 use Rattle.osm_elements.specs.declared.name.Name.{Name}
 use Rattle.osm_elements.specs.declared.name.Kind.TheVariants as kinds
 use Rattle.osm_elements.specs.declared.element.Element.{Element}
-use Rattle.osm_elements.specs.declared.element.Element.TheVariants.{Node, Way}
+use Rattle.osm_elements.specs.declared.element.Element.TheVariants.{Node, Way, Relation}
 use Rattle.osm_elements.specs.NameTexts.{named}
 use Rattle.room_history.specs.declared.action.Action.TheVariants.{Create, Delete}
 use Rattle.room_history.specs.declared.call.Request.TheVariants.{Do, Undo}
-use Rattle.room_wire.specs.declared.field.Field.TheVariants.{El, Lat, Nodes, Tags, Seq}
+use Rattle.room_wire.specs.declared.field.Field.TheVariants.{El, Lat, Nodes, Members, Tags, Seq}
 use Rattle.room_wire.specs.declared.bad.Bad.{Bad}
 use Rattle.room_wire.specs.declared.bad.Fault.{Fault}
 use Rattle.room_wire.specs.declared.bad.Fault.TheVariants.{NotJson, NotObject, BadId, UnknownDo, BadField}
@@ -29,6 +29,9 @@ n7 = named kinds.Node (pos 7) tt
 abbrev pub w1 : Name
 w1 = named kinds.Way (pos 1) tt
 
+abbrev pub r-2 : Name
+r-2 = named kinds.Relation (negsuc 1) tt
+
 -- 51.5 degrees north and 0.1 degrees west
 abbrev pub greenwich : Element Global
 greenwich = Node (pos 515000000) (negsuc 999999) []
@@ -45,6 +48,8 @@ reads_messages =
     (spells (codes "{\"id\":1,\"do\":\"create\",\"el\":\"n-1\",\"lat\":\"51.5\",\"lon\":\"-0.1\",\"tags\":{}}") ≡ asks 1 (Change (Do (Create n-1 greenwich))))
     × (spells (codes "{\"tags\": {\"b\": \"2\", \"a\": \"1\"}, \"nodes\": [-1, 7, -1], \"el\": \"w1\", \"x\": [null], \"do\": \"create\", \"id\": 2}")
     ≡ asks 2 (Change (Do (Create w1 (Way (n-1 ∷ n7 ∷ n-1 ∷ []) ((codes "a", codes "1") ∷ (codes "b", codes "2") ∷ []))))))
+    × (spells (codes "{\"id\":2,\"do\":\"create\",\"el\":\"r-2\",\"members\":[[\"w1\",\"outer\"],[\"r-2\",\"\"],[\"w1\",\"outer\"]]}")
+    ≡ asks 2 (Change (Do (Create r-2 (Relation ((w1, codes "outer") ∷ (r-2, []) ∷ (w1, codes "outer") ∷ []) [])))))
     × (spells (codes "{\"id\":0,\"do\":\"delete\",\"el\":\"w1\",\"id\":3}") ≡ asks 3 (Change (Do (Delete w1))))
     × (spells (codes "{\"id\":4,\"do\":\"undo\",\"seq\":9}") ≡ asks 4 (Change (Undo (Some 9))))
     × (spells (codes "{\"id\":5,\"do\":\"undo\"}") ≡ asks 5 (Change (Undo None)))
@@ -71,7 +76,13 @@ tells_an_id =
     (spells (codes "{\"id\":1}") ≡ fails 1 UnknownDo)
     × (spells (codes "{\"id\":1,\"do\":\"dance\",\"el\":1}") ≡ fails 1 UnknownDo)
     × (spells (codes "{\"id\":1,\"do\":\"get\",\"el\":\"n05\"}") ≡ fails 1 (BadField El))
-    × (spells (codes "{\"id\":1,\"do\":\"create\",\"el\":\"r1\",\"tags\":1}") ≡ fails 1 (BadField El))
+    × (spells (codes "{\"id\":1,\"do\":\"create\",\"el\":\"r-2\",\"tags\":1}") ≡ fails 1 (BadField Members))
+    × (spells (codes "{\"id\":1,\"do\":\"create\",\"el\":\"r-2\",\"members\":null,\"tags\":1}") ≡ fails 1 (BadField Members))
+    × (spells (codes "{\"id\":1,\"do\":\"create\",\"el\":\"r-2\",\"members\":[[\"n7\"]]}") ≡ fails 1 (BadField Members))
+    × (spells (codes "{\"id\":1,\"do\":\"create\",\"el\":\"r-2\",\"members\":[[\"n7\",\"\",\"\"]]}") ≡ fails 1 (BadField Members))
+    × (spells (codes "{\"id\":1,\"do\":\"create\",\"el\":\"r-2\",\"members\":[[\"n0\",\"\"]]}") ≡ fails 1 (BadField Members))
+    × (spells (codes "{\"id\":1,\"do\":\"create\",\"el\":\"r-2\",\"members\":[[\"n7\",null]]}") ≡ fails 1 (BadField Members))
+    × (spells (codes "{\"id\":1,\"do\":\"create\",\"el\":\"r-2\",\"members\":[],\"tags\":1}") ≡ fails 1 (BadField Tags))
     × (spells (codes "{\"id\":1,\"do\":\"create\",\"el\":\"n7\",\"lat\":\"90.0000001\",\"lon\":0,\"tags\":1}") ≡ fails 1 (BadField Lat))
     × (spells (codes "{\"id\":1,\"do\":\"create\",\"el\":\"w1\",\"nodes\":[1,0],\"tags\":1}") ≡ fails 1 (BadField Nodes))
     × (spells (codes "{\"id\":1,\"do\":\"create\",\"el\":\"w1\",\"nodes\":[],\"tags\":null}") ≡ fails 1 (BadField Tags))
@@ -94,3 +105,5 @@ writes_elements =
     (compact_text (element_tree n-1 greenwich) ≡ codes "{\"el\":\"n-1\",\"lat\":\"51.5000000\",\"lon\":\"-0.1000000\",\"tags\":{}}")
     × (let way : Element Global = Way (n-1 ∷ n7 ∷ []) ((codes "a\"", codes "\n") ∷ []) in
     compact_text (rows_tree ((w1, way) ∷ [])) ≡ codes "[{\"el\":\"w1\",\"nodes\":[-1,7],\"tags\":{\"a\\\"\":\"\\n\"}}]")
+    × (let relation : Element Global = Relation ((w1, codes "outer") ∷ (n7, []) ∷ []) [] in
+    compact_text (element_tree r-2 relation) ≡ codes "{\"el\":\"r-2\",\"members\":[[\"w1\",\"outer\"],[\"n7\",\"\"]],\"tags\":{}}")

@@ -3,7 +3,7 @@ use Rattle.std.specs.Prelude.{ℕ, ℤ, ◌&&◌, List, [], ◌∷◌, length, O
 use Rattle.std.specs.Option.{option_and_then, option_map}
 use Rattle.std.specs.Str.{bytes_eq}
 use Rattle.std.specs.declared.alloc.Global.{Global}
-use Rattle.serde_json.specs.Data.{Data, Items, no_items, item, Members, no_members, member}
+use Rattle.serde_json.specs.Data.{Data, Items, no_items, item, Members as ObjectMembers, no_members, member}
 use Rattle.serde_json.specs.Events.{members_len}
 use Rattle.serde_json.specs.Find.{get, as_str, as_number, as_array, as_object, as_u64, as_i64}
 use Rattle.serde_json.specs.Read.{read}
@@ -23,7 +23,7 @@ use Rattle.room_history.specs.declared.action.Action.{Action}
 use Rattle.room_history.specs.declared.action.Action.TheVariants as actions
 use Rattle.room_history.specs.declared.call.Request.TheVariants as requests
 use Rattle.room_wire.specs.declared.field.Field.{Field}
-use Rattle.room_wire.specs.declared.field.Field.TheVariants.{El, Lat, Lon, Nodes, Tags, Seq}
+use Rattle.room_wire.specs.declared.field.Field.TheVariants.{El, Lat, Lon, Nodes, Members, Tags, Seq}
 use Rattle.room_wire.specs.declared.bad.Fault.{Fault}
 use Rattle.room_wire.specs.declared.bad.Fault.TheVariants.{NotJson, NotObject, BadId, UnknownDo, BadField, Memory}
 use Rattle.room_wire.specs.declared.bad.Bad.{Bad}
@@ -51,40 +51,64 @@ lat_at d = or_fault (BadField Lat) (option_and_then latitude_of (text_at Lat d))
 abbrev pub lon_at : Data → Result ℤ Fault
 lon_at d = or_fault (BadField Lon) (option_and_then longitude_of (text_at Lon d))
 
+-- what the items of an array are, where each is something
+abbrev pub items_in : {X : Type 0} → (Data → Option X) → Items → Option (List X)
+items_in reading no_items = Some []
+items_in reading (item d ds) = option_and_then (λ x. option_map (λ xs. x ∷ xs) (items_in reading ds)) (reading d)
+
 -- an array of whole numbers, each an i64 other than 0: the ids of nodes
 abbrev pub node_of : Data → Option Name
 node_of d = option_and_then (name_with kinds.Node) (option_and_then as_i64 (as_number d))
 
 abbrev pub nodes_in : Items → Option (List Name)
-nodes_in no_items = Some []
-nodes_in (item d ds) = option_and_then (λ n. option_map (λ ns. n ∷ ns) (nodes_in ds)) (node_of d)
+nodes_in = items_in node_of
 
 abbrev pub nodes_at : Data → Result (List Name) Fault
 nodes_at d = or_fault (BadField Nodes) (option_and_then nodes_in (option_and_then as_array (get (field_text Nodes) d)))
 
--- an object of at most 1,000 keys, each of 1 to 255 characters, and each value a string of at most 255
+-- at most 255 characters
 abbrev pub text_of : List ℕ → Option (List ℕ)
 text_of text = if is_long text then None else Some text
 
+-- an array of members, each an array of two strings: a name, and a role of at most 255 characters
+abbrev pub member_with : Data → Data → Option (Name × List ℕ)
+member_with d e = option_and_then (λ name. option_map (λ role. (name, role)) (option_and_then text_of (as_str e))) (option_and_then name_of (as_str d))
+
+abbrev pub member_in : Items → Option (Name × List ℕ)
+member_in no_items = None
+member_in (item d no_items) = None
+member_in (item d (item e no_items)) = member_with d e
+member_in (item d (item e (item f ds))) = None
+
+abbrev pub member_of : Data → Option (Name × List ℕ)
+member_of d = option_and_then member_in (as_array d)
+
+abbrev pub members_in : Items → Option (List (Name × List ℕ))
+members_in = items_in member_of
+
+abbrev pub members_at : Data → Result (List (Name × List ℕ)) Fault
+members_at d = or_fault (BadField Members) (option_and_then members_in (option_and_then as_array (get (field_text Members) d)))
+
+-- an object of at most 1,000 keys, each of 1 to 255 characters, and each value a string of at most 255
 abbrev pub key_of : List ℕ → Option (List ℕ)
 key_of text = if nat_eq (length text) 0 then None else text_of text
 
 abbrev pub tag_of : List ℕ → Data → Option (List ℕ × List ℕ)
 tag_of k d = option_and_then (λ key. option_map (λ value. (key, value)) (option_and_then text_of (as_str d))) (key_of k)
 
-abbrev pub tags_in : Members → Option Pairs
+abbrev pub tags_in : ObjectMembers → Option Pairs
 tags_in no_members = Some []
 tags_in (member k d ms) = option_and_then (λ tag. option_map (λ tags. tag ∷ tags) (tags_in ms)) (tag_of k d)
 
-abbrev pub tags_of : Members → Option Pairs
+abbrev pub tags_of : ObjectMembers → Option Pairs
 tags_of ms = if nat_le (members_len ms) 1000 then tags_in ms else None
 
--- what refuses a text or a tag, to a message
-abbrev pub fault_of_tags : TextFault → Fault
-fault_of_tags text_faults.TextTooLong = BadField Tags
-fault_of_tags text_faults.EmptyKey = BadField Tags
-fault_of_tags text_faults.TooManyTags = BadField Tags
-fault_of_tags text_faults.Memory = Memory
+-- what refuses a text or a tag of a field, to a message
+abbrev pub fault_in : Field → TextFault → Fault
+fault_in field text_faults.TextTooLong = BadField field
+fault_in field text_faults.EmptyKey = BadField field
+fault_in field text_faults.TooManyTags = BadField field
+fault_in field text_faults.Memory = Memory
 
 -- a field that may be missing
 abbrev pub tags_from : Option Data → Result Pairs Fault
@@ -105,7 +129,7 @@ seq_at d = seq_from (get (field_text Seq) d)
 abbrev pub element_at : Kind → Data → Result (Element Global) Fault
 element_at kinds.Node d = lat_at d >>= λ lat. lon_at d >>= λ lon. tags_at d >>= λ tags. Ok (elements.Node lat lon tags)
 element_at kinds.Way d = nodes_at d >>= λ nodes. tags_at d >>= λ tags. Ok (elements.Way nodes tags)
-element_at kinds.Relation d = Err (BadField El)
+element_at kinds.Relation d = members_at d >>= λ members. tags_at d >>= λ tags. Ok (elements.Relation members tags)
 
 abbrev pub create_at : Data → Result (Action Global) Fault
 create_at d = el_at d >>= λ name. element_at name.kind d >>= λ element. Ok (actions.Create name element)

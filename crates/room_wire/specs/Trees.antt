@@ -1,6 +1,6 @@
 -- The tree of each reply. (RFC 8259, sections 4 to 7. Which members a reply has is this project's.)
 use Rattle.std.specs.Prelude.{◌≡◌, ℕ, List, [], ◌∷◌, map, codes}
-use Rattle.serde_json.specs.Data.{Data, number, string, array, object, unsigned, Members, no_members, member}
+use Rattle.serde_json.specs.Data.{Data, number, string, array, object, unsigned, no_items, item, Members, no_members, member}
 use Rattle.serde_json.specs.Find.{of_integer}
 use Rattle.serde_json.specs.View.{items_of}
 use Rattle.osm_coords.specs.Written.{written}
@@ -26,7 +26,14 @@ id_tree name = number (of_integer name.id)
 abbrev pub nodes_tree : List Name → Data
 nodes_tree names = array (items_of (map id_tree names))
 
--- a member for each tag
+-- a member of a relation is its name and its role
+abbrev pub member_tree : Name × List ℕ → Data
+member_tree m = array (item (name_tree m.0) (item (string m.1) no_items))
+
+abbrev pub members_tree : List (Name × List ℕ) → Data
+members_tree members = array (items_of (map member_tree members))
+
+-- a member of an object for each tag
 abbrev pub tag_members : Pairs → Members
 tag_members [] = no_members
 tag_members (e ∷ es) = member e.0 (string e.1) (tag_members es)
@@ -39,6 +46,8 @@ element_tree name (elements.Node lat lon tags) =
     object (member (codes "el") (name_tree name) (member (codes "lat") (string (written lat)) (member (codes "lon") (string (written lon)) (member (codes "tags") (tags_tree tags) no_members))))
 element_tree name (elements.Way nodes tags) =
     object (member (codes "el") (name_tree name) (member (codes "nodes") (nodes_tree nodes) (member (codes "tags") (tags_tree tags) no_members)))
+element_tree name (elements.Relation members tags) =
+    object (member (codes "el") (name_tree name) (member (codes "members") (members_tree members) (member (codes "tags") (tags_tree tags) no_members)))
 
 abbrev pub rows_tree : {A : Type 0} → List (Name × Element A) → Data
 rows_tree rows = array (items_of (map (λ r. element_tree r.0 r.1) rows))

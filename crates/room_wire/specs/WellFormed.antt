@@ -15,14 +15,14 @@ use Rattle.room_history.specs.declared.action.Action.TheVariants as actions
 use Rattle.room_history.specs.declared.call.Request.TheVariants as requests
 use Rattle.room_wire.specs.declared.bad.Fault.{Fault}
 use Rattle.room_wire.specs.declared.field.Field.{Field}
-use Rattle.room_wire.specs.declared.field.Field.TheVariants.{El, Lat, Lon, Nodes, Tags, Seq}
+use Rattle.room_wire.specs.declared.field.Field.TheVariants.{El, Lat, Lon, Nodes, Members, Tags, Seq}
 use Rattle.room_wire.specs.declared.incoming.Incoming.{Incoming}
 use Rattle.room_wire.specs.declared.incoming.Body.{Body}
 use Rattle.room_wire.specs.declared.incoming.Body.TheVariants as bodies
 use Rattle.room_wire.specs.Fields.{field_text}
 use Rattle.room_wire.specs.ReadBack.{HasId, IsWhole}
-use Rattle.room_wire.specs.Spelling.{el_at, lat_at, lon_at, nodes_at, seq_at, tags_at}
-use Rattle.room_wire.specs.Trees.{name_tree, nodes_tree, tags_tree, whole}
+use Rattle.room_wire.specs.Spelling.{el_at, lat_at, lon_at, members_at, nodes_at, seq_at, tags_at}
+use Rattle.room_wire.specs.Trees.{members_tree, name_tree, nodes_tree, tags_tree, whole}
 
 -- the words of messages, and their texts
 pub data Word : Type 0 where
@@ -79,6 +79,7 @@ HasName d name = Has d El (name_tree name) × HasId name
 abbrev pub HasElement : {A : Type 0} → Data → Element A → Type 0
 HasElement d (elements.Node lat lon tags) = HasText d Lat latitude_of lat × HasText d Lon longitude_of lon × HasTags d tags
 HasElement d (elements.Way nodes tags) = Has d Nodes (nodes_tree nodes) × HasTags d tags
+HasElement d (elements.Relation members tags) = Has d Members (members_tree members) × HasTags d tags
 
 -- the word and the fields of a message, by what it asks for
 abbrev pub Asks : Data → Body → Type 0
@@ -102,11 +103,11 @@ Slot = Field × Bool
 abbrev pub slot : {X : Type 0} → Field → Result X Fault → Slot
 slot field read = (field, is_ok read)
 
--- the fields of an element, by its kind (a relation is no element of a `create` yet)
+-- the fields of an element, by its kind
 abbrev pub element_slots : Kind → Data → List Slot
 element_slots kinds.Node d = slot Lat (lat_at d) ∷ slot Lon (lon_at d) ∷ slot Tags (tags_at d) ∷ []
 element_slots kinds.Way d = slot Nodes (nodes_at d) ∷ slot Tags (tags_at d) ∷ []
-element_slots kinds.Relation d = (El, false) ∷ []
+element_slots kinds.Relation d = slot Members (members_at d) ∷ slot Tags (tags_at d) ∷ []
 
 abbrev pub named_slots : Result Name Fault → Data → List Slot
 named_slots (Ok name) d = element_slots name.kind d

@@ -48,7 +48,7 @@ pub enum Answer<'a> {
     WrongKind(Name),
     /// This way has too few nodes.
     TooFew(Name),
-    /// This way has too many nodes.
+    /// This way has too many nodes, or this relation too many members.
     TooMany(Name),
     /// The element is referred to.
     InUse {

@@ -3,12 +3,15 @@ ghost use Rattle.std.specs.Prelude.{◌≡◌, IfOk};
 ghost use Rattle.serde_json.specs.Data.{string};
 ghost use Rattle.serde_json.specs.View.{view};
 ghost use Rattle.std.specs.Str.{IsAscii};
-ghost use Rattle.room_wire.specs.Trees.{name_tree, nodes_tree, tags_tree, element_tree, rows_tree};
+ghost use Rattle.room_wire.specs.Trees.{name_tree, nodes_tree, member_tree, members_tree, tags_tree, element_tree, rows_tree};
+ghost use Rattle.osm_elements.specs.Members.{member_pair};
 
 use osm_coords::COORDINATE_LENGTH;
 use osm_elements::Memory;
 use osm_elements::element::Element;
 use osm_elements::map::Rows;
+use osm_elements::member::Member;
+use osm_elements::members::Members;
 use osm_elements::name::{NAME_LENGTH, Name};
 use osm_elements::nodes::Nodes;
 use osm_elements::tags::Tags;
@@ -36,6 +39,12 @@ pub fn element_tree(alloc: Global, name: Name, element: &Element<Global>) -> Res
             let nodes = nodes_tree(alloc, nodes)?;
             let tags = tags_tree(alloc, tags)?;
             json!(in alloc; {"el": el, "nodes": nodes, "tags": tags})
+        }
+        Element::Relation { members, tags } => {
+            let el = name_tree(alloc, name)?;
+            let members = members_tree(alloc, members)?;
+            let tags = tags_tree(alloc, tags)?;
+            json!(in alloc; {"el": el, "members": members, "tags": tags})
         }
     }
 }
@@ -78,6 +87,26 @@ fn nodes_tree(alloc: Global, nodes: &Nodes<Global>) -> Result<Value, Memory>
         items.push(Value::from(node.id()))?;
     }
     Ok(Value::Array(items))
+}
+
+// The members of a relation.
+fn members_tree(alloc: Global, members: &Members<Global>) -> Result<Value, Memory>
+    ensures { IfOk result (λ v. view v ≡ members_tree members.now) }
+{
+    let mut items = Vec::new(alloc);
+    for member in members.as_slice() {
+        items.push(member_tree(alloc, member)?)?;
+    }
+    Ok(Value::Array(items))
+}
+
+// A member of a relation, as its name and its role.
+fn member_tree(alloc: Global, member: &Member<Global>) -> Result<Value, Memory>
+    ensures { IfOk result (λ v. view v ≡ member_tree (member_pair member.now)) }
+{
+    let name = name_tree(alloc, member.name)?;
+    let role = member.role.as_str();
+    json!(in alloc; [name, role])
 }
 
 // An object with a member for each tag.

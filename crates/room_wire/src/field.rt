@@ -13,6 +13,8 @@ pub enum Field {
     Lon,
     /// A way's nodes.
     Nodes,
+    /// A relation's members.
+    Members,
     /// An element's tags.
     Tags,
     /// The number of an entry.
@@ -29,6 +31,7 @@ impl Field {
             Field::Lat => "lat",
             Field::Lon => "lon",
             Field::Nodes => "nodes",
+            Field::Members => "members",
             Field::Tags => "tags",
             Field::Seq => "seq",
         }

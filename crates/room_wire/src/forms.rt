@@ -4,7 +4,7 @@ ghost use Rattle.std.specs.FinMap.Entries.{put};
 ghost use Rattle.std.specs.Option.{option_map};
 ghost use Rattle.serde_json.specs.View.{view, items_view, members_view};
 ghost use Rattle.room_wire.specs.Reading.{Gives, or_fault};
-ghost use Rattle.room_wire.specs.Spelling.{text_at, el_at, lat_at, lon_at, node_of, nodes_in, nodes_at, text_of, tag_of, tags_of, tags_at, seq_at, ordinal, fault_of_tags};
+ghost use Rattle.room_wire.specs.Spelling.{text_at, el_at, lat_at, lon_at, node_of, nodes_in, nodes_at, member_with, member_in, member_of, members_in, members_at, text_of, tag_of, tags_of, tags_at, seq_at, ordinal, fault_in};
 ghost use Rattle.osm_elements.specs.TagRows.{text_cmp};
 ghost use Rattle.osm_elements.specs.NameTexts.{name_with};
 ghost use Rattle.osm_elements.specs.declared.name.Kind.TheVariants as kind;
@@ -15,6 +15,8 @@ use crate::bad::Fault;
 use crate::field::Field;
 use osm_coords::{Lat, Lon};
 use osm_elements::fault::TextFault;
+use osm_elements::member::Member;
+use osm_elements::members::Members;
 use osm_elements::name::{Kind, Name};
 use osm_elements::nodes::Nodes;
 use osm_elements::tags::{MOST_TAGS, Tags};
@@ -112,6 +114,60 @@ fn node_with(id: i64) -> Option<Name>
     Name::new(Kind::Node, id)
 }
 
+// The members of a relation.
+pub fn members_of(alloc: Global, message: &Value) -> Result<Members<Global>, Fault>
+    ensures { Gives result (members_at (view message.now)) }
+{
+    let items = message
+        .get(Field::Members.as_str())
+        .and_then(Value::as_array)
+        .ok_or(Fault::BadField(Field::Members))?;
+    members_in(alloc, items)
+}
+
+// The members with these names and roles.
+fn members_in(alloc: Global, items: &[Value]) -> Result<Members<Global>, Fault>
+    ensures { Gives result (or_fault (BadField field.Members) (members_in (items_view items.now))) }
+{
+    let mut members = Members::empty(alloc);
+    for item in items {
+        let (name, role) = member_of(alloc, item)?;
+        members.push(Member::new(name, role))?;
+    }
+    Ok(members)
+}
+
+// The name and the role of a member.
+fn member_of(alloc: Global, item: &Value) -> Result<(Name, Text<Global>), Fault>
+    ensures { Gives result (or_fault (BadField field.Members) (member_of (view item.now))) }
+{
+    let items = item.as_array().ok_or(Fault::BadField(Field::Members))?;
+    member_in(alloc, items)
+}
+
+// The name and the role that two items are.
+fn member_in(alloc: Global, items: &[Value]) -> Result<(Name, Text<Global>), Fault>
+    ensures { Gives result (or_fault (BadField field.Members) (member_in (items_view items.now))) }
+{
+    if items.len() != 2 {
+        return Err(Fault::BadField(Field::Members));
+    }
+    member_with(alloc, &items[0], &items[1])
+}
+
+// The name and the role that two strings are.
+fn member_with(alloc: Global, name: &Value, role: &Value) -> Result<(Name, Text<Global>), Fault>
+    ensures { Gives result (or_fault (BadField field.Members) (member_with (view name.now) (view role.now))) }
+{
+    let name = name
+        .as_str()
+        .and_then(Name::read)
+        .ok_or(Fault::BadField(Field::Members))?;
+    let role = role.as_str().ok_or(Fault::BadField(Field::Members))?;
+    let role = text_of(alloc, Field::Members, role)?;
+    Ok((name, role))
+}
+
 // The number of an entry, which may be missing.
 pub fn seq_of(message: &Value) -> Result<Option<u64>, Fault>
     ensures { result ≡ seq_at (view message.now) }
@@ -161,17 +217,17 @@ fn tag_of(alloc: Global, key: &str, value: &Value) -> Result<(Text<Global>, Text
     if key.is_empty() {
         return Err(Fault::BadField(Field::Tags));
     }
-    let key = text_of(alloc, key)?;
+    let key = text_of(alloc, Field::Tags, key)?;
     let value = value.as_str().ok_or(Fault::BadField(Field::Tags))?;
-    let value = text_of(alloc, value)?;
+    let value = text_of(alloc, Field::Tags, value)?;
     Ok((key, value))
 }
 
-// A key or a value.
-fn text_of(alloc: Global, text: &str) -> Result<Text<Global>, Fault>
-    ensures { Gives result (or_fault (BadField field.Tags) (text_of text.now)) }
+// A key, a value or a role.
+fn text_of(alloc: Global, field: Field, text: &str) -> Result<Text<Global>, Fault>
+    ensures { Gives result (or_fault (BadField field) (text_of text.now)) }
 {
-    Text::new(alloc, text).map_err(of_tags)
+    Text::new(alloc, text).map_err(|fault| fault_in(field, fault))
 }
 
 // Gives a key its value, where there is room for one more tag.
@@ -181,17 +237,18 @@ fn put_tag(tags: &mut Tags<Global>, key: Text<Global>, value: Text<Global>) -> R
     ensures ok { OnOk result (tags.new ≡ put text_cmp key value tags.old) }
     ensures err { IfErr result (λ f. f ≡ Memory) }
 {
-    tags.set(key, value).map_err(of_tags)
+    tags.set(key, value)
+        .map_err(|fault| fault_in(Field::Tags, fault))
 }
 
-// What a fault of a text or a tag is to a message.
-fn of_tags(fault: TextFault) -> Fault
-    ensures { result ≡ fault_of_tags fault }
+// What a fault of a text or a tag of a field is to a message.
+fn fault_in(field: Field, fault: TextFault) -> Fault
+    ensures { result ≡ fault_in field fault }
 {
     match fault {
         TextFault::Memory => Fault::Memory,
         TextFault::TextTooLong | TextFault::EmptyKey | TextFault::TooManyTags => {
-            Fault::BadField(Field::Tags)
+            Fault::BadField(field)
         }
     }
 }

@@ -7,8 +7,7 @@ ghost use Rattle.room_wire.specs.Reading.{Gives, GivesMessage};
 ghost use Rattle.room_wire.specs.Spelling.{spells, id_at, body_at, body_by, create_at, element_at};
 
 use crate::bad::{Bad, Fault};
-use crate::field::Field;
-use crate::forms::{el_of, lat_of, lon_of, nodes_of, ordinal, seq_of, tags_of};
+use crate::forms::{el_of, lat_of, lon_of, members_of, nodes_of, ordinal, seq_of, tags_of};
 use crate::incoming::{Body, Incoming};
 use osm_elements::element::Element;
 use osm_elements::name::Kind;
@@ -25,16 +24,17 @@ use std::alloc::Global;
 ///
 /// | `do` | Fields, in the order in which they are read |
 /// |---|---|
-/// | `create` | `el`; for a node `lat` and `lon`, for a way `nodes`; then `tags`, which may be missing |
+/// | `create` | `el`; for a node `lat` and `lon`, for a way `nodes`, for a relation `members`; then `tags`, which may be missing |
 /// | `delete`, `get` | `el` |
 /// | `undo` | `seq`, which may be missing |
 /// | `map` | none |
 ///
 /// The first field that is missing or not of its form is told (`BadField`). `el` is the name of an
-/// element, and not of a relation in a `create`. `lat` and `lon` are strings that [`osm_coords`] reads.
-/// `nodes` is an array of whole numbers, each an `i64` other than 0. `tags` is an object of at most
-/// 1,000 keys, each of 1 to 255 characters, whose values are strings of at most 255 characters
-/// (OpenStreetMap wiki, "Elements"). `seq` has the form of `id`.
+/// element. `lat` and `lon` are strings that [`osm_coords`] reads. `nodes` is an array of whole numbers,
+/// each an `i64` other than 0. `members` is an array of arrays of two strings each, the name of an element and a
+/// role of at most 255 characters, which may be empty. `tags` is an object of at most 1,000 keys, each of 1 to 255
+/// characters, whose values are strings of at most 255 characters (OpenStreetMap wiki, "Elements"). `seq` has the
+/// form of `id`.
 ///
 /// A whole number is one that is written without a point and an exponent and fits 64 bits, and is not
 /// `-0`. Of members with the same key the last counts, `null` is a value, and members that no message
@@ -126,6 +126,10 @@ fn element_of(alloc: Global, kind: Kind, message: &Value) -> Result<Element<Glob
             let tags = tags_of(alloc, message)?;
             Ok(Element::Way { nodes, tags })
         }
-        Kind::Relation => Err(Fault::BadField(Field::El)),
+        Kind::Relation => {
+            let members = members_of(alloc, message)?;
+            let tags = tags_of(alloc, message)?;
+            Ok(Element::Relation { members, tags })
+        }
     }
 }

@@ -87,6 +87,14 @@ fn reads_the_words(rt: HostRuntime) -> Result<(), Fail> {
             r#"{"id":5,"ok":{"is":{"el":"w-9223372036854775808","nodes":[9223372036854775807,-9223372036854775808],"tags":{}}}}"#,
         ),
         (
+            r#"{"id":5,"do":"create","el":"r5","members":[["w3","outer"],["r5",""],["n-1","\u00e9"],["w3","outer"]],"tags":{"a":"1"}}"#,
+            r#"{"id":5,"ok":{"is":{"el":"r5","members":[["w3","outer"],["r5",""],["n-1","é"],["w3","outer"]],"tags":{"a":"1"}}}}"#,
+        ),
+        (
+            r#"{"id":5,"do":"create","el":"r-5","members":[]}"#,
+            r#"{"id":5,"ok":{"is":{"el":"r-5","members":[],"tags":{}}}}"#,
+        ),
+        (
             r#"{"id":6,"do":"delete","el":"r6"}"#,
             r#"{"id":6,"no":{"el":"r6","why":"absent"}}"#,
         ),
@@ -176,7 +184,6 @@ fn tells_bad_fields(rt: HostRuntime) -> Result<(), Fail> {
             r#""do":"create","el":"n9223372036854775808","lat":"0","lon":"0""#,
             "el",
         ),
-        (r#""do":"create","el":"r1","members":[]"#, "el"),
         (r#""do":"create","el":1,"lat":"0","lon":"0""#, "el"),
         (r#""do":"create","el":"n1""#, "lat"),
         (
@@ -223,6 +230,34 @@ fn tells_bad_fields(rt: HostRuntime) -> Result<(), Fail> {
             "nodes",
         ),
         (r#""do":"create","el":"w1","nodes":[1],"tags":1"#, "tags"),
+        (r#""do":"create","el":"r1""#, "members"),
+        (r#""do":"create","el":"r1","nodes":[]"#, "members"),
+        (r#""do":"create","el":"r1","members":null"#, "members"),
+        (r#""do":"create","el":"r1","members":{}"#, "members"),
+        (r#""do":"create","el":"r1","members":["n1"]"#, "members"),
+        (r#""do":"create","el":"r1","members":[[]]"#, "members"),
+        (r#""do":"create","el":"r1","members":[["n1"]]"#, "members"),
+        (
+            r#""do":"create","el":"r1","members":[["n1","",""]]"#,
+            "members",
+        ),
+        (r#""do":"create","el":"r1","members":[[1,""]]"#, "members"),
+        (
+            r#""do":"create","el":"r1","members":[["n0",""]]"#,
+            "members",
+        ),
+        (
+            r#""do":"create","el":"r1","members":[["n1",null]]"#,
+            "members",
+        ),
+        (
+            r#""do":"create","el":"r1","members":[["n1",""],["",""]],"tags":1"#,
+            "members",
+        ),
+        (
+            r#""do":"create","el":"r1","members":[["n1",""]],"tags":1"#,
+            "tags",
+        ),
         (r#""do":"delete""#, "el"),
         (r#""do":"get","el":"x1""#, "el"),
         (r#""do":"undo","seq":0"#, "seq"),
@@ -254,6 +289,7 @@ fn a_cut_message_is_not_json(rt: HostRuntime) -> Result<(), Fail> {
     let texts = [
         r#"{"id":1,"do":"create","el":"n-1","lat":"51.5","lon":"-0.1","tags":{}}"#,
         r#"{"id":4,"do":"create","el":"w1","nodes":[-1,-2]}"#,
+        r#"{"id":6,"do":"create","el":"r1","members":[["w1","outer"]]}"#,
         r#"{"id":2,"do":"get","el":"n-1"}"#,
         r#"{"id":1,"do":"delete","el":"n1"}"#,
         r#"{"id":1,"do":"undo","seq":9}"#,
@@ -310,6 +346,27 @@ fn limits_count_characters(rt: HostRuntime) -> Result<(), Fail> {
         is_shown(&rt, alloc, text.as_str(), bad)?;
         let text = format!(in alloc;
             "{{\"id\":1,\"do\":\"create\",\"el\":\"w1\",\"nodes\":[],\"tags\":{{\"k\":\"{more}\"}}}}"
+        )?;
+        is_shown(&rt, alloc, text.as_str(), bad)?;
+    }
+    Ok(())
+}
+
+#[test]
+fn limits_of_roles_count_characters(rt: HostRuntime) -> Result<(), Fail> {
+    let alloc = rt.alloc();
+    let bad = r#"{"id":1,"no":{"field":"members","why":"bad_field"}}"#;
+    for character in ["a", "é", "€", "😀"] {
+        let (most, more) = (times(alloc, character, 255)?, times(alloc, character, 256)?);
+        let text = format!(in alloc;
+            "{{\"id\":1,\"do\":\"create\",\"el\":\"r1\",\"members\":[[\"n1\",\"{most}\"]]}}"
+        )?;
+        let reply = format!(in alloc;
+            "{{\"id\":1,\"ok\":{{\"is\":{{\"el\":\"r1\",\"members\":[[\"n1\",\"{most}\"]],\"tags\":{{}}}}}}}}"
+        )?;
+        is_shown(&rt, alloc, text.as_str(), reply.as_str())?;
+        let text = format!(in alloc;
+            "{{\"id\":1,\"do\":\"create\",\"el\":\"r1\",\"members\":[[\"n1\",\"{more}\"]]}}"
         )?;
         is_shown(&rt, alloc, text.as_str(), bad)?;
     }

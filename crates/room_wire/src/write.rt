@@ -41,8 +41,9 @@ use std::alloc::Global;
 /// | every other | `{"why":WHY}` |
 ///
 /// WHY is the answer's name in lower case, as `wrong_kind`. A node is
-/// `{"el":NAME,"lat":TEXT,"lon":TEXT,"tags":{..}}`, and a way is
-/// `{"el":NAME,"nodes":[ID,..],"tags":{..}}` (OpenStreetMap wiki, "Elements").
+/// `{"el":NAME,"lat":TEXT,"lon":TEXT,"tags":{..}}`, a way is
+/// `{"el":NAME,"nodes":[ID,..],"tags":{..}}`, and a relation is
+/// `{"el":NAME,"members":[[NAME,ROLE],..],"tags":{..}}` (OpenStreetMap wiki, "Elements").
 ///
 /// The one refusal is `Memory`. The time is that of the reply's length, but for the sorting of keys.
 #[tactic(auto, using(crate::proofs::NoFloats::tree_has_no_float, crate::proofs::Shallow::tree_is_shallow))]

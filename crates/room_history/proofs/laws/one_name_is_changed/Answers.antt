@@ -1,4 +1,4 @@
-use Rattle.room_history.proofs.Differing.{created, deleted}
+use Rattle.osm_changes.specs.Facts.Differing.{created, deleted}
 use Rattle.room_history.proofs.laws.one_name_is_changed.Goals as goal
 
 pub returns-clause-create : goal.returns-clause-create

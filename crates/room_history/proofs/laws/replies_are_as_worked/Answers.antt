@@ -1,4 +1,4 @@
-use Rattle.room_history.proofs.ExampleProofs.{first_run_lem, range_ends_lem, limit_one_lem, limit_zero_lem, last_first_lem, refusals_in_turn_lem}
+use Rattle.room_history.proofs.ExampleProofs.{first_run_lem, range_ends_lem, limit_one_lem, limit_zero_lem, last_first_lem, refusals_in_turn_lem, relations_in_turn_lem}
 use Rattle.room_history.proofs.laws.replies_are_as_worked.Goals as goal
 
 pub returns-clause-first_run : goal.returns-clause-first_run
@@ -18,3 +18,6 @@ returns-clause-last_first c = last_first_lem
 
 pub returns-clause-refusals_in_turn : goal.returns-clause-refusals_in_turn
 returns-clause-refusals_in_turn c = refusals_in_turn_lem
+
+pub returns-clause-relations_in_turn : goal.returns-clause-relations_in_turn
+returns-clause-relations_in_turn c = relations_in_turn_lem

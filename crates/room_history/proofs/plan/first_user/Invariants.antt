@@ -1,5 +1,5 @@
 use Rattle.std.proofs.Common.{◌≡◌}
-use Rattle.room_history.specs.References.{users}
+use Rattle.osm_refs.specs.References.{users}
 use Rattle.room_history.proofs.plan.first_user.Given as goal
 
 abbrev pub invariant-loop-user : goal.invariant-loop-user

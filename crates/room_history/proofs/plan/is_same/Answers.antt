@@ -1,5 +1,5 @@
 use Rattle.std.proofs.Common.{◌∙◌}
-use Rattle.room_history.proofs.SameNames.{name_eq_is}
+use Rattle.osm_elements.specs.Facts.SameNames.{name_eq_is}
 use Rattle.room_history.proofs.plan.is_same.Goals as goal
 
 pub returns : goal.returns

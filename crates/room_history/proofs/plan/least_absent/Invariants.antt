@@ -1,6 +1,6 @@
 use Rattle.std.proofs.Common.{◌≡◌, take}
 use Rattle.std.specs.List.{filter}
-use Rattle.room_history.specs.Maps.{least}
+use Rattle.osm_elements.specs.Maps.{least}
 use Rattle.room_history.specs.Refusals.{is_missing}
 use Rattle.room_history.proofs.plan.least_absent.Given as goal
 

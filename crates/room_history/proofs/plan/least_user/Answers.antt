@@ -1,5 +1,5 @@
 use Rattle.std.proofs.Common.{ap, ◌∙◌, slice_get}
-use Rattle.room_history.specs.References.{users}
+use Rattle.osm_refs.specs.References.{users}
 use Rattle.room_history.proofs.FirstUsers.{first_user_is_least}
 use Rattle.room_history.proofs.plan.least_user.Goals as goal
 

@@ -2,10 +2,10 @@ use Rattle.std.proofs.Common.{◌≡◌, ◌+◌, [], ◌∷◌, None, drop, inr
 use Rattle.std.proofs.lemmas.List.{drop_more, drop_all}
 use Rattle.serde_json.specs.View.{view, items_view}
 use Rattle.room_wire.specs.Reading.{or_fault}
-use Rattle.room_wire.specs.Spelling.{nodes_in}
+use Rattle.room_wire.specs.Spelling.{node_of, nodes_in}
 use Rattle.room_wire.specs.declared.bad.Fault.TheVariants.{BadField}
 use Rattle.room_wire.specs.declared.field.Field.TheVariants as field
-use Rattle.room_wire.proofs.NodeLists.{with_front, nodes_in-some, nodes_in-none, nodes_in-nil}
+use Rattle.room_wire.proofs.ItemLists.{with_front, items_in-some, items_in-none, items_in-nil}
 use Rattle.room_wire.proofs.forms.nodes_in.Goals as goal
 
 pub loop-item-preserved : goal.loop-item-preserved
@@ -15,9 +15,9 @@ loop-item-preserved c =
     let x = c.item-item.result in
     let here : drop l.item-index xs ≡ x ∷ drop (l.item-index + 1) xs = drop_more xs l.item-index x (omega arith) ∙ ap (λ y. y ∷ drop (l.item-index + 1) xs) (sym c.item-item.is) in
     let more = items_view (drop (l.item-index + 1) xs) in
-    ap (λ ns. with_front ns more) c.in_ok-push-in-Some.ensures.ok
-    ∙ sym (nodes_in-some l.nodes c.in-Some.node (view x) more (sym c.in-Some.ensures.value))
-    ∙ ap (λ ys. with_front l.nodes (items_view ys)) (sym here)
+    ap (λ ns. with_front node_of ns more) c.in_ok-push-in-Some.ensures.ok
+    ∙ sym (items_in-some node_of l.nodes c.in-Some.node (view x) more (sym c.in-Some.ensures.value))
+    ∙ ap (λ ys. with_front node_of l.nodes (items_view ys)) (sym here)
     ∙ l.invariant
 
 pub returns-in-None : goal.returns-in-None
@@ -26,7 +26,7 @@ returns-in-None c =
     let xs = c.args.items.now in
     let x = c.item-item.result in
     let here : drop l.item-index xs ≡ x ∷ drop (l.item-index + 1) xs = drop_more xs l.item-index x (omega arith) ∙ ap (λ y. y ∷ drop (l.item-index + 1) xs) (sym c.item-item.is) in
-    let none : nodes_in (items_view xs) ≡ None = sym l.invariant ∙ ap (λ ys. with_front l.nodes (items_view ys)) here ∙ nodes_in-none l.nodes (view x) (items_view (drop (l.item-index + 1) xs)) (sym c.in-None.ensures.value) in
+    let none : nodes_in (items_view xs) ≡ None = sym l.invariant ∙ ap (λ ys. with_front node_of l.nodes (items_view ys)) here ∙ items_in-none node_of l.nodes (view x) (items_view (drop (l.item-index + 1) xs)) (sym c.in-None.ensures.value) in
     inr (ap (or_fault (BadField field.Nodes)) none)
 
 pub returns : goal.returns
@@ -34,4 +34,4 @@ returns c =
     let l = c.loop-item in
     let xs = c.args.items.now in
     let none : drop l.item-index xs ≡ [] = drop_all l.item-index xs (omega arith) in
-    ap (or_fault (BadField field.Nodes)) (sym l.invariant ∙ ap (λ ys. with_front l.nodes (items_view ys)) none ∙ nodes_in-nil l.nodes)
+    ap (or_fault (BadField field.Nodes)) (sym l.invariant ∙ ap (λ ys. with_front node_of l.nodes (items_view ys)) none ∙ items_in-nil node_of l.nodes)

@@ -1,5 +1,5 @@
 use Rattle.std.proofs.Common.{ap}
-use Rattle.room_history.specs.Sound.{is_sound}
+use Rattle.osm_changes.specs.Sound.{is_sound}
 use Rattle.room_history.proofs.Holding.{journal_holds}
 use Rattle.room_history.proofs.room.Room.holds.Goals as goal
 

@@ -1,0 +1,98 @@
+//! Lists of names.
+ghost use Rattle.std.specs.Prelude.{◌≡◌, ◌↔◌, [], ◌∷◌, ◌++◌, OnOk, OnErr, IfOk, length, IsTrue};
+
+use crate::Memory;
+use crate::name::Name;
+use std::alloc::{AllocError, Allocator};
+use std::marker::Model;
+
+/// A list of names of any kinds, in which a name may stand more than once.
+#[derive(Drop)]
+#[derive_where(Debug)]
+pub struct Names<A: Allocator> {
+    names: Vec<Name, A>,
+}
+
+// Names are seen as the list of them.
+impl<A: Allocator> Model for Names<A> {
+    ghost use Rattle.std.specs.Prelude.{List};
+    ghost use Rattle.osm_elements.specs.declared.name.Name.{Name};
+
+    ghost Value = { List Name };
+
+    ghost view = { λ n. n.names.items };
+}
+
+impl<A: Allocator> Names<A> {
+    /// No names. They take no memory.
+    pub fn empty(alloc: A) -> Names<A>
+        ensures { result ≡ [] }
+    {
+        Names {
+            names: Vec::new(alloc),
+        }
+    }
+
+    /// Takes the names of a vector and gives them as a list, in their order. It takes no memory.
+    pub fn from_vec(names: Vec<Name, A>) -> Names<A>
+        ensures { result ≡ names.items }
+    {
+        Names { names }
+    }
+
+    /// Gives the names back as a vector, in their order. It takes no memory.
+    pub fn into_vec(self) -> Vec<Name, A>
+        ensures { result.items ≡ self }
+    {
+        let Names { names } = self;
+        names
+    }
+
+    /// How many names there are.
+    pub fn len(&self) -> usize
+        ensures { result ≡ length self.now }
+    {
+        self.names.len()
+    }
+
+    /// Whether there is no name.
+    pub fn is_empty(&self) -> bool
+        ensures { IsTrue result ↔ (self.now ≡ []) }
+    {
+        self.names.is_empty()
+    }
+
+    /// The names in order.
+    pub fn as_slice(&self) -> &[Name]
+        ensures { result.now ≡ self.now }
+    {
+        &self.names
+    }
+
+    /// Puts a name at the end, or refuses with `Memory` and leaves the list as it was.
+    pub fn push(&mut self, name: Name) -> Result<(), Memory>
+        ensures ok { OnOk result (self.new ≡ self.old ++ name ∷ []) }
+        ensures err { OnErr result (self.new ≡ self.old) }
+    {
+        self.names.push(name)?;
+        Ok(())
+    }
+
+    /// A second list of the same names, or `Memory`.
+    pub fn copy(&self) -> Result<Names<A>, Memory>
+    where
+        A: Clone,
+        ensures { IfOk result (λ n. n ≡ self.now) }
+    {
+        Ok(self.clone()?)
+    }
+}
+
+impl<A: Allocator + Clone> Clone for Names<A> {
+    ghost is_clone = { λ a b. b ≡ a };
+
+    fn clone(&self) -> Result<Names<A>, AllocError> {
+        let names = self.names.clone()?;
+        Ok(Names { names })
+    }
+}

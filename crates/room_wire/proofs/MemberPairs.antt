@@ -1,0 +1,11 @@
+-- A member is a list of two items, and no other list is one.
+use Rattle.std.proofs.Common.{◌≡◌, ◌≢◌, List, [], ◌∷◌, None, length, refl}
+use Rattle.serde_json.specs.View.{items_view}
+use Rattle.serde_json.specs.declared.value.Value.{Value}
+use Rattle.room_wire.specs.Spelling.{member_in}
+
+pub not_two : (vs : List Value) → length vs ≢ 2 → member_in (items_view vs) ≡ None
+not_two [] h = refl
+not_two (v ∷ []) h = refl
+not_two (v ∷ w ∷ []) h = absurd (h refl)
+not_two (v ∷ w ∷ x ∷ vs) h = refl
