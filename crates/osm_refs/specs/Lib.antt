@@ -1,0 +1,4 @@
+pub mod Facts
+pub mod Inner
+pub mod References
+pub mod Tables

@@ -1,0 +1,9 @@
+//! What the elements of a map refer to, and which of them refer to a name.
+#![tactic(auto)]
+
+pub mod laws;
+mod note;
+pub mod refs;
+mod user_list;
+mod user_lists;
+pub mod users;

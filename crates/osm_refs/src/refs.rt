@@ -1,0 +1,49 @@
+//! The names that an element refers to.
+ghost use Rattle.std.specs.Prelude.{◌≡◌, map, IfOk, IsOk};
+ghost use Rattle.osm_elements.specs.declared.name.Kind.TheVariants.{Node};
+ghost use Rattle.osm_elements.specs.Elements.{kind_of};
+ghost use Rattle.osm_elements.specs.Maps.{name_set};
+ghost use Rattle.osm_refs.specs.References.{references};
+
+use osm_elements::Memory;
+use osm_elements::element::Element;
+use osm_elements::member::Member;
+use osm_elements::name::Name;
+use osm_elements::names::Names;
+use std::alloc::Allocator;
+
+/// The names that an element refers to, rising, each once, or `Memory`: the nodes of a way or the members of a relation
+/// (OpenStreetMap wiki, "Elements"). A node refers to none, and takes no memory. The names are sorted, which takes time
+/// `n log n` for an element with `n` of them.
+pub fn refs_of<A: Allocator>(alloc: A, element: &Element<A>) -> Result<Names<A>, Memory>
+    ensures set { IfOk result (λ names. names ≡ name_set (references element.now)) }
+    ensures node { kind_of element.now ≡ Node → IsOk result }
+{
+    let mut names = named(alloc, element)?;
+    names.sort_unstable();
+    names.dedup();
+    Ok(Names::from_vec(names))
+}
+
+// The names in an element's own order.
+fn named<A: Allocator>(alloc: A, element: &Element<A>) -> Result<Vec<Name, A>, Memory>
+    ensures names { IfOk result (λ names. names.items ≡ references element.now) }
+    ensures node { kind_of element.now ≡ Node → IsOk result }
+{
+    match element {
+        Element::Node { .. } => Ok(Vec::new(alloc)),
+        Element::Way { nodes, .. } => Vec::from_slice(alloc, nodes.names()),
+        Element::Relation { members, .. } => member_names(alloc, members.as_slice()),
+    }
+}
+
+// The names of members, in their order.
+fn member_names<A: Allocator>(alloc: A, members: &[Member<A>]) -> Result<Vec<Name, A>, Memory>
+    ensures { IfOk result (λ names. names.items ≡ map (λ m. m.name) members.now) }
+{
+    let mut names = Vec::with_capacity(alloc, members.len())?;
+    for member in members {
+        names.push(member.name)?;
+    }
+    Ok(names)
+}
