@@ -1,0 +1,6 @@
+pub mod Applying
+pub mod Between
+pub mod Found
+pub mod NotesTaken
+pub mod Restoring
+pub mod Turning

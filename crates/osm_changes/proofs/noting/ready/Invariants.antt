@@ -1,0 +1,7 @@
+use Rattle.std.proofs.Common.{◌≡◌, take}
+use Rattle.osm_refs.specs.Tables.{table_of}
+use Rattle.osm_changes.specs.Inner.Stores.{notes_of}
+use Rattle.osm_changes.proofs.noting.ready.Given as goal
+
+abbrev pub invariant-loop-change : goal.invariant-loop-change
+invariant-loop-change g l = l.users ≡ record { references = table_of l.rows; waiting = notes_of (take l.change-index l.changes) }

@@ -1,0 +1,5 @@
+-- What is proved of the definitions beside this folder, for the proofs here and in the crates above. No contract cites these.
+pub mod Changing
+pub mod Differing
+pub mod SameElements
+pub mod SoundRows

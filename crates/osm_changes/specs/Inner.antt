@@ -1,0 +1,3 @@
+-- Relations that only inner functions and proofs use.
+pub mod Applying
+pub mod Stores
