@@ -1,0 +1,14 @@
+pub mod Alike
+mod ExampleProofs
+pub mod FirstUsers
+pub mod GivenPlaces
+pub mod GivenSearch
+pub mod LeastNames
+pub mod MemberNames
+pub mod MoveLoops
+pub mod MovePlans
+pub mod NameSets
+pub mod Planned
+pub mod Relisted
+pub mod RetagPlans
+pub mod Retagged

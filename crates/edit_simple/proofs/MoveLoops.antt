@@ -1,0 +1,165 @@
+-- Moves of nodes one by one.
+use Rattle.std.proofs.Common.{◌≡◌, ◌≢◌, ◌⊎◌, ◌<◌, ◌+◌, ◌+ℤ◌, ℕ, ℤ, pos, zero, suc, Bool, true, false, not, ◌&&◌, T, All, List, [], ◌∷◌, ◌++◌, Option, Some, None, Result, Ok, Err, inl, inr, is_some, neg_ℤ, int_le, length, map, take, drop, get_or, refl, sym, ap, subst, ◌∙◌, cond, arith}
+use Rattle.std.proofs.lemmas.List.{take_more, map-append, take-append-drop}
+use Rattle.std.proofs.lemmas.List.Elements.{filter-append}
+use Rattle.std.specs.List.{list_all}
+use Rattle.std.specs.Option.{option_map}
+use Rattle.std.specs.Result.{IsErr, IsErrAnd}
+use Rattle.std.specs.Ordering.{int_eq, is_lt}
+use Rattle.std.specs.FinMap.Entries.{is_sorted, below_all}
+use Rattle.osm_coords.specs.Latitude.{latitude}
+use Rattle.osm_coords.specs.Longitude.{longitude}
+use Rattle.osm_coords.specs.Range.{value_within}
+use Rattle.osm_elements.specs.declared.name.Name.{Name}
+use Rattle.osm_elements.specs.declared.element.Element.{Element}
+use Rattle.osm_elements.specs.declared.element.Element.TheVariants.{Node, Way, Relation}
+use Rattle.osm_elements.specs.NameOrder.{name_cmp}
+use Rattle.osm_elements.specs.Maps.{Rows, least, lesser}
+use Rattle.osm_elements.specs.Rows.{row_at}
+use Rattle.osm_elements.specs.TagRows.{Pairs}
+use Rattle.osm_elements.specs.Facts.Entries.{both, first, second}
+use Rattle.osm_elements.specs.Facts.Tests.{first_true, second_true}
+use Rattle.osm_refs.specs.Facts.RisingNames.{IsRising-filter}
+use Rattle.osm_refs.specs.Inner.Rising.{IsRising, bare_rows}
+use Rattle.osm_changes.specs.declared.change.Change.{Change}
+use Rattle.osm_changes.specs.Changes.{changed_names, AreChanges}
+use Rattle.edit_simple.specs.declared.refusal.Refusal.{Refusal}
+use Rattle.edit_simple.specs.declared.refusal.Refusal.TheVariants.{OutOfRange, Memory}
+use Rattle.edit_simple.specs.Inner.Moving.{row_leaves, moved_change}
+use Rattle.edit_simple.specs.Inner.Moves.{is_node_row, MayMove, leaving}
+use Rattle.edit_simple.specs.Move.{moved_by}
+use Rattle.edit_simple.specs.Facts.Moving.{elsewhere}
+use Rattle.edit_simple.proofs.Alike.{here}
+use Rattle.edit_simple.proofs.FirstUsers.{min_below}
+use Rattle.edit_simple.proofs.LeastNames.{min_assoc}
+
+-- ---- the front of a rising list rises
+
+below-take : (x : Name) (xs : List Name) (i : ℕ) → T (below_all name_cmp x (bare_rows xs)) → T (below_all name_cmp x (bare_rows (take i xs)))
+below-take x xs zero h = tt
+below-take x [] (suc i) h = tt
+below-take x (y ∷ ys) (suc i) h =
+    both (is_lt (name_cmp x y)) (below_all name_cmp x (bare_rows (take i ys))) (first (is_lt (name_cmp x y)) (below_all name_cmp x (bare_rows ys)) h)
+    (below-take x ys i (second (is_lt (name_cmp x y)) (below_all name_cmp x (bare_rows ys)) h))
+
+pub IsRising-take : (xs : List Name) (i : ℕ) → IsRising xs → IsRising (take i xs)
+IsRising-take xs zero h = tt
+IsRising-take [] (suc i) h = tt
+IsRising-take (y ∷ ys) (suc i) h =
+    both (below_all name_cmp y (bare_rows (take i ys))) (is_sorted name_cmp (bare_rows (take i ys))) (below-take y ys i (first (below_all name_cmp y (bare_rows ys)) (is_sorted name_cmp (bare_rows ys)) h))
+    (IsRising-take ys i (second (below_all name_cmp y (bare_rows ys)) (is_sorted name_cmp (bare_rows ys)) h))
+
+-- ---- the first of a rising list is the least
+
+lesser_below : (x : Name) (ys : List Name) → T (below_all name_cmp x (bare_rows ys)) → lesser x (least ys) ≡ x
+lesser_below x [] h = refl
+lesser_below x (y ∷ ys) h = by (least ys) (lesser_below x ys (second (is_lt (name_cmp x y)) (below_all name_cmp x (bare_rows ys)) h))
+  where
+    less : T (is_lt (name_cmp x y))
+    less = first (is_lt (name_cmp x y)) (below_all name_cmp x (bare_rows ys)) h
+
+    by : (l : Option Name) → lesser x l ≡ x → lesser x (Some (lesser y l)) ≡ x
+    by None i = min_below x y less
+    by (Some z) i = min_assoc x y z ∙ ap (λ w. lesser w (Some z)) (min_below x y less) ∙ i
+
+pub least_first : (x : Name) (ys : List Name) → IsRising (x ∷ ys) → least (x ∷ ys) ≡ Some x
+least_first x ys h = ap Some (lesser_below x ys (first (below_all name_cmp x (bare_rows ys)) (is_sorted name_cmp (bare_rows ys)) h))
+
+all_take : (p : Name → Bool) (xs : List Name) (i : ℕ) → list_all p xs ≡ true → list_all p (take i xs) ≡ true
+all_take p xs zero h = refl
+all_take p [] (suc i) h = refl
+all_take p (y ∷ ys) (suc i) h = ap (λ b. b && list_all p (take i ys)) (first_true (p y) (list_all p ys) h) ∙ all_take p ys i (second_true (p y) (list_all p ys) h)
+
+pub all_at : (p : Name → Bool) (xs : List Name) (i : ℕ) (x : Name) → list_all p xs ≡ true → i < length xs → x ≡ get_or xs i x → p x ≡ true
+all_at p [] i x h l is = absurd (omega (arith, l))
+all_at p (y ∷ ys) zero x h l is = ap p is ∙ first_true (p y) (list_all p ys) h
+all_at p (y ∷ ys) (suc i) x h l is = all_at p ys i x (second_true (p y) (list_all p ys) h) (omega (arith, l)) is
+
+module _ {A : Type 0} (m : Rows A) (dlat dlon : ℤ) where
+  change : Name → Change A
+  change = moved_change m dlat dlon
+
+  names_of_changes : (xs : List Name) → changed_names (map (moved_change m dlat dlon) xs) ≡ xs
+  names_of_changes [] = refl
+  names_of_changes (x ∷ xs) = ap (λ l. x ∷ l) (names_of_changes xs)
+
+  pub moved_apart : (o : Option (Element A)) → (int_eq dlat (pos 0) && int_eq dlon (pos 0)) ≡ false → is_node_row o ≡ true → option_map (moved_by dlat dlon) o ≢ o
+  moved_apart None far h = absurd (cc)
+  moved_apart (Some (Node lat lon tags)) far h = elsewhere lat lon dlat dlon tags far
+  moved_apart (Some (Way nodes tags)) far h = absurd (cc)
+  moved_apart (Some (Relation members tags)) far h = absurd (cc)
+
+  all_differ : (xs : List Name) → (int_eq dlat (pos 0) && int_eq dlon (pos 0)) ≡ false → list_all (λ y. is_node_row (row_at m y)) xs ≡ true → All (λ (c : Change A). c.after ≢ c.before) (map (moved_change m dlat dlon) xs)
+  all_differ [] far h i d l = absurd (omega (arith, l))
+  all_differ (x ∷ xs) far h zero d l = moved_apart (row_at m x) far (first_true (is_node_row (row_at m x)) (list_all (λ y. is_node_row (row_at m y)) xs) h)
+  all_differ (x ∷ xs) far h (suc i) d l = all_differ xs far (second_true (is_node_row (row_at m x)) (list_all (λ y. is_node_row (row_at m y)) xs) h) i d (omega (arith, l))
+
+  are_changes : (xs : List Name) → MayMove m xs dlat dlon → AreChanges (map (moved_change m dlat dlon) xs)
+  are_changes xs h = record { rising = subst IsRising (sym (names_of_changes xs)) h.rising; differ = all_differ xs h.distance h.there }
+
+  may_take : (xs : List Name) (i : ℕ) → MayMove m xs dlat dlon → MayMove m (take i xs) dlat dlon
+  may_take xs i h = record { rising = IsRising-take xs i h.rising; there = all_take (λ y. is_node_row (row_at m y)) xs i h.there; distance = h.distance }
+
+  -- one more change
+  module _ (xs : List Name) (i : ℕ) (x : Name) (l : i < length xs) (is : x ≡ get_or xs i x) where
+    pub changes_more : (cs : List (Change A)) (c : Change A) → cs ≡ map (moved_change m dlat dlon) (take i xs) → c ≡ moved_change m dlat dlon x → cs ++ c ∷ [] ≡ map (moved_change m dlat dlon) (take (i + 1) xs)
+    changes_more cs c e f =
+        (λ j. e j ++ f j ∷ []) ∙ sym (map-append (moved_change m dlat dlon) (take i xs) (x ∷ [])) ∙ ap (λ y. map (moved_change m dlat dlon) (take i xs ++ y ∷ [])) is
+        ∙ ap (map (moved_change m dlat dlon)) (sym (take_more xs i x l))
+
+    pub push_fits : (cs : List (Change A)) (c : Change A) → MayMove m xs dlat dlon → cs ≡ map (moved_change m dlat dlon) (take i xs) → c ≡ moved_change m dlat dlon x → AreChanges (cs ++ c ∷ [])
+    push_fits cs c h e f = subst (λ ds. AreChanges ds) (sym (changes_more cs c e f)) (are_changes (take (i + 1) xs) (may_take xs (i + 1) h))
+
+    pub none_more : leaving m dlat dlon (take i xs) ≡ [] → row_leaves dlat dlon (row_at m x) ≡ false → leaving m dlat dlon (take (i + 1) xs) ≡ []
+    none_more none stays =
+        ap (leaving m dlat dlon) (take_more xs i x l ∙ ap (λ y. take i xs ++ y ∷ []) (sym is)) ∙ filter-append (λ y. row_leaves dlat dlon (row_at m y)) (take i xs) (x ∷ [])
+        ∙ (λ j. none j ++ cond (stays j) (x ∷ []) [])
+
+    pub first_leaving : MayMove m xs dlat dlon → leaving m dlat dlon (take i xs) ≡ [] → row_leaves dlat dlon (row_at m x) ≡ true → least (leaving m dlat dlon xs) ≡ Some x
+    first_leaving h none leaves = ap least split ∙ least_first x rest (subst IsRising split (IsRising-filter (λ y. row_leaves dlat dlon (row_at m y)) xs h.rising))
+      where
+        rest : List Name
+        rest = leaving m dlat dlon (drop (i + 1) xs)
+
+        split : leaving m dlat dlon xs ≡ x ∷ rest
+        split =
+            ap (leaving m dlat dlon) (sym (take-append-drop i xs) ∙ ap (λ r. take i xs ++ r) (here (λ (y : Name). y) (λ p q. true) xs xs xs i x l is))
+            ∙ filter-append (λ y. row_leaves dlat dlon (row_at m y)) (take i xs) (x ∷ drop (i + 1) xs)
+            ∙ (λ j. none j ++ cond (leaves j) (x ∷ rest) rest)
+
+told_within : (limit : ℕ) (z new : ℤ) → Some new ≡ value_within limit z → new ≡ z
+told_within limit z new e = by (int_le (neg_ℤ (pos limit)) z && int_le z (pos limit)) e
+  where
+    by : (b : Bool) → Some new ≡ cond b (Some z) None → new ≡ z
+    by true f = cc
+    by false f = absurd (cc)
+
+module _ {A : Type 0} (m : Rows A) (dlat dlon : ℤ) where
+  -- a node that is moved
+  pub node_moved : (x : Name) (v : Element A) (lat lon new_lat new_lon : ℤ) (tags copied : Pairs) (before : Element A) → Some v ≡ row_at m x → v ≡ Node lat lon tags
+      → Some new_lat ≡ latitude (lat +ℤ dlat) → Some new_lon ≡ longitude (lon +ℤ dlon) → copied ≡ tags → before ≡ v
+      → (row_leaves dlat dlon (row_at m x) ≡ false) × (record { name = x; before = Some before; after = Some (Node new_lat new_lon copied) } ≡ moved_change m dlat dlon x)
+  node_moved x v lat lon new_lat new_lon tags copied before there is lat_is lon_is copy same = (
+    ap (row_leaves dlat dlon) row ∙ (λ i. not (is_some (sym lat_is i) && is_some (sym lon_is i))),
+    λ i. record { name = x; before = (ap Some same ∙ there) i; after = moved i },
+  )
+    where
+      row : row_at m x ≡ Some (Node lat lon tags)
+      row = sym there ∙ ap Some is
+
+      moved : Some (Node new_lat new_lon copied) ≡ option_map (moved_by dlat dlon) (row_at m x)
+      moved = (λ i. Some (Node (told_within 900000000 (lat +ℤ dlat) new_lat lat_is i) (told_within 1800000000 (lon +ℤ dlon) new_lon lon_is i) (copy i))) ∙ ap (option_map (moved_by dlat dlon)) (sym row)
+
+  -- the refusal of one node, told of all
+  pub leaving_told : (xs : List Name) (i : ℕ) (x : Name) → i < length xs → x ≡ get_or xs i x → MayMove m xs dlat dlon → leaving m dlat dlon (take i xs) ≡ [] → (r : Refusal A)
+      → (((row_leaves dlat dlon (row_at m x) ≡ true) × (r ≡ OutOfRange x)) ⊎ (r ≡ Memory)) → ((y : Name) × (least (leaving m dlat dlon xs) ≡ Some y) × (r ≡ OutOfRange y)) ⊎ (r ≡ Memory)
+  leaving_told xs i x l is may none r (inl h) = inl (x, first_leaving m dlat dlon xs i x l is may none h.0, h.1)
+  leaving_told xs i x l is may none r (inr h) = inr h
+
+-- a fact of two distances, for two that are equal to these
+pub of_distances : (P : ℤ → ℤ → Type 0) (d e dlat dlon : ℤ) → d ≡ dlat → e ≡ dlon → P d e → P dlat dlon
+of_distances P d e dlat dlon a b h = subst (λ z. P dlat z) b (subst (λ z. P z e) a h)
+
+pub err_result : {X E : Type 0} (Q : Result X E → Type 0) (r : Result X E) (e : E) → IsErr r → IsErrAnd r (λ x. x ≡ e) → Q (Err e) → Q r
+err_result Q (Ok x) e h k q = absurd (cc)
+err_result Q (Err x) e h k q = subst (λ z. Q (Err z)) (sym k) q

@@ -1,0 +1,297 @@
+-- Plans of moves.
+use Rattle.std.proofs.Common.{◌≡◌, ◌+ℤ◌, ℤ, pos, Bool, true, false, not, ◌&&◌, ◌||◌, T, List, [], ◌∷◌, Option, Some, None, Result, Ok, Err, inl, inr, is_some, length, map, nat_eq, arith, refl, sym, ap, ◌∙◌, cond}
+use Rattle.std.proofs.Math.IntN.{+ℤ_idr}
+use Rattle.std.proofs.lemmas.Bool.Decides.{nat_tests}
+use Rattle.std.specs.Bool.{then_some}
+use Rattle.std.specs.FinMap.{int_cmp-IsAntisymmetric}
+use Rattle.osm_coords.specs.Latitude.{latitude}
+use Rattle.osm_coords.specs.Longitude.{longitude}
+use Rattle.std.specs.List.{filter, list_any, list_all}
+use Rattle.std.specs.Option.{option_map}
+use Rattle.std.specs.Ordering.{int_eq, int_cmp, is_lt}
+use Rattle.std.specs.FinMap.Entries.{is_sorted, below_all}
+use Rattle.osm_elements.specs.declared.name.Name.{Name}
+use Rattle.osm_elements.specs.declared.element.Element.{Element}
+use Rattle.osm_elements.specs.declared.element.Element.TheVariants.{Node, Way, Relation}
+use Rattle.osm_elements.specs.Made.{is_node, are_nodes}
+use Rattle.osm_elements.specs.Maps.{Rows, is_same, is_among, is_present, is_absent, least, name_set, names_of}
+use Rattle.osm_elements.specs.NameOrder.{name_cmp}
+use Rattle.osm_elements.specs.Rows.{AreInOrder, row_at}
+use Rattle.osm_elements.specs.TagRows.{are_tags}
+use Rattle.osm_elements.specs.Facts.Among.{is_among-name_set, is_among-append}
+use Rattle.osm_elements.specs.Facts.Entries.{both, first, second, find_below}
+use Rattle.osm_elements.specs.Facts.Rows.{same, same_names, row_at_is_find}
+use Rattle.osm_elements.specs.Facts.Tests.{first_true, second_true}
+use Rattle.osm_refs.specs.Facts.RisingNames.{same_rising, IsRising-filter, IsRising-name_set, is_among-passing}
+use Rattle.osm_refs.specs.Inner.Rising.{IsRising, bare_rows}
+use Rattle.osm_changes.specs.declared.change.Change.{Change}
+use Rattle.osm_changes.specs.Changes.{differences}
+use Rattle.osm_changes.specs.SameRows.{is_same_row}
+use Rattle.osm_changes.specs.Sound.{is_sound}
+use Rattle.osm_changes.specs.Facts.Differing.{same_row}
+use Rattle.osm_changes.specs.Facts.SoundRows.{sound_in_order}
+use Rattle.edit_simple.specs.declared.refusal.Refusal.{Refusal}
+use Rattle.edit_simple.specs.declared.refusal.Refusal.TheVariants.{Absent, WrongKind, OutOfRange, Nothing}
+use Rattle.edit_simple.specs.Checks.{first_that_holds, the_least}
+use Rattle.edit_simple.specs.Inner.Moving.{moved_with, all_moved, row_leaves, moved_change}
+use Rattle.edit_simple.specs.Inner.Moves.{is_node_row, MayMove, leaving, IsMoved}
+use Rattle.edit_simple.specs.Kinds.{is_relation}
+use Rattle.edit_simple.specs.Move.{is_moved, moved_by, is_out_of_range, left_range, move_checks, after_move}
+use Rattle.edit_simple.specs.Parts.{nodes_of}
+use Rattle.edit_simple.specs.Plans.{IsPlan}
+use Rattle.edit_simple.specs.Facts.Differences.{differing_are, apart_rows}
+use Rattle.edit_simple.specs.Facts.EachRow.{row_at-each_row}
+use Rattle.edit_simple.specs.Facts.Kinds.{sound_kind, node_there}
+use Rattle.edit_simple.specs.Facts.Lists.{or_right, is_among_own, all_listed, all_from}
+use Rattle.edit_simple.specs.Facts.Moving.{moves}
+use Rattle.edit_simple.specs.Facts.Relisting.{all_present}
+use Rattle.edit_simple.specs.Facts.Rewriting.{fine}
+use Rattle.edit_simple.proofs.MoveLoops.{moved_apart}
+
+apart : (a s t u v : Bool) → (a && ((s || u) || (t || v))) ≡ ((a && (s || t)) || (a && (u || v)))
+apart false s t u v = refl
+apart true true t u v = refl
+apart true false true true v = refl
+apart true false true false v = refl
+apart true false false true v = refl
+apart true false false false v = refl
+
+module _ {X : Type 0} (f g : Name → X) where
+  map_same : (xs : List Name) → ((y : Name) → is_among xs y ≡ true → f y ≡ g y) → map f xs ≡ map g xs
+  map_same [] h = refl
+  map_same (x ∷ xs) h =
+      let own = h x (is_among_own x xs) in
+      let rest = map_same xs (λ y i. h y (or_right (is_same y x) (is_among xs y) i)) in
+      λ i. own i ∷ rest i
+
+module _ {A : Type 0} where
+  -- whether a row is there and passes
+  abbrev passes_at : (Name × Element A → Bool) → Name → Option (Element A) → Bool
+  passes_at p y None = false
+  passes_at p y (Some v) = p (y, v)
+
+  below_names : (p : Name × Element A → Bool) (x : Name) (es : Rows A) → T (below_all name_cmp x es) → T (below_all name_cmp x (bare_rows (names_of (filter p es))))
+  below_names p x [] h = tt
+  below_names p x (e ∷ es) h = by (p e) (below_names p x es (second (is_lt (name_cmp x e.0)) (below_all name_cmp x es) h))
+    where
+      by : (b : Bool) → T (below_all name_cmp x (bare_rows (names_of (filter p es)))) → T (below_all name_cmp x (bare_rows (names_of (cond b (e ∷ filter p es) (filter p es)))))
+      by true i = both (is_lt (name_cmp x e.0)) (below_all name_cmp x (bare_rows (names_of (filter p es)))) (first (is_lt (name_cmp x e.0)) (below_all name_cmp x es) h) i
+      by false i = i
+
+  -- the names of the rows that pass rise
+  rising_names : (p : Name × Element A → Bool) (es : Rows A) → AreInOrder es → IsRising (names_of (filter p es))
+  rising_names p [] h = tt
+  rising_names p (e ∷ es) h = by (p e) (rising_names p es (second (below_all name_cmp e.0 es) (is_sorted name_cmp es) h))
+    where
+      by : (b : Bool) → IsRising (names_of (filter p es)) → IsRising (names_of (cond b (e ∷ filter p es) (filter p es)))
+      by true i = both (below_all name_cmp e.0 (bare_rows (names_of (filter p es)))) (is_sorted name_cmp (bare_rows (names_of (filter p es)))) (below_names p e.0 es (first (below_all name_cmp e.0 es) (is_sorted name_cmp es) h)) i
+      by false i = i
+
+  -- the names of the rows that pass are those of rows that are there and pass
+  among_rows : (p : Name × Element A → Bool) (es : Rows A) → AreInOrder es → (y : Name) → is_among (names_of (filter p es)) y ≡ passes_at p y (row_at es y)
+  among_rows p [] h y = refl
+  among_rows p (e ∷ es) h y = by (is_same y e.0) refl (p e) refl (among_rows p es (second (below_all name_cmp e.0 es) (is_sorted name_cmp es) h) y)
+    where
+      none : is_same y e.0 ≡ true → passes_at p y (row_at es y) ≡ false
+      none s = ap (passes_at p y) (ap (row_at es) (same_names y e.0 s) ∙ row_at_is_find es e.0 ∙ find_below name_cmp e.0 es (first (below_all name_cmp e.0 es) (is_sorted name_cmp es) h))
+
+      by : (s : Bool) → is_same y e.0 ≡ s → (b : Bool) → p e ≡ b → is_among (names_of (filter p es)) y ≡ passes_at p y (row_at es y)
+          → is_among (names_of (cond b (e ∷ filter p es) (filter p es))) y ≡ passes_at p y (cond s (Some e.1) (row_at es y))
+      by true f true g i = ap (λ b. b || is_among (names_of (filter p es)) y) f ∙ sym g ∙ ap (λ z. p (z, e.1)) (sym (same_names y e.0 f))
+      by true f false g i = i ∙ none f ∙ sym g ∙ ap (λ z. p (z, e.1)) (sym (same_names y e.0 f))
+      by false f true g i = ap (λ b. b || is_among (names_of (filter p es)) y) f ∙ i
+      by false f false g i = i
+
+module _ {A : Type 0} (m : Rows A) (sound : is_sound m ≡ true) where
+  -- the nodes that one listed name moves
+  pub one_moved : (w n : Name) (o : Option (Element A)) → row_at m w ≡ o → is_some o ≡ true → (is_node n.kind && (is_same n w || is_among (nodes_of o) n)) ≡ is_among (moved_with w o) n
+  one_moved w n None e here = absurd (cc)
+  one_moved w n (Some (Node lat lon tags)) e here = by (is_same n w) refl
+    where
+      by : (s : Bool) → is_same n w ≡ s → (is_node n.kind && (s || false)) ≡ (s || false)
+      by true t = ap (λ b. b && true) (ap (λ z. is_node z.kind) (same_names n w t) ∙ ap is_node (sym (sound_kind m sound w (Node lat lon tags) e)))
+      by false t = none (is_node n.kind)
+        where
+          none : (b : Bool) → (b && false) ≡ false
+          none true = refl
+          none false = refl
+  one_moved w n (Some (Way nodes tags)) e here = by (is_among nodes n) refl (is_same n w) refl
+    where
+      by : (i : Bool) → is_among nodes n ≡ i → (s : Bool) → is_same n w ≡ s → (is_node n.kind && (s || i)) ≡ i
+      by true i s t = ap (λ b. b && (s || true)) (all_listed (λ z. is_node z.kind) nodes n (first_true (are_nodes nodes) (are_tags tags) (fine m sound w (Way nodes tags) e).made) i) ∙ last s
+        where
+          last : (b : Bool) → (b || true) ≡ true
+          last true = refl
+          last false = refl
+      by false i true t = ap (λ b. b && true) (ap (λ z. is_node z.kind) (same_names n w t) ∙ ap is_node (sym (sound_kind m sound w (Way nodes tags) e)))
+      by false i false t = none (is_node n.kind)
+        where
+          none : (b : Bool) → (b && false) ≡ false
+          none true = refl
+          none false = refl
+  one_moved w n (Some (Relation members tags)) e here = by (is_same n w) refl
+    where
+      by : (s : Bool) → is_same n w ≡ s → (is_node n.kind && (s || false)) ≡ false
+      by true t = ap (λ b. b && true) (ap (λ z. is_node z.kind) (same_names n w t) ∙ ap is_node (sym (sound_kind m sound w (Relation members tags) e)))
+      by false t = none (is_node n.kind)
+        where
+          none : (b : Bool) → (b && false) ≡ false
+          none true = refl
+          none false = refl
+
+  -- the names that are moved
+  pub moved_are : (list : List Name) → list_all (is_present m) list ≡ true → (n : Name) → is_among (all_moved m list) n ≡ is_moved m list n
+  moved_are [] here n = none (is_node n.kind)
+    where
+      none : (b : Bool) → false ≡ (b && false)
+      none true = refl
+      none false = refl
+  moved_are (w ∷ ws) here n =
+      is_among-append n (moved_with w (row_at m w)) (all_moved m ws)
+      ∙ (λ i. sym (one_moved w n (row_at m w) refl (first_true (is_present m w) (list_all (is_present m) ws) here)) i || moved_are ws (second_true (is_present m w) (list_all (is_present m) ws) here) n i)
+      ∙ sym (apart (is_node n.kind) (is_same n w) (is_among (nodes_of (row_at m w)) n) (is_among ws n) (list_any (λ z. is_among (nodes_of (row_at m z)) n) ws))
+
+  -- what is moved is a node that is there
+  there : (list : List Name) → list_all (is_present m) list ≡ true → (n : Name) → is_among (all_moved m list) n ≡ true → is_present m n ≡ true
+  there [] here n i = absurd (cc)
+  there (w ∷ ws) here n i =
+      by (is_among (moved_with w (row_at m w)) n) refl (sym (is_among-append n (moved_with w (row_at m w)) (all_moved m ws)) ∙ i) (there ws (second_true (is_present m w) (list_all (is_present m) ws) here) n)
+    where
+      own : (o : Option (Element A)) → row_at m w ≡ o → is_among (moved_with w o) n ≡ true → is_present m n ≡ true
+      own None e j = absurd (cc)
+      own (Some (Node lat lon tags)) e j = from (is_same n w) refl j
+        where
+          from : (s : Bool) → is_same n w ≡ s → (s || false) ≡ true → is_present m n ≡ true
+          from true t k = ap (is_present m) (same_names n w t) ∙ ap is_some e
+          from false t k = absurd (cc)
+      own (Some (Way nodes tags)) e j = (fine m sound w (Way nodes tags) e).refs n j
+      own (Some (Relation members tags)) e j = absurd (cc)
+
+      by : (b : Bool) → is_among (moved_with w (row_at m w)) n ≡ b → (b || is_among (all_moved m ws) n) ≡ true → (is_among (all_moved m ws) n ≡ true → is_present m n ≡ true) → is_present m n ≡ true
+      by true e j rest = own (row_at m w) refl e
+      by false e j rest = rest j
+
+  module _ (list : List Name) (here : list_all (is_present m) list ≡ true) (dlat dlon : ℤ) where
+    among_set : (n : Name) → is_among (name_set (all_moved m list)) n ≡ is_moved m list n
+    among_set n = is_among-name_set n (all_moved m list) ∙ moved_are list here n
+
+    node_row : (n : Name) → is_among (name_set (all_moved m list)) n ≡ true → is_node_row (row_at m n) ≡ true
+    node_row n i =
+        let node = node_there m n sound (first_true (is_node n.kind) (is_among list n || list_any (λ w. is_among (nodes_of (row_at m w)) n) list) (sym (among_set n) ∙ i)) (there list here n (sym (is_among-name_set n (all_moved m list)) ∙ i)) in
+        ap is_node_row node.3
+
+    pub may_move : (int_eq dlat (pos 0) && int_eq dlon (pos 0)) ≡ false → MayMove m (name_set (all_moved m list)) dlat dlon
+    may_move far = record { rising = IsRising-name_set (all_moved m list); there = all_from (λ y. is_node_row (row_at m y)) (name_set (all_moved m list)) node_row; distance = far }
+
+    -- ---- the nodes that leave the range
+
+    lefts : left_range m list dlat dlon ≡ leaving m dlat dlon (name_set (all_moved m list))
+    lefts =
+        same_rising (left_range m list dlat dlon) (leaving m dlat dlon (name_set (all_moved m list))) (rising_names (λ r. is_moved m list r.0 && is_out_of_range (moved_by dlat dlon r.1)) m (sound_in_order m sound))
+        (IsRising-filter (λ y. row_leaves dlat dlon (row_at m y)) (name_set (all_moved m list)) (IsRising-name_set (all_moved m list)))
+        (λ y. among_rows (λ r. is_moved m list r.0 && is_out_of_range (moved_by dlat dlon r.1)) m (sound_in_order m sound) y ∙ by y (row_at m y)
+        ∙ ap (λ b. row_leaves dlat dlon (row_at m y) && b) (sym (among_set y)) ∙ sym (is_among-passing (λ z. row_leaves dlat dlon (row_at m z)) (name_set (all_moved m list)) y))
+      where
+        swap : (a b : Bool) → (a && b) ≡ (b && a)
+        swap true true = refl
+        swap true false = refl
+        swap false true = refl
+        swap false false = refl
+
+        by : (y : Name) (o : Option (Element A)) → passes_at (λ r. is_moved m list r.0 && is_out_of_range (moved_by dlat dlon r.1)) y o ≡ (row_leaves dlat dlon o && is_moved m list y)
+        by y None = refl
+        by y (Some v) = swap (is_moved m list y) (is_out_of_range (moved_by dlat dlon v))
+
+    -- ---- the changes
+
+    module _ (far : (int_eq dlat (pos 0) && int_eq dlon (pos 0)) ≡ false) where
+      row_after : (y : Name) (b : Bool) → is_moved m list y ≡ b → row_at (after_move m list dlat dlon) y ≡ option_map (λ v. cond b (moved_by dlat dlon v) v) (row_at m y)
+      row_after y b e = row_at-each_row (moves m list dlat dlon) m y ∙ ap (λ c. option_map (λ v. cond c (moved_by dlat dlon v) v) (row_at m y)) e
+
+      kept : (o : Option (Element A)) → option_map (λ v. v) o ≡ o
+      kept None = refl
+      kept (Some v) = refl
+
+      set_differs : (y : Name) → is_among (name_set (all_moved m list)) y ≡ not (is_same_row (row_at m y) (row_at (after_move m list dlat dlon) y))
+      set_differs y = among_set y ∙ by (is_moved m list y) refl
+        where
+          by : (b : Bool) → is_moved m list y ≡ b → b ≡ not (is_same_row (row_at m y) (row_at (after_move m list dlat dlon) y))
+          by true e =
+              sym (ap not (apart_rows (row_at m y) (row_at (after_move m list dlat dlon) y)
+              (λ f. moved_apart m dlat dlon (row_at m y) far (node_row y (among_set y ∙ e)) (sym (row_after y true e) ∙ f))))
+          by false e = sym (ap (λ o. not (is_same_row (row_at m y) o)) (row_after y false e ∙ kept (row_at m y)) ∙ ap not (same_row (row_at m y)))
+
+      changes_are : map (moved_change m dlat dlon) (name_set (all_moved m list)) ≡ differences m (after_move m list dlat dlon)
+      changes_are =
+          map_same (moved_change m dlat dlon) (λ y. record { name = y; before = row_at m y; after = row_at (after_move m list dlat dlon) y }) (name_set (all_moved m list))
+          (λ y i. ap (λ o. record { name = y; before = row_at m y; after = o }) (sym (row_after y true (sym (among_set y) ∙ i))))
+          ∙ ap (map (λ y. record { name = y; before = row_at m y; after = row_at (after_move m list dlat dlon) y }))
+          (differing_are m (after_move m list dlat dlon) (name_set (all_moved m list)) (IsRising-name_set (all_moved m list)) set_differs)
+
+      pub move_planned : None ≡ least (filter (λ e. is_relation e.kind) list) → None ≡ least (filter (is_absent m) list) → nat_eq (length list) 0 ≡ false
+          → (r : Result (List (Change A)) (Refusal A)) → IsMoved m (name_set (all_moved m list)) dlat dlon r → IsPlan m (move_checks m list dlat dlon) (after_move m list dlat dlon) r
+      move_planned relations absents full r h = by r h
+        where
+          left : first_that_holds (move_checks m list dlat dlon) ≡ first_that_holds (option_map {T = Name} {U = Refusal A} OutOfRange (least (leaving m dlat dlon (name_set (all_moved m list)))) ∷ [])
+          left =
+              (λ i. first_that_holds (option_map WrongKind (sym relations i) ∷ option_map Absent (sym absents i) ∷ the_least OutOfRange (lefts i) ∷ then_some (full i || far i) Nothing ∷ []))
+              ∙ last (option_map OutOfRange (least (leaving m dlat dlon (name_set (all_moved m list)))))
+            where
+              last : (o : Option (Refusal A)) → first_that_holds (o ∷ None ∷ []) ≡ first_that_holds (o ∷ [])
+              last None = refl
+              last (Some e) = refl
+
+          by : (r : Result (List (Change A)) (Refusal A)) → IsMoved m (name_set (all_moved m list)) dlat dlon r → IsPlan m (move_checks m list dlat dlon) (after_move m list dlat dlon) r
+          by (Ok cs) h = (left ∙ ap (λ l. first_that_holds (the_least {A = A} OutOfRange l ∷ [])) h.0, h.1 ∙ changes_are)
+          by (Err e) (inl h) = inl (left ∙ ap (λ o. first_that_holds (option_map OutOfRange o ∷ [])) h.1 ∙ ap Some (sym h.2))
+          by (Err e) (inr h) = inr h
+
+none_among : (xs : List Name) → ((y : Name) → is_among xs y ≡ false) → xs ≡ []
+none_among [] h = refl
+none_among (x ∷ xs) h = absurd (cc (sym (is_among_own x xs) ∙ h x))
+
+is_zero : (z : ℤ) → int_eq z (pos 0) ≡ true → z ≡ pos 0
+is_zero z e = int_cmp-IsAntisymmetric z (pos 0) (same (int_cmp z (pos 0)) e)
+
+module _ {A : Type 0} (m : Rows A) (sound : is_sound m ≡ true) (list : List Name) (dlat dlon : ℤ) where
+  never : (a : Bool) → (a && false) ≡ false
+  never true = refl
+  never false = refl
+
+  unlisted : (xs : List Name) → nat_eq (length xs) 0 ≡ true → (y : Name) → is_moved m xs y ≡ false
+  unlisted [] e y = never (is_node y.kind)
+  unlisted (x ∷ xs) e y = let h : length (x ∷ xs) ≡ 0 = grind (arith, nat_tests) in absurd (omega (arith, h))
+
+  in_range : (y : Name) (v : Element A) → row_at m y ≡ Some v → dlat ≡ pos 0 → dlon ≡ pos 0 → is_out_of_range (moved_by dlat dlon v) ≡ false
+  in_range y (Node lat lon tags) is a b =
+      let made = (fine m sound y (Node lat lon tags) is).made in
+      (λ i. not (is_some (latitude ((ap (λ d. lat +ℤ d) a ∙ +ℤ_idr lat) i)) && is_some (longitude ((ap (λ d. lon +ℤ d) b ∙ +ℤ_idr lon) i))))
+      ∙ (λ i. not (first_true (is_some (latitude lat)) (is_some (longitude lon) && are_tags tags) made i && first_true (is_some (longitude lon)) (are_tags tags) (second_true (is_some (latitude lat)) (is_some (longitude lon) && are_tags tags) made) i))
+  in_range y (Way nodes tags) is a b = refl
+  in_range y (Relation members tags) is a b = refl
+
+  none_leaves : (nat_eq (length list) 0 || (int_eq dlat (pos 0) && int_eq dlon (pos 0))) ≡ true → left_range m list dlat dlon ≡ []
+  none_leaves h = none_among (left_range m list dlat dlon) (λ y. among_rows (λ r. is_moved m list r.0 && is_out_of_range (moved_by dlat dlon r.1)) m (sound_in_order m sound) y ∙ by y (row_at m y) refl (nat_eq (length list) 0) refl h)
+    where
+      by : (y : Name) (o : Option (Element A)) → row_at m y ≡ o → (b : Bool) → nat_eq (length list) 0 ≡ b → (b || (int_eq dlat (pos 0) && int_eq dlon (pos 0))) ≡ true
+          → passes_at (λ r. is_moved m list r.0 && is_out_of_range (moved_by dlat dlon r.1)) y o ≡ false
+      by y None e b f g = refl
+      by y (Some v) e true f g = ap (λ c. c && is_out_of_range (moved_by dlat dlon v)) (unlisted list f y)
+      by y (Some v) e false f g =
+          ap (λ c. is_moved m list y && c) (in_range y v e (is_zero dlat (first_true (int_eq dlat (pos 0)) (int_eq dlon (pos 0)) g)) (is_zero dlon (second_true (int_eq dlat (pos 0)) (int_eq dlon (pos 0)) g)))
+          ∙ never (is_moved m list y)
+
+  pub move_nothing : None ≡ least (filter (λ e. is_relation e.kind) list) → None ≡ least (filter (is_absent m) list) → (nat_eq (length list) 0 || (int_eq dlat (pos 0) && int_eq dlon (pos 0))) ≡ true
+      → IsPlan m (move_checks m list dlat dlon) (after_move m list dlat dlon) (Err Nothing)
+  move_nothing relations absents nothing =
+      inl (λ i. first_that_holds (option_map WrongKind (sym relations i) ∷ option_map Absent (sym absents i) ∷ the_least OutOfRange (none_leaves nothing i) ∷ then_some (nothing i) Nothing ∷ []))
+
+  pub all_there : None ≡ least (filter (is_absent m) list) → list_all (is_present m) list ≡ true
+  all_there absents = all_from (is_present m) list (all_present m list (ap (option_map Absent) (sym absents)))
+
+  pub full_and_far : (nat_eq (length list) 0 || (int_eq dlat (pos 0) && int_eq dlon (pos 0))) ≡ false → (nat_eq (length list) 0 ≡ false) × ((int_eq dlat (pos 0) && int_eq dlon (pos 0)) ≡ false)
+  full_and_far h = by (nat_eq (length list) 0) h
+    where
+      by : (b : Bool) → (b || (int_eq dlat (pos 0) && int_eq dlon (pos 0))) ≡ false → (b ≡ false) × ((int_eq dlat (pos 0) && int_eq dlon (pos 0)) ≡ false)
+      by true e = absurd (cc)
+      by false e = (refl, e)

@@ -1,0 +1,52 @@
+-- Plans that were made.
+use Rattle.std.proofs.Common.{◌≡◌, true, false, not, List, [], ◌∷◌, Option, Some, None, Ok, Err, is_some, slice_get, inl, refl, sym, ap, ◌∙◌}
+use Rattle.std.specs.Bool.{then_some}
+use Rattle.std.specs.Option.{option_map}
+use Rattle.osm_elements.specs.declared.name.Name.{Name}
+use Rattle.osm_elements.specs.declared.element.Element.{Element}
+use Rattle.osm_elements.specs.Maps.{Rows, is_present}
+use Rattle.osm_elements.specs.Rows.{row_at}
+use Rattle.osm_refs.specs.References.{users}
+use Rattle.osm_changes.specs.declared.change.Change.{Change}
+use Rattle.osm_changes.specs.Sound.{is_sound}
+use Rattle.osm_changes.specs.Facts.SoundRows.{sound_in_order}
+use Rattle.osm_changes.specs.Facts.Differing.{created, deleted}
+use Rattle.edit_simple.specs.declared.refusal.Refusal.{Refusal}
+use Rattle.edit_simple.specs.declared.refusal.Refusal.TheVariants.{Present, Absent, InUse}
+use Rattle.edit_simple.specs.Checks.{first_that_holds, the_least}
+use Rattle.edit_simple.specs.Create.{create_checks, after_create}
+use Rattle.edit_simple.specs.Delete.{delete_checks, after_delete}
+use Rattle.edit_simple.specs.Plans.{IsPlan}
+use Rattle.edit_simple.specs.Inner.Passing.{passed}
+use Rattle.edit_simple.specs.Facts.Checked.{nones, not_so}
+use Rattle.edit_simple.proofs.FirstUsers.{first_user_is_least}
+
+pub passed_ok : {X : Type 0} (u : Unit {0}) (o : Option X) → Ok u ≡ passed o → o ≡ None
+passed_ok u None e = refl
+passed_ok u (Some x) e = absurd (cc)
+
+module _ {A : Type 0} where
+  not_there : (o : Option (Element A)) → is_some o ≡ false → o ≡ None
+  not_there None e = refl
+  not_there (Some v) e = absurd (cc)
+
+  pub create_planned : (m : Rows A) (x : Name) (v w : Element A) (u : Unit {0}) (cs : List (Change A)) → Ok u ≡ passed (first_that_holds (create_checks m x v))
+      → w ≡ v → cs ≡ record { name = x; before = None; after = Some w } ∷ [] → IsPlan m (create_checks m x v) (after_create m x v) (Ok cs)
+  create_planned m x v w u cs ok e is =
+      let none = passed_ok u (first_that_holds (create_checks m x v)) ok in
+      let absent = not_there (row_at m x) (not_so {X = Refusal A} (is_present m x) (Present x) (nones (create_checks m x v) none).1.0) in
+      (none, is ∙ ap (λ z. record { name = x; before = None; after = Some z } ∷ []) e ∙ sym (created m x v absent))
+
+  pub delete_planned : (m : Rows A) (x : Name) (v w : Element A) (cs : List (Change A)) → row_at m x ≡ Some v → users m x ≡ []
+      → w ≡ v → cs ≡ record { name = x; before = Some w; after = None } ∷ [] → IsPlan m (delete_checks m x) (after_delete m x) (Ok cs)
+  delete_planned m x v w cs there unused e is =
+      (ap (λ o. first_that_holds (then_some (not (is_some o)) (Absent x) ∷ the_least (InUse x) (users m x) ∷ [])) there ∙ ap (λ l. first_that_holds (the_least {A = A} (InUse x) l ∷ [])) unused, is ∙ ap (λ z. record { name = x; before = Some z; after = None } ∷ []) e ∙ sym (deleted m x v there))
+
+  pub delete_in_use : (m : Rows A) (x : Name) (v : Element A) (user : Name) → is_sound m ≡ true → row_at m x ≡ Some v → slice_get (users m x) 0 ≡ Some user → IsPlan m (delete_checks m x) (after_delete m x) (Err (InUse x user))
+  delete_in_use m x v user sound there first =
+      inl (ap (λ o. first_that_holds (then_some (not (is_some o)) (Absent x) ∷ the_least (InUse x) (users m x) ∷ [])) there
+      ∙ ap (λ o. first_that_holds (option_map (InUse x) o ∷ [])) (sym (first_user_is_least m x (sound_in_order m sound)) ∙ first))
+
+pub no_first : (names : List Name) → slice_get names 0 ≡ None → names ≡ []
+no_first [] e = refl
+no_first (x ∷ names) e = absurd (cc)

@@ -1,0 +1,8 @@
+use Rattle.std.proofs.Common.{◌≡◌, take}
+use Rattle.std.specs.List.{filter}
+use Rattle.osm_elements.specs.Maps.{least}
+use Rattle.edit_simple.specs.Create.{is_missing}
+use Rattle.edit_simple.proofs.lookup.least_missing.Given as goal
+
+abbrev pub invariant-loop-name : goal.invariant-loop-name
+invariant-loop-name g l = l.least ≡ least (filter (is_missing l.rows l.new) (take l.name-index l.names))

@@ -1,0 +1,8 @@
+use Rattle.std.proofs.Common.{◌≡◌, take, map}
+use Rattle.std.specs.List.{filter}
+use Rattle.osm_elements.specs.Maps.{least}
+use Rattle.edit_simple.specs.Create.{is_missing}
+use Rattle.edit_simple.proofs.lookup.least_missing_member.Given as goal
+
+abbrev pub invariant-loop-member : goal.invariant-loop-member
+invariant-loop-member g l = l.least ≡ least (filter (is_missing l.rows l.new) (map (λ m. m.name) (take l.member-index l.members)))

@@ -1,0 +1,10 @@
+use Rattle.std.proofs.Common.{sym, ap, ◌∙◌}
+use Rattle.osm_refs.specs.Facts.MapTables.{users_in-table_of}
+use Rattle.osm_refs.specs.References.{users}
+use Rattle.osm_refs.specs.Tables.{UsersState, users_in}
+use Rattle.edit_simple.proofs.plans.plan_delete.Goals as goal
+
+pub plan-requires-clause-users : goal.plan-requires-clause-users
+plan-requires-clause-users g c =
+    c.of.ensures ∙ ap (λ (u : UsersState). users_in u.references c.args.name.now) c.users.ensures ∙ users_in-table_of c.args.store.now.rows c.args.name.now
+    ∙ ap (λ m. users m c.args.name.now) (sym c.map.ensures.map)

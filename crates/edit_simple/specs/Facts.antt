@@ -1,0 +1,12 @@
+-- What is proved of the definitions beside this folder, for the proofs here and in the crates above. No contract cites these.
+pub mod Checked
+pub mod Creating
+pub mod Deleting
+pub mod Differences
+pub mod EachRow
+pub mod Lists
+pub mod Moving
+pub mod Relisting
+pub mod Retagging
+pub mod Rewriting
+pub mod Kinds

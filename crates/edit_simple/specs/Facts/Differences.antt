@@ -1,0 +1,88 @@
+-- Changes that are those between two maps.
+use Rattle.std.proofs.Common.{◌≡◌, ◌≢◌, zero, suc, All, arith, Bool, true, false, not, ◌&&◌, ◌||◌, List, [], ◌∷◌, ◌++◌, Option, Some, None, is_some, map, refl, sym, ap, ◌∙◌, cond}
+use Rattle.std.specs.Option.{option_map}
+use Rattle.osm_elements.specs.declared.name.Name.{Name}
+use Rattle.osm_elements.specs.declared.element.Element.{Element}
+use Rattle.osm_elements.specs.Maps.{Rows, is_same, is_among, is_present, name_set, names_of}
+use Rattle.osm_elements.specs.Rows.{row_at}
+use Rattle.osm_elements.specs.Facts.Among.{is_among-name_set, is_among-append, is_among-names_of}
+use Rattle.osm_elements.specs.Facts.Rows.{same_names, is_eq-name_cmp_itself}
+use Rattle.osm_elements.specs.Facts.Dropped.{same_either_way}
+use Rattle.osm_refs.specs.Facts.RisingNames.{is_among-passing, same_rising, IsRising-filter, IsRising-name_set}
+use Rattle.osm_refs.specs.Inner.Rising.{IsRising}
+use Rattle.osm_changes.specs.declared.change.Change.{Change}
+use Rattle.osm_changes.specs.SameRows.{is_same_row}
+use Rattle.osm_changes.specs.Changes.{differing, differences, AreChanges}
+use Rattle.osm_changes.specs.Facts.Differing.{same_row}
+use Rattle.osm_changes.specs.Facts.SameElements.{told_same_row}
+use Rattle.edit_simple.specs.Parts.{each_row, at_name}
+use Rattle.edit_simple.specs.Facts.EachRow.{row_at-each_row}
+
+module _ {A : Type 0} where
+  pub is_among-differing : (m n : Rows A) (x : Name) → is_among (differing m n) x ≡ not (is_same_row (row_at m x) (row_at n x))
+  is_among-differing m n x = is_among-passing (λ y. not (is_same_row (row_at m y) (row_at n y))) (name_set (names_of m ++ names_of n)) x ∙ by (is_same_row (row_at m x) (row_at n x)) refl
+    where
+      there : is_among (name_set (names_of m ++ names_of n)) x ≡ (is_present m x || is_present n x)
+      there = is_among-name_set x (names_of m ++ names_of n) ∙ is_among-append x (names_of m) (names_of n)
+          ∙ ap (λ b. b || is_among (names_of n) x) (is_among-names_of m x) ∙ ap (λ b. is_present m x || b) (is_among-names_of n x)
+
+      one : (o p : Option (Element A)) → is_same_row o p ≡ false → (is_some o || is_some p) ≡ true
+      one None None e = absurd (cc)
+      one None (Some w) e = refl
+      one (Some v) p e = refl
+
+      by : (b : Bool) → is_same_row (row_at m x) (row_at n x) ≡ b → (not b && is_among (name_set (names_of m ++ names_of n)) x) ≡ not b
+      by true e = refl
+      by false e = there ∙ one (row_at m x) (row_at n x) e
+
+  -- rising names that are those at which two maps differ
+  pub differing_are : (m n : Rows A) (names : List Name) → IsRising names → ((y : Name) → is_among names y ≡ not (is_same_row (row_at m y) (row_at n y))) → names ≡ differing m n
+  differing_are m n names rising are =
+      same_rising names (differing m n) rising (IsRising-filter (λ y. not (is_same_row (row_at m y) (row_at n y))) (name_set (names_of m ++ names_of n)) (IsRising-name_set (names_of m ++ names_of n)))
+      (λ y. are y ∙ sym (is_among-differing m n y))
+
+  -- two maps that differ at one name alone
+  pub one_difference : (m n : Rows A) (x : Name) → is_same_row (row_at m x) (row_at n x) ≡ false → ((y : Name) → is_same y x ≡ false → row_at n y ≡ row_at m y)
+      → record { name = x; before = row_at m x; after = row_at n x } ∷ [] ≡ differences m n
+  one_difference m n x other rest =
+      ap (map (λ y. record { name = y; before = row_at m y; after = row_at n y })) (differing_are m n (x ∷ []) tt (λ y. by y (is_same y x) refl))
+    where
+      by : (y : Name) (b : Bool) → is_same y x ≡ b → (b || false) ≡ not (is_same_row (row_at m y) (row_at n y))
+      by y true e = sym (ap (λ z. not (is_same_row (row_at m z) (row_at n z))) (same_names y x e) ∙ ap not other)
+      by y false e = sym (ap (λ o. not (is_same_row (row_at m y) o)) (rest y e) ∙ ap not (same_row (row_at m y)))
+
+  -- one change that changes something is a list of changes
+  pub one_is_changes : (x : Name) (o p : Option (Element A)) → p ≢ o → AreChanges (record { name = x; before = o; after = p } ∷ [])
+  one_is_changes x o p apart = record { rising = tt; differ = one (record { name = x; before = o; after = p }) apart }
+    where
+      one : (c : Change A) → c.after ≢ c.before → All (λ (d : Change A). d.after ≢ d.before) (c ∷ [])
+      one c h zero d l = h
+      one c h (suc i) d l = absurd (omega (arith, l))
+
+  -- rows that are not the same pass no test of sameness
+  pub apart_rows : (o p : Option (Element A)) → p ≢ o → is_same_row o p ≡ false
+  apart_rows o p apart = by (is_same_row o p) refl
+    where
+      by : (b : Bool) → is_same_row o p ≡ b → b ≡ false
+      by true e = absurd (apart (sym (told_same_row o p e)))
+      by false e = refl
+
+  -- the row of one name rewritten
+  pub one_rewritten : (m : Rows A) (x : Name) (f : Element A → Element A) (v : Element A) → row_at m x ≡ Some v → Some (f v) ≢ Some v
+      → record { name = x; before = Some v; after = Some (f v) } ∷ [] ≡ differences m (each_row (at_name x f) m)
+  one_rewritten m x f v is apart =
+      ap (λ o. record { name = x; before = o; after = Some (f v) } ∷ []) (sym is) ∙ ap (λ o. record { name = x; before = row_at m x; after = o } ∷ []) (sym now)
+      ∙ one_difference m n x (apart_rows (row_at m x) (row_at n x) (λ e. apart (sym now ∙ e ∙ is))) rest
+    where
+      n : Rows A
+      n = each_row (at_name x f) m
+
+      now : row_at n x ≡ Some (f v)
+      now = row_at-each_row (at_name x f) m x ∙ ap (option_map (at_name x f x)) is ∙ ap (λ b. Some (cond b (f v) v)) (is_eq-name_cmp_itself x)
+
+      left : (y : Name) (o : Option (Element A)) → is_same x y ≡ false → option_map (at_name x f y) o ≡ o
+      left y None e = refl
+      left y (Some w) e = ap (λ b. Some (cond b (f w) w)) e
+
+      rest : (y : Name) → is_same y x ≡ false → row_at n y ≡ row_at m y
+      rest y e = row_at-each_row (at_name x f) m y ∙ left y (row_at m y) (same_either_way x y ∙ e)

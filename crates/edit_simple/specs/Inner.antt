@@ -1,0 +1,7 @@
+-- Words of what is not public. No public contract cites these.
+pub mod Least
+pub mod Moves
+pub mod Moving
+pub mod Passing
+pub mod Places
+pub mod Retagging

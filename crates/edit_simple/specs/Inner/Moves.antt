@@ -1,0 +1,37 @@
+-- Moves of nodes one by one.
+use Rattle.std.specs.Prelude.{◌≡◌, ◌⊎◌, ◌&&◌, ℤ, pos, Bool, true, false, List, [], map, Option, Some, None, Result, MatchResult}
+use Rattle.std.specs.List.{filter, list_all}
+use Rattle.std.specs.Ordering.{int_eq}
+use Rattle.osm_elements.specs.declared.name.Name.{Name}
+use Rattle.osm_elements.specs.declared.element.Element.{Element}
+use Rattle.osm_elements.specs.declared.element.Element.TheVariants.{Node, Way, Relation}
+use Rattle.osm_elements.specs.Maps.{Rows, least}
+use Rattle.osm_elements.specs.Rows.{row_at}
+use Rattle.osm_refs.specs.Inner.Rising.{IsRising}
+use Rattle.osm_changes.specs.declared.change.Change.{Change}
+use Rattle.edit_simple.specs.declared.refusal.Refusal.{Refusal}
+use Rattle.edit_simple.specs.declared.refusal.Refusal.TheVariants.{OutOfRange, Memory}
+use Rattle.edit_simple.specs.Inner.Moving.{row_leaves, moved_change}
+
+module _ {A : Type 0} where
+  abbrev pub is_node_row : Option (Element A) → Bool
+  is_node_row None = false
+  is_node_row (Some (Node lat lon tags)) = true
+  is_node_row (Some (Way nodes tags)) = false
+  is_node_row (Some (Relation members tags)) = false
+
+  -- rising names of nodes that are there, and a distance
+  pub record MayMove (m : Rows A) (moved : List Name) (dlat dlon : ℤ) : Type 0 where
+    pub rising : IsRising moved
+    pub there : list_all (λ y. is_node_row (row_at m y)) moved ≡ true
+    pub distance : (int_eq dlat (pos 0) && int_eq dlon (pos 0)) ≡ false
+
+  -- those of the names that would leave the range
+  abbrev pub leaving : Rows A → ℤ → ℤ → List Name → List Name
+  leaving m dlat dlon names = filter (λ y. row_leaves dlat dlon (row_at m y)) names
+
+  -- the change of each, where none leaves the range; else the first that does
+  abbrev pub IsMoved : Rows A → List Name → ℤ → ℤ → Result (List (Change A)) (Refusal A) → Type 0
+  IsMoved m moved dlat dlon r =
+      MatchResult r (λ cs. (leaving m dlat dlon moved ≡ []) × (cs ≡ map (moved_change m dlat dlon) moved))
+      (λ e. ((y : Name) × (least (leaving m dlat dlon moved) ≡ Some y) × (e ≡ OutOfRange y)) ⊎ (e ≡ Memory))

@@ -1,0 +1,30 @@
+-- What a move does to one row.
+use Rattle.std.specs.Prelude.{ℤ, Bool, false, List, [], ◌∷◌, Option, Some, None}
+use Rattle.std.specs.List.{flat_map}
+use Rattle.std.specs.Option.{option_map}
+use Rattle.osm_elements.specs.declared.name.Name.{Name}
+use Rattle.osm_elements.specs.declared.element.Element.{Element}
+use Rattle.osm_elements.specs.declared.element.Element.TheVariants.{Node, Way, Relation}
+use Rattle.osm_elements.specs.Maps.{Rows}
+use Rattle.osm_elements.specs.Rows.{row_at}
+use Rattle.osm_changes.specs.declared.change.Change.{Change}
+use Rattle.edit_simple.specs.Move.{moved_by, is_out_of_range}
+
+module _ {A : Type 0} where
+  -- the nodes that a listed name moves, by its row: itself, or those of the way
+  abbrev pub moved_with : Name → Option (Element A) → List Name
+  moved_with x None = []
+  moved_with x (Some (Node lat lon tags)) = x ∷ []
+  moved_with x (Some (Way nodes tags)) = nodes
+  moved_with x (Some (Relation members tags)) = []
+
+  abbrev pub all_moved : Rows A → List Name → List Name
+  all_moved m list = flat_map (λ x. moved_with x (row_at m x)) list
+
+  -- the row would leave the range
+  abbrev pub row_leaves : ℤ → ℤ → Option (Element A) → Bool
+  row_leaves dlat dlon None = false
+  row_leaves dlat dlon (Some v) = is_out_of_range (moved_by dlat dlon v)
+
+  abbrev pub moved_change : Rows A → ℤ → ℤ → Name → Change A
+  moved_change m dlat dlon y = record { name = y; before = row_at m y; after = option_map (moved_by dlat dlon) (row_at m y) }

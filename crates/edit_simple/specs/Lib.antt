@@ -1,0 +1,17 @@
+pub mod Checks
+pub mod Create
+pub mod Delete
+pub mod Examples
+pub mod Facts
+pub mod GivenPairs
+pub mod Inner
+pub mod Kinds
+pub mod Members
+pub mod Move
+pub mod Nodes
+pub mod Parts
+pub mod Plans
+pub mod Retag
+pub mod Reverse
+pub mod Scenes
+pub mod Tagging

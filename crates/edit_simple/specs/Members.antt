@@ -1,0 +1,29 @@
+-- To give a relation other members. (OpenStreetMap API v0.6: nothing absent is named. The greatest length is this project's.)
+use Rattle.std.specs.Prelude.{ℕ, not, List, [], ◌∷◌, Option, length, map, nat_lt}
+use Rattle.std.specs.Bool.{then_some}
+use Rattle.std.specs.List.{filter}
+use Rattle.osm_elements.specs.declared.name.Name.{Name}
+use Rattle.osm_elements.specs.Maps.{Rows, is_absent}
+use Rattle.osm_elements.specs.Rows.{row_at}
+use Rattle.osm_changes.specs.SameRows.{are_same_members}
+use Rattle.osm_changes.specs.Sound.{most_members}
+use Rattle.edit_simple.specs.declared.refusal.Refusal.{Refusal}
+use Rattle.edit_simple.specs.declared.refusal.Refusal.TheVariants.{Absent, WrongKind, TooMany, Nothing}
+use Rattle.edit_simple.specs.Checks.{the_least}
+use Rattle.edit_simple.specs.Kinds.{is_relation}
+use Rattle.edit_simple.specs.Parts.{members_of, with_members, each_row, at_name}
+
+module _ {A : Type 0} where
+  -- it is a relation, it is there, the list has at most 32,000 entries, which are there, and it is another than before
+  abbrev pub members_checks : Rows A → Name → List (Name × List ℕ) → List (Option (Refusal A))
+  members_checks m r list =
+      then_some (not (is_relation r.kind)) (WrongKind r)
+      ∷ then_some (is_absent m r) (Absent r)
+      ∷ then_some (nat_lt most_members (length list)) (TooMany r)
+      ∷ the_least Absent (filter (is_absent m) (map (λ e. e.0) list))
+      ∷ then_some (are_same_members (members_of (row_at m r)) list) Nothing
+      ∷ []
+
+  -- r's members are these
+  abbrev pub after_members : Rows A → Name → List (Name × List ℕ) → Rows A
+  after_members m r list = each_row (at_name r (with_members (λ _. list))) m

@@ -1,0 +1,50 @@
+-- To move nodes and ways by a distance. (OpenStreetMap API v0.6: a node's latitude and longitude, and their ranges.)
+use Rattle.std.specs.Prelude.{◌&&◌, ◌||◌, ◌+ℤ◌, Bool, false, not, ℤ, pos, List, [], ◌∷◌, Option, is_some, length, nat_eq, if◌then◌else◌}
+use Rattle.std.specs.Bool.{then_some}
+use Rattle.std.specs.List.{filter, list_any}
+use Rattle.std.specs.Ordering.{int_eq}
+use Rattle.osm_coords.specs.Latitude.{latitude}
+use Rattle.osm_coords.specs.Longitude.{longitude}
+use Rattle.osm_elements.specs.declared.name.Name.{Name}
+use Rattle.osm_elements.specs.declared.element.Element.{Element}
+use Rattle.osm_elements.specs.declared.element.Element.TheVariants.{Node, Way, Relation}
+use Rattle.osm_elements.specs.Made.{is_node}
+use Rattle.osm_elements.specs.Maps.{Rows, is_among, is_absent, names_of}
+use Rattle.osm_elements.specs.Rows.{row_at}
+use Rattle.edit_simple.specs.declared.refusal.Refusal.{Refusal}
+use Rattle.edit_simple.specs.declared.refusal.Refusal.TheVariants.{Absent, WrongKind, OutOfRange, Nothing}
+use Rattle.edit_simple.specs.Checks.{the_least}
+use Rattle.edit_simple.specs.Kinds.{is_relation}
+use Rattle.edit_simple.specs.Parts.{nodes_of, each_row}
+
+module _ {A : Type 0} where
+  -- a node that is listed, or is a node of a listed way
+  abbrev pub is_moved : Rows A → List Name → Name → Bool
+  is_moved m list n = is_node n.kind && (is_among list n || list_any (λ w. is_among (nodes_of (row_at m w)) n) list)
+
+  abbrev pub moved_by : ℤ → ℤ → Element A → Element A
+  moved_by dlat dlon (Node lat lon tags) = Node (lat +ℤ dlat) (lon +ℤ dlon) tags
+  moved_by dlat dlon (Way nodes tags) = Way nodes tags
+  moved_by dlat dlon (Relation members tags) = Relation members tags
+
+  abbrev pub is_out_of_range : Element A → Bool
+  is_out_of_range (Node lat lon tags) = not (is_some (latitude lat) && is_some (longitude lon))
+  is_out_of_range (Way nodes tags) = false
+  is_out_of_range (Relation members tags) = false
+
+  -- the moved nodes that would leave the range
+  abbrev pub left_range : Rows A → List Name → ℤ → ℤ → List Name
+  left_range m list dlat dlon = names_of (filter (λ r. is_moved m list r.0 && is_out_of_range (moved_by dlat dlon r.1)) m)
+
+  -- no relation is listed, what is listed is there, every moved node stays in range, and something is moved by some distance
+  abbrev pub move_checks : Rows A → List Name → ℤ → ℤ → List (Option (Refusal A))
+  move_checks m list dlat dlon =
+      the_least WrongKind (filter (λ e. is_relation e.kind) list)
+      ∷ the_least Absent (filter (is_absent m) list)
+      ∷ the_least OutOfRange (left_range m list dlat dlon)
+      ∷ then_some (nat_eq (length list) 0 || (int_eq dlat (pos 0) && int_eq dlon (pos 0))) Nothing
+      ∷ []
+
+  -- each listed node, and each node of each listed way, is moved once, however often it is named
+  abbrev pub after_move : Rows A → List Name → ℤ → ℤ → Rows A
+  after_move m list dlat dlon = each_row (λ n v. if is_moved m list n then moved_by dlat dlon v else v) m

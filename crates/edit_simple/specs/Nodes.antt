@@ -1,0 +1,30 @@
+-- To give a way other nodes. (OpenStreetMap API v0.6: nothing absent is named. The greatest length is this project's.)
+use Rattle.std.specs.Prelude.{not, List, [], ◌∷◌, Option, length, nat_lt}
+use Rattle.std.specs.Bool.{then_some}
+use Rattle.std.specs.List.{filter}
+use Rattle.osm_elements.specs.declared.name.Name.{Name}
+use Rattle.osm_elements.specs.Maps.{Rows, is_absent}
+use Rattle.osm_elements.specs.Rows.{row_at}
+use Rattle.osm_changes.specs.SameRows.{are_same_names}
+use Rattle.osm_changes.specs.Sound.{most_nodes}
+use Rattle.edit_simple.specs.declared.refusal.Refusal.{Refusal}
+use Rattle.edit_simple.specs.declared.refusal.Refusal.TheVariants.{Absent, WrongKind, TooFew, TooMany, Nothing}
+use Rattle.edit_simple.specs.Checks.{the_least}
+use Rattle.edit_simple.specs.Kinds.{is_way}
+use Rattle.edit_simple.specs.Parts.{nodes_of, with_nodes, each_row, at_name}
+
+module _ {A : Type 0} where
+  -- it is a way, it is there, the list has 2 to 2,000 entries, which are there, and it is another than before
+  abbrev pub nodes_checks : Rows A → Name → List Name → List (Option (Refusal A))
+  nodes_checks m w list =
+      then_some (not (is_way w.kind)) (WrongKind w)
+      ∷ then_some (is_absent m w) (Absent w)
+      ∷ then_some (nat_lt (length list) 2) (TooFew w)
+      ∷ then_some (nat_lt most_nodes (length list)) (TooMany w)
+      ∷ the_least Absent (filter (is_absent m) list)
+      ∷ then_some (are_same_names (nodes_of (row_at m w)) list) Nothing
+      ∷ []
+
+  -- w's list is this one
+  abbrev pub after_nodes : Rows A → Name → List Name → Rows A
+  after_nodes m w list = each_row (at_name w (with_nodes (λ _. list))) m

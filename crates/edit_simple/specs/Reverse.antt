@@ -1,0 +1,24 @@
+-- To reverse a way. (OpenStreetMap wiki, "Elements": a way is an ordered list of nodes.)
+use Rattle.std.specs.Prelude.{not, List, [], ◌∷◌, Option, reverse}
+use Rattle.std.specs.Bool.{then_some}
+use Rattle.osm_elements.specs.declared.name.Name.{Name}
+use Rattle.osm_elements.specs.Maps.{Rows, is_absent}
+use Rattle.osm_elements.specs.Rows.{row_at}
+use Rattle.osm_changes.specs.SameRows.{are_same_names}
+use Rattle.edit_simple.specs.declared.refusal.Refusal.{Refusal}
+use Rattle.edit_simple.specs.declared.refusal.Refusal.TheVariants.{Absent, WrongKind, Nothing}
+use Rattle.edit_simple.specs.Kinds.{is_way}
+use Rattle.edit_simple.specs.Parts.{nodes_of, with_nodes, each_row, at_name}
+
+module _ {A : Type 0} where
+  -- it is a way, it is there, and its list doesn't read the same backwards
+  abbrev pub reverse_checks : Rows A → Name → List (Option (Refusal A))
+  reverse_checks m w =
+      then_some (not (is_way w.kind)) (WrongKind w)
+      ∷ then_some (is_absent m w) (Absent w)
+      ∷ then_some (are_same_names (nodes_of (row_at m w)) (reverse (nodes_of (row_at m w)))) Nothing
+      ∷ []
+
+  -- w's list is reversed
+  abbrev pub after_reverse : Rows A → Name → Rows A
+  after_reverse m w = each_row (at_name w (with_nodes reverse)) m

@@ -1,0 +1,48 @@
+//! Laws of the actions, each the contract of a function that does nothing.
+ghost use Rattle.std.specs.Prelude.{◌≡◌, ◌≢◌, ℕ, ℤ, true, List, None};
+ghost use Rattle.osm_elements.specs.declared.name.Name.{Name};
+ghost use Rattle.osm_elements.specs.declared.element.Element.{Element};
+ghost use Rattle.osm_elements.specs.Made.{are_nodes, is_made};
+ghost use Rattle.osm_elements.specs.Maps.{Rows};
+ghost use Rattle.osm_elements.specs.Members.{are_members};
+ghost use Rattle.osm_changes.specs.Sound.{is_sound};
+ghost use Rattle.edit_simple.specs.Checks.{first_that_holds};
+ghost use Rattle.edit_simple.specs.Create.{create_checks, after_create};
+ghost use Rattle.edit_simple.specs.Delete.{delete_checks, after_delete};
+ghost use Rattle.edit_simple.specs.Examples.{in_use, own_member, nothing, rewritten, refusals};
+ghost use Rattle.edit_simple.specs.Members.{members_checks, after_members};
+ghost use Rattle.edit_simple.specs.Move.{move_checks, after_move};
+ghost use Rattle.edit_simple.specs.Nodes.{nodes_checks, after_nodes};
+ghost use Rattle.edit_simple.specs.Retag.{retag_checks, after_retag};
+ghost use Rattle.edit_simple.specs.Reverse.{reverse_checks, after_reverse};
+ghost use Rattle.edit_simple.specs.Tagging.{Gifts, are_gifts};
+
+use std::alloc::Allocator;
+
+/// An accepted action, with values as their types keep them, keeps a sound map sound, and changes it.
+#[tactic(auto, using(crate::specs::Facts::Creating::create_accepted, crate::specs::Facts::Retagging::retag_accepted, crate::specs::Facts::Moving::move_accepted, crate::specs::Facts::Relisting::reverse_accepted, crate::specs::Facts::Relisting::nodes_accepted, crate::specs::Facts::Relisting::members_accepted, crate::specs::Facts::Deleting::delete_accepted,))]
+pub fn accepted_keeps_sound<A: Allocator>()
+    ensures create { (m : Rows A) (x : Name) (v : Element A) → is_sound m ≡ true → is_made v ≡ true → first_that_holds (create_checks m x v) ≡ None
+        → (is_sound (after_create m x v) ≡ true) × (after_create m x v ≢ m) }
+    ensures retag { (m : Rows A) (x : Name) (given : Gifts) → is_sound m ≡ true → are_gifts given ≡ true → first_that_holds (retag_checks m x given) ≡ None
+        → (is_sound (after_retag m x given) ≡ true) × (after_retag m x given ≢ m) }
+    ensures move_by { (m : Rows A) (list : List Name) (dlat dlon : ℤ) → is_sound m ≡ true → first_that_holds (move_checks m list dlat dlon) ≡ None
+        → (is_sound (after_move m list dlat dlon) ≡ true) × (after_move m list dlat dlon ≢ m) }
+    ensures reverse { (m : Rows A) (w : Name) → is_sound m ≡ true → first_that_holds (reverse_checks m w) ≡ None
+        → (is_sound (after_reverse m w) ≡ true) × (after_reverse m w ≢ m) }
+    ensures nodes { (m : Rows A) (w : Name) (list : List Name) → is_sound m ≡ true → are_nodes list ≡ true → first_that_holds (nodes_checks m w list) ≡ None
+        → (is_sound (after_nodes m w list) ≡ true) × (after_nodes m w list ≢ m) }
+    ensures members { (m : Rows A) (r : Name) (list : List (Name × List ℕ)) → is_sound m ≡ true → are_members list ≡ true → first_that_holds (members_checks m r list) ≡ None
+        → (is_sound (after_members m r list) ≡ true) × (after_members m r list ≢ m) }
+    ensures delete { (m : Rows A) (x : Name) → is_sound m ≡ true → first_that_holds (delete_checks m x) ≡ None
+        → (is_sound (after_delete m x) ≡ true) × (after_delete m x ≢ m) }
+{}
+
+/// What the definitions say of the worked examples is what was worked out by hand.
+pub fn refusals_are_as_worked()
+    ensures in_use { in_use }
+    ensures own_member { own_member }
+    ensures nothing { nothing }
+    ensures rewritten { rewritten }
+    ensures refusals { refusals }
+{}

@@ -1,0 +1,81 @@
+//! What plans look up in a map.
+ghost use Rattle.std.specs.Prelude.{◌≡◌, map};
+ghost use Rattle.std.specs.List.{filter};
+ghost use Rattle.osm_elements.specs.Maps.{is_same, is_present, least};
+ghost use Rattle.osm_elements.specs.Texts.{is_same_text};
+ghost use Rattle.edit_simple.specs.Create.{is_missing};
+ghost use Rattle.edit_simple.specs.Inner.Least.{lesser_of};
+
+use osm_elements::map::OsmMap;
+use osm_elements::member::Member;
+use osm_elements::name::Name;
+use osm_elements::text::Text;
+use std::alloc::Allocator;
+
+/// Whether the map has the name.
+pub fn is_present<A: Allocator>(rows: &OsmMap<A>, name: &Name) -> bool
+    ensures { result ≡ is_present rows.now name.now }
+{
+    rows.get(name).is_some()
+}
+
+/// The least of the names, other than the new one, that the map doesn't have.
+pub fn least_missing<A: Allocator>(rows: &OsmMap<A>, new: &Name, names: &[Name]) -> Option<Name>
+    ensures { result ≡ least (filter (is_missing rows.now new.now) names.now) }
+{
+    let mut least = None;
+    for name in names {
+        if is_missing(rows, new, name) {
+            least = Some(lesser(least, *name));
+        }
+    }
+    least
+}
+
+/// The least of the members' names, other than the new one, that the map doesn't have.
+pub fn least_missing_member<A: Allocator>(
+    rows: &OsmMap<A>,
+    new: &Name,
+    members: &[Member<A>],
+) -> Option<Name>
+    ensures { result ≡ least (filter (is_missing rows.now new.now) (map (λ m. m.name) members.now)) }
+{
+    let mut least = None;
+    for member in members {
+        if is_missing(rows, new, &member.name) {
+            least = Some(lesser(least, member.name));
+        }
+    }
+    least
+}
+
+// Whether the name is neither the new one nor one of the map's.
+fn is_missing<A: Allocator>(rows: &OsmMap<A>, new: &Name, name: &Name) -> bool
+    ensures { result ≡ is_missing rows.now new.now name.now }
+{
+    !is_same(new, name) && !is_present(rows, name)
+}
+
+/// Whether two names are the same.
+pub fn is_same(one: &Name, other: &Name) -> bool
+    ensures { result ≡ is_same one.now other.now }
+{
+    one == other
+}
+
+/// The lesser of two names, if there are two.
+pub fn lesser(least: Option<Name>, name: Name) -> Name
+    ensures { result ≡ lesser_of least name }
+{
+    match least {
+        Some(other) => other.min(name),
+        None => name,
+    }
+}
+
+/// Whether two texts are the same.
+pub fn is_same_text<A: Allocator>(one: &Text<A>, other: &Text<A>) -> bool
+    ensures { result ≡ is_same_text one.now other.now }
+{
+    one.as_str() == other.as_str()
+}

@@ -1,0 +1,181 @@
+//! Plans of moves.
+ghost use Rattle.std.specs.Prelude.{◌≡◌, ◌⊎◌, ◌&&◌, ◌||◌, ◌++◌, pos, true, false, length, nat_eq, IfOk, OnOk, MatchResult};
+ghost use Rattle.std.specs.List.{filter};
+ghost use Rattle.std.specs.Ordering.{int_eq};
+ghost use Rattle.osm_elements.specs.Maps.{is_absent, least, name_set};
+ghost use Rattle.osm_elements.specs.Rows.{row_at};
+ghost use Rattle.osm_changes.specs.Sound.{is_sound};
+ghost use Rattle.edit_simple.specs.declared.refusal.Refusal.TheVariants.{OutOfRange as OutsideRange, Memory as OutOfMemory};
+ghost use Rattle.edit_simple.specs.Inner.Moving.{moved_with, all_moved, row_leaves, moved_change};
+ghost use Rattle.edit_simple.specs.Inner.Moves.{IsMoved, MayMove, is_node_row};
+ghost use Rattle.edit_simple.specs.Kinds.{is_relation};
+ghost use Rattle.edit_simple.specs.Move.{move_checks, after_move};
+ghost use Rattle.edit_simple.specs.Plans.{IsPlan};
+
+use crate::lookup::{is_present, lesser};
+use crate::refusal::Refusal;
+use osm_changes::change::Change;
+use osm_changes::changes::Changes;
+use osm_elements::Memory;
+use osm_elements::element::Element;
+use osm_elements::map::OsmMap;
+use osm_elements::name::{Kind, Name};
+use std::alloc::Allocator;
+
+/// Plans to move nodes and the nodes of ways.
+pub fn plan<A: Allocator + Clone>(
+    alloc: A,
+    rows: &OsmMap<A>,
+    names: &[Name],
+    dlat: i64,
+    dlon: i64,
+) -> Result<Changes<A>, Refusal<A>>
+    requires { is_sound rows.now ≡ true }
+    ensures { IsPlan rows.now (move_checks rows.now names.now dlat dlon) (after_move rows.now names.now dlat dlon) result }
+{
+    if let Some(relation) = least_relation(names) {
+        return Err(Refusal::WrongKind(relation));
+    }
+    if let Some(absent) = least_absent(rows, names) {
+        return Err(Refusal::Absent(absent));
+    }
+    if moves_nothing(names, dlat, dlon) {
+        return Err(Refusal::Nothing);
+    }
+    let moved = all_moved(alloc.clone()?, rows, names)?;
+    move_all(alloc, rows, &moved, dlat, dlon)
+}
+
+// Whether no name is listed, or there is no distance.
+fn moves_nothing(names: &[Name], dlat: i64, dlon: i64) -> bool
+    ensures { result ≡ (nat_eq (length names.now) 0 || (int_eq dlat (pos 0) && int_eq dlon (pos 0))) }
+{
+    names.is_empty() || (dlat == 0 && dlon == 0)
+}
+
+// The least of the names that is a relation's.
+fn least_relation(names: &[Name]) -> Option<Name>
+    ensures { result ≡ least (filter (λ e. is_relation e.kind) names.now) }
+{
+    let mut least = None;
+    for name in names {
+        if is_relation(name) {
+            least = Some(lesser(least, *name));
+        }
+    }
+    least
+}
+
+// Whether the name is a relation's.
+fn is_relation(name: &Name) -> bool
+    ensures { result ≡ is_relation name.now.kind }
+{
+    matches!(name.kind(), Kind::Relation)
+}
+
+// The least of the names that the map doesn't have.
+fn least_absent<A: Allocator>(rows: &OsmMap<A>, names: &[Name]) -> Option<Name>
+    ensures { result ≡ least (filter (is_absent rows.now) names.now) }
+{
+    let mut least = None;
+    for name in names {
+        if !is_present(rows, name) {
+            least = Some(lesser(least, *name));
+        }
+    }
+    least
+}
+
+// The nodes that are moved, rising, each once.
+fn all_moved<A: Allocator>(
+    alloc: A,
+    rows: &OsmMap<A>,
+    names: &[Name],
+) -> Result<Vec<Name, A>, Memory>
+    ensures { IfOk result (λ moved. moved.items ≡ name_set (all_moved rows.now names.now)) }
+{
+    let mut moved = listed(alloc, rows, names)?;
+    moved.sort_unstable();
+    moved.dedup();
+    Ok(moved)
+}
+
+// The nodes that are listed, and those of listed ways, in the order of the list.
+fn listed<A: Allocator>(alloc: A, rows: &OsmMap<A>, names: &[Name]) -> Result<Vec<Name, A>, Memory>
+    ensures { IfOk result (λ moved. moved.items ≡ all_moved rows.now names.now) }
+{
+    let mut moved = Vec::new(alloc);
+    for name in names {
+        add_moved(rows, name, &mut moved)?;
+    }
+    Ok(moved)
+}
+
+// Adds the node of a name, or the nodes of its way.
+fn add_moved<A: Allocator>(
+    rows: &OsmMap<A>,
+    name: &Name,
+    moved: &mut Vec<Name, A>,
+) -> Result<(), Memory>
+    ensures { OnOk result (moved.new.items ≡ moved.old.items ++ moved_with name.now (row_at rows.now name.now)) }
+{
+    match rows.get(name) {
+        Some(Element::Node { .. }) => moved.push(*name)?,
+        Some(Element::Way { nodes, .. }) => moved.extend_from_slice(nodes.names())?,
+        _ => {}
+    }
+    Ok(())
+}
+
+// The changes of nodes that are moved, or the refusal of the first that would leave the range.
+fn move_all<A: Allocator + Clone>(
+    alloc: A,
+    rows: &OsmMap<A>,
+    moved: &[Name],
+    dlat: i64,
+    dlon: i64,
+) -> Result<Changes<A>, Refusal<A>>
+    requires { MayMove rows.now moved.now dlat dlon }
+    ensures { IsMoved rows.now moved.now dlat dlon result }
+{
+    let mut changes = Changes::empty(alloc);
+    for name in moved {
+        let change = moved_node(rows, name, dlat, dlon)?;
+        changes.push(change)?;
+    }
+    Ok(changes)
+}
+
+// The change of a node that is moved, or the refusal to leave the range.
+fn moved_node<A: Allocator + Clone>(
+    rows: &OsmMap<A>,
+    name: &Name,
+    dlat: i64,
+    dlon: i64,
+) -> Result<Change<A>, Refusal<A>>
+    requires { is_node_row (row_at rows.now name.now) ≡ true }
+    ensures { MatchResult result
+        (λ c. (row_leaves dlat dlon (row_at rows.now name.now) ≡ false) × (c ≡ moved_change rows.now dlat dlon name.now))
+        (λ r. ((row_leaves dlat dlon (row_at rows.now name.now) ≡ true) × (r ≡ OutsideRange name.now)) ⊎ (r ≡ OutOfMemory)) }
+{
+    let Some(element) = rows.get(name) else {
+        unreachable!()
+    };
+    let Element::Node { lat, lon, tags } = element else {
+        unreachable!()
+    };
+    let (Some(new_lat), Some(new_lon)) = (lat.moved(dlat), lon.moved(dlon)) else {
+        return Err(Refusal::OutOfRange(*name));
+    };
+    let after = Element::Node {
+        lat: new_lat,
+        lon: new_lon,
+        tags: tags.copy()?,
+    };
+    let before = element.copy()?;
+    Ok(Change {
+        name: *name,
+        before: Some(before),
+        after: Some(after),
+    })
+}

@@ -1,0 +1,123 @@
+//! The plans of the actions on single elements: what each would change in a store, or why it is refused.
+//!
+//! A plan answers the changes that lead to the map after the action, the first of the action's checks that holds, or
+//! `Memory` in place of any answer. It leaves the store alone.
+ghost use Rattle.edit_simple.specs.Create.{create_checks, after_create};
+ghost use Rattle.edit_simple.specs.Delete.{delete_checks, after_delete};
+ghost use Rattle.edit_simple.specs.Members.{members_checks, after_members};
+ghost use Rattle.edit_simple.specs.Move.{move_checks, after_move};
+ghost use Rattle.edit_simple.specs.Nodes.{nodes_checks, after_nodes};
+ghost use Rattle.edit_simple.specs.Plans.{IsPlan};
+ghost use Rattle.edit_simple.specs.Retag.{retag_checks, after_retag};
+ghost use Rattle.edit_simple.specs.Reverse.{reverse_checks, after_reverse};
+
+use crate::refusal::Refusal;
+use crate::retag::Retag;
+use crate::{create, delete, moving, relist, retagging};
+use osm_changes::changes::Changes;
+use osm_changes::store::Store;
+use osm_elements::element::Element;
+use osm_elements::members::Members;
+use osm_elements::name::Name;
+use osm_elements::nodes::Nodes;
+use std::alloc::Allocator;
+
+/// Plans to make an element under a name. It refuses `WrongKind` where the element is not of the name's kind, `Present`
+/// where the name is there, `TooFew` for a way of fewer than 2 nodes, `TooMany` for a way of more than 2,000 nodes or a
+/// relation of more than 32,000 members, and `Absent` with the least name that the element refers to, other than its
+/// own, and that is not there (OpenStreetMap API v0.6: nothing absent is named; the maxima are this project's). It
+/// looks up each name that the element refers to.
+pub fn plan_create<A: Allocator + Clone>(
+    alloc: A,
+    store: &Store<A>,
+    name: &Name,
+    element: &Element<A>,
+) -> Result<Changes<A>, Refusal<A>>
+    ensures { IsPlan store.now.rows (create_checks store.now.rows name.now element.now) (after_create store.now.rows name.now element.now) result }
+{
+    create::plan(alloc, store.map(), name, element)
+}
+
+/// Plans to give an element other tags: each key of what is given has its value, or is removed where it has none. It
+/// refuses `Absent` where the name is not there, `TooMany` where the element would have more than 1,000 tags
+/// afterwards, a limit of this project, and `Nothing` where its tags would be the same.
+pub fn plan_retag<A: Allocator + Clone>(
+    alloc: A,
+    store: &Store<A>,
+    name: &Name,
+    given: &Retag<A>,
+) -> Result<Changes<A>, Refusal<A>>
+    ensures { IsPlan store.now.rows (retag_checks store.now.rows name.now given.now) (after_retag store.now.rows name.now given.now) result }
+{
+    retagging::plan(alloc, store.map(), name, given)
+}
+
+/// Plans to move each listed node, and each node of each listed way, by so many ten-millionths of a degree, once each
+/// however often it is named. It refuses `WrongKind` with the least relation that is listed, `Absent` with the least
+/// listed name that is not there, `OutOfRange` with the least node that would leave the range of latitudes or
+/// longitudes (OpenStreetMap API v0.6), and `Nothing` where no name is listed or both distances are 0. The moved nodes
+/// are sorted, and each is looked up.
+pub fn plan_move<A: Allocator + Clone>(
+    alloc: A,
+    store: &Store<A>,
+    names: &[Name],
+    dlat: i64,
+    dlon: i64,
+) -> Result<Changes<A>, Refusal<A>>
+    ensures { IsPlan store.now.rows (move_checks store.now.rows names.now dlat dlon) (after_move store.now.rows names.now dlat dlon) result }
+{
+    moving::plan(alloc, store.map(), names, dlat, dlon)
+}
+
+/// Plans to turn a way round. It refuses `WrongKind` where the name is no way's, `Absent` where it is not there, and
+/// `Nothing` where the way's list reads the same backwards.
+pub fn plan_reverse<A: Allocator + Clone>(
+    alloc: A,
+    store: &Store<A>,
+    name: &Name,
+) -> Result<Changes<A>, Refusal<A>>
+    ensures { IsPlan store.now.rows (reverse_checks store.now.rows name.now) (after_reverse store.now.rows name.now) result }
+{
+    relist::plan_reverse(alloc, store.map(), name)
+}
+
+/// Plans to give a way other nodes. It refuses `WrongKind` where the name is no way's, `Absent` where it is not there,
+/// `TooFew` for fewer than 2 nodes, `TooMany` for more than 2,000, a limit of this project, `Absent` with the least of
+/// the nodes that is not there, and `Nothing` where these are the way's nodes. It looks up each of the nodes.
+pub fn plan_nodes<A: Allocator + Clone>(
+    alloc: A,
+    store: &Store<A>,
+    name: &Name,
+    list: &Nodes<A>,
+) -> Result<Changes<A>, Refusal<A>>
+    ensures { IsPlan store.now.rows (nodes_checks store.now.rows name.now list.now) (after_nodes store.now.rows name.now list.now) result }
+{
+    relist::plan_nodes(alloc, store.map(), name, list)
+}
+
+/// Plans to give a relation other members. It refuses `WrongKind` where the name is no relation's, `Absent` where it is
+/// not there, `TooMany` for more than 32,000 members, a limit of this project, `Absent` with the least member that is not
+/// there, and `Nothing` where these are the relation's members. It looks up each of the members.
+pub fn plan_members<A: Allocator + Clone>(
+    alloc: A,
+    store: &Store<A>,
+    name: &Name,
+    list: &Members<A>,
+) -> Result<Changes<A>, Refusal<A>>
+    ensures { IsPlan store.now.rows (members_checks store.now.rows name.now list.now) (after_members store.now.rows name.now list.now) result }
+{
+    relist::plan_members(alloc, store.map(), name, list)
+}
+
+/// Plans to take an element away. It refuses `Absent` where the name is not there, and `InUse` where an element refers
+/// to it, with the least one that does, which may be the element itself (OpenStreetMap API v0.6: an element in use is
+/// not deleted). It looks at no other element.
+pub fn plan_delete<A: Allocator + Clone>(
+    alloc: A,
+    store: &Store<A>,
+    name: &Name,
+) -> Result<Changes<A>, Refusal<A>>
+    ensures { IsPlan store.now.rows (delete_checks store.now.rows name.now) (after_delete store.now.rows name.now) result }
+{
+    delete::plan(alloc, store.map(), store.users().of(name), name)
+}
