@@ -14,8 +14,6 @@ mod latitude;
 pub mod laws;
 mod longitude;
 mod range;
-#[cfg(test)]
-mod tests;
 
 pub use decimal::COORDINATE_LENGTH;
 pub use latitude::Lat;

@@ -3,6 +3,8 @@ use crate::map::node;
 use osm_elements::Memory;
 use osm_elements::element::Element;
 use osm_elements::map::{OsmMap, Row, Rows};
+use osm_elements::member::Member;
+use osm_elements::members::Members;
 use osm_elements::name::{Kind, Name};
 use osm_elements::nodes::Nodes;
 use osm_elements::tags::{Tag, Tags};
@@ -41,6 +43,24 @@ fn tags(heap: Heap<'_>) -> Result<Tags<Heap<'_>>, Fail> {
 fn way(heap: Heap<'_>) -> Result<Element<Heap<'_>>, Fail> {
     Ok(Element::Way {
         nodes: nodes(heap)?,
+        tags: tags(heap)?,
+    })
+}
+
+// Two members: a way in a role, and a node in none.
+fn members(heap: Heap<'_>) -> Result<Members<Heap<'_>>, Fail> {
+    let mut members = Members::empty(heap);
+    let way = Name::new(Kind::Way, 9).ok_or("zero")?;
+    members.push(Member::new(way, Text::new(heap, "outer")?))?;
+    let node = Name::new(Kind::Node, -1).ok_or("zero")?;
+    members.push(Member::new(node, Text::new(heap, "")?))?;
+    Ok(members)
+}
+
+// A relation with two members and three tags.
+fn relation(heap: Heap<'_>) -> Result<Element<Heap<'_>>, Fail> {
+    Ok(Element::Relation {
+        members: members(heap)?,
         tags: tags(heap)?,
     })
 }
@@ -87,6 +107,18 @@ impl Copies for Tags<Heap<'_>> {
 }
 
 impl Copies for Nodes<Heap<'_>> {
+    fn second(&self) -> Result<Self, Memory> {
+        self.copy()
+    }
+}
+
+impl Copies for Member<Heap<'_>> {
+    fn second(&self) -> Result<Self, Memory> {
+        self.copy()
+    }
+}
+
+impl Copies for Members<Heap<'_>> {
     fn second(&self) -> Result<Self, Memory> {
         self.copy()
     }
@@ -163,6 +195,17 @@ fn nodes_and_elements(rt: HostRuntime) -> Result<(), Fail> {
     let heap = Refusing::new(rt.alloc(), u64::MAX);
     refuse_each(&rt, &heap, &nodes(&heap)?)?;
     refuse_each(&rt, &heap, &way(&heap)?)?;
+    Ok(())
+}
+
+#[test]
+fn members_and_relations(rt: HostRuntime) -> Result<(), Fail> {
+    let heap = Refusing::new(rt.alloc(), u64::MAX);
+    let name = Name::new(Kind::Relation, -3).ok_or("zero")?;
+    let role = Text::new(&heap, "stop_entry_only")?;
+    refuse_each(&rt, &heap, &Member::new(name, role))?;
+    refuse_each(&rt, &heap, &members(&heap)?)?;
+    refuse_each(&rt, &heap, &relation(&heap)?)?;
     Ok(())
 }
 

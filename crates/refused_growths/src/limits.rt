@@ -12,7 +12,6 @@ use room_history::action::Action;
 use room_history::author::Author;
 use room_history::call::{Call, Calls, Request};
 use room_history::reply::Reply;
-use room_history::room::Room;
 use room_history::run::run;
 use std::alloc::{AllocError, Global};
 use std::process::Abort;
@@ -199,7 +198,8 @@ fn a_map_has_thousands_of_rows(rt: HostRuntime) -> Result<(), Fail> {
     Ok(())
 }
 
-// A call of an author with the longest name there is.
+// A call of an author with the longest name there is. (What a room holds at its limits is asked of the built program,
+// by tests/large.)
 fn call(id: u64, request: Request<Global>) -> Result<Call<Global>, Fail> {
     let author = Author::read("a_name_of_thirty_two_characters0").ok_or("author")?;
     Ok(Call {
@@ -213,84 +213,6 @@ fn create(alloc: Global, id: u32) -> Result<Request<Global>, Fail> {
     let name = Name::new(Kind::Node, i64::from(id)).ok_or("zero")?;
     let element = node(alloc, (id % 3001) as i32).ok_or("range")?;
     Ok(Request::Do(Action::Create { name, element }))
-}
-
-// A way of all 2,000 nodes, under the greatest id.
-fn create_way(alloc: Global) -> Result<Request<Global>, Fail> {
-    let name = Name::new(Kind::Way, i64::MAX).ok_or("zero")?;
-    let mut nodes = Nodes::empty(alloc);
-    for id in 1..2001i64 {
-        nodes.push(Name::new(Kind::Node, id).ok_or("zero")?)?;
-    }
-    let tags = thousand_tags(alloc)?;
-    let element = Element::Way { nodes, tags };
-    Ok(Request::Do(Action::Create { name, element }))
-}
-
-// The way has its nodes and tags.
-fn is_whole(rt: &impl Abort, alloc: Global, way: &Element<Global>) -> Result<(), AllocError> {
-    match way {
-        Element::Way { nodes, tags } => {
-            assert_eq!(rt; nodes.len(), 2000);
-            let mut id = 0u32;
-            for node in nodes.names() {
-                id = id.wrapping_add(1);
-                assert!(rt; node.id() == i64::from(id), "node {id}");
-            }
-            are_thousand(rt, alloc, tags)
-        }
-        _ => {
-            assert!(rt; false, "no way");
-            Ok(())
-        }
-    }
-}
-
-// 3,000 creates of nodes, by the greatest ids there are, and then one of a long way.
-fn large_room(rt: &impl Abort, alloc: Global) -> Result<Room<Global>, Fail> {
-    let mut room = Room::open(alloc, u32::MAX);
-    for id in 1..3001u32 {
-        let spent = u64::MAX - 3001 + u64::from(id);
-        let reply = room.take(call(spent, create(alloc, id)?)?);
-        let is_done = matches!(&reply, Reply::Done { seq } if *seq == u64::from(id));
-        assert!(rt; is_done, "create {id}: {reply:?}");
-    }
-    let reply = room.take(call(u64::MAX, create_way(alloc)?)?);
-    assert!(rt; matches!(&reply, Reply::Done { seq: 3001 }), "{reply:?}");
-    Ok(room)
-}
-
-#[test]
-fn a_room_has_thousands_of_entries(rt: HostRuntime) -> Result<(), Fail> {
-    let alloc = rt.alloc();
-    let mut room = large_room(&rt, alloc)?;
-    let way = Name::new(Kind::Way, i64::MAX).ok_or("zero")?;
-    match room.get(&way) {
-        Some(element) => is_whole(&rt, alloc, element)?,
-        None => assert!(rt; false, "no way"),
-    }
-    let rows = room.map_rows()?;
-    assert_eq!(rt; rows.as_slice().len(), 3001);
-    match rows.as_slice().last() {
-        Some(row) => is_whole(&rt, alloc, &row.element)?,
-        None => assert!(rt; false, "no rows"),
-    }
-    let reply = room.take(call(0, Request::Undo(None))?);
-    assert!(rt;
-        matches!(
-            &reply,
-            Reply::Undid {
-                seq: 3002,
-                of: 3001
-            }
-        ),
-        "{reply:?}"
-    );
-    assert!(rt; room.get(&way).is_none() && room.front() == 3002 && room.entry(3001).is_some());
-    assert_eq!(rt; room.map_rows()?.as_slice().len(), 3000);
-    let reply = room.take(call(u64::MAX, Request::Undo(None))?);
-    assert!(rt; matches!(&reply, Reply::Repeat { seq: 3001 }), "{reply:?}");
-    Ok(())
 }
 
 #[test]

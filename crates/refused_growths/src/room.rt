@@ -135,9 +135,9 @@ fn a_run_has_memory(rt: HostRuntime) -> Result<(), Fail> {
     Ok(())
 }
 
-// A query is answered with copies, or for want of memory, and leaves the room as it was.
+// Asked for the first two steps and then for the second node, a room answers them.
 #[test]
-fn ask_refuses_each_growth(rt: HostRuntime) -> Result<(), Fail> {
+fn ask_answers(rt: HostRuntime) -> Result<(), Fail> {
     let heap = Refusing::new(rt.alloc(), u64::MAX);
     let mut room = Room::open(&heap, 5);
     for (step, answer) in ANSWERS[..2].iter().enumerate() {
@@ -152,6 +152,18 @@ fn ask_refuses_each_growth(rt: HostRuntime) -> Result<(), Fail> {
     let wanted = node(&heap, 8).ok_or("range")?;
     let wanted = format!(in rt.alloc(); "Get(Ok(Some({wanted:?})))")?;
     assert_eq!(rt; found.as_str(), wanted.as_str());
+    Ok(())
+}
+
+// A query is answered with copies, or for want of memory, and leaves the room as it was.
+#[test]
+fn ask_refuses_each_growth(rt: HostRuntime) -> Result<(), Fail> {
+    let heap = Refusing::new(rt.alloc(), u64::MAX);
+    let mut room = Room::open(&heap, 5);
+    for step in 0..2usize {
+        let call = call(&heap, step)?;
+        let _ = room.take(call);
+    }
     let before = format!(in rt.alloc(); "{room:?}")?;
     let mut refused = 0u64;
     let mut done = false;

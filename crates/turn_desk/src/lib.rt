@@ -15,11 +15,7 @@
 mod desk;
 mod law;
 mod seat;
-#[cfg(test)]
-mod seat_tests;
 mod steps;
-#[cfg(test)]
-mod tests;
 mod turned;
 mod view;
 

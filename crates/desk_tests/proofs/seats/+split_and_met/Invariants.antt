@@ -1,4 +1,4 @@
-use Rattle.turn_desk.proofs.seat_tests.+split_and_met.Given as goal
+use Rattle.desk_tests.proofs.seats.+split_and_met.Given as goal
 
 -- how many seats are still to be split off
 abbrev pub decreases-split_and_met : goal.decreases-split_and_met

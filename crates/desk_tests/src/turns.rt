@@ -1,8 +1,8 @@
 ghost use Rattle.std.specs.Prelude.{◌≡◌, ℕ, ◌<◌, ◌≤◌, ◌++◌, ◌∷◌, [], length, MatchOption};
 
-use crate::{Desk, Turned};
 use std::alloc::Global;
 use std::test::Fail;
+use turn_desk::{Desk, Turned};
 
 // A list of numbers that has at most so many.
 #[derive(Drop)]

@@ -2,11 +2,11 @@
 ghost use Rattle.std.specs.Prelude.{◌≡◌, ◌+◌, ◌*◌, ◌^◌, ◌<◌, ◌≤◌, ◌++◌, ◌∷◌, [], replicate};
 ghost use Rattle.turn_desk.specs.Desk.{IsAt};
 
-use crate::{Desk, Seat, Turned};
 use std::alloc::Global;
 use std::sync::Wait;
 use std::test::Fail;
 use std::thread::{self, Threads, join};
+use turn_desk::{Desk, Seat, Turned};
 
 // A count of the calls that were made. A call says how often the turn yields while it is held, and is answered the count before it.
 #[derive(Drop)]

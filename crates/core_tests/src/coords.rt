@@ -1,5 +1,5 @@
 //! Texts of coordinates whose values are known from outside.
-use crate::{Lat, Lon};
+use osm_coords::{Lat, Lon};
 
 #[test]
 fn reads_and_writes_latitudes(rt: HostRuntime) {

@@ -1,5 +1,5 @@
 use Rattle.turn_desk.specs.Desk.{IsAt}
-use Rattle.turn_desk.proofs.tests.a_dozen_calls.Given as goal
+use Rattle.desk_tests.proofs.seats.calls.Given as goal
 
 -- the seat is at the desk
 abbrev pub invariant-loop-k : goal.invariant-loop-k

@@ -1,0 +1,7 @@
+//! Tests of the turn lock, on one thread and on several.
+#![tactic(auto)]
+
+#[cfg(test)]
+mod seats;
+#[cfg(test)]
+mod turns;
