@@ -1,0 +1,7 @@
+use Rattle.std.proofs.Common.{ap, ◌∙◌}
+use Rattle.edit_actions.specs.MadeActions.{is_made_action}
+use Rattle.edit_actions.proofs.Planned.{nodes_test}
+use Rattle.edit_actions.proofs.plan.keeps_values.Goals as goal
+
+pub returns-in-Nodes : goal.returns-in-Nodes
+returns-in-Nodes g c = ap is_made_action c.in-Nodes.is ∙ nodes_test c.in-Nodes.list c.names.ensures.nodes

@@ -1,0 +1,28 @@
+-- The map after an action that was accepted, and what the action changed. (The rules of the actions are this project's.)
+use Rattle.std.specs.Prelude.{List}
+use Rattle.osm_elements.specs.Maps.{Rows}
+use Rattle.osm_changes.specs.declared.change.Change.{Change}
+use Rattle.osm_changes.specs.Changes.{differences}
+use Rattle.edit_simple.specs.Create.{after_create}
+use Rattle.edit_simple.specs.Delete.{after_delete}
+use Rattle.edit_simple.specs.Members.{after_members}
+use Rattle.edit_simple.specs.Move.{after_move}
+use Rattle.edit_simple.specs.Nodes.{after_nodes}
+use Rattle.edit_simple.specs.Retag.{after_retag}
+use Rattle.edit_simple.specs.Reverse.{after_reverse}
+use Rattle.edit_actions.specs.declared.action.Action.{Action}
+use Rattle.edit_actions.specs.declared.action.Action.TheVariants.{Create, Retag, Move, Reverse, Nodes, Members, Delete}
+
+module _ {A : Type 0} where
+  abbrev pub after : Rows A → Action A → Rows A
+  after m (Create x v) = after_create m x v
+  after m (Retag x given) = after_retag m x given
+  after m (Move list dlat dlon) = after_move m list dlat dlon
+  after m (Reverse w) = after_reverse m w
+  after m (Nodes w list) = after_nodes m w list
+  after m (Members r list) = after_members m r list
+  after m (Delete x) = after_delete m x
+
+  -- the changes of an action
+  abbrev pub changes : Rows A → Action A → List (Change A)
+  changes m a = differences m (after m a)

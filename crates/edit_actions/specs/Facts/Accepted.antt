@@ -1,0 +1,32 @@
+-- What holds of accepted actions.
+use Rattle.std.proofs.Common.{◌≡◌, ◌≢◌, true, None}
+use Rattle.osm_elements.specs.Maps.{Rows}
+use Rattle.osm_changes.specs.Changes.{changed}
+use Rattle.osm_changes.specs.Sound.{is_sound}
+use Rattle.osm_changes.specs.Facts.Changing.{changed-differences}
+use Rattle.osm_changes.specs.Facts.SoundRows.{sound_in_order}
+use Rattle.edit_simple.specs.Facts.Creating.{create_accepted}
+use Rattle.edit_simple.specs.Facts.Deleting.{delete_accepted}
+use Rattle.edit_simple.specs.Facts.Moving.{move_accepted}
+use Rattle.edit_simple.specs.Facts.Relisting.{reverse_accepted, nodes_accepted, members_accepted}
+use Rattle.edit_simple.specs.Facts.Retagging.{retag_accepted}
+use Rattle.edit_actions.specs.declared.action.Action.{Action}
+use Rattle.edit_actions.specs.declared.action.Action.TheVariants.{Create, Retag, Move, Reverse, Nodes, Members, Delete}
+use Rattle.edit_actions.specs.After.{after, changes}
+use Rattle.edit_actions.specs.MadeActions.{is_made_action}
+use Rattle.edit_actions.specs.Refusals.{refusal}
+
+module _ {A : Type 0} where
+  -- the law of refusals
+  pub accepted_keeps_sound : (m : Rows A) (a : Action A) → is_sound m ≡ true → is_made_action a ≡ true → refusal m a ≡ None → (is_sound (after m a) ≡ true) × (after m a ≢ m)
+  accepted_keeps_sound m (Create x v) sound made ok = create_accepted m x v sound made ok
+  accepted_keeps_sound m (Retag x given) sound made ok = retag_accepted m x given sound made ok
+  accepted_keeps_sound m (Move list dlat dlon) sound made ok = move_accepted m list dlat dlon sound ok
+  accepted_keeps_sound m (Reverse w) sound made ok = reverse_accepted m w sound ok
+  accepted_keeps_sound m (Nodes w list) sound made ok = nodes_accepted m w list sound made ok
+  accepted_keeps_sound m (Members r list) sound made ok = members_accepted m r list sound made ok
+  accepted_keeps_sound m (Delete x) sound made ok = delete_accepted m x sound ok
+
+  -- the changes lead to the map after
+  pub changes_lead : (m : Rows A) (a : Action A) → is_sound m ≡ true → is_made_action a ≡ true → refusal m a ≡ None → changed m (changes m a) ≡ after m a
+  changes_lead m a sound made ok = changed-differences m (after m a) (sound_in_order m sound) (sound_in_order (after m a) (accepted_keeps_sound m a sound made ok).0)

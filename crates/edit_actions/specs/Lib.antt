@@ -1,0 +1,4 @@
+pub mod After
+pub mod Facts
+pub mod MadeActions
+pub mod Refusals

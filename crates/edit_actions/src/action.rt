@@ -1,0 +1,107 @@
+//! What an author can do to the map.
+ghost use Rattle.std.specs.Prelude.{◌≡◌, IfOk};
+
+use edit_simple::retag::Retag;
+use osm_elements::Memory;
+use osm_elements::element::Element;
+use osm_elements::members::Members;
+use osm_elements::name::Name;
+use osm_elements::names::Names;
+use osm_elements::nodes::Nodes;
+use std::alloc::{AllocError, Allocator};
+
+/// An action on the map.
+#[derive(Drop)]
+#[derive_where(Debug)]
+pub enum Action<A: Allocator> {
+    /// Makes an element under a name that is not there.
+    Create {
+        /// The name of the new element.
+        name: Name,
+        /// The new element.
+        element: Element<A>,
+    },
+    /// Gives an element's keys other values, or removes them.
+    Retag {
+        /// The name of the element.
+        name: Name,
+        /// The keys, each with its value, or with none to remove it.
+        tags: Retag<A>,
+    },
+    /// Moves nodes, and the nodes of ways, by a distance, each once.
+    Move {
+        /// The names of the nodes and ways.
+        names: Names<A>,
+        /// How far to the north, in ten-millionths of a degree.
+        dlat: i64,
+        /// How far to the east, in ten-millionths of a degree.
+        dlon: i64,
+    },
+    /// Turns a way round.
+    Reverse {
+        /// The name of the way.
+        name: Name,
+    },
+    /// Gives a way other nodes.
+    Nodes {
+        /// The name of the way.
+        name: Name,
+        /// Its nodes afterwards.
+        list: Nodes<A>,
+    },
+    /// Gives a relation other members.
+    Members {
+        /// The name of the relation.
+        name: Name,
+        /// Its members afterwards.
+        list: Members<A>,
+    },
+    /// Takes an element away that nothing refers to.
+    Delete {
+        /// The name of the element.
+        name: Name,
+    },
+}
+
+impl<A: Allocator + Clone> Clone for Action<A> {
+    ghost is_clone = { λ a b. b ≡ a };
+
+    fn clone(&self) -> Result<Action<A>, AllocError> {
+        Ok(match self {
+            Action::Create { name, element } => Action::Create {
+                name: *name,
+                element: element.clone()?,
+            },
+            Action::Retag { name, tags } => Action::Retag {
+                name: *name,
+                tags: tags.clone()?,
+            },
+            Action::Move { names, dlat, dlon } => Action::Move {
+                names: names.clone()?,
+                dlat: *dlat,
+                dlon: *dlon,
+            },
+            Action::Reverse { name } => Action::Reverse { name: *name },
+            Action::Nodes { name, list } => Action::Nodes {
+                name: *name,
+                list: list.clone()?,
+            },
+            Action::Members { name, list } => Action::Members {
+                name: *name,
+                list: list.clone()?,
+            },
+            Action::Delete { name } => Action::Delete { name: *name },
+        })
+    }
+}
+
+impl<A: Allocator> Action<A> {
+    /// An action equal to this one. The one refusal is want of memory.
+    pub fn copy(&self) -> Result<Action<A>, Memory>
+    where
+        A: Clone,
+        ensures { IfOk result (λ a. a ≡ self.now) }
+    {
+        Ok(self.clone()?)
+    }
+}

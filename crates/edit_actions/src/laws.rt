@@ -1,0 +1,25 @@
+//! Laws of the actions, each the contract of a function that does nothing.
+ghost use Rattle.std.specs.Prelude.{◌≡◌, ◌≢◌, true, None};
+ghost use Rattle.osm_elements.specs.Maps.{Rows};
+ghost use Rattle.osm_changes.specs.Changes.{changed};
+ghost use Rattle.osm_changes.specs.Sound.{is_sound};
+ghost use Rattle.edit_actions.specs.declared.action.Action.{Action};
+ghost use Rattle.edit_actions.specs.After.{after, changes};
+ghost use Rattle.edit_actions.specs.MadeActions.{is_made_action};
+ghost use Rattle.edit_actions.specs.Refusals.{refusal};
+
+use std::alloc::Allocator;
+
+/// An accepted action, with values as their types keep them, keeps a sound map sound, and changes it.
+#[tactic(auto, using(crate::specs::Facts::Accepted::accepted_keeps_sound))]
+pub fn accepted_keeps_sound<A: Allocator>()
+    ensures { (m : Rows A) (a : Action A) → is_sound m ≡ true → is_made_action a ≡ true → refusal m a ≡ None
+        → (is_sound (after m a) ≡ true) × (after m a ≢ m) }
+{}
+
+/// The changes of an accepted action lead to the map after it.
+#[tactic(auto, using(crate::specs::Facts::Accepted::changes_lead))]
+pub fn accepted_changes_lead_there<A: Allocator>()
+    ensures { (m : Rows A) (a : Action A) → is_sound m ≡ true → is_made_action a ≡ true → refusal m a ≡ None
+        → changed m (changes m a) ≡ after m a }
+{}

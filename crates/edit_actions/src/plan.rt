@@ -1,0 +1,92 @@
+//! The plan of an action: what it would change in a store, or why it is refused.
+ghost use Rattle.std.specs.Prelude.{◌≡◌, true, IfOk};
+ghost use Rattle.osm_elements.specs.Maps.{Rows};
+ghost use Rattle.osm_changes.specs.Changes.{changed, differences, AreFrom};
+ghost use Rattle.osm_changes.specs.Sound.{is_sound};
+ghost use Rattle.edit_simple.specs.Plans.{IsPlan};
+ghost use Rattle.edit_actions.specs.After.{after};
+ghost use Rattle.edit_actions.specs.MadeActions.{is_made_action};
+ghost use Rattle.edit_actions.specs.Refusals.{checks};
+
+use crate::action::Action;
+use edit_simple::plans::{
+    plan_create, plan_delete, plan_members, plan_move, plan_nodes, plan_retag, plan_reverse,
+};
+use edit_simple::refusal::Refusal;
+use osm_changes::changes::Changes;
+use osm_changes::laws::differences_are_changes;
+use osm_changes::store::Store;
+use std::alloc::Allocator;
+
+/// Plans an action on a store: answers the changes that lead to the map after it, or the first of its checks that
+/// holds, or `Memory` in place of any answer. It leaves the store alone. It costs what the plan of the action does,
+/// which looks up the names that the action names and the users of what it takes away, and never the map.
+pub fn plan<A: Allocator + Clone>(
+    alloc: A,
+    store: &Store<A>,
+    action: &Action<A>,
+) -> Result<Changes<A>, Refusal<A>>
+    ensures plan { IsPlan store.now.rows (checks store.now.rows action.now) (after store.now.rows action.now) result }
+    // The changes can be applied to the store.
+    ensures from { IfOk result (λ cs. AreFrom store.now.rows cs) }
+    ensures sound { IfOk result (λ cs. is_sound (changed store.now.rows cs) ≡ true) }
+    // What holds of every action.
+    ensures made { is_made_action action.now ≡ true }
+{
+    keeps(store, action);
+    plan_of(alloc, store, action)
+}
+
+// The plan, by the action.
+fn plan_of<A: Allocator + Clone>(
+    alloc: A,
+    store: &Store<A>,
+    action: &Action<A>,
+) -> Result<Changes<A>, Refusal<A>>
+    ensures { IsPlan store.now.rows (checks store.now.rows action.now) (after store.now.rows action.now) result }
+{
+    match action {
+        Action::Create { name, element } => plan_create(alloc, store, name, element),
+        Action::Retag { name, tags } => plan_retag(alloc, store, name, tags),
+        Action::Move { names, dlat, dlon } => {
+            plan_move(alloc, store, names.as_slice(), *dlat, *dlon)
+        }
+        Action::Reverse { name } => plan_reverse(alloc, store, name),
+        Action::Nodes { name, list } => plan_nodes(alloc, store, name, list),
+        Action::Members { name, list } => plan_members(alloc, store, name, list),
+        Action::Delete { name } => plan_delete(alloc, store, name),
+    }
+}
+
+// What holds of every store, of every action by the types of its values, and of the differences between maps. It does
+// nothing.
+fn keeps<A: Allocator>(store: &Store<A>, action: &Action<A>)
+    ensures sound { is_sound store.now.rows ≡ true }
+    ensures made { is_made_action action.now ≡ true }
+    ensures from { (m n : Rows A) → AreFrom m (differences m n) }
+{
+    let _ = store.map();
+    differences_are_changes::<A>();
+    keeps_values(action);
+}
+
+// What holds of every action, by the types of its values. It does nothing.
+fn keeps_values<A: Allocator>(action: &Action<A>)
+    ensures { is_made_action action.now ≡ true }
+{
+    match action {
+        Action::Create { element, .. } => {
+            let _ = element.kind();
+        }
+        Action::Retag { tags, .. } => {
+            let _ = tags.rows();
+        }
+        Action::Nodes { list, .. } => {
+            let _ = list.names();
+        }
+        Action::Members { list, .. } => {
+            let _ = list.as_slice();
+        }
+        _ => {}
+    }
+}
