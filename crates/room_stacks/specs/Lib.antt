@@ -1,0 +1,3 @@
+pub mod Authors
+pub mod Inner
+pub mod SameAuthors

@@ -1,0 +1,5 @@
+//! What each author of a room may still use: ids that are spent, entries that stand and can be undone, and undone ones
+//! that can be redone.
+#![tactic(auto)]
+
+pub mod author;
