@@ -1,3 +1,4 @@
 pub mod Authors
 pub mod Inner
 pub mod SameAuthors
+pub mod Stacks

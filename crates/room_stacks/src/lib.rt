@@ -3,3 +3,6 @@
 #![tactic(auto)]
 
 pub mod author;
+pub mod deed;
+mod spent_ids;
+pub mod stacks;

@@ -1,0 +1,67 @@
+-- What the authors of a room did, and what of it each may still use. (The rules of a room are this project's.)
+use Rattle.std.specs.Prelude.{◌&&◌, ◌++◌, ◌<◌, ℕ, Bool, true, false, not, List, [], ◌∷◌, Option, map, nat_eq, nat_lt}
+use Rattle.std.specs.List.{All, filter, find, fold, list_any}
+use Rattle.std.specs.Option.{option_map}
+use Rattle.room_stacks.specs.declared.author.Author.{Author}
+use Rattle.room_stacks.specs.declared.deed.Deed.{Deed}
+use Rattle.room_stacks.specs.declared.deed.Deed.TheVariants.{Did, Undid}
+use Rattle.room_stacks.specs.SameAuthors.{is_same_author}
+
+-- what the authors did, oldest first, and for whose next deed there is room
+pub record StacksState : Type 0 where
+  pub deeds : List Deed
+  pub ready : Option Author
+
+-- who did it
+abbrev pub doer : Deed → Author
+doer (Did author id seq) = author
+doer (Undid author id of seq) = author
+
+-- the id that it spent
+abbrev pub id_of : Deed → ℕ
+id_of (Did author id seq) = id
+id_of (Undid author id of seq) = id
+
+-- its number
+abbrev pub number : Deed → ℕ
+number (Did author id seq) = seq
+number (Undid author id of seq) = seq
+
+-- it did an action
+abbrev pub is_work : Deed → Bool
+is_work (Did author id seq) = true
+is_work (Undid author id of seq) = false
+
+-- it undid s, which came before it
+abbrev pub undoes : ℕ → Deed → Bool
+undoes s (Did author id seq) = false
+undoes s (Undid author id of seq) = nat_eq s of && nat_lt s seq
+
+-- a deed is the author's and spent the id
+abbrev pub spends : Author → ℕ → Deed → Bool
+spends author id d = nat_eq id (id_of d) && is_same_author author (doer d)
+
+-- the number of the author's deed that spent the id
+abbrev pub spent : List Deed → Author → ℕ → Option ℕ
+spent deeds author id = option_map number (find (spends author id) deeds)
+
+-- a number is above those of all deeds
+abbrev pub IsAboveAll : ℕ → List Deed → Type 0
+IsAboveAll seq deeds = All (λ d. number d < seq) deeds
+
+-- the numbers of the author's deeds that did an action
+abbrev pub works : List Deed → Author → List ℕ
+works deeds author = map number (filter (λ d. is_work d && is_same_author author (doer d)) deeds)
+
+-- those that stand: no later deed of anyone undid them
+abbrev pub standing : List Deed → Author → List ℕ
+standing deeds author = filter (λ s. not (list_any (undoes s) deeds)) (works deeds author)
+
+-- an author's stack of what it can redo, bottom first, after one more of its deeds: an undo pushes what it undid, an action empties the stack
+abbrev pub redo_after : List ℕ → Deed → List ℕ
+redo_after stack (Did author id seq) = []
+redo_after stack (Undid author id of seq) = stack ++ of ∷ []
+
+-- that stack after all deeds
+abbrev pub redo : List Deed → Author → List ℕ
+redo deeds author = fold redo_after [] (filter (λ d. is_same_author author (doer d)) deeds)
