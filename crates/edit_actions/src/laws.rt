@@ -1,5 +1,9 @@
 //! Laws of the actions, each the contract of a function that does nothing.
-ghost use Rattle.std.specs.Prelude.{◌≡◌, ◌≢◌, true, None};
+ghost use Rattle.std.specs.Prelude.{◌≡◌, ◌≢◌, true, [], ◌∷◌, Some, None};
+ghost use Rattle.osm_elements.specs.declared.element.Element.{Element};
+ghost use Rattle.osm_elements.specs.declared.name.Name.{Name};
+ghost use Rattle.osm_elements.specs.Rows.{row_at};
+ghost use Rattle.edit_actions.specs.declared.action.Action.TheVariants.{Create, Delete};
 ghost use Rattle.osm_elements.specs.Maps.{Rows};
 ghost use Rattle.osm_changes.specs.Changes.{changed};
 ghost use Rattle.osm_changes.specs.Sound.{is_sound};
@@ -18,8 +22,15 @@ pub fn accepted_keeps_sound<A: Allocator>()
 {}
 
 /// The changes of an accepted action lead to the map after it.
-#[tactic(auto, using(crate::specs::Facts::Accepted::changes_lead))]
 pub fn accepted_changes_lead_there<A: Allocator>()
     ensures { (m : Rows A) (a : Action A) → is_sound m ≡ true → is_made_action a ≡ true → refusal m a ≡ None
         → changed m (changes m a) ≡ after m a }
+{}
+
+/// An accepted create changes its name from nothing to the element, and a delete of what is there its name to nothing.
+pub fn one_name_is_changed<A: Allocator>()
+    ensures create { (m : Rows A) (x : Name) (v : Element A) → row_at m x ≡ None
+        → changes m (Create x v) ≡ record { name = x; before = None; after = Some v } ∷ [] }
+    ensures delete { (m : Rows A) (x : Name) (v : Element A) → row_at m x ≡ Some v
+        → changes m (Delete x) ≡ record { name = x; before = Some v; after = None } ∷ [] }
 {}

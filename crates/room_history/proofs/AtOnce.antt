@@ -7,7 +7,7 @@ use Rattle.std.proofs.lemmas.List.{reverse-append}
 use Rattle.std.proofs.lemmas.List.Elements.{filter-append}
 use Rattle.osm_elements.specs.declared.name.Name.{Name}
 use Rattle.osm_elements.specs.Rows.{AreInOrder}
-use Rattle.room_history.specs.declared.action.Action.{Action}
+use Rattle.edit_actions.specs.declared.action.Action.{Action}
 use Rattle.room_history.specs.declared.call.Call.{Call}
 use Rattle.room_history.specs.declared.call.Request.TheVariants as requests
 use Rattle.room_history.specs.declared.entry.Entry.{Entry}
@@ -17,9 +17,9 @@ use Rattle.room_history.specs.declared.reply.Reply.{Reply}
 use Rattle.room_history.specs.declared.reply.Reply.TheVariants.{Undid, NotLast}
 use Rattle.osm_elements.specs.Maps.{Rows}
 use Rattle.osm_refs.specs.References.{users}
-use Rattle.room_history.specs.After.{after, changes}
+use Rattle.edit_actions.specs.After.{after, changes}
 use Rattle.osm_changes.specs.Changes.{inverse, changed}
-use Rattle.room_history.specs.SameAuthors.{is_same_author}
+use Rattle.room_stacks.specs.SameAuthors.{is_same_author}
 use Rattle.osm_elements.specs.Texts.{is_same_text}
 use Rattle.room_history.specs.Journals.{numbered, is_by, is_work, is_standing, standing, last, is_undo_of}
 use Rattle.room_history.specs.Replays.{past, mapof, recorded_next, taken_back}
@@ -28,7 +28,8 @@ use Rattle.room_history.specs.Headline.{IsUndoneAtOnce}
 use Rattle.osm_changes.specs.Facts.Changing.{changed-inverse}
 use Rattle.room_history.proofs.Growing.{numbered_next, Rise, Rise-standing_from, standing_from-append, new_number}
 use Rattle.room_history.proofs.Stacks.{Stacked}
-use Rattle.room_history.proofs.Stacking.{AreInOrder-after, mapof-do, mapof-append, standing-do, recorded-do}
+use Rattle.edit_actions.specs.Facts.Accepted.{AreInOrder-after}
+use Rattle.room_history.proofs.Stacking.{mapof-do, mapof-append, standing-do, recorded-do}
 use Rattle.osm_changes.specs.Facts.SoundRows.{sound_in_order}
 use Rattle.room_history.proofs.Deciding.{unspent, own_refusal}
 

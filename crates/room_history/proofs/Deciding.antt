@@ -3,7 +3,7 @@ use Rattle.std.proofs.Common.{◌≡◌, ◌↔◌, ◌+◌, ◌≤◌, ℕ, tru
 use Rattle.std.specs.Bool.{then_some}
 use Rattle.std.specs.List.{filter}
 use Rattle.std.specs.Option.{option_map}
-use Rattle.room_history.specs.declared.author.Author.{Author}
+use Rattle.room_stacks.specs.declared.author.Author.{Author}
 use Rattle.room_history.specs.declared.call.Call.{Call}
 use Rattle.room_history.specs.declared.call.Request.TheVariants as requests
 use Rattle.room_history.specs.declared.entry.Entry.{Entry}
@@ -12,7 +12,7 @@ use Rattle.room_history.specs.declared.entry.EntryKind.TheVariants.{Undo}
 use Rattle.room_history.specs.declared.reply.Reply.{Reply}
 use Rattle.room_history.specs.declared.reply.Reply.TheVariants.{Undid, Repeat, Full, NoSuch, NotYours, NotStanding, NotLast}
 use Rattle.osm_elements.specs.Maps.{Rows}
-use Rattle.room_history.specs.Refusals.{first_that_holds}
+use Rattle.edit_simple.specs.Checks.{first_that_holds}
 use Rattle.room_history.specs.Journals.{numbered, is_by, is_standing, standing}
 use Rattle.room_history.specs.Answers.{spent, blocker, asked, meant, undo_refusal, meaning_refusal, answered, answer}
 use Rattle.room_history.specs.Replays.{Past, past}

@@ -2,23 +2,25 @@
 use Rattle.std.proofs.Common.{◌≡◌, ◌++◌, ◌∷◌, ℕ, Bool, true, false, List, [], Option, Some, None, refl, sym, ap, subst, ◌∙◌, nat_le, length}
 use Rattle.std.specs.Bool.{then_some}
 use Rattle.std.specs.Option.{option_map}
-use Rattle.room_history.specs.declared.action.Action.{Action}
-use Rattle.room_history.specs.declared.author.Author.{Author}
+use Rattle.edit_actions.specs.declared.action.Action.{Action}
+use Rattle.room_stacks.specs.declared.author.Author.{Author}
 use Rattle.room_history.specs.declared.call.Call.{Call}
 use Rattle.room_history.specs.declared.call.Request.{Request}
 use Rattle.room_history.specs.declared.call.Request.TheVariants as requests
 use Rattle.room_history.specs.declared.entry.Entry.{Entry}
 use Rattle.room_history.specs.declared.entry.EntryKind.{EntryKind}
 use Rattle.room_history.specs.declared.entry.EntryKind.TheVariants.{Do, Undo}
-use Rattle.room_history.specs.declared.refusal.Refusal.{Refusal}
+use Rattle.edit_simple.specs.declared.refusal.Refusal.{Refusal}
 use Rattle.room_history.specs.declared.reply.Reply.{Reply}
 use Rattle.room_history.specs.declared.reply.Reply.TheVariants.{Repeat, Full, Refused}
 use Rattle.osm_elements.specs.Maps.{Rows}
 use Rattle.osm_changes.specs.Sound.{is_sound}
-use Rattle.room_history.specs.Refusals.{refusal, first_that_holds}
+use Rattle.edit_actions.specs.Refusals.{refusal}
+use Rattle.edit_simple.specs.Checks.{first_that_holds}
 use Rattle.room_history.specs.Replays.{past, mapof}
 use Rattle.room_history.specs.Answers.{spent, asked, meant, undo_refusal, meaning_refusal, answered}
-use Rattle.room_history.specs.LegalJournals.{is_made_action, is_made_request, IsJournal, opened, called}
+use Rattle.edit_actions.specs.MadeActions.{is_made_action}
+use Rattle.room_history.specs.LegalJournals.{is_made_request, IsJournal, opened, called}
 use Rattle.room_history.specs.Headline.{Holds}
 use Rattle.room_history.specs.Runs.{IsStep, IsRun}
 use Rattle.room_history.proofs.AtOnce.{is_undone_at_once}

@@ -1,16 +1,11 @@
 pub mod Asking
 pub mod AtOnce
 pub mod Deciding
+pub mod Deeds
 pub mod ExampleProofs
-pub mod FirstUsers
 pub mod Growing
 pub mod Holding
-pub mod KeepsSound
 pub mod LastFound
-pub mod LeastNames
-pub mod MemberNames
-pub mod Padding
-pub mod Replaying
 pub mod Searching
 pub mod Stacking
 pub mod Stacks

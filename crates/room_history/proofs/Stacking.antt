@@ -4,24 +4,21 @@ use Rattle.std.specs.List.{AllByRecursion, cons_option, filter, filter_map, find
 use Rattle.std.specs.Option.{option_and_then}
 use Rattle.std.proofs.lemmas.List.{map-append, length-map}
 use Rattle.std.proofs.lemmas.List.Sums.{fold-append}
-use Rattle.room_history.specs.declared.action.Action.{Action}
-use Rattle.room_history.specs.declared.action.Action.TheVariants.{Create, Delete}
+use Rattle.edit_actions.specs.declared.action.Action.{Action}
 use Rattle.room_history.specs.declared.entry.Entry.{Entry}
 use Rattle.room_history.specs.declared.entry.EntryKind.TheVariants.{Do, Undo}
 use Rattle.osm_elements.specs.Rows.{AreInOrder}
-use Rattle.osm_elements.specs.Facts.Rows.{AreInOrder-put_row}
 use Rattle.osm_elements.specs.Maps.{Rows}
-use Rattle.room_history.specs.After.{after, changes}
-use Rattle.room_history.specs.Refusals.{refusal}
+use Rattle.edit_actions.specs.After.{after, changes}
+use Rattle.edit_actions.specs.Refusals.{refusal}
 use Rattle.osm_changes.specs.Changes.{inverse, changed}
 use Rattle.room_history.specs.Journals.{numbered, is_undo_of, action_by, action_of, standing}
-use Rattle.room_history.specs.Replays.{Past, past, past_after, recorded_of, recorded_next, taken_back, mapof, replay, standing_actions}
+use Rattle.room_history.specs.Replays.{Past, Recorded, past, past_after, recorded_of, recorded_next, taken_back, mapof, replay, standing_actions}
 use Rattle.osm_changes.specs.Sound.{is_sound}
-use Rattle.room_history.specs.LegalJournals.{is_made_action}
-use Rattle.room_history.proofs.KeepsSound.{accepted_keeps_sound}
+use Rattle.edit_actions.specs.MadeActions.{is_made_action}
+use Rattle.edit_actions.specs.Facts.Accepted.{accepted_keeps_sound, AreInOrder-after}
 use Rattle.osm_changes.specs.Facts.SoundRows.{sound_in_order}
 use Rattle.room_history.proofs.Stacks.{Frame, Chained, IsFrame, Stacked}
-use Rattle.osm_elements.specs.Facts.Dropped.{AreInOrder-rows_but}
 use Rattle.osm_changes.specs.Facts.Changing.{changed-differences, changed-inverse}
 use Rattle.room_history.proofs.Growing.{numbered_within, numbered_next, standing_from-append, Rise-standing_from, IsLast, last_of, new_number}
 
@@ -58,11 +55,6 @@ module _ {A : Type 0} where
   pub Chained-top : (m : Rows A) (fs : List (Frame A)) (f : Frame A) (end : Rows A) → Chained m (fs ++ f ∷ []) end → Top m fs f end
   Chained-top m [] f end c = record { below = sym c.0; accepted = ap (λ n. refusal n f.action) c.0 ∙ c.1; leaves = ap (λ n. after n f.action) c.0 ∙ c.2 }
   Chained-top m (g ∷ fs) f end c = let t = Chained-top (after m g.action) fs f end c.2 in record { below = (c.0, c.1, t.below); accepted = t.accepted; leaves = t.leaves }
-
-  -- an accepted action keeps the names in order
-  pub AreInOrder-after : (m : Rows A) (a : Action A) → AreInOrder m → AreInOrder (after m a)
-  AreInOrder-after m (Create x v) h = AreInOrder-put_row m x v h
-  AreInOrder-after m (Delete x) h = AreInOrder-rows_but m x h
 
   -- what the actions of a stack replay to
   pub replay-chained : (m : Rows A) (fs : List (Frame A)) (end : Rows A) → Chained m fs end → replay m (map (λ (f : Frame A). f.action) fs) ≡ Some end
@@ -176,6 +168,9 @@ module _ {A : Type 0} where
     pub does : action_of j s ≡ Some action
     pub accepted : refusal (mapof base (j ++ e ∷ [])) action ≡ None
     pub before : after (mapof base (j ++ e ∷ [])) action ≡ mapof base j
+    pub takes_back : (recorded_next (past base j) e.kind).changes ≡ inverse (changes (mapof base (j ++ e ∷ [])) action)
+    pub was_recorded : Recorded A
+    pub recorded : numbered (past base j).entries s ≡ Some was_recorded
 
   actions_of : (base : Rows A) (j : List (Entry A)) (fs : List (Frame A)) → AllByRecursion (IsFrame base j) fs → filter_map (action_of j) (map (λ (f : Frame A). f.number) fs) ≡ map (λ (f : Frame A). f.action) fs
   actions_of base j [] ps = refl
@@ -198,6 +193,9 @@ module _ {A : Type 0} where
     does = ap (action_of j) (sym cut.number) ∙ each.1.does;
     accepted = ap (λ n. refusal n cut.top.action) map_is ∙ top.accepted;
     before = ap (λ n. after n cut.top.action) map_is ∙ top.leaves;
+    takes_back = next ∙ ap (λ n. inverse (changes n cut.top.action)) (sym map_is);
+    was_recorded = recorded_of cut.top.before cut.top.action;
+    recorded = ap (numbered (past base j).entries) (sym cut.number) ∙ each.1.recorded;
   }
     where
       last : IsLast s (standing j)

@@ -1,12 +1,12 @@
 -- The entries that stand as a stack of actions, each done on the sound map that those below it left.
 use Rattle.std.proofs.Common.{◌≡◌, ◌≤◌, ℕ, true, List, [], ◌∷◌, Some, None, map, length}
 use Rattle.std.specs.List.{AllByRecursion}
-use Rattle.room_history.specs.declared.action.Action.{Action}
+use Rattle.edit_actions.specs.declared.action.Action.{Action}
 use Rattle.room_history.specs.declared.entry.Entry.{Entry}
 use Rattle.osm_elements.specs.Maps.{Rows}
 use Rattle.osm_changes.specs.Sound.{is_sound}
-use Rattle.room_history.specs.After.{after}
-use Rattle.room_history.specs.Refusals.{refusal}
+use Rattle.edit_actions.specs.After.{after}
+use Rattle.edit_actions.specs.Refusals.{refusal}
 use Rattle.room_history.specs.Journals.{numbered, action_of, standing}
 use Rattle.room_history.specs.Replays.{past, mapof, recorded_of}
 

@@ -3,21 +3,21 @@ use Rattle.std.proofs.Common.{◌≡◌, ℕ, Bool, true, false, not, List, [], 
 use Rattle.std.specs.Bool.{then_some}
 use Rattle.std.specs.List.{find, list_any}
 use Rattle.std.specs.Option.{option_map}
-use Rattle.room_history.specs.declared.author.Author.{Author}
+use Rattle.room_stacks.specs.declared.author.Author.{Author}
 use Rattle.room_history.specs.declared.entry.Entry.{Entry}
 use Rattle.room_history.specs.declared.reply.Reply.TheVariants.{NotLast, NotStanding, NotYours, NoSuch}
-use Rattle.room_history.specs.Refusals.{first_that_holds}
+use Rattle.edit_simple.specs.Checks.{first_that_holds}
 use Rattle.room_history.specs.Journals.{numbered, is_by, is_standing, standing}
 use Rattle.room_history.specs.Replays.{Past}
 use Rattle.room_history.specs.Answers.{blocker, undo_refusal}
 
--- where the last two of four checks are looked at, none holds
-last_two : {X : Type 0} (o p q r : Option X) → first_that_holds (o ∷ p ∷ q ∷ r ∷ []) ≡ None → (q ≡ None) × (r ≡ None)
-last_two None None None None e = (refl, refl)
-last_two None None None (Some x) e = absurd (cc)
-last_two None None (Some x) r e = absurd (cc)
-last_two None (Some x) q r e = absurd (cc)
-last_two (Some x) p q r e = absurd (cc)
+-- where the last three of four checks are looked at, none holds
+last_three : {X : Type 0} (o p q r : Option X) → first_that_holds (o ∷ p ∷ q ∷ r ∷ []) ≡ None → (p ≡ None) × (q ≡ None) × (r ≡ None)
+last_three None None None None e = (refl, refl, refl)
+last_three None None None (Some x) e = absurd (cc)
+last_three None None (Some x) r e = absurd (cc)
+last_three None (Some x) q r e = absurd (cc)
+last_three (Some x) p q r e = absurd (cc)
 
 passed : {X : Type 0} (b : Bool) (x : X) → then_some (not b) x ≡ None → b ≡ true
 passed true x e = refl
@@ -28,12 +28,13 @@ mapped_none f None e = refl
 mapped_none f (Some x) e = absurd (cc)
 
 module _ {A : Type 0} where
-  -- the entry stands, and none after it
-  pub record Found (j : List (Entry A)) (s : ℕ) : Type 0 where
+  -- the entry is the author's and stands, and none after it
+  pub record Found (j : List (Entry A)) (author : Author) (s : ℕ) : Type 0 where
+    pub own : is_by author (numbered j s) ≡ true
     pub there : list_any (λ t. nat_eq t s) (standing j) ≡ true
     pub last : find (nat_lt s) (standing j) ≡ None
 
-  pub found : (p : Past A) (j : List (Entry A)) (author : Author) (s : ℕ) → undo_refusal p j author s ≡ None → Found j s
+  pub found : (p : Past A) (j : List (Entry A)) (author : Author) (s : ℕ) → undo_refusal p j author s ≡ None → Found j author s
   found p j author s e =
-      let two = last_two (then_some (is_none (numbered j s)) NoSuch) (then_some (not (is_by author (numbered j s))) NotYours) (then_some (not (is_standing j s)) NotStanding) (option_map NotLast (blocker p j s)) e in
-      record { there = passed (is_standing j s) NotStanding two.0; last = mapped_none NotLast (blocker p j s) two.1 }
+      let three = last_three (then_some (is_none (numbered j s)) NoSuch) (then_some (not (is_by author (numbered j s))) NotYours) (then_some (not (is_standing j s)) NotStanding) (option_map NotLast (blocker p j s)) e in
+      record { own = passed (is_by author (numbered j s)) NotYours three.0; there = passed (is_standing j s) NotStanding three.1; last = mapped_none NotLast (blocker p j s) three.2 }

@@ -3,7 +3,7 @@ use Rattle.std.specs.Prelude.{◌+◌, ◌++◌, ◌&&◌, ℕ, Bool, not, List,
 use Rattle.std.specs.Bool.{then_some}
 use Rattle.std.specs.List.{find, position}
 use Rattle.std.specs.Option.{option_map}
-use Rattle.room_history.specs.declared.author.Author.{Author}
+use Rattle.room_stacks.specs.declared.author.Author.{Author}
 use Rattle.room_history.specs.declared.call.Call.{Call}
 use Rattle.room_history.specs.declared.call.Request.{Request}
 use Rattle.room_history.specs.declared.call.Request.TheVariants as requests
@@ -13,8 +13,9 @@ use Rattle.room_history.specs.declared.entry.EntryKind.TheVariants.{Do, Undo}
 use Rattle.room_history.specs.declared.reply.Reply.{Reply}
 use Rattle.room_history.specs.declared.reply.Reply.TheVariants.{Done, Undid, Repeat, Full, NothingToUndo, NoSuch, NotYours, NotStanding, NotLast, Refused}
 use Rattle.osm_elements.specs.Maps.{Rows}
-use Rattle.room_history.specs.Refusals.{refusal, first_that_holds}
-use Rattle.room_history.specs.SameAuthors.{is_same_author}
+use Rattle.edit_actions.specs.Refusals.{refusal}
+use Rattle.edit_simple.specs.Checks.{first_that_holds}
+use Rattle.room_stacks.specs.SameAuthors.{is_same_author}
 use Rattle.room_history.specs.Journals.{is_by, is_standing, numbered, last, standing, undos}
 use Rattle.room_history.specs.Replays.{Past, past}
 

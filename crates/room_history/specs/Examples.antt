@@ -1,7 +1,7 @@
 -- What the worked examples say of the definitions.
 use Rattle.std.specs.Prelude.{◌≡◌, ℕ, [], ◌∷◌, Some, None, true, pos, negsuc, replicate}
-use Rattle.room_history.specs.declared.action.Action.TheVariants.{Create, Delete}
-use Rattle.room_history.specs.declared.refusal.Refusal.TheVariants.{Absent, Present, WrongKind, TooFew, TooMany, InUse}
+use Rattle.edit_actions.specs.declared.action.Action.TheVariants.{Create, Delete}
+use Rattle.edit_simple.specs.declared.refusal.Refusal.TheVariants.{Absent, Present, WrongKind, TooFew, TooMany, InUse}
 use Rattle.room_history.specs.declared.reply.Reply.TheVariants.{Done, Undid, Repeat, Full, NothingToUndo, NoSuch, NotYours, NotStanding, NotLast, Refused}
 use Rattle.osm_changes.specs.Sound.{is_sound}
 use Rattle.room_history.specs.Replays.{replay, standing_actions}

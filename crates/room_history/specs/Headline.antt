@@ -1,7 +1,7 @@
 -- The theorem: what holds of a room with any of its journals.
 use Rattle.std.specs.Prelude.{◌≡◌, ◌⊎◌, ◌↔◌, ◌+◌, ◌<◌, ◌≤◌, ◌++◌, ℕ, true, false, List, [], ◌∷◌, Some, None, length, nat_le}
 use Rattle.osm_elements.specs.declared.name.Name.{Name}
-use Rattle.room_history.specs.declared.author.Author.{Author}
+use Rattle.room_stacks.specs.declared.author.Author.{Author}
 use Rattle.room_history.specs.declared.call.Call.{Call}
 use Rattle.room_history.specs.declared.call.Request.TheVariants.{Undo}
 use Rattle.room_history.specs.declared.entry.Entry.{Entry}

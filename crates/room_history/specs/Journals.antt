@@ -2,12 +2,12 @@
 use Rattle.std.specs.Prelude.{◌&&◌, ◌+◌, ℕ, suc, zero, Bool, true, false, not, List, [], ◌∷◌, Option, Some, None, reverse, nat_eq, slice_get, if◌then◌else◌}
 use Rattle.std.specs.List.{filter, list_any}
 use Rattle.std.specs.Option.{option_and_then}
-use Rattle.room_history.specs.declared.action.Action.{Action}
-use Rattle.room_history.specs.declared.author.Author.{Author}
+use Rattle.edit_actions.specs.declared.action.Action.{Action}
+use Rattle.room_stacks.specs.declared.author.Author.{Author}
 use Rattle.room_history.specs.declared.entry.Entry.{Entry}
 use Rattle.room_history.specs.declared.entry.EntryKind.{EntryKind}
 use Rattle.room_history.specs.declared.entry.EntryKind.TheVariants.{Do, Undo}
-use Rattle.room_history.specs.SameAuthors.{is_same_author}
+use Rattle.room_stacks.specs.SameAuthors.{is_same_author}
 
 -- the item that a number from 1 on names
 abbrev pub numbered : {X : Type 0} → List X → ℕ → Option X

@@ -1,8 +1,6 @@
 -- The journals that there are: those that calls lead to, where each entry is the one that an answer appends. (The rules of a room are this project's.)
 use Rattle.std.specs.Prelude.{◌≡◌, ℕ, Bool, true, List, []}
-use Rattle.osm_elements.specs.Made.{is_made}
-use Rattle.room_history.specs.declared.action.Action.{Action}
-use Rattle.room_history.specs.declared.action.Action.TheVariants.{Create, Delete}
+use Rattle.edit_actions.specs.MadeActions.{is_made_action}
 use Rattle.room_history.specs.declared.call.Call.{Call}
 use Rattle.room_history.specs.declared.call.Request.{Request}
 use Rattle.room_history.specs.declared.call.Request.TheVariants as requests
@@ -11,11 +9,7 @@ use Rattle.osm_elements.specs.Maps.{Rows}
 use Rattle.room_history.specs.Answers.{answer}
 
 module _ {A : Type 0} where
-  -- an action's own values are as their types keep them
-  abbrev pub is_made_action : Action A → Bool
-  is_made_action (Create x v) = is_made v
-  is_made_action (Delete x) = true
-
+  -- a request's own values are as their types keep them
   abbrev pub is_made_request : Request A → Bool
   is_made_request (requests.Do a) = is_made_action a
   is_made_request (requests.Undo s) = true

@@ -1,16 +1,12 @@
-pub mod After
 pub mod Answers
+pub mod Applied
 pub mod Asking
-pub mod Authors
 pub mod Examples
 pub mod Headline
 pub mod Inner
 pub mod Journals
 pub mod LegalJournals
-pub mod Plans
-pub mod Refusals
 pub mod Replays
 pub mod Rooms
 pub mod Runs
-pub mod SameAuthors
 pub mod Scenes

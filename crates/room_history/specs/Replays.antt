@@ -1,13 +1,13 @@
 -- The map of a journal, by folding each entry's changes from the base; and the replay of a list of actions. (The rules of a room are this project's.)
 use Rattle.std.specs.Prelude.{◌++◌, List, [], ◌∷◌, Option, Some, None, is_none, if◌then◌else◌}
 use Rattle.std.specs.List.{fold, filter_map}
-use Rattle.room_history.specs.declared.action.Action.{Action}
+use Rattle.edit_actions.specs.declared.action.Action.{Action}
 use Rattle.room_history.specs.declared.entry.Entry.{Entry}
 use Rattle.room_history.specs.declared.entry.EntryKind.{EntryKind}
 use Rattle.room_history.specs.declared.entry.EntryKind.TheVariants.{Do, Undo}
 use Rattle.osm_elements.specs.Maps.{Rows}
-use Rattle.room_history.specs.After.{after, changes}
-use Rattle.room_history.specs.Refusals.{refusal}
+use Rattle.edit_actions.specs.After.{after, changes}
+use Rattle.edit_actions.specs.Refusals.{refusal}
 use Rattle.osm_changes.specs.declared.change.Change.{Change}
 use Rattle.osm_changes.specs.Changes.{inverse, changed}
 use Rattle.room_history.specs.Journals.{numbered, standing, action_of}

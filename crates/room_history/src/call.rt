@@ -1,8 +1,8 @@
 //! What authors ask of a room.
 ghost use Rattle.std.specs.Prelude.{◌≡◌};
 
-use crate::action::Action;
-use crate::author::Author;
+use edit_actions::action::Action;
+use room_stacks::author::Author;
 use std::alloc::Allocator;
 use std::marker::Model;
 

@@ -1,6 +1,6 @@
 //! What a room's journal keeps of an accepted call.
-use crate::action::Action;
-use crate::author::Author;
+use edit_actions::action::Action;
+use room_stacks::author::Author;
 use std::alloc::Allocator;
 
 /// What an entry did.

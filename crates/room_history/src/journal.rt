@@ -1,10 +1,9 @@
 //! What the journal's entries say.
-ghost use Rattle.std.specs.Prelude.{◌≡◌, ◌<◌, ◌≤◌, IfSome, length, position};
+ghost use Rattle.std.specs.Prelude.{◌≡◌};
 ghost use Rattle.std.specs.Option.{option_copied};
-ghost use Rattle.room_history.specs.Answers.{spent, spends};
 ghost use Rattle.room_history.specs.Journals.{is_by, numbered};
 
-use crate::author::Author;
+use room_stacks::author::Author;
 use crate::entry::Entry;
 use std::alloc::Allocator;
 
@@ -26,29 +25,4 @@ pub fn is_by<A: Allocator>(entries: &[Entry<A>], author: &Author, seq: u64) -> b
         Some(entry) => author.is(&entry.author),
         None => false,
     }
-}
-
-/// The number of the author's entry that spent the id. It searches the journal.
-pub fn spent<A: Allocator>(entries: &[Entry<A>], author: &Author, id: u64) -> Option<u64>
-    ensures { result ≡ spent entries.now author.now id }
-{
-    match place_of_spent(entries, author, id) {
-        Some(place) => Some(place as u64 + 1),
-        None => None,
-    }
-}
-
-// The index of the author's entry that spent the id.
-fn place_of_spent<A: Allocator>(entries: &[Entry<A>], author: &Author, id: u64) -> Option<usize>
-    ensures place { result ≡ position (spends author.now id) entries.now }
-    ensures bound { IfSome result (λ i. i < length entries.now) }
-{
-    entries.iter().position(|entry| spends(entry, author, id))
-}
-
-// Whether the entry is the author's and spent the id.
-fn spends<A: Allocator>(entry: &Entry<A>, author: &Author, id: u64) -> bool
-    ensures { result ≡ spends author.now id entry.now }
-{
-    id == entry.id && author.is(&entry.author)
 }

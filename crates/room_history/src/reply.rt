@@ -1,7 +1,8 @@
 //! What a room answers.
 ghost use Rattle.std.specs.Prelude.{◌≡◌};
+ghost use Rattle.room_history.specs.Inner.Refusing.{refusal_reply};
 
-use crate::refusal::Refusal;
+use edit_simple::refusal::Refusal;
 use std::alloc::Allocator;
 use std::marker::Model;
 
@@ -45,6 +46,18 @@ pub enum Reply<A: Allocator> {
     Refused(Refusal<A>),
     /// A growth was refused.
     Memory,
+}
+
+// Want of memory is told as such, another refusal as the action's.
+impl<A: Allocator> From<Refusal<A>> for Reply<A> {
+    ghost from_gives = { λ refusal reply. reply ≡ refusal_reply refusal };
+
+    fn from(refusal: Refusal<A>) -> Reply<A> {
+        match refusal {
+            Refusal::Memory => Reply::Memory,
+            refusal => Reply::Refused(refusal),
+        }
+    }
 }
 
 /// A list of replies, in the order of the calls that they answer.

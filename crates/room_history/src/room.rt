@@ -1,36 +1,46 @@
 //! The room.
-ghost use Rattle.std.specs.Prelude.{◌≡◌, ◌+◌, ◌<◌, [], ◌∷◌, ◌++◌, None, true, length, IfOk, OnErr, vec_len, vec_capacity};
+ghost use Rattle.std.specs.Prelude.{◌≡◌, ◌+◌, ◌<◌, ◌≤◌, List, [], ◌∷◌, ◌++◌, Some, None, true, length, IfOk, OnErr, vec_len, vec_capacity};
 ghost use Rattle.std.specs.Option.{option_copied};
+ghost use Rattle.osm_changes.specs.declared.change.Change.{Change};
+ghost use Rattle.osm_changes.specs.Changes.{differences, changed, inverse, AreChanges, AreFrom};
+ghost use Rattle.osm_elements.specs.Maps.{Rows};
+ghost use Rattle.osm_elements.specs.Rows.{AreInOrder};
+ghost use Rattle.room_history.specs.Journals.{numbered};
 
-use crate::action::Action;
 use crate::ask::{RoomCall, RoomReply};
-use crate::author::Author;
 use crate::call::{Call, Request};
 use crate::entry::{Entry, EntryKind};
-use crate::journal::{numbered, spent};
-use crate::plan::{apply, plan};
-use crate::replay::replay;
+use crate::journal::numbered;
 use crate::reply::Reply;
 use crate::undo::undoable;
+use edit_actions::action::Action;
+use edit_actions::plan::plan;
+use osm_changes::changes::Changes;
+use osm_changes::laws::{an_inverse_restores, differences_are_changes};
+use osm_changes::store::Store;
 use osm_elements::Memory;
 use osm_elements::element::Element;
 use osm_elements::map::{OsmMap, Rows};
 use osm_elements::name::Name;
+use room_stacks::author::Author;
+use room_stacks::stacks::Stacks;
 use std::alloc::Allocator;
 use std::marker::Model;
 use std::snapshot::Snapshot;
 
 /// A room: one map, and the journal of what its authors did to it. It is as good as its base map (for now
-/// the empty one), its limit and its journal, and contracts see it so.
+/// the empty one), its limit and its journal, and contracts see it so. Beside each entry it keeps what that changed.
 #[derive(Drop)]
 #[derive_where(Debug)]
 pub struct Room<A: Allocator> {
     #[derive_where(skip)]
     base: Snapshot<OsmMap<A>>,
     limit: u32,
-    map: OsmMap<A>,
+    store: Store<A>,
     entries: Vec<Entry<A>, A>,
+    recorded: Vec<Changes<A>, A>,
     standing: Vec<u64, A>,
+    stacks: Stacks<A>,
 }
 
 impl<A: Allocator> Model for Room<A> {
@@ -41,19 +51,21 @@ impl<A: Allocator> Model for Room<A> {
 
     ghost view = { λ r. record { base = r.base.value; limit = r.limit; journal = r.entries.items } };
 
-    ghost invariant = { λ r. IsRoom r.map r.standing.items r.base.value r.limit r.entries.items };
+    ghost invariant = { λ r. IsRoom r.store r.recorded.items r.standing.items r.stacks.deeds r.base.value r.limit r.entries.items };
 }
 
 impl<A: Allocator + Copy> Room<A> {
     ghost use Rattle.room_history.specs.Answers.{undo_refusal, with_entry};
     ghost use Rattle.room_history.specs.declared.call.Request.TheVariants as requests;
-    ghost use Rattle.room_history.specs.Refusals.{refusal};
+    ghost use Rattle.edit_actions.specs.Refusals.{refusal};
     ghost use Rattle.room_history.specs.declared.entry.EntryKind.TheVariants.{Do, Undo};
-    ghost use Rattle.room_history.specs.Journals.{numbered};
     ghost use Rattle.room_history.specs.Replays.{past, mapof};
+    ghost use Rattle.room_history.specs.Applied.{applied};
+    ghost use Rattle.edit_actions.specs.After.{changes as changes_of};
+    ghost use Rattle.osm_changes.specs.Sound.{is_sound};
     ghost use Rattle.room_history.specs.Headline.{Holds};
     ghost use Rattle.room_history.specs.Inner.Rooms.{MayAppend};
-    ghost use Rattle.room_history.specs.LegalJournals.{is_made_action};
+    ghost use Rattle.edit_actions.specs.MadeActions.{is_made_action};
     ghost use Rattle.room_history.specs.Runs.{IsStep};
     ghost use Rattle.room_history.specs.Asking.{IsAnswered};
     ghost use Rattle.osm_elements.specs.Rows.{row_at};
@@ -62,18 +74,21 @@ impl<A: Allocator + Copy> Room<A> {
     pub fn open(alloc: A, limit: u32) -> Room<A>
         ensures { result ≡ record { base = []; limit = limit; journal = [] } }
     {
-        let map = OsmMap::new(alloc);
+        let store = Store::new(alloc);
         Room {
-            base: Snapshot::of(&map),
+            base: Snapshot::of(store.map()),
             limit,
-            map,
+            store,
             entries: Vec::new(alloc),
+            recorded: Vec::new(alloc),
             standing: Vec::new(alloc),
+            stacks: Stacks::new(alloc),
         }
     }
 
     /// Answers a call. The refusals are tested in the order in which `Reply` lists them; after a refusal the
-    /// room is as it was, and the call's id is unspent. An undo replays the actions that stand from the base.
+    /// room is as it was, and the call's id is unspent. It costs what the action's plan does and what it changes, and an
+    /// undo what the entry changed that it takes back, times a logarithm; neither the map nor the journal is walked.
     pub fn take(&mut self, call: Call<A>) -> Reply<A>
         ensures step { IsStep self.old.base self.old.limit self.old.journal call result self.new.journal }
         ensures base { self.new.base ≡ self.old.base }
@@ -103,7 +118,7 @@ impl<A: Allocator + Copy> Room<A> {
             id,
             request,
         } = call;
-        if let Some(seq) = spent(&self.entries, &author, id) {
+        if let Some(seq) = self.stacks.spent(&author, id) {
             return Reply::Repeat { seq };
         }
         if self.entries.len() >= self.limit as usize {
@@ -123,31 +138,44 @@ impl<A: Allocator + Copy> Room<A> {
         ensures base { self.new.base ≡ self.old.base }
         ensures limit { self.new.limit ≡ self.old.limit }
     {
-        if let Err(refusal) = plan(&self.map, &action) {
-            return Reply::Refused(refusal);
-        }
-        match self.append_do(author, id, action) {
-            Ok(seq) => Reply::Done { seq },
-            Err(_) => Reply::Memory,
+        match plan(*self.entries.allocator(), &self.store, &action) {
+            Ok(changes) => match self.append_do(author, id, action, changes) {
+                Ok(seq) => Reply::Done { seq },
+                Err(_) => Reply::Memory,
+            },
+            Err(refusal) => refusal.into(),
         }
     }
 
-    // Appends the entry of an accepted action, and answers its number.
-    fn append_do(&mut self, author: Author, id: u64, action: Action<A>) -> Result<u64, Memory>
+    // Appends the entry of an accepted action with what it changes, and answers its number.
+    fn append_do(
+        &mut self,
+        author: Author,
+        id: u64,
+        action: Action<A>,
+        changes: Changes<A>,
+    ) -> Result<u64, Memory>
         requires may { MayAppend self.old.limit self.old.journal author id }
         requires made { is_made_action action ≡ true }
         requires accepted { refusal (mapof self.old.base self.old.journal) action ≡ None }
+        requires changes { changes ≡ changes_of (mapof self.old.base self.old.journal) action }
+        requires from { AreFrom (mapof self.old.base self.old.journal) changes }
+        requires sound { is_sound (changed (mapof self.old.base self.old.journal) changes) ≡ true }
         ensures ok { IfOk result (λ seq. (seq ≡ length self.old.journal + 1)
             × (self.new ≡ record self.old { journal = with_entry self.old.journal author id (Do action) })) }
         ensures err { OnErr result (self.new ≡ self.old) }
     {
         self.entries.try_reserve(1)?;
+        self.recorded.try_reserve(1)?;
         self.standing.try_reserve(1)?;
-        apply(&mut self.map, &action)?;
+        self.stacks.ready(&author)?;
+        self.store.apply(*self.entries.allocator(), &changes)?;
         let seq = self.entries.len() as u64 + 1;
         let kind = EntryKind::Do(action);
         push_reserved(&mut self.entries, Entry { author, id, kind });
+        push_reserved(&mut self.recorded, changes);
         push_reserved(&mut self.standing, seq);
+        self.stacks.did(author, id, seq);
         Ok(seq)
     }
 
@@ -168,7 +196,7 @@ impl<A: Allocator + Copy> Room<A> {
         }
     }
 
-    // Appends the undo of the last entry that stands, and answers its number.
+    // Appends the undo of the last entry that stands, which takes back what that changed, and answers its number.
     fn append_undo(&mut self, author: Author, id: u64, of: u64) -> Result<u64, Memory>
         requires may { MayAppend self.old.limit self.old.journal author id }
         requires accepted { undo_refusal (past self.old.base self.old.journal) self.old.journal author of ≡ None }
@@ -176,14 +204,19 @@ impl<A: Allocator + Copy> Room<A> {
             × (self.new ≡ record self.old { journal = with_entry self.old.journal author id (Undo of) })) }
         ensures err { OnErr result (self.new ≡ self.old) }
     {
+        leads_back::<A>();
         self.entries.try_reserve(1)?;
-        let alloc = *self.entries.allocator();
-        let rest = self.standing.len() - 1;
-        self.map = replay(alloc, &self.entries, &self.standing[..rest])?;
+        self.recorded.try_reserve(1)?;
+        self.stacks.ready(&author)?;
+        let changes = taken_back(&self.recorded, of)?;
+        self.store.apply(*self.entries.allocator(), &changes)?;
         let seq = self.entries.len() as u64 + 1;
         let kind = EntryKind::Undo(of);
         push_reserved(&mut self.entries, Entry { author, id, kind });
+        push_reserved(&mut self.recorded, changes);
+        let rest = self.standing.len() - 1;
         self.standing.truncate(rest);
+        self.stacks.undid(author, id, of, seq);
         Ok(seq)
     }
 
@@ -222,14 +255,14 @@ impl<A: Allocator + Copy> Room<A> {
     pub fn get(&self, name: &Name) -> Option<&Element<A>>
         ensures { option_copied result ≡ row_at (mapof self.now.base self.now.journal) name.now }
     {
-        self.map.get(name)
+        self.store.map().get(name)
     }
 
     /// The rows of the map, in name order. It copies them; the one refusal is want of memory.
     pub fn map_rows(&self) -> Result<Rows<A>, Memory>
         ensures { IfOk result (λ rows. rows ≡ mapof self.now.base self.now.journal) }
     {
-        self.map.rows(*self.entries.allocator())
+        self.store.map().rows(*self.entries.allocator())
     }
 
     /// How many entries the journal has.
@@ -239,12 +272,39 @@ impl<A: Allocator + Copy> Room<A> {
         self.entries.len() as u64
     }
 
+    /// How many changes of names were applied to the map so far, at most 2^128 - 1: those of each entry, and for an undo
+    /// those that it took back.
+    pub fn applied(&self) -> u128
+        ensures { result ≡ applied self.now.base self.now.journal }
+    {
+        self.store.applied()
+    }
+
     /// The entry of a number from 1 on, or none.
     pub fn entry(&self, seq: u64) -> Option<&Entry<A>>
         ensures { option_copied result ≡ numbered self.now.journal seq }
     {
         numbered(&self.entries, seq)
     }
+}
+
+// The changes that take back those recorded under a number.
+fn taken_back<A: Allocator + Clone>(recorded: &[Changes<A>], of: u64) -> Result<Changes<A>, Memory>
+    requires first { 1 ≤ of }
+    requires there { of ≤ length recorded.now }
+    ensures { IfOk result (λ cs. (rs : List (Change A)) → numbered recorded.now of ≡ Some rs → cs ≡ inverse rs) }
+{
+    Ok(recorded[of as usize - 1].copy()?.inverse())
+}
+
+// What holds of changes that are taken back. It does nothing.
+fn leads_back<A: Allocator>()
+    ensures differ { (m n : Rows A) → AreChanges (differences m n) }
+    ensures from { (m n : Rows A) → AreFrom m (differences m n) }
+    ensures back { (m : Rows A) (cs : List (Change A)) → AreInOrder m → AreChanges cs → AreFrom m cs → AreFrom (changed m cs) (inverse cs) }
+{
+    differences_are_changes::<A>();
+    an_inverse_restores::<A>();
 }
 
 // Adds an item to a list that has room for it.

@@ -3,7 +3,7 @@ ghost use Rattle.std.specs.Prelude.{◌≡◌, nat_eq, nat_lt, reverse};
 ghost use Rattle.std.specs.List.{find, list_any};
 ghost use Rattle.room_history.specs.Journals.{is_by, numbered};
 
-use crate::author::Author;
+use room_stacks::author::Author;
 use crate::entry::Entry;
 use crate::journal::is_by;
 use std::alloc::Allocator;

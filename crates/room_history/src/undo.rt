@@ -3,9 +3,9 @@ ghost use Rattle.std.specs.Prelude.{◌≡◌};
 ghost use Rattle.room_history.specs.Answers.{asked, undo_refusal};
 ghost use Rattle.room_history.specs.Journals.{standing};
 ghost use Rattle.room_history.specs.Replays.{Past};
-ghost use Rattle.room_history.specs.Inner.Plans.{asked_or, undone_or};
+ghost use Rattle.room_history.specs.Inner.Undoing.{asked_or, undone_or};
 
-use crate::author::Author;
+use room_stacks::author::Author;
 use crate::entry::Entry;
 use crate::journal::numbered;
 use crate::reply::Reply;

@@ -1,10 +1,17 @@
 -- What holds of accepted actions.
-use Rattle.std.proofs.Common.{◌≡◌, ◌≢◌, true, None}
+use Rattle.std.proofs.Common.{◌≡◌, ◌≢◌, true, None, reverse, if◌then◌else◌}
 use Rattle.osm_elements.specs.Maps.{Rows}
+use Rattle.osm_elements.specs.Rows.{AreInOrder}
+use Rattle.osm_elements.specs.Facts.Dropped.{AreInOrder-rows_but}
+use Rattle.osm_elements.specs.Facts.Rows.{AreInOrder-put_row}
 use Rattle.osm_changes.specs.Changes.{changed}
 use Rattle.osm_changes.specs.Sound.{is_sound}
 use Rattle.osm_changes.specs.Facts.Changing.{changed-differences}
 use Rattle.osm_changes.specs.Facts.SoundRows.{sound_in_order}
+use Rattle.edit_simple.specs.Move.{is_moved, moved_by}
+use Rattle.edit_simple.specs.Parts.{at_name, with_tags, with_nodes, with_members}
+use Rattle.edit_simple.specs.Tagging.{retagged}
+use Rattle.edit_simple.specs.Facts.EachRow.{AreInOrder-each_row}
 use Rattle.edit_simple.specs.Facts.Creating.{create_accepted}
 use Rattle.edit_simple.specs.Facts.Deleting.{delete_accepted}
 use Rattle.edit_simple.specs.Facts.Moving.{move_accepted}
@@ -27,6 +34,16 @@ module _ {A : Type 0} where
   accepted_keeps_sound m (Members r list) sound made ok = members_accepted m r list sound made ok
   accepted_keeps_sound m (Delete x) sound made ok = delete_accepted m x sound ok
 
+  -- the map after has its names in order, whether or not the action is accepted
+  pub AreInOrder-after : (m : Rows A) (a : Action A) → AreInOrder m → AreInOrder (after m a)
+  AreInOrder-after m (Create x v) h = AreInOrder-put_row m x v h
+  AreInOrder-after m (Retag x given) h = AreInOrder-each_row (at_name x (with_tags (λ tags. retagged tags given))) m h
+  AreInOrder-after m (Move list dlat dlon) h = AreInOrder-each_row (λ n v. if is_moved m list n then moved_by dlat dlon v else v) m h
+  AreInOrder-after m (Reverse w) h = AreInOrder-each_row (at_name w (with_nodes reverse)) m h
+  AreInOrder-after m (Nodes w list) h = AreInOrder-each_row (at_name w (with_nodes (λ _. list))) m h
+  AreInOrder-after m (Members r list) h = AreInOrder-each_row (at_name r (with_members (λ _. list))) m h
+  AreInOrder-after m (Delete x) h = AreInOrder-rows_but m x h
+
   -- the changes lead to the map after
   pub changes_lead : (m : Rows A) (a : Action A) → is_sound m ≡ true → is_made_action a ≡ true → refusal m a ≡ None → changed m (changes m a) ≡ after m a
-  changes_lead m a sound made ok = changed-differences m (after m a) (sound_in_order m sound) (sound_in_order (after m a) (accepted_keeps_sound m a sound made ok).0)
+  changes_lead m a sound made ok = let order = sound_in_order m sound in changed-differences m (after m a) order (AreInOrder-after m a order)

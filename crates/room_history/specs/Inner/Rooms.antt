@@ -1,19 +1,31 @@
 -- What a room holds beside its journal.
-use Rattle.std.specs.Prelude.{◌≡◌, ◌<◌, ℕ, List, [], None, length}
-use Rattle.room_history.specs.declared.author.Author.{Author}
-use Rattle.room_history.specs.declared.entry.Entry.{Entry}
+use Rattle.std.specs.Prelude.{◌≡◌, ◌<◌, ℕ, List, [], None, length, map}
+use Rattle.osm_changes.specs.declared.change.Change.{Change}
+use Rattle.osm_changes.specs.Stores.{StoreState}
 use Rattle.osm_elements.specs.Maps.{Rows}
+use Rattle.room_stacks.specs.declared.author.Author.{Author}
+use Rattle.room_stacks.specs.declared.deed.Deed.{Deed}
+use Rattle.room_history.specs.declared.entry.Entry.{Entry}
+use Rattle.room_history.specs.Applied.{applied}
 use Rattle.room_history.specs.Journals.{standing}
-use Rattle.room_history.specs.Replays.{mapof}
+use Rattle.room_history.specs.Replays.{Recorded, past, mapof}
 use Rattle.room_history.specs.Answers.{spent}
 use Rattle.room_history.specs.LegalJournals.{IsJournal}
+use Rattle.room_history.specs.Inner.Deeds.{deeds}
 
 module _ {A : Type 0} where
-  -- the journal is one that calls lead to, and the map and the numbers that stand are those of its entries; for now the base is the empty map
-  pub record IsRoom (rows : Rows A) (numbers : List ℕ) (base : Rows A) (limit : ℕ) (j : List (Entry A)) : Type 0 where
+  -- what each entry changed
+  abbrev pub recorded_changes : Rows A → List (Entry A) → List (List (Change A))
+  recorded_changes base j = map (λ (r : Recorded A). r.changes) (past base j).entries
+
+  -- the journal is one that calls lead to; the store, the recorded changes, the numbers that stand and the deeds are those of its entries; for now the base is the empty map
+  pub record IsRoom (store : StoreState A) (recorded : List (List (Change A))) (numbers : List ℕ) (done : List Deed) (base : Rows A) (limit : ℕ) (j : List (Entry A)) : Type 0 where
     pub journal : IsJournal base limit j
-    pub rows_are : rows ≡ mapof base j
+    pub rows_are : store.rows ≡ mapof base j
+    pub count_is : store.applied ≡ applied base j
+    pub recorded_are : recorded ≡ recorded_changes base j
     pub numbers_are : numbers ≡ standing j
+    pub deeds_are : done ≡ deeds j
     pub empty_base : base ≡ []
 
   -- the id is unspent, and the journal is not full

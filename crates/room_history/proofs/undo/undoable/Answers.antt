@@ -1,6 +1,6 @@
 use Rattle.std.proofs.Common.{sym, ap, ◌∙◌}
 use Rattle.room_history.specs.Answers.{undo_refusal}
-use Rattle.room_history.specs.Inner.Plans.{asked_or}
+use Rattle.room_history.specs.Inner.Undoing.{asked_or}
 use Rattle.room_history.proofs.LastFound.{asked_last}
 use Rattle.room_history.proofs.undo.undoable.Goals as goal
 

@@ -1,6 +1,11 @@
-use Rattle.std.proofs.Common.{rules}
+use Rattle.std.proofs.Common.{rules, ap, sym, ◌∙◌}
+use Rattle.osm_changes.specs.Stores.{StoreState}
+use Rattle.room_stacks.specs.Stacks.{StacksState}
 use Rattle.room_history.proofs.Stepping.{IsRoom-empty}
 use Rattle.room_history.proofs.room.Room.open.Goals as goal
 
 pub invariant_of-result : goal.invariant_of-result
-invariant_of-result g c = IsRoom-empty c.new-map.result c.new-2.result.items c.of.result.value c.args.limit c.new.result.items (search rules) (search rules) (search rules) (search rules)
+invariant_of-result g c =
+    IsRoom-empty c.new-store.result c.new-2.result.items c.new-3.result.items c.new-4.result.deeds c.of.result.value c.args.limit c.new.result.items
+    c.new-store.ensures c.new-2.ensures.items c.new-3.ensures.items (ap (λ (s : StacksState). s.deeds) c.new-4.ensures)
+    ((search rules) ∙ c.map.ensures.map ∙ ap (λ (s : StoreState _). s.rows) c.new-store.ensures) c.new.ensures.items

@@ -1,7 +1,7 @@
 use Rattle.std.proofs.Common.{ap, ◌∙◌}
 use Rattle.room_history.specs.Answers.{asked, undo_refusal}
 use Rattle.room_history.specs.Replays.{past}
-use Rattle.room_history.specs.Inner.Plans.{asked_or}
+use Rattle.room_history.specs.Inner.Undoing.{asked_or}
 use Rattle.room_history.proofs.Stepping.{can_undo, step_undid, step_not_undone}
 use Rattle.room_history.proofs.room.Room.undo.Goals as goal
 

@@ -1,5 +1,5 @@
 use Rattle.osm_changes.specs.Facts.Differing.{created, deleted}
-use Rattle.room_history.proofs.laws.one_name_is_changed.Goals as goal
+use Rattle.edit_actions.proofs.laws.one_name_is_changed.Goals as goal
 
 pub returns-clause-create : goal.returns-clause-create
 returns-clause-create g c = created

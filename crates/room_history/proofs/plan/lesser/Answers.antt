@@ -1,7 +1,0 @@
-use Rattle.std.proofs.Common.{ap, ◌∙◌}
-use Rattle.std.specs.Ordering.{ord_min}
-use Rattle.osm_elements.specs.Facts.NameOrder.{name_cmp_is}
-use Rattle.room_history.proofs.plan.lesser.Goals as goal
-
-pub returns-in-Some : goal.returns-in-Some
-returns-in-Some c = rw c.in-Some.is (c.min.ensures ∙ ap (λ R. ord_min R c.in-Some.other c.args.name) name_cmp_is)

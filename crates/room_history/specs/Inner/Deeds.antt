@@ -1,0 +1,25 @@
+-- A journal as what its authors did.
+use Rattle.std.specs.Prelude.{◌+◌, ℕ, List, [], ◌∷◌}
+use Rattle.room_stacks.specs.declared.author.Author.{Author}
+use Rattle.room_stacks.specs.declared.deed.Deed.{Deed}
+use Rattle.room_stacks.specs.declared.deed.Deed.TheVariants.{Did, Undid}
+use Rattle.room_history.specs.declared.entry.Entry.{Entry}
+use Rattle.room_history.specs.declared.entry.EntryKind.{EntryKind}
+use Rattle.room_history.specs.declared.entry.EntryKind.TheVariants.{Do, Undo}
+
+module _ {A : Type 0} where
+  -- what an author did under an id, by the entry of a number
+  abbrev pub deed_by : ℕ → Author → ℕ → EntryKind A → Deed
+  deed_by seq author id (Do a) = Did author id seq
+  deed_by seq author id (Undo s) = Undid author id s seq
+
+  abbrev pub deed : ℕ → Entry A → Deed
+  deed seq e = deed_by seq e.author e.id e.kind
+
+  -- the deeds of entries that are numbered from n on
+  abbrev pub deeds_from : ℕ → List (Entry A) → List Deed
+  deeds_from n [] = []
+  deeds_from n (e ∷ later) = deed n e ∷ deeds_from (n + 1) later
+
+  abbrev pub deeds : List (Entry A) → List Deed
+  deeds j = deeds_from 1 j
