@@ -57,6 +57,10 @@ works deeds author = map number (filter (λ d. is_work d && is_same_author autho
 abbrev pub standing : List Deed → Author → List ℕ
 standing deeds author = filter (λ s. not (list_any (undoes s) deeds)) (works deeds author)
 
+-- the author's deed of a number stands
+abbrev pub is_standing : List Deed → Author → ℕ → Bool
+is_standing deeds author s = list_any (λ t. nat_eq t s) (standing deeds author)
+
 -- an author's stack of what it can redo, bottom first, after one more of its deeds: an undo pushes what it undid, an action empties the stack
 abbrev pub redo_after : List ℕ → Deed → List ℕ
 redo_after stack (Did author id seq) = []

@@ -3,6 +3,8 @@
 #![tactic(auto)]
 
 pub mod author;
+mod author_lists;
+mod author_stacks;
 pub mod deed;
 mod spent_ids;
 pub mod stacks;

@@ -1,0 +1,76 @@
+-- A binary search among rising numbers finds where one stands, or that it stands nowhere.
+use Prim.Native.Nat.{zero}
+use Rattle.std.proofs.Common.{◌≡◌, ℕ, suc, ◌<◌, ◌≤◌, Bool, true, false, not, cond, List, [], ◌∷◌, length, get_or, Result, Ok, Err, nat_eq, nat_lt, refl, sym, ap, ◌∙◌, arith}
+use Rattle.std.proofs.lemmas.Bool.Decides.{nat_tests}
+use Rattle.std.proofs.lemmas.List.Elements.{All-head, All-tail, All-weaker, All-from_get_or}
+use Rattle.std.proofs.lemmas.List.Sorted.{searched}
+use Rattle.std.specs.List.{All, remove}
+use Rattle.std.specs.List.Sorted.{IsBinarySearchResult}
+use Rattle.std.specs.Ordering.{nat_cmp}
+use Rattle.room_stacks.specs.Inner.Lists.{without, IsRising}
+
+abbrev pub found_at : ℕ → Result ℕ ℕ
+found_at i = Ok i
+
+abbrev pub gap_at : ℕ → Result ℕ ℕ
+gap_at i = Err i
+
+equal : (a b : ℕ) → a ≡ b → nat_eq a b ≡ true
+equal a b h = grind (arith, nat_tests)
+
+below : (a b : ℕ) → a < b → nat_eq a b ≡ false
+below a b h = grind (arith, nat_tests)
+
+above : (a b : ℕ) → b < a → nat_eq a b ≡ false
+above a b h = grind (arith, nat_tests)
+
+is_below : (a b : ℕ) → nat_lt a b ≡ true → a < b
+is_below a b h = grind (arith, nat_tests)
+
+is_not_below : (a b : ℕ) → nat_lt a b ≡ false → b ≤ a
+is_not_below a b h = grind (arith, nat_tests)
+
+nondecreasing : (xs : List ℕ) → IsRising xs → (i j : ℕ) → i ≤ j → j < length xs → get_or xs i 0 ≤ get_or xs j 0
+nondecreasing [] h i j up within = absurd (omega arith)
+nondecreasing (y ∷ ys) h zero zero up within = omega arith
+nondecreasing (y ∷ ys) h zero (suc j) up within = let more : y < get_or ys j 0 = h.0 j 0 (omega arith) in omega arith
+nondecreasing (y ∷ ys) h (suc i) zero up within = absurd (omega arith)
+nondecreasing (y ∷ ys) h (suc i) (suc j) up within = nondecreasing ys h.1 i j (omega arith) (omega arith)
+
+module _ (x : ℕ) where
+  keeps : (y : ℕ) (ys : List ℕ) → nat_eq y x ≡ false → without x (y ∷ ys) ≡ y ∷ without x ys
+  keeps y ys e = ap (λ b. cond (not b) (y ∷ without x ys) (without x ys)) e
+
+  drops : (y : ℕ) (ys : List ℕ) → nat_eq y x ≡ true → without x (y ∷ ys) ≡ without x ys
+  drops y ys e = ap (λ b. cond (not b) (y ∷ without x ys) (without x ys)) e
+
+  pub without_none : (ys : List ℕ) → All (λ y. nat_eq y x ≡ false) ys → without x ys ≡ ys
+  without_none [] h = refl
+  without_none (y ∷ ys) h =
+      keeps y ys (All-head (λ z. nat_eq z x ≡ false) y ys h) ∙ ap (λ zs. y ∷ zs) (without_none ys (All-tail (λ z. nat_eq z x ≡ false) y ys h))
+
+  taken : (xs : List ℕ) (i : ℕ) → IsRising xs → i < length xs → get_or xs i 0 ≡ x → remove xs i ≡ without x xs
+  taken [] i h within here = absurd (omega arith)
+  taken (y ∷ ys) zero h within here =
+      sym (drops y ys (equal y x here) ∙ without_none ys (All-weaker (λ z. y < z) (λ z. nat_eq z x ≡ false) (λ z more. above z x (omega arith)) ys h.0))
+  taken (y ∷ ys) (suc i) h within here =
+      let more : y < get_or ys i 0 = h.0 i 0 (omega arith) in
+      ap (λ zs. y ∷ zs) (taken ys i h.1 (omega arith) here) ∙ sym (keeps y ys (below y x (omega arith)))
+
+  module _ (xs : List ℕ) (h : IsRising xs) where
+    pub out_where_found : (i : ℕ) → IsBinarySearchResult (λ y. nat_cmp y x) xs (found_at i) → remove xs i ≡ without x xs
+    out_where_found i found =
+        let tells = searched xs x (found_at i) found (nondecreasing xs h) in
+        taken xs i h tells.0 tells.1
+
+    differs : (i : ℕ) → ((k : ℕ) → k < i → get_or xs k 0 < x) → ((k : ℕ) → i ≤ k → k < length xs → x < get_or xs k 0) → (k : ℕ) → k < length xs → nat_eq (get_or xs k 0) x ≡ false
+    differs i low high k within = by (nat_lt k i) refl
+      where
+        by : (b : Bool) → nat_lt k i ≡ b → nat_eq (get_or xs k 0) x ≡ false
+        by true t = below (get_or xs k 0) x (low k (is_below k i t))
+        by false t = above (get_or xs k 0) x (high k (is_not_below k i t) within)
+
+    pub out_in_gap : (i : ℕ) → IsBinarySearchResult (λ y. nat_cmp y x) xs (gap_at i) → xs ≡ without x xs
+    out_in_gap i gap =
+        let tells = searched xs x (gap_at i) gap (nondecreasing xs h) in
+        sym (without_none xs (All-from_get_or (λ y. nat_eq y x ≡ false) xs 0 (differs i tells.1 tells.2)))

@@ -1,0 +1,65 @@
+-- What authors may undo and redo, as the code keeps it.
+use Rattle.std.specs.Prelude.{◌≡◌, ◌<◌, ℕ, Bool, true, false, not, cond, List, [], ◌∷◌, Option, Some, None, nat_eq, ⊤}
+use Rattle.std.specs.List.{All, filter}
+use Rattle.std.specs.Map.{lookup}
+use Rattle.std.specs.BTreeMap.{is_at}
+use Rattle.std.specs.Ordering.{nat_cmp}
+use Rattle.std.specs.Cmp.Lexicographic.{slice_cmp}
+use Rattle.room_stacks.specs.declared.author.Author.{Author}
+use Rattle.room_stacks.specs.SameAuthors.{is_same_author}
+
+-- what stands, what can be redone, and whether there is room for one more of each
+pub record Usable : Type 0 where
+  pub standing : List ℕ
+  pub redo : List ℕ
+  pub has_room : Bool
+
+abbrev pub Lists : Type 0
+Lists = List (Author × Usable)
+
+-- the numbers rise, each once
+abbrev pub IsRising : List ℕ → Type 0
+IsRising [] = ⊤
+IsRising (n ∷ ns) = All (λ m. n < m) ns × IsRising ns
+
+-- the numbers but one
+abbrev pub without : ℕ → List ℕ → List ℕ
+without s ns = filter (λ n. not (nat_eq n s)) ns
+
+abbrev pub usable_at : Lists → Author → Option Usable
+usable_at lists q = lookup (is_at (slice_cmp nat_cmp q)) lists
+
+abbrev pub standing_of : Option Usable → List ℕ
+standing_of None = []
+standing_of (Some u) = u.standing
+
+abbrev pub redo_of : Option Usable → List ℕ
+redo_of None = []
+redo_of (Some u) = u.redo
+
+abbrev pub has_room_of : Option Usable → Bool
+has_room_of None = false
+has_room_of (Some u) = u.has_room
+
+abbrev pub standing_at : Lists → Author → List ℕ
+standing_at lists q = standing_of (usable_at lists q)
+
+abbrev pub redo_at : Lists → Author → List ℕ
+redo_at lists q = redo_of (usable_at lists q)
+
+abbrev pub has_room_at : Lists → Author → Bool
+has_room_at lists q = has_room_of (usable_at lists q)
+
+-- each author has the stacks that it had
+pub record SameStacks (before after : Lists) : Type 0 where
+  pub standing : (q : Author) → standing_at after q ≡ standing_at before q
+  pub redo : (q : Author) → redo_at after q ≡ redo_at before q
+
+-- each author for whom there was room has it still
+abbrev pub KeepsRooms : Lists → Lists → Type 0
+KeepsRooms before after = (q : Author) → has_room_at before q ≡ true → has_room_at after q ≡ true
+
+-- one author has these stacks, and each other what it had
+pub record IsRewritten (before after : Lists) (author : Author) (standing redo : List ℕ) : Type 0 where
+  pub standing_is : (q : Author) → standing_at after q ≡ cond (is_same_author q author) standing (standing_at before q)
+  pub redo_is : (q : Author) → redo_at after q ≡ cond (is_same_author q author) redo (redo_at before q)

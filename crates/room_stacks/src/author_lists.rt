@@ -1,0 +1,100 @@
+//! What each author may undo and redo.
+ghost use Rattle.std.specs.Prelude.{◌≡◌, ◌++◌, [], ◌∷◌, true, OnOk};
+ghost use Rattle.room_stacks.specs.Inner.Lists.{standing_at, redo_at, has_room_at, without, IsRising, SameStacks, KeepsRooms, IsRewritten};
+
+use crate::author::Author;
+use crate::author_stacks::AuthorStacks;
+use osm_elements::Memory;
+use std::alloc::Allocator;
+use std::collections::BTreeMap;
+use std::marker::Model;
+
+/// The stacks of each author that has any, or for whose next deed room was made. They are found in time logarithmic in
+/// the number of authors.
+#[derive(Drop)]
+#[derive_where(Debug)]
+pub struct AuthorLists<A: Allocator> {
+    by_author: BTreeMap<Author, AuthorStacks<A>, A>,
+}
+
+impl<A: Allocator> Model for AuthorLists<A> {
+    ghost use Rattle.room_stacks.specs.Inner.Lists.{Lists};
+
+    ghost Value = { Lists };
+
+    ghost view = { λ l. l.by_author.entries };
+}
+
+impl<A: Allocator> AuthorLists<A> {
+    /// No stacks. They take no memory.
+    pub fn new(alloc: A) -> AuthorLists<A>
+        ensures { result ≡ [] }
+    {
+        AuthorLists {
+            by_author: BTreeMap::new(alloc),
+        }
+    }
+
+    /// An author's entries that stand, rising.
+    pub fn standing(&self, author: &Author) -> &[u64]
+        ensures { result.now ≡ standing_at self.now author.now }
+    {
+        match self.by_author.get(author) {
+            Some(stacks) => stacks.standing(),
+            None => &[],
+        }
+    }
+
+    /// The entries that an author can redo, bottom first.
+    pub fn redo(&self, author: &Author) -> &[u64]
+        ensures { result.now ≡ redo_at self.now author.now }
+    {
+        match self.by_author.get(author) {
+            Some(stacks) => stacks.redo(),
+            None => &[],
+        }
+    }
+
+    /// Makes room for the next number of an author, or refuses with `Memory`. Room that was there stays.
+    pub fn make_room(&mut self, alloc: &A, author: &Author) -> Result<(), Memory>
+    where
+        A: Clone,
+        ensures same { SameStacks self.old self.new }
+        ensures kept { KeepsRooms self.old self.new }
+        ensures ok { OnOk result (has_room_at self.new author.now ≡ true) }
+    {
+        match self.by_author.get_mut(author) {
+            Some(stacks) => stacks.make_room(),
+            None => {
+                let mut stacks = AuthorStacks::new(alloc)?;
+                stacks.make_room()?;
+                self.by_author.insert(*author, stacks)?;
+                Ok(())
+            }
+        }
+    }
+
+    /// Puts the number of an author's action on what stands. It takes no memory.
+    pub fn did(&mut self, author: &Author, seq: u64)
+        requires { has_room_at self.old author.now ≡ true }
+        ensures { IsRewritten self.old self.new author.now (standing_at self.old author.now ++ seq ∷ []) [] }
+    {
+        match self.by_author.get_mut(author) {
+            Some(stacks) => stacks.did(seq),
+            None => unreachable!(),
+        }
+    }
+
+    /// Moves the number of an author's entry that stands to what it can redo. It takes no memory.
+    pub fn undid(&mut self, author: &Author, of: u64)
+        requires room { has_room_at self.old author.now ≡ true }
+        requires rising { IsRising (standing_at self.old author.now) }
+        ensures { IsRewritten self.old self.new author.now
+            (without of (standing_at self.old author.now)) (redo_at self.old author.now ++ of ∷ []) }
+    {
+        match self.by_author.get_mut(author) {
+            Some(stacks) => stacks.undid(of),
+            None => unreachable!(),
+        }
+    }
+}
