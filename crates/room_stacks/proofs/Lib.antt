@@ -1,3 +1,4 @@
+pub mod Entering
 pub mod OneMore
 pub mod Padding
 pub mod Rewriting

@@ -95,7 +95,7 @@ module _ (ds : List Deed) (q : Author) where
       let d = Undid author id of seq in
       ap (filter (stands (ds ++ d ∷ []))) (works-push d ∙ append-nil (works ds q))
       ∙ agree_on (stands (ds ++ d ∷ [])) (λ s. not (list_any (undoes s) ds || nat_eq s of)) (works ds q)
-          (All-weaker (λ s. s < seq) (λ s. stands (ds ++ d ∷ []) s ≡ not (list_any (undoes s) ds || nat_eq s of)) told (works ds q) (All-passing (λ m. m < seq) (is_work_of q) ds (below_numbers seq ds h)))
+      (All-weaker (λ s. s < seq) (λ s. stands (ds ++ d ∷ []) s ≡ not (list_any (undoes s) ds || nat_eq s of)) told (works ds q) (All-passing (λ m. m < seq) (is_work_of q) ds (below_numbers seq ds h)))
       ∙ filter_twice (λ s. list_any (undoes s) ds) (λ s. nat_eq s of) (works ds q)
     where
       told : (s : ℕ) → s < seq → stands (ds ++ Undid author id of seq ∷ []) s ≡ not (list_any (undoes s) ds || nat_eq s of)
@@ -116,7 +116,7 @@ module _ (ds : List Deed) (q : Author) where
   pub none_of_another : (author : Author) → is_same_author q author ≡ false → IsRising (map number ds) → (s : ℕ) → is_standing ds author s ≡ true → without s (standing ds q) ≡ standing ds q
   none_of_another author other h s stand =
       without_none s (standing ds q) (All-filter (stands ds) (λ t. nat_eq t s ≡ false) (works ds q)
-          (none_of_others (is_work_of author) (is_work_of q) never s ds h (among_filter (λ t. nat_eq t s) (stands ds) (works ds author) stand)))
+      (none_of_others (is_work_of author) (is_work_of q) never s ds h (among_filter (λ t. nat_eq t s) (stands ds) (works ds author) stand)))
     where
       never : (d : Deed) → is_work_of author d ≡ true → is_work_of q d ≡ true → ⊥
       never d e f =

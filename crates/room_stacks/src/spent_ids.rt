@@ -69,6 +69,11 @@ impl<A: Allocator> SpentIds<A> {
         }
     }
 
+    /// Where the memory comes from.
+    pub fn allocator(&self) -> &A {
+        self.works.allocator()
+    }
+
     /// The number under which an author spent an id, or none.
     pub fn spent(&self, author: &Author, id: u64) -> Option<u64>
         ensures { result ≡ spent self.now.deeds author.now id }

@@ -1,9 +1,10 @@
 //! What each author of a room may still use.
-ghost use Rattle.std.specs.Prelude.{◌≡◌, ◌++◌, [], ◌∷◌, All, ◌<◌, None, Some, OnOk, OnErr, Contains};
+ghost use Rattle.std.specs.Prelude.{◌≡◌, ◌++◌, [], ◌∷◌, true, None, Some, OnOk, OnErr};
 ghost use Rattle.room_stacks.specs.declared.deed.Deed.TheVariants.{Did, Undid};
-ghost use Rattle.room_stacks.specs.Stacks.{IsAboveAll, spent, standing};
+ghost use Rattle.room_stacks.specs.Stacks.{IsAboveAll, spent, standing, is_standing, redo};
 
 use crate::author::Author;
+use crate::author_lists::AuthorLists;
 use crate::spent_ids::{Spending, SpentIds, Work};
 use osm_elements::Memory;
 use std::alloc::Allocator;
@@ -15,6 +16,7 @@ use std::marker::Model;
 #[derive_where(Debug)]
 pub struct Stacks<A: Allocator> {
     ids: SpentIds<A>,
+    lists: AuthorLists<A>,
     ready: Option<Author>,
 }
 
@@ -24,11 +26,11 @@ impl<A: Allocator> Model for Stacks<A> {
 
     ghost Value = { StacksState };
 
-    ghost use Rattle.room_stacks.specs.Inner.Readiness.{IsReady};
+    ghost use Rattle.room_stacks.specs.Inner.Kept.{IsKept};
 
     ghost view = { λ s. record { deeds = s.ids.deeds; ready = s.ready } };
 
-    ghost invariant = { λ s. IsReady s.ready s.ids };
+    ghost invariant = { λ s. IsKept s.ready s.ids s.lists };
 }
 
 impl<A: Allocator> Stacks<A> {
@@ -40,6 +42,7 @@ impl<A: Allocator> Stacks<A> {
     {
         Stacks {
             ids: SpentIds::new(alloc),
+            lists: AuthorLists::new(alloc),
             ready: None,
         }
     }
@@ -52,19 +55,39 @@ impl<A: Allocator> Stacks<A> {
         self.ids.spent(author, id)
     }
 
+    /// The numbers of an author's actions that nobody undid, rising, in time logarithmic in the number of authors.
+    pub fn standing(&self, author: &Author) -> &[u64]
+        ensures { result.now ≡ standing self.now.deeds author.now }
+    {
+        self.lists.standing(author)
+    }
+
+    /// The numbers of the actions that an author undid since its last action, in the order of their undos, in time
+    /// logarithmic in the number of authors.
+    pub fn redo(&self, author: &Author) -> &[u64]
+        ensures { result.now ≡ redo self.now.deeds author.now }
+    {
+        self.lists.redo(author)
+    }
+
     /// Makes room for the next deed of an author, whoever else was ready. Or it refuses with `Memory`, and all is as it
-    /// was. Its cost is constant in the mean over many deeds: now and then it moves all ids that were spent.
+    /// was. It takes time logarithmic in the number of authors, in the mean over many deeds: now and then it moves all ids
+    /// that were spent, or all numbers of the author.
     pub fn ready(&mut self, author: &Author) -> Result<(), Memory>
+    where
+        A: Clone,
         ensures ok { OnOk result (self.new ≡ record self.old { ready = Some author.now }) }
         ensures err { OnErr result (self.new ≡ self.old) }
     {
+        let alloc = self.ids.allocator().clone()?;
         self.ids.make_room()?;
+        self.lists.make_room(&alloc, author)?;
         self.ready = Some(*author);
         Ok(())
     }
 
     /// Enters that an author, who is ready, did an action under an id, by the entry of the number `seq`. It takes no
-    /// memory, and one look-up.
+    /// memory, a look-up of the id as [`Stacks::spent`] does, and time logarithmic in the number of authors.
     pub fn did(&mut self, author: Author, id: u64, seq: u64)
         requires ready { self.old.ready ≡ Some author }
         requires unspent { spent self.old.deeds author id ≡ None }
@@ -72,20 +95,23 @@ impl<A: Allocator> Stacks<A> {
         ensures { self.new ≡ record { deeds = self.old.deeds ++ Did author id seq ∷ []; ready = None } }
     {
         self.ids.spend(Spending { id, author }, Work::Did { seq });
+        self.lists.did(&author, seq);
         self.ready = None;
     }
 
-    /// Enters that an author, who is ready, undid the entry of the number `of` under an id, by the entry of the number
-    /// `seq`. It takes no memory, and one look-up.
+    /// Enters that an author, who is ready, undid its action of the number `of`, which stands, under an id, by the entry of
+    /// the number `seq`. It takes what [`Stacks::did`] takes, and time logarithmic in how many of the author's actions stand;
+    /// the numbers of those after `of` are moved. It takes no memory.
     pub fn undid(&mut self, author: Author, id: u64, of: u64, seq: u64)
         requires ready { self.old.ready ≡ Some author }
         requires unspent { spent self.old.deeds author id ≡ None }
-        requires stands { Contains (standing self.old.deeds author) of }
+        requires stands { is_standing self.old.deeds author of ≡ true }
         requires last { IsAboveAll seq self.old.deeds }
         ensures { self.new ≡ record { deeds = self.old.deeds ++ Undid author id of seq ∷ []; ready = None } }
     {
         self.ids
             .spend(Spending { id, author }, Work::Undid { of, seq });
+        self.lists.undid(&author, of);
         self.ready = None;
     }
 }

@@ -11,8 +11,8 @@ returns-in-Some-clause-same g c =
     let found : usable_at lists author ≡ Some c.in-Some.stacks.now = sym c.in-Some.ensures.value in
     let at = ((c.get_mut.follows.holds w).3 (ap is_some found)).0 in
     rw (← c.self.view_is) (same_stacks lists (c.get_mut.follows.lender w).entries author w at
-        (c.make_room.ensures.standing ∙ ap standing_of (sym found))
-        (c.make_room.ensures.redo ∙ ap redo_of (sym found)))
+    (c.make_room.ensures.standing ∙ ap standing_of (sym found))
+    (c.make_room.ensures.redo ∙ ap redo_of (sym found)))
 
 pub returns-in-Some-clause-kept : goal.returns-in-Some-clause-kept
 returns-in-Some-clause-kept g c =
@@ -22,7 +22,7 @@ returns-in-Some-clause-kept g c =
     let found : usable_at lists author ≡ Some c.in-Some.stacks.now = sym c.in-Some.ensures.value in
     let at = ((c.get_mut.follows.holds w).3 (ap is_some found)).0 in
     rw (← c.self.view_is) (keeps_rooms lists (c.get_mut.follows.lender w).entries author w at
-        (λ had. c.make_room.ensures.kept (ap has_room_of (sym found) ∙ had)))
+    (λ had. c.make_room.ensures.kept (ap has_room_of (sym found) ∙ had)))
 
 pub returns-in_ok-insert-in-None-clause-same : goal.returns-in_ok-insert-in-None-clause-same
 returns-in_ok-insert-in-None-clause-same g c =
@@ -32,5 +32,5 @@ returns-in_ok-insert-in-None-clause-same g c =
     let before : usable_at lists author ≡ None = sym c.in-None.ensures.value in
     let updates = rw c.get_mut.follows.holds-at-none at c.in_ok-insert-in-None.ensures.updates in
     rw (← c.self.view_is) (same_stacks lists c.insert.new.self.entries author w updates.0
-        (c.make_room-in-None.ensures.standing ∙ c.in_ok-stacks-in-None.ensures.0 ∙ sym (ap standing_of before))
-        (c.make_room-in-None.ensures.redo ∙ c.in_ok-stacks-in-None.ensures.1 ∙ sym (ap redo_of before)))
+    (c.make_room-in-None.ensures.standing ∙ c.in_ok-stacks-in-None.ensures.0 ∙ sym (ap standing_of before))
+    (c.make_room-in-None.ensures.redo ∙ c.in_ok-stacks-in-None.ensures.1 ∙ sym (ap redo_of before)))

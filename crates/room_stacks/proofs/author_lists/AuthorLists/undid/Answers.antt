@@ -11,5 +11,5 @@ returns g c =
     let found : usable_at lists author ≡ Some c.in-Some.stacks.now = sym c.in-Some.ensures.value in
     let at = ((c.get_mut.follows.holds w).3 (ap is_some found)).0 in
     rw (← c.self.view_is) (rewritten lists (c.get_mut.follows.lender w).entries author w at _ _
-        (c.undid.ensures.standing ∙ ap (λ (o : _). without c.args.of (standing_of o)) (sym found))
-        (c.undid.ensures.redo ∙ ap (λ (o : _). redo_of o ++ c.args.of ∷ []) (sym found)))
+    (c.undid.ensures.standing ∙ ap (λ (o : _). without c.args.of (standing_of o)) (sym found))
+    (c.undid.ensures.redo ∙ ap (λ (o : _). redo_of o ++ c.args.of ∷ []) (sym found)))
