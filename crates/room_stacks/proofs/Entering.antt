@@ -1,5 +1,5 @@
 -- Deeds entered into what the code keeps.
-use Rattle.std.proofs.Common.{◌≡◌, ◌≤◌, Bool, true, false, cond, ℕ, List, [], ◌∷◌, ◌++◌, map, Option, Some, None, refl, sym, ap, subst, ◌∙◌, arith}
+use Rattle.std.proofs.Common.{◌≡◌, Bool, true, false, cond, ℕ, List, [], ◌∷◌, ◌++◌, map, Option, None, refl, sym, ap, subst, ◌∙◌}
 use Rattle.std.proofs.lemmas.List.{map-append}
 use Rattle.room_stacks.specs.declared.author.Author.{Author}
 use Rattle.room_stacks.specs.declared.deed.Deed.{Deed}
@@ -7,11 +7,11 @@ use Rattle.room_stacks.specs.declared.deed.Deed.TheVariants.{Did, Undid}
 use Rattle.room_stacks.specs.SameAuthors.{is_same_author}
 use Rattle.room_stacks.specs.Stacks.{number, IsAboveAll, standing, is_standing, redo, works}
 use Rattle.room_stacks.specs.Inner.SpentIds.{Spent}
-use Rattle.room_stacks.specs.Inner.Lists.{Lists, IsRising, without, standing_at, redo_at, SameStacks, KeepsRooms, IsRewritten}
-use Rattle.room_stacks.specs.Inner.Kept.{IsReady, IsKept}
-use Rattle.room_stacks.proofs.Rewriting.{one_author}
-use Rattle.room_stacks.proofs.Rising.{IsRising-push, IsRising-filter, IsRising-passing, below_numbers}
-use Rattle.room_stacks.proofs.OneMore.{is_work_of, stands, standing-did, standing-undid, redo-push, none_of_another}
+use Rattle.room_stacks.specs.Inner.Lists.{Lists, IsRising, without, standing_at, redo_at, IsRewritten}
+use Rattle.room_stacks.specs.Inner.Kept.{IsKept}
+use Rattle.room_stacks.specs.Facts.SameAuthors.{one_author}
+use Rattle.room_stacks.specs.Facts.Rising.{IsRising-push, IsRising-filter, IsRising-passing, below_numbers}
+use Rattle.room_stacks.specs.Facts.OneMore.{is_work_of, stands, standing-did, standing-undid, redo-push, none_of_another}
 
 -- what stands for an author rises
 pub standing_rises : (ds : List Deed) (q : Author) → IsRising (map number ds) → IsRising (standing ds q)
@@ -22,23 +22,6 @@ rises_more ds after d is h last =
     subst IsRising (sym (ap (map number) is ∙ map-append number ds (d ∷ []))) (IsRising-push (map number ds) (number d) h (below_numbers (number d) ds last))
 
 module _ (who : Option Author) (ids ids_after : Spent) (lists lists_after : Lists) (kept : IsKept who ids lists) where
-  -- room was made, and who is ready has it
-  pub kept_ready : (now : Option Author) → ids_after.deeds ≡ ids.deeds → SameStacks lists lists_after → IsReady now ids_after lists_after → IsKept now ids_after lists_after
-  kept_ready now same stacks room = record {
-    rising = subst (λ (ds : List Deed). IsRising (map number ds)) (sym same) kept.rising;
-    standing_kept = λ q. stacks.standing q ∙ kept.standing_kept q ∙ ap (λ (ds : List Deed). standing ds q) (sym same);
-    redo_kept = λ q. stacks.redo q ∙ kept.redo_kept q ∙ ap (λ (ds : List Deed). redo ds q) (sym same);
-    room = room;
-  }
-
-  -- room that was made stays
-  pub still_ready : ids.room ≤ ids_after.room → KeepsRooms lists lists_after → IsReady who ids_after lists_after
-  still_ready more rooms = by who kept.room
-    where
-      by : (o : Option Author) → IsReady o ids lists → IsReady o ids_after lists_after
-      by None room = room
-      by (Some author) room = (omega (arith, room.0, more), rooms author room.1)
-
   module _ (author : Author) (id seq : ℕ) (last : IsAboveAll seq ids.deeds) where
     pub kept_did : ids_after.deeds ≡ ids.deeds ++ Did author id seq ∷ [] → IsRewritten lists lists_after author (standing_at lists author ++ seq ∷ []) [] → IsKept None ids_after lists_after
     kept_did is written = record {

@@ -1,15 +1,12 @@
 -- Stacks after those of one author were written anew.
 use Rattle.std.proofs.Common.{◌≡◌, Bool, true, false, cond, ℕ, List, Option, Some, refl, sym, ap, ◌∙◌}
 use Rattle.std.specs.BTreeMap.{is_at}
-use Rattle.std.specs.Cmp.Lexicographic.{slice_cmp, texts_ties, bytes_decides, nat_list_eq_equiv}
+use Rattle.std.specs.Cmp.Lexicographic.{slice_cmp, texts_ties, nat_list_eq_equiv}
 use Rattle.std.specs.Ordering.{nat_cmp}
 use Rattle.room_stacks.specs.declared.author.Author.{Author}
 use Rattle.room_stacks.specs.SameAuthors.{is_same_author}
+use Rattle.room_stacks.specs.Facts.SameAuthors.{one_author}
 use Rattle.room_stacks.specs.Inner.Lists.{Usable, Lists, usable_at, standing_of, redo_of, has_room_of, standing_at, redo_at, has_room_at, SameStacks, KeepsRooms, IsRewritten}
-
--- two authors of one name are one
-pub one_author : (q author : Author) → is_same_author q author ≡ true → q ≡ author
-one_author q author = (bytes_decides q author).0
 
 turned : (q author : Author) → is_same_author author q ≡ is_same_author q author
 turned q author = nat_list_eq_equiv.symm author q

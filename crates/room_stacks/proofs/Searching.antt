@@ -1,13 +1,14 @@
 -- A binary search among rising numbers finds where one stands, or that it stands nowhere.
 use Prim.Native.Nat.{zero}
-use Rattle.std.proofs.Common.{◌≡◌, ℕ, suc, ◌<◌, ◌≤◌, Bool, true, false, not, cond, List, [], ◌∷◌, length, get_or, Result, Ok, Err, nat_eq, nat_lt, refl, sym, ap, ◌∙◌, arith}
+use Rattle.std.proofs.Common.{◌≡◌, ℕ, suc, ◌<◌, ◌≤◌, Bool, true, false, List, [], ◌∷◌, length, get_or, Result, Ok, Err, nat_eq, nat_lt, refl, sym, ap, ◌∙◌, arith}
 use Rattle.std.proofs.lemmas.Bool.Decides.{nat_tests}
-use Rattle.std.proofs.lemmas.List.Elements.{All-head, All-tail, All-weaker, All-from_get_or}
+use Rattle.std.proofs.lemmas.List.Elements.{All-weaker, All-from_get_or}
 use Rattle.std.proofs.lemmas.List.Sorted.{searched}
-use Rattle.std.specs.List.{All, remove}
+use Rattle.std.specs.List.{remove}
 use Rattle.std.specs.List.Sorted.{IsBinarySearchResult}
 use Rattle.std.specs.Ordering.{nat_cmp}
 use Rattle.room_stacks.specs.Inner.Lists.{without, IsRising}
+use Rattle.room_stacks.specs.Facts.Rising.{keeps, drops, without_none}
 
 abbrev pub found_at : ℕ → Result ℕ ℕ
 found_at i = Ok i
@@ -38,24 +39,13 @@ nondecreasing (y ∷ ys) h (suc i) zero up within = absurd (omega arith)
 nondecreasing (y ∷ ys) h (suc i) (suc j) up within = nondecreasing ys h.1 i j (omega arith) (omega arith)
 
 module _ (x : ℕ) where
-  keeps : (y : ℕ) (ys : List ℕ) → nat_eq y x ≡ false → without x (y ∷ ys) ≡ y ∷ without x ys
-  keeps y ys e = ap (λ b. cond (not b) (y ∷ without x ys) (without x ys)) e
-
-  drops : (y : ℕ) (ys : List ℕ) → nat_eq y x ≡ true → without x (y ∷ ys) ≡ without x ys
-  drops y ys e = ap (λ b. cond (not b) (y ∷ without x ys) (without x ys)) e
-
-  pub without_none : (ys : List ℕ) → All (λ y. nat_eq y x ≡ false) ys → without x ys ≡ ys
-  without_none [] h = refl
-  without_none (y ∷ ys) h =
-      keeps y ys (All-head (λ z. nat_eq z x ≡ false) y ys h) ∙ ap (λ zs. y ∷ zs) (without_none ys (All-tail (λ z. nat_eq z x ≡ false) y ys h))
-
   taken : (xs : List ℕ) (i : ℕ) → IsRising xs → i < length xs → get_or xs i 0 ≡ x → remove xs i ≡ without x xs
   taken [] i h within here = absurd (omega arith)
   taken (y ∷ ys) zero h within here =
-      sym (drops y ys (equal y x here) ∙ without_none ys (All-weaker (λ z. y < z) (λ z. nat_eq z x ≡ false) (λ z more. above z x (omega arith)) ys h.0))
+      sym (drops x y ys (equal y x here) ∙ without_none x ys (All-weaker (λ z. y < z) (λ z. nat_eq z x ≡ false) (λ z more. above z x (omega arith)) ys h.0))
   taken (y ∷ ys) (suc i) h within here =
       let more : y < get_or ys i 0 = h.0 i 0 (omega arith) in
-      ap (λ zs. y ∷ zs) (taken ys i h.1 (omega arith) here) ∙ sym (keeps y ys (below y x (omega arith)))
+      ap (λ zs. y ∷ zs) (taken ys i h.1 (omega arith) here) ∙ sym (keeps x y ys (below y x (omega arith)))
 
   module _ (xs : List ℕ) (h : IsRising xs) where
     pub out_where_found : (i : ℕ) → IsBinarySearchResult (λ y. nat_cmp y x) xs (found_at i) → remove xs i ≡ without x xs
@@ -73,4 +63,4 @@ module _ (x : ℕ) where
     pub out_in_gap : (i : ℕ) → IsBinarySearchResult (λ y. nat_cmp y x) xs (gap_at i) → xs ≡ without x xs
     out_in_gap i gap =
         let tells = searched xs x (gap_at i) gap (nondecreasing xs h) in
-        sym (without_none xs (All-from_get_or (λ y. nat_eq y x ≡ false) xs 0 (differs i tells.1 tells.2)))
+        sym (without_none x xs (All-from_get_or (λ y. nat_eq y x ≡ false) xs 0 (differs i tells.1 tells.2)))

@@ -1,4 +1,6 @@
 pub mod Authors
+pub mod Facts
 pub mod Inner
+pub mod Numbered
 pub mod SameAuthors
 pub mod Stacks

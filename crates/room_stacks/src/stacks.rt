@@ -1,5 +1,6 @@
 //! What each author of a room may still use.
 ghost use Rattle.std.specs.Prelude.{◌≡◌, ◌++◌, [], ◌∷◌, true, None, Some, OnOk, OnErr};
+ghost use Rattle.std.specs.List.Sorted.{IsStrictlyIncreasing};
 ghost use Rattle.room_stacks.specs.declared.deed.Deed.TheVariants.{Did, Undid};
 ghost use Rattle.room_stacks.specs.Stacks.{IsAboveAll, spent, standing, is_standing, redo};
 
@@ -57,7 +58,8 @@ impl<A: Allocator> Stacks<A> {
 
     /// The numbers of an author's actions that nobody undid, rising, in time logarithmic in the number of authors.
     pub fn standing(&self, author: &Author) -> &[u64]
-        ensures { result.now ≡ standing self.now.deeds author.now }
+        ensures numbers { result.now ≡ standing self.now.deeds author.now }
+        ensures rising { IsStrictlyIncreasing result.now }
     {
         self.lists.standing(author)
     }

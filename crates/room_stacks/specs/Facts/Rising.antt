@@ -1,11 +1,13 @@
 -- Rising numbers, and those of the deeds that pass a test.
-use Rattle.std.proofs.Common.{◌≡◌, ◌||◌, ◌<◌, ℕ, Bool, true, false, cond, List, [], ◌∷◌, ◌++◌, map, nat_eq, refl, arith}
+use Prim.Native.Nat.{zero, suc}
+use Rattle.std.proofs.Common.{◌≡◌, ◌||◌, ◌<◌, ℕ, Bool, true, false, cond, List, [], ◌∷◌, ◌++◌, map, nat_eq, not, get_or, ◌+◌, refl, ap, subst, ◌∙◌, arith}
 use Rattle.std.proofs.lemmas.Bool.Decides.{nat_tests}
 use Rattle.std.proofs.lemmas.List.Elements.{All-head, All-tail, All-nil, All-cons, All-push, All-filter, All-map, All-weaker}
 use Rattle.std.specs.List.{All, filter, list_any}
+use Rattle.std.specs.List.Sorted.{IsStrictlyIncreasing}
 use Rattle.room_stacks.specs.declared.deed.Deed.{Deed}
 use Rattle.room_stacks.specs.Stacks.{number, IsAboveAll}
-use Rattle.room_stacks.specs.Inner.Lists.{IsRising}
+use Rattle.room_stacks.specs.Inner.Lists.{IsRising, without}
 
 pub IsRising-push : (xs : List ℕ) (n : ℕ) → IsRising xs → All (λ m. m < n) xs → IsRising (xs ++ n ∷ [])
 IsRising-push [] n h low = (All-nil (λ m. n < m), tt)
@@ -18,6 +20,27 @@ IsRising-filter p (x ∷ xs) h = by (p x) (IsRising-filter p xs h.1)
     by : (b : Bool) → IsRising (filter p xs) → IsRising (cond b (x ∷ filter p xs) (filter p xs))
     by true rest = (All-filter p (λ m. x < m) xs h.0, rest)
     by false rest = rest
+
+-- each is below the next
+pub increasing : (xs : List ℕ) → IsRising xs → IsStrictlyIncreasing xs
+increasing [] h k within = absurd (omega arith)
+increasing (x ∷ xs) h zero within = h.0 0 0 (omega arith)
+increasing (x ∷ xs) h (suc k) within =
+    let same : suc (k + 1) ≡ suc k + 1 = omega arith in
+    subst (λ j. get_or xs k 0 < get_or (x ∷ xs) j 0) same (increasing xs h.1 k (omega arith))
+
+-- the numbers but one, which is not among them
+module _ (x : ℕ) where
+  pub keeps : (y : ℕ) (ys : List ℕ) → nat_eq y x ≡ false → without x (y ∷ ys) ≡ y ∷ without x ys
+  keeps y ys e = ap (λ b. cond (not b) (y ∷ without x ys) (without x ys)) e
+
+  pub drops : (y : ℕ) (ys : List ℕ) → nat_eq y x ≡ true → without x (y ∷ ys) ≡ without x ys
+  drops y ys e = ap (λ b. cond (not b) (y ∷ without x ys) (without x ys)) e
+
+  pub without_none : (ys : List ℕ) → All (λ y. nat_eq y x ≡ false) ys → without x ys ≡ ys
+  without_none [] h = refl
+  without_none (y ∷ ys) h =
+      keeps y ys (All-head (λ z. nat_eq z x ≡ false) y ys h) ∙ ap (λ zs. y ∷ zs) (without_none ys (All-tail (λ z. nat_eq z x ≡ false) y ys h))
 
 -- what holds of the numbers of all deeds holds of those of the deeds that pass
 pub All-passing : (P : ℕ → Type 0) (p : Deed → Bool) (ds : List Deed) → All P (map number ds) → All P (map number (filter p ds))

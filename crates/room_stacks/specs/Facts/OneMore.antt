@@ -13,9 +13,8 @@ use Rattle.room_stacks.specs.declared.deed.Deed.TheVariants.{Did, Undid}
 use Rattle.room_stacks.specs.SameAuthors.{is_same_author}
 use Rattle.room_stacks.specs.Stacks.{doer, number, is_work, undoes, IsAboveAll, works, standing, is_standing, redo, redo_after}
 use Rattle.room_stacks.specs.Inner.Lists.{IsRising, without}
-use Rattle.room_stacks.proofs.Rising.{below_numbers, All-passing, among_filter, none_of_others}
-use Rattle.room_stacks.proofs.Rewriting.{one_author}
-use Rattle.room_stacks.proofs.Searching.{without_none}
+use Rattle.room_stacks.specs.Facts.Rising.{below_numbers, All-passing, among_filter, none_of_others, without_none}
+use Rattle.room_stacks.specs.Facts.SameAuthors.{one_author}
 
 -- the author's deed that did an action
 abbrev pub is_work_of : Author → Deed → Bool
@@ -29,11 +28,11 @@ or_false : (b : Bool) → (b || false) ≡ b
 or_false true = refl
 or_false false = refl
 
-and_false : (b : Bool) → (b && false) ≡ false
+pub and_false : (b : Bool) → (b && false) ≡ false
 and_false true = refl
 and_false false = refl
 
-and_true : (b : Bool) → (b && true) ≡ b
+pub and_true : (b : Bool) → (b && true) ≡ b
 and_true true = refl
 and_true false = refl
 
@@ -41,13 +40,13 @@ second : (a b : Bool) → (a && b) ≡ true → b ≡ true
 second true b h = h
 second false b h = absurd (cc)
 
-is_less : (a b : ℕ) → a < b → nat_lt a b ≡ true
+pub is_less : (a b : ℕ) → a < b → nat_lt a b ≡ true
 is_less a b h = grind (arith, nat_tests)
 
-not_less : (a b : ℕ) → b < a → nat_lt a b ≡ false
+pub not_less : (a b : ℕ) → b < a → nat_lt a b ≡ false
 not_less a b h = grind (arith, nat_tests)
 
-agree_on : (p r : ℕ → Bool) (xs : List ℕ) → All (λ x. p x ≡ r x) xs → filter p xs ≡ filter r xs
+pub agree_on : (p r : ℕ → Bool) (xs : List ℕ) → All (λ x. p x ≡ r x) xs → filter p xs ≡ filter r xs
 agree_on p r [] h = refl
 agree_on p r (x ∷ xs) h =
     ap (λ b. cond b (x ∷ filter p xs) (filter p xs)) (All-head (λ y. p y ≡ r y) x xs h)

@@ -1,0 +1,11 @@
+use Rattle.std.proofs.Common.{subst, sym, ◌∙◌}
+use Rattle.std.specs.List.Sorted.{IsStrictlyIncreasing}
+use Rattle.room_stacks.proofs.Entering.{standing_rises}
+use Rattle.room_stacks.specs.Facts.Rising.{increasing}
+use Rattle.room_stacks.proofs.stacks.Stacks.standing.Goals as goal
+
+pub returns-clause-rising : goal.returns-clause-rising
+returns-clause-rising g c =
+    let ids = c.self.inside.ids in
+    subst IsStrictlyIncreasing (sym (c.standing.ensures ∙ c.self.invariant.standing_kept c.args.author.now))
+    (increasing _ (standing_rises ids.deeds c.args.author.now c.self.invariant.rising))
