@@ -1,14 +1,20 @@
 -- Deeds of a journal's entries, which are numbered in their order.
 use Prim.Native.Nat.{suc}
-use Rattle.std.proofs.Common.{◌≡◌, ◌+◌, ◌<◌, ℕ, Bool, true, false, not, cond, List, [], ◌∷◌, ◌++◌, length, Option, Some, None, nat_lt, refl, sym, ap, subst, ◌∙◌, arith}
+use Rattle.std.proofs.Common.{◌≡◌, ◌+◌, ◌<◌, ◌≤◌, ◌&&◌, ◌||◌, ℕ, Bool, true, false, not, cond, List, [], ◌∷◌, ◌++◌, length, map, Option, Some, None, nat_lt, refl, sym, ap, subst, ◌∙◌, arith}
 use Rattle.std.proofs.lemmas.Bool.Decides.{nat_tests}
-use Rattle.std.proofs.lemmas.List.Elements.{All-cons, All-nil}
-use Rattle.std.specs.List.{find, position, position_or_len}
+use Rattle.std.proofs.lemmas.List.Elements.{All-cons, All-nil, All-weaker}
+use Rattle.std.specs.List.{All, filter, find, fold, list_any, position, position_or_len}
 use Rattle.std.specs.Option.{option_map}
 use Rattle.room_stacks.specs.declared.author.Author.{Author}
 use Rattle.room_stacks.specs.declared.deed.Deed.{Deed}
-use Rattle.room_stacks.specs.Stacks.{number, spends, spent, IsAboveAll}
+use Rattle.room_stacks.specs.SameAuthors.{is_same_author}
+use Rattle.room_stacks.specs.Stacks.{doer, number, spends, spent, IsAboveAll, undoes, works, standing, redo, redo_after}
 use Rattle.room_stacks.specs.Numbered.{deeds_from}
+use Rattle.room_stacks.specs.Facts.Rising.{All-passing}
+use Rattle.room_stacks.specs.Facts.OneMore.{is_work_of, stands, agree_on, and_false, and_true, is_less}
+
+not_below : (a b : ℕ) → b ≤ a → nat_lt a b ≡ false
+not_below a b h = grind (arith, nat_tests)
 
 zero_less : (n : ℕ) → nat_lt 0 (suc n) ≡ true
 zero_less n = grind (arith, nat_tests)
@@ -74,3 +80,78 @@ module _ {E : Type 0} (deed : ℕ → E → Deed) (is_number : (n : ℕ) (e : E)
 
     pub spent_entries : (es : List E) → spent (deeds_from deed 1 es) author id ≡ option_map (λ i. i + 1) (position test es)
     spent_entries es = found 1 es
+
+  -- the numbers of later entries are higher
+  numbers_from : (n : ℕ) (es : List E) → All (λ m. n ≤ m) (map number (deeds_from deed n es))
+  numbers_from n [] = All-nil (λ m. n ≤ m)
+  numbers_from n (e ∷ es) =
+      let first : number (deed n e) ≡ n = is_number n e in
+      All-cons (λ m. n ≤ m) (number (deed n e)) (map number (deeds_from deed (n + 1) es)) (omega (arith, first))
+      (All-weaker (λ m. n + 1 ≤ m) (λ m. n ≤ m) (λ m h. omega (arith, h)) (map number (deeds_from deed (n + 1) es)) (numbers_from (n + 1) es))
+
+  -- `is_own` says that an entry did an action of the author, and `undid` that it undid a number
+  module _ (author : Author) (is_own : E → Bool) (own_is : (n : ℕ) (e : E) → is_work_of author (deed n e) ≡ is_own e)
+      (undid : ℕ → E → Bool) (undid_is : (s n : ℕ) (e : E) → undoes s (deed n e) ≡ (undid s e && nat_lt s n)) where
+    -- of the entries numbered from n on, the author's actions that no later entry undid
+    abbrev pub own_from : ℕ → List E → List ℕ
+    own_from n [] = []
+    own_from n (e ∷ later) = cond (is_own e && not (list_any (undid n) later)) (n ∷ own_from (n + 1) later) (own_from (n + 1) later)
+
+    -- later entries undid just what they say
+    undone_later : (s n : ℕ) (es : List E) → s < n → list_any (undoes s) (deeds_from deed n es) ≡ list_any (undid s) es
+    undone_later s n [] low = refl
+    undone_later s n (e ∷ es) low =
+        ap (λ b. b || list_any (undoes s) (deeds_from deed (n + 1) es)) (undid_is s n e ∙ ap (λ b. undid s e && b) (is_less s n low) ∙ and_true (undid s e))
+        ∙ ap (λ b. undid s e || b) (undone_later s (n + 1) es (omega arith))
+
+    -- an entry undid nothing from its own number on
+    none_of_later : (s n : ℕ) (e : E) → n ≤ s → undoes s (deed n e) ≡ false
+    none_of_later s n e high = undid_is s n e ∙ ap (λ b. undid s e && b) (not_below s n high) ∙ and_false (undid s e)
+
+    pub standing_entries : (n : ℕ) (es : List E) → standing (deeds_from deed n es) author ≡ own_from n es
+    standing_entries n [] = refl
+    standing_entries n (e ∷ es) =
+        ap (λ b. filter (stands (deeds_from deed n (e ∷ es))) (map number (cond b (deed n e ∷ filter (is_work_of author) (deeds_from deed (n + 1) es)) (filter (is_work_of author) (deeds_from deed (n + 1) es))))) (own_is n e)
+        ∙ by (is_own e) (standing_entries (n + 1) es)
+      where
+        same : (s : ℕ) → n + 1 ≤ s → stands (deed n e ∷ deeds_from deed (n + 1) es) s ≡ stands (deeds_from deed (n + 1) es) s
+        same s high = ap (λ b. not (b || list_any (undoes s) (deeds_from deed (n + 1) es))) (none_of_later s n e (omega arith))
+
+        rest : filter (stands (deed n e ∷ deeds_from deed (n + 1) es)) (works (deeds_from deed (n + 1) es) author) ≡ standing (deeds_from deed (n + 1) es) author
+        rest =
+            agree_on (stands (deed n e ∷ deeds_from deed (n + 1) es)) (stands (deeds_from deed (n + 1) es)) (works (deeds_from deed (n + 1) es) author)
+            (All-weaker (λ s. n + 1 ≤ s) (λ s. stands (deed n e ∷ deeds_from deed (n + 1) es) s ≡ stands (deeds_from deed (n + 1) es) s) same (works (deeds_from deed (n + 1) es) author)
+            (All-passing (λ s. n + 1 ≤ s) (is_work_of author) (deeds_from deed (n + 1) es) (numbers_from (n + 1) es)))
+
+        first : stands (deed n e ∷ deeds_from deed (n + 1) es) (number (deed n e)) ≡ not (list_any (undid n) es)
+        first =
+            ap (stands (deed n e ∷ deeds_from deed (n + 1) es)) (is_number n e)
+            ∙ ap (λ b. not (b || list_any (undoes n) (deeds_from deed (n + 1) es))) (none_of_later n n e (omega arith))
+            ∙ ap not (undone_later n (n + 1) es (omega arith))
+
+        by : (b : Bool) → standing (deeds_from deed (n + 1) es) author ≡ own_from (n + 1) es
+            → filter (stands (deed n e ∷ deeds_from deed (n + 1) es)) (map number (cond b (deed n e ∷ filter (is_work_of author) (deeds_from deed (n + 1) es)) (filter (is_work_of author) (deeds_from deed (n + 1) es))))
+            ≡ cond (b && not (list_any (undid n) es)) (n ∷ own_from (n + 1) es) (own_from (n + 1) es)
+        by false more = rest ∙ more
+        by true more =
+            ap (λ c. cond c (number (deed n e) ∷ filter (stands (deed n e ∷ deeds_from deed (n + 1) es)) (works (deeds_from deed (n + 1) es) author)) (filter (stands (deed n e ∷ deeds_from deed (n + 1) es)) (works (deeds_from deed (n + 1) es) author))) first
+            ∙ ap (λ ns. cond (not (list_any (undid n) es)) (number (deed n e) ∷ ns) ns) (rest ∙ more)
+            ∙ ap (λ k. cond (not (list_any (undid n) es)) (k ∷ own_from (n + 1) es) (own_from (n + 1) es)) (is_number n e)
+
+  -- an author's stack of what it can redo, by a step for each of its own entries
+  pub redo_entries : (author : Author) (own : E → Bool) → ((n : ℕ) (e : E) → is_same_author author (doer (deed n e)) ≡ own e)
+      → (step : List ℕ → E → List ℕ) → ((stack : List ℕ) (n : ℕ) (e : E) → redo_after stack (deed n e) ≡ step stack e)
+      → (n : ℕ) (es : List E) → redo (deeds_from deed n es) author ≡ fold step [] (filter own es)
+  redo_entries author own own_is step step_is n es = from [] n es
+    where
+      from : (stack : List ℕ) (n : ℕ) (es : List E) → fold redo_after stack (filter (λ d. is_same_author author (doer d)) (deeds_from deed n es)) ≡ fold step stack (filter own es)
+      from stack n [] = refl
+      from stack n (e ∷ es) =
+          ap (λ b. fold redo_after stack (cond b (deed n e ∷ filter (λ d. is_same_author author (doer d)) (deeds_from deed (n + 1) es)) (filter (λ d. is_same_author author (doer d)) (deeds_from deed (n + 1) es)))) (own_is n e)
+          ∙ by (own e) (λ k. from k (n + 1) es)
+        where
+          by : (b : Bool) → ((k : List ℕ) → fold redo_after k (filter (λ d. is_same_author author (doer d)) (deeds_from deed (n + 1) es)) ≡ fold step k (filter own es))
+              → fold redo_after stack (cond b (deed n e ∷ filter (λ d. is_same_author author (doer d)) (deeds_from deed (n + 1) es)) (filter (λ d. is_same_author author (doer d)) (deeds_from deed (n + 1) es)))
+              ≡ fold step stack (cond b (e ∷ filter own es) (filter own es))
+          by true more = more (redo_after stack (deed n e)) ∙ ap (λ k. fold step k (filter own es)) (step_is stack n e)
+          by false more = more stack
