@@ -1,6 +1,6 @@
 -- Deeds of a journal's entries, which are numbered in their order.
 use Prim.Native.Nat.{suc}
-use Rattle.std.proofs.Common.{◌≡◌, ◌+◌, ◌<◌, ◌≤◌, ◌&&◌, ◌||◌, ℕ, Bool, true, false, not, cond, List, [], ◌∷◌, ◌++◌, length, map, Option, Some, None, nat_lt, refl, sym, ap, subst, ◌∙◌, arith}
+use Rattle.std.proofs.Common.{◌≡◌, ◌+◌, ◌<◌, ◌≤◌, ◌&&◌, ◌||◌, ℕ, Bool, true, false, not, cond, List, [], ◌∷◌, ◌++◌, length, map, Option, Some, None, nat_lt, slice_get, refl, sym, ap, subst, ◌∙◌, arith}
 use Rattle.std.proofs.lemmas.Bool.Decides.{nat_tests}
 use Rattle.std.proofs.lemmas.List.Elements.{All-cons, All-nil, All-weaker}
 use Rattle.std.specs.List.{All, filter, find, fold, list_any, position, position_or_len}
@@ -9,7 +9,7 @@ use Rattle.room_stacks.specs.declared.author.Author.{Author}
 use Rattle.room_stacks.specs.declared.deed.Deed.{Deed}
 use Rattle.room_stacks.specs.SameAuthors.{is_same_author}
 use Rattle.room_stacks.specs.Stacks.{doer, number, spends, spent, IsAboveAll, undoes, works, standing, redo, redo_after}
-use Rattle.room_stacks.specs.Numbered.{deeds_from}
+use Rattle.room_stacks.specs.Numbered.{deeds_from, kept_from}
 use Rattle.room_stacks.specs.Facts.Rising.{All-passing}
 use Rattle.room_stacks.specs.Facts.OneMore.{is_work_of, stands, agree_on, and_false, and_true, is_less}
 
@@ -45,19 +45,19 @@ position-cons p x xs = by (p x)
 
 module _ {E : Type 0} (deed : ℕ → E → Deed) (is_number : (n : ℕ) (e : E) → number (deed n e) ≡ n) where
   -- one more entry is one more deed
-  pub deeds_from-push : (n : ℕ) (es : List E) (e : E) → deeds_from deed n (es ++ e ∷ []) ≡ deeds_from deed n es ++ deed (n + length es) e ∷ []
+  pub deeds_from-push : (n : ℕ) (es : List E) (e : E) → deeds_from deed n (es ++ e ∷ []) ≡ deeds_from deed n es ++ deed (length es + n) e ∷ []
   deeds_from-push n [] e = ap (λ k. deed k e ∷ []) (omega arith)
   deeds_from-push n (x ∷ es) e =
-      let same : n + 1 + length es ≡ n + length (x ∷ es) = omega arith in
+      let same : length es + (n + 1) ≡ length (x ∷ es) + n = omega arith in
       ap (λ ds. deed n x ∷ ds) (deeds_from-push (n + 1) es e ∙ ap (λ k. deeds_from deed (n + 1) es ++ deed k e ∷ []) same)
 
   -- the next number is above those of all entries
-  pub above_entries : (n : ℕ) (es : List E) → IsAboveAll (n + length es) (deeds_from deed n es)
-  above_entries n [] = All-nil (λ d. number d < n + 0)
+  pub above_entries : (n : ℕ) (es : List E) → IsAboveAll (length es + n) (deeds_from deed n es)
+  above_entries n [] = All-nil (λ d. number d < 0 + n)
   above_entries n (e ∷ es) =
-      let same : n + 1 + length es ≡ n + length (e ∷ es) = omega arith in
+      let same : length es + (n + 1) ≡ length (e ∷ es) + n = omega arith in
       let first : number (deed n e) ≡ n = is_number n e in
-      All-cons (λ d. number d < n + length (e ∷ es)) (deed n e) (deeds_from deed (n + 1) es) (omega (arith, first))
+      All-cons (λ d. number d < length (e ∷ es) + n) (deed n e) (deeds_from deed (n + 1) es) (omega (arith, first))
       (subst (λ k. IsAboveAll k (deeds_from deed (n + 1) es)) same (above_entries (n + 1) es))
 
   -- an id is spent by the first entry that spent it
@@ -92,11 +92,6 @@ module _ {E : Type 0} (deed : ℕ → E → Deed) (is_number : (n : ℕ) (e : E)
   -- `is_own` says that an entry did an action of the author, and `undid` that it undid a number
   module _ (author : Author) (is_own : E → Bool) (own_is : (n : ℕ) (e : E) → is_work_of author (deed n e) ≡ is_own e)
       (undid : ℕ → E → Bool) (undid_is : (s n : ℕ) (e : E) → undoes s (deed n e) ≡ (undid s e && nat_lt s n)) where
-    -- of the entries numbered from n on, the author's actions that no later entry undid
-    abbrev pub own_from : ℕ → List E → List ℕ
-    own_from n [] = []
-    own_from n (e ∷ later) = cond (is_own e && not (list_any (undid n) later)) (n ∷ own_from (n + 1) later) (own_from (n + 1) later)
-
     -- later entries undid just what they say
     undone_later : (s n : ℕ) (es : List E) → s < n → list_any (undoes s) (deeds_from deed n es) ≡ list_any (undid s) es
     undone_later s n [] low = refl
@@ -108,7 +103,7 @@ module _ {E : Type 0} (deed : ℕ → E → Deed) (is_number : (n : ℕ) (e : E)
     none_of_later : (s n : ℕ) (e : E) → n ≤ s → undoes s (deed n e) ≡ false
     none_of_later s n e high = undid_is s n e ∙ ap (λ b. undid s e && b) (not_below s n high) ∙ and_false (undid s e)
 
-    pub standing_entries : (n : ℕ) (es : List E) → standing (deeds_from deed n es) author ≡ own_from n es
+    pub standing_entries : (n : ℕ) (es : List E) → standing (deeds_from deed n es) author ≡ kept_from is_own undid n es
     standing_entries n [] = refl
     standing_entries n (e ∷ es) =
         ap (λ b. filter (stands (deeds_from deed n (e ∷ es))) (map number (cond b (deed n e ∷ filter (is_work_of author) (deeds_from deed (n + 1) es)) (filter (is_work_of author) (deeds_from deed (n + 1) es))))) (own_is n e)
@@ -129,14 +124,14 @@ module _ {E : Type 0} (deed : ℕ → E → Deed) (is_number : (n : ℕ) (e : E)
             ∙ ap (λ b. not (b || list_any (undoes n) (deeds_from deed (n + 1) es))) (none_of_later n n e (omega arith))
             ∙ ap not (undone_later n (n + 1) es (omega arith))
 
-        by : (b : Bool) → standing (deeds_from deed (n + 1) es) author ≡ own_from (n + 1) es
+        by : (b : Bool) → standing (deeds_from deed (n + 1) es) author ≡ kept_from is_own undid (n + 1) es
             → filter (stands (deed n e ∷ deeds_from deed (n + 1) es)) (map number (cond b (deed n e ∷ filter (is_work_of author) (deeds_from deed (n + 1) es)) (filter (is_work_of author) (deeds_from deed (n + 1) es))))
-            ≡ cond (b && not (list_any (undid n) es)) (n ∷ own_from (n + 1) es) (own_from (n + 1) es)
+            ≡ cond (b && not (list_any (undid n) es)) (n ∷ kept_from is_own undid (n + 1) es) (kept_from is_own undid (n + 1) es)
         by false more = rest ∙ more
         by true more =
             ap (λ c. cond c (number (deed n e) ∷ filter (stands (deed n e ∷ deeds_from deed (n + 1) es)) (works (deeds_from deed (n + 1) es) author)) (filter (stands (deed n e ∷ deeds_from deed (n + 1) es)) (works (deeds_from deed (n + 1) es) author))) first
             ∙ ap (λ ns. cond (not (list_any (undid n) es)) (number (deed n e) ∷ ns) ns) (rest ∙ more)
-            ∙ ap (λ k. cond (not (list_any (undid n) es)) (k ∷ own_from (n + 1) es) (own_from (n + 1) es)) (is_number n e)
+            ∙ ap (λ k. cond (not (list_any (undid n) es)) (k ∷ kept_from is_own undid (n + 1) es) (kept_from is_own undid (n + 1) es)) (is_number n e)
 
   -- an author's stack of what it can redo, by a step for each of its own entries
   pub redo_entries : (author : Author) (own : E → Bool) → ((n : ℕ) (e : E) → is_same_author author (doer (deed n e)) ≡ own e)
@@ -155,3 +150,30 @@ module _ {E : Type 0} (deed : ℕ → E → Deed) (is_number : (n : ℕ) (e : E)
               ≡ fold step stack (cond b (e ∷ filter own es) (filter own es))
           by true more = more (redo_after stack (deed n e)) ∙ ap (λ k. fold step k (filter own es)) (step_is stack n e)
           by false more = more stack
+
+-- of a journal's entries that stand, those that are an author's own. `stands_from` lists those that stand, and `own` tests a number
+module _ {E : Type 0} (did : E → Bool) (by_author : E → Bool) (undid : ℕ → E → Bool) (stands_from : ℕ → List E → List ℕ) (none : (n : ℕ) → stands_from n [] ≡ [])
+    (more : (n : ℕ) (e : E) (later : List E) → stands_from n (e ∷ later) ≡ cond (did e && not (list_any (undid n) later)) (n ∷ stands_from (n + 1) later) (stands_from (n + 1) later))
+    (own : ℕ → Bool) where
+  pub kept_standing : (n : ℕ) (es : List E) → ((i : ℕ) (e : E) → slice_get es i ≡ Some e → own (i + n) ≡ by_author e) → filter own (stands_from n es) ≡ kept_from (λ e. did e && by_author e) undid n es
+  kept_standing n [] tells = ap (filter own) (none n)
+  kept_standing n (e ∷ later) tells =
+      ap (filter own) (more n e later)
+      ∙ by (did e) (not (list_any (undid n) later))
+      (kept_standing (n + 1) later (λ i x at. ap own (shifted i) ∙ tells (suc i) x at))
+    where
+      shifted : (i : ℕ) → i + (n + 1) ≡ suc i + n
+      shifted i = omega arith
+
+      first : own n ≡ by_author e
+      first = ap own (omega arith) ∙ tells 0 e refl
+
+      by : (a u : Bool) → filter own (stands_from (n + 1) later) ≡ kept_from (λ x. did x && by_author x) undid (n + 1) later
+          → filter own (cond (a && u) (n ∷ stands_from (n + 1) later) (stands_from (n + 1) later))
+          ≡ cond ((a && by_author e) && u) (n ∷ kept_from (λ x. did x && by_author x) undid (n + 1) later) (kept_from (λ x. did x && by_author x) undid (n + 1) later)
+      by false u rest = rest
+      by true false rest = rest ∙ ap (λ b. cond b (n ∷ kept_from (λ x. did x && by_author x) undid (n + 1) later) (kept_from (λ x. did x && by_author x) undid (n + 1) later)) (sym (and_false (by_author e)))
+      by true true rest =
+          ap (λ b. cond b (n ∷ filter own (stands_from (n + 1) later)) (filter own (stands_from (n + 1) later))) first
+          ∙ ap (λ ns. cond (by_author e) (n ∷ ns) ns) rest
+          ∙ ap (λ b. cond b (n ∷ kept_from (λ x. did x && by_author x) undid (n + 1) later) (kept_from (λ x. did x && by_author x) undid (n + 1) later)) (sym (and_true (by_author e)))
