@@ -29,7 +29,7 @@ impl<A: Allocator> Model for AuthorStacks<A> {
 }
 
 impl<A: Allocator> AuthorStacks<A> {
-    /// The stacks of an author that did nothing, or `Memory`, where the allocator was not cloned.
+    /// The stacks of an author that did nothing, or `Memory` where the allocator refuses its clones.
     pub fn new(alloc: &A) -> Result<AuthorStacks<A>, Memory>
     where
         A: Clone,
