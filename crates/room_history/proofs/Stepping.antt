@@ -1,5 +1,5 @@
 -- One step of a room.
-use Rattle.std.proofs.Common.{◌≡◌, Result, OnErr, ◌<◌, ◌≤◌, ◌+◌, ◌++◌, ◌∷◌, ℕ, true, false, List, [], Option, Some, None, IsSome, Ok, Err, length, take, refl, sym, ap, subst, ◌∙◌, arith, ◌⊎◌, inl, inr, zero, suc, Contains, map, nat_le, slice_get, length-append}
+use Rattle.std.proofs.Common.{◌≡◌, Result, OnErr, ◌<◌, ◌≤◌, ◌+◌, ◌++◌, ◌∷◌, ℕ, true, false, List, [], Option, Some, None, IsSome, Ok, Err, length, take, refl, sym, ap, subst, ◌∙◌, arith, ◌⊎◌, inl, inr, zero, suc, map, nat_le, slice_get, length-append}
 use Rattle.std.specs.Bool.{then_some}
 use Rattle.std.specs.List.{fold}
 use Rattle.std.specs.Option.{option_map}
@@ -31,7 +31,8 @@ use Rattle.room_history.specs.LegalJournals.{IsJournal, opened, called}
 use Rattle.room_history.specs.Runs.{IsStep}
 use Rattle.room_history.specs.Applied.{applied}
 use Rattle.room_history.specs.Inner.Deeds.{deed, deed_by, deeds}
-use Rattle.room_history.proofs.Deeds.{deeds_from-append, all_below, spent_deeds, stands_among}
+use Rattle.room_history.proofs.Deeds as journals
+use Rattle.room_history.proofs.Deeds.{deeds-append, spent_deeds, stands_among}
 use Rattle.room_stacks.specs.Stacks as stacks
 use Rattle.room_stacks.specs.declared.deed.Deed.{Deed}
 use Rattle.room_stacks.specs.declared.deed.Deed.TheVariants.{Did, Undid}
@@ -214,7 +215,7 @@ module _ {A : Type 0} where
       unspent_deed ds is = ap (λ d. stacks.spent d author id) (is ∙ r.deeds_are) ∙ spent_deeds j author id ∙ may.0
 
       pub above_deeds : (ds : List Deed) (n : ℕ) → ds ≡ done → n ≡ length j + 1 → stacks.IsAboveAll n ds
-      above_deeds ds n is next = subst (λ d. stacks.IsAboveAll n d) (sym (is ∙ r.deeds_are)) (all_below 1 n j (omega (arith, next)))
+      above_deeds ds n is next = subst (λ d. stacks.IsAboveAll n d) (sym (is ∙ r.deeds_are)) (subst (λ m. stacks.IsAboveAll m (deeds j)) (sym next) (journals.above_deeds j))
 
       -- a room with one more entry: what the store, the recorded changes and the deeds are after it
       record Grown (k : EntryKind A) (store' : StoreState A) (recorded' : List (List (Change A))) (done' : List Deed) : Type 0 where
@@ -231,7 +232,7 @@ module _ {A : Type 0} where
             rows_are = ap (λ m. changed m cs) r.rows_are ∙ ap (changed (mapof base j)) is ∙ sym (mapof-append base j e);
             count_is = ap (λ n. counted n cs) r.count_is ∙ ap (counted (applied base j)) is ∙ sym (applied-append base j e);
             recorded_are = (λ i. r.recorded_are i ++ is i ∷ []) ∙ sym (recorded-append base j e);
-            deeds_are = ap (λ ds. ds ++ deed_by (length j + 1) author id k ∷ []) r.deeds_are ∙ ap (λ n. deeds j ++ deed n e ∷ []) (let is : length j + 1 ≡ 1 + length j = omega arith in is) ∙ sym (deeds_from-append 1 j e);
+            deeds_are = ap (λ ds. ds ++ deed_by (length j + 1) author id k ∷ []) r.deeds_are ∙ sym (deeds-append j e);
           }
 
       -- a room after an accepted action
@@ -265,10 +266,10 @@ module _ {A : Type 0} where
         numbers_left = omega (arith, size)
 
         -- it stands among the author's deeds
-        pub stands_there : (ds : List Deed) → ds ≡ done → Contains (stacks.standing ds author) s
+        pub stands_there : (ds : List Deed) → ds ≡ done → stacks.is_standing ds author s ≡ true
         stands_there ds is =
             let f : Found j author s = found (past base j) j author s ok in
-            subst (λ d. Contains (stacks.standing d author) s) (sym (is ∙ r.deeds_are)) (stands_among j author s f.there f.own)
+            ap (λ d. stacks.is_standing d author s) (is ∙ r.deeds_are) ∙ stands_among j author s f.there f.own
 
         -- its changes are recorded under its number
         pub is_first : 1 ≤ s

@@ -3,8 +3,8 @@ ghost use Rattle.std.specs.Prelude.{◌≡◌};
 ghost use Rattle.std.specs.Option.{option_copied};
 ghost use Rattle.room_history.specs.Journals.{is_by, numbered};
 
-use room_stacks::author::Author;
 use crate::entry::Entry;
+use room_stacks::author::Author;
 use std::alloc::Allocator;
 
 /// The entry of a number, from 1 on.

@@ -3,9 +3,9 @@ ghost use Rattle.std.specs.Prelude.{◌≡◌, nat_eq, nat_lt, reverse};
 ghost use Rattle.std.specs.List.{find, list_any};
 ghost use Rattle.room_history.specs.Journals.{is_by, numbered};
 
-use room_stacks::author::Author;
 use crate::entry::Entry;
 use crate::journal::is_by;
+use room_stacks::author::Author;
 use std::alloc::Allocator;
 
 /// Whether a number is among them.

@@ -5,11 +5,11 @@ ghost use Rattle.room_history.specs.Journals.{standing};
 ghost use Rattle.room_history.specs.Replays.{Past};
 ghost use Rattle.room_history.specs.Inner.Undoing.{asked_or, undone_or};
 
-use room_stacks::author::Author;
 use crate::entry::Entry;
 use crate::journal::numbered;
 use crate::reply::Reply;
 use crate::standing::{contains, first_after, last_by};
+use room_stacks::author::Author;
 use std::alloc::Allocator;
 
 /// The number of the entry that an undo takes back: the one asked for, or without a number the author's

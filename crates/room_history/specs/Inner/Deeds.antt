@@ -1,8 +1,9 @@
 -- A journal as what its authors did.
-use Rattle.std.specs.Prelude.{◌+◌, ℕ, List, [], ◌∷◌}
+use Rattle.std.specs.Prelude.{ℕ, List}
 use Rattle.room_stacks.specs.declared.author.Author.{Author}
 use Rattle.room_stacks.specs.declared.deed.Deed.{Deed}
 use Rattle.room_stacks.specs.declared.deed.Deed.TheVariants.{Did, Undid}
+use Rattle.room_stacks.specs.Numbered.{deeds_from}
 use Rattle.room_history.specs.declared.entry.Entry.{Entry}
 use Rattle.room_history.specs.declared.entry.EntryKind.{EntryKind}
 use Rattle.room_history.specs.declared.entry.EntryKind.TheVariants.{Do, Undo}
@@ -16,10 +17,5 @@ module _ {A : Type 0} where
   abbrev pub deed : ℕ → Entry A → Deed
   deed seq e = deed_by seq e.author e.id e.kind
 
-  -- the deeds of entries that are numbered from n on
-  abbrev pub deeds_from : ℕ → List (Entry A) → List Deed
-  deeds_from n [] = []
-  deeds_from n (e ∷ later) = deed n e ∷ deeds_from (n + 1) later
-
   abbrev pub deeds : List (Entry A) → List Deed
-  deeds j = deeds_from 1 j
+  deeds j = deeds_from deed 1 j
