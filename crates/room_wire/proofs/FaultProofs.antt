@@ -9,24 +9,28 @@ use Rattle.std.proofs.lemmas.Bool.Decides.{nat_tests}
 use Rattle.serde_json.specs.Data.{Data, null, boolean, number, string, array, object, unsigned, negative, float}
 use Rattle.serde_json.specs.Find.{get, as_object, as_str}
 use Rattle.serde_json.specs.Read.{read}
+use Rattle.osm_elements.specs.declared.name.Name.{Name}
 use Rattle.osm_elements.specs.declared.name.Kind.{Kind}
 use Rattle.osm_elements.specs.declared.name.Kind.TheVariants as kinds
 use Rattle.osm_elements.specs.declared.element.Element.{Element}
 use Rattle.osm_elements.specs.declared.element.Element.TheVariants as elements
-use Rattle.room_history.specs.declared.action.Action.TheVariants as actions
+use Rattle.edit_actions.specs.declared.action.Action.{Action}
+use Rattle.edit_actions.specs.declared.action.Action.TheVariants as actions
 use Rattle.room_history.specs.declared.call.Request.TheVariants as requests
 use Rattle.room_wire.specs.declared.bad.Bad.{Bad}
 use Rattle.room_wire.specs.declared.bad.Fault.{Fault}
 use Rattle.room_wire.specs.declared.bad.Fault.TheVariants.{BadField, BadId, NotJson, NotObject, UnknownDo}
 use Rattle.room_wire.specs.declared.field.Field.{Field}
-use Rattle.room_wire.specs.declared.field.Field.TheVariants.{El, Lat, Lon, Nodes, Members, Tags, Seq}
+use Rattle.room_wire.specs.declared.field.Field.TheVariants.{El, Els, Lat, Lon, Nodes, Members, Tags, Dlat, Dlon, Seq}
 use Rattle.room_wire.specs.declared.incoming.Incoming.{Incoming}
 use Rattle.room_wire.specs.declared.incoming.Body.{Body}
 use Rattle.room_wire.specs.declared.incoming.Body.TheVariants as bodies
 use Rattle.room_wire.specs.Reading.{◌>>=◌, or_fault}
-use Rattle.room_wire.specs.Spelling.{body_by, create_at, el_at, element_at, lat_at, lon_at, message_by, message_of, members_at, nodes_at, ordinal, seq_at, seq_from, spells, tags_at, tags_from, under}
+use Rattle.room_wire.specs.Spelling.{body_by, create_at, retag_at, move_at, relist_way_at, relist_relation_at, distance_at, gifts_at, el_at, els_at, element_at, lat_at, lon_at, message_by, message_of, members_at, nodes_at, ordinal, seq_at, seq_from, spells, tags_at, tags_from, under}
 use Rattle.room_wire.specs.Trees.{whole}
-use Rattle.room_wire.specs.WellFormed.{AreGood, Create, Delete, Get, HasWord, IsFirstBad, IsNumber, Map, MessageId, Slot, Undo, Word, element_slots, slot, slots, word_text}
+use Rattle.room_wire.specs.WellFormed.{AreGood, HasWord, IsFirstBad, IsNumber, MessageId, Slot, element_slots, slot, slots}
+use Rattle.room_wire.specs.Words.{Word, word_text}
+use Rattle.room_wire.specs.Words as words
 use Rattle.room_wire.proofs.WellFormedProofs.{id_read, spells-body, word_read}
 
 -- an answer tells the first bad field, and there is none where it has no fault
@@ -74,14 +78,35 @@ element_tells kinds.Way d =
 element_tells kinds.Relation d =
     step Members (members_at d) _ _ (only_field Members _) (λ members e. step Tags (tags_at d) (λ tags. let relation : Element Global = elements.Relation members tags in Ok relation) [] (only_tags (get (codes "tags") d)) (λ tags e. tt))
 
+-- an action that is done tells what the action does
+done_tells : (r : Result (Action Global) Fault) (all : List Slot) → Tells r all → Tells (r >>= λ action. Ok (bodies.Change (requests.Do action))) all
+done_tells r all h = made r (λ action. bodies.Change (requests.Do action)) all h
+
+-- an action that has a name, and one that has a field more
+name_tells : (action : Name → Action Global) (d : Data) → Tells (el_at d >>= λ name. Ok (action name)) (slot El (el_at d) ∷ [])
+name_tells action d = step El (el_at d) (λ name. Ok (action name)) [] (only_field El _) (λ name e. tt)
+
+pair_tells : {X : Type 0} (field : Field) (r : Result X Fault) (action : Name → X → Action Global) (d : Data) → Only field r → Tells (el_at d >>= λ name. r >>= λ x. Ok (action name x)) (slot El (el_at d) ∷ slot field r ∷ [])
+pair_tells field r action d only = step El (el_at d) _ _ (only_field El _) (λ name e. step field r (λ x. Ok (action name x)) [] only (λ x e. tt))
+
+move_tells : (d : Data) → Tells (move_at d) (slots words.Move d)
+move_tells d =
+    step Els (els_at d) _ _ (only_field Els _) (λ names e. step Dlat (distance_at Dlat d) _ _ (only_field Dlat _)
+    (λ dlat e. step Dlon (distance_at Dlon d) (λ dlon. let moves : Action Global = actions.Move names dlat dlon in Ok moves) [] (only_field Dlon _) (λ dlon e. tt)))
+
 body_tells : (word : Word) (d : Data) → Tells (body_by (word_text word) d) (slots word d)
-body_tells Create d =
-    made (create_at d) (λ action. bodies.Change (requests.Do action)) (slots Create d)
+body_tells words.Create d =
+    done_tells (create_at d) (slots words.Create d)
     (step El (el_at d) _ _ (only_field El _) (λ name e. rw e (made (element_at name.kind d) (λ element. actions.Create name element) (element_slots name.kind d) (element_tells name.kind d))))
-body_tells Delete d = step El (el_at d) (λ name. Ok (bodies.Change (requests.Do (actions.Delete name)))) [] (only_field El _) (λ name e. tt)
-body_tells Undo d = step Seq (seq_at d) (λ seq. Ok (bodies.Change (requests.Undo seq))) [] (only_seq (get (codes "seq") d)) (λ seq e. tt)
-body_tells Get d = step El (el_at d) (λ name. Ok (bodies.Get name)) [] (only_field El _) (λ name e. tt)
-body_tells Map d = tt
+body_tells words.Retag d = done_tells (retag_at d) (slots words.Retag d) (pair_tells Tags (gifts_at d) (λ name given. actions.Retag name given) d (only_field Tags _))
+body_tells words.Move d = done_tells (move_at d) (slots words.Move d) (move_tells d)
+body_tells words.Reverse d = done_tells _ (slots words.Reverse d) (name_tells (λ name. actions.Reverse name) d)
+body_tells words.Nodes d = done_tells (relist_way_at d) (slots words.Nodes d) (pair_tells Nodes (nodes_at d) (λ name list. actions.Nodes name list) d (only_field Nodes _))
+body_tells words.Members d = done_tells (relist_relation_at d) (slots words.Members d) (pair_tells Members (members_at d) (λ name list. actions.Members name list) d (only_field Members _))
+body_tells words.Delete d = done_tells _ (slots words.Delete d) (name_tells (λ name. actions.Delete name) d)
+body_tells words.Undo d = step Seq (seq_at d) (λ seq. Ok (bodies.Change (requests.Undo seq))) [] (only_seq (get (codes "seq") d)) (λ seq e. tt)
+body_tells words.Get d = step El (el_at d) (λ name. Ok (bodies.Get name)) [] (only_field El _) (λ name e. tt)
+body_tells words.Map d = tt
 
 one_first : (all : List Slot) (f g : Field) → IsFirstBad all f → IsFirstBad all g → f ≡ g
 one_first [] f g h k = absurd h
@@ -171,7 +196,9 @@ other_word w word other = go (bytes_eq w (word_text word)) refl
     go false e = refl
 
 unknown_word : (w : List ℕ) (d : Data) → ((word : Word) → w ≡ word_text word → ⊥) → body_by w d ≡ Err UnknownDo
-unknown_word w d other = rw (other_word w Create (other Create), other_word w Delete (other Delete), other_word w Undo (other Undo), other_word w Get (other Get), other_word w Map (other Map)) refl
+unknown_word w d other =
+    let no : (word : Word) → bytes_eq w (word_text word) ≡ false = λ word. other_word w word (other word) in
+    rw (no words.Undo, no words.Get, no words.Map, no words.Create, no words.Retag, no words.Move, no words.Reverse, no words.Nodes, no words.Members, no words.Delete) refl
 
 unknown_body : (d : Data) (o : Option Data) → ((word : Word) → o ≡ Some (string (word_text word)) → ⊥) → (or_fault UnknownDo (option_and_then as_str o) >>= λ w. body_by w d) ≡ Err UnknownDo
 unknown_body d None other = refl

@@ -1,5 +1,6 @@
 pub mod Ascii
 pub mod Empty
+pub mod EntryLists
 pub mod ExampleProofs
 pub mod FaultProofs
 pub mod ItemLists
@@ -8,6 +9,5 @@ pub mod NeverMemory
 pub mod NoFloats
 pub mod ReadBackProofs
 pub mod Shallow
-pub mod TagLists
 pub mod TagMembers
 pub mod WellFormedProofs

@@ -9,13 +9,12 @@ use Rattle.osm_elements.specs.declared.name.Kind.TheVariants as kinds
 use Rattle.room_wire.specs.declared.bad.Fault.{Fault}
 use Rattle.room_wire.specs.declared.bad.Fault.TheVariants.{Memory, BadField, NotObject, BadId, UnknownDo}
 use Rattle.room_wire.specs.declared.incoming.Body.{Body}
-use Rattle.room_wire.specs.declared.incoming.Body.TheVariants.{Change, Get, Map}
-use Rattle.room_history.specs.declared.action.Action.TheVariants as actions
-use Rattle.room_history.specs.declared.call.Request.TheVariants as requests
+use Rattle.room_wire.specs.declared.incoming.Body.TheVariants.{Map}
 use Rattle.std.specs.Str.{bytes_eq}
-use Rattle.room_wire.specs.declared.field.Field.TheVariants.{El, Lat, Lon, Nodes, Members, Tags, Seq}
+use Rattle.room_wire.specs.declared.field.Field.{Field}
+use Rattle.room_wire.specs.declared.field.Field.TheVariants.{El, Els, Lat, Lon, Nodes, Members, Tags, Dlat, Dlon, Seq}
 use Rattle.room_wire.specs.Reading.{◌>>=◌, or_fault}
-use Rattle.room_wire.specs.Spelling.{spells, ordinal, word_at, message_of, message_by, under, id_at, body_at, body_by, create_at, element_at, el_at, lat_at, lon_at, nodes_at, members_at, tags_at, tags_from, seq_at, seq_from}
+use Rattle.room_wire.specs.Spelling.{spells, ordinal, word_at, message_of, message_by, under, id_at, body_at, body_by, action_by, create_at, retag_at, move_at, relist_way_at, relist_relation_at, element_at, el_at, els_at, distance_at, lat_at, lon_at, nodes_at, members_at, tags_at, tags_from, gifts_at, seq_at, seq_from}
 
 Fine : {X : Type 0} → Result X Fault → Type 0
 Fine r = IfErr r (λ f. f ≢ Memory)
@@ -64,26 +63,42 @@ element_is_fine kinds.Relation d = fine_then (members_at d) _ (fine_or (BadField
 create_is_fine : (d : Data) → Fine (create_at d)
 create_is_fine d = fine_then (el_at d) _ (el_is_fine d) (λ name. fine_then (element_at name.kind d) _ (element_is_fine name.kind d) (λ element. fine_ok _))
 
+gifts_are_fine : (d : Data) → Fine (gifts_at d)
+gifts_are_fine d = fine_or (BadField Tags) _ (λ e. cc)
+
+distance_is_fine : (field : Field) (d : Data) → Fine (distance_at field d)
+distance_is_fine field d = fine_or (BadField field) _ (λ e. cc)
+
+retag_is_fine : (d : Data) → Fine (retag_at d)
+retag_is_fine d = fine_then (el_at d) _ (el_is_fine d) (λ name. fine_then (gifts_at d) _ (gifts_are_fine d) (λ given. fine_ok _))
+
+move_is_fine : (d : Data) → Fine (move_at d)
+move_is_fine d =
+    fine_then (els_at d) _ (fine_or (BadField Els) _ (λ e. cc)) (λ names. fine_then (distance_at Dlat d) _ (distance_is_fine Dlat d)
+    (λ dlat. fine_then (distance_at Dlon d) _ (distance_is_fine Dlon d) (λ dlon. fine_ok _)))
+
+relist_way_is_fine : (d : Data) → Fine (relist_way_at d)
+relist_way_is_fine d = fine_then (el_at d) _ (el_is_fine d) (λ name. fine_then (nodes_at d) _ (fine_or (BadField Nodes) _ (λ e. cc)) (λ list. fine_ok _))
+
+relist_relation_is_fine : (d : Data) → Fine (relist_relation_at d)
+relist_relation_is_fine d = fine_then (el_at d) _ (el_is_fine d) (λ name. fine_then (members_at d) _ (fine_or (BadField Members) _ (λ e. cc)) (λ list. fine_ok _))
+
+action_is_fine : (word : List ℕ) (d : Data) → Fine (action_by word d)
+action_is_fine word d =
+    fine_if (bytes_eq word (codes "create")) _ _ (create_is_fine d)
+    (fine_if (bytes_eq word (codes "retag")) _ _ (retag_is_fine d)
+    (fine_if (bytes_eq word (codes "move")) _ _ (move_is_fine d)
+    (fine_if (bytes_eq word (codes "reverse")) _ _ (fine_then (el_at d) _ (el_is_fine d) (λ name. fine_ok _))
+    (fine_if (bytes_eq word (codes "nodes")) _ _ (relist_way_is_fine d)
+    (fine_if (bytes_eq word (codes "members")) _ _ (relist_relation_is_fine d)
+    (fine_if (bytes_eq word (codes "delete")) _ _ (fine_then (el_at d) _ (el_is_fine d) (λ name. fine_ok _)) (err_is_fine UnknownDo _ refl (λ e. cc))))))))
+
 body_is_fine : (word : List ℕ) (d : Data) → Fine (body_by word d)
 body_is_fine word d =
-    let creates : Result Body Fault = create_at d >>= λ action. Ok (Change (requests.Do action)) in
-    let deletes : Result Body Fault = el_at d >>= λ name. Ok (Change (requests.Do (actions.Delete name))) in
-    let undoes : Result Body Fault = seq_at d >>= λ seq. Ok (Change (requests.Undo seq)) in
-    let gets : Result Body Fault = el_at d >>= λ name. Ok (Get name) in
-    let maps : Result Body Fault = Ok Map in
-    let unknown : Result Body Fault = Err UnknownDo in
-    let is_map = bytes_eq word (codes "map") in
-    let is_get = bytes_eq word (codes "get") in
-    let is_undo = bytes_eq word (codes "undo") in
-    let is_delete = bytes_eq word (codes "delete") in
-    let from_map = fine_if is_map maps unknown (fine_ok Map) (err_is_fine UnknownDo unknown refl (λ e. cc)) in
-    let from_get = fine_if is_get gets (cond is_map maps unknown) (fine_then (el_at d) (λ name. Ok (Get name)) (el_is_fine d) (λ name. fine_ok (Get name))) from_map in
-    let from_undo = fine_if is_undo undoes (cond is_get gets (cond is_map maps unknown))
-    (fine_then (seq_at d) (λ seq. Ok (Change (requests.Undo seq))) (seq_is_fine (get (field_text Seq) d)) (λ seq. fine_ok (Change (requests.Undo seq)))) from_get in
-    let from_delete = fine_if is_delete deletes (cond is_undo undoes (cond is_get gets (cond is_map maps unknown)))
-    (fine_then (el_at d) (λ name. Ok (Change (requests.Do (actions.Delete name)))) (el_is_fine d) (λ name. fine_ok (Change (requests.Do (actions.Delete name))))) from_undo in
-    fine_if (bytes_eq word (codes "create")) creates (cond is_delete deletes (cond is_undo undoes (cond is_get gets (cond is_map maps unknown))))
-    (fine_then (create_at d) (λ action. Ok (Change (requests.Do action))) (create_is_fine d) (λ action. fine_ok (Change (requests.Do action)))) from_delete
+    fine_if (bytes_eq word (codes "undo")) _ _ (fine_then (seq_at d) _ (seq_is_fine (get (field_text Seq) d)) (λ seq. fine_ok _))
+    (fine_if (bytes_eq word (codes "get")) _ _ (fine_then (el_at d) _ (el_is_fine d) (λ name. fine_ok _))
+    (fine_if (bytes_eq word (codes "map")) _ _ (fine_ok Map)
+    (fine_then (action_by word d) _ (action_is_fine word d) (λ action. fine_ok _))))
 
 body_at_is_fine : (d : Data) → Fine (body_at d)
 body_at_is_fine d = fine_then (word_at d) (λ word. body_by word d) (fine_or UnknownDo (option_and_then as_str (get (codes "do") d)) (λ e. cc)) (λ word. body_is_fine word d)

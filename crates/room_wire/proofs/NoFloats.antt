@@ -8,7 +8,7 @@ use Rattle.osm_elements.specs.declared.element.Element.{Element}
 use Rattle.osm_elements.specs.declared.element.Element.TheVariants as elements
 use Rattle.osm_elements.specs.TagRows.{Pairs}
 use Rattle.room_wire.specs.declared.answer.Answer.{Answer}
-use Rattle.room_wire.specs.declared.answer.Answer.TheVariants.{Done, Undid, Is, Map, Absent, Present, WrongKind, TooFew, TooMany, InUse, TagConflict, Repeat, NotLast, BadField, Memory, Full, NothingToUndo, NoSuch, NotYours, NotStanding, NotJson, NotObject, BadId, UnknownDo, BadLine}
+use Rattle.room_wire.specs.declared.answer.Answer.TheVariants.{Done, Undid, Is, Map, Absent, Present, WrongKind, Same, OutOfRange, TooFew, TooMany, InUse, TagConflict, BadPosition, NotEndToEnd, Nothing, Repeat, NotLast, BadField, Memory, Full, NothingToUndo, NoSuch, NotYours, NotStanding, NotJson, NotObject, BadId, UnknownDo, BadLine}
 use Rattle.room_wire.specs.Trees.{id_tree, nodes_tree, member_tree, members_tree, tag_members, element_tree, rows_tree, tree_of}
 use Rattle.serde_json.specs.Find.{of_integer, is_float}
 
@@ -46,6 +46,8 @@ tree_has_no_float id (Map rows front) = rw (rows_have_none rows.now) refl
 tree_has_no_float id (Absent name) = refl
 tree_has_no_float id (Present name) = refl
 tree_has_no_float id (WrongKind name) = refl
+tree_has_no_float id (Same name) = refl
+tree_has_no_float id (OutOfRange name) = refl
 tree_has_no_float id (TooFew name) = refl
 tree_has_no_float id (TooMany name) = refl
 tree_has_no_float id (InUse name user) = refl
@@ -53,6 +55,9 @@ tree_has_no_float id (TagConflict key) = refl
 tree_has_no_float id (Repeat seq) = refl
 tree_has_no_float id (NotLast blocker) = refl
 tree_has_no_float id (BadField field) = refl
+tree_has_no_float id BadPosition = refl
+tree_has_no_float id NotEndToEnd = refl
+tree_has_no_float id Nothing = refl
 tree_has_no_float id Memory = refl
 tree_has_no_float id Full = refl
 tree_has_no_float id NothingToUndo = refl

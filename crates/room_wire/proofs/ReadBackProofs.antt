@@ -3,9 +3,10 @@ use Rattle.std.proofs.Common.{◌≡◌, ◌<◌, ◌^◌, ◌&&◌, ℕ, suc, �
 use Rattle.std.specs.declared.alloc.Global.{Global}
 use Rattle.std.specs.List.{list_all}
 use Rattle.std.specs.Option.{option_and_then}
+use Rattle.std.specs.FinMap.Entries.{is_sorted}
 use Rattle.std.specs.Int.{w64}
 use Rattle.std.proofs.lemmas.Bool.Decides.{nat_tests}
-use Rattle.serde_json.specs.Data.{Data}
+use Rattle.serde_json.specs.Data.{Data, string}
 use Rattle.serde_json.specs.Events.{members_len}
 use Rattle.serde_json.specs.View.{items_of}
 use Rattle.serde_json.specs.Find.{as_i64, of_integer}
@@ -21,16 +22,18 @@ use Rattle.osm_elements.specs.Facts.NameTexts.{name_of_text, name_with-some}
 use Rattle.osm_elements.specs.NameTexts.{name_of, name_text, name_with}
 use Rattle.osm_elements.specs.Members.{AreMembers, are_members}
 use Rattle.osm_elements.specs.Nodes.{AreNodes}
-use Rattle.osm_elements.specs.TagRows.{Pairs, AreTagRows, is_tag}
+use Rattle.osm_elements.specs.TagRows.{Pairs, AreTagRows, text_cmp}
 use Rattle.osm_elements.specs.Texts.{is_long}
-use Rattle.room_history.specs.declared.action.Action.TheVariants.{Create}
+use Rattle.edit_simple.specs.Tagging.{AreGifts, Gifts, is_short_value}
+use Rattle.edit_actions.specs.declared.action.Action.TheVariants.{Create}
 use Rattle.room_wire.specs.declared.bad.Fault.{Fault}
 use Rattle.room_wire.specs.declared.bad.Fault.TheVariants.{BadField}
 use Rattle.room_wire.specs.declared.field.Field.TheVariants as fields
 use Rattle.room_wire.specs.ReadBack.{HasId, IsWhole}
 use Rattle.room_wire.specs.Reading.{◌>>=◌, or_fault}
-use Rattle.room_wire.specs.Spelling.{create_at, element_at, el_at, lat_at, lon_at, nodes_at, members_at, tags_at, node_of, nodes_in, member_of, members_in, tags_in, tags_of}
-use Rattle.room_wire.specs.Trees.{id_tree, member_tree, tag_members, element_tree}
+use Rattle.room_wire.specs.Spelling.{create_at, element_at, el_at, lat_at, lon_at, nodes_at, members_at, tags_at, node_of, nodes_in, member_of, members_in, names_in, entries_in, entries_of, value_of, tags_of, given_of, gifts_of}
+use Rattle.room_wire.specs.Trees.{id_tree, name_tree, member_tree, entry_members, tag_members, element_tree}
+use Rattle.room_wire.specs.WellFormed.{given_tree}
 
 first_test : (a b : Bool) → T (a && b) → T a
 first_test true b p = tt
@@ -44,32 +47,57 @@ passed : (b : Bool) → T b → b ≡ true
 passed true p = refl
 passed false p = absurd p
 
--- tags
-by_tests : (a b c : Bool) (k v : List ℕ) → T (not a && (not b && not c)) → option_and_then {U = List ℕ × List ℕ} (λ key. option_map (λ value. (key, value)) (cond c None (Some v))) (cond a None (cond b None (Some k))) ≡ Some (k, v)
-by_tests true b c k v p = absurd p
-by_tests false true c k v p = absurd p
-by_tests false false true k v p = absurd p
-by_tests false false false k v p = refl
+-- what is written of the keys and values of an object is read as them
+by_tests : {V : Type 0} (a b c : Bool) (k : List ℕ) (o : Option V) (v : V) → T (not a && (not b && c)) → (T c → o ≡ Some v) → option_and_then {U = List ℕ × V} (λ key. option_map (λ value. (key, value)) o) (cond a None (cond b None (Some k))) ≡ Some (k, v)
+by_tests true b c k o v p h = absurd p
+by_tests false true c k o v p h = absurd p
+by_tests false false true k o v p h = rw (h tt) refl
+by_tests false false false k o v p h = absurd p
 
-tags_in-tag_members : (tags : Pairs) → T (list_all is_tag tags) → tags_in (tag_members tags) ≡ Some tags
-tags_in-tag_members [] h = refl
-tags_in-tag_members (e ∷ es) h =
-    let here : T (is_tag e) = first_test (is_tag e) (list_all is_tag es) h in
-    let later : T (list_all is_tag es) = second_test (is_tag e) (list_all is_tag es) h in
-    rw (by_tests (nat_eq (length e.0) 0) (is_long e.0) (is_long e.1) e.0 e.1 here, tags_in-tag_members es later) refl
+module _ {V : Type 0} (tree : V → Data) (reading : Data → Option V) (passes : V → Bool) (back : (v : V) → T (passes v) → reading (tree v) ≡ Some v) where
+  entries_in-entry_members : (entries : List (List ℕ × V)) → T (list_all (λ e. not (nat_eq (length e.0) 0) && (not (is_long e.0) && passes e.1)) entries) → entries_in reading (entry_members tree entries) ≡ Some entries
+  entries_in-entry_members [] h = refl
+  entries_in-entry_members (e ∷ es) h =
+      let here = first_test (not (nat_eq (length e.0) 0) && (not (is_long e.0) && passes e.1)) _ h in
+      let later = second_test (not (nat_eq (length e.0) 0) && (not (is_long e.0) && passes e.1)) _ h in
+      rw (by_tests (nat_eq (length e.0) 0) (is_long e.0) (passes e.1) e.0 (reading (tree e.1)) e.1 here (back e.1), entries_in-entry_members es later) refl
 
-members_len-tag_members : (tags : Pairs) → members_len (tag_members tags) ≡ length tags
-members_len-tag_members [] = refl
-members_len-tag_members (e ∷ es) = ap suc (members_len-tag_members es)
+  members_len-entry_members : (entries : List (List ℕ × V)) → members_len (entry_members tree entries) ≡ length entries
+  members_len-entry_members [] = refl
+  members_len-entry_members (e ∷ es) = ap suc (members_len-entry_members es)
+
+  entries_back : (entries : List (List ℕ × V)) → T (nat_le (length entries) 1000 && list_all (λ e. not (nat_eq (length e.0) 0) && (not (is_long e.0) && passes e.1)) entries) → entries_of reading (entry_members tree entries) ≡ Some entries
+  entries_back entries h =
+      let few : nat_le (length entries) 1000 ≡ true = passed (nat_le (length entries) 1000) (first_test (nat_le (length entries) 1000) _ h) in
+      rw (members_len-entry_members entries, few) (entries_in-entry_members entries (second_test (nat_le (length entries) 1000) _ h))
+
+value_back : (v : List ℕ) → T (not (is_long v)) → value_of (string v) ≡ Some v
+value_back v = by (is_long v)
+  where
+    by : (b : Bool) → T (not b) → cond b None (Some v) ≡ Some v
+    by true p = absurd p
+    by false p = refl
 
 pub tags_of-tag_members : (tags : Pairs) → AreTagRows tags → tags_of (tag_members tags) ≡ Some tags
-tags_of-tag_members tags h =
-    let rest : T (nat_le (length tags) 1000 && list_all is_tag tags) = second_test _ _ h in
-    let few : nat_le (length tags) 1000 ≡ true = passed (nat_le (length tags) 1000) (first_test (nat_le (length tags) 1000) (list_all is_tag tags) rest) in
-    rw (members_len-tag_members tags, few) (tags_in-tag_members tags (second_test (nat_le (length tags) 1000) (list_all is_tag tags) rest))
+tags_of-tag_members tags h = entries_back string value_of (λ v. not (is_long v)) value_back tags (second_test (is_sorted text_cmp tags) _ h)
+
+given_back : (given : Option (List ℕ)) → T (is_short_value given) → given_of (given_tree given) ≡ Some given
+given_back None h = refl
+given_back (Some v) h = ap (option_map Some) (value_back v h)
+
+pub gifts_of-gift_members : (given : Gifts) → AreGifts given → gifts_of (entry_members given_tree given) ≡ Some given
+gifts_of-gift_members given h = entries_back given_tree given_of is_short_value given_back given (second_test (is_sorted text_cmp given) _ h)
+
+-- names
+pub names_in-trees : (names : List Name) → All HasId names → names_in (items_of (map name_tree names)) ≡ Some names
+names_in-trees [] f = refl
+names_in-trees (n ∷ ns) f =
+    let first = name_of_text n (f 0 n (omega arith)) in
+    let rest = names_in-trees ns (λ k d l. f (suc k) d (omega arith)) in
+    rw (first, rest) refl
 
 -- nodes
-as_i64-of_integer : (z : ℤ) → FitsSigned w64 z → as_i64 (of_integer z) ≡ Some z
+pub as_i64-of_integer : (z : ℤ) → FitsSigned w64 z → as_i64 (of_integer z) ≡ Some z
 as_i64-of_integer (pos n) f = let h : n < 2 ^ 63 = f.sfits in let t : nat_lt n (2 ^ 63) ≡ true = grind (arith, nat_tests) in rw t refl
 as_i64-of_integer (negsuc n) f = refl
 

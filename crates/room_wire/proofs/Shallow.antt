@@ -8,7 +8,7 @@ use Rattle.osm_elements.specs.declared.element.Element.{Element}
 use Rattle.osm_elements.specs.declared.element.Element.TheVariants as elements
 use Rattle.osm_elements.specs.TagRows.{Pairs}
 use Rattle.room_wire.specs.declared.answer.Answer.{Answer}
-use Rattle.room_wire.specs.declared.answer.Answer.TheVariants.{Done, Undid, Is, Map, Absent, Present, WrongKind, TooFew, TooMany, InUse, TagConflict, Repeat, NotLast, BadField, Memory, Full, NothingToUndo, NoSuch, NotYours, NotStanding, NotJson, NotObject, BadId, UnknownDo, BadLine}
+use Rattle.room_wire.specs.declared.answer.Answer.TheVariants.{Done, Undid, Is, Map, Absent, Present, WrongKind, Same, OutOfRange, TooFew, TooMany, InUse, TagConflict, BadPosition, NotEndToEnd, Nothing, Repeat, NotLast, BadField, Memory, Full, NothingToUndo, NoSuch, NotYours, NotStanding, NotJson, NotObject, BadId, UnknownDo, BadLine}
 use Rattle.room_wire.specs.Trees.{id_tree, member_tree, tag_members, element_tree, rows_tree, tree_of}
 
 items_are_shallow : {X : Type 0} (k : ℕ) (f : X → Data) → ((x : X) → depth (f x) ≤ k) → (xs : List X) → items_depth (items_of (map f xs)) ≤ k
@@ -42,6 +42,8 @@ tree_is_shallow id (Map rows front) = let r = rows_are_shallow rows.now in omega
 tree_is_shallow id (Absent name) = omega arith
 tree_is_shallow id (Present name) = omega arith
 tree_is_shallow id (WrongKind name) = omega arith
+tree_is_shallow id (Same name) = omega arith
+tree_is_shallow id (OutOfRange name) = omega arith
 tree_is_shallow id (TooFew name) = omega arith
 tree_is_shallow id (TooMany name) = omega arith
 tree_is_shallow id (InUse name user) = omega arith
@@ -49,6 +51,9 @@ tree_is_shallow id (TagConflict key) = omega arith
 tree_is_shallow id (Repeat seq) = omega arith
 tree_is_shallow id (NotLast blocker) = omega arith
 tree_is_shallow id (BadField field) = omega arith
+tree_is_shallow id BadPosition = omega arith
+tree_is_shallow id NotEndToEnd = omega arith
+tree_is_shallow id Nothing = omega arith
 tree_is_shallow id Memory = omega arith
 tree_is_shallow id Full = omega arith
 tree_is_shallow id NothingToUndo = omega arith

@@ -1,10 +1,10 @@
 -- Every well-formed message spells itself.
-use Rattle.std.proofs.Common.{◌≡◌, ◌&&◌, ◌∙◌, ℕ, List, codes, true, Option, Some, None, Ok, inl, inr, is_some, option_map, nat_le, refl, sym, ap, arith}
+use Rattle.std.proofs.Common.{◌≡◌, ◌&&◌, ◌∙◌, All, ℕ, ℤ, List, codes, true, Option, Some, None, Result, Ok, inl, inr, is_some, option_map, nat_le, refl, sym, ap, arith}
 use Rattle.std.specs.declared.alloc.Global.{Global}
 use Rattle.std.specs.Option.{option_and_then}
 use Rattle.std.proofs.lemmas.Bool.Decides.{nat_tests}
-use Rattle.serde_json.specs.Data.{Data, null, boolean, number, string, array, object}
-use Rattle.serde_json.specs.Find.{get, as_array, as_object, as_str}
+use Rattle.serde_json.specs.Data.{Data, Items, null, boolean, number, string, array, object}
+use Rattle.serde_json.specs.Find.{get, as_array, as_i64, as_number, as_object, as_str}
 use Rattle.serde_json.specs.Read.{read}
 use Rattle.osm_coords.specs.Latitude.{latitude_of}
 use Rattle.osm_coords.specs.Longitude.{longitude_of}
@@ -15,20 +15,26 @@ use Rattle.osm_elements.specs.Elements.{kind_of}
 use Rattle.osm_elements.specs.Facts.NameTexts.{name_of_text}
 use Rattle.osm_elements.specs.NameTexts.{name_of}
 use Rattle.osm_elements.specs.TagRows.{AreTagRows, Pairs}
-use Rattle.room_history.specs.declared.action.Action.TheVariants as actions
+use Rattle.edit_simple.specs.Tagging.{AreGifts, Gifts}
+use Rattle.edit_actions.specs.declared.action.Action.{Action}
+use Rattle.edit_actions.specs.declared.action.Action.TheVariants as actions
 use Rattle.room_history.specs.declared.call.Request.TheVariants as requests
+use Rattle.room_wire.specs.declared.bad.Fault.{Fault}
 use Rattle.room_wire.specs.declared.bad.Fault.TheVariants.{BadField, UnknownDo}
 use Rattle.room_wire.specs.declared.field.Field.{Field}
-use Rattle.room_wire.specs.declared.field.Field.TheVariants.{El, Lat, Lon, Nodes, Members, Tags, Seq}
+use Rattle.room_wire.specs.declared.field.Field.TheVariants.{El, Els, Lat, Lon, Nodes, Members, Tags, Dlat, Dlon, Seq}
 use Rattle.room_wire.specs.declared.incoming.Incoming.{Incoming}
 use Rattle.room_wire.specs.declared.incoming.Body.{Body}
 use Rattle.room_wire.specs.declared.incoming.Body.TheVariants as bodies
-use Rattle.room_wire.specs.ReadBack.{IsWhole}
+use Rattle.room_wire.specs.Fields.{field_text}
+use Rattle.room_wire.specs.ReadBack.{HasId, IsWhole}
 use Rattle.room_wire.specs.Reading.{◌>>=◌, or_fault}
-use Rattle.room_wire.specs.Spelling.{body_at, body_by, el_at, element_at, id_at, lat_at, lon_at, message_by, message_of, members_at, members_in, nodes_at, nodes_in, ordinal, seq_at, seq_from, spells, tags_at, tags_from, text_at, under}
+use Rattle.room_wire.specs.Spelling.{body_at, body_by, distance_at, el_at, element_at, els_at, gifts_at, gifts_of, id_at, lat_at, lon_at, names_in, message_by, message_of, members_at, members_in, nodes_at, nodes_in, ordinal, seq_at, seq_from, spells, tags_at, tags_from, text_at, under}
 use Rattle.room_wire.specs.Trees.{whole}
-use Rattle.room_wire.specs.WellFormed.{Asks, Create, Delete, Get, HasElement, HasName, HasSeq, HasTags, HasText, HasWord, IsMessage, IsNumber, Map, MessageId, Undo, Word, word_text}
-use Rattle.room_wire.proofs.ReadBackProofs.{created, members_in-trees, nodes_in-ids, tags_of-tag_members, three, two}
+use Rattle.room_wire.specs.WellFormed.{Asks, Has, HasDistance, HasElement, HasMembers, HasName, HasNodes, HasSeq, HasTags, HasText, HasWord, IsMessage, IsNumber, MessageId, gifts_tree, names_tree}
+use Rattle.room_wire.specs.Words.{Word, word_text}
+use Rattle.room_wire.specs.Words as words
+use Rattle.room_wire.proofs.ReadBackProofs.{as_i64-of_integer, created, gifts_of-gift_members, members_in-trees, names_in-trees, nodes_in-ids, tags_of-tag_members, three, two}
 
 number_read : (n : ℕ) → IsNumber n → ordinal (whole n) ≡ Some n
 number_read n h =
@@ -69,30 +75,63 @@ seq_read : (d : Data) (seq : Option ℕ) → HasSeq d seq → seq_at d ≡ Ok se
 seq_read d None h = ap seq_from h
 seq_read d (Some n) h = ap seq_from h.0 ∙ ap (λ o. or_fault (BadField Seq) (option_map Some o)) (number_read n h.1)
 
+-- what is read of an array, or of an object
+array_read : {X : Type 0} (d : Data) (field : Field) (reading : Items → Option X) (items : Items) (x : X) → Has d field (array items) → reading items ≡ Some x
+    → or_fault (BadField field) (option_and_then reading (option_and_then as_array (get (field_text field) d))) ≡ Ok x
+array_read d field reading items x has is = ap (λ o. or_fault (BadField field) (option_and_then reading (option_and_then as_array o))) has ∙ ap (or_fault (BadField field)) is
+
+gifts_read : (d : Data) (given : Gifts) → Has d Tags (gifts_tree given) → AreGifts given → gifts_at d ≡ Ok given
+gifts_read d given has gifts =
+    ap (λ o. or_fault (BadField Tags) (option_and_then gifts_of (option_and_then as_object o))) has ∙ ap (or_fault (BadField Tags)) (gifts_of-gift_members given gifts)
+
+els_read : (d : Data) (names : List Name) → Has d Els (names_tree names) → All HasId names → els_at d ≡ Ok names
+els_read d names has ids = array_read d Els names_in _ names has (names_in-trees names ids)
+
+distance_read : (d : Data) (field : Field) (z : ℤ) → HasDistance d field z → distance_at field d ≡ Ok z
+distance_read d field z h =
+    ap (λ o. or_fault (BadField field) (option_and_then as_i64 (option_and_then as_number o))) h.0 ∙ ap (or_fault (BadField field)) (as_i64-of_integer z h.1)
+
+nodes_read : (d : Data) (list : List Name) → HasNodes d list → nodes_at d ≡ Ok list
+nodes_read d list h = array_read d Nodes nodes_in _ list h.0 (nodes_in-ids list h.1 h.2)
+
+members_read : (d : Data) (list : List (Name × List ℕ)) → HasMembers d list → members_at d ≡ Ok list
+members_read d list h = array_read d Members members_in _ list h.0 (members_in-trees list h.1 h.2)
+
 element_read : (d : Data) (element : Element Global) → HasElement d element → IsWhole element → element_at (kind_of element) d ≡ Ok element
 element_read d (elements.Node lat lon tags) h whole =
     three {D = Element Global} (λ x y z. elements.Node x y z) (lat_at d) (lon_at d) (tags_at d) lat lon tags
     (text_read d Lat latitude_of lat h.0) (text_read d Lon longitude_of lon h.1) (tags_read d tags h.2 whole.2)
 element_read d (elements.Way nodes tags) h whole =
-    let nodes_are : nodes_at d ≡ Ok nodes =
-    ap (λ o. or_fault (BadField Nodes) (option_and_then nodes_in (option_and_then as_array o))) h.0 ∙ ap (or_fault (BadField Nodes)) (nodes_in-ids nodes whole.0 whole.1) in
-    two {C = Element Global} (λ x y. elements.Way x y) (nodes_at d) (tags_at d) nodes tags nodes_are (tags_read d tags h.1 whole.2)
+    two {C = Element Global} (λ x y. elements.Way x y) (nodes_at d) (tags_at d) nodes tags (nodes_read d nodes (h.0, whole.0, whole.1)) (tags_read d tags h.1 whole.2)
 element_read d (elements.Relation members tags) h whole =
-    let members_are : members_at d ≡ Ok members =
-    ap (λ o. or_fault (BadField Members) (option_and_then members_in (option_and_then as_array o))) h.0 ∙ ap (or_fault (BadField Members)) (members_in-trees members whole.0 whole.1) in
-    two {C = Element Global} (λ x y. elements.Relation x y) (members_at d) (tags_at d) members tags members_are (tags_read d tags h.1 whole.2)
+    two {C = Element Global} (λ x y. elements.Relation x y) (members_at d) (tags_at d) members tags (members_read d members (h.0, whole.0, whole.1)) (tags_read d tags h.1 whole.2)
+
+-- the action of a message, done
+abbrev doing : Result (Action Global) Fault → Result Body Fault
+doing r = r >>= λ action. Ok (bodies.Change (requests.Do action))
 
 asked : (d : Data) (body : Body) → Asks d body → body_at d ≡ Ok body
 asked d (bodies.Change (requests.Do (actions.Create name element))) (word, named, has, kind, whole) =
     let element_is : element_at name.kind d ≡ Ok element = ap (λ k. element_at k d) (sym kind) ∙ element_read d element has whole in
-    word_read d Create word ∙ ap (λ r. r >>= λ action. Ok (bodies.Change (requests.Do action))) (created d name element (el_read d name named) element_is)
+    word_read d words.Create word ∙ ap doing (created d name element (el_read d name named) element_is)
+asked d (bodies.Change (requests.Do (actions.Retag name given))) (word, named, has, gifts) =
+    word_read d words.Retag word ∙ ap doing (two {C = Action Global} (λ x y. actions.Retag x y) (el_at d) (gifts_at d) name given (el_read d name named) (gifts_read d given has gifts))
+asked d (bodies.Change (requests.Do (actions.Move names dlat dlon))) (word, has, ids, north, east) =
+    word_read d words.Move word ∙ ap doing (three {D = Action Global} (λ x y z. actions.Move x y z) (els_at d) (distance_at Dlat d) (distance_at Dlon d) names dlat dlon
+    (els_read d names has ids) (distance_read d Dlat dlat north) (distance_read d Dlon dlon east))
+asked d (bodies.Change (requests.Do (actions.Reverse name))) (word, named) =
+    word_read d words.Reverse word ∙ ap (λ r. doing (r >>= λ name. Ok (actions.Reverse name))) (el_read d name named)
+asked d (bodies.Change (requests.Do (actions.Nodes name list))) (word, named, has) =
+    word_read d words.Nodes word ∙ ap doing (two {C = Action Global} (λ x y. actions.Nodes x y) (el_at d) (nodes_at d) name list (el_read d name named) (nodes_read d list has))
+asked d (bodies.Change (requests.Do (actions.Members name list))) (word, named, has) =
+    word_read d words.Members word ∙ ap doing (two {C = Action Global} (λ x y. actions.Members x y) (el_at d) (members_at d) name list (el_read d name named) (members_read d list has))
 asked d (bodies.Change (requests.Do (actions.Delete name))) (word, named) =
-    word_read d Delete word ∙ ap (λ r. r >>= λ name. Ok (bodies.Change (requests.Do (actions.Delete name)))) (el_read d name named)
+    word_read d words.Delete word ∙ ap (λ r. doing (r >>= λ name. Ok (actions.Delete name))) (el_read d name named)
 asked d (bodies.Change (requests.Undo seq)) (word, has) =
-    word_read d Undo word ∙ ap (λ r. r >>= λ seq. Ok (bodies.Change (requests.Undo seq))) (seq_read d seq has)
+    word_read d words.Undo word ∙ ap (λ r. r >>= λ seq. Ok (bodies.Change (requests.Undo seq))) (seq_read d seq has)
 asked d (bodies.Get name) (word, named) =
-    word_read d Get word ∙ ap (λ r. r >>= λ name. Ok (bodies.Get name)) (el_read d name named)
-asked d bodies.Map word = word_read d Map word
+    word_read d words.Get word ∙ ap (λ r. r >>= λ name. Ok (bodies.Get name)) (el_read d name named)
+asked d bodies.Map word = word_read d words.Map word
 
 pub message_spelled : (text : List ℕ) (d : Data) (message : Incoming) → read text ≡ Some d → IsMessage d message → spells text ≡ Ok message
 message_spelled text d message tree (id, asks) =

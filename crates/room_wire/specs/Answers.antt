@@ -1,13 +1,13 @@
 -- What a reply of the room, a refusal and a fault are answered with.
 use denote.Bor.{Bor}
-use Rattle.room_history.specs.declared.refusal.Refusal.{Refusal}
-use Rattle.room_history.specs.declared.refusal.Refusal.TheVariants as refusals
+use Rattle.edit_simple.specs.declared.refusal.Refusal.{Refusal}
+use Rattle.edit_simple.specs.declared.refusal.Refusal.TheVariants as refusals
 use Rattle.room_history.specs.declared.reply.Reply.{Reply}
 use Rattle.room_history.specs.declared.reply.Reply.TheVariants as replies
 use Rattle.room_wire.specs.declared.bad.Fault.{Fault}
 use Rattle.room_wire.specs.declared.bad.Fault.TheVariants as faults
 use Rattle.room_wire.specs.declared.answer.Answer.{Answer}
-use Rattle.room_wire.specs.declared.answer.Answer.TheVariants.{Done, Undid, Absent, Present, WrongKind, TooFew, TooMany, InUse, TagConflict, Repeat, NotLast, BadField, Memory, Full, NothingToUndo, NoSuch, NotYours, NotStanding, NotJson, NotObject, BadId, UnknownDo}
+use Rattle.room_wire.specs.declared.answer.Answer.TheVariants.{Done, Undid, Absent, Present, WrongKind, Same, OutOfRange, TooFew, TooMany, InUse, TagConflict, BadPosition, NotEndToEnd, Nothing, Repeat, NotLast, BadField, Memory, Full, NothingToUndo, NoSuch, NotYours, NotStanding, NotJson, NotObject, BadId, UnknownDo}
 
 -- a reference to a value, wherever that stands
 abbrev pub to_value : {X : Type 0} → X → Bor X
@@ -17,10 +17,15 @@ abbrev pub refusal_answer : {A : Type 0} → Refusal A → Answer
 refusal_answer (refusals.Absent name) = Absent name
 refusal_answer (refusals.Present name) = Present name
 refusal_answer (refusals.WrongKind name) = WrongKind name
+refusal_answer (refusals.Same name) = Same name
+refusal_answer refusals.BadPosition = BadPosition
+refusal_answer refusals.NotEndToEnd = NotEndToEnd
+refusal_answer (refusals.OutOfRange name) = OutOfRange name
 refusal_answer (refusals.TooFew name) = TooFew name
 refusal_answer (refusals.TooMany name) = TooMany name
 refusal_answer (refusals.InUse name user) = InUse name user
 refusal_answer (refusals.TagConflict key) = TagConflict (to_value key)
+refusal_answer refusals.Nothing = Nothing
 refusal_answer refusals.Memory = Memory
 
 abbrev pub reply_answer : {A : Type 0} → Reply A → Answer

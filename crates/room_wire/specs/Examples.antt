@@ -6,9 +6,10 @@ use Rattle.osm_elements.specs.declared.name.Kind.TheVariants as kinds
 use Rattle.osm_elements.specs.declared.element.Element.{Element}
 use Rattle.osm_elements.specs.declared.element.Element.TheVariants.{Node, Way, Relation}
 use Rattle.osm_elements.specs.NameTexts.{named}
-use Rattle.room_history.specs.declared.action.Action.TheVariants.{Create, Delete}
+use Rattle.edit_actions.specs.declared.action.Action.TheVariants as actions
+use Rattle.edit_actions.specs.declared.action.Action.TheVariants.{Create, Delete}
 use Rattle.room_history.specs.declared.call.Request.TheVariants.{Do, Undo}
-use Rattle.room_wire.specs.declared.field.Field.TheVariants.{El, Lat, Nodes, Members, Tags, Seq}
+use Rattle.room_wire.specs.declared.field.Field.TheVariants.{El, Els, Lat, Nodes, Members, Tags, Dlat, Dlon, Seq}
 use Rattle.room_wire.specs.declared.bad.Bad.{Bad}
 use Rattle.room_wire.specs.declared.bad.Fault.{Fault}
 use Rattle.room_wire.specs.declared.bad.Fault.TheVariants.{NotJson, NotObject, BadId, UnknownDo, BadField}
@@ -50,6 +51,12 @@ reads_messages =
     ≡ asks 2 (Change (Do (Create w1 (Way (n-1 ∷ n7 ∷ n-1 ∷ []) ((codes "a", codes "1") ∷ (codes "b", codes "2") ∷ []))))))
     × (spells (codes "{\"id\":2,\"do\":\"create\",\"el\":\"r-2\",\"members\":[[\"w1\",\"outer\"],[\"r-2\",\"\"],[\"w1\",\"outer\"]]}")
     ≡ asks 2 (Change (Do (Create r-2 (Relation ((w1, codes "outer") ∷ (r-2, []) ∷ (w1, codes "outer") ∷ []) [])))))
+    × (spells (codes "{\"id\":2,\"do\":\"retag\",\"el\":\"r-2\",\"tags\":{\"b\":\"\",\"a\":null}}") ≡ asks 2 (Change (Do (actions.Retag r-2 ((codes "a", None) ∷ (codes "b", Some []) ∷ [])))))
+    × (spells (codes "{\"id\":2,\"do\":\"move\",\"els\":[\"w1\",\"n7\",\"w1\"],\"dlat\":-1,\"dlon\":9223372036854775807}") ≡ asks 2 (Change (Do (actions.Move (w1 ∷ n7 ∷ w1 ∷ []) (negsuc 0) (pos 9223372036854775807)))))
+    × (spells (codes "{\"id\":2,\"do\":\"move\",\"els\":[],\"dlat\":-9223372036854775808,\"dlon\":0}") ≡ asks 2 (Change (Do (actions.Move [] (negsuc 9223372036854775807) (pos 0)))))
+    × (spells (codes "{\"id\":2,\"do\":\"reverse\",\"el\":\"n7\"}") ≡ asks 2 (Change (Do (actions.Reverse n7))))
+    × (spells (codes "{\"id\":2,\"do\":\"nodes\",\"el\":\"w1\",\"nodes\":[7,-1,7]}") ≡ asks 2 (Change (Do (actions.Nodes w1 (n7 ∷ n-1 ∷ n7 ∷ [])))))
+    × (spells (codes "{\"id\":2,\"do\":\"members\",\"el\":\"r-2\",\"members\":[[\"n7\",\"\"],[\"w1\",\"outer\"]]}") ≡ asks 2 (Change (Do (actions.Members r-2 ((n7, []) ∷ (w1, codes "outer") ∷ [])))))
     × (spells (codes "{\"id\":0,\"do\":\"delete\",\"el\":\"w1\",\"id\":3}") ≡ asks 3 (Change (Do (Delete w1))))
     × (spells (codes "{\"id\":4,\"do\":\"undo\",\"seq\":9}") ≡ asks 4 (Change (Undo (Some 9))))
     × (spells (codes "{\"id\":5,\"do\":\"undo\"}") ≡ asks 5 (Change (Undo None)))
@@ -86,6 +93,15 @@ tells_an_id =
     × (spells (codes "{\"id\":1,\"do\":\"create\",\"el\":\"n7\",\"lat\":\"90.0000001\",\"lon\":0,\"tags\":1}") ≡ fails 1 (BadField Lat))
     × (spells (codes "{\"id\":1,\"do\":\"create\",\"el\":\"w1\",\"nodes\":[1,0],\"tags\":1}") ≡ fails 1 (BadField Nodes))
     × (spells (codes "{\"id\":1,\"do\":\"create\",\"el\":\"w1\",\"nodes\":[],\"tags\":null}") ≡ fails 1 (BadField Tags))
+    × (spells (codes "{\"id\":1,\"do\":\"create\",\"el\":\"w1\",\"nodes\":[],\"tags\":{\"a\":null}}") ≡ fails 1 (BadField Tags))
+    × (spells (codes "{\"id\":1,\"do\":\"retag\",\"el\":\"w1\"}") ≡ fails 1 (BadField Tags))
+    × (spells (codes "{\"id\":1,\"do\":\"retag\",\"el\":\"w1\",\"tags\":{\"\":null}}") ≡ fails 1 (BadField Tags))
+    × (spells (codes "{\"id\":1,\"do\":\"retag\",\"el\":\"w1\",\"tags\":{\"a\":1}}") ≡ fails 1 (BadField Tags))
+    × (spells (codes "{\"id\":1,\"do\":\"move\",\"els\":[\"n7\",7],\"dlat\":\"1\"}") ≡ fails 1 (BadField Els))
+    × (spells (codes "{\"id\":1,\"do\":\"move\",\"els\":[],\"dlat\":1.0,\"dlon\":\"1\"}") ≡ fails 1 (BadField Dlat))
+    × (spells (codes "{\"id\":1,\"do\":\"move\",\"els\":[],\"dlat\":1,\"dlon\":9223372036854775808}") ≡ fails 1 (BadField Dlon))
+    × (spells (codes "{\"id\":1,\"do\":\"nodes\",\"el\":\"w1\",\"nodes\":null}") ≡ fails 1 (BadField Nodes))
+    × (spells (codes "{\"id\":1,\"do\":\"members\",\"el\":\"r-2\",\"nodes\":[]}") ≡ fails 1 (BadField Members))
     × (spells (codes "{\"id\":1,\"do\":\"undo\",\"seq\":null}") ≡ fails 1 (BadField Seq))
 
 -- the texts of some replies
@@ -94,6 +110,11 @@ writes_replies =
     (compact_text (tree_of 1 (answers.Done 1)) ≡ codes "{\"id\":1,\"ok\":{\"seq\":1}}")
     × (compact_text (tree_of 2 (answers.Undid 3 2)) ≡ codes "{\"id\":2,\"ok\":{\"seq\":3,\"undid\":2}}")
     × (compact_text (tree_of 1 (answers.InUse n-1 w1)) ≡ codes "{\"id\":1,\"no\":{\"by\":\"w1\",\"el\":\"n-1\",\"why\":\"in_use\"}}")
+    × (compact_text (tree_of 1 (answers.Same n-1)) ≡ codes "{\"id\":1,\"no\":{\"el\":\"n-1\",\"why\":\"same\"}}")
+    × (compact_text (tree_of 1 (answers.OutOfRange n-1)) ≡ codes "{\"id\":1,\"no\":{\"el\":\"n-1\",\"why\":\"out_of_range\"}}")
+    × (compact_text (tree_of 1 answers.BadPosition) ≡ codes "{\"id\":1,\"no\":{\"why\":\"bad_position\"}}")
+    × (compact_text (tree_of 1 answers.NotEndToEnd) ≡ codes "{\"id\":1,\"no\":{\"why\":\"not_end_to_end\"}}")
+    × (compact_text (tree_of 1 answers.Nothing) ≡ codes "{\"id\":1,\"no\":{\"why\":\"nothing\"}}")
     × (compact_text (tree_of 1 (answers.Repeat 1)) ≡ codes "{\"id\":1,\"no\":{\"seq\":1,\"why\":\"repeat\"}}")
     × (compact_text (tree_of 2 (answers.NotLast 2)) ≡ codes "{\"id\":2,\"no\":{\"why\":\"not_last\",\"with\":2}}")
     × (compact_text (tree_of 3 (answers.BadField El)) ≡ codes "{\"id\":3,\"no\":{\"field\":\"el\",\"why\":\"bad_field\"}}")

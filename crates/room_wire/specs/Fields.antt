@@ -1,13 +1,16 @@
 -- The keys of a message's fields. (RFC 8259, section 4: the names in an object. The keys are this project's.)
 use Rattle.std.specs.Prelude.{ℕ, List, codes}
 use Rattle.room_wire.specs.declared.field.Field.{Field}
-use Rattle.room_wire.specs.declared.field.Field.TheVariants.{El, Lat, Lon, Nodes, Members, Tags, Seq}
+use Rattle.room_wire.specs.declared.field.Field.TheVariants.{El, Els, Lat, Lon, Nodes, Members, Tags, Dlat, Dlon, Seq}
 
 abbrev pub field_text : Field → List ℕ
 field_text El = codes "el"
+field_text Els = codes "els"
 field_text Lat = codes "lat"
 field_text Lon = codes "lon"
 field_text Nodes = codes "nodes"
 field_text Members = codes "members"
 field_text Tags = codes "tags"
+field_text Dlat = codes "dlat"
+field_text Dlon = codes "dlon"
 field_text Seq = codes "seq"

@@ -6,3 +6,4 @@ pub mod Reading
 pub mod Spelling
 pub mod Trees
 pub mod WellFormed
+pub mod Words

@@ -5,7 +5,7 @@ use Rattle.std.specs.Str.{bytes_eq}
 use Rattle.std.specs.declared.alloc.Global.{Global}
 use Rattle.serde_json.specs.Data.{Data, Items, no_items, item, Members as ObjectMembers, no_members, member}
 use Rattle.serde_json.specs.Events.{members_len}
-use Rattle.serde_json.specs.Find.{get, as_str, as_number, as_array, as_object, as_u64, as_i64}
+use Rattle.serde_json.specs.Find.{get, as_null, as_str, as_number, as_array, as_object, as_u64, as_i64}
 use Rattle.serde_json.specs.Read.{read}
 use Rattle.osm_coords.specs.Latitude.{latitude_of}
 use Rattle.osm_coords.specs.Longitude.{longitude_of}
@@ -19,11 +19,12 @@ use Rattle.osm_elements.specs.declared.element.Element.TheVariants as elements
 use Rattle.osm_elements.specs.NameTexts.{name_of, name_with}
 use Rattle.osm_elements.specs.TagRows.{Pairs}
 use Rattle.osm_elements.specs.Texts.{is_long}
-use Rattle.room_history.specs.declared.action.Action.{Action}
-use Rattle.room_history.specs.declared.action.Action.TheVariants as actions
+use Rattle.edit_simple.specs.Tagging.{Gifts}
+use Rattle.edit_actions.specs.declared.action.Action.{Action}
+use Rattle.edit_actions.specs.declared.action.Action.TheVariants as actions
 use Rattle.room_history.specs.declared.call.Request.TheVariants as requests
 use Rattle.room_wire.specs.declared.field.Field.{Field}
-use Rattle.room_wire.specs.declared.field.Field.TheVariants.{El, Lat, Lon, Nodes, Members, Tags, Seq}
+use Rattle.room_wire.specs.declared.field.Field.TheVariants.{El, Els, Lat, Lon, Nodes, Members, Tags, Dlat, Dlon, Seq}
 use Rattle.room_wire.specs.declared.bad.Fault.{Fault}
 use Rattle.room_wire.specs.declared.bad.Fault.TheVariants.{NotJson, NotObject, BadId, UnknownDo, BadField, Memory}
 use Rattle.room_wire.specs.declared.bad.Bad.{Bad}
@@ -56,6 +57,20 @@ abbrev pub items_in : {X : Type 0} → (Data → Option X) → Items → Option 
 items_in reading no_items = Some []
 items_in reading (item d ds) = option_and_then (λ x. option_map (λ xs. x ∷ xs) (items_in reading ds)) (reading d)
 
+-- an array of names
+abbrev pub name_item : Data → Option Name
+name_item d = option_and_then name_of (as_str d)
+
+abbrev pub names_in : Items → Option (List Name)
+names_in = items_in name_item
+
+abbrev pub els_at : Data → Result (List Name) Fault
+els_at d = or_fault (BadField Els) (option_and_then names_in (option_and_then as_array (get (field_text Els) d)))
+
+-- a whole number that is an i64
+abbrev pub distance_at : Field → Data → Result ℤ Fault
+distance_at field d = or_fault (BadField field) (option_and_then as_i64 (option_and_then as_number (get (field_text field) d)))
+
 -- an array of whole numbers, each an i64 other than 0: the ids of nodes
 abbrev pub node_of : Data → Option Name
 node_of d = option_and_then (name_with kinds.Node) (option_and_then as_i64 (as_number d))
@@ -72,7 +87,7 @@ text_of text = if is_long text then None else Some text
 
 -- an array of members, each an array of two strings: a name, and a role of at most 255 characters
 abbrev pub member_with : Data → Data → Option (Name × List ℕ)
-member_with d e = option_and_then (λ name. option_map (λ role. (name, role)) (option_and_then text_of (as_str e))) (option_and_then name_of (as_str d))
+member_with d e = option_and_then (λ name. option_map (λ role. (name, role)) (option_and_then text_of (as_str e))) (name_item d)
 
 abbrev pub member_in : Items → Option (Name × List ℕ)
 member_in no_items = None
@@ -89,19 +104,33 @@ members_in = items_in member_of
 abbrev pub members_at : Data → Result (List (Name × List ℕ)) Fault
 members_at d = or_fault (BadField Members) (option_and_then members_in (option_and_then as_array (get (field_text Members) d)))
 
--- an object of at most 1,000 keys, each of 1 to 255 characters, and each value a string of at most 255
+-- an object of at most 1,000 keys, each of 1 to 255 characters, and each value of the form that is read
 abbrev pub key_of : List ℕ → Option (List ℕ)
 key_of text = if nat_eq (length text) 0 then None else text_of text
 
-abbrev pub tag_of : List ℕ → Data → Option (List ℕ × List ℕ)
-tag_of k d = option_and_then (λ key. option_map (λ value. (key, value)) (option_and_then text_of (as_str d))) (key_of k)
+abbrev pub entry_of : {V : Type 0} → (Data → Option V) → List ℕ → Data → Option (List ℕ × V)
+entry_of reading k d = option_and_then (λ key. option_map (λ value. (key, value)) (reading d)) (key_of k)
 
-abbrev pub tags_in : ObjectMembers → Option Pairs
-tags_in no_members = Some []
-tags_in (member k d ms) = option_and_then (λ tag. option_map (λ tags. tag ∷ tags) (tags_in ms)) (tag_of k d)
+abbrev pub entries_in : {V : Type 0} → (Data → Option V) → ObjectMembers → Option (List (List ℕ × V))
+entries_in reading no_members = Some []
+entries_in reading (member k d ms) = option_and_then (λ e. option_map (λ es. e ∷ es) (entries_in reading ms)) (entry_of reading k d)
+
+abbrev pub entries_of : {V : Type 0} → (Data → Option V) → ObjectMembers → Option (List (List ℕ × V))
+entries_of reading ms = if nat_le (members_len ms) 1000 then entries_in reading ms else None
+
+-- a value is a string of at most 255 characters
+abbrev pub value_of : Data → Option (List ℕ)
+value_of d = option_and_then text_of (as_str d)
 
 abbrev pub tags_of : ObjectMembers → Option Pairs
-tags_of ms = if nat_le (members_len ms) 1000 then tags_in ms else None
+tags_of = entries_of value_of
+
+-- what a key is given is a value, or null for none
+abbrev pub given_of : Data → Option (Option (List ℕ))
+given_of d = if is_some (as_null d) then Some None else option_map Some (value_of d)
+
+abbrev pub gifts_of : ObjectMembers → Option Gifts
+gifts_of = entries_of given_of
 
 -- what refuses a text or a tag of a field, to a message
 abbrev pub fault_in : Field → TextFault → Fault
@@ -117,6 +146,9 @@ tags_from (Some d) = or_fault (BadField Tags) (option_and_then tags_of (as_objec
 
 abbrev pub tags_at : Data → Result Pairs Fault
 tags_at d = tags_from (get (field_text Tags) d)
+
+abbrev pub gifts_at : Data → Result Gifts Fault
+gifts_at d = or_fault (BadField Tags) (option_and_then gifts_of (option_and_then as_object (get (field_text Tags) d)))
 
 abbrev pub seq_from : Option Data → Result (Option ℕ) Fault
 seq_from None = Ok None
@@ -134,15 +166,38 @@ element_at kinds.Relation d = members_at d >>= λ members. tags_at d >>= λ tags
 abbrev pub create_at : Data → Result (Action Global) Fault
 create_at d = el_at d >>= λ name. element_at name.kind d >>= λ element. Ok (actions.Create name element)
 
+-- the other actions
+abbrev pub retag_at : Data → Result (Action Global) Fault
+retag_at d = el_at d >>= λ name. gifts_at d >>= λ given. Ok (actions.Retag name given)
+
+abbrev pub move_at : Data → Result (Action Global) Fault
+move_at d = els_at d >>= λ names. distance_at Dlat d >>= λ dlat. distance_at Dlon d >>= λ dlon. Ok (actions.Move names dlat dlon)
+
+abbrev pub relist_way_at : Data → Result (Action Global) Fault
+relist_way_at d = el_at d >>= λ name. nodes_at d >>= λ list. Ok (actions.Nodes name list)
+
+abbrev pub relist_relation_at : Data → Result (Action Global) Fault
+relist_relation_at d = el_at d >>= λ name. members_at d >>= λ list. Ok (actions.Members name list)
+
+-- the action that the word asks for
+abbrev pub action_by : List ℕ → Data → Result (Action Global) Fault
+action_by word d =
+    if bytes_eq word (codes "create") then create_at d
+    else (if bytes_eq word (codes "retag") then retag_at d
+    else (if bytes_eq word (codes "move") then move_at d
+    else (if bytes_eq word (codes "reverse") then (el_at d >>= λ name. Ok (actions.Reverse name))
+    else (if bytes_eq word (codes "nodes") then relist_way_at d
+    else (if bytes_eq word (codes "members") then relist_relation_at d
+    else (if bytes_eq word (codes "delete") then (el_at d >>= λ name. Ok (actions.Delete name))
+    else Err UnknownDo))))))
+
 -- what the word asks for
 abbrev pub body_by : List ℕ → Data → Result Body Fault
 body_by word d =
-    if bytes_eq word (codes "create") then (create_at d >>= λ action. Ok (Change (requests.Do action)))
-    else (if bytes_eq word (codes "delete") then (el_at d >>= λ name. Ok (Change (requests.Do (actions.Delete name))))
-    else (if bytes_eq word (codes "undo") then (seq_at d >>= λ seq. Ok (Change (requests.Undo seq)))
+    if bytes_eq word (codes "undo") then (seq_at d >>= λ seq. Ok (Change (requests.Undo seq)))
     else (if bytes_eq word (codes "get") then (el_at d >>= λ name. Ok (Get name))
     else (if bytes_eq word (codes "map") then Ok Map
-    else Err UnknownDo))))
+    else (action_by word d >>= λ action. Ok (Change (requests.Do action)))))
 
 -- the word of a message
 abbrev pub word_at : Data → Result (List ℕ) Fault

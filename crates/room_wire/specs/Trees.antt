@@ -10,7 +10,7 @@ use Rattle.osm_elements.specs.declared.element.Element.TheVariants as elements
 use Rattle.osm_elements.specs.NameTexts.{name_text}
 use Rattle.osm_elements.specs.TagRows.{Pairs}
 use Rattle.room_wire.specs.declared.answer.Answer.{Answer}
-use Rattle.room_wire.specs.declared.answer.Answer.TheVariants.{Done, Undid, Is, Map, Absent, Present, WrongKind, TooFew, TooMany, InUse, TagConflict, Repeat, NotLast, BadField, Memory, Full, NothingToUndo, NoSuch, NotYours, NotStanding, NotJson, NotObject, BadId, UnknownDo, BadLine}
+use Rattle.room_wire.specs.declared.answer.Answer.TheVariants.{Done, Undid, Is, Map, Absent, Present, WrongKind, Same, OutOfRange, TooFew, TooMany, InUse, TagConflict, BadPosition, NotEndToEnd, Nothing, Repeat, NotLast, BadField, Memory, Full, NothingToUndo, NoSuch, NotYours, NotStanding, NotJson, NotObject, BadId, UnknownDo, BadLine}
 use Rattle.room_wire.specs.Fields.{field_text}
 
 abbrev pub whole : ℕ → Data
@@ -33,10 +33,13 @@ member_tree m = array (item (name_tree m.0) (item (string m.1) no_items))
 abbrev pub members_tree : List (Name × List ℕ) → Data
 members_tree members = array (items_of (map member_tree members))
 
--- a member of an object for each tag
+-- a member of an object for each key
+abbrev pub entry_members : {V : Type 0} → (V → Data) → List (List ℕ × V) → Members
+entry_members tree [] = no_members
+entry_members tree (e ∷ es) = member e.0 (tree e.1) (entry_members tree es)
+
 abbrev pub tag_members : Pairs → Members
-tag_members [] = no_members
-tag_members (e ∷ es) = member e.0 (string e.1) (tag_members es)
+tag_members = entry_members string
 
 abbrev pub tags_tree : Pairs → Data
 tags_tree tags = object (tag_members tags)
@@ -75,6 +78,8 @@ tree_of id (Map rows front) = ok_tree id (object (member (codes "map") (rows_tre
 tree_of id (Absent name) = about id name (codes "absent")
 tree_of id (Present name) = about id name (codes "present")
 tree_of id (WrongKind name) = about id name (codes "wrong_kind")
+tree_of id (Same name) = about id name (codes "same")
+tree_of id (OutOfRange name) = about id name (codes "out_of_range")
 tree_of id (TooFew name) = about id name (codes "too_few")
 tree_of id (TooMany name) = about id name (codes "too_many")
 tree_of id (InUse name user) = no_tree id (object (member (codes "by") (name_tree user) (member (codes "el") (name_tree name) (member (codes "why") (string (codes "in_use")) no_members))))
@@ -82,6 +87,9 @@ tree_of id (TagConflict key) = no_tree id (object (member (codes "key") (string 
 tree_of id (Repeat seq) = no_tree id (object (member (codes "seq") (whole seq) (member (codes "why") (string (codes "repeat")) no_members)))
 tree_of id (NotLast blocker) = no_tree id (object (member (codes "why") (string (codes "not_last")) (member (codes "with") (whole blocker) no_members)))
 tree_of id (BadField field) = no_tree id (object (member (codes "field") (string (field_text field)) (member (codes "why") (string (codes "bad_field")) no_members)))
+tree_of id BadPosition = bare id (codes "bad_position")
+tree_of id NotEndToEnd = bare id (codes "not_end_to_end")
+tree_of id Nothing = bare id (codes "nothing")
 tree_of id Memory = bare id (codes "memory")
 tree_of id Full = bare id (codes "full")
 tree_of id NothingToUndo = bare id (codes "nothing_to_undo")

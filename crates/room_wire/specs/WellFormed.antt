@@ -1,7 +1,9 @@
 -- Well-formed messages, and the first field of another one that is not well formed. (The words and fields are this project's.)
-use Rattle.std.specs.Prelude.{◌≡◌, ◌≤◌, ◌⊎◌, ℕ, Bool, true, false, List, [], ◌∷◌, Option, Some, None, Result, Ok, Err, codes, is_ok}
-use Rattle.serde_json.specs.Data.{Data, string}
-use Rattle.serde_json.specs.Find.{get}
+use Rattle.std.specs.Prelude.{◌≡◌, ◌≤◌, ◌⊎◌, All, FitsSigned, ℕ, ℤ, Bool, true, false, List, [], ◌∷◌, map, Option, Some, None, Result, Ok, Err, codes, is_ok}
+use Rattle.std.specs.Int.{w64}
+use Rattle.serde_json.specs.Data.{Data, null, number, string, array, object}
+use Rattle.serde_json.specs.Find.{get, of_integer}
+use Rattle.serde_json.specs.View.{items_of}
 use Rattle.osm_coords.specs.Latitude.{latitude_of}
 use Rattle.osm_coords.specs.Longitude.{longitude_of}
 use Rattle.osm_elements.specs.declared.name.Name.{Name}
@@ -10,34 +12,24 @@ use Rattle.osm_elements.specs.declared.name.Kind.TheVariants as kinds
 use Rattle.osm_elements.specs.declared.element.Element.{Element}
 use Rattle.osm_elements.specs.declared.element.Element.TheVariants as elements
 use Rattle.osm_elements.specs.Elements.{kind_of}
+use Rattle.osm_elements.specs.Members.{AreMembers}
+use Rattle.osm_elements.specs.Nodes.{AreNodes}
 use Rattle.osm_elements.specs.TagRows.{Pairs}
-use Rattle.room_history.specs.declared.action.Action.TheVariants as actions
+use Rattle.edit_simple.specs.Tagging.{AreGifts, Gifts}
+use Rattle.edit_actions.specs.declared.action.Action.TheVariants as actions
 use Rattle.room_history.specs.declared.call.Request.TheVariants as requests
 use Rattle.room_wire.specs.declared.bad.Fault.{Fault}
 use Rattle.room_wire.specs.declared.field.Field.{Field}
-use Rattle.room_wire.specs.declared.field.Field.TheVariants.{El, Lat, Lon, Nodes, Members, Tags, Seq}
+use Rattle.room_wire.specs.declared.field.Field.TheVariants.{El, Els, Lat, Lon, Nodes, Members, Tags, Dlat, Dlon, Seq}
 use Rattle.room_wire.specs.declared.incoming.Incoming.{Incoming}
 use Rattle.room_wire.specs.declared.incoming.Body.{Body}
 use Rattle.room_wire.specs.declared.incoming.Body.TheVariants as bodies
 use Rattle.room_wire.specs.Fields.{field_text}
 use Rattle.room_wire.specs.ReadBack.{HasId, IsWhole}
-use Rattle.room_wire.specs.Spelling.{el_at, lat_at, lon_at, members_at, nodes_at, seq_at, tags_at}
-use Rattle.room_wire.specs.Trees.{members_tree, name_tree, nodes_tree, tags_tree, whole}
-
--- the words of messages, and their texts
-pub data Word : Type 0 where
-  Create : Word
-  Delete : Word
-  Undo : Word
-  Get : Word
-  Map : Word
-
-abbrev pub word_text : Word → List ℕ
-word_text Create = codes "create"
-word_text Delete = codes "delete"
-word_text Undo = codes "undo"
-word_text Get = codes "get"
-word_text Map = codes "map"
+use Rattle.room_wire.specs.Spelling.{distance_at, el_at, els_at, gifts_at, lat_at, lon_at, members_at, nodes_at, seq_at, tags_at}
+use Rattle.room_wire.specs.Trees.{entry_members, members_tree, name_tree, nodes_tree, tags_tree, whole}
+use Rattle.room_wire.specs.Words.{Word, word_text}
+use Rattle.room_wire.specs.Words as words
 
 -- a message asks for something by this word
 abbrev pub HasWord : Data → Word → Type 0
@@ -67,6 +59,17 @@ IsMissing d field = get (field_text field) d ≡ None
 abbrev pub HasTags : Data → Pairs → Type 0
 HasTags d tags = Has d Tags (tags_tree tags) ⊎ (IsMissing d Tags × (tags ≡ []))
 
+-- what keys are given, null where that is nothing
+abbrev pub given_tree : Option (List ℕ) → Data
+given_tree None = null
+given_tree (Some value) = string value
+
+abbrev pub gifts_tree : Gifts → Data
+gifts_tree given = object (entry_members given_tree given)
+
+abbrev pub names_tree : List Name → Data
+names_tree names = array (items_of (map name_tree names))
+
 abbrev pub HasSeq : Data → Option ℕ → Type 0
 HasSeq d None = IsMissing d Seq
 HasSeq d (Some seq) = Has d Seq (whole seq) × IsNumber seq
@@ -74,6 +77,17 @@ HasSeq d (Some seq) = Has d Seq (whole seq) × IsNumber seq
 -- the name of an element, whose id is an i64
 abbrev pub HasName : Data → Name → Type 0
 HasName d name = Has d El (name_tree name) × HasId name
+
+-- a distance, which is an i64
+abbrev pub HasDistance : Data → Field → ℤ → Type 0
+HasDistance d field z = Has d field (number (of_integer z)) × FitsSigned w64 z
+
+-- the nodes of a way, and the members of a relation
+abbrev pub HasNodes : Data → List Name → Type 0
+HasNodes d list = Has d Nodes (nodes_tree list) × AreNodes list × All HasId list
+
+abbrev pub HasMembers : Data → List (Name × List ℕ) → Type 0
+HasMembers d list = Has d Members (members_tree list) × AreMembers list × All (λ (m : Name × List ℕ). HasId m.0) list
 
 -- an element, of whose parts holds what their types keep
 abbrev pub HasElement : {A : Type 0} → Data → Element A → Type 0
@@ -84,11 +98,17 @@ HasElement d (elements.Relation members tags) = Has d Members (members_tree memb
 -- the word and the fields of a message, by what it asks for
 abbrev pub Asks : Data → Body → Type 0
 Asks d (bodies.Change (requests.Do (actions.Create name element))) =
-    HasWord d Create × HasName d name × HasElement d element × (kind_of element ≡ name.kind) × IsWhole element
-Asks d (bodies.Change (requests.Do (actions.Delete name))) = HasWord d Delete × HasName d name
-Asks d (bodies.Change (requests.Undo seq)) = HasWord d Undo × HasSeq d seq
-Asks d (bodies.Get name) = HasWord d Get × HasName d name
-Asks d bodies.Map = HasWord d Map
+    HasWord d words.Create × HasName d name × HasElement d element × (kind_of element ≡ name.kind) × IsWhole element
+Asks d (bodies.Change (requests.Do (actions.Retag name given))) = HasWord d words.Retag × HasName d name × Has d Tags (gifts_tree given) × AreGifts given
+Asks d (bodies.Change (requests.Do (actions.Move names dlat dlon))) =
+    HasWord d words.Move × Has d Els (names_tree names) × All HasId names × HasDistance d Dlat dlat × HasDistance d Dlon dlon
+Asks d (bodies.Change (requests.Do (actions.Reverse name))) = HasWord d words.Reverse × HasName d name
+Asks d (bodies.Change (requests.Do (actions.Nodes name list))) = HasWord d words.Nodes × HasName d name × HasNodes d list
+Asks d (bodies.Change (requests.Do (actions.Members name list))) = HasWord d words.Members × HasName d name × HasMembers d list
+Asks d (bodies.Change (requests.Do (actions.Delete name))) = HasWord d words.Delete × HasName d name
+Asks d (bodies.Change (requests.Undo seq)) = HasWord d words.Undo × HasSeq d seq
+Asks d (bodies.Get name) = HasWord d words.Get × HasName d name
+Asks d bodies.Map = HasWord d words.Map
 
 -- the tree has the members of this message, in whatever order it had them, and whatever else it has
 abbrev pub IsMessage : Data → Incoming → Type 0
@@ -114,11 +134,16 @@ named_slots (Ok name) d = element_slots name.kind d
 named_slots (Err fault) d = []
 
 abbrev pub slots : Word → Data → List Slot
-slots Create d = slot El (el_at d) ∷ named_slots (el_at d) d
-slots Delete d = slot El (el_at d) ∷ []
-slots Undo d = slot Seq (seq_at d) ∷ []
-slots Get d = slot El (el_at d) ∷ []
-slots Map d = []
+slots words.Create d = slot El (el_at d) ∷ named_slots (el_at d) d
+slots words.Retag d = slot El (el_at d) ∷ slot Tags (gifts_at d) ∷ []
+slots words.Move d = slot Els (els_at d) ∷ slot Dlat (distance_at Dlat d) ∷ slot Dlon (distance_at Dlon d) ∷ []
+slots words.Reverse d = slot El (el_at d) ∷ []
+slots words.Nodes d = slot El (el_at d) ∷ slot Nodes (nodes_at d) ∷ []
+slots words.Members d = slot El (el_at d) ∷ slot Members (members_at d) ∷ []
+slots words.Delete d = slot El (el_at d) ∷ []
+slots words.Undo d = slot Seq (seq_at d) ∷ []
+slots words.Get d = slot El (el_at d) ∷ []
+slots words.Map d = []
 
 -- the fields before it are well formed, and this one is not
 abbrev pub IsFirstBad : List Slot → Field → Type 0

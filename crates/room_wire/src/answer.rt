@@ -3,11 +3,11 @@ ghost use Rattle.std.specs.Prelude.{◌≡◌};
 
 use crate::bad::Fault;
 use crate::field::Field;
+use edit_simple::refusal::Refusal;
 use osm_elements::element::Element;
 use osm_elements::map::Rows;
 use osm_elements::name::Name;
 use osm_elements::text::Text;
-use room_history::refusal::Refusal;
 use room_history::reply::Reply;
 use std::alloc::Global;
 
@@ -46,9 +46,13 @@ pub enum Answer<'a> {
     Present(Name),
     /// The name is of another kind than the element or the action wants.
     WrongKind(Name),
+    /// The action wants two elements, and this name is given for both.
+    Same(Name),
+    /// This node would leave the range of latitudes or longitudes.
+    OutOfRange(Name),
     /// This way has too few nodes.
     TooFew(Name),
-    /// This way has too many nodes, or this relation too many members.
+    /// This way has too many nodes, this relation too many members, or this element too many tags.
     TooMany(Name),
     /// The element is referred to.
     InUse {
@@ -59,6 +63,12 @@ pub enum Answer<'a> {
     },
     /// Two elements that are to be one have different values at this key.
     TagConflict(&'a Text<Global>),
+    /// A way is to be split where it has no two parts.
+    BadPosition,
+    /// Two ways are to be joined, and the first does not end where the second begins.
+    NotEndToEnd,
+    /// The map after the action would be the map before it.
+    Nothing,
     /// The author's accepted entry of this number spent the id.
     Repeat {
         /// The number of that entry.
@@ -106,6 +116,10 @@ impl<'a> From<&'a Refusal<Global>> for Answer<'a> {
             Refusal::Absent(name) => Answer::Absent(*name),
             Refusal::Present(name) => Answer::Present(*name),
             Refusal::WrongKind(name) => Answer::WrongKind(*name),
+            Refusal::Same(name) => Answer::Same(*name),
+            Refusal::BadPosition => Answer::BadPosition,
+            Refusal::NotEndToEnd => Answer::NotEndToEnd,
+            Refusal::OutOfRange(name) => Answer::OutOfRange(*name),
             Refusal::TooFew(name) => Answer::TooFew(*name),
             Refusal::TooMany(name) => Answer::TooMany(*name),
             Refusal::InUse(name, user) => Answer::InUse {
@@ -113,6 +127,7 @@ impl<'a> From<&'a Refusal<Global>> for Answer<'a> {
                 user: *user,
             },
             Refusal::TagConflict(key) => Answer::TagConflict(key),
+            Refusal::Nothing => Answer::Nothing,
             Refusal::Memory => Answer::Memory,
         }
     }

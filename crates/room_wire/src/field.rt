@@ -7,6 +7,8 @@ ghost use Rattle.room_wire.specs.Fields.{field_text};
 pub enum Field {
     /// The name of an element.
     El,
+    /// The names of elements.
+    Els,
     /// A node's latitude.
     Lat,
     /// A node's longitude.
@@ -15,8 +17,12 @@ pub enum Field {
     Nodes,
     /// A relation's members.
     Members,
-    /// An element's tags.
+    /// An element's tags, or what its keys are given.
     Tags,
+    /// How far to the north.
+    Dlat,
+    /// How far to the east.
+    Dlon,
     /// The number of an entry.
     Seq,
 }
@@ -28,11 +34,14 @@ impl Field {
     {
         match self {
             Field::El => "el",
+            Field::Els => "els",
             Field::Lat => "lat",
             Field::Lon => "lon",
             Field::Nodes => "nodes",
             Field::Members => "members",
             Field::Tags => "tags",
+            Field::Dlat => "dlat",
+            Field::Dlon => "dlon",
             Field::Seq => "seq",
         }
     }

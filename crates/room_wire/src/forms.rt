@@ -1,14 +1,12 @@
 //! The fields of a message, each read by its form.
-ghost use Rattle.std.specs.Prelude.{◌≡◌, ◌≢◌, ◌<◌, [], length, IfSome, OnOk, IfErr};
-ghost use Rattle.std.specs.FinMap.Entries.{put};
+ghost use Rattle.std.specs.Prelude.{◌≡◌, IfSome};
 ghost use Rattle.std.specs.Option.{option_map};
-ghost use Rattle.serde_json.specs.View.{view, items_view, members_view};
+ghost use Rattle.serde_json.specs.View.{view, items_view};
 ghost use Rattle.room_wire.specs.Reading.{Gives, or_fault};
-ghost use Rattle.room_wire.specs.Spelling.{text_at, el_at, lat_at, lon_at, node_of, nodes_in, nodes_at, member_with, member_in, member_of, members_in, members_at, text_of, tag_of, tags_of, tags_at, seq_at, ordinal, fault_in};
-ghost use Rattle.osm_elements.specs.TagRows.{text_cmp};
+ghost use Rattle.room_wire.specs.Spelling.{text_at, el_at, name_item, names_in, els_at, distance_at, lat_at, lon_at, node_of, nodes_in, nodes_at, member_with, member_in, member_of, members_in, members_at, text_of, seq_at, ordinal, fault_in};
 ghost use Rattle.osm_elements.specs.NameTexts.{name_with};
 ghost use Rattle.osm_elements.specs.declared.name.Kind.TheVariants as kind;
-ghost use Rattle.room_wire.specs.declared.bad.Fault.TheVariants.{BadField, Memory};
+ghost use Rattle.room_wire.specs.declared.bad.Fault.TheVariants.{BadField};
 ghost use Rattle.room_wire.specs.declared.field.Field.TheVariants as field;
 
 use crate::bad::Fault;
@@ -18,10 +16,10 @@ use osm_elements::fault::TextFault;
 use osm_elements::member::Member;
 use osm_elements::members::Members;
 use osm_elements::name::{Kind, Name};
+use osm_elements::names::Names;
 use osm_elements::nodes::Nodes;
-use osm_elements::tags::{MOST_TAGS, Tags};
 use osm_elements::text::Text;
-use serde_json::{Map, Value};
+use serde_json::Value;
 use std::alloc::Global;
 
 // The greatest whole number that means the same to every reader of JSON.
@@ -53,6 +51,48 @@ pub fn el_of(message: &Value) -> Result<Name, Fault>
     text_at(message, Field::El)
         .and_then(Name::read)
         .ok_or(Fault::BadField(Field::El))
+}
+
+// The names of elements.
+pub fn els_of(alloc: Global, message: &Value) -> Result<Names<Global>, Fault>
+    ensures { Gives result (els_at (view message.now)) }
+{
+    let items = message
+        .get(Field::Els.as_str())
+        .and_then(Value::as_array)
+        .ok_or(Fault::BadField(Field::Els))?;
+    names_in(alloc, items)
+}
+
+// The names that these items are.
+fn names_in(alloc: Global, items: &[Value]) -> Result<Names<Global>, Fault>
+    ensures { Gives result (or_fault (BadField field.Els) (names_in (items_view items.now))) }
+{
+    let mut names = Names::empty(alloc);
+    for item in items {
+        match name_item(item) {
+            Some(name) => names.push(name)?,
+            None => return Err(Fault::BadField(Field::Els)),
+        }
+    }
+    Ok(names)
+}
+
+// The name that a string is.
+fn name_item(item: &Value) -> Option<Name>
+    ensures { result ≡ name_item (view item.now) }
+{
+    item.as_str().and_then(Name::read)
+}
+
+// How far to move, to the north or to the east.
+pub fn distance_of(message: &Value, field: Field) -> Result<i64, Fault>
+    ensures { result ≡ distance_at field (view message.now) }
+{
+    message
+        .get(field.as_str())
+        .and_then(Value::as_i64)
+        .ok_or(Fault::BadField(field))
 }
 
 // A node's latitude.
@@ -159,10 +199,7 @@ fn member_in(alloc: Global, items: &[Value]) -> Result<(Name, Text<Global>), Fau
 fn member_with(alloc: Global, name: &Value, role: &Value) -> Result<(Name, Text<Global>), Fault>
     ensures { Gives result (or_fault (BadField field.Members) (member_with (view name.now) (view role.now))) }
 {
-    let name = name
-        .as_str()
-        .and_then(Name::read)
-        .ok_or(Fault::BadField(Field::Members))?;
+    let name = name_item(name).ok_or(Fault::BadField(Field::Members))?;
     let role = role.as_str().ok_or(Fault::BadField(Field::Members))?;
     let role = text_of(alloc, Field::Members, role)?;
     Ok((name, role))
@@ -181,68 +218,15 @@ pub fn seq_of(message: &Value) -> Result<Option<u64>, Fault>
     }
 }
 
-// The tags of an element, which may be missing.
-pub fn tags_of(alloc: Global, message: &Value) -> Result<Tags<Global>, Fault>
-    ensures { Gives result (tags_at (view message.now)) }
-{
-    match message.get(Field::Tags.as_str()) {
-        None => Ok(Tags::empty(alloc)),
-        Some(value) => {
-            let members = value.as_object().ok_or(Fault::BadField(Field::Tags))?;
-            tags_in(alloc, members)
-        }
-    }
-}
-
-// The tags with these keys and values.
-fn tags_in(alloc: Global, members: &Map<String, Value>) -> Result<Tags<Global>, Fault>
-    ensures { Gives result
-        (or_fault (BadField field.Tags) (tags_of (members_view members.now.entries))) }
-{
-    if members.len() > MOST_TAGS {
-        return Err(Fault::BadField(Field::Tags));
-    }
-    let mut tags = Tags::empty(alloc);
-    for (key, value) in members {
-        let (key, value) = tag_of(alloc, key.as_str(), value)?;
-        put_tag(&mut tags, key, value)?;
-    }
-    Ok(tags)
-}
-
-// The key and the value of a tag.
-fn tag_of(alloc: Global, key: &str, value: &Value) -> Result<(Text<Global>, Text<Global>), Fault>
-    ensures { Gives result (or_fault (BadField field.Tags) (tag_of key.now (view value.now))) }
-{
-    if key.is_empty() {
-        return Err(Fault::BadField(Field::Tags));
-    }
-    let key = text_of(alloc, Field::Tags, key)?;
-    let value = value.as_str().ok_or(Fault::BadField(Field::Tags))?;
-    let value = text_of(alloc, Field::Tags, value)?;
-    Ok((key, value))
-}
-
 // A key, a value or a role.
-fn text_of(alloc: Global, field: Field, text: &str) -> Result<Text<Global>, Fault>
+pub fn text_of(alloc: Global, field: Field, text: &str) -> Result<Text<Global>, Fault>
     ensures { Gives result (or_fault (BadField field) (text_of text.now)) }
 {
     Text::new(alloc, text).map_err(|fault| fault_in(field, fault))
 }
 
-// Gives a key its value, where there is room for one more tag.
-fn put_tag(tags: &mut Tags<Global>, key: Text<Global>, value: Text<Global>) -> Result<(), Fault>
-    requires key { key ≢ [] }
-    requires room { length tags.old < 1000 }
-    ensures ok { OnOk result (tags.new ≡ put text_cmp key value tags.old) }
-    ensures err { IfErr result (λ f. f ≡ Memory) }
-{
-    tags.set(key, value)
-        .map_err(|fault| fault_in(Field::Tags, fault))
-}
-
 // What a fault of a text or a tag of a field is to a message.
-fn fault_in(field: Field, fault: TextFault) -> Fault
+pub fn fault_in(field: Field, fault: TextFault) -> Fault
     ensures { result ≡ fault_in field fault }
 {
     match fault {

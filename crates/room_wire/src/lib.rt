@@ -13,6 +13,7 @@ pub mod incoming;
 pub mod json;
 pub mod laws;
 mod read;
+mod tag_forms;
 #[cfg(test)]
 mod tests;
 mod write;

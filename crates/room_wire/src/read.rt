@@ -4,14 +4,18 @@ ghost use Rattle.serde_json.specs.Read.{read};
 ghost use Rattle.serde_json.specs.View.{view};
 ghost use Rattle.room_wire.specs.declared.bad.Fault.TheVariants.{NotJson, Memory};
 ghost use Rattle.room_wire.specs.Reading.{Gives, GivesMessage};
-ghost use Rattle.room_wire.specs.Spelling.{spells, id_at, body_at, body_by, create_at, element_at};
+ghost use Rattle.room_wire.specs.Spelling.{spells, id_at, body_at, body_by, action_by, create_at, retag_at, move_at, relist_way_at, relist_relation_at, element_at};
 
 use crate::bad::{Bad, Fault};
-use crate::forms::{el_of, lat_of, lon_of, members_of, nodes_of, ordinal, seq_of, tags_of};
+use crate::field::Field;
+use crate::forms::{
+    distance_of, el_of, els_of, lat_of, lon_of, members_of, nodes_of, ordinal, seq_of,
+};
 use crate::incoming::{Body, Incoming};
+use crate::tag_forms::{gifts_of, tags_of};
+use edit_actions::action::Action;
 use osm_elements::element::Element;
 use osm_elements::name::Kind;
-use room_history::action::Action;
 use room_history::call::Request;
 use serde_json::Value;
 use std::alloc::Global;
@@ -25,16 +29,21 @@ use std::alloc::Global;
 /// | `do` | Fields, in the order in which they are read |
 /// |---|---|
 /// | `create` | `el`; for a node `lat` and `lon`, for a way `nodes`, for a relation `members`; then `tags`, which may be missing |
-/// | `delete`, `get` | `el` |
+/// | `retag` | `el`, `tags` |
+/// | `move` | `els`, `dlat`, `dlon` |
+/// | `nodes` | `el`, `nodes` |
+/// | `members` | `el`, `members` |
+/// | `reverse`, `delete`, `get` | `el` |
 /// | `undo` | `seq`, which may be missing |
 /// | `map` | none |
 ///
 /// The first field that is missing or not of its form is told (`BadField`). `el` is the name of an
-/// element. `lat` and `lon` are strings that [`osm_coords`] reads. `nodes` is an array of whole numbers,
-/// each an `i64` other than 0. `members` is an array of arrays of two strings each, the name of an element and a
-/// role of at most 255 characters, which may be empty. `tags` is an object of at most 1,000 keys, each of 1 to 255
-/// characters, whose values are strings of at most 255 characters (OpenStreetMap wiki, "Elements"). `seq` has the
-/// form of `id`.
+/// element, and `els` an array of such names, which may be empty. `lat` and `lon` are strings that [`osm_coords`]
+/// reads. `nodes` is an array of whole numbers, each an `i64` other than 0. `members` is an array of arrays of two
+/// strings each, the name of an element and a role of at most 255 characters, which may be empty. `tags` is an
+/// object of at most 1,000 keys, each of 1 to 255 characters, whose values are strings of at most 255 characters
+/// (OpenStreetMap wiki, "Elements"); those of `retag` may be `null` too, which removes the key. `dlat` and `dlon`
+/// are whole numbers, each an `i64`, in ten-millionths of a degree. `seq` has the form of `id`.
 ///
 /// A whole number is one that is written without a point and an exponent and fits 64 bits, and is not
 /// `-0`. Of members with the same key the last counts, `null` is a value, and members that no message
@@ -90,13 +99,29 @@ fn body_by(alloc: Global, word: &str, message: &Value) -> Result<Body, Fault>
     ensures { Gives result (body_by word.now (view message.now)) }
 {
     match word {
-        "create" => Ok(Body::Change(Request::Do(create_of(alloc, message)?))),
-        "delete" => Ok(Body::Change(Request::Do(Action::Delete {
-            name: el_of(message)?,
-        }))),
         "undo" => Ok(Body::Change(Request::Undo(seq_of(message)?))),
         "get" => Ok(Body::Get(el_of(message)?)),
         "map" => Ok(Body::Map),
+        _ => Ok(Body::Change(Request::Do(action_by(alloc, word, message)?))),
+    }
+}
+
+// The action that a message with this word asks for.
+fn action_by(alloc: Global, word: &str, message: &Value) -> Result<Action<Global>, Fault>
+    ensures { Gives result (action_by word.now (view message.now)) }
+{
+    match word {
+        "create" => create_of(alloc, message),
+        "retag" => retag_of(alloc, message),
+        "move" => move_of(alloc, message),
+        "reverse" => Ok(Action::Reverse {
+            name: el_of(message)?,
+        }),
+        "nodes" => relist_way_of(alloc, message),
+        "members" => relist_relation_of(alloc, message),
+        "delete" => Ok(Action::Delete {
+            name: el_of(message)?,
+        }),
         _ => Err(Fault::UnknownDo),
     }
 }
@@ -108,6 +133,43 @@ fn create_of(alloc: Global, message: &Value) -> Result<Action<Global>, Fault>
     let name = el_of(message)?;
     let element = element_of(alloc, name.kind(), message)?;
     Ok(Action::Create { name, element })
+}
+
+// The action of a `retag`.
+fn retag_of(alloc: Global, message: &Value) -> Result<Action<Global>, Fault>
+    ensures { Gives result (retag_at (view message.now)) }
+{
+    let name = el_of(message)?;
+    let tags = gifts_of(alloc, message)?;
+    Ok(Action::Retag { name, tags })
+}
+
+// The action of a `move`.
+fn move_of(alloc: Global, message: &Value) -> Result<Action<Global>, Fault>
+    ensures { Gives result (move_at (view message.now)) }
+{
+    let names = els_of(alloc, message)?;
+    let dlat = distance_of(message, Field::Dlat)?;
+    let dlon = distance_of(message, Field::Dlon)?;
+    Ok(Action::Move { names, dlat, dlon })
+}
+
+// The action of `nodes`.
+fn relist_way_of(alloc: Global, message: &Value) -> Result<Action<Global>, Fault>
+    ensures { Gives result (relist_way_at (view message.now)) }
+{
+    let name = el_of(message)?;
+    let list = nodes_of(alloc, message)?;
+    Ok(Action::Nodes { name, list })
+}
+
+// The action of `members`.
+fn relist_relation_of(alloc: Global, message: &Value) -> Result<Action<Global>, Fault>
+    ensures { Gives result (relist_relation_at (view message.now)) }
+{
+    let name = el_of(message)?;
+    let list = members_of(alloc, message)?;
+    Ok(Action::Members { name, list })
 }
 
 // The element of a `create`, by the kind of its name.

@@ -5,6 +5,8 @@ use crate::field::Field;
 use crate::incoming::{Body, Incoming};
 use crate::json::Json;
 use crate::{read_request, reply_text};
+use edit_actions::action::Action;
+use edit_simple::refusal::Refusal;
 use osm_coords::{Lat, Lon};
 use osm_elements::element::Element;
 use osm_elements::map::{Row, Rows};
@@ -12,9 +14,7 @@ use osm_elements::name::{Kind, Name};
 use osm_elements::nodes::Nodes;
 use osm_elements::tags::Tags;
 use osm_elements::text::Text;
-use room_history::action::Action;
 use room_history::call::Request;
-use room_history::refusal::Refusal;
 use room_history::reply::Reply;
 use std::alloc::{AllocError, Global};
 use std::process::Abort;
@@ -41,6 +41,7 @@ fn shown(alloc: Global, text: &str) -> Result<Json, AllocError> {
         Body::Change(Request::Do(Action::Delete { name })) => {
             reply_text(alloc, id, &Answer::Absent(name))
         }
+        Body::Change(Request::Do(_)) => reply_text(alloc, id, &Answer::Nothing),
         Body::Change(Request::Undo(Some(seq))) => reply_text(alloc, id, &Answer::Done { seq }),
         Body::Change(Request::Undo(None)) => reply_text(alloc, id, &Answer::NothingToUndo),
         Body::Get(name) => reply_text(alloc, id, &Answer::Present(name)),

@@ -32,7 +32,7 @@ use std::alloc::Global;
 ///
 /// | Answer | N |
 /// |---|---|
-/// | `Absent`, `Present`, `WrongKind`, `TooFew`, `TooMany` | `{"el":NAME,"why":WHY}` |
+/// | `Absent`, `Present`, `WrongKind`, `Same`, `OutOfRange`, `TooFew`, `TooMany` | `{"el":NAME,"why":WHY}` |
 /// | `InUse` | `{"by":USER,"el":NAME,"why":"in_use"}` |
 /// | `TagConflict` | `{"key":KEY,"why":"tag_conflict"}` |
 /// | `Repeat` | `{"seq":SEQ,"why":"repeat"}` |
@@ -69,6 +69,8 @@ fn reply_tree(alloc: Global, id: u64, answer: &Answer<'_>) -> Result<Value, Memo
         Answer::Absent(name) => about(alloc, id, name, "absent"),
         Answer::Present(name) => about(alloc, id, name, "present"),
         Answer::WrongKind(name) => about(alloc, id, name, "wrong_kind"),
+        Answer::Same(name) => about(alloc, id, name, "same"),
+        Answer::OutOfRange(name) => about(alloc, id, name, "out_of_range"),
         Answer::TooFew(name) => about(alloc, id, name, "too_few"),
         Answer::TooMany(name) => about(alloc, id, name, "too_many"),
         Answer::InUse { name, user } => in_use(alloc, id, name, user),
@@ -76,6 +78,9 @@ fn reply_tree(alloc: Global, id: u64, answer: &Answer<'_>) -> Result<Value, Memo
         Answer::Repeat { seq } => repeat(alloc, id, seq),
         Answer::NotLast { blocker } => not_last(alloc, id, blocker),
         Answer::BadField(field) => bad_field(alloc, id, field),
+        Answer::BadPosition => bare(alloc, id, "bad_position"),
+        Answer::NotEndToEnd => bare(alloc, id, "not_end_to_end"),
+        Answer::Nothing => bare(alloc, id, "nothing"),
         Answer::Memory => bare(alloc, id, "memory"),
         Answer::Full => bare(alloc, id, "full"),
         Answer::NothingToUndo => bare(alloc, id, "nothing_to_undo"),

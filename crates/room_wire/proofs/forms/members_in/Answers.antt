@@ -3,7 +3,7 @@ use Rattle.std.proofs.lemmas.List.{drop_more}
 use Rattle.serde_json.specs.View.{view, items_view}
 use Rattle.room_wire.specs.Spelling.{member_of}
 use Rattle.room_wire.proofs.ItemLists.{with_front, items_in-some}
-use Rattle.room_wire.proofs.TagLists.{or_fault_ok}
+use Rattle.room_wire.proofs.EntryLists.{or_fault_ok}
 use Rattle.room_wire.proofs.forms.members_in.Goals as goal
 
 pub loop-item-preserved : goal.loop-item-preserved

@@ -5,14 +5,14 @@ use Rattle.std.specs.String.{string_cmp}
 use Rattle.serde_json.specs.View.{view, members_view}
 use Rattle.serde_json.proofs.Views.{Entry}
 use Rattle.room_wire.specs.Reading.{or_fault}
-use Rattle.room_wire.specs.Spelling.{tag_of}
+use Rattle.room_wire.specs.Spelling.{entry_of, value_of}
 use Rattle.room_wire.specs.declared.bad.Fault.TheVariants.{BadField}
 use Rattle.room_wire.specs.declared.field.Field.TheVariants as field
-use Rattle.room_wire.proofs.TagLists.{with_front, tags_in-some, tags_in-nil, same_keys_more, same_keys_length, put_last, or_fault_ok, tag_of-key, tags_of-few, tags_of-many}
-use Rattle.room_wire.proofs.forms.tags_in.Goals as goal
+use Rattle.room_wire.proofs.EntryLists.{with_front, entries_in-some, entries_in-nil, same_keys_more, same_keys_length, put_last, or_fault_ok, entry_of-key, entries_of-few, entries_of-many}
+use Rattle.room_wire.proofs.tag_forms.tags_in.Goals as goal
 
 pub returns-then-len-gt-MOST_TAGS : goal.returns-then-len-gt-MOST_TAGS
-returns-then-len-gt-MOST_TAGS c = inr (ap (or_fault (BadField field.Tags)) (tags_of-many c.args.members.now.entries (omega (arith, c.len.ensures.len))))
+returns-then-len-gt-MOST_TAGS c = inr (ap (or_fault (BadField field.Tags)) (entries_of-many value_of c.args.members.now.entries (omega (arith, c.len.ensures.len))))
 
 pub put_tag-requires-clause-room : goal.put_tag-requires-clause-room
 put_tag-requires-clause-room c =
@@ -33,21 +33,21 @@ loop-key-preserved c =
     let all : c.args.members.now.entries ≡ done ++ e ∷ left = l.invariant.1 ∙ ap (λ es. done ++ es) step in
     let key = c.in_ok-key.key in
     let value = c.in_ok-key.value in
-    let read : tag_of (string_bytes e.0) (view e.1) ≡ Some (key, value) =
-    ap (λ k. tag_of k (view e.1)) (sym c.as_str.ensures.value) ∙ or_fault_ok _ _ (key, value) c.in_ok-key.ensures in
-    let named : key ≡ string_bytes e.0 = tag_of-key (string_bytes e.0) (view e.1) (key, value) read in
+    let read : entry_of value_of (string_bytes e.0) (view e.1) ≡ Some (key, value) =
+    ap (λ k. entry_of value_of k (view e.1)) (sym c.as_str.ensures.value) ∙ or_fault_ok _ _ (key, value) c.in_ok-key.ensures in
+    let named : key ≡ string_bytes e.0 = entry_of-key value_of (string_bytes e.0) (view e.1) (key, value) read in
     let sorted = subst (λ es. IsStrictlySortedBy string_cmp (keys_of es)) all c.len.ensures.ordered in
     let put_is : c.put_tag.new.tags ≡ l.tags ++ (key, value) ∷ [] =
     c.in_ok-put_tag.ensures.ok ∙ rw named (put_last l.tags done e left value l.invariant.2 sorted) in (
       done ++ e ∷ [],
       all ∙ sym (append_assoc done (e ∷ []) left),
       rw put_is (same_keys_more l.tags done (key, value) e l.invariant.2 named),
-      ap (λ ts. with_front ts (members_view left)) put_is ∙ sym (tags_in-some l.tags (key, value) (string_bytes e.0) (view e.1) (members_view left) read)
-          ∙ ap (λ es. with_front l.tags (members_view es)) (sym step) ∙ l.invariant.3,
+      ap (λ ts. with_front value_of ts (members_view left)) put_is ∙ sym (entries_in-some value_of l.tags (key, value) (string_bytes e.0) (view e.1) (members_view left) read)
+          ∙ ap (λ es. with_front value_of l.tags (members_view es)) (sym step) ∙ l.invariant.3,
     )
 
 pub returns : goal.returns
 returns c =
     let l = c.loop-key in
-    ap (or_fault (BadField field.Tags)) (tags_of-few c.args.members.now.entries (omega (arith, c.len.ensures.len)) ∙ sym l.invariant.3
-    ∙ ap (λ es. with_front l.tags (members_view es)) c.in-None.ensures.steps.0 ∙ tags_in-nil l.tags)
+    ap (or_fault (BadField field.Tags)) (entries_of-few value_of c.args.members.now.entries (omega (arith, c.len.ensures.len)) ∙ sym l.invariant.3
+    ∙ ap (λ es. with_front value_of l.tags (members_view es)) c.in-None.ensures.steps.0 ∙ entries_in-nil value_of l.tags)

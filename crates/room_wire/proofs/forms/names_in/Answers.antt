@@ -1,0 +1,37 @@
+use Rattle.std.proofs.Common.{◌≡◌, ◌+◌, [], ◌∷◌, None, drop, inr, sym, ap, ◌∙◌, arith}
+use Rattle.std.proofs.lemmas.List.{drop_more, drop_all}
+use Rattle.serde_json.specs.View.{view, items_view}
+use Rattle.room_wire.specs.Reading.{or_fault}
+use Rattle.room_wire.specs.Spelling.{name_item, names_in}
+use Rattle.room_wire.specs.declared.bad.Fault.TheVariants.{BadField}
+use Rattle.room_wire.specs.declared.field.Field.TheVariants as field
+use Rattle.room_wire.proofs.ItemLists.{with_front, items_in-some, items_in-none, items_in-nil}
+use Rattle.room_wire.proofs.forms.names_in.Goals as goal
+
+pub loop-item-preserved : goal.loop-item-preserved
+loop-item-preserved c =
+    let l = c.loop-item in
+    let xs = c.args.items.now in
+    let x = c.item-item.result in
+    let here : drop l.item-index xs ≡ x ∷ drop (l.item-index + 1) xs = drop_more xs l.item-index x (omega arith) ∙ ap (λ y. y ∷ drop (l.item-index + 1) xs) (sym c.item-item.is) in
+    let more = items_view (drop (l.item-index + 1) xs) in
+    ap (λ ns. with_front name_item ns more) c.in_ok-push-in-Some.ensures.ok
+    ∙ sym (items_in-some name_item l.names c.in-Some.name (view x) more (sym c.in-Some.ensures))
+    ∙ ap (λ ys. with_front name_item l.names (items_view ys)) (sym here)
+    ∙ l.invariant
+
+pub returns-in-None : goal.returns-in-None
+returns-in-None c =
+    let l = c.loop-item in
+    let xs = c.args.items.now in
+    let x = c.item-item.result in
+    let here : drop l.item-index xs ≡ x ∷ drop (l.item-index + 1) xs = drop_more xs l.item-index x (omega arith) ∙ ap (λ y. y ∷ drop (l.item-index + 1) xs) (sym c.item-item.is) in
+    let none : names_in (items_view xs) ≡ None = sym l.invariant ∙ ap (λ ys. with_front name_item l.names (items_view ys)) here ∙ items_in-none name_item l.names (view x) (items_view (drop (l.item-index + 1) xs)) (sym c.in-None.ensures) in
+    inr (ap (or_fault (BadField field.Els)) none)
+
+pub returns : goal.returns
+returns c =
+    let l = c.loop-item in
+    let xs = c.args.items.now in
+    let none : drop l.item-index xs ≡ [] = drop_all l.item-index xs (omega arith) in
+    ap (or_fault (BadField field.Els)) (sym l.invariant ∙ ap (λ ys. with_front name_item l.names (items_view ys)) none ∙ items_in-nil name_item l.names)

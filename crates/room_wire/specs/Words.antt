@@ -1,0 +1,26 @@
+-- The words of messages. (They are this project's.)
+use Rattle.std.specs.Prelude.{ℕ, List, codes}
+
+pub data Word : Type 0 where
+  Create : Word
+  Retag : Word
+  Move : Word
+  Reverse : Word
+  Nodes : Word
+  Members : Word
+  Delete : Word
+  Undo : Word
+  Get : Word
+  Map : Word
+
+abbrev pub word_text : Word → List ℕ
+word_text Create = codes "create"
+word_text Retag = codes "retag"
+word_text Move = codes "move"
+word_text Reverse = codes "reverse"
+word_text Nodes = codes "nodes"
+word_text Members = codes "members"
+word_text Delete = codes "delete"
+word_text Undo = codes "undo"
+word_text Get = codes "get"
+word_text Map = codes "map"

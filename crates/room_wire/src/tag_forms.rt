@@ -1,0 +1,152 @@
+//! The tags of a message: those of an element, and what a retag gives its keys.
+ghost use Rattle.std.specs.Prelude.{◌≡◌, ◌≢◌, ◌<◌, [], length, OnOk, IfErr};
+ghost use Rattle.std.specs.FinMap.Entries.{put};
+ghost use Rattle.serde_json.specs.View.{view, members_view};
+ghost use Rattle.room_wire.specs.Reading.{Gives, or_fault};
+ghost use Rattle.room_wire.specs.Spelling.{key_of, value_of, given_of, entry_of, tags_of, tags_at, gifts_of, gifts_at};
+ghost use Rattle.osm_elements.specs.TagRows.{text_cmp};
+ghost use Rattle.room_wire.specs.declared.bad.Fault.TheVariants.{BadField, Memory};
+ghost use Rattle.room_wire.specs.declared.field.Field.TheVariants as field;
+
+use crate::bad::Fault;
+use crate::field::Field;
+use crate::forms::{fault_in, text_of};
+use edit_simple::retag::Retag;
+use osm_elements::tags::{MOST_TAGS, Tags};
+use osm_elements::text::Text;
+use serde_json::{Map, Value};
+use std::alloc::Global;
+
+// The tags of an element, which may be missing.
+pub fn tags_of(alloc: Global, message: &Value) -> Result<Tags<Global>, Fault>
+    ensures { Gives result (tags_at (view message.now)) }
+{
+    match message.get(Field::Tags.as_str()) {
+        None => Ok(Tags::empty(alloc)),
+        Some(value) => {
+            let members = value.as_object().ok_or(Fault::BadField(Field::Tags))?;
+            tags_in(alloc, members)
+        }
+    }
+}
+
+// The tags with these keys and values.
+fn tags_in(alloc: Global, members: &Map<String, Value>) -> Result<Tags<Global>, Fault>
+    ensures { Gives result
+        (or_fault (BadField field.Tags) (tags_of (members_view members.now.entries))) }
+{
+    if members.len() > MOST_TAGS {
+        return Err(Fault::BadField(Field::Tags));
+    }
+    let mut tags = Tags::empty(alloc);
+    for (key, value) in members {
+        let (key, value) = tag_of(alloc, key.as_str(), value)?;
+        put_tag(&mut tags, key, value)?;
+    }
+    Ok(tags)
+}
+
+// The key and the value of a tag.
+fn tag_of(alloc: Global, key: &str, value: &Value) -> Result<(Text<Global>, Text<Global>), Fault>
+    ensures { Gives result (or_fault (BadField field.Tags) (entry_of value_of key.now (view value.now))) }
+{
+    let key = key_of(alloc, key)?;
+    let value = value_of(alloc, value)?;
+    Ok((key, value))
+}
+
+// Gives a key its value, where there is room for one more tag.
+fn put_tag(tags: &mut Tags<Global>, key: Text<Global>, value: Text<Global>) -> Result<(), Fault>
+    requires key { key ≢ [] }
+    requires room { length tags.old < 1000 }
+    ensures ok { OnOk result (tags.new ≡ put text_cmp key value tags.old) }
+    ensures err { IfErr result (λ f. f ≡ Memory) }
+{
+    tags.set(key, value)
+        .map_err(|fault| fault_in(Field::Tags, fault))
+}
+
+// What a retag gives its keys.
+pub fn gifts_of(alloc: Global, message: &Value) -> Result<Retag<Global>, Fault>
+    ensures { Gives result (gifts_at (view message.now)) }
+{
+    let members = message
+        .get(Field::Tags.as_str())
+        .and_then(Value::as_object)
+        .ok_or(Fault::BadField(Field::Tags))?;
+    gifts_in(alloc, members)
+}
+
+// What these keys are given.
+fn gifts_in(alloc: Global, members: &Map<String, Value>) -> Result<Retag<Global>, Fault>
+    ensures { Gives result
+        (or_fault (BadField field.Tags) (gifts_of (members_view members.now.entries))) }
+{
+    if members.len() > MOST_TAGS {
+        return Err(Fault::BadField(Field::Tags));
+    }
+    let mut gifts = Retag::empty(alloc);
+    for (key, value) in members {
+        let (key, given) = gift_of(alloc, key.as_str(), value)?;
+        put_gift(&mut gifts, key, given)?;
+    }
+    Ok(gifts)
+}
+
+// A key, and the value that it is given, if it is.
+fn gift_of(
+    alloc: Global,
+    key: &str,
+    value: &Value,
+) -> Result<(Text<Global>, Option<Text<Global>>), Fault>
+    ensures { Gives result (or_fault (BadField field.Tags) (entry_of given_of key.now (view value.now))) }
+{
+    let key = key_of(alloc, key)?;
+    let given = given_of(alloc, value)?;
+    Ok((key, given))
+}
+
+// Gives a key its value or none, where there is room for one more key.
+fn put_gift(
+    gifts: &mut Retag<Global>,
+    key: Text<Global>,
+    given: Option<Text<Global>>,
+) -> Result<(), Fault>
+    requires key { key ≢ [] }
+    requires room { length gifts.old < 1000 }
+    ensures ok { OnOk result (gifts.new ≡ put text_cmp key given gifts.old) }
+    ensures err { IfErr result (λ f. f ≡ Memory) }
+{
+    gifts
+        .set(key, given)
+        .map_err(|fault| fault_in(Field::Tags, fault))
+}
+
+// A key.
+fn key_of(alloc: Global, key: &str) -> Result<Text<Global>, Fault>
+    ensures { Gives result (or_fault (BadField field.Tags) (key_of key.now)) }
+{
+    if key.is_empty() {
+        return Err(Fault::BadField(Field::Tags));
+    }
+    text_of(alloc, Field::Tags, key)
+}
+
+// The value of a tag.
+fn value_of(alloc: Global, value: &Value) -> Result<Text<Global>, Fault>
+    ensures { Gives result (or_fault (BadField field.Tags) (value_of (view value.now))) }
+{
+    let value = value.as_str().ok_or(Fault::BadField(Field::Tags))?;
+    text_of(alloc, Field::Tags, value)
+}
+
+// What a key is given: a value, or none where it is null.
+fn given_of(alloc: Global, value: &Value) -> Result<Option<Text<Global>>, Fault>
+    ensures { Gives result (or_fault (BadField field.Tags) (given_of (view value.now))) }
+{
+    if value.is_null() {
+        return Ok(None);
+    }
+    let value = value_of(alloc, value)?;
+    Ok(Some(value))
+}
