@@ -1,5 +1,6 @@
 -- What a text spells has its values as their types keep them.
 use Rattle.std.proofs.Common.{◌≡◌, ◌&&◌, ℕ, ℤ, pos, suc, Bool, true, false, not, cond, T, List, [], ◌∷◌, length, Option, Some, None, IfSome, Result, Ok, Err, IfOk, codes, is_some, option_map, option_and_then, nat_eq, nat_le, refl, ap, subst, sym, ◌∙◌}
+use Rattle.std.specs.declared.alloc.Global.{Global}
 use Rattle.std.specs.List.{list_all}
 use Rattle.std.specs.Str.{bytes_eq}
 use Rattle.std.specs.Prelude.{int_le, neg_ℤ}
@@ -7,7 +8,7 @@ use Rattle.std.specs.Ordering.{is_lt, int_eq}
 use Rattle.std.specs.FinMap.Entries as entries
 use Rattle.serde_json.specs.Data.{Data, null, boolean, number, string, array, object, Items, no_items, item, Members, no_members, member}
 use Rattle.serde_json.specs.Events.{members_len}
-use Rattle.serde_json.specs.Find.{get, as_str, as_number, as_i64, as_array, as_object}
+use Rattle.serde_json.specs.Find.{get, as_null, as_str, as_number, as_i64, as_array, as_object}
 use Rattle.serde_json.specs.Read.{read}
 use Rattle.osm_coords.specs.Coordinate.{coordinate}
 use Rattle.osm_coords.specs.Latitude.{latitude, latitude_of}
@@ -19,18 +20,20 @@ use Rattle.osm_elements.specs.declared.name.Kind.TheVariants as kinds
 use Rattle.osm_elements.specs.Made.{is_node, are_nodes, is_made}
 use Rattle.osm_elements.specs.Members.{are_members}
 use Rattle.osm_elements.specs.NameTexts.{name_of, name_with, named, if_passed}
-use Rattle.osm_elements.specs.TagRows.{Pairs, text_cmp, is_tag, are_tags}
+use Rattle.osm_elements.specs.TagRows.{Pairs, text_cmp, are_tags}
 use Rattle.osm_elements.specs.Texts.{is_long}
-use Rattle.room_history.specs.LegalJournals.{is_made_action}
+use Rattle.edit_simple.specs.Tagging.{Gifts, are_gifts, is_short_value}
+use Rattle.edit_actions.specs.declared.action.Action.{Action}
+use Rattle.edit_actions.specs.MadeActions.{is_made_action}
 use Rattle.room_wire.specs.declared.bad.Fault.{Fault}
 use Rattle.room_wire.specs.declared.bad.Fault.TheVariants.{BadField}
-use Rattle.room_wire.specs.declared.field.Field.TheVariants.{El, Lat, Lon, Nodes, Tags, Seq}
+use Rattle.room_wire.specs.declared.field.Field.TheVariants.{Lat, Lon, Nodes, Tags, Dlat, Dlon}
 use Rattle.room_wire.specs.declared.field.Field.TheVariants as fields
 use Rattle.room_wire.specs.declared.incoming.Body.{Body}
 use Rattle.room_wire.specs.Fields.{field_text}
 use Rattle.room_program.specs.Made.{is_made_body}
 use Rattle.room_wire.specs.Reading.{◌>>=◌, or_fault}
-use Rattle.room_wire.specs.Spelling.{text_at, text_of, key_of, tag_of, tags_in, tags_of, tags_from, tags_at, items_in, node_of, nodes_in, nodes_at, member_in, member_of, members_in, members_at, lat_at, lon_at, el_at, seq_at, element_at, create_at, body_by, body_at, word_at, id_at, message_by, message_of, under, spells}
+use Rattle.room_wire.specs.Spelling.{text_at, text_of, key_of, value_of, given_of, entry_of, entries_in, entries_of, tags_of, tags_from, tags_at, gifts_of, gifts_at, items_in, node_of, nodes_in, nodes_at, member_in, member_of, members_in, members_at, lat_at, lon_at, el_at, els_at, distance_at, seq_at, element_at, create_at, retag_at, move_at, relist_way_at, relist_relation_at, action_by, body_by, body_at, word_at, id_at, message_by, message_of, under, spells}
 use Rattle.room_program.proofs.TreesInOrder.{pairs_of, IsInOrder, if_map, if_then, if_more, if_any, get_in_order, read_in_order}
 
 both : (a b : Bool) → a ≡ true → b ≡ true → (a && b) ≡ true
@@ -72,54 +75,82 @@ IsKey k x = (x ≡ k) × (not (nat_eq (length x) 0) ≡ true) × (not (is_long x
 key_facts : (k : List ℕ) → IfSome (key_of k) (IsKey k)
 key_facts k = if_not (IsKey k) (nat_eq (length k) 0) (text_of k) (λ e. if_not (IsKey k) (is_long k) (Some k) (λ f. (refl, e, f)))
 
-value_facts : (d : Data) → IfSome (option_and_then text_of (as_str d)) (λ v. not (is_long v) ≡ true)
+value_facts : (d : Data) → IfSome (value_of d) (λ v. not (is_long v) ≡ true)
 value_facts d = if_then (λ v. not (is_long v) ≡ true) (as_str d) text_of (if_any (λ t. IfSome (text_of t) (λ v. not (is_long v) ≡ true)) (as_str d)
     (λ t. if_more (λ x. (x ≡ t) × (not (is_long x) ≡ true)) (λ v. not (is_long v) ≡ true) (text_of t) (text_facts t) (λ x h. h.1)))
 
-abbrev IsTagOf : List ℕ → List ℕ × List ℕ → Type 0
-IsTagOf k t = (t.0 ≡ k) × (is_tag t ≡ true)
+-- what holds of the value of either choice
+if_either : {X : Type 0} (P : X → Type 0) (b : Bool) (o p : Option X) → IfSome o P → IfSome p P → IfSome (cond b o p) P
+if_either P true o p h g = h
+if_either P false o p h g = g
 
-tag_facts : (k : List ℕ) (d : Data) → IfSome (tag_of k d) (IsTagOf k)
-tag_facts k d =
-    let value : Option (List ℕ) = option_and_then text_of (as_str d) in
-    if_then (IsTagOf k) (key_of k) (λ key. option_map (λ v. (key, v)) value) (if_more (IsKey k) (λ key. IfSome (option_map (λ v. (key, v)) value) (IsTagOf k)) (key_of k) (key_facts k)
-    (λ key h. if_map (IsTagOf k) (λ v. (key, v)) value (if_more (λ v. not (is_long v) ≡ true) (λ v. IsTagOf k (key, v)) value (value_facts d)
-    (λ v g. (h.0, both (not (nat_eq (length key) 0)) (not (is_long key) && not (is_long v)) h.1 (both (not (is_long key)) (not (is_long v)) h.2 g))))))
+given_facts : (d : Data) → IfSome (given_of d) (λ g. is_short_value g ≡ true)
+given_facts d = if_either (λ g. is_short_value g ≡ true) (is_some (as_null d)) (Some None) (option_map Some (value_of d)) refl (if_map (λ g. is_short_value g ≡ true) Some (value_of d) (value_facts d))
 
--- the tags that are read of members: their keys are those of the members, in their order
-record ReadsTags (ms : Members) (ts : Pairs) : Type 0 where
+-- a key that keeps its limits, with a value that passes the test
+abbrev is_entry : {V : Type 0} → (V → Bool) → List ℕ × V → Bool
+is_entry passes e = not (nat_eq (length e.0) 0) && (not (is_long e.0) && passes e.1)
+
+abbrev are_entries : {V : Type 0} → (V → Bool) → List (List ℕ × V) → Bool
+are_entries passes es = entries.is_sorted text_cmp es && (nat_le (length es) 1000 && list_all (is_entry passes) es)
+
+abbrev IsEntryOf : {V : Type 0} → (V → Bool) → List ℕ → List ℕ × V → Type 0
+IsEntryOf passes k t = (t.0 ≡ k) × (is_entry passes t ≡ true)
+
+-- the entries that are read of members: their keys are those of the members, in their order
+record ReadsEntries {V : Type 0} (passes : V → Bool) (ms : Members) (ts : List (List ℕ × V)) : Type 0 where
   below : (q : List ℕ) → T (entries.below_all text_cmp q (pairs_of ms)) → T (entries.below_all text_cmp q ts)
   sorted : T (entries.is_sorted text_cmp (pairs_of ms)) → T (entries.is_sorted text_cmp ts)
-  tags : list_all is_tag ts ≡ true
+  entries_pass : list_all (is_entry passes) ts ≡ true
   count : length ts ≡ members_len ms
 
-reads_next : (k : List ℕ) (d : Data) (ms : Members) (t : List ℕ × List ℕ) (ts : Pairs) → IsTagOf k t → ReadsTags ms ts → ReadsTags (member k d ms) (t ∷ ts)
-reads_next k d ms t ts h g = record {
+reads_next : {V : Type 0} (passes : V → Bool) (k : List ℕ) (d : Data) (ms : Members) (t : List ℕ × V) (ts : List (List ℕ × V)) → IsEntryOf passes k t → ReadsEntries passes ms ts → ReadsEntries passes (member k d ms) (t ∷ ts)
+reads_next passes k d ms t ts h g = record {
   below = λ q b. both_T (is_lt (text_cmp q t.0)) (entries.below_all text_cmp q ts) (subst (λ x. T (is_lt (text_cmp q x))) (sym h.0) (first_T (is_lt (text_cmp q k)) (entries.below_all text_cmp q (pairs_of ms)) b))
       (g.below q (second_T (is_lt (text_cmp q k)) (entries.below_all text_cmp q (pairs_of ms)) b));
   sorted = λ s. both_T (entries.below_all text_cmp t.0 ts) (entries.is_sorted text_cmp ts)
       (subst (λ x. T (entries.below_all text_cmp x ts)) (sym h.0) (g.below k (first_T (entries.below_all text_cmp k (pairs_of ms)) (entries.is_sorted text_cmp (pairs_of ms)) s)))
       (g.sorted (second_T (entries.below_all text_cmp k (pairs_of ms)) (entries.is_sorted text_cmp (pairs_of ms)) s));
-  tags = both (is_tag t) (list_all is_tag ts) h.1 g.tags;
+  entries_pass = both (is_entry passes t) (list_all (is_entry passes) ts) h.1 g.entries_pass;
   count = ap suc g.count;
 }
 
-tags_in_facts : (ms : Members) → IfSome (tags_in ms) (ReadsTags ms)
-tags_in_facts no_members = record { below = λ q b. tt; sorted = λ s. tt; tags = refl; count = refl }
-tags_in_facts (member k d ms) =
-    let P : Pairs → Type 0 = ReadsTags (member k d ms) in
-    if_then P (tag_of k d) (λ t. option_map (λ ts. t ∷ ts) (tags_in ms)) (if_more (IsTagOf k) (λ t. IfSome (option_map (λ ts. t ∷ ts) (tags_in ms)) P) (tag_of k d) (tag_facts k d)
-    (λ t h. if_map P (λ ts. t ∷ ts) (tags_in ms) (if_more (ReadsTags ms) (λ ts. P (t ∷ ts)) (tags_in ms) (tags_in_facts ms) (λ ts g. reads_next k d ms t ts h g))))
+module _ {V : Type 0} (reading : Data → Option V) (passes : V → Bool) (each : (d : Data) → IfSome (reading d) (λ v. passes v ≡ true)) where
+  entry_facts : (k : List ℕ) (d : Data) → IfSome (entry_of reading k d) (IsEntryOf passes k)
+  entry_facts k d =
+      let P : List ℕ × V → Type 0 = IsEntryOf passes k in
+      let pair : List ℕ → V → List ℕ × V = λ key v. (key, v) in
+      if_then P (key_of k) (λ key. option_map (pair key) (reading d)) (if_more (IsKey k) (λ key. IfSome (option_map (pair key) (reading d)) P) (key_of k) (key_facts k)
+      (λ key h. if_map P (pair key) (reading d) (if_more (λ v. passes v ≡ true) (λ v. P (key, v)) (reading d) (each d)
+      (λ v g. (h.0, both (not (nat_eq (length key) 0)) (not (is_long key) && passes v) h.1 (both (not (is_long key)) (passes v) h.2 g))))))
+
+  entries_in_facts : (ms : Members) → IfSome (entries_in reading ms) (ReadsEntries passes ms)
+  entries_in_facts no_members = record { below = λ q b. tt; sorted = λ s. tt; entries_pass = refl; count = refl }
+  entries_in_facts (member k d ms) =
+      let P : List (List ℕ × V) → Type 0 = ReadsEntries passes (member k d ms) in
+      let rest = entries_in reading ms in
+      if_then P (entry_of reading k d) (λ t. option_map (λ ts. t ∷ ts) rest) (if_more (IsEntryOf passes k) (λ t. IfSome (option_map (λ ts. t ∷ ts) rest) P) (entry_of reading k d) (entry_facts k d)
+      (λ t h. if_map P (λ ts. t ∷ ts) rest (if_more (ReadsEntries passes ms) (λ ts. P (t ∷ ts)) rest (entries_in_facts ms) (λ ts g. reads_next passes k d ms t ts h g))))
+
+  entries_made : (ms : Members) → T (entries.is_sorted text_cmp (pairs_of ms)) → IfSome (entries_of reading ms) (λ ts. are_entries passes ts ≡ true)
+  entries_made ms s = if_chosen (λ ts. are_entries passes ts ≡ true) (nat_le (members_len ms) 1000) (entries_in reading ms)
+      (λ few. if_more (ReadsEntries passes ms) (λ ts. are_entries passes ts ≡ true) (entries_in reading ms) (entries_in_facts ms)
+      (λ ts g. both (entries.is_sorted text_cmp ts) (nat_le (length ts) 1000 && list_all (is_entry passes) ts) (passed _ (g.sorted s))
+      (both (nat_le (length ts) 1000) (list_all (is_entry passes) ts) (ap (λ n. nat_le n 1000) g.count ∙ few) g.entries_pass)))
 
 AreMade : Pairs → Type 0
 AreMade ts = are_tags ts ≡ true
 
 tags_of_made : (ms : Members) → T (entries.is_sorted text_cmp (pairs_of ms)) → IfSome (tags_of ms) AreMade
 unfolding AreMade
-tags_of_made ms s = if_chosen AreMade (nat_le (members_len ms) 1000) (tags_in ms)
-    (λ few. if_more (ReadsTags ms) AreMade (tags_in ms) (tags_in_facts ms)
-    (λ ts g. both (entries.is_sorted text_cmp ts) (nat_le (length ts) 1000 && list_all is_tag ts) (passed _ (g.sorted s))
-    (both (nat_le (length ts) 1000) (list_all is_tag ts) (ap (λ n. nat_le n 1000) g.count ∙ few) g.tags)))
+tags_of_made ms s = entries_made value_of (λ v. not (is_long v)) value_facts ms s
+
+AreGiven : Gifts → Type 0
+AreGiven given = are_gifts given ≡ true
+
+gifts_of_made : (ms : Members) → T (entries.is_sorted text_cmp (pairs_of ms)) → IfSome (gifts_of ms) AreGiven
+unfolding AreGiven
+gifts_of_made ms s = entries_made given_of is_short_value given_facts ms s
 
 object_sorted : (d : Data) → IsInOrder d → IfSome (as_object d) (λ ms. T (entries.is_sorted text_cmp (pairs_of ms)))
 object_sorted null h = tt
@@ -138,10 +169,6 @@ ok_then : {X Y : Type 0} (Q : X → Type 0) (P : Y → Type 0) (r : Result X Fau
 ok_then Q P (Ok x) f h g = g x h
 ok_then Q P (Err e) f h g = tt
 
-ok_any : {X : Type 0} (P : X → Type 0) (r : Result X Fault) → ((x : X) → P x) → IfOk r P
-ok_any P (Ok x) g = g x
-ok_any P (Err e) g = tt
-
 ok_if : {X : Type 0} (P : X → Type 0) (b : Bool) (r s : Result X Fault) → IfOk r P → IfOk s P → IfOk (cond b r s) P
 ok_if P true r s h g = h
 ok_if P false r s h g = g
@@ -154,6 +181,17 @@ tags_made : (found : Option Data) → IfSome found IsInOrder → IfOk (tags_from
 tags_made None h = no_tags_made
 tags_made (Some d) h = ok_or AreMade (BadField Tags) (option_and_then tags_of (as_object d)) (if_then AreMade (as_object d) tags_of
     (if_more (λ ms. T (entries.is_sorted text_cmp (pairs_of ms))) (λ ms. IfSome (tags_of ms) AreMade) (as_object d) (object_sorted d h) tags_of_made))
+
+-- what is found at a key is in order, and so are the keys of an object
+found_sorted : (found : Option Data) → IfSome found IsInOrder → IfSome (option_and_then as_object found) (λ ms. T (entries.is_sorted text_cmp (pairs_of ms)))
+found_sorted None h = tt
+found_sorted (Some d) h = object_sorted d h
+
+gifts_made : (d : Data) → IsInOrder d → IfOk (gifts_at d) AreGiven
+gifts_made d h =
+    let found : Option Members = option_and_then as_object (get (field_text Tags) d) in
+    ok_or AreGiven (BadField Tags) (option_and_then gifts_of found) (if_then AreGiven found gifts_of
+    (if_more (λ ms. T (entries.is_sorted text_cmp (pairs_of ms))) (λ ms. IfSome (gifts_of ms) AreGiven) found (found_sorted (get (field_text Tags) d) (get_in_order (field_text Tags) d h)) gifts_of_made))
 
 -- the items of an array pass a test that each of them passes
 items_pass : {X : Type 0} (p : X → Bool) (reading : Data → Option X) → ((d : Data) → IfSome (reading d) (λ x. p x ≡ true)) → (ds : Items) → IfSome (items_in reading ds) (λ xs. list_all p xs ≡ true)
@@ -204,6 +242,17 @@ members_made : (ds : Items) → IfSome (members_in ds) AreMembersOf
 unfolding AreMembersOf HasShortRole
 members_made ds = items_pass (λ (m : Name × List ℕ). not (is_long m.1)) member_of member_made ds
 
+-- the lists of a way and of a relation
+list_made : (d : Data) → IfOk (nodes_at d) AreNodesOf
+list_made d =
+    let items : Option Items = option_and_then as_array (get (field_text Nodes) d) in
+    ok_or AreNodesOf (BadField Nodes) (option_and_then nodes_in items) (if_then AreNodesOf items nodes_in (if_any (λ ds. IfSome (nodes_in ds) AreNodesOf) items nodes_made))
+
+member_list_made : (d : Data) → IfOk (members_at d) AreMembersOf
+member_list_made d =
+    let items : Option Items = option_and_then as_array (get (field_text fields.Members) d) in
+    ok_or AreMembersOf (BadField fields.Members) (option_and_then members_in items) (if_then AreMembersOf items members_in (if_any (λ ds. IfSome (members_in ds) AreMembersOf) items members_made))
+
 -- coordinates
 within_made : (limit : ℕ) (z : ℤ) → IfSome (value_within limit z) (λ w. is_some (value_within limit w) ≡ true)
 within_made limit z = let test : Bool = int_le (neg_ℤ (pos limit)) z && int_le z (pos limit) in
@@ -232,33 +281,67 @@ element_made kinds.Node d h =
     ok_then AreMade (λ v. is_made v ≡ true) (tags_at d) _ (tags_made (get (field_text Tags) d) (get_in_order (field_text Tags) d h)) (λ tags made.
     both (is_some (latitude lat)) (is_some (longitude lon) && are_tags tags) at (both (is_some (longitude lon)) (are_tags tags) on made))))
 element_made kinds.Way d h =
-    ok_then AreNodesOf (λ v. is_made v ≡ true) (nodes_at d) _ (ok_or AreNodesOf (BadField Nodes) (option_and_then nodes_in (option_and_then as_array (get (field_text Nodes) d)))
-    (if_then AreNodesOf (option_and_then as_array (get (field_text Nodes) d)) nodes_in (if_any (λ ds. IfSome (nodes_in ds) AreNodesOf) (option_and_then as_array (get (field_text Nodes) d)) nodes_made))) (λ nodes are.
+    ok_then AreNodesOf (λ v. is_made v ≡ true) (nodes_at d) _ (list_made d) (λ nodes are.
     ok_then AreMade (λ v. is_made v ≡ true) (tags_at d) _ (tags_made (get (field_text Tags) d) (get_in_order (field_text Tags) d h)) (λ tags made.
     both (are_nodes nodes) (are_tags tags) are made))
 element_made kinds.Relation d h =
-    let items : Option Items = option_and_then as_array (get (field_text fields.Members) d) in
-    ok_then AreMembersOf (λ v. is_made v ≡ true) (members_at d) _ (ok_or AreMembersOf (BadField fields.Members) (option_and_then members_in items)
-    (if_then AreMembersOf items members_in (if_any (λ ds. IfSome (members_in ds) AreMembersOf) items members_made))) (λ members are.
+    ok_then AreMembersOf (λ v. is_made v ≡ true) (members_at d) _ (member_list_made d) (λ members are.
     ok_then AreMade (λ v. is_made v ≡ true) (tags_at d) _ (tags_made (get (field_text Tags) d) (get_in_order (field_text Tags) d h)) (λ tags made.
     both (are_members members) (are_tags tags) are made))
+
+-- the actions
+IsMadeAction : Action Global → Type 0
+IsMadeAction action = is_made_action action ≡ true
+
+-- a step of which nothing has to be known
+ok_each : {X Y : Type 0} (P : Y → Type 0) (r : Result X Fault) (f : X → Result Y Fault) → ((x : X) → IfOk (f x) P) → IfOk (r >>= f) P
+ok_each P (Ok x) f g = g x
+ok_each P (Err e) f g = tt
+
+create_made : (d : Data) → IsInOrder d → IfOk (create_at d) IsMadeAction
+unfolding IsMadeAction
+create_made d h = ok_each IsMadeAction (el_at d) _ (λ name. ok_then (λ v. is_made v ≡ true) IsMadeAction (element_at name.kind d) _ (element_made name.kind d h) (λ v made. made))
+
+retag_made : (d : Data) → IsInOrder d → IfOk (retag_at d) IsMadeAction
+unfolding IsMadeAction AreGiven
+retag_made d h = ok_each IsMadeAction (el_at d) _ (λ name. ok_then AreGiven IsMadeAction (gifts_at d) _ (gifts_made d h) (λ given made. made))
+
+move_made : (d : Data) → IfOk (move_at d) IsMadeAction
+unfolding IsMadeAction
+move_made d = ok_each IsMadeAction (els_at d) _ (λ names. ok_each IsMadeAction (distance_at Dlat d) _ (λ dlat. ok_each IsMadeAction (distance_at Dlon d) _ (λ dlon. refl)))
+
+relist_way_made : (d : Data) → IfOk (relist_way_at d) IsMadeAction
+unfolding IsMadeAction AreNodesOf
+relist_way_made d = ok_each IsMadeAction (el_at d) _ (λ name. ok_then AreNodesOf IsMadeAction (nodes_at d) _ (list_made d) (λ list are. are))
+
+relist_relation_made : (d : Data) → IfOk (relist_relation_at d) IsMadeAction
+unfolding IsMadeAction AreMembersOf
+relist_relation_made d = ok_each IsMadeAction (el_at d) _ (λ name. ok_then AreMembersOf IsMadeAction (members_at d) _ (member_list_made d) (λ list are. are))
+
+action_made : (word : List ℕ) (d : Data) → IsInOrder d → IfOk (action_by word d) IsMadeAction
+unfolding IsMadeAction
+action_made word d h =
+    ok_if IsMadeAction (bytes_eq word (codes "create")) _ _ (create_made d h)
+    (ok_if IsMadeAction (bytes_eq word (codes "retag")) _ _ (retag_made d h)
+    (ok_if IsMadeAction (bytes_eq word (codes "move")) _ _ (move_made d)
+    (ok_if IsMadeAction (bytes_eq word (codes "reverse")) _ _ (ok_each IsMadeAction (el_at d) _ (λ name. refl))
+    (ok_if IsMadeAction (bytes_eq word (codes "nodes")) _ _ (relist_way_made d)
+    (ok_if IsMadeAction (bytes_eq word (codes "members")) _ _ (relist_relation_made d)
+    (ok_if IsMadeAction (bytes_eq word (codes "delete")) _ _ (ok_each IsMadeAction (el_at d) _ (λ name. refl)) tt))))))
 
 IsMadeBody : Body → Type 0
 IsMadeBody body = is_made_body body ≡ true
 
 body_made : (word : List ℕ) (d : Data) → IsInOrder d → IfOk (body_by word d) IsMadeBody
-unfolding IsMadeBody
+unfolding IsMadeBody IsMadeAction
 body_made word d h =
-    ok_if IsMadeBody (bytes_eq word (codes "create")) _ _ (ok_then (λ a. is_made_action a ≡ true) IsMadeBody (create_at d) _
-    (ok_then (λ _. Unit {0}) (λ a. is_made_action a ≡ true) (el_at d) _ (ok_any (λ _. Unit {0}) (el_at d) (λ _. tt)) (λ name _.
-    ok_then (λ v. is_made v ≡ true) (λ a. is_made_action a ≡ true) (element_at name.kind d) _ (element_made name.kind d h) (λ v made. made))) (λ a made. made))
-    (ok_if IsMadeBody (bytes_eq word (codes "delete")) _ _ (ok_then (λ _. Unit {0}) IsMadeBody (el_at d) _ (ok_any (λ _. Unit {0}) (el_at d) (λ _. tt)) (λ name _. refl))
-    (ok_if IsMadeBody (bytes_eq word (codes "undo")) _ _ (ok_then (λ _. Unit {0}) IsMadeBody (seq_at d) _ (ok_any (λ _. Unit {0}) (seq_at d) (λ _. tt)) (λ seq _. refl))
-    (ok_if IsMadeBody (bytes_eq word (codes "get")) _ _ (ok_then (λ _. Unit {0}) IsMadeBody (el_at d) _ (ok_any (λ _. Unit {0}) (el_at d) (λ _. tt)) (λ name _. refl))
-    (ok_if IsMadeBody (bytes_eq word (codes "map")) _ _ refl tt))))
+    ok_if IsMadeBody (bytes_eq word (codes "undo")) _ _ (ok_each IsMadeBody (seq_at d) _ (λ seq. refl))
+    (ok_if IsMadeBody (bytes_eq word (codes "get")) _ _ (ok_each IsMadeBody (el_at d) _ (λ name. refl))
+    (ok_if IsMadeBody (bytes_eq word (codes "map")) _ _ refl
+    (ok_then IsMadeAction IsMadeBody (action_by word d) _ (action_made word d h) (λ action made. made))))
 
 body_at_made : (d : Data) → IsInOrder d → IfOk (body_at d) IsMadeBody
-body_at_made d h = ok_then (λ _. Unit {0}) IsMadeBody (word_at d) _ (ok_any (λ _. Unit {0}) (word_at d) (λ _. tt)) (λ word _. body_made word d h)
+body_at_made d h = ok_each IsMadeBody (word_at d) _ (λ word. body_made word d h)
 
 under_made : (id : ℕ) (r : Result Body Fault) → IfOk r IsMadeBody → IfOk (under id r) (λ message. is_made_body message.body ≡ true)
 unfolding IsMadeBody
