@@ -14,8 +14,6 @@ pub mod json;
 pub mod laws;
 mod read;
 mod tag_forms;
-#[cfg(test)]
-mod tests;
 mod write;
 
 pub use read::read_request;
