@@ -10,3 +10,5 @@ mod elements;
 mod references;
 #[cfg(test)]
 mod retags;
+#[cfg(test)]
+mod stores;

@@ -1,0 +1,145 @@
+//! What no clause says: that each plan is made and each list of changes applied where there is memory. What is wanted was
+//! worked out by hand.
+use osm_changes::store::Store;
+use sample_edits::applying::{apply, store_of};
+use sample_edits::reading::edit;
+use sample_edits::shown::{changes_shown, store_shown};
+use std::alloc::Global;
+use std::process::Abort;
+use std::test::Fail;
+
+// Edits in turn, each with the changes that its plan answers and the store after it.
+const EDITS: [[&str; 3]; 10] = [
+    [
+        "create n1 7,-8 name=Allee",
+        " n1: none -> 7,-8 name=Allee;",
+        " n1: 7,-8 name=Allee <-;",
+    ],
+    [
+        "create n2 9,9",
+        " n2: none -> 9,9;",
+        " n1: 7,-8 name=Allee <-; n2: 9,9 <-;",
+    ],
+    [
+        "create w1 n2 n1 highway=path",
+        " w1: none -> n2 n1 highway=path;",
+        " n1: 7,-8 name=Allee <- w1; n2: 9,9 <- w1; w1: n2 n1 highway=path <-;",
+    ],
+    [
+        "create r1 n1/stop w1/ n1/",
+        " r1: none -> n1/stop w1/ n1/;",
+        " n1: 7,-8 name=Allee <- w1 r1; n2: 9,9 <- w1; w1: n2 n1 highway=path <- r1; r1: n1/stop w1/ n1/ <-;",
+    ],
+    [
+        "retag n1 -name note=x access=no",
+        " n1: 7,-8 name=Allee -> 7,-8 access=no note=x;",
+        " n1: 7,-8 access=no note=x <- w1 r1; n2: 9,9 <- w1; w1: n2 n1 highway=path <- r1; r1: n1/stop w1/ n1/ <-;",
+    ],
+    [
+        "move -9,3 w1 n1",
+        " n1: 7,-8 access=no note=x -> -2,-5 access=no note=x; n2: 9,9 -> 0,12;",
+        " n1: -2,-5 access=no note=x <- w1 r1; n2: 0,12 <- w1; w1: n2 n1 highway=path <- r1; r1: n1/stop w1/ n1/ <-;",
+    ],
+    [
+        "reverse w1",
+        " w1: n2 n1 highway=path -> n1 n2 highway=path;",
+        " n1: -2,-5 access=no note=x <- w1 r1; n2: 0,12 <- w1; w1: n1 n2 highway=path <- r1; r1: n1/stop w1/ n1/ <-;",
+    ],
+    [
+        "nodes w1 n2 n2",
+        " w1: n1 n2 highway=path -> n2 n2 highway=path;",
+        " n1: -2,-5 access=no note=x <- r1; n2: 0,12 <- w1; w1: n2 n2 highway=path <- r1; r1: n1/stop w1/ n1/ <-;",
+    ],
+    [
+        "members r1 w1/outer",
+        " r1: n1/stop w1/ n1/ -> w1/outer;",
+        " n1: -2,-5 access=no note=x <-; n2: 0,12 <- w1; w1: n2 n2 highway=path <- r1; r1: w1/outer <-;",
+    ],
+    [
+        "delete n1",
+        " n1: -2,-5 access=no note=x -> none;",
+        " n2: 0,12 <- w1; w1: n2 n2 highway=path <- r1; r1: w1/outer <-;",
+    ],
+];
+
+// A store is shown so.
+fn is_shown(
+    rt: &impl Abort,
+    alloc: Global,
+    store: &Store<Global>,
+    wanted: &str,
+) -> Result<(), Fail> {
+    let shown = store_shown(alloc, store)?;
+    assert_eq!(rt; shown.as_str(), wanted);
+    Ok(())
+}
+
+// Plans an edit, applies it, takes it back and applies it again.
+fn step(
+    rt: &impl Abort,
+    alloc: Global,
+    store: &mut Store<Global>,
+    [text, wanted, after]: [&str; 3],
+) -> Result<(), Fail> {
+    let before = store_shown(alloc, store)?;
+    let changes = edit(alloc, text)?.plan(alloc, store)?;
+    let shown = changes_shown(alloc, changes.copy()?.rows())?;
+    assert_eq!(rt; shown.as_str(), wanted);
+    let back = apply(alloc, store, changes)?;
+    is_shown(rt, alloc, store, after)?;
+    let forth = apply(alloc, store, back)?;
+    is_shown(rt, alloc, store, before.as_str())?;
+    apply(alloc, store, forth)?;
+    is_shown(rt, alloc, &store.copy()?, after)
+}
+
+#[test]
+fn edits_lead_there_and_back(rt: HostRuntime) -> Result<(), Fail> {
+    let mut store = Store::new(rt.alloc());
+    for row in EDITS {
+        step(&rt, rt.alloc(), &mut store, row)?;
+    }
+    assert_eq!(rt; store.applied(), 33);
+    Ok(())
+}
+
+// Edits of a store that has node 1 and a way of node 2 there and back, each with the refusal as it is printed.
+const REFUSED: [(&str, &str); 12] = [
+    ("create n1 7,7", "Present(Name { kind: Node, id: 1 })"),
+    ("retag n2 -name", "Nothing"),
+    ("retag n9 -name", "Absent(Name { kind: Node, id: 9 })"),
+    ("move 1,1 n2 n9", "Absent(Name { kind: Node, id: 9 })"),
+    (
+        "move 900000000,0 n2",
+        "OutOfRange(Name { kind: Node, id: 2 })",
+    ),
+    ("reverse w1", "Nothing"),
+    ("reverse n1", "WrongKind(Name { kind: Node, id: 1 })"),
+    ("nodes w1 n2", "TooFew(Name { kind: Way, id: 1 })"),
+    ("members r1 n1/", "Absent(Name { kind: Relation, id: 1 })"),
+    ("members w1 n1/", "WrongKind(Name { kind: Way, id: 1 })"),
+    ("delete n9", "Absent(Name { kind: Node, id: 9 })"),
+    (
+        "delete n2",
+        "InUse(Name { kind: Node, id: 2 }, Name { kind: Way, id: 1 })",
+    ),
+];
+
+#[test]
+fn refused_edits_name_what_is_wrong(rt: HostRuntime) -> Result<(), Fail> {
+    let alloc = rt.alloc();
+    let store = store_of(
+        alloc,
+        &["create n1 1,1", "create n2 2,2", "create w1 n2 n2"],
+    )?;
+    for (text, wanted) in REFUSED {
+        match edit(alloc, text)?.plan(alloc, &store) {
+            Ok(_) => assert!(rt; false, "{text}"),
+            Err(refusal) => {
+                let told = format!(in alloc; "{refusal:?}")?;
+                assert_eq!(rt; told.as_str(), wanted);
+            }
+        }
+    }
+    Ok(())
+}

@@ -1,0 +1,37 @@
+//! Changes applied to a store.
+ghost use Rattle.std.specs.Prelude.{IfOk};
+ghost use Rattle.sample_edits.specs.Applying.{MayApply};
+
+use crate::reading::edit;
+use osm_changes::changes::Changes;
+use osm_changes::laws::an_inverse_restores;
+use osm_changes::store::Store;
+use osm_elements::Memory;
+use std::alloc::Allocator;
+use std::test::Fail;
+
+/// Applies changes, and answers those that take them back.
+pub fn apply<A: Allocator + Clone>(
+    alloc: A,
+    store: &mut Store<A>,
+    changes: Changes<A>,
+) -> Result<Changes<A>, Memory>
+    requires { MayApply store.old.rows changes }
+    ensures { IfOk result (λ back. MayApply store.new.rows back) }
+{
+    an_inverse_restores::<A>();
+    let _ = changes.rows();
+    let _ = store.map();
+    store.apply(alloc, &changes)?;
+    Ok(changes.inverse())
+}
+
+/// A store after some edits, each written as a text.
+pub fn store_of<A: Allocator + Copy>(alloc: A, edits: &[&str]) -> Result<Store<A>, Fail> {
+    let mut store = Store::new(alloc);
+    for text in edits {
+        let changes = edit(alloc, text)?.plan(alloc, &store)?;
+        store.apply(alloc, &changes)?;
+    }
+    Ok(store)
+}

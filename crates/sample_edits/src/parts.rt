@@ -1,0 +1,82 @@
+//! Names and parts of elements from texts. A word that is not of the part that is read is left out.
+use edit_simple::retag::Retag;
+use osm_elements::member::Member;
+use osm_elements::members::Members;
+use osm_elements::name::{Kind, Name};
+use osm_elements::nodes::Nodes;
+use osm_elements::tags::Tags;
+use osm_elements::text::Text;
+use std::alloc::Allocator;
+use std::test::Fail;
+
+/// The name that a text is.
+pub fn name(text: &str) -> Result<Name, Fail> {
+    Ok(Name::read(text).ok_or("a name")?)
+}
+
+/// Two numbers with a comma between them.
+pub fn pair(words: &str) -> Result<(i64, i64), Fail> {
+    let (word, _) = words.split_once(' ').unwrap_or((words, ""));
+    let (first, second) = word.split_once(',').ok_or("a comma")?;
+    Ok((first.parse::<i64>()?, second.parse::<i64>()?))
+}
+
+/// The names among some words.
+pub fn names<A: Allocator>(alloc: A, words: &str) -> Result<Vec<Name, A>, Fail> {
+    let mut names = Vec::new(alloc);
+    for word in words.split(' ') {
+        if let Some(name) = Name::read(word) {
+            names.push(name)?;
+        }
+    }
+    Ok(names)
+}
+
+/// The names of nodes among some words.
+pub fn nodes<A: Allocator>(alloc: A, words: &str) -> Result<Nodes<A>, Fail> {
+    let mut nodes = Nodes::empty(alloc);
+    for word in words.split(' ') {
+        if let Some(name) = Name::read(word) {
+            match name.kind() {
+                Kind::Node => nodes.push(name)?,
+                Kind::Way | Kind::Relation => {}
+            }
+        }
+    }
+    Ok(nodes)
+}
+
+/// The members among some words: a name, a slash and a role.
+pub fn members<A: Allocator + Copy>(alloc: A, words: &str) -> Result<Members<A>, Fail> {
+    let mut members = Members::empty(alloc);
+    for word in words.split(' ') {
+        if let Some((member, role)) = word.split_once('/') {
+            members.push(Member::new(name(member)?, Text::new(alloc, role)?))?;
+        }
+    }
+    Ok(members)
+}
+
+/// The tags among some words: a key, an equals sign and a value.
+pub fn tags<A: Allocator + Copy>(alloc: A, words: &str) -> Result<Tags<A>, Fail> {
+    let mut tags = Tags::empty(alloc);
+    for word in words.split(' ') {
+        if let Some((key, value)) = word.split_once('=') {
+            tags.set(Text::new(alloc, key)?, Text::new(alloc, value)?)?;
+        }
+    }
+    Ok(tags)
+}
+
+/// What some words give the tags of an element: `key=value` a value, `-key` none.
+pub fn retag<A: Allocator + Copy>(alloc: A, words: &str) -> Result<Retag<A>, Fail> {
+    let mut given = Retag::empty(alloc);
+    for word in words.split(' ') {
+        if let Some((key, value)) = word.split_once('=') {
+            given.set(Text::new(alloc, key)?, Some(Text::new(alloc, value)?))?;
+        } else if let Some(key) = word.strip_prefix('-') {
+            given.set(Text::new(alloc, key)?, None)?;
+        }
+    }
+    Ok(given)
+}
