@@ -2,65 +2,12 @@
 //! worked out by hand.
 use osm_changes::store::Store;
 use sample_edits::applying::{apply, store_of};
+use sample_edits::edits::EDITS;
 use sample_edits::reading::edit;
 use sample_edits::shown::{changes_shown, store_shown};
 use std::alloc::Global;
 use std::process::Abort;
 use std::test::Fail;
-
-// Edits in turn, each with the changes that its plan answers and the store after it.
-const EDITS: [[&str; 3]; 10] = [
-    [
-        "create n1 7,-8 name=Allee",
-        " n1: none -> 7,-8 name=Allee;",
-        " n1: 7,-8 name=Allee <-;",
-    ],
-    [
-        "create n2 9,9",
-        " n2: none -> 9,9;",
-        " n1: 7,-8 name=Allee <-; n2: 9,9 <-;",
-    ],
-    [
-        "create w1 n2 n1 highway=path",
-        " w1: none -> n2 n1 highway=path;",
-        " n1: 7,-8 name=Allee <- w1; n2: 9,9 <- w1; w1: n2 n1 highway=path <-;",
-    ],
-    [
-        "create r1 n1/stop w1/ n1/",
-        " r1: none -> n1/stop w1/ n1/;",
-        " n1: 7,-8 name=Allee <- w1 r1; n2: 9,9 <- w1; w1: n2 n1 highway=path <- r1; r1: n1/stop w1/ n1/ <-;",
-    ],
-    [
-        "retag n1 -name note=x access=no",
-        " n1: 7,-8 name=Allee -> 7,-8 access=no note=x;",
-        " n1: 7,-8 access=no note=x <- w1 r1; n2: 9,9 <- w1; w1: n2 n1 highway=path <- r1; r1: n1/stop w1/ n1/ <-;",
-    ],
-    [
-        "move -9,3 w1 n1",
-        " n1: 7,-8 access=no note=x -> -2,-5 access=no note=x; n2: 9,9 -> 0,12;",
-        " n1: -2,-5 access=no note=x <- w1 r1; n2: 0,12 <- w1; w1: n2 n1 highway=path <- r1; r1: n1/stop w1/ n1/ <-;",
-    ],
-    [
-        "reverse w1",
-        " w1: n2 n1 highway=path -> n1 n2 highway=path;",
-        " n1: -2,-5 access=no note=x <- w1 r1; n2: 0,12 <- w1; w1: n1 n2 highway=path <- r1; r1: n1/stop w1/ n1/ <-;",
-    ],
-    [
-        "nodes w1 n2 n2",
-        " w1: n1 n2 highway=path -> n2 n2 highway=path;",
-        " n1: -2,-5 access=no note=x <- r1; n2: 0,12 <- w1; w1: n2 n2 highway=path <- r1; r1: n1/stop w1/ n1/ <-;",
-    ],
-    [
-        "members r1 w1/outer",
-        " r1: n1/stop w1/ n1/ -> w1/outer;",
-        " n1: -2,-5 access=no note=x <-; n2: 0,12 <- w1; w1: n2 n2 highway=path <- r1; r1: w1/outer <-;",
-    ],
-    [
-        "delete n1",
-        " n1: -2,-5 access=no note=x -> none;",
-        " n2: 0,12 <- w1; w1: n2 n2 highway=path <- r1; r1: w1/outer <-;",
-    ],
-];
 
 // A store is shown so.
 fn is_shown(

@@ -1,5 +1,8 @@
 //! Copies: equal to what was copied, or refused with the original as it was.
 use crate::map::node;
+use edit_simple::retag::Retag;
+use osm_changes::changes::Changes;
+use osm_changes::store::Store;
 use osm_elements::Memory;
 use osm_elements::element::Element;
 use osm_elements::map::{OsmMap, Row, Rows};
@@ -9,6 +12,7 @@ use osm_elements::name::{Kind, Name};
 use osm_elements::nodes::Nodes;
 use osm_elements::tags::{Tag, Tags};
 use osm_elements::text::Text;
+use osm_refs::users::Users;
 use refusing::Refusing;
 use room_history::action::Action;
 use std::alloc::{AllocError, Global};
@@ -83,8 +87,8 @@ fn map(heap: Heap<'_>) -> Result<OsmMap<Heap<'_>>, Fail> {
     Ok(map)
 }
 
-// What has a `copy`.
-trait Copies: Debug + Drop + Sized {
+/// What has a `copy`.
+pub trait Copies: Debug + Drop + Sized {
     fn second(&self) -> Result<Self, Memory>;
 }
 
@@ -154,9 +158,37 @@ impl Copies for Action<Heap<'_>> {
     }
 }
 
-// Refuses the first growth of a copy, then the second, and so on until a copy is made. The original shows the
-// same after each refusal, and the copy shows what the original shows.
-fn refuse_each<T: Copies>(rt: &impl Abort, heap: Heap<'_>, original: &T) -> Result<(), AllocError> {
+impl Copies for Users<Heap<'_>> {
+    fn second(&self) -> Result<Self, Memory> {
+        self.copy()
+    }
+}
+
+impl Copies for Changes<Heap<'_>> {
+    fn second(&self) -> Result<Self, Memory> {
+        self.copy()
+    }
+}
+
+impl Copies for Store<Heap<'_>> {
+    fn second(&self) -> Result<Self, Memory> {
+        self.copy()
+    }
+}
+
+impl Copies for Retag<Heap<'_>> {
+    fn second(&self) -> Result<Self, Memory> {
+        self.copy()
+    }
+}
+
+/// Refuses the first growth of a copy, then the second, and so on until a copy is made. The original shows the
+/// same after each refusal, and the copy shows what the original shows.
+pub fn refuse_each<T: Copies>(
+    rt: &impl Abort,
+    heap: &Refusing<Global>,
+    original: &T,
+) -> Result<(), AllocError> {
     let before = format!(in heap; "{original:?}")?;
     let mut refused = 0u64;
     let mut made = false;

@@ -3,7 +3,11 @@
 #![tactic(auto)]
 
 #[cfg(test)]
+mod changes;
+#[cfg(test)]
 mod copies;
+#[cfg(test)]
+mod edits;
 #[cfg(test)]
 mod limits;
 #[cfg(test)]
@@ -11,8 +15,12 @@ mod map;
 #[cfg(test)]
 mod nodes;
 #[cfg(test)]
+mod retags;
+#[cfg(test)]
 mod room;
 #[cfg(test)]
 mod tags;
 #[cfg(test)]
 mod text;
+#[cfg(test)]
+mod users;

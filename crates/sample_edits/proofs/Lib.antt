@@ -1,1 +1,2 @@
 mod Planned
+mod Created

@@ -26,12 +26,22 @@ pub fn apply<A: Allocator + Clone>(
     Ok(changes.inverse())
 }
 
+/// Plans an edit, which is written as a text, and applies it.
+pub fn perform<A: Allocator + Copy>(
+    alloc: A,
+    store: &mut Store<A>,
+    text: &str,
+) -> Result<(), Fail> {
+    let changes = edit(alloc, text)?.plan(alloc, store)?;
+    store.apply(alloc, &changes)?;
+    Ok(())
+}
+
 /// A store after some edits, each written as a text.
 pub fn store_of<A: Allocator + Copy>(alloc: A, edits: &[&str]) -> Result<Store<A>, Fail> {
     let mut store = Store::new(alloc);
     for text in edits {
-        let changes = edit(alloc, text)?.plan(alloc, &store)?;
-        store.apply(alloc, &changes)?;
+        perform(alloc, &mut store, text)?;
     }
     Ok(store)
 }

@@ -7,6 +7,8 @@
 
 pub mod applying;
 pub mod edit;
+pub mod edits;
 pub mod parts;
 pub mod reading;
 pub mod shown;
+pub mod whole;

@@ -1,14 +1,16 @@
 //! Elements, changes and stores as texts.
+use edit_simple::retag::Given;
 use osm_changes::change::Change;
 use osm_changes::store::Store;
 use osm_elements::element::Element;
 use osm_elements::member::Member;
 use osm_elements::name::Name;
 use osm_elements::tags::Tags;
+use osm_refs::users::Users;
 use std::alloc::{AllocError, Allocator};
 
-/// Writes a space and a name.
-pub fn put_name<A: Allocator + Copy>(
+// Writes a space and a name.
+fn put_name<A: Allocator + Copy>(
     alloc: A,
     text: &mut String<A>,
     name: &Name,
@@ -18,8 +20,8 @@ pub fn put_name<A: Allocator + Copy>(
     text.push_str(written.as_str())
 }
 
-/// Writes names, each after a space.
-pub fn put_names<A: Allocator + Copy>(
+// Writes names, each after a space.
+fn put_names<A: Allocator + Copy>(
     alloc: A,
     text: &mut String<A>,
     names: &[Name],
@@ -53,8 +55,8 @@ fn put_tags<A: Allocator>(text: &mut String<A>, tags: &Tags<A>) -> Result<(), Al
     Ok(())
 }
 
-/// Writes an element, its parts each after a space.
-pub fn put_element<A: Allocator + Copy>(
+// Writes an element, its parts each after a space.
+fn put_element<A: Allocator + Copy>(
     alloc: A,
     text: &mut String<A>,
     element: &Element<A>,
@@ -111,6 +113,42 @@ pub fn store_shown<A: Allocator + Copy>(
         text.push_str(" <-")?;
         put_names(alloc, &mut text, store.users().of(name))?;
         text.push(';')?;
+    }
+    Ok(text)
+}
+
+/// The users of some names as a text, each as `n1 <- w1 r1;` after a space.
+pub fn users_shown<A: Allocator + Copy>(
+    alloc: A,
+    users: &Users<A>,
+    names: &[Name],
+) -> Result<String<A>, AllocError> {
+    let mut text = String::new(alloc);
+    for name in names {
+        put_name(alloc, &mut text, name)?;
+        text.push_str(" <-")?;
+        put_names(alloc, &mut text, users.of(name))?;
+        text.push(';')?;
+    }
+    Ok(text)
+}
+
+/// What is given to the tags of an element as a text, as `note=x` or `-name` after a space.
+pub fn given_shown<A: Allocator>(alloc: A, given: &[Given<A>]) -> Result<String<A>, AllocError> {
+    let mut text = String::new(alloc);
+    for row in given {
+        match &row.value {
+            Some(value) => {
+                text.push(' ')?;
+                text.push_str(row.key.as_str())?;
+                text.push('=')?;
+                text.push_str(value.as_str())?;
+            }
+            None => {
+                text.push_str(" -")?;
+                text.push_str(row.key.as_str())?;
+            }
+        }
     }
     Ok(text)
 }
