@@ -2,6 +2,7 @@
 use edit_simple::retag::Retag;
 use osm_elements::fault::TextFault;
 use osm_elements::text::Text;
+use sample_edits::shown::given_shown;
 use std::test::Fail;
 
 #[test]
@@ -29,13 +30,8 @@ fn keys_go_by_their_bytes(rt: HostRuntime) -> Result<(), Fail> {
     for key in ["name:de", "\u{e9}", "a", "name", "Z"] {
         given.set(Text::new(alloc, key)?, Some(Text::new(alloc, "")?))?;
     }
-    let wanted = ["Z", "a", "name", "name:de", "\u{e9}"];
-    let copied = given.copy()?;
-    assert_eq!(rt; copied.rows().len(), wanted.len());
-    for (row, wanted) in copied.rows().iter().zip(wanted.iter()) {
-        assert_eq!(rt; row.key.as_str(), *wanted);
-        assert!(rt; row.value.is_some());
-    }
+    let shown = given_shown(alloc, given.copy()?.rows())?;
+    assert_eq!(rt; shown.as_str(), " Z= a= name= name:de= \u{e9}=");
     let no_key = given.set(Text::new(alloc, "")?, None);
     assert_eq!(rt; no_key, Err(TextFault::EmptyKey));
     Ok(())

@@ -2,9 +2,10 @@
 //! worked out by hand.
 use osm_changes::store::Store;
 use sample_edits::applying::{apply, store_of};
-use sample_edits::edits::EDITS;
+use sample_edits::edits::{EDITS, START, STARTED};
 use sample_edits::reading::edit;
 use sample_edits::shown::{changes_shown, store_shown};
+use sample_edits::whole::from_nothing;
 use std::alloc::Global;
 use std::process::Abort;
 use std::test::Fail;
@@ -47,6 +48,20 @@ fn edits_lead_there_and_back(rt: HostRuntime) -> Result<(), Fail> {
         step(&rt, rt.alloc(), &mut store, row)?;
     }
     assert_eq!(rt; store.applied(), 33);
+    Ok(())
+}
+
+// Three nodes, a way and a relation by one list of changes, and back to nothing.
+#[test]
+fn a_whole_map_is_put_and_taken_back(rt: HostRuntime) -> Result<(), Fail> {
+    let alloc = rt.alloc();
+    let changes = from_nothing(alloc, &store_of(alloc, &START)?)?;
+    let mut store = Store::new(alloc);
+    let back = apply(alloc, &mut store, changes)?;
+    is_shown(&rt, alloc, &store, STARTED)?;
+    apply(alloc, &mut store, back)?;
+    is_shown(&rt, alloc, &store, "")?;
+    assert_eq!(rt; store.applied(), 10);
     Ok(())
 }
 
