@@ -8,7 +8,7 @@ use Rattle.std.specs.List.{list_all}
 use Rattle.std.specs.Str.{IsUtf8, IsAscii, is_utf8}
 use Rattle.std.proofs.lemmas.Str.{IsUtf8-from_ascii, IsUtf8-from_is_utf8, is_utf8-from_IsUtf8}
 use Rattle.memchr.specs.Find.{IsFirstByte, is_byte}
-use Rattle.room_history.specs.Authors.{author_of, is_author, is_name_character}
+use Rattle.room_stacks.specs.Authors.{author_of, is_author, is_name_character}
 use Rattle.room_wire.specs.declared.bad.Fault.TheVariants.{NotJson}
 use Rattle.room_wire.specs.declared.incoming.Incoming.{Incoming}
 use Rattle.room_wire.specs.declared.answer.Answer.TheVariants as answers
@@ -16,7 +16,7 @@ use Rattle.room_wire.specs.Reading.{id_told, GivesMessage}
 use Rattle.room_wire.specs.Answers.{fault_answer}
 use Rattle.room_wire.specs.declared.bad.Bad.{Bad}
 use Rattle.room_history.specs.Rooms.{RoomState}
-use Rattle.room_history.specs.declared.author.Author.{Author}
+use Rattle.room_stacks.specs.declared.author.Author.{Author}
 use Rattle.std.specs.declared.alloc.Global.{Global}
 use Rattle.room_wire.specs.Spelling.{spells}
 use Rattle.room_program.specs.LineAnswers.{split_space, said, spelled, text_of, body_answer, message_answer, line_answer, line_id, answered, script}

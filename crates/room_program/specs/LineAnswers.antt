@@ -7,8 +7,8 @@ use Rattle.serde_json.specs.Data.{object, no_members, member}
 use Rattle.serde_json.specs.Written.{compact_text}
 use Rattle.osm_elements.specs.declared.name.Name.{Name}
 use Rattle.osm_elements.specs.declared.element.Element.{Element}
-use Rattle.room_history.specs.declared.author.Author.{Author}
-use Rattle.room_history.specs.Authors.{author_of}
+use Rattle.room_stacks.specs.declared.author.Author.{Author}
+use Rattle.room_stacks.specs.Authors.{author_of}
 use Rattle.osm_elements.specs.Maps.{Rows}
 use Rattle.room_history.specs.Rooms.{RoomState}
 use Rattle.room_history.specs.Asking.{room_answer}

@@ -2,7 +2,7 @@
 ghost use Rattle.std.specs.Prelude.{◌≡◌, ◌⊎◌, ℕ, Some, None, IfOk, MatchOption, length};
 ghost use Rattle.room_wire.specs.declared.incoming.Body.TheVariants.{Change, Get, Map};
 ghost use Rattle.osm_elements.specs.Rows.{row_at};
-ghost use Rattle.room_history.specs.Authors.{author_of};
+ghost use Rattle.room_stacks.specs.Authors.{author_of};
 ghost use Rattle.room_history.specs.Replays.{mapof};
 ghost use Rattle.room_wire.specs.Reading.{GivesMessage, id_told};
 ghost use Rattle.room_program.specs.LineAnswers.{said, spelled, text_of, element_text, map_text, body_answer, message_answer, answered};
@@ -12,7 +12,7 @@ use crate::answers::Answers;
 use memchr::memchr;
 use osm_elements::Memory;
 use osm_elements::name::Name;
-use room_history::author::Author;
+use room_stacks::author::Author;
 use room_history::call::{Call, Request};
 use room_history::room::Room;
 use room_wire::answer::Answer;
