@@ -20,6 +20,18 @@ type Heap<'a> = &'a Refusing<Global>;
 // How many growths are refused before one call is given up on as never served.
 const MOST: u64 = 20;
 
+// Changes are shown so.
+fn are_shown<'a>(
+    rt: &impl Abort,
+    heap: Heap<'a>,
+    changes: &[Change<Heap<'a>>],
+    wanted: &str,
+) -> Result<(), Fail> {
+    let shown = changes_shown(heap, changes)?;
+    assert_eq!(rt; shown.as_str(), wanted);
+    Ok(())
+}
+
 // Pushes a change with each growth refused in turn, until it is there, and answers how many were refused.
 fn push_refused<'a>(
     rt: &impl Abort,
@@ -39,8 +51,7 @@ fn push_refused<'a>(
         if answer.is_ok() {
             return Ok(growths);
         }
-        let shown = changes_shown(heap, changes.rows())?;
-        assert_eq!(rt; shown.as_str(), before.as_str());
+        are_shown(rt, heap, changes.rows(), before.as_str())?;
     }
     Err(Fail::from("never with memory"))
 }
@@ -54,9 +65,8 @@ fn push_each<'a>(rt: &impl Abort, heap: Heap<'a>, all: &Changes<Heap<'a>>) -> Re
         let more = push_refused(rt, heap, &mut changes, change)?;
         refused = refused.wrapping_add(more);
     }
-    let shown = changes_shown(heap, changes.rows())?;
     let wanted = changes_shown(heap, rows)?;
-    assert_eq!(rt; shown.as_str(), wanted.as_str());
+    are_shown(rt, heap, changes.rows(), wanted.as_str())?;
     Ok(refused)
 }
 

@@ -1,5 +1,4 @@
 //! Copies: equal to what was copied, or refused with the original as it was.
-use crate::map::node;
 use edit_simple::retag::Retag;
 use osm_changes::changes::Changes;
 use osm_changes::store::Store;
@@ -15,6 +14,9 @@ use osm_elements::text::Text;
 use osm_refs::users::Users;
 use refusing::Refusing;
 use room_history::action::Action;
+use sample_edits::applying::nodes_store;
+use sample_edits::parts::{members, name, nodes, tags};
+use sample_edits::reading::element;
 use std::alloc::{AllocError, Global};
 use std::fmt::Debug;
 use std::process::Abort;
@@ -26,65 +28,16 @@ type Heap<'a> = &'a Refusing<Global>;
 // How many growths are refused before one copy is given up on as never made.
 const MOST: u64 = 60;
 
-fn nodes(heap: Heap<'_>) -> Result<Nodes<Heap<'_>>, Fail> {
-    let mut nodes = Nodes::empty(heap);
-    for id in [-1i64, -2] {
-        let name = Name::new(Kind::Node, id).ok_or("zero")?;
-        nodes.push(name)?;
-    }
-    Ok(nodes)
-}
-
-fn tags(heap: Heap<'_>) -> Result<Tags<Heap<'_>>, Fail> {
-    let mut tags = Tags::empty(heap);
-    for key in ["name", "highway", "note"] {
-        tags.set(Text::new(heap, key)?, Text::new(heap, "Allee")?)?;
-    }
-    Ok(tags)
-}
+// Three tags, as words.
+const TAGS: &str = "name=Allee highway=Allee note=Allee";
 
 // A way with two nodes and three tags.
 fn way(heap: Heap<'_>) -> Result<Element<Heap<'_>>, Fail> {
-    Ok(Element::Way {
-        nodes: nodes(heap)?,
-        tags: tags(heap)?,
-    })
-}
-
-// Two members: a way in a role, and a node in none.
-fn members(heap: Heap<'_>) -> Result<Members<Heap<'_>>, Fail> {
-    let mut members = Members::empty(heap);
-    let way = Name::new(Kind::Way, 9).ok_or("zero")?;
-    members.push(Member::new(way, Text::new(heap, "outer")?))?;
-    let node = Name::new(Kind::Node, -1).ok_or("zero")?;
-    members.push(Member::new(node, Text::new(heap, "")?))?;
-    Ok(members)
-}
-
-// A relation with two members and three tags.
-fn relation(heap: Heap<'_>) -> Result<Element<Heap<'_>>, Fail> {
-    Ok(Element::Relation {
-        members: members(heap)?,
-        tags: tags(heap)?,
-    })
-}
-
-fn row(heap: Heap<'_>) -> Result<Row<Heap<'_>>, Fail> {
-    Ok(Row {
-        name: Name::new(Kind::Way, 9).ok_or("zero")?,
-        element: way(heap)?,
-    })
-}
-
-// Nodes enough for more than one leaf of the tree.
-fn map(heap: Heap<'_>) -> Result<OsmMap<Heap<'_>>, Fail> {
-    let mut map = OsmMap::new(heap);
-    for id in 1..30i64 {
-        let name = Name::new(Kind::Node, id).ok_or("zero")?;
-        let element = node(heap, 7).ok_or("range")?;
-        let _ = map.put(name, element);
-    }
-    Ok(map)
+    element(
+        heap,
+        Kind::Way,
+        "n-1 n-2 name=Allee highway=Allee note=Allee",
+    )
 }
 
 /// What has a `copy`.
@@ -218,14 +171,14 @@ fn texts_and_tags(rt: HostRuntime) -> Result<(), Fail> {
     refuse_each(&rt, &heap, &key)?;
     let value = Text::new(&heap, "Hauptstraße")?;
     refuse_each(&rt, &heap, &Tag { key, value })?;
-    refuse_each(&rt, &heap, &tags(&heap)?)?;
+    refuse_each(&rt, &heap, &tags(&heap, TAGS)?)?;
     Ok(())
 }
 
 #[test]
 fn nodes_and_elements(rt: HostRuntime) -> Result<(), Fail> {
     let heap = Refusing::new(rt.alloc(), u64::MAX);
-    refuse_each(&rt, &heap, &nodes(&heap)?)?;
+    refuse_each(&rt, &heap, &nodes(&heap, "n-1 n-2")?)?;
     refuse_each(&rt, &heap, &way(&heap)?)?;
     Ok(())
 }
@@ -236,18 +189,25 @@ fn members_and_relations(rt: HostRuntime) -> Result<(), Fail> {
     let name = Name::new(Kind::Relation, -3).ok_or("zero")?;
     let role = Text::new(&heap, "stop_entry_only")?;
     refuse_each(&rt, &heap, &Member::new(name, role))?;
-    refuse_each(&rt, &heap, &members(&heap)?)?;
-    refuse_each(&rt, &heap, &relation(&heap)?)?;
+    refuse_each(&rt, &heap, &members(&heap, "w9/outer n-1/")?)?;
+    let relation = element(
+        &heap,
+        Kind::Relation,
+        "w9/outer n-1/ name=Allee highway=Allee note=Allee",
+    )?;
+    refuse_each(&rt, &heap, &relation)?;
     Ok(())
 }
 
 #[test]
 fn rows_and_maps(rt: HostRuntime) -> Result<(), Fail> {
     let heap = Refusing::new(rt.alloc(), u64::MAX);
-    refuse_each(&rt, &heap, &row(&heap)?)?;
-    let map = map(&heap)?;
-    refuse_each(&rt, &heap, &map.rows(&heap)?)?;
-    refuse_each(&rt, &heap, &map)?;
+    let name = name("w9")?;
+    let element = way(&heap)?;
+    refuse_each(&rt, &heap, &Row { name, element })?;
+    let store = nodes_store(&heap, 29)?;
+    refuse_each(&rt, &heap, &store.map().rows(&heap)?)?;
+    refuse_each(&rt, &heap, store.map())?;
     Ok(())
 }
 

@@ -9,7 +9,7 @@ use osm_elements::name::{Kind, Name};
 use osm_refs::refs::refs_of;
 use osm_refs::users::Users;
 use refusing::Refusing;
-use sample_edits::applying::{perform, store_of};
+use sample_edits::applying::{nodes_store, perform, store_of};
 use sample_edits::edits::START;
 use sample_edits::parts::{name, names};
 use sample_edits::reading::element;
@@ -73,6 +73,19 @@ fn ready_with<'a>(
     answer.is_ok()
 }
 
+// The users of some names are shown so.
+fn are_shown<'a>(
+    rt: &impl Abort,
+    heap: Heap<'a>,
+    users: &Users<Heap<'a>>,
+    names: &[Name],
+    wanted: &str,
+) -> Result<(), Fail> {
+    let shown = users_shown(heap, users, names)?;
+    assert_eq!(rt; shown.as_str(), wanted);
+    Ok(())
+}
+
 // Makes ready that a name gets an element, with each growth refused in turn, until it is. The answer has it waiting.
 fn ready_refused<'a>(
     rt: &impl Abort,
@@ -90,8 +103,7 @@ fn ready_refused<'a>(
             assert!(rt; growths > 0, "no growth was refused");
             return Ok(users);
         }
-        let shown = users_shown(heap, &users, names)?;
-        assert_eq!(rt; shown.as_str(), before.as_str());
+        are_shown(rt, heap, &users, names, before.as_str())?;
     }
     Err(Fail::from("never with memory"))
 }
@@ -131,22 +143,23 @@ fn users_refuse_each_growth(rt: HostRuntime) -> Result<(), Fail> {
         let mut users = ready_refused(&rt, &heap, &store, (&name, &element), &names)?;
         refuse_each(&rt, &heap, &users)?;
         users.note();
-        let shown = users_shown(&heap, &users, &names)?;
-        assert_eq!(rt; shown.as_str(), wanted);
+        are_shown(&rt, &heap, &users, &names, wanted)?;
     }
     Ok(())
 }
 
+// Creates a way of a node and of the thousandth after it.
+fn create_way<'a>(heap: Heap<'a>, store: &mut Store<Heap<'a>>, way: u32) -> Result<(), Fail> {
+    let other = u64::from(way) + 1000;
+    let text = format!(in heap; "create w{way} n{way} n{other}")?;
+    perform(heap, store, text.as_str())
+}
+
 // A store of a thousand ways of two nodes each, of which no two share a node.
 fn thousand_ways(heap: Heap<'_>) -> Result<Store<Heap<'_>>, Fail> {
-    let mut store = Store::new(heap);
-    for node in 1..2001u32 {
-        let text = format!(in heap; "create n{node} 0,0")?;
-        perform(heap, &mut store, text.as_str())?;
-    }
+    let mut store = nodes_store(heap, 2000)?;
     for way in 1..1001u32 {
-        let text = format!(in heap; "create w{way} n{way} n{}", way + 1000)?;
-        perform(heap, &mut store, text.as_str())?;
+        create_way(heap, &mut store, way)?;
     }
     Ok(store)
 }

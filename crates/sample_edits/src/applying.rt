@@ -45,3 +45,13 @@ pub fn store_of<A: Allocator + Copy>(alloc: A, edits: &[&str]) -> Result<Store<A
     }
     Ok(store)
 }
+
+/// A store of so many nodes at 0,0, from node 1 on.
+pub fn nodes_store<A: Allocator + Copy>(alloc: A, count: u32) -> Result<Store<A>, Fail> {
+    let mut store = Store::new(alloc);
+    for node in 0..count {
+        let text = format!(in alloc; "create n{} 0,0", u64::from(node) + 1)?;
+        perform(alloc, &mut store, text.as_str())?;
+    }
+    Ok(store)
+}
