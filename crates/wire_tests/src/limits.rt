@@ -50,14 +50,19 @@ const TEXTS: [(&str, &str, &str, &str, &str); 6] = [
     ),
 ];
 
+// A text with what stands before and after it.
+fn between(alloc: Global, before: &str, text: &str, after: &str) -> Result<String, AllocError> {
+    format!(in alloc; "{before}{text}{after}")
+}
+
 // Checks that a key, a value and a role of 255 such characters is taken, and one of 256 is not.
 fn is_limited(rt: &impl Abort, alloc: Global, character: &str) -> Result<(), AllocError> {
     let (most, more) = (times(alloc, character, 255)?, times(alloc, character, 256)?);
     for (before, after, shown_before, shown_after, field) in TEXTS {
-        let text = format!(in alloc; "{before}{most}{after}")?;
-        let wanted = format!(in alloc; "{shown_before}{most}{shown_after}")?;
+        let text = between(alloc, before, most.as_str(), after)?;
+        let wanted = between(alloc, shown_before, most.as_str(), shown_after)?;
         is_shown(rt, alloc, text.as_str(), wanted.as_str())?;
-        let text = format!(in alloc; "{before}{more}{after}")?;
+        let text = between(alloc, before, more.as_str(), after)?;
         is_bad(rt, alloc, text.as_str(), field)?;
     }
     Ok(())
