@@ -132,6 +132,9 @@ given_of d = if is_some (as_null d) then Some None else option_map Some (value_o
 abbrev pub gifts_of : ObjectMembers → Option Gifts
 gifts_of = entries_of given_of
 
+abbrev pub gifts_at : Data → Result Gifts Fault
+gifts_at d = or_fault (BadField Tags) (option_and_then gifts_of (option_and_then as_object (get (field_text Tags) d)))
+
 -- what refuses a text or a tag of a field, to a message
 abbrev pub fault_in : Field → TextFault → Fault
 fault_in field text_faults.TextTooLong = BadField field
@@ -146,9 +149,6 @@ tags_from (Some d) = or_fault (BadField Tags) (option_and_then tags_of (as_objec
 
 abbrev pub tags_at : Data → Result Pairs Fault
 tags_at d = tags_from (get (field_text Tags) d)
-
-abbrev pub gifts_at : Data → Result Gifts Fault
-gifts_at d = or_fault (BadField Tags) (option_and_then gifts_of (option_and_then as_object (get (field_text Tags) d)))
 
 abbrev pub seq_from : Option Data → Result (Option ℕ) Fault
 seq_from None = Ok None
