@@ -1,4 +1,5 @@
 //! Copies: equal to what was copied, or refused with the original as it was.
+use edit_actions::action::Action;
 use edit_simple::retag::Retag;
 use osm_changes::changes::Changes;
 use osm_changes::store::Store;
@@ -13,7 +14,6 @@ use osm_elements::tags::{Tag, Tags};
 use osm_elements::text::Text;
 use osm_refs::users::Users;
 use refusing::Refusing;
-use room_history::action::Action;
 use sample_edits::applying::nodes_store;
 use sample_edits::parts::{members, name, nodes, tags};
 use sample_edits::reading::element;

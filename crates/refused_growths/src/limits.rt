@@ -1,6 +1,7 @@
 //! With ample memory each call that takes some answers, at its limits too, and the answer is compared whole: no contract
 //! refuses a body that gives up in a corner.
 use crate::map::node;
+use edit_actions::action::Action;
 use osm_elements::element::Element;
 use osm_elements::fault::TextFault;
 use osm_elements::map::OsmMap;
@@ -8,11 +9,10 @@ use osm_elements::name::{Kind, Name};
 use osm_elements::nodes::Nodes;
 use osm_elements::tags::Tags;
 use osm_elements::text::Text;
-use room_history::action::Action;
-use room_history::author::Author;
 use room_history::call::{Call, Calls, Request};
 use room_history::reply::Reply;
 use room_history::run::run;
+use room_stacks::author::Author;
 use std::alloc::{AllocError, Global};
 use std::process::Abort;
 use std::test::Fail;

@@ -1,16 +1,20 @@
 //! Rooms: a call whose growth is refused leaves the room as it was, and is answered once there is memory.
 use crate::map::node;
+use edit_actions::action::Action;
 use osm_elements::name::{Kind, Name};
 use refusing::Refusing;
-use room_history::action::Action;
 use room_history::ask::{RoomCall, RoomReply};
-use room_history::author::Author;
 use room_history::call::{Call, Calls, Request};
 use room_history::reply::{Replies, Reply};
 use room_history::room::Room;
 use room_history::run::run;
+use room_stacks::author::Author;
 use std::alloc::Global;
+use std::process::Abort;
 use std::test::Fail;
+
+// What counts its growths.
+type Heap<'a> = &'a Refusing<Global>;
 
 // Two nodes of Anna's, of which Bob deletes one; then each takes back what was done last.
 const STEPS: usize = 5;
@@ -52,61 +56,67 @@ fn call<'a>(heap: &'a Refusing<Global>, step: usize) -> Result<Call<&'a Refusing
     })
 }
 
+// What all readers of a room tell.
+fn told<'a>(heap: Heap<'a>, room: &Room<Heap<'a>>) -> Result<String<Heap<'a>>, Fail> {
+    let rows = room.map_rows()?;
+    let front = room.front();
+    let applied = room.applied();
+    let mut all = format!(in heap; "{front} {applied} {rows:?}")?;
+    for seq in 0..=front {
+        let entry = room.entry(seq);
+        let entry = format!(in heap; "{entry:?}")?;
+        all.push_str(entry.as_str())?;
+    }
+    Ok(all)
+}
+
+// Takes the call of a step where only so many growths are granted.
+fn reply_within<'a>(
+    heap: Heap<'a>,
+    room: &mut Room<Heap<'a>>,
+    step: usize,
+    growths: u64,
+) -> Result<Reply<Heap<'a>>, Fail> {
+    let call = call(heap, step)?;
+    heap.set(growths);
+    let reply = room.take(call);
+    heap.set(u64::MAX);
+    Ok(reply)
+}
+
+// Refuses each growth of a step in turn, until it is answered, and gives how many were refused.
+fn refuse_step<'a>(
+    rt: &impl Abort,
+    heap: Heap<'a>,
+    room: &mut Room<Heap<'a>>,
+    step: usize,
+) -> Result<u64, Fail> {
+    let before = told(heap, room)?;
+    for growths in 0..40u64 {
+        let reply = reply_within(heap, room, step, growths)?;
+        if !matches!(reply, Reply::Memory) {
+            let reply = format!(in heap; "{reply:?}")?;
+            assert_eq!(rt; reply.as_str(), ANSWERS[step], "step {step}");
+            return Ok(growths);
+        }
+        let after = told(heap, room)?;
+        assert_eq!(rt;
+            after.as_str(),
+            before.as_str(),
+            "step {step}, at growth {growths}"
+        );
+    }
+    Err("never with memory".into())
+}
+
 #[test]
 fn take_refuses_each_growth(rt: HostRuntime) -> Result<(), Fail> {
     let heap = Refusing::new(rt.alloc(), u64::MAX);
     let mut room = Room::open(&heap, 5);
-    let mut refused = 0u64;
-    for (step, answer) in ANSWERS.iter().enumerate() {
-        let before = format!(in rt.alloc(); "{room:?}")?;
-        let mut done = false;
-        for growths in 0..40u64 {
-            let call = call(&heap, step)?;
-            heap.set(growths);
-            let reply = room.take(call);
-            heap.set(u64::MAX);
-            if !matches!(reply, Reply::Memory) {
-                let reply = format!(in rt.alloc(); "{reply:?}")?;
-                assert_eq!(rt; reply.as_str(), *answer, "step {step}");
-                done = true;
-                break;
-            }
-            refused = refused.wrapping_add(1);
-            let after = format!(in rt.alloc(); "{room:?}")?;
-            assert_eq!(rt;
-                after.as_str(),
-                before.as_str(),
-                "step {step}, at growth {growths}"
-            );
-        }
-        assert!(rt; done, "step {step}: never with memory");
+    for step in 0..STEPS {
+        let refused = refuse_step(&rt, &heap, &mut room, step)?;
+        assert!(rt; refused > 0, "step {step}: no growth was refused");
     }
-    assert!(rt; refused > 0, "no growth was refused");
-    Ok(())
-}
-
-#[test]
-fn map_rows_refuse_each_growth(rt: HostRuntime) -> Result<(), Fail> {
-    let heap = Refusing::new(rt.alloc(), u64::MAX);
-    let mut room = Room::open(&heap, 5);
-    for step in 0..2usize {
-        let call = call(&heap, step)?;
-        let _ = room.take(call);
-    }
-    let mut refused = 0u64;
-    let mut done = false;
-    for growths in 0..10u64 {
-        heap.set(growths);
-        let answer = room.map_rows();
-        heap.set(u64::MAX);
-        if let Ok(rows) = answer {
-            assert_eq!(rt; rows.as_slice().len(), 2);
-            done = true;
-            break;
-        }
-        refused = refused.wrapping_add(1);
-    }
-    assert!(rt; done && refused > 0, "no growth was refused, or all were");
     Ok(())
 }
 
@@ -155,32 +165,39 @@ fn ask_answers(rt: HostRuntime) -> Result<(), Fail> {
     Ok(())
 }
 
+// Asks a query where only so many growths are granted.
+fn reply_to<'a>(
+    heap: Heap<'a>,
+    room: &mut Room<Heap<'a>>,
+    query: RoomCall<Heap<'a>>,
+    growths: u64,
+) -> RoomReply<Heap<'a>> {
+    heap.set(growths);
+    let reply = room.ask(query);
+    heap.set(u64::MAX);
+    reply
+}
+
 // A query is answered with copies, or for want of memory, and leaves the room as it was.
 #[test]
-fn ask_refuses_each_growth(rt: HostRuntime) -> Result<(), Fail> {
+fn rows_refuse_each_growth(rt: HostRuntime) -> Result<(), Fail> {
     let heap = Refusing::new(rt.alloc(), u64::MAX);
     let mut room = Room::open(&heap, 5);
     for step in 0..2usize {
         let call = call(&heap, step)?;
         let _ = room.take(call);
     }
-    let before = format!(in rt.alloc(); "{room:?}")?;
-    let mut refused = 0u64;
-    let mut done = false;
+    let before = told(&heap, &room)?;
     for growths in 0..10u64 {
-        heap.set(growths);
-        let reply = room.ask(RoomCall::Rows);
-        heap.set(u64::MAX);
-        if matches!(&reply, RoomReply::Rows(Ok(_))) {
-            let told = format!(in rt.alloc(); "{reply:?}")?;
-            assert!(rt; told.as_str().starts_with("Rows(Ok((2, "), "{told}");
-            done = true;
-            break;
-        }
-        refused = refused.wrapping_add(1);
-        let after = format!(in rt.alloc(); "{room:?}")?;
+        let reply = reply_to(&heap, &mut room, RoomCall::Rows, growths);
+        let after = told(&heap, &room)?;
         assert_eq!(rt; after.as_str(), before.as_str(), "at growth {growths}");
+        if matches!(&reply, RoomReply::Rows(Ok(_))) {
+            let reply = format!(in rt.alloc(); "{reply:?}")?;
+            assert!(rt; growths > 0, "no growth was refused");
+            assert!(rt; reply.as_str().starts_with("Rows(Ok((2, "), "{reply}");
+            return Ok(());
+        }
     }
-    assert!(rt; done && refused > 0, "no growth was refused, or all were");
-    Ok(())
+    Err("never with memory".into())
 }
