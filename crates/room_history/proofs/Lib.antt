@@ -1,11 +1,11 @@
 pub mod Asking
 pub mod AtOnce
+pub mod BinarySearching
 pub mod Deciding
 pub mod Deeds
 pub mod ExampleProofs
 pub mod Growing
 pub mod Holding
-pub mod LastFound
 pub mod Searching
 pub mod Stacking
 pub mod Stacks

@@ -1,5 +1,5 @@
 -- One step of a room.
-use Rattle.std.proofs.Common.{◌≡◌, Result, OnErr, ◌<◌, ◌≤◌, ◌+◌, ◌++◌, ◌∷◌, ℕ, true, false, List, [], Option, Some, None, IsSome, Ok, Err, length, take, refl, sym, ap, subst, ◌∙◌, arith, ◌⊎◌, inl, inr, zero, suc, map, nat_le, slice_get, length-append}
+use Rattle.std.proofs.Common.{◌≡◌, Result, OnErr, ◌<◌, ◌≤◌, ◌+◌, ◌++◌, ◌∷◌, ℕ, true, false, List, [], Option, Some, None, Ok, Err, length, take, refl, sym, ap, subst, ◌∙◌, arith, ◌⊎◌, inl, inr, zero, suc, map, nat_le, length-append}
 use Rattle.std.specs.Bool.{then_some}
 use Rattle.std.specs.List.{fold}
 use Rattle.std.specs.Option.{option_map}
@@ -30,7 +30,7 @@ use Rattle.edit_actions.specs.MadeActions.{is_made_action}
 use Rattle.room_history.specs.LegalJournals.{IsJournal, opened, called}
 use Rattle.room_history.specs.Runs.{IsStep}
 use Rattle.room_history.specs.Applied.{applied}
-use Rattle.room_history.specs.Inner.Deeds.{deed, deed_by, deeds}
+use Rattle.room_history.specs.Inner.Deeds.{deed_by, deeds}
 use Rattle.room_history.proofs.Deeds as journals
 use Rattle.room_history.proofs.Deeds.{deeds-append, spent_deeds, stands_among}
 use Rattle.room_stacks.specs.Stacks as stacks
@@ -51,11 +51,8 @@ use Rattle.osm_changes.specs.Facts.Changing.{changed-differences}
 use Rattle.osm_changes.specs.Facts.SoundRows.{sound_in_order}
 use Rattle.edit_actions.specs.Facts.Accepted.{AreInOrder-after}
 use Rattle.room_history.proofs.Stacks.{Stacked}
-use Rattle.room_history.proofs.Stacking.{Stacked-undo, Undone, mapof-append, past-append, recorded_each, standing-do}
+use Rattle.room_history.proofs.Stacking.{Stacked-undo, Undone, mapof-append, past-append, standing-do}
 use Rattle.room_history.proofs.Undoing.{Found, found}
-
-some_inside : {X : Type 0} (x y : X) → Some x ≡ Some y → x ≡ y
-some_inside x y e = cc
 
 -- the reply that a refusal becomes: itself, or want of memory
 reply_is : {A : Type 0} (r : Refusal A) → (refusal_reply r ≡ Refused r) ⊎ (refusal_reply r ≡ Memory)

@@ -187,7 +187,8 @@ impl<A: Allocator + Copy> Room<A> {
         ensures base { self.new.base ≡ self.old.base }
         ensures limit { self.new.limit ≡ self.old.limit }
     {
-        match undoable(&self.entries, &self.standing, &author, number) {
+        let own = self.stacks.standing(&author);
+        match undoable(&self.entries, &self.standing, own, &author, number) {
             Ok(of) => match self.append_undo(author, id, of) {
                 Ok(seq) => Reply::Undid { seq, of },
                 Err(_) => Reply::Memory,

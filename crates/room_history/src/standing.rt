@@ -1,34 +1,21 @@
 //! Searches among the numbers of the entries that stand.
-ghost use Rattle.std.specs.Prelude.{◌≡◌, nat_eq, nat_lt, reverse};
+ghost use Rattle.std.specs.Prelude.{◌≡◌, nat_eq, nat_lt};
 ghost use Rattle.std.specs.List.{find, list_any};
-ghost use Rattle.room_history.specs.Journals.{is_by, numbered};
+ghost use Rattle.std.specs.List.Sorted.{IsNonDecreasing};
 
-use crate::entry::Entry;
-use crate::journal::is_by;
-use room_stacks::author::Author;
-use std::alloc::Allocator;
-
-/// Whether a number is among them.
+/// Whether a number is among rising ones, in time logarithmic in how many they are.
 pub fn contains(standing: &[u64], seq: u64) -> bool
+    requires { IsNonDecreasing standing.now }
     ensures { result ≡ list_any (λ s. nat_eq s seq) standing.now }
 {
-    standing.iter().any(|other| *other == seq)
+    standing.binary_search(&seq).is_ok()
 }
 
-/// The first of them above a number.
+/// The first of rising numbers that is above another, in time logarithmic in how many they are.
 pub fn first_after(standing: &[u64], seq: u64) -> Option<u64>
+    requires { IsNonDecreasing standing.now }
     ensures { result ≡ find (nat_lt seq) standing.now }
 {
-    standing.iter().copied().find(|other| seq < *other)
-}
-
-/// The last of them that is the author's.
-pub fn last_by<A: Allocator>(standing: &[u64], entries: &[Entry<A>], author: &Author) -> Option<u64>
-    ensures { result ≡ find (λ s. is_by author.now (numbered entries.now s)) (reverse standing.now) }
-{
-    standing
-        .iter()
-        .rev()
-        .copied()
-        .find(|seq| is_by(entries, author, *seq))
+    let after = standing.partition_point(|other| *other <= seq);
+    standing.get(after).copied()
 }

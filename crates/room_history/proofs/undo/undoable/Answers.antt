@@ -1,18 +1,18 @@
 use Rattle.std.proofs.Common.{sym, ap, ◌∙◌}
+use Rattle.std.specs.Option.{option_or}
 use Rattle.room_history.specs.Answers.{undo_refusal}
 use Rattle.room_history.specs.Inner.Undoing.{asked_or}
-use Rattle.room_history.proofs.LastFound.{asked_last}
+use Rattle.room_history.proofs.BinarySearching.{asked_is}
 use Rattle.room_history.proofs.undo.undoable.Goals as goal
 
 pub returns-in-Some : goal.returns-in-Some
-returns-in-Some g c p = rw c.in-Some.is (c.checked.ensures p)
+returns-in-Some g c p =
+    let asked = asked_is c.args.entries.now c.args.author.now c.args.own.now c.args.number c.requires.own in
+    let is = sym c.in-Some.is ∙ c.or.ensures ∙ ap (option_or c.args.number) (c.copied.ensures ∙ c.last.ensures.value) ∙ asked in
+    c.checked.ensures p ∙ ap (asked_or (undo_refusal p c.args.entries.now c.args.author.now)) is
 
-pub returns-in-Some-last_by : goal.returns-in-Some-last_by
-returns-in-Some-last_by g c p =
-    let last = asked_last c.args.entries.now c.args.author.now c.args.numbers.now c.last_by.result c.requires c.last_by.ensures in
-    rw c.in-None.is (c.checked-in-Some-last_by.ensures p ∙ sym (ap (asked_or (undo_refusal p c.args.entries.now c.args.author.now)) (last ∙ c.in-Some-last_by.is)))
-
-pub returns-in-None-last_by : goal.returns-in-None-last_by
-returns-in-None-last_by g c p =
-    let last = asked_last c.args.entries.now c.args.author.now c.args.numbers.now c.last_by.result c.requires c.last_by.ensures in
-    rw c.in-None.is (sym (ap (asked_or (undo_refusal p c.args.entries.now c.args.author.now)) (last ∙ c.in-None-last_by.is)))
+pub returns-in-None : goal.returns-in-None
+returns-in-None g c p =
+    let asked = asked_is c.args.entries.now c.args.author.now c.args.own.now c.args.number c.requires.own in
+    let is = sym c.in-None.is ∙ c.or.ensures ∙ ap (option_or c.args.number) (c.copied.ensures ∙ c.last.ensures.value) ∙ asked in
+    ap (asked_or (undo_refusal p c.args.entries.now c.args.author.now)) is

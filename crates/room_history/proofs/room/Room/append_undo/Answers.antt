@@ -6,7 +6,7 @@ use Rattle.room_stacks.specs.declared.deed.Deed.TheVariants.{Undid}
 use Rattle.room_history.specs.declared.entry.EntryKind.TheVariants.{Undo}
 use Rattle.room_history.specs.Answers.{undo_refusal}
 use Rattle.room_history.specs.Replays.{past}
-use Rattle.room_history.specs.Inner.Rooms.{IsRoom, MayAppend}
+use Rattle.room_history.specs.Inner.Rooms.{MayAppend}
 use Rattle.room_history.proofs.Stepping.{IsRoom-undo, unspent_deed, above_deeds, stands_there, numbers_left, is_first, is_recorded, next_is, undo_from, undo_sound, on_err}
 use Rattle.room_history.proofs.room.Room.append_undo.Goals as goal
 

@@ -1,4 +1,4 @@
-use Rattle.std.proofs.Common.{rules, ap, sym, ◌∙◌}
+use Rattle.std.proofs.Common.{rules, ap, ◌∙◌}
 use Rattle.osm_changes.specs.Stores.{StoreState}
 use Rattle.room_stacks.specs.Stacks.{StacksState}
 use Rattle.room_history.proofs.Stepping.{IsRoom-empty}

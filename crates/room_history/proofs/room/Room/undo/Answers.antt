@@ -1,9 +1,17 @@
-use Rattle.std.proofs.Common.{ap, ◌∙◌}
+use Rattle.std.proofs.Common.{sym, ap, ◌∙◌}
+use Rattle.room_stacks.specs.Stacks as stacks
+use Rattle.room_history.specs.Journals.{undos}
 use Rattle.room_history.specs.Answers.{asked, undo_refusal}
 use Rattle.room_history.specs.Replays.{past}
 use Rattle.room_history.specs.Inner.Undoing.{asked_or}
+use Rattle.room_history.proofs.Deeds.{standing_deeds}
 use Rattle.room_history.proofs.Stepping.{can_undo, step_undid, step_not_undone}
 use Rattle.room_history.proofs.room.Room.undo.Goals as goal
+
+pub undoable-requires-clause-own : goal.undoable-requires-clause-own
+undoable-requires-clause-own g c =
+    c.standing-own.ensures.numbers ∙ ap (λ ds. stacks.standing ds c.args.author) c.self.invariant.deeds_are
+    ∙ standing_deeds c.self.inside.entries.items c.args.author ∙ ap (λ j. undos j c.args.author) (sym c.deref.ensures.value)
 
 pub returns-in-Err-clause-step : goal.returns-in-Err-clause-step
 returns-in-Err-clause-step g c =
