@@ -70,14 +70,18 @@ fn push_each<'a>(rt: &impl Abort, heap: Heap<'a>, all: &Changes<Heap<'a>>) -> Re
     Ok(refused)
 }
 
+// The changes that put three nodes, a way and a relation.
+fn some_changes(heap: Heap<'_>) -> Result<Changes<Heap<'_>>, Fail> {
+    let store = store_of(heap, &START)?;
+    Ok(from_nothing(heap, &store)?)
+}
+
 #[test]
 fn pushes_refuse_each_growth(rt: HostRuntime) -> Result<(), Fail> {
     let heap = Refusing::new(rt.alloc(), u64::MAX);
-    let changes = from_nothing(&heap, &store_of(&heap, &START)?)?;
-    assert!(rt;
-        push_each(&rt, &heap, &changes)? > 1,
-        "no growth was refused"
-    );
+    let changes = some_changes(&heap)?;
+    let refused = push_each(&rt, &heap, &changes)?;
+    assert!(rt; refused > 1, "no growth was refused");
     refuse_each(&rt, &heap, &changes)?;
     Ok(())
 }

@@ -135,6 +135,18 @@ impl Copies for Retag<Heap<'_>> {
     }
 }
 
+// What was copied or is a copy shows the same as before.
+fn shows<T: Copies>(
+    rt: &impl Abort,
+    heap: &Refusing<Global>,
+    value: &T,
+    before: &str,
+) -> Result<(), AllocError> {
+    let text = format!(in heap; "{value:?}")?;
+    assert_eq!(rt; text.as_str(), before);
+    Ok(())
+}
+
 /// Refuses the first growth of a copy, then the second, and so on until a copy is made. The original shows the
 /// same after each refusal, and the copy shows what the original shows.
 pub fn refuse_each<T: Copies>(
@@ -143,24 +155,17 @@ pub fn refuse_each<T: Copies>(
     original: &T,
 ) -> Result<(), AllocError> {
     let before = format!(in heap; "{original:?}")?;
-    let mut refused = 0u64;
-    let mut made = false;
     for growths in 0..MOST {
         heap.set(growths);
         let answer = original.second();
         heap.set(u64::MAX);
-        let after = format!(in heap; "{original:?}")?;
-        assert_eq!(rt; after.as_str(), before.as_str(), "at growth {growths}");
+        shows(rt, heap, original, before.as_str())?;
         if let Ok(copy) = answer {
-            let text = format!(in heap; "{copy:?}")?;
-            assert_eq!(rt; text.as_str(), before.as_str());
-            made = true;
-            break;
+            assert!(rt; growths > 0, "no growth was refused");
+            return shows(rt, heap, &copy, before.as_str());
         }
-        refused = growths + 1;
     }
-    assert!(rt; made, "never with memory");
-    assert!(rt; refused > 0, "no growth was refused");
+    assert!(rt; false, "never with memory");
     Ok(())
 }
 

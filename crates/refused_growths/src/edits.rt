@@ -1,5 +1,5 @@
 //! Plans, and changes applied to stores: after each refusal every reader gives what it gave before.
-ghost use Rattle.std.specs.Prelude.{IfOk};
+ghost use Rattle.std.specs.Prelude.{IfOk, IfSome};
 ghost use Rattle.sample_edits.specs.Applying.{MayApply};
 
 use crate::copies::refuse_each;
@@ -8,6 +8,7 @@ use osm_changes::changes::Changes;
 use osm_changes::store::Store;
 use refusing::Refusing;
 use sample_edits::applying::store_of;
+use sample_edits::edit::Edit;
 use sample_edits::edits::{EDITS, START, STARTED};
 use sample_edits::reading::edit;
 use sample_edits::shown::{changes_shown, store_shown};
@@ -36,27 +37,39 @@ fn is_shown<'a>(
     Ok(())
 }
 
+// Plans an edit once, with so many growths; none where that is too few.
+fn plan_with<'a>(
+    heap: Heap<'a>,
+    store: &Store<Heap<'a>>,
+    edit: &Edit<Heap<'a>>,
+    growths: u64,
+) -> Result<Option<Changes<Heap<'a>>>, Fail>
+    ensures { IfOk result (λ found. IfSome found (λ cs. MayApply store.now.rows cs)) }
+{
+    heap.set(growths);
+    let answer = edit.plan(heap, store);
+    heap.set(u64::MAX);
+    match answer {
+        Ok(changes) => Ok(Some(changes)),
+        Err(Refusal::Memory) => Ok(None),
+        Err(_) => Err(Fail::from("a plan is refused")),
+    }
+}
+
 // Plans an edit with each growth refused in turn, until the plan is made.
 fn plan_refused<'a>(
     rt: &impl Abort,
     heap: Heap<'a>,
     store: &Store<Heap<'a>>,
-    text: &str,
+    edit: &Edit<Heap<'a>>,
 ) -> Result<Changes<Heap<'a>>, Fail>
     ensures { IfOk result (λ cs. MayApply store.now.rows cs) }
 {
-    let edit = edit(heap, text)?;
     let before = store_shown(heap, store)?;
     for growths in 0..MOST {
-        heap.set(growths);
-        let answer = edit.plan(heap, store);
-        heap.set(u64::MAX);
-        match answer {
-            Ok(changes) => {
-                assert!(rt; growths > 0, "no growth was refused");
-                return Ok(changes);
-            }
-            Err(refusal) => assert!(rt; matches!(refusal, Refusal::Memory), "{text}"),
+        if let Some(changes) = plan_with(heap, store, edit, growths)? {
+            assert!(rt; growths > 0, "no growth was refused");
+            return Ok(changes);
         }
         is_shown(rt, heap, store, before.as_str(), store.applied())?;
     }
@@ -93,7 +106,7 @@ fn step<'a>(
     store: &mut Store<Heap<'a>>,
     [text, wanted, after]: [&str; 3],
 ) -> Result<u64, Fail> {
-    let changes = plan_refused(rt, heap, store, text)?;
+    let changes = plan_refused(rt, heap, store, &edit(heap, text)?)?;
     let shown = changes_shown(heap, changes.rows())?;
     assert_eq!(rt; shown.as_str(), wanted);
     let applied = store.applied().wrapping_add(changes.len() as u128);
