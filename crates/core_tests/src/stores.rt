@@ -1,9 +1,9 @@
 //! What no clause says: that each plan is made and each list of changes applied where there is memory. What is wanted was
 //! worked out by hand.
 use osm_changes::store::Store;
-use sample_edits::applying::{apply, store_of};
+use sample_edits::applying::{apply, plan_of, store_of};
 use sample_edits::edits::{EDITS, START, STARTED};
-use sample_edits::reading::edit;
+use sample_edits::reading::action;
 use sample_edits::shown::{changes_shown, store_shown};
 use sample_edits::whole::from_nothing;
 use std::alloc::Global;
@@ -30,7 +30,7 @@ fn step(
     [text, wanted, after]: [&str; 3],
 ) -> Result<(), Fail> {
     let before = store_shown(alloc, store)?;
-    let changes = edit(alloc, text)?.plan(alloc, store)?;
+    let changes = plan_of(alloc, store, &action(alloc, text)?.copy()?)?;
     let shown = changes_shown(alloc, changes.copy()?.rows())?;
     assert_eq!(rt; shown.as_str(), wanted);
     let back = apply(alloc, store, changes)?;
@@ -95,7 +95,7 @@ fn refused_edits_name_what_is_wrong(rt: HostRuntime) -> Result<(), Fail> {
         &["create n1 1,1", "create n2 2,2", "create w1 n2 n2"],
     )?;
     for (text, wanted) in REFUSED {
-        match edit(alloc, text)?.plan(alloc, &store) {
+        match plan_of(alloc, &store, &action(alloc, text)?) {
             Ok(_) => assert!(rt; false, "{text}"),
             Err(refusal) => {
                 let told = format!(in alloc; "{refusal:?}")?;

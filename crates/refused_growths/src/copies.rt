@@ -16,7 +16,7 @@ use osm_refs::users::Users;
 use refusing::Refusing;
 use sample_edits::applying::nodes_store;
 use sample_edits::parts::{members, name, nodes, tags};
-use sample_edits::reading::element;
+use sample_edits::reading::{action, element};
 use std::alloc::{AllocError, Global};
 use std::fmt::Debug;
 use std::process::Abort;
@@ -30,6 +30,15 @@ const MOST: u64 = 60;
 
 // Three tags, as words.
 const TAGS: &str = "name=Allee highway=Allee note=Allee";
+
+// An action of each kind whose copy takes memory.
+const ACTIONS: [&str; 5] = [
+    "create w9 n-1 n-2 name=Allee",
+    "retag w9 name=Allee -note",
+    "move 7,-8 n-1 w9",
+    "nodes w9 n-1 n-2",
+    "members r9 w9/outer n-1/",
+];
 
 // A way with two nodes and three tags.
 fn way(heap: Heap<'_>) -> Result<Element<Heap<'_>>, Fail> {
@@ -219,8 +228,8 @@ fn rows_and_maps(rt: HostRuntime) -> Result<(), Fail> {
 #[test]
 fn actions(rt: HostRuntime) -> Result<(), Fail> {
     let heap = Refusing::new(rt.alloc(), u64::MAX);
-    let name = Name::new(Kind::Way, 9).ok_or("zero")?;
-    let element = way(&heap)?;
-    refuse_each(&rt, &heap, &Action::Create { name, element })?;
+    for text in ACTIONS {
+        refuse_each(&rt, &heap, &action(&heap, text)?)?;
+    }
     Ok(())
 }

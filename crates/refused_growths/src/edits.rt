@@ -3,14 +3,14 @@ ghost use Rattle.std.specs.Prelude.{IfOk, IfSome};
 ghost use Rattle.sample_edits.specs.Applying.{MayApply};
 
 use crate::copies::refuse_each;
+use edit_actions::action::Action;
 use edit_simple::refusal::Refusal;
 use osm_changes::changes::Changes;
 use osm_changes::store::Store;
 use refusing::Refusing;
-use sample_edits::applying::store_of;
-use sample_edits::edit::Edit;
+use sample_edits::applying::{plan_of, store_of};
 use sample_edits::edits::{EDITS, START, STARTED};
-use sample_edits::reading::edit;
+use sample_edits::reading::action;
 use sample_edits::shown::{changes_shown, store_shown};
 use sample_edits::whole::from_nothing;
 use std::alloc::Global;
@@ -37,17 +37,17 @@ fn is_shown<'a>(
     Ok(())
 }
 
-// Plans an edit once, with so many growths; none where that is too few.
+// Plans an action once, with so many growths; none where that is too few.
 fn plan_with<'a>(
     heap: Heap<'a>,
     store: &Store<Heap<'a>>,
-    edit: &Edit<Heap<'a>>,
+    action: &Action<Heap<'a>>,
     growths: u64,
 ) -> Result<Option<Changes<Heap<'a>>>, Fail>
     ensures { IfOk result (λ found. IfSome found (λ cs. MayApply store.now.rows cs)) }
 {
     heap.set(growths);
-    let answer = edit.plan(heap, store);
+    let answer = plan_of(heap, store, action);
     heap.set(u64::MAX);
     match answer {
         Ok(changes) => Ok(Some(changes)),
@@ -56,18 +56,18 @@ fn plan_with<'a>(
     }
 }
 
-// Plans an edit with each growth refused in turn, until the plan is made.
+// Plans an action with each growth refused in turn, until the plan is made.
 fn plan_refused<'a>(
     rt: &impl Abort,
     heap: Heap<'a>,
     store: &Store<Heap<'a>>,
-    edit: &Edit<Heap<'a>>,
+    action: &Action<Heap<'a>>,
 ) -> Result<Changes<Heap<'a>>, Fail>
     ensures { IfOk result (λ cs. MayApply store.now.rows cs) }
 {
     let before = store_shown(heap, store)?;
     for growths in 0..MOST {
-        if let Some(changes) = plan_with(heap, store, edit, growths)? {
+        if let Some(changes) = plan_with(heap, store, action, growths)? {
             assert!(rt; growths > 0, "no growth was refused");
             return Ok(changes);
         }
@@ -99,14 +99,14 @@ fn apply_refused<'a>(
     Err(Fail::from("never with memory"))
 }
 
-// Plans and applies an edit with each growth refused in turn, and answers how many were refused to the apply.
+// Plans and applies an action with each growth refused in turn, and answers how many were refused to the apply.
 fn step<'a>(
     rt: &impl Abort,
     heap: Heap<'a>,
     store: &mut Store<Heap<'a>>,
     [text, wanted, after]: [&str; 3],
 ) -> Result<u64, Fail> {
-    let changes = plan_refused(rt, heap, store, &edit(heap, text)?)?;
+    let changes = plan_refused(rt, heap, store, &action(heap, text)?)?;
     let shown = changes_shown(heap, changes.rows())?;
     assert_eq!(rt; shown.as_str(), wanted);
     let applied = store.applied().wrapping_add(changes.len() as u128);

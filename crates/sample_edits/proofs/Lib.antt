@@ -1,2 +1,1 @@
-mod Planned
 mod Created

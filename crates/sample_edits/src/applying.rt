@@ -2,13 +2,27 @@
 ghost use Rattle.std.specs.Prelude.{IfOk};
 ghost use Rattle.sample_edits.specs.Applying.{MayApply};
 
-use crate::reading::edit;
+use crate::reading::action;
+use edit_actions::action::Action;
+use edit_actions::plan::plan;
+use edit_simple::refusal::Refusal;
 use osm_changes::changes::Changes;
 use osm_changes::laws::an_inverse_restores;
 use osm_changes::store::Store;
 use osm_elements::Memory;
 use std::alloc::Allocator;
 use std::test::Fail;
+
+/// The plan of an action, whose changes may be applied to the store.
+pub fn plan_of<A: Allocator + Clone>(
+    alloc: A,
+    store: &Store<A>,
+    action: &Action<A>,
+) -> Result<Changes<A>, Refusal<A>>
+    ensures { IfOk result (λ cs. MayApply store.now.rows cs) }
+{
+    plan(alloc, store, action)
+}
 
 /// Applies changes, and answers those that take them back.
 pub fn apply<A: Allocator + Clone>(
@@ -26,18 +40,18 @@ pub fn apply<A: Allocator + Clone>(
     Ok(changes.inverse())
 }
 
-/// Plans an edit, which is written as a text, and applies it.
+/// Plans an action, which is written as a text, and applies it.
 pub fn perform<A: Allocator + Copy>(
     alloc: A,
     store: &mut Store<A>,
     text: &str,
 ) -> Result<(), Fail> {
-    let changes = edit(alloc, text)?.plan(alloc, store)?;
+    let changes = plan_of(alloc, store, &action(alloc, text)?)?;
     store.apply(alloc, &changes)?;
     Ok(())
 }
 
-/// A store after some edits, each written as a text.
+/// A store after some actions, each written as a text.
 pub fn store_of<A: Allocator + Copy>(alloc: A, edits: &[&str]) -> Result<Store<A>, Fail> {
     let mut store = Store::new(alloc);
     for text in edits {

@@ -6,7 +6,6 @@
 #![tactic(auto)]
 
 pub mod applying;
-pub mod edit;
 pub mod edits;
 pub mod parts;
 pub mod reading;

@@ -1,9 +1,10 @@
-//! Elements and edits from texts.
-use crate::edit::Edit;
+//! Elements and actions from texts.
 use crate::parts::{members, name, names, nodes, pair, retag, tags};
+use edit_actions::action::Action;
 use osm_coords::{Lat, Lon};
 use osm_elements::element::Element;
 use osm_elements::name::{Kind, Name};
+use osm_elements::names::Names;
 use std::alloc::Allocator;
 use std::test::Fail;
 
@@ -28,31 +29,44 @@ pub fn element<A: Allocator + Copy>(alloc: A, kind: Kind, words: &str) -> Result
     }
 }
 
-/// The edit that a text writes. A move is written `move 7,-8 n1 w1`.
-pub fn edit<A: Allocator + Copy>(alloc: A, text: &str) -> Result<Edit<A>, Fail> {
+/// The action that a text writes. A move is written `move 7,-8 n1 w1`.
+pub fn action<A: Allocator + Copy>(alloc: A, text: &str) -> Result<Action<A>, Fail> {
     let (word, rest) = text.split_once(' ').ok_or("a word")?;
     if word == "move" {
         let (dlat, dlon) = pair(rest)?;
-        return Ok(Edit::Move(names(alloc, rest)?, dlat, dlon));
+        let names = Names::from_vec(names(alloc, rest)?);
+        return Ok(Action::Move { names, dlat, dlon });
     }
     let (first, rest) = rest.split_once(' ').unwrap_or((rest, ""));
-    named_edit(alloc, word, name(first)?, rest)
+    named_action(alloc, word, name(first)?, rest)
 }
 
-// The edit of one name that a word, the name and further words write.
-fn named_edit<A: Allocator + Copy>(
+// The action on one name that a word, the name and further words write.
+fn named_action<A: Allocator + Copy>(
     alloc: A,
     word: &str,
     name: Name,
     rest: &str,
-) -> Result<Edit<A>, Fail> {
+) -> Result<Action<A>, Fail> {
     match word {
-        "create" => Ok(Edit::Create(name, element(alloc, name.kind(), rest)?)),
-        "retag" => Ok(Edit::Retag(name, retag(alloc, rest)?)),
-        "reverse" => Ok(Edit::Reverse(name)),
-        "nodes" => Ok(Edit::Nodes(name, nodes(alloc, rest)?)),
-        "members" => Ok(Edit::Members(name, members(alloc, rest)?)),
-        "delete" => Ok(Edit::Delete(name)),
-        _ => Err(Fail::from("no edit")),
+        "create" => {
+            let element = element(alloc, name.kind(), rest)?;
+            Ok(Action::Create { name, element })
+        }
+        "retag" => {
+            let tags = retag(alloc, rest)?;
+            Ok(Action::Retag { name, tags })
+        }
+        "reverse" => Ok(Action::Reverse { name }),
+        "nodes" => {
+            let list = nodes(alloc, rest)?;
+            Ok(Action::Nodes { name, list })
+        }
+        "members" => {
+            let list = members(alloc, rest)?;
+            Ok(Action::Members { name, list })
+        }
+        "delete" => Ok(Action::Delete { name }),
+        _ => Err(Fail::from("no action")),
     }
 }
