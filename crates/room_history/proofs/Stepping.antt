@@ -192,7 +192,7 @@ module _ {A : Type 0} where
   recorded-append : (base : Rows A) (j : List (Entry A)) (e : Entry A) → recorded_changes base (j ++ e ∷ []) ≡ recorded_changes base j ++ (recorded_next (past base j) e.kind).changes ∷ []
   recorded-append base j e = ap (map (λ (r : Recorded A). r.changes)) (ap (λ (p : Past A). p.entries) (past-append base j e)) ∙ map-append (λ (r : Recorded A). r.changes) (past base j).entries (recorded_next (past base j) e.kind ∷ [])
 
-  applied-append : (base : Rows A) (j : List (Entry A)) (e : Entry A) → applied base (j ++ e ∷ []) ≡ counted (applied base j) (recorded_next (past base j) e.kind).changes
+  pub applied-append : (base : Rows A) (j : List (Entry A)) (e : Entry A) → applied base (j ++ e ∷ []) ≡ counted (applied base j) (recorded_next (past base j) e.kind).changes
   applied-append base j e =
       ap (λ (p : Past A). fold (λ n (r : Recorded A). counted n r.changes) 0 p.entries) (past-append base j e)
       ∙ fold-append (λ n (r : Recorded A). counted n r.changes) 0 (past base j).entries (recorded_next (past base j) e.kind ∷ [])

@@ -1,7 +1,10 @@
 //! Laws of the definitions, each the contract of a function that does nothing.
-ghost use Rattle.std.specs.Prelude.{◌≡◌, ℕ, true, List};
+ghost use Rattle.std.specs.Prelude.{◌≡◌, ◌++◌, ℕ, true, List, [], ◌∷◌};
 ghost use Rattle.room_history.specs.declared.entry.Entry.{Entry};
+ghost use Rattle.osm_changes.specs.Stores.{counted};
+ghost use Rattle.room_history.specs.Applied.{applied};
 ghost use Rattle.room_history.specs.Headline.{Holds};
+ghost use Rattle.room_history.specs.Replays.{past, recorded_next};
 ghost use Rattle.room_history.specs.LegalJournals.{IsJournal};
 ghost use Rattle.osm_elements.specs.Maps.{Rows};
 ghost use Rattle.osm_changes.specs.Sound.{is_sound};
@@ -12,6 +15,11 @@ use std::alloc::Allocator;
 /// Every journal that calls lead to from a sound base holds.
 pub fn journals_hold<A: Allocator>()
     ensures { (base : Rows A) (limit : ℕ) (j : List (Entry A)) → is_sound base ≡ true → IsJournal base limit j → Holds base limit j }
+{}
+
+/// Each entry is counted by what it changed: an action by its changes, an undo by those that it takes back.
+pub fn entries_are_counted<A: Allocator>()
+    ensures { (base : Rows A) (j : List (Entry A)) (e : Entry A) → applied base (j ++ e ∷ []) ≡ counted (applied base j) (recorded_next (past base j) e.kind).changes }
 {}
 
 /// What the definitions say of the worked examples is what was worked out by hand.
