@@ -15,5 +15,3 @@ pub mod noted;
 pub mod replay;
 pub mod sink;
 pub mod source;
-#[cfg(test)]
-mod tests;

@@ -1,9 +1,9 @@
 //! Streams over bytes in memory, which come and go in pieces and may fail.
 ghost use Rattle.std.specs.Prelude.{◌≡◌, ◌<◌, Some, false};
 
-use crate::failed::Failed;
-use crate::sink::Sink;
-use crate::source::Source;
+use room_program::failed::Failed;
+use room_program::sink::Sink;
+use room_program::source::Source;
 use std::alloc::Global;
 
 /// A source of bytes that come in pieces, and at their end the end of the stream or a failure.

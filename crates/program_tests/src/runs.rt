@@ -1,12 +1,9 @@
 //! Runs of a room over streams, and of the program over words.
-mod streams;
-mod system;
-
-use crate::command::{DONE, FAILED, REFUSED, command};
-use crate::io::Io;
-use crate::replay::{ReplayFault, replay};
-use crate::tests::streams::{Pieces, Taker};
-use crate::tests::system::{Giver, Habit, Keeper};
+use crate::streams::{Pieces, Taker};
+use crate::system::{Giver, Habit, Keeper};
+use room_program::command::{DONE, FAILED, REFUSED, command};
+use room_program::io::Io;
+use room_program::replay::{ReplayFault, replay};
 use std::alloc::{AllocError, Global};
 use std::test::Fail;
 
