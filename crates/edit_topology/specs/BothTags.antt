@@ -1,0 +1,20 @@
+-- The tags of two elements that become one. (OpenStreetMap wiki, "Elements": no two tags of an element have the same key.)
+use Rattle.std.specs.Prelude.{ℕ, Bool, false, not, List, Option, Some, None}
+use Rattle.std.specs.List.{fold, find}
+use Rattle.std.specs.Option.{option_map}
+use Rattle.std.specs.FinMap.Entries.{put}
+use Rattle.osm_elements.specs.TagRows.{Pairs, text_cmp, value_at}
+use Rattle.osm_elements.specs.Texts.{is_same_text}
+
+-- the tags of the one and of the other
+abbrev pub both_tags : Pairs → Pairs → Pairs
+both_tags tags others = fold (λ t p. put text_cmp p.0 p.1 t) tags others
+
+-- there is a value, and it is another one
+abbrev pub is_another : Option (List ℕ) → List ℕ → Bool
+is_another None value = false
+is_another (Some other) value = not (is_same_text other value)
+
+-- the first key that has two values; keys rise, so it is the least
+abbrev pub conflict : Pairs → Pairs → Option (List ℕ)
+conflict tags others = option_map (λ p. p.0) (find (λ p. is_another (value_at others p.0) p.1) tags)

@@ -1,0 +1,135 @@
+-- What was worked out by hand of the definitions.
+use Rattle.std.specs.Prelude.{◌≡◌, [], ◌∷◌, Some, None}
+use Rattle.osm_elements.specs.Maps.{Rows}
+use Rattle.osm_elements.specs.Rows.{row_at, put_row}
+use Rattle.edit_simple.specs.declared.refusal.Refusal.TheVariants.{Absent, Present, WrongKind, Same, BadPosition, NotEndToEnd, TagConflict, TooFew, TooMany}
+use Rattle.edit_simple.specs.Scenes.{Any, n-1, n-2, n-3, n-7, n-8, w1, w2, w3, w5, r1, r9, node_at, way_of, relation_of, outer, start, refused}
+use Rattle.edit_topology.specs.Join.{join_checks, after_join}
+use Rattle.edit_topology.specs.Merge.{merge_checks, after_merge}
+use Rattle.edit_topology.specs.Scenes.{a1, a2, b1, b2, c1, thousand_tags, tagged_node, tagged_way, beside, ring, thrice, with_many, with_long, ways_tagged, nodes_tagged}
+use Rattle.edit_topology.specs.Split.{split_checks, after_split}
+
+-- a closed way of three nodes, at each position and past the last
+unfoldable pub closed_way_split : Type 0
+closed_way_split =
+    (refused (split_checks ring w3 0 w5) ≡ Some BadPosition)
+    × (refused (split_checks ring w3 1 w5) ≡ None)
+    × (row_at (after_split ring w3 1 w5) w3 ≡ Some (tagged_way (n-1 ∷ n-2 ∷ []) (a1 ∷ [])))
+    × (row_at (after_split ring w3 1 w5) w5 ≡ Some (tagged_way (n-2 ∷ n-3 ∷ n-1 ∷ []) (a1 ∷ [])))
+    × (refused (split_checks ring w3 2 w5) ≡ None)
+    × (row_at (after_split ring w3 2 w5) w3 ≡ Some (tagged_way (n-1 ∷ n-2 ∷ n-3 ∷ []) (a1 ∷ [])))
+    × (row_at (after_split ring w3 2 w5) w5 ≡ Some (tagged_way (n-3 ∷ n-1 ∷ []) (a1 ∷ [])))
+    × (refused (split_checks ring w3 3 w5) ≡ Some BadPosition)
+    × (refused (split_checks ring w3 4 w5) ≡ Some BadPosition)
+
+-- each member is doubled where it stands, also one that stands in a row; the join takes it back
+unfoldable pub members_split : Type 0
+members_split =
+    (refused (split_checks thrice w2 1 w5) ≡ None)
+    × (row_at (after_split thrice w2 1 w5) r9 ≡ Some (relation_of ((w2, []) ∷ (w5, []) ∷ (w2, []) ∷ (w5, []) ∷ (w2, outer) ∷ (w5, outer) ∷ [])))
+    × (row_at (after_split thrice w2 1 w5) r1 ≡ Some (relation_of ((n-1, []) ∷ (w2, outer) ∷ (w5, outer) ∷ (w1, outer) ∷ (w2, outer) ∷ (w5, outer) ∷ [])))
+    × (refused (join_checks (after_split thrice w2 1 w5) w2 w5) ≡ None)
+    × (after_join (after_split thrice w2 1 w5) w2 w5 ≡ thrice)
+
+-- each refusal of a split; a relation may get 32,000 members, and of two that get more the lesser is named
+unfoldable pub split_refusals : Type 0
+split_refusals =
+    (refused (split_checks start n-1 0 r1) ≡ Some (WrongKind n-1))
+    × (refused (split_checks start w5 0 r1) ≡ Some (WrongKind r1))
+    × (refused (split_checks start w5 1 w1) ≡ Some (Absent w5))
+    × (refused (split_checks start w2 0 w1) ≡ Some (Present w1))
+    × (refused (split_checks start w2 1 w2) ≡ Some (Present w2))
+    × (refused (split_checks start w1 1 w5) ≡ Some BadPosition)
+    × (refused (split_checks (with_many start r9 16000) w2 1 w5) ≡ None)
+    × (refused (split_checks (with_many start r9 16001) w2 1 w5) ≡ Some (TooMany r9))
+    × (refused (split_checks (with_many (with_many start r9 16001) r1 16001) w2 1 w5) ≡ Some (TooMany r1))
+    × (refused (split_checks (with_many start r9 16001) w2 2 w5) ≡ Some BadPosition)
+
+-- the last of the one has to be the first of the other; no other pair of ends will do
+unfoldable pub ends_joined : Type 0
+ends_joined =
+    (refused (join_checks (beside (n-2 ∷ n-3 ∷ [])) w1 w3) ≡ None)
+    × (row_at (after_join (beside (n-2 ∷ n-3 ∷ [])) w1 w3) w1 ≡ Some (way_of (n-1 ∷ n-2 ∷ n-3 ∷ [])))
+    × (row_at (after_join (beside (n-2 ∷ n-3 ∷ [])) w1 w3) w3 ≡ None)
+    × (refused (join_checks (beside (n-3 ∷ n-2 ∷ [])) w1 w3) ≡ Some NotEndToEnd)
+    × (refused (join_checks (beside (n-1 ∷ n-3 ∷ [])) w1 w3) ≡ Some NotEndToEnd)
+    × (refused (join_checks (beside (n-3 ∷ n-1 ∷ [])) w1 w3) ≡ Some NotEndToEnd)
+    × (refused (join_checks (beside (n-2 ∷ n-3 ∷ n-1 ∷ [])) w1 w3) ≡ None)
+    × (row_at (after_join (beside (n-2 ∷ n-3 ∷ n-1 ∷ [])) w1 w3) w1 ≡ Some (way_of (n-1 ∷ n-2 ∷ n-3 ∷ n-1 ∷ [])))
+    × (refused (join_checks ring w3 w3) ≡ Some (Same w3))
+
+-- of members v only one right after w in the same role is dropped, as the list was before
+unfoldable pub members_joined : Type 0
+members_joined =
+    (row_at (after_join (put_row (beside (n-2 ∷ n-3 ∷ [])) r9 (relation_of ((w3, []) ∷ (w1, []) ∷ (w3, []) ∷ (w3, []) ∷ (n-1, []) ∷ (w3, []) ∷ (w1, outer) ∷ (w3, []) ∷ []))) w1 w3) r9
+    ≡ Some (relation_of ((w1, []) ∷ (w1, []) ∷ (w1, []) ∷ (n-1, []) ∷ (w1, []) ∷ (w1, outer) ∷ (w1, []) ∷ [])))
+    × (row_at (after_join (put_row (beside (n-2 ∷ n-3 ∷ [])) r9 (relation_of ((w1, []) ∷ (w1, []) ∷ []))) w1 w3) r9 ≡ Some (relation_of ((w1, []) ∷ (w1, []) ∷ [])))
+
+-- the tags of both, where no key has two values; else the least such key
+unfoldable pub tags_joined : Type 0
+tags_joined =
+    (refused (join_checks (ways_tagged (b2 ∷ []) (a1 ∷ b2 ∷ [])) w3 w5) ≡ None)
+    × (row_at (after_join (ways_tagged (b2 ∷ []) (a1 ∷ b2 ∷ [])) w3 w5) w3 ≡ Some (tagged_way (n-1 ∷ n-2 ∷ n-3 ∷ []) (a1 ∷ b2 ∷ [])))
+    × (refused (join_checks (ways_tagged (a1 ∷ b1 ∷ []) (a2 ∷ b2 ∷ [])) w3 w5) ≡ Some (TagConflict (97 ∷ [])))
+    × (refused (join_checks (ways_tagged (a1 ∷ b1 ∷ []) (b2 ∷ c1 ∷ [])) w3 w5) ≡ Some (TagConflict (98 ∷ [])))
+    × (refused (join_checks (ways_tagged thousand_tags ((48 ∷ 48 ∷ [], []) ∷ [])) w3 w5) ≡ None)
+    × (refused (join_checks (ways_tagged thousand_tags (a1 ∷ [])) w3 w5) ≡ Some (TooMany w3))
+
+-- each other refusal of a join; a way may get 2,000 nodes
+unfoldable pub join_refusals : Type 0
+join_refusals =
+    (refused (join_checks start n-1 n-1) ≡ Some (WrongKind n-1))
+    × (refused (join_checks start w5 r1) ≡ Some (WrongKind r1))
+    × (refused (join_checks start w5 w5) ≡ Some (Same w5))
+    × (refused (join_checks start w5 w3) ≡ Some (Absent w5))
+    × (refused (join_checks start w1 w3) ≡ Some (Absent w3))
+    × (refused (join_checks start w1 w2) ≡ Some NotEndToEnd)
+    × (refused (join_checks (with_long 1001 1000) w3 w5) ≡ None)
+    × (refused (join_checks (with_long 1001 1001) w3 w5) ≡ Some (TooMany w3))
+
+-- neighbours in a closed way, in its middle and at its end; its two ends are no neighbours
+unfoldable pub neighbours_merged : Type 0
+neighbours_merged =
+    (refused (merge_checks ring n-2 n-3) ≡ None)
+    × (row_at (after_merge ring n-2 n-3) w3 ≡ Some (tagged_way (n-1 ∷ n-2 ∷ n-1 ∷ []) (a1 ∷ [])))
+    × (row_at (after_merge ring n-2 n-3) w2 ≡ Some (way_of (n-1 ∷ n-2 ∷ [])))
+    × (row_at (after_merge ring n-2 n-3) n-2 ≡ Some (node_at 2))
+    × (row_at (after_merge ring n-2 n-3) n-3 ≡ None)
+    × (refused (merge_checks ring n-1 n-3) ≡ None)
+    × (row_at (after_merge ring n-1 n-3) w3 ≡ Some (tagged_way (n-1 ∷ n-2 ∷ n-1 ∷ []) (a1 ∷ [])))
+    × (row_at (after_merge (beside (n-3 ∷ n-2 ∷ n-1 ∷ [])) n-1 n-3) w3 ≡ Some (way_of (n-1 ∷ n-2 ∷ n-1 ∷ [])))
+
+-- doubles that stood there before: those of k are dropped where g was named, and no others
+unfoldable pub doubles_merged : Type 0
+doubles_merged =
+    (row_at (after_merge (beside (n-1 ∷ n-1 ∷ n-2 ∷ n-3 ∷ [])) n-1 n-3) w3 ≡ Some (way_of (n-1 ∷ n-2 ∷ n-1 ∷ [])))
+    × (row_at (after_merge (beside (n-2 ∷ n-1 ∷ n-3 ∷ n-1 ∷ [])) n-1 n-3) w3 ≡ Some (way_of (n-2 ∷ n-1 ∷ [])))
+    × (row_at (after_merge (beside (n-2 ∷ n-2 ∷ n-3 ∷ [])) n-1 n-3) w3 ≡ Some (way_of (n-2 ∷ n-2 ∷ n-1 ∷ [])))
+    × (row_at (after_merge (beside (n-1 ∷ n-1 ∷ n-2 ∷ [])) n-1 n-3) w3 ≡ Some (way_of (n-1 ∷ n-1 ∷ n-2 ∷ [])))
+
+-- a relation that names both keeps doubled members
+unfoldable pub members_merged : Type 0
+members_merged =
+    row_at (after_merge (put_row start r9 (relation_of ((n-1, []) ∷ (n-3, []) ∷ (w2, []) ∷ (n-3, outer) ∷ []))) n-1 n-3) r9
+    ≡ Some (relation_of ((n-1, []) ∷ (n-1, []) ∷ (w2, []) ∷ (n-1, outer) ∷ []))
+
+-- the node that stays keeps its position and has the tags of both
+unfoldable pub tags_merged : Type 0
+tags_merged =
+    (refused (merge_checks (nodes_tagged (b2 ∷ []) (a1 ∷ b2 ∷ [])) n-1 n-3) ≡ None)
+    × (row_at (after_merge (nodes_tagged (b2 ∷ []) (a1 ∷ b2 ∷ [])) n-1 n-3) n-1 ≡ Some (tagged_node 1 (a1 ∷ b2 ∷ [])))
+    × (refused (merge_checks (nodes_tagged (a1 ∷ b1 ∷ []) (b2 ∷ c1 ∷ [])) n-1 n-3) ≡ Some (TagConflict (98 ∷ [])))
+    × (refused (merge_checks (nodes_tagged thousand_tags ((48 ∷ 48 ∷ [], []) ∷ [])) n-1 n-3) ≡ None)
+    × (refused (merge_checks (nodes_tagged thousand_tags (a1 ∷ [])) n-1 n-3) ≡ Some (TooMany n-1))
+
+-- each other refusal of a merge; of two ways that get too short the lesser is named, before a conflict of tags
+unfoldable pub merge_refusals : Type 0
+merge_refusals =
+    (refused (merge_checks start w1 w1) ≡ Some (WrongKind w1))
+    × (refused (merge_checks start n-7 r1) ≡ Some (WrongKind r1))
+    × (refused (merge_checks start n-7 n-7) ≡ Some (Same n-7))
+    × (refused (merge_checks start n-7 n-8) ≡ Some (Absent n-7))
+    × (refused (merge_checks start n-1 n-8) ≡ Some (Absent n-8))
+    × (refused (merge_checks (beside (n-2 ∷ n-1 ∷ [])) n-1 n-2) ≡ Some (TooFew w1))
+    × (refused (merge_checks (beside (n-3 ∷ n-3 ∷ [])) n-1 n-3) ≡ Some (TooFew w3))
+    × (refused (merge_checks (put_row (nodes_tagged (a1 ∷ []) (a2 ∷ [])) w3 (way_of (n-3 ∷ n-1 ∷ []))) n-1 n-3) ≡ Some (TooFew w3))

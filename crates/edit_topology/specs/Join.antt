@@ -1,0 +1,60 @@
+-- To join two ways of which one begins where the other ends. (Editors' practice. The rule for members and the greatest lengths are this project's.)
+use Rattle.std.specs.Prelude.{◌++◌, ◌&&◌, ℕ, Bool, false, not, List, [], ◌∷◌, Option, Some, None, length, drop, map, nat_lt}
+use Rattle.std.specs.Bool.{then_some}
+use Rattle.std.specs.List.{filter, last_or, slice_get, zip}
+use Rattle.std.specs.Option.{option_eq, option_map}
+use Rattle.osm_elements.specs.declared.name.Name.{Name}
+use Rattle.osm_elements.specs.Maps.{Rows, is_same, is_absent, rows_but}
+use Rattle.osm_elements.specs.Rows.{row_at}
+use Rattle.osm_elements.specs.Texts.{is_same_text}
+use Rattle.osm_changes.specs.Sound.{most_nodes}
+use Rattle.edit_simple.specs.declared.refusal.Refusal.{Refusal}
+use Rattle.edit_simple.specs.declared.refusal.Refusal.TheVariants.{Absent, WrongKind, Same, NotEndToEnd, TagConflict, TooMany}
+use Rattle.edit_simple.specs.Kinds.{is_way}
+use Rattle.edit_simple.specs.Parts.{nodes_of, row_tags, with_nodes, with_tags, with_members, each_row, at_name}
+use Rattle.edit_simple.specs.Tagging.{most_tags}
+use Rattle.edit_topology.specs.BothTags.{both_tags, conflict}
+use Rattle.edit_topology.specs.Renaming.{renamed_members}
+
+-- the last of the one is the first of the other
+abbrev pub meet_end_to_end : List Name → List Name → Bool
+meet_end_to_end one other = option_eq is_same (last_or None one) (slice_get other 0)
+
+-- the one, and then the other without its first, which is the last of the one
+abbrev pub end_to_end : List Name → List Name → List Name
+end_to_end one other = one ++ drop 1 other
+
+-- the member is v, and the one before it is w in the same role
+abbrev pub goes_on : Name → Name → Option (Name × List ℕ) → Name × List ℕ → Bool
+goes_on w v None e = false
+goes_on w v (Some before) e = is_same v e.0 && (is_same w before.0 && is_same_text before.1 e.1)
+
+-- the members, each told by the one before it, that are not v right after w in the same role
+abbrev pub kept_members : Name → Name → Option (Name × List ℕ) → List (Name × List ℕ) → List (Name × List ℕ)
+kept_members w v before members = map (λ p. p.1) (filter (λ p. not (goes_on w v p.0 p.1)) (zip (before ∷ map Some members) members))
+
+-- v right after w in the same role is dropped, and every other v becomes w
+abbrev pub joined_members : Name → Name → List (Name × List ℕ) → List (Name × List ℕ)
+joined_members w v members = renamed_members v w (kept_members w v None members)
+
+module _ {A : Type 0} where
+  -- both names are ways' and not the same, both are there, w ends where v begins, the list gets not too long, no key has two values, and the tags get not too many
+  abbrev pub join_checks : Rows A → Name → Name → List (Option (Refusal A))
+  join_checks m w v =
+      then_some (not (is_way w.kind)) (WrongKind w)
+      ∷ then_some (not (is_way v.kind)) (WrongKind v)
+      ∷ then_some (is_same w v) (Same w)
+      ∷ then_some (is_absent m w) (Absent w)
+      ∷ then_some (is_absent m v) (Absent v)
+      ∷ then_some (not (meet_end_to_end (nodes_of (row_at m w)) (nodes_of (row_at m v)))) NotEndToEnd
+      ∷ then_some (nat_lt most_nodes (length (end_to_end (nodes_of (row_at m w)) (nodes_of (row_at m v))))) (TooMany w)
+      ∷ option_map TagConflict (conflict (row_tags (row_at m w)) (row_tags (row_at m v)))
+      ∷ then_some (nat_lt most_tags (length (both_tags (row_tags (row_at m w)) (row_tags (row_at m v))))) (TooMany w)
+      ∷ []
+
+  -- w's list is w's and then v's without its first, and its tags are both ways' tags; v is gone, and w is the member where v was one
+  abbrev pub after_join : Rows A → Name → Name → Rows A
+  after_join m w v = each_row
+      (λ y e. with_members (joined_members w v)
+      (at_name w (λ u. with_nodes (λ list. end_to_end list (nodes_of (row_at m v))) (with_tags (λ tags. both_tags tags (row_tags (row_at m v))) u)) y e))
+      (rows_but v m)

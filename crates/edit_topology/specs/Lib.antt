@@ -1,0 +1,7 @@
+pub mod BothTags
+pub mod Examples
+pub mod Join
+pub mod Merge
+pub mod Renaming
+pub mod Scenes
+pub mod Split

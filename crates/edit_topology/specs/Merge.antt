@@ -1,0 +1,48 @@
+-- To merge one node into another. (Editors' practice. The rules for lists and members and the greatest number of tags are this project's.)
+use Rattle.std.specs.Prelude.{◌&&◌, not, List, [], ◌∷◌, Option, Some, length, map, nat_lt, if◌then◌else◌}
+use Rattle.std.specs.Bool.{then_some}
+use Rattle.std.specs.List.{dedup, filter}
+use Rattle.std.specs.Option.{option_map}
+use Rattle.osm_elements.specs.declared.name.Name.{Name}
+use Rattle.osm_elements.specs.Made.{is_node}
+use Rattle.osm_elements.specs.Maps.{Rows, is_same, is_among, is_absent, names_of, rows_but}
+use Rattle.osm_elements.specs.Rows.{row_at}
+use Rattle.edit_simple.specs.declared.refusal.Refusal.{Refusal}
+use Rattle.edit_simple.specs.declared.refusal.Refusal.TheVariants.{Absent, WrongKind, Same, TagConflict, TooFew, TooMany}
+use Rattle.edit_simple.specs.Checks.{the_least}
+use Rattle.edit_simple.specs.Parts.{nodes_of, row_tags, with_nodes, with_tags, with_members, each_row, at_name}
+use Rattle.edit_simple.specs.Tagging.{most_tags}
+use Rattle.edit_topology.specs.BothTags.{both_tags, conflict}
+use Rattle.edit_topology.specs.Renaming.{renamed, renamed_members}
+
+-- each run of k is one k
+abbrev pub without_doubled : Name → List Name → List Name
+without_doubled k nodes = dedup (λ n before. is_same k n && is_same k before) nodes
+
+-- in a list that names g, k stands for g, and a k right after a k is then dropped; any other list is left
+abbrev pub merged_nodes : Name → Name → List Name → List Name
+merged_nodes k g nodes = if is_among nodes g then without_doubled k (map (renamed g k) nodes) else nodes
+
+module _ {A : Type 0} where
+  -- the ways that name g and would have fewer than 2 nodes
+  abbrev pub shrunk : Rows A → Name → Name → List Name
+  shrunk m k g = names_of (filter (λ r. is_among (nodes_of (Some r.1)) g && nat_lt (length (merged_nodes k g (nodes_of (Some r.1)))) 2) m)
+
+  -- both names are nodes' and not the same, both are there, no way gets too short, no key has two values, and the tags get not too many
+  abbrev pub merge_checks : Rows A → Name → Name → List (Option (Refusal A))
+  merge_checks m k g =
+      then_some (not (is_node k.kind)) (WrongKind k)
+      ∷ then_some (not (is_node g.kind)) (WrongKind g)
+      ∷ then_some (is_same k g) (Same k)
+      ∷ then_some (is_absent m k) (Absent k)
+      ∷ then_some (is_absent m g) (Absent g)
+      ∷ the_least TooFew (shrunk m k g)
+      ∷ option_map TagConflict (conflict (row_tags (row_at m k)) (row_tags (row_at m g)))
+      ∷ then_some (nat_lt most_tags (length (both_tags (row_tags (row_at m k)) (row_tags (row_at m g))))) (TooMany k)
+      ∷ []
+
+  -- k stands wherever g was named, keeps its position, and has both nodes' tags; g is gone
+  abbrev pub after_merge : Rows A → Name → Name → Rows A
+  after_merge m k g = each_row
+      (λ y e. with_nodes (merged_nodes k g) (with_members (renamed_members g k) (at_name k (with_tags (λ tags. both_tags tags (row_tags (row_at m g)))) y e)))
+      (rows_but g m)

@@ -1,0 +1,12 @@
+-- One name in the place of another.
+use Rattle.std.specs.Prelude.{ℕ, List, map, if◌then◌else◌}
+use Rattle.osm_elements.specs.declared.name.Name.{Name}
+use Rattle.osm_elements.specs.Maps.{is_same}
+
+-- y for x, and any other name as it is
+abbrev pub renamed : Name → Name → Name → Name
+renamed x y n = if is_same x n then y else n
+
+-- each member that names x names y, and keeps its role
+abbrev pub renamed_members : Name → Name → List (Name × List ℕ) → List (Name × List ℕ)
+renamed_members x y members = map (λ e. (renamed x y e.0, e.1)) members

@@ -1,0 +1,44 @@
+-- To split a way in two at one of its nodes. (Editors' practice: the node is in both parts, and both keep the tags and the places in relations. Which place is this project's, and so is the greatest number of members.)
+use Rattle.std.specs.Prelude.{◌+◌, ◌&&◌, ℕ, Bool, not, List, [], ◌∷◌, Option, Some, length, take, drop, nat_lt, if◌then◌else◌}
+use Rattle.std.specs.Bool.{then_some}
+use Rattle.std.specs.List.{filter, flat_map}
+use Rattle.osm_elements.specs.declared.name.Name.{Name}
+use Rattle.osm_elements.specs.declared.element.Element.TheVariants.{Way}
+use Rattle.osm_elements.specs.Maps.{Rows, is_same, is_present, is_absent, names_of}
+use Rattle.osm_elements.specs.Rows.{row_at, put_row}
+use Rattle.osm_changes.specs.Sound.{most_members}
+use Rattle.edit_simple.specs.declared.refusal.Refusal.{Refusal}
+use Rattle.edit_simple.specs.declared.refusal.Refusal.TheVariants.{Absent, Present, WrongKind, BadPosition, TooMany}
+use Rattle.edit_simple.specs.Checks.{the_least}
+use Rattle.edit_simple.specs.Kinds.{is_way}
+use Rattle.edit_simple.specs.Parts.{nodes_of, members_of, row_tags, with_nodes, with_members, each_row, at_name}
+
+-- a position in the list, counted from 0, that is neither the first nor the last
+abbrev pub is_inside : ℕ → List Name → Bool
+is_inside i list = nat_lt 0 i && nat_lt (i + 1) (length list)
+
+-- each member w in a role becomes w and v in that role
+abbrev pub split_members : Name → Name → List (Name × List ℕ) → List (Name × List ℕ)
+split_members w v members = flat_map (λ e. if is_same w e.0 then e ∷ (v, e.1) ∷ [] else e ∷ []) members
+
+module _ {A : Type 0} where
+  -- the relations that would have more than 32,000 members
+  abbrev pub overfull : Rows A → Name → Name → List Name
+  overfull m w v = names_of (filter (λ r. nat_lt most_members (length (split_members w v (members_of (Some r.1))))) m)
+
+  -- both names are ways', w is there and v is new, the position is inside w's list, and no relation gets too long
+  abbrev pub split_checks : Rows A → Name → ℕ → Name → List (Option (Refusal A))
+  split_checks m w i v =
+      then_some (not (is_way w.kind)) (WrongKind w)
+      ∷ then_some (not (is_way v.kind)) (WrongKind v)
+      ∷ then_some (is_absent m w) (Absent w)
+      ∷ then_some (is_present m v) (Present v)
+      ∷ then_some (not (is_inside i (nodes_of (row_at m w)))) BadPosition
+      ∷ the_least TooMany (overfull m w v)
+      ∷ []
+
+  -- w keeps the positions from 0 to i; v has those from i to the last, and w's tags; a member w becomes w and v
+  abbrev pub after_split : Rows A → Name → ℕ → Name → Rows A
+  after_split m w i v = put_row
+      (each_row (λ y e. with_members (split_members w v) (at_name w (with_nodes (take (i + 1))) y e)) m)
+      v (Way (drop i (nodes_of (row_at m w))) (row_tags (row_at m w)))

@@ -1,0 +1,4 @@
+//! The actions that change how elements meet: split, join and merge.
+#![tactic(auto)]
+
+pub mod laws;
