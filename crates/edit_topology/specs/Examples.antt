@@ -1,9 +1,8 @@
 -- What was worked out by hand of the definitions.
 use Rattle.std.specs.Prelude.{◌≡◌, [], ◌∷◌, Some, None}
-use Rattle.osm_elements.specs.Maps.{Rows}
 use Rattle.osm_elements.specs.Rows.{row_at, put_row}
 use Rattle.edit_simple.specs.declared.refusal.Refusal.TheVariants.{Absent, Present, WrongKind, Same, BadPosition, NotEndToEnd, TagConflict, TooFew, TooMany}
-use Rattle.edit_simple.specs.Scenes.{Any, n-1, n-2, n-3, n-7, n-8, w1, w2, w3, w5, r1, r9, node_at, way_of, relation_of, outer, start, refused}
+use Rattle.edit_simple.specs.Scenes.{n-1, n-2, n-3, n-7, n-8, w1, w2, w3, w5, r1, r9, node_at, way_of, relation_of, outer, start, refused}
 use Rattle.edit_topology.specs.Join.{join_checks, after_join}
 use Rattle.edit_topology.specs.Merge.{merge_checks, after_merge}
 use Rattle.edit_topology.specs.Scenes.{a1, a2, b1, b2, c1, thousand_tags, tagged_node, tagged_way, beside, ring, thrice, with_many, with_long, ways_tagged, nodes_tagged}

@@ -1,5 +1,6 @@
 pub mod BothTags
 pub mod Examples
+pub mod Facts
 pub mod Join
 pub mod Merge
 pub mod Renaming

@@ -7,7 +7,7 @@ use Rattle.osm_elements.specs.declared.element.Element.TheVariants.{Node, Way}
 use Rattle.osm_elements.specs.Maps.{Rows}
 use Rattle.osm_elements.specs.Rows.{put_row}
 use Rattle.osm_elements.specs.TagRows.{Pairs}
-use Rattle.edit_simple.specs.Scenes.{Any, n-1, n-2, n-3, w2, w3, w5, r1, r9, node_at, way_of, relation_of, outer, start}
+use Rattle.edit_simple.specs.Scenes.{Any, n-1, n-2, n-3, w2, w3, w5, r9, way_of, relation_of, outer, start}
 
 -- a tag of one letter and one digit, as a1 in place of "a": "1"
 abbrev pub a1 : List ℕ × List ℕ

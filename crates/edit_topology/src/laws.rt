@@ -1,5 +1,26 @@
 //! Laws of the actions, each the contract of a function that does nothing.
+ghost use Rattle.std.specs.Prelude.{◌≡◌, ◌≢◌, ℕ, true, None};
+ghost use Rattle.osm_elements.specs.declared.name.Name.{Name};
+ghost use Rattle.osm_elements.specs.Maps.{Rows};
+ghost use Rattle.osm_changes.specs.Sound.{is_sound};
+ghost use Rattle.edit_simple.specs.Checks.{first_that_holds};
 ghost use Rattle.edit_topology.specs.Examples.{closed_way_split, members_split, split_refusals, ends_joined, members_joined, tags_joined, join_refusals, neighbours_merged, doubles_merged, members_merged, tags_merged, merge_refusals};
+ghost use Rattle.edit_topology.specs.Join.{join_checks, after_join};
+ghost use Rattle.edit_topology.specs.Merge.{merge_checks, after_merge};
+ghost use Rattle.edit_topology.specs.Split.{split_checks, after_split};
+
+use std::alloc::Allocator;
+
+/// An accepted action keeps a sound map sound, and changes it.
+#[tactic(auto, using(crate::specs::Facts::Splitting::split_accepted, crate::specs::Facts::Joining::join_accepted, crate::specs::Facts::Merging::merge_accepted,))]
+pub fn accepted_keeps_sound<A: Allocator>()
+    ensures split { (m : Rows A) (w : Name) (i : ℕ) (v : Name) → is_sound m ≡ true → first_that_holds (split_checks m w i v) ≡ None
+        → (is_sound (after_split m w i v) ≡ true) × (after_split m w i v ≢ m) }
+    ensures join { (m : Rows A) (w v : Name) → is_sound m ≡ true → first_that_holds (join_checks m w v) ≡ None
+        → (is_sound (after_join m w v) ≡ true) × (after_join m w v ≢ m) }
+    ensures merge { (m : Rows A) (k g : Name) → is_sound m ≡ true → first_that_holds (merge_checks m k g) ≡ None
+        → (is_sound (after_merge m k g) ≡ true) × (after_merge m k g ≢ m) }
+{}
 
 /// What the definitions say of the worked examples is what was worked out by hand.
 pub fn examples_are_as_worked()

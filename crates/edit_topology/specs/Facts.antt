@@ -1,0 +1,9 @@
+-- What is proved of the definitions beside this folder, for the proofs here and in the crates above. No contract cites these.
+pub mod BothTags
+pub mod EachBut
+pub mod Fitting
+pub mod Joining
+pub mod Lists
+pub mod Merging
+pub mod Renaming
+pub mod Splitting

@@ -1,0 +1,54 @@
+-- Parts of lists of names, and tests over them.
+use Rattle.std.proofs.Common.{◌≡◌, ◌≤◌, ℕ, zero, suc, Bool, true, false, not, ◌||◌, List, [], ◌∷◌, nat_le, take, drop, refl, sym, ap, ◌∙◌, arith}
+use Rattle.std.proofs.lemmas.Bool.Decides.{nat_tests}
+use Rattle.osm_elements.specs.declared.name.Name.{Name}
+use Rattle.osm_elements.specs.declared.name.Kind.{Kind}
+use Rattle.osm_elements.specs.Maps.{is_same, is_among}
+use Rattle.osm_elements.specs.Facts.Rows.{same_names}
+use Rattle.edit_simple.specs.Facts.Lists.{or_right}
+
+pub from_not : (b : Bool) → not b ≡ true → b ≡ false
+from_not true e = absurd (cc)
+from_not false e = refl
+
+pub or_cases : (a b c : Bool) → (a || b) ≡ true → (a ≡ true → c ≡ true) → (b ≡ true → c ≡ true) → c ≡ true
+or_cases true b c h f g = f refl
+or_cases false b c h f g = g h
+
+-- what is at most as long as a list that is short enough
+pub still_short : (n k most : ℕ) → n ≤ k → nat_le k most ≡ true → nat_le n most ≡ true
+still_short n k most h e = grind (arith, nat_tests)
+
+-- what is at least as long as a list that is long enough
+pub still_long : (n k least : ℕ) → n ≤ k → nat_le least n ≡ true → nat_le least k ≡ true
+still_long n k least h e = grind (arith, nat_tests)
+
+pub drop_within : (n : ℕ) (e : Name) (list : List Name) → is_among (drop n list) e ≡ true → is_among list e ≡ true
+drop_within zero e list h = h
+drop_within (suc n) e [] h = h
+drop_within (suc n) e (x ∷ xs) h = or_right (is_same e x) (is_among xs e) (drop_within n e xs h)
+
+pub take_within : (n : ℕ) (e : Name) (list : List Name) → is_among (take n list) e ≡ true → is_among list e ≡ true
+take_within zero e list h = absurd (cc)
+take_within (suc n) e [] h = h
+take_within (suc n) e (x ∷ xs) h = by (is_same e x) h (take_within n e xs)
+  where
+    by : (b : Bool) → (b || is_among (take n xs) e) ≡ true → (is_among (take n xs) e ≡ true → is_among xs e ≡ true) → (b || is_among xs e) ≡ true
+    by true i rest = refl
+    by false i rest = rest i
+
+-- a name of a list is another than one that the list has not
+pub another_name : (e x : Name) (list : List Name) → is_among list e ≡ true → is_among list x ≡ false → is_same e x ≡ false
+another_name e x list i none = by (is_same e x) refl
+  where
+    by : (b : Bool) → is_same e x ≡ b → is_same e x ≡ false
+    by true s = absurd (cc (sym i ∙ ap (is_among list) (same_names e x s) ∙ none))
+    by false s = s
+
+-- names of which a test of their kinds tells different things are not the same
+pub another_kind : (p : Kind → Bool) (e x : Name) → p e.kind ≡ true → p x.kind ≡ false → is_same e x ≡ false
+another_kind p e x one other = by (is_same e x) refl
+  where
+    by : (b : Bool) → is_same e x ≡ b → is_same e x ≡ false
+    by true s = absurd (cc (sym one ∙ ap (λ z. p z.kind) (same_names e x s) ∙ other))
+    by false s = s
