@@ -6,4 +6,5 @@ pub mod Joining
 pub mod Lists
 pub mod Merging
 pub mod Renaming
+pub mod SplitJoined
 pub mod Splitting

@@ -22,6 +22,16 @@ pub fn accepted_keeps_sound<A: Allocator>()
         → (is_sound (after_merge m k g) ≡ true) × (after_merge m k g ≢ m) }
 {}
 
+/// The parts of a split way join to the way that was split: after an accepted split on a sound map the join of the two is
+/// accepted, and leads to the map from before the split.
+#[tactic(auto, using(crate::specs::Facts::SplitJoined::split_joins, crate::specs::Facts::SplitJoined::split_joins_to,))]
+pub fn join_takes_back_split<A: Allocator>()
+    ensures accepted { (m : Rows A) (w : Name) (i : ℕ) (v : Name) → is_sound m ≡ true → first_that_holds (split_checks m w i v) ≡ None
+        → first_that_holds (join_checks (after_split m w i v) w v) ≡ None }
+    ensures restored { (m : Rows A) (w : Name) (i : ℕ) (v : Name) → is_sound m ≡ true → first_that_holds (split_checks m w i v) ≡ None
+        → after_join (after_split m w i v) w v ≡ m }
+{}
+
 /// What the definitions say of the worked examples is what was worked out by hand.
 pub fn examples_are_as_worked()
     ensures closed_way_split { closed_way_split }
