@@ -21,7 +21,7 @@ ends_joined_lem = (refl, refl, refl, refl, refl, refl, refl, refl, refl)
 
 pub members_joined_lem : members_joined
 unfolding members_joined name_cmp
-members_joined_lem = (refl, refl)
+members_joined_lem = (refl, refl, refl, refl, refl, refl)
 
 pub tags_joined_lem : tags_joined
 unfolding tags_joined name_cmp
@@ -33,7 +33,7 @@ join_refusals_lem = (refl, refl, refl, refl, refl, refl, refl, refl)
 
 pub neighbours_merged_lem : neighbours_merged
 unfolding neighbours_merged name_cmp
-neighbours_merged_lem = (refl, refl, refl, refl, refl, refl, refl, refl)
+neighbours_merged_lem = (refl, refl, refl, refl, refl, refl, refl, refl, refl)
 
 pub doubles_merged_lem : doubles_merged
 unfolding doubles_merged name_cmp
@@ -41,7 +41,7 @@ doubles_merged_lem = (refl, refl, refl, refl)
 
 pub members_merged_lem : members_merged
 unfolding members_merged name_cmp
-members_merged_lem = refl
+members_merged_lem = (refl, refl)
 
 pub tags_merged_lem : tags_merged
 unfolding tags_merged name_cmp
@@ -49,4 +49,4 @@ tags_merged_lem = (refl, refl, refl, refl, refl)
 
 pub merge_refusals_lem : merge_refusals
 unfolding merge_refusals name_cmp
-merge_refusals_lem = (refl, refl, refl, refl, refl, refl, refl, refl)
+merge_refusals_lem = (refl, refl, refl, refl, refl, refl, refl, refl, refl)

@@ -1,8 +1,12 @@
 -- What was worked out by hand of the definitions.
-use Rattle.std.specs.Prelude.{◌≡◌, [], ◌∷◌, Some, None}
+use Rattle.std.specs.Prelude.{◌≡◌, ℕ, List, [], ◌∷◌, Option, Some, None}
+use Rattle.osm_elements.specs.declared.name.Name.{Name}
+use Rattle.osm_elements.specs.declared.element.Element.{Element}
+use Rattle.osm_elements.specs.Maps.{Rows}
 use Rattle.osm_elements.specs.Rows.{row_at, put_row}
+use Rattle.edit_simple.specs.declared.refusal.Refusal.{Refusal}
 use Rattle.edit_simple.specs.declared.refusal.Refusal.TheVariants.{Absent, Present, WrongKind, Same, BadPosition, NotEndToEnd, TagConflict, TooFew, TooMany}
-use Rattle.edit_simple.specs.Scenes.{n-1, n-2, n-3, n-7, n-8, w1, w2, w3, w5, r1, r9, node_at, way_of, relation_of, outer, start, refused}
+use Rattle.edit_simple.specs.Scenes.{Any, n-1, n-2, n-3, n-7, n-8, w1, w2, w3, w5, r1, r9, node_at, way_of, relation_of, outer, start, refused}
 use Rattle.edit_topology.specs.Join.{join_checks, after_join}
 use Rattle.edit_topology.specs.Merge.{merge_checks, after_merge}
 use Rattle.edit_topology.specs.Scenes.{a1, a2, b1, b2, c1, thousand_tags, tagged_node, tagged_way, beside, ring, thrice, with_many, with_long, ways_tagged, nodes_tagged}
@@ -57,12 +61,23 @@ ends_joined =
     × (row_at (after_join (beside (n-2 ∷ n-3 ∷ n-1 ∷ [])) w1 w3) w1 ≡ Some (way_of (n-1 ∷ n-2 ∷ n-3 ∷ n-1 ∷ [])))
     × (refused (join_checks ring w3 w3) ≡ Some (Same w3))
 
--- of members v only one right after w in the same role is dropped, as the list was before
+-- w1, a way w3 that begins where w1 ends, and a relation with these members
+abbrev pub with_members : List (Name × List ℕ) → Rows Any
+with_members members = put_row (beside (n-2 ∷ n-3 ∷ [])) r9 (relation_of members)
+
+-- the refusal of their join, and the relation after it
+abbrev pub joining_members : List (Name × List ℕ) → Option (Refusal Any) × Option (Element Any)
+joining_members members = (refused (join_checks (with_members members) w1 w3), row_at (after_join (with_members members) w1 w3) r9)
+
+-- of members w3 only one right after w1 in the same role is dropped, as the list was before
 unfoldable pub members_joined : Type 0
 members_joined =
-    (row_at (after_join (put_row (beside (n-2 ∷ n-3 ∷ [])) r9 (relation_of ((w3, []) ∷ (w1, []) ∷ (w3, []) ∷ (w3, []) ∷ (n-1, []) ∷ (w3, []) ∷ (w1, outer) ∷ (w3, []) ∷ []))) w1 w3) r9
-    ≡ Some (relation_of ((w1, []) ∷ (w1, []) ∷ (w1, []) ∷ (n-1, []) ∷ (w1, []) ∷ (w1, outer) ∷ (w1, []) ∷ [])))
-    × (row_at (after_join (put_row (beside (n-2 ∷ n-3 ∷ [])) r9 (relation_of ((w1, []) ∷ (w1, []) ∷ []))) w1 w3) r9 ≡ Some (relation_of ((w1, []) ∷ (w1, []) ∷ [])))
+    (joining_members ((w1, []) ∷ (w3, []) ∷ (w3, []) ∷ []) ≡ (None, Some (relation_of ((w1, []) ∷ (w1, []) ∷ []))))
+    × (joining_members ((w3, []) ∷ (w1, []) ∷ []) ≡ (None, Some (relation_of ((w1, []) ∷ (w1, []) ∷ []))))
+    × (joining_members ((w1, []) ∷ (n-1, []) ∷ (w3, []) ∷ []) ≡ (None, Some (relation_of ((w1, []) ∷ (n-1, []) ∷ (w1, []) ∷ []))))
+    × (joining_members ((w1, outer) ∷ (w3, []) ∷ []) ≡ (None, Some (relation_of ((w1, outer) ∷ (w1, []) ∷ []))))
+    × (joining_members ((w1, []) ∷ (w1, []) ∷ []) ≡ (None, Some (relation_of ((w1, []) ∷ (w1, []) ∷ []))))
+    × (joining_members ((w1, []) ∷ (w3, []) ∷ (w1, outer) ∷ (w3, outer) ∷ []) ≡ (None, Some (relation_of ((w1, []) ∷ (w1, outer) ∷ []))))
 
 -- the tags of both, where no key has two values; else the least such key
 unfoldable pub tags_joined : Type 0
@@ -86,6 +101,10 @@ join_refusals =
     × (refused (join_checks (with_long 1001 1000) w3 w5) ≡ None)
     × (refused (join_checks (with_long 1001 1001) w3 w5) ≡ Some (TooMany w3))
 
+-- the refusal of a merge of n-3 into n-1 beside a third way, and that way after it
+abbrev pub merging_beside : List Name → Option (Refusal Any) × Option (Element Any)
+merging_beside nodes = (refused (merge_checks (beside nodes) n-1 n-3), row_at (after_merge (beside nodes) n-1 n-3) w3)
+
 -- neighbours in a closed way, in its middle and at its end; its two ends are no neighbours
 unfoldable pub neighbours_merged : Type 0
 neighbours_merged =
@@ -96,21 +115,23 @@ neighbours_merged =
     × (row_at (after_merge ring n-2 n-3) n-3 ≡ None)
     × (refused (merge_checks ring n-1 n-3) ≡ None)
     × (row_at (after_merge ring n-1 n-3) w3 ≡ Some (tagged_way (n-1 ∷ n-2 ∷ n-1 ∷ []) (a1 ∷ [])))
-    × (row_at (after_merge (beside (n-3 ∷ n-2 ∷ n-1 ∷ [])) n-1 n-3) w3 ≡ Some (way_of (n-1 ∷ n-2 ∷ n-1 ∷ [])))
+    × (merging_beside (n-3 ∷ n-2 ∷ n-1 ∷ []) ≡ (None, Some (way_of (n-1 ∷ n-2 ∷ n-1 ∷ []))))
+    × (merging_beside (n-3 ∷ n-2 ∷ n-3 ∷ []) ≡ (None, Some (way_of (n-1 ∷ n-2 ∷ n-1 ∷ []))))
 
 -- doubles that stood there before: those of k are dropped where g was named, and no others
 unfoldable pub doubles_merged : Type 0
 doubles_merged =
-    (row_at (after_merge (beside (n-1 ∷ n-1 ∷ n-2 ∷ n-3 ∷ [])) n-1 n-3) w3 ≡ Some (way_of (n-1 ∷ n-2 ∷ n-1 ∷ [])))
-    × (row_at (after_merge (beside (n-2 ∷ n-1 ∷ n-3 ∷ n-1 ∷ [])) n-1 n-3) w3 ≡ Some (way_of (n-2 ∷ n-1 ∷ [])))
-    × (row_at (after_merge (beside (n-2 ∷ n-2 ∷ n-3 ∷ [])) n-1 n-3) w3 ≡ Some (way_of (n-2 ∷ n-2 ∷ n-1 ∷ [])))
-    × (row_at (after_merge (beside (n-1 ∷ n-1 ∷ n-2 ∷ [])) n-1 n-3) w3 ≡ Some (way_of (n-1 ∷ n-1 ∷ n-2 ∷ [])))
+    (merging_beside (n-1 ∷ n-1 ∷ n-2 ∷ n-3 ∷ []) ≡ (None, Some (way_of (n-1 ∷ n-2 ∷ n-1 ∷ []))))
+    × (merging_beside (n-2 ∷ n-1 ∷ n-3 ∷ n-1 ∷ []) ≡ (None, Some (way_of (n-2 ∷ n-1 ∷ []))))
+    × (merging_beside (n-2 ∷ n-2 ∷ n-3 ∷ []) ≡ (None, Some (way_of (n-2 ∷ n-2 ∷ n-1 ∷ []))))
+    × (merging_beside (n-1 ∷ n-1 ∷ n-2 ∷ []) ≡ (None, Some (way_of (n-1 ∷ n-1 ∷ n-2 ∷ []))))
 
 -- a relation that names both keeps doubled members
 unfoldable pub members_merged : Type 0
 members_merged =
-    row_at (after_merge (put_row start r9 (relation_of ((n-1, []) ∷ (n-3, []) ∷ (w2, []) ∷ (n-3, outer) ∷ []))) n-1 n-3) r9
-    ≡ Some (relation_of ((n-1, []) ∷ (n-1, []) ∷ (w2, []) ∷ (n-1, outer) ∷ []))
+    (let m = put_row start r9 (relation_of ((n-1, []) ∷ (n-3, []) ∷ (w2, []) ∷ (n-3, outer) ∷ [])) in
+    (refused (merge_checks m n-1 n-3) ≡ None)
+    × (row_at (after_merge m n-1 n-3) r9 ≡ Some (relation_of ((n-1, []) ∷ (n-1, []) ∷ (w2, []) ∷ (n-1, outer) ∷ []))))
 
 -- the node that stays keeps its position and has the tags of both
 unfoldable pub tags_merged : Type 0
@@ -131,4 +152,5 @@ merge_refusals =
     × (refused (merge_checks start n-1 n-8) ≡ Some (Absent n-8))
     × (refused (merge_checks (beside (n-2 ∷ n-1 ∷ [])) n-1 n-2) ≡ Some (TooFew w1))
     × (refused (merge_checks (beside (n-3 ∷ n-3 ∷ [])) n-1 n-3) ≡ Some (TooFew w3))
+    × (refused (merge_checks (beside (n-1 ∷ n-3 ∷ n-1 ∷ [])) n-1 n-3) ≡ Some (TooFew w3))
     × (refused (merge_checks (put_row (nodes_tagged (a1 ∷ []) (a2 ∷ [])) w3 (way_of (n-3 ∷ n-1 ∷ []))) n-1 n-3) ≡ Some (TooFew w3))

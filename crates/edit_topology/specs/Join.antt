@@ -1,4 +1,4 @@
--- To join two ways of which one begins where the other ends. (Editors' practice. The rule for members and the greatest lengths are this project's.)
+-- To join two ways of which one begins where the other ends. (Editors' practice. What becomes of members, and the greatest lengths, are this project's.)
 use Rattle.std.specs.Prelude.{◌++◌, ◌&&◌, ℕ, Bool, false, not, List, [], ◌∷◌, Option, Some, None, length, drop, map, nat_lt}
 use Rattle.std.specs.Bool.{then_some}
 use Rattle.std.specs.List.{filter, last_or, slice_get, zip}

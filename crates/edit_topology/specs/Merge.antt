@@ -1,4 +1,4 @@
--- To merge one node into another. (Editors' practice. The rules for lists and members and the greatest number of tags are this project's.)
+-- To merge one node into another. (Editors' practice. Which doubles are dropped, and the greatest number of tags, are this project's.)
 use Rattle.std.specs.Prelude.{◌&&◌, not, List, [], ◌∷◌, Option, Some, length, map, nat_lt, if◌then◌else◌}
 use Rattle.std.specs.Bool.{then_some}
 use Rattle.std.specs.List.{dedup, filter}
