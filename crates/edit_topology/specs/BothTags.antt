@@ -1,5 +1,5 @@
 -- The tags of two elements that become one. (OpenStreetMap wiki, "Elements": no two tags of an element have the same key.)
-use Rattle.std.specs.Prelude.{ℕ, Bool, false, not, List, Option, Some, None}
+use Rattle.std.specs.Prelude.{◌≡◌, ◌≢◌, ℕ, Bool, false, not, List, Option, Some, None}
 use Rattle.std.specs.List.{fold, find}
 use Rattle.std.specs.Option.{option_map}
 use Rattle.std.specs.FinMap.Entries.{put}
@@ -18,3 +18,11 @@ is_another (Some other) value = not (is_same_text other value)
 -- the first key that has two values; keys rise, so it is the least
 abbrev pub conflict : Pairs → Pairs → Option (List ℕ)
 conflict tags others = option_map (λ p. p.0) (find (λ p. is_another (value_at others p.0) p.1) tags)
+
+-- the key has a value among the tags and another one among the others
+pub record HasTwo (tags others : Pairs) (key : List ℕ) : Type 0 where
+  pub one : List ℕ
+  pub other : List ℕ
+  pub ours : value_at tags key ≡ Some one
+  pub theirs : value_at others key ≡ Some other
+  pub differ : one ≢ other

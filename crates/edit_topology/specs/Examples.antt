@@ -43,10 +43,10 @@ split_refusals =
     × (refused (split_checks start w2 0 w1) ≡ Some (Present w1))
     × (refused (split_checks start w2 1 w2) ≡ Some (Present w2))
     × (refused (split_checks start w1 1 w5) ≡ Some BadPosition)
-    × (refused (split_checks (with_many start r9 16000) w2 1 w5) ≡ None)
-    × (refused (split_checks (with_many start r9 16001) w2 1 w5) ≡ Some (TooMany r9))
-    × (refused (split_checks (with_many (with_many start r9 16001) r1 16001) w2 1 w5) ≡ Some (TooMany r1))
-    × (refused (split_checks (with_many start r9 16001) w2 2 w5) ≡ Some BadPosition)
+    × (refused (split_checks (with_many start r9 16000 0) w2 1 w5) ≡ None)
+    × (refused (split_checks (with_many start r9 16000 1) w2 1 w5) ≡ Some (TooMany r9))
+    × (refused (split_checks (with_many (with_many start r9 16000 1) r1 16000 1) w2 1 w5) ≡ Some (TooMany r1))
+    × (refused (split_checks (with_many start r9 16000 1) w2 2 w5) ≡ Some BadPosition)
 
 -- the last of the one has to be the first of the other; no other pair of ends will do
 unfoldable pub ends_joined : Type 0

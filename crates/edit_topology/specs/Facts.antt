@@ -8,3 +8,4 @@ pub mod Merging
 pub mod Renaming
 pub mod SplitJoined
 pub mod Splitting
+pub mod TagValues

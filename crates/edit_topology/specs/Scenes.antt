@@ -1,5 +1,5 @@
 -- Maps and parts of the worked examples, beside those of `edit_simple`.
-use Rattle.std.specs.Prelude.{◌*◌, ℕ, List, [], ◌∷◌, map, pos, replicate}
+use Rattle.std.specs.Prelude.{◌*◌, ◌++◌, ℕ, List, [], ◌∷◌, map, pos, replicate}
 use Rattle.std.specs.List.{flat_map, range_with_len}
 use Rattle.osm_elements.specs.declared.name.Name.{Name}
 use Rattle.osm_elements.specs.declared.element.Element.{Element}
@@ -47,9 +47,9 @@ ring = put_row start w3 (tagged_way (n-1 ∷ n-2 ∷ n-3 ∷ n-1 ∷ []) (a1 ∷
 abbrev pub thrice : Rows Any
 thrice = put_row ring r9 (relation_of ((w2, []) ∷ (w2, []) ∷ (w2, outer) ∷ []))
 
--- a map and a relation of which w2 is so many members
-abbrev pub with_many : Rows Any → Name → ℕ → Rows Any
-with_many m r n = put_row m r (relation_of (replicate n (w2, [])))
+-- a map and a relation of which w2 is so many members, and n-1 so many more
+abbrev pub with_many : Rows Any → Name → ℕ → ℕ → Rows Any
+with_many m r n k = put_row m r (relation_of (replicate n (w2, []) ++ replicate k (n-1, [])))
 
 -- the start, and two ways with so many nodes that meet end to end
 abbrev pub with_long : ℕ → ℕ → Rows Any

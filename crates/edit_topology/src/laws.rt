@@ -1,9 +1,13 @@
 //! Laws of the actions, each the contract of a function that does nothing.
-ghost use Rattle.std.specs.Prelude.{◌≡◌, ◌≢◌, ℕ, true, None};
+ghost use Rattle.std.specs.Prelude.{◌≡◌, ◌≢◌, ℕ, true, List, Some, None};
+ghost use Rattle.std.specs.Option.{option_or};
+ghost use Rattle.std.specs.declared.cmp.Ordering.TheVariants.{Less};
 ghost use Rattle.osm_elements.specs.declared.name.Name.{Name};
 ghost use Rattle.osm_elements.specs.Maps.{Rows};
+ghost use Rattle.osm_elements.specs.TagRows.{Pairs, text_cmp, value_at, are_tags};
 ghost use Rattle.osm_changes.specs.Sound.{is_sound};
 ghost use Rattle.edit_simple.specs.Checks.{first_that_holds};
+ghost use Rattle.edit_topology.specs.BothTags.{both_tags, conflict, HasTwo};
 ghost use Rattle.edit_topology.specs.Examples.{closed_way_split, members_split, split_refusals, ends_joined, members_joined, tags_joined, join_refusals, neighbours_merged, doubles_merged, members_merged, tags_merged, merge_refusals};
 ghost use Rattle.edit_topology.specs.Join.{join_checks, after_join};
 ghost use Rattle.edit_topology.specs.Merge.{merge_checks, after_merge};
@@ -30,6 +34,15 @@ pub fn join_takes_back_split<A: Allocator>()
         → first_that_holds (join_checks (after_split m w i v) w v) ≡ None }
     ensures restored { (m : Rows A) (w : Name) (i : ℕ) (v : Name) → is_sound m ≡ true → first_that_holds (split_checks m w i v) ≡ None
         → after_join (after_split m w i v) w v ≡ m }
+{}
+
+/// The tags of two elements that become one have at each key the value of the one or of the other. No key has two values
+/// where there is no conflict; and a conflict is the least key that has two.
+pub fn tags_unite()
+    ensures values { (tags others : Pairs) → are_tags others ≡ true → (key : List ℕ) → value_at (both_tags tags others) key ≡ option_or (value_at others key) (value_at tags key) }
+    ensures none { (tags others : Pairs) → conflict tags others ≡ None → (key : List ℕ) → HasTwo tags others key → ⊥ }
+    ensures least { (tags others : Pairs) → are_tags tags ≡ true → (key : List ℕ) → conflict tags others ≡ Some key
+        → HasTwo tags others key × ((lesser : List ℕ) → HasTwo tags others lesser → text_cmp lesser key ≢ Less) }
 {}
 
 /// What the definitions say of the worked examples is what was worked out by hand.

@@ -38,7 +38,7 @@ are_tags-both_tags tags others h g few = tags_from (both_tags tags others) (sort
 
 -- ---- tags with themselves
 
-same_keys : (x y : List ℕ) → is_eq (text_cmp x y) ≡ true → x ≡ y
+pub same_keys : (x y : List ℕ) → is_eq (text_cmp x y) ≡ true → x ≡ y
 same_keys x y e = slice_cmp-IsAntisymmetric nat_cmp-IsAntisymmetric x y (same (text_cmp x y) e)
 
 pub same_text_itself : (s : List ℕ) → is_same_text s s ≡ true
@@ -51,7 +51,7 @@ Has tags [] = Unit
 Has tags (p ∷ ps) = (value_at tags p.0 ≡ Some p.1) × Has tags ps
 
 -- what is found among later tags is found among all
-later : (e : List ℕ × List ℕ) (es : Pairs) → T (below_all text_cmp e.0 es) → (key value : List ℕ) → value_at es key ≡ Some value → value_at (e ∷ es) key ≡ Some value
+pub later : (e : List ℕ × List ℕ) (es : Pairs) → T (below_all text_cmp e.0 es) → (key value : List ℕ) → value_at es key ≡ Some value → value_at (e ∷ es) key ≡ Some value
 later e es h key value is = by (is_eq (text_cmp key e.0)) refl
   where
     by : (b : Bool) → is_eq (text_cmp key e.0) ≡ b → cond b (Some e.1) (value_at es key) ≡ Some value
