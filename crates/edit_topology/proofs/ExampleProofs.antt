@@ -25,11 +25,11 @@ members_joined_lem = (refl, refl, refl, refl, refl, refl)
 
 pub tags_joined_lem : tags_joined
 unfolding tags_joined name_cmp
-tags_joined_lem = (refl, refl, refl, refl, refl, refl)
+tags_joined_lem = (refl, refl, refl, refl, refl, refl, refl)
 
 pub join_refusals_lem : join_refusals
 unfolding join_refusals name_cmp
-join_refusals_lem = (refl, refl, refl, refl, refl, refl, refl, refl)
+join_refusals_lem = (refl, refl, refl, refl, refl, refl, refl, refl, refl, refl, refl)
 
 pub neighbours_merged_lem : neighbours_merged
 unfolding neighbours_merged name_cmp
@@ -45,8 +45,8 @@ members_merged_lem = (refl, refl)
 
 pub tags_merged_lem : tags_merged
 unfolding tags_merged name_cmp
-tags_merged_lem = (refl, refl, refl, refl, refl)
+tags_merged_lem = (refl, refl, refl, refl, refl, refl)
 
 pub merge_refusals_lem : merge_refusals
 unfolding merge_refusals name_cmp
-merge_refusals_lem = (refl, refl, refl, refl, refl, refl, refl, refl, refl)
+merge_refusals_lem = (refl, refl, refl, refl, refl, refl, refl, refl, refl, refl)

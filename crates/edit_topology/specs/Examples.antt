@@ -1,5 +1,5 @@
 -- What was worked out by hand of the definitions.
-use Rattle.std.specs.Prelude.{◌≡◌, ℕ, List, [], ◌∷◌, Option, Some, None}
+use Rattle.std.specs.Prelude.{◌≡◌, ℕ, List, [], ◌∷◌, Option, Some, None, replicate}
 use Rattle.osm_elements.specs.declared.name.Name.{Name}
 use Rattle.osm_elements.specs.declared.element.Element.{Element}
 use Rattle.osm_elements.specs.Maps.{Rows}
@@ -34,7 +34,7 @@ members_split =
     × (refused (join_checks (after_split thrice w2 1 w5) w2 w5) ≡ None)
     × (after_join (after_split thrice w2 1 w5) w2 w5 ≡ thrice)
 
--- each refusal of a split; a relation may get 32,000 members, and of two that get more the lesser is named
+-- each refusal of a split, in their order; a relation may get 32,000 members, and of two that get more the lesser is named
 unfoldable pub split_refusals : Type 0
 split_refusals =
     (refused (split_checks start n-1 0 r1) ≡ Some (WrongKind n-1))
@@ -88,18 +88,22 @@ tags_joined =
     × (refused (join_checks (ways_tagged (a1 ∷ b1 ∷ []) (b2 ∷ c1 ∷ [])) w3 w5) ≡ Some (TagConflict (98 ∷ [])))
     × (refused (join_checks (ways_tagged thousand_tags ((48 ∷ 48 ∷ [], []) ∷ [])) w3 w5) ≡ None)
     × (refused (join_checks (ways_tagged thousand_tags (a1 ∷ [])) w3 w5) ≡ Some (TooMany w3))
+    × (refused (join_checks (ways_tagged thousand_tags ((48 ∷ 48 ∷ [], 49 ∷ []) ∷ a1 ∷ [])) w3 w5) ≡ Some (TagConflict (48 ∷ 48 ∷ [])))
 
--- each other refusal of a join; a way may get 2,000 nodes
+-- each other refusal of a join, in their order; a way may get 2,000 nodes
 unfoldable pub join_refusals : Type 0
 join_refusals =
-    (refused (join_checks start n-1 n-1) ≡ Some (WrongKind n-1))
+    (refused (join_checks start n-1 r1) ≡ Some (WrongKind n-1))
+    × (refused (join_checks start n-1 n-1) ≡ Some (WrongKind n-1))
     × (refused (join_checks start w5 r1) ≡ Some (WrongKind r1))
     × (refused (join_checks start w5 w5) ≡ Some (Same w5))
     × (refused (join_checks start w5 w3) ≡ Some (Absent w5))
     × (refused (join_checks start w1 w3) ≡ Some (Absent w3))
     × (refused (join_checks start w1 w2) ≡ Some NotEndToEnd)
-    × (refused (join_checks (with_long 1001 1000) w3 w5) ≡ None)
-    × (refused (join_checks (with_long 1001 1001) w3 w5) ≡ Some (TooMany w3))
+    × (refused (join_checks (with_long 1001 [] 1000 []) w3 w5) ≡ None)
+    × (refused (join_checks (with_long 1001 [] 1001 []) w3 w5) ≡ Some (TooMany w3))
+    × (refused (join_checks (with_long 1001 (a1 ∷ []) 1001 (a2 ∷ [])) w3 w5) ≡ Some (TooMany w3))
+    × (refused (join_checks (put_row (with_long 1001 [] 1001 []) w5 (way_of (replicate 1001 n-2))) w3 w5) ≡ Some NotEndToEnd)
 
 -- the refusal of a merge of n-3 into n-1 beside a third way, and that way after it
 abbrev pub merging_beside : List Name → Option (Refusal Any) × Option (Element Any)
@@ -141,11 +145,13 @@ tags_merged =
     × (refused (merge_checks (nodes_tagged (a1 ∷ b1 ∷ []) (b2 ∷ c1 ∷ [])) n-1 n-3) ≡ Some (TagConflict (98 ∷ [])))
     × (refused (merge_checks (nodes_tagged thousand_tags ((48 ∷ 48 ∷ [], []) ∷ [])) n-1 n-3) ≡ None)
     × (refused (merge_checks (nodes_tagged thousand_tags (a1 ∷ [])) n-1 n-3) ≡ Some (TooMany n-1))
+    × (refused (merge_checks (nodes_tagged thousand_tags ((48 ∷ 48 ∷ [], 49 ∷ []) ∷ a1 ∷ [])) n-1 n-3) ≡ Some (TagConflict (48 ∷ 48 ∷ [])))
 
--- each other refusal of a merge; of two ways that get too short the lesser is named, before a conflict of tags
+-- each other refusal of a merge, in their order; of two ways that get too short the lesser is named, before a conflict of tags
 unfoldable pub merge_refusals : Type 0
 merge_refusals =
-    (refused (merge_checks start w1 w1) ≡ Some (WrongKind w1))
+    (refused (merge_checks start w1 r1) ≡ Some (WrongKind w1))
+    × (refused (merge_checks start w1 w1) ≡ Some (WrongKind w1))
     × (refused (merge_checks start n-7 r1) ≡ Some (WrongKind r1))
     × (refused (merge_checks start n-7 n-7) ≡ Some (Same n-7))
     × (refused (merge_checks start n-7 n-8) ≡ Some (Absent n-7))

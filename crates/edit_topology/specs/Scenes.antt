@@ -51,9 +51,9 @@ thrice = put_row ring r9 (relation_of ((w2, []) ∷ (w2, []) ∷ (w2, outer) ∷
 abbrev pub with_many : Rows Any → Name → ℕ → ℕ → Rows Any
 with_many m r n k = put_row m r (relation_of (replicate n (w2, []) ++ replicate k (n-1, [])))
 
--- the start, and two ways with so many nodes that meet end to end
-abbrev pub with_long : ℕ → ℕ → Rows Any
-with_long n k = put_row (put_row start w3 (way_of (replicate n n-1))) w5 (way_of (replicate k n-1))
+-- the start, and two ways with so many nodes and these tags that meet end to end
+abbrev pub with_long : ℕ → Pairs → ℕ → Pairs → Rows Any
+with_long n tags k others = put_row (put_row start w3 (tagged_way (replicate n n-1) tags)) w5 (tagged_way (replicate k n-1) others)
 
 -- the start, and two ways with these tags that meet end to end
 abbrev pub ways_tagged : Pairs → Pairs → Rows Any
