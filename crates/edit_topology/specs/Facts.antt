@@ -8,4 +8,5 @@ pub mod Merging
 pub mod Renaming
 pub mod SplitJoined
 pub mod Splitting
+pub mod Staying
 pub mod TagValues

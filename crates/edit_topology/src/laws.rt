@@ -1,10 +1,12 @@
 //! Laws of the actions, each the contract of a function that does nothing.
-ghost use Rattle.std.specs.Prelude.{◌≡◌, ◌≢◌, ℕ, true, List, Some, None};
+ghost use Rattle.std.specs.Prelude.{◌≡◌, ◌≢◌, ℕ, true, false, List, Some, None};
 ghost use Rattle.std.specs.Option.{option_or};
 ghost use Rattle.std.specs.declared.cmp.Ordering.TheVariants.{Less};
 ghost use Rattle.osm_elements.specs.declared.name.Name.{Name};
-ghost use Rattle.osm_elements.specs.Maps.{Rows};
+ghost use Rattle.osm_elements.specs.Maps.{Rows, is_same, is_among};
+ghost use Rattle.osm_elements.specs.Rows.{row_at};
 ghost use Rattle.osm_elements.specs.TagRows.{Pairs, text_cmp, value_at, are_tags};
+ghost use Rattle.osm_refs.specs.References.{row_references};
 ghost use Rattle.osm_changes.specs.Sound.{is_sound};
 ghost use Rattle.edit_simple.specs.Checks.{first_that_holds};
 ghost use Rattle.edit_topology.specs.BothTags.{both_tags, conflict, HasTwo};
@@ -24,6 +26,18 @@ pub fn accepted_keeps_sound<A: Allocator>()
         → (is_sound (after_join m w v) ≡ true) × (after_join m w v ≢ m) }
     ensures merge { (m : Rows A) (k g : Name) → is_sound m ≡ true → first_that_holds (merge_checks m k g) ≡ None
         → (is_sound (after_merge m k g) ≡ true) × (after_merge m k g ≢ m) }
+{}
+
+/// Every row stays as it is but those of the action's subjects, and of the elements that name w, v or g: the way that is
+/// split, the way that is joined to another, the node that is merged into another.
+#[tactic(auto, using(crate::specs::Facts::Staying::split_leaves, crate::specs::Facts::Staying::join_leaves, crate::specs::Facts::Staying::merge_leaves,))]
+pub fn the_rest_stays<A: Allocator>()
+    ensures split { (m : Rows A) (w : Name) (i : ℕ) (v y : Name) → is_same y w ≡ false → is_same y v ≡ false → is_among (row_references (row_at m y)) w ≡ false
+        → row_at (after_split m w i v) y ≡ row_at m y }
+    ensures join { (m : Rows A) (w v y : Name) → is_same y w ≡ false → is_same y v ≡ false → is_among (row_references (row_at m y)) v ≡ false
+        → row_at (after_join m w v) y ≡ row_at m y }
+    ensures merge { (m : Rows A) (k g y : Name) → is_same y k ≡ false → is_same y g ≡ false → is_among (row_references (row_at m y)) g ≡ false
+        → row_at (after_merge m k g) y ≡ row_at m y }
 {}
 
 /// The parts of a split way join to the way that was split: after an accepted split on a sound map the join of the two is

@@ -1,5 +1,5 @@
 -- An accepted join keeps a sound map sound, and changes it.
-use Rattle.std.proofs.Common.{◌≡◌, ◌≢◌, ◌≤◌, ℕ, Bool, true, false, not, ◌||◌, List, [], ◌∷◌, Option, Some, None, length, nat_lt, nat_le, drop, map, refl, sym, ap, subst, ◌∙◌, cond, arith, length-append}
+use Rattle.std.proofs.Common.{◌≡◌, ◌≢◌, ◌≤◌, ◌&&◌, ℕ, Bool, true, false, not, ◌||◌, List, [], ◌∷◌, Option, Some, None, length, nat_lt, nat_le, drop, map, refl, sym, ap, subst, ◌∙◌, cond, arith, length-append}
 use Rattle.std.proofs.lemmas.List.{length-map}
 use Rattle.std.specs.List.{filter, zip}
 use Rattle.osm_elements.specs.declared.name.Name.{Name}
@@ -11,7 +11,7 @@ use Rattle.osm_elements.specs.Maps.{Rows, is_same, is_among, is_present, is_abse
 use Rattle.osm_elements.specs.Members.{are_members}
 use Rattle.osm_elements.specs.Rows.{row_at}
 use Rattle.osm_elements.specs.TagRows.{Pairs, are_tags}
-use Rattle.osm_elements.specs.Texts.{is_long}
+use Rattle.osm_elements.specs.Texts.{is_long, is_same_text}
 use Rattle.osm_elements.specs.Facts.Among.{is_among-append}
 use Rattle.osm_elements.specs.Facts.Dropped.{same_either_way}
 use Rattle.osm_elements.specs.Facts.Rows.{same_names}
@@ -48,6 +48,11 @@ kept_on w v before r rs e =
 pub kept_off : (w v : Name) (before : Option (Name × List ℕ)) (r : Name × List ℕ) (rs : List (Name × List ℕ)) → goes_on w v before r ≡ true → kept_members w v before (r ∷ rs) ≡ kept_members w v (Some r) rs
 kept_off w v before r rs e =
     ap (λ b. map (λ p. p.1) (cond (not b) ((before, r) ∷ filter (λ p. not (goes_on w v p.0 p.1)) (zip (Some r ∷ map Some rs) rs)) (filter (λ p. not (goes_on w v p.0 p.1)) (zip (Some r ∷ map Some rs) rs)))) e
+
+-- a member that isn't v goes on from none
+pub not_on : (w v : Name) (before : Option (Name × List ℕ)) (r : Name × List ℕ) → is_same v r.0 ≡ false → goes_on w v before r ≡ false
+not_on w v None r h = refl
+not_on w v (Some b) r h = ap (λ c. c && (is_same w b.0 && is_same_text b.1 r.1)) h
 
 kept_shorter : (w v : Name) (before : Option (Name × List ℕ)) (members : List (Name × List ℕ)) → length (kept_members w v before members) ≤ length members
 kept_shorter w v before [] = omega arith

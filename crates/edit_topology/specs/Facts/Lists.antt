@@ -15,6 +15,15 @@ pub or_cases : (a b c : Bool) → (a || b) ≡ true → (a ≡ true → c ≡ tr
 or_cases true b c h f g = f refl
 or_cases false b c h f g = g h
 
+-- what neither of two tests passes
+pub or_first : (a b : Bool) → (a || b) ≡ false → a ≡ false
+or_first true b h = h
+or_first false b h = refl
+
+pub or_second : (a b : Bool) → (a || b) ≡ false → b ≡ false
+or_second true b h = absurd (cc)
+or_second false b h = h
+
 -- what is at most as long as a list that is short enough
 pub still_short : (n k most : ℕ) → n ≤ k → nat_le k most ≡ true → nat_le n most ≡ true
 still_short n k most h e = grind (arith, nat_tests)

@@ -116,9 +116,12 @@ module _ {A : Type 0} where
       none : Nones (merge_checks m k g)
       none = nones (merge_checks m k g) ok
 
-  -- what a merge makes of a row
+  -- what a merge makes of k's element, and of a row
+  abbrev pub united : Rows A → Name → Element A → Element A
+  united m g u = with_tags (λ tags. both_tags tags (row_tags (row_at m g))) u
+
   abbrev pub merge_row : Rows A → Name → Name → Name → Element A → Element A
-  merge_row m k g y u = with_nodes (merged_nodes k g) (with_members (renamed_members g k) (at_name k (with_tags (λ tags. both_tags tags (row_tags (row_at m g)))) y u))
+  merge_row m k g y u = with_nodes (merged_nodes k g) (with_members (renamed_members g k) (at_name k (united m g) y u))
 
   nodes_same : (f : Pairs → Pairs) (b : Bool) (u : Element A) → nodes_of (Some (cond b (with_tags f u) u)) ≡ nodes_of (Some u)
   nodes_same f false u = refl

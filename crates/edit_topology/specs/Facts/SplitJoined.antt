@@ -1,5 +1,5 @@
 -- The parts of a split way join to the way that was split.
-use Rattle.std.proofs.Common.{◌≡◌, ◌+◌, ◌++◌, ℕ, zero, suc, Bool, true, false, not, ◌&&◌, ◌||◌, List, [], ◌∷◌, Option, Some, None, is_some, length, nat_lt, nat_le, take, drop, map, refl, sym, ap, ◌∙◌, cond, add-one, arith}
+use Rattle.std.proofs.Common.{◌≡◌, ◌+◌, ◌++◌, ℕ, zero, suc, Bool, true, false, not, ◌&&◌, List, [], ◌∷◌, Option, Some, None, is_some, length, nat_lt, nat_le, take, drop, map, refl, sym, ap, ◌∙◌, cond, add-one, arith}
 use Rattle.std.proofs.lemmas.Bool.Decides.{nat_tests}
 use Rattle.std.specs.Bool.{then_some}
 use Rattle.std.specs.List.{last_or, slice_get, list_all}
@@ -31,7 +31,8 @@ use Rattle.edit_topology.specs.Renaming.{renamed_members}
 use Rattle.edit_topology.specs.Split.{is_inside, split_members, split_checks, after_split}
 use Rattle.edit_topology.specs.Facts.BothTags.{same_text_itself, both_tags_same, no_conflict}
 use Rattle.edit_topology.specs.Facts.EachBut.{row_at-each_but, each_but_rewrites}
-use Rattle.edit_topology.specs.Facts.Joining.{kept_on, kept_off, lengthened, join_row}
+use Rattle.edit_topology.specs.Facts.Joining.{kept_on, kept_off, not_on, lengthened, join_row}
+use Rattle.edit_topology.specs.Facts.Lists.{or_first, or_second}
 use Rattle.edit_topology.specs.Facts.Renaming.{renamed_members_same}
 use Rattle.edit_topology.specs.Facts.Splitting.{Splits, splits, split_row, split_off, row_at-after_split, split_there, split_there_new, split_accepted}
 
@@ -75,19 +76,6 @@ not_more : (n most : ℕ) → nat_le n most ≡ true → nat_lt most n ≡ false
 not_more n most h = grind (arith, nat_tests)
 
 -- ---- the members
-
-or_first : (a b : Bool) → (a || b) ≡ false → a ≡ false
-or_first true b h = h
-or_first false b h = refl
-
-or_second : (a b : Bool) → (a || b) ≡ false → b ≡ false
-or_second true b h = absurd (cc)
-or_second false b h = h
-
--- a member that isn't v is kept
-not_on : (w v : Name) (before : Option (Name × List ℕ)) (r : Name × List ℕ) → is_same v r.0 ≡ false → goes_on w v before r ≡ false
-not_on w v None r h = refl
-not_on w v (Some b) r h = ap (λ c. c && (is_same w b.0 && is_same_text b.1 r.1)) h
 
 -- v right after w in its role goes on
 on_itself : (w v : Name) (r : Name × List ℕ) → is_same w r.0 ≡ true → goes_on w v (Some r) (v, r.1) ≡ true
