@@ -5,6 +5,7 @@ pub mod Fitting
 pub mod Joining
 pub mod Lists
 pub mod Merging
+pub mod Refusing
 pub mod Renaming
 pub mod SplitJoined
 pub mod Splitting

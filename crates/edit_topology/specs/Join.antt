@@ -29,7 +29,7 @@ abbrev pub goes_on : Name → Name → Option (Name × List ℕ) → Name × Lis
 goes_on w v None e = false
 goes_on w v (Some before) e = is_same v e.0 && (is_same w before.0 && is_same_text before.1 e.1)
 
--- the members, each told by the one before it, that are not v right after w in the same role
+-- the members but v right after w in the same role, where the first member stands right after `before`
 abbrev pub kept_members : Name → Name → Option (Name × List ℕ) → List (Name × List ℕ) → List (Name × List ℕ)
 kept_members w v before members = map (λ p. p.1) (filter (λ p. not (goes_on w v p.0 p.1)) (zip (before ∷ map Some members) members))
 

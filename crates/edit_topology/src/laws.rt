@@ -50,8 +50,8 @@ pub fn join_takes_back_split<A: Allocator>()
         → after_join (after_split m w i v) w v ≡ m }
 {}
 
-/// The tags of two elements that become one have at each key the value of the one or of the other. No key has two values
-/// where there is no conflict; and a conflict is the least key that has two.
+/// The tags of two elements that become one have at each key the other's value, and else the one's. Where there is no
+/// conflict, no key has two values, so neither goes before the other; and a conflict is the least key that has two.
 pub fn tags_unite()
     ensures values { (tags others : Pairs) → are_tags others ≡ true → (key : List ℕ) → value_at (both_tags tags others) key ≡ option_or (value_at others key) (value_at tags key) }
     ensures none { (tags others : Pairs) → conflict tags others ≡ None → (key : List ℕ) → HasTwo tags others key → ⊥ }

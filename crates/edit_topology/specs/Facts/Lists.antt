@@ -1,5 +1,5 @@
 -- Parts of lists of names, and tests over them.
-use Rattle.std.proofs.Common.{◌≡◌, ◌≤◌, ℕ, zero, suc, Bool, true, false, not, ◌||◌, List, [], ◌∷◌, nat_le, take, drop, refl, sym, ap, ◌∙◌, arith}
+use Rattle.std.proofs.Common.{◌≡◌, ◌≤◌, ℕ, zero, suc, Bool, true, false, not, ◌||◌, List, [], ◌∷◌, nat_lt, nat_le, take, drop, refl, sym, ap, ◌∙◌, arith}
 use Rattle.std.proofs.lemmas.Bool.Decides.{nat_tests}
 use Rattle.osm_elements.specs.declared.name.Name.{Name}
 use Rattle.osm_elements.specs.declared.name.Kind.{Kind}
@@ -23,6 +23,10 @@ or_first false b h = refl
 pub or_second : (a b : Bool) → (a || b) ≡ false → b ≡ false
 or_second true b h = absurd (cc)
 or_second false b h = h
+
+-- what is short enough is not too long
+pub not_more : (n most : ℕ) → nat_le n most ≡ true → nat_lt most n ≡ false
+not_more n most h = grind (arith, nat_tests)
 
 -- what is at most as long as a list that is short enough
 pub still_short : (n k most : ℕ) → n ≤ k → nat_le k most ≡ true → nat_le n most ≡ true

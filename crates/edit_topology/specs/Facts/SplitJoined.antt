@@ -32,7 +32,7 @@ use Rattle.edit_topology.specs.Split.{is_inside, split_members, split_checks, af
 use Rattle.edit_topology.specs.Facts.BothTags.{same_text_itself, both_tags_same, no_conflict}
 use Rattle.edit_topology.specs.Facts.EachBut.{row_at-each_but, each_but_rewrites}
 use Rattle.edit_topology.specs.Facts.Joining.{kept_on, kept_off, not_on, lengthened, join_row}
-use Rattle.edit_topology.specs.Facts.Lists.{or_first, or_second}
+use Rattle.edit_topology.specs.Facts.Lists.{not_more, or_first, or_second}
 use Rattle.edit_topology.specs.Facts.Renaming.{renamed_members_same}
 use Rattle.edit_topology.specs.Facts.Splitting.{Splits, splits, split_row, split_off, row_at-after_split, split_there, split_there_new, split_accepted}
 
@@ -71,9 +71,6 @@ parts_meet i xs inside =
     ap (λ k. option_eq is_same (last_or None (take k xs)) (slice_get (drop i xs) 0)) (add-one i)
     ∙ ap (λ o. option_eq is_same o (slice_get (drop i xs) 0)) (one_end i None xs (inside_less i (length xs) (second_true (nat_lt 0 i) (nat_lt (i + 1) (length xs)) inside)))
     ∙ same_option (slice_get (drop i xs) 0)
-
-not_more : (n most : ℕ) → nat_le n most ≡ true → nat_lt most n ≡ false
-not_more n most h = grind (arith, nat_tests)
 
 -- ---- the members
 

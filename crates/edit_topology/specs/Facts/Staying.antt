@@ -22,7 +22,7 @@ use Rattle.edit_topology.specs.Facts.Splitting.{split_row, split_off, row_at-aft
 
 -- ---- lists that don't have the name
 
-split_members_same : (w v : Name) (members : List (Name × List ℕ)) → is_among (map (λ r. r.0) members) w ≡ false → split_members w v members ≡ members
+pub split_members_same : (w v : Name) (members : List (Name × List ℕ)) → is_among (map (λ r. r.0) members) w ≡ false → split_members w v members ≡ members
 split_members_same w v [] h = refl
 split_members_same w v (r ∷ rs) h =
     ap (λ b. cond b (r ∷ (v, r.1) ∷ []) (r ∷ []) ++ split_members w v rs) (or_first (is_same w r.0) (is_among (map (λ s. s.0) rs) w) h)
