@@ -1,5 +1,6 @@
 -- What is proved of the definitions beside this folder, for the proofs here and in the crates above. No contract cites these.
 pub mod BothTags
+pub mod Changing
 pub mod EachBut
 pub mod Fitting
 pub mod Joining

@@ -40,6 +40,18 @@ pub fn the_rest_stays<A: Allocator>()
         → row_at (after_merge m k g) y ≡ row_at m y }
 {}
 
+/// On a sound map every row that names w, v or g changes, where the action is accepted. So of the rows that are not its
+/// subjects' those change that name it, and no others.
+#[tactic(auto, using(crate::specs::Facts::Changing::split_changes, crate::specs::Facts::Changing::join_changes, crate::specs::Facts::Changing::merge_changes,))]
+pub fn each_user_changes<A: Allocator>()
+    ensures split { (m : Rows A) (w : Name) (i : ℕ) (v y : Name) → is_sound m ≡ true → first_that_holds (split_checks m w i v) ≡ None → is_among (row_references (row_at m y)) w ≡ true
+        → row_at (after_split m w i v) y ≢ row_at m y }
+    ensures join { (m : Rows A) (w v y : Name) → is_sound m ≡ true → first_that_holds (join_checks m w v) ≡ None → is_among (row_references (row_at m y)) v ≡ true
+        → row_at (after_join m w v) y ≢ row_at m y }
+    ensures merge { (m : Rows A) (k g y : Name) → is_sound m ≡ true → first_that_holds (merge_checks m k g) ≡ None → is_among (row_references (row_at m y)) g ≡ true
+        → row_at (after_merge m k g) y ≢ row_at m y }
+{}
+
 /// The parts of a split way join to the way that was split: after an accepted split on a sound map the join of the two is
 /// accepted, and leads to the map from before the split.
 #[tactic(auto, using(crate::specs::Facts::SplitJoined::split_joins, crate::specs::Facts::SplitJoined::split_joins_to,))]
