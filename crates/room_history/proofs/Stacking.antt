@@ -162,11 +162,8 @@ module _ {A : Type 0} where
     pub front : List ℕ
     pub was : standing j ≡ front ++ s ∷ []
     pub standing_is : standing (j ++ e ∷ []) ≡ front
-    pub replayed : replay base (filter_map (action_of j) front) ≡ Some (mapof base (j ++ e ∷ []))
     pub stacked : Stacked base (j ++ e ∷ [])
     pub action : Action A
-    pub does : action_of j s ≡ Some action
-    pub accepted : refusal (mapof base (j ++ e ∷ [])) action ≡ None
     pub before : after (mapof base (j ++ e ∷ [])) action ≡ mapof base j
     pub takes_back : (recorded_next (past base j) e.kind).changes ≡ inverse (changes (mapof base (j ++ e ∷ [])) action)
     pub was_recorded : Recorded A
@@ -181,7 +178,6 @@ module _ {A : Type 0} where
     front = last.front;
     was = last.splits;
     standing_is = standing_is;
-    replayed = ap (λ ns. replay base (filter_map (action_of j) ns)) (sym cut.numbers) ∙ ap (replay base) (actions_of base j cut.low each.0) ∙ replay-chained base cut.low cut.top.before top.below ∙ ap Some (sym map_is);
     stacked = record {
       frames = cut.low;
       numbers = standing_is ∙ sym cut.numbers;
@@ -190,8 +186,6 @@ module _ {A : Type 0} where
       sound = subst (λ n. is_sound n ≡ true) (sym map_is) each.1.sound;
     };
     action = cut.top.action;
-    does = ap (action_of j) (sym cut.number) ∙ each.1.does;
-    accepted = ap (λ n. refusal n cut.top.action) map_is ∙ top.accepted;
     before = ap (λ n. after n cut.top.action) map_is ∙ top.leaves;
     takes_back = next ∙ ap (λ n. inverse (changes n cut.top.action)) (sym map_is);
     was_recorded = recorded_of cut.top.before cut.top.action;
