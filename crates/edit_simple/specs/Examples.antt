@@ -9,9 +9,10 @@ use Rattle.edit_simple.specs.Delete.{delete_checks, after_delete}
 use Rattle.edit_simple.specs.Members.{members_checks}
 use Rattle.edit_simple.specs.Move.{move_checks, after_move}
 use Rattle.edit_simple.specs.Nodes.{nodes_checks}
+use Rattle.edit_simple.specs.Purge.{purge_checks, after_purge}
 use Rattle.edit_simple.specs.Retag.{retag_checks}
 use Rattle.edit_simple.specs.Reverse.{reverse_checks, after_reverse}
-use Rattle.edit_simple.specs.Scenes.{Any, n-1, n-2, n-3, n-7, n-8, n5, w1, w2, w3, w5, r1, r9, node_at, way_of, relation_of, x, start, refused}
+use Rattle.edit_simple.specs.Scenes.{Any, n-1, n-2, n-3, n-7, n-8, n5, w1, w2, w3, w5, r1, r9, node_at, way_of, relation_of, outer, x, start, refused}
 
 -- what is in use is not deleted, and the least user is named
 unfoldable pub in_use : Type 0
@@ -53,6 +54,28 @@ rewritten =
     × (row_at (after_reverse start w2) w2 ≡ Some (way_of (n-2 ∷ n-3 ∷ n-1 ∷ [])))
     × (refused (move_checks start (w2 ∷ n-1 ∷ []) (negsuc 9999999) (pos 5)) ≡ None)
     × (row_at (after_move start (w2 ∷ n-1 ∷ []) (negsuc 9999999) (pos 5)) n-1 ≡ Some (Node (pos 0) (pos 10000005) []))
+
+-- the way that goes there and back, twice in a relation
+abbrev pub with_return_twice : Rows Any
+with_return_twice = after_create with_return r9 (relation_of ((w3, outer) ∷ (n-2, x) ∷ (w3, x) ∷ []))
+
+-- with an element go the ways that keep one node, and out of each relation go the members that are gone; a relation
+-- stays where it keeps none, and so does a way that keeps one node twice
+unfoldable pub purged : Type 0
+purged =
+    (refused (purge_checks start n-1) ≡ None)
+    × (after_purge start n-1
+        ≡ (n-3, node_at 3) ∷ (n-2, node_at 2) ∷ (w2, way_of (n-3 ∷ n-2 ∷ [])) ∷ (r1, relation_of ((w2, outer) ∷ (w2, outer) ∷ [])) ∷ [])
+    × (row_at (after_purge with_return_twice n-1) w3 ≡ None)
+    × (row_at (after_purge with_return_twice n-1) r9 ≡ Some (relation_of ((n-2, x) ∷ [])))
+    × (row_at (after_purge with_return_twice n-2) w3 ≡ Some (way_of (n-1 ∷ n-1 ∷ [])))
+    × (row_at (after_purge with_return_twice n-2) r9 ≡ Some (relation_of ((w3, outer) ∷ (w3, x) ∷ [])))
+    × (after_purge start w2
+        ≡ (n-3, node_at 3) ∷ (n-2, node_at 2) ∷ (n-1, node_at 1) ∷ (w1, way_of (n-1 ∷ n-2 ∷ [])) ∷ (r1, relation_of ((n-1, []) ∷ (w1, outer) ∷ [])) ∷ [])
+    × (refused (purge_checks with_itself r9) ≡ None)
+    × (after_purge with_itself r9 ≡ start)
+    × (row_at (after_purge (after_create start r9 (relation_of ((w2, x) ∷ []))) w2) r9 ≡ Some (relation_of []))
+    × (refused (purge_checks start w3) ≡ Some (Absent w3))
 
 -- refusals of names, kinds, lengths and ranges
 unfoldable pub refusals : Type 0

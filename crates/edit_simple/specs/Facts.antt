@@ -6,6 +6,7 @@ pub mod Differences
 pub mod EachRow
 pub mod Lists
 pub mod Moving
+pub mod Purging
 pub mod Relisting
 pub mod Retagging
 pub mod Rewriting

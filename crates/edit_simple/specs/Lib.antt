@@ -11,6 +11,7 @@ pub mod Move
 pub mod Nodes
 pub mod Parts
 pub mod Plans
+pub mod Purge
 pub mod Retag
 pub mod Reverse
 pub mod Scenes

@@ -9,10 +9,11 @@ ghost use Rattle.osm_changes.specs.Sound.{is_sound};
 ghost use Rattle.edit_simple.specs.Checks.{first_that_holds};
 ghost use Rattle.edit_simple.specs.Create.{create_checks, after_create};
 ghost use Rattle.edit_simple.specs.Delete.{delete_checks, after_delete};
-ghost use Rattle.edit_simple.specs.Examples.{in_use, own_member, nothing, rewritten, refusals};
+ghost use Rattle.edit_simple.specs.Examples.{in_use, own_member, nothing, rewritten, purged, refusals};
 ghost use Rattle.edit_simple.specs.Members.{members_checks, after_members};
 ghost use Rattle.edit_simple.specs.Move.{move_checks, after_move};
 ghost use Rattle.edit_simple.specs.Nodes.{nodes_checks, after_nodes};
+ghost use Rattle.edit_simple.specs.Purge.{purge_checks, after_purge};
 ghost use Rattle.edit_simple.specs.Retag.{retag_checks, after_retag};
 ghost use Rattle.edit_simple.specs.Reverse.{reverse_checks, after_reverse};
 ghost use Rattle.edit_simple.specs.Tagging.{Gifts, are_gifts};
@@ -20,7 +21,7 @@ ghost use Rattle.edit_simple.specs.Tagging.{Gifts, are_gifts};
 use std::alloc::Allocator;
 
 /// An accepted action, with values as their types keep them, keeps a sound map sound, and changes it.
-#[tactic(auto, using(crate::specs::Facts::Creating::create_accepted, crate::specs::Facts::Retagging::retag_accepted, crate::specs::Facts::Moving::move_accepted, crate::specs::Facts::Relisting::reverse_accepted, crate::specs::Facts::Relisting::nodes_accepted, crate::specs::Facts::Relisting::members_accepted, crate::specs::Facts::Deleting::delete_accepted,))]
+#[tactic(auto, using(crate::specs::Facts::Creating::create_accepted, crate::specs::Facts::Retagging::retag_accepted, crate::specs::Facts::Moving::move_accepted, crate::specs::Facts::Relisting::reverse_accepted, crate::specs::Facts::Relisting::nodes_accepted, crate::specs::Facts::Relisting::members_accepted, crate::specs::Facts::Deleting::delete_accepted, crate::specs::Facts::Purging::purge_accepted,))]
 pub fn accepted_keeps_sound<A: Allocator>()
     ensures create { (m : Rows A) (x : Name) (v : Element A) → is_sound m ≡ true → is_made v ≡ true → first_that_holds (create_checks m x v) ≡ None
         → (is_sound (after_create m x v) ≡ true) × (after_create m x v ≢ m) }
@@ -36,6 +37,8 @@ pub fn accepted_keeps_sound<A: Allocator>()
         → (is_sound (after_members m r list) ≡ true) × (after_members m r list ≢ m) }
     ensures delete { (m : Rows A) (x : Name) → is_sound m ≡ true → first_that_holds (delete_checks m x) ≡ None
         → (is_sound (after_delete m x) ≡ true) × (after_delete m x ≢ m) }
+    ensures purge { (m : Rows A) (x : Name) → is_sound m ≡ true → first_that_holds (purge_checks m x) ≡ None
+        → (is_sound (after_purge m x) ≡ true) × (after_purge m x ≢ m) }
 {}
 
 /// What the definitions say of the worked examples is what was worked out by hand.
@@ -44,5 +47,6 @@ pub fn refusals_are_as_worked()
     ensures own_member { own_member }
     ensures nothing { nothing }
     ensures rewritten { rewritten }
+    ensures purged { purged }
     ensures refusals { refusals }
 {}

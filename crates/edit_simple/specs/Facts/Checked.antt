@@ -26,6 +26,10 @@ pub from_false : (b : Bool) → not b ≡ false → b ≡ true
 from_false true e = refl
 from_false false e = absurd (cc)
 
+pub from_not : (b : Bool) → not b ≡ true → b ≡ false
+from_not true e = absurd (cc)
+from_not false e = refl
+
 -- no least name, so no name
 pub no_least : {A : Type 0} (why : Name → Refusal A) (names : List Name) → the_least why names ≡ None → names ≡ []
 no_least why [] e = refl

@@ -17,6 +17,14 @@ pub or_right : (a b : Bool) → b ≡ true → (a || b) ≡ true
 or_right true b e = refl
 or_right false b e = e
 
+pub first_false : (a b : Bool) → (a || b) ≡ false → a ≡ false
+first_false true b p = p
+first_false false b p = refl
+
+pub second_false : (a b : Bool) → (a || b) ≡ false → b ≡ false
+second_false true b p = absurd (cc)
+second_false false b p = p
+
 or_false : (a : Bool) → (a || false) ≡ a
 or_false true = refl
 or_false false = refl

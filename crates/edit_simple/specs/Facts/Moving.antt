@@ -24,28 +24,16 @@ use Rattle.edit_simple.specs.Checks.{first_that_holds}
 use Rattle.edit_simple.specs.Kinds.{is_way, is_relation}
 use Rattle.edit_simple.specs.Move.{is_moved, moved_by, is_out_of_range, left_range, move_checks, after_move}
 use Rattle.edit_simple.specs.Parts.{nodes_of}
-use Rattle.edit_simple.specs.Facts.Checked.{nones, not_so, from_false, no_least}
+use Rattle.edit_simple.specs.Facts.Checked.{nones, not_so, from_false, from_not, no_least}
 use Rattle.edit_simple.specs.Facts.Deleting.{names_of_none}
 use Rattle.edit_simple.specs.Facts.Kinds.{node_there, way_there}
-use Rattle.edit_simple.specs.Facts.Lists.{or_left, or_right, is_among_own, none_left}
+use Rattle.edit_simple.specs.Facts.Lists.{or_left, or_right, first_false, second_false, is_among_own, none_left}
 use Rattle.edit_simple.specs.Facts.Relisting.{all_present}
 use Rattle.edit_simple.specs.Facts.Rewriting.{Fine, fine, each_stays_sound, each_rewrites, differs}
 
 -- where a sum is its first part, the second is 0
 pub no_distance : (z d : ℤ) → z +ℤ d ≡ z → d ≡ pos 0
 no_distance z d e = sym (+ℤ-neg_ℤ_cancel d z) ∙ ap (λ t. t -ℤ z) (+ℤ_comm d z ∙ e ∙ sym (+ℤ_idl z)) ∙ +ℤ-neg_ℤ_cancel (pos 0) z
-
-second_false : (a b : Bool) → (a || b) ≡ false → b ≡ false
-second_false true b p = absurd (cc)
-second_false false b p = p
-
-first_false : (a b : Bool) → (a || b) ≡ false → a ≡ false
-first_false true b p = p
-first_false false b p = refl
-
-from_not : (b : Bool) → not b ≡ true → b ≡ false
-from_not true e = absurd (cc)
-from_not false e = refl
 
 module _ {A : Type 0} where
   -- the row of a moved node, and any other's

@@ -1,4 +1,4 @@
-use Rattle.edit_simple.proofs.ExampleProofs.{in_use_lem, own_member_lem, nothing_lem, rewritten_lem, refusals_lem}
+use Rattle.edit_simple.proofs.ExampleProofs.{in_use_lem, own_member_lem, nothing_lem, rewritten_lem, purged_lem, refusals_lem}
 use Rattle.edit_simple.proofs.laws.refusals_are_as_worked.Goals as goal
 
 pub returns-clause-in_use : goal.returns-clause-in_use
@@ -12,6 +12,9 @@ returns-clause-nothing c = nothing_lem
 
 pub returns-clause-rewritten : goal.returns-clause-rewritten
 returns-clause-rewritten c = rewritten_lem
+
+pub returns-clause-purged : goal.returns-clause-purged
+returns-clause-purged c = purged_lem
 
 pub returns-clause-refusals : goal.returns-clause-refusals
 returns-clause-refusals c = refusals_lem

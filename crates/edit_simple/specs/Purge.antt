@@ -1,0 +1,36 @@
+-- To purge an element: it is taken away with every reference to it. (OpenStreetMap API v0.6: nothing absent is named. What goes with it is this project's.)
+use Rattle.std.specs.Prelude.{◌&&◌, ◌||◌, Bool, not, List, [], ◌∷◌, Option, length, nat_lt}
+use Rattle.std.specs.Bool.{then_some}
+use Rattle.std.specs.List.{filter}
+use Rattle.osm_elements.specs.declared.name.Name.{Name}
+use Rattle.osm_elements.specs.declared.element.Element.{Element}
+use Rattle.osm_elements.specs.Maps.{Rows, is_same, is_among, is_absent}
+use Rattle.osm_elements.specs.Rows.{row_at}
+use Rattle.edit_simple.specs.declared.refusal.Refusal.{Refusal}
+use Rattle.edit_simple.specs.declared.refusal.Refusal.TheVariants.{Absent}
+use Rattle.edit_simple.specs.Parts.{nodes_of, with_nodes, with_members, each_row}
+
+-- a list without x
+abbrev pub without : Name → List Name → List Name
+without x names = filter (λ n. not (is_same x n)) names
+
+-- x is taken from the list, and fewer than 2 are left
+abbrev pub falls_short : Name → List Name → Bool
+falls_short x nodes = is_among nodes x && nat_lt (length (without x nodes)) 2
+
+module _ {A : Type 0} where
+  -- x itself, and each way that x is taken from and that then has fewer than 2 nodes
+  abbrev pub goes : Rows A → Name → Name → Bool
+  goes m x y = is_same x y || falls_short x (nodes_of (row_at m y))
+
+  -- what is left of an element that stays: a way without x, a relation without the members that go
+  abbrev pub what_is_left : Rows A → Name → Element A → Element A
+  what_is_left m x v = with_nodes (without x) (with_members (filter (λ r. not (goes m x r.0))) v)
+
+  -- it is there
+  abbrev pub purge_checks : Rows A → Name → List (Option (Refusal A))
+  purge_checks m x = then_some (is_absent m x) (Absent x) ∷ []
+
+  -- what goes is gone, and of each other row is left what names nothing that goes
+  abbrev pub after_purge : Rows A → Name → Rows A
+  after_purge m x = each_row (λ _ v. what_is_left m x v) (filter (λ r. not (goes m x r.0)) m)
