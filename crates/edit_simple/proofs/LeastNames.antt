@@ -51,7 +51,7 @@ least-append [] x = refl
 least-append (y ∷ xs) x = ap (λ o. Some (lesser y o)) (least-append xs x) ∙ ap Some (lesser_last y x (least xs))
 
 module _ (p : Name → Bool) (names : List Name) (i : ℕ) (x : Name) (h : i < length names) (is : x ≡ get_or names i x) where
-  filter_more : filter p (take (i + 1) names) ≡ filter p (take i names) ++ cond (p x) (x ∷ []) []
+  pub filter_more : filter p (take (i + 1) names) ≡ filter p (take i names) ++ cond (p x) (x ∷ []) []
   filter_more = ap (filter p) (take_more names i x h ∙ ap (λ y. take i names ++ y ∷ []) (sym is)) ∙ filter-append p (take i names) (x ∷ [])
 
   -- the least of the names that pass, where the next name passes

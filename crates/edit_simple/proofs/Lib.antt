@@ -1,4 +1,5 @@
 pub mod Alike
+pub mod ChangesInTurn
 mod ExampleProofs
 pub mod FirstUsers
 pub mod GivenPlaces
@@ -8,7 +9,10 @@ pub mod MemberNames
 pub mod MoveLoops
 pub mod MovePlans
 pub mod NameSets
+pub mod PassingRows
 pub mod Planned
+pub mod PurgeLoops
+pub mod PurgePlans
 pub mod Relisted
 pub mod RetagPlans
 pub mod Retagged

@@ -1,6 +1,6 @@
 -- Moves of nodes one by one.
-use Rattle.std.proofs.Common.{◌≡◌, ◌≢◌, ◌⊎◌, ◌<◌, ◌+◌, ◌+ℤ◌, ℕ, ℤ, pos, zero, suc, Bool, true, false, not, ◌&&◌, T, All, List, [], ◌∷◌, ◌++◌, Option, Some, None, Result, Ok, Err, inl, inr, is_some, neg_ℤ, int_le, length, map, take, drop, get_or, refl, sym, ap, subst, ◌∙◌, cond, arith}
-use Rattle.std.proofs.lemmas.List.{take_more, map-append, take-append-drop}
+use Rattle.std.proofs.Common.{◌≡◌, ◌≢◌, ◌⊎◌, ◌<◌, ◌+◌, ◌+ℤ◌, ℕ, ℤ, pos, zero, suc, Bool, true, false, not, ◌&&◌, T, List, [], ◌∷◌, ◌++◌, Option, Some, None, Result, Ok, Err, inl, inr, is_some, neg_ℤ, int_le, length, map, take, drop, get_or, refl, sym, ap, subst, ◌∙◌, cond, arith}
+use Rattle.std.proofs.lemmas.List.{take_more, take-append-drop}
 use Rattle.std.proofs.lemmas.List.Elements.{filter-append}
 use Rattle.std.specs.List.{list_all}
 use Rattle.std.specs.Option.{option_map}
@@ -17,37 +17,23 @@ use Rattle.osm_elements.specs.NameOrder.{name_cmp}
 use Rattle.osm_elements.specs.Maps.{Rows, least, lesser}
 use Rattle.osm_elements.specs.Rows.{row_at}
 use Rattle.osm_elements.specs.TagRows.{Pairs}
-use Rattle.osm_elements.specs.Facts.Entries.{both, first, second}
+use Rattle.osm_elements.specs.Facts.Entries.{first, second}
 use Rattle.osm_elements.specs.Facts.Tests.{first_true, second_true}
 use Rattle.osm_refs.specs.Facts.RisingNames.{IsRising-filter}
 use Rattle.osm_refs.specs.Inner.Rising.{IsRising, bare_rows}
 use Rattle.osm_changes.specs.declared.change.Change.{Change}
-use Rattle.osm_changes.specs.Changes.{changed_names, AreChanges}
+use Rattle.osm_changes.specs.Changes.{AreChanges}
 use Rattle.edit_simple.specs.declared.refusal.Refusal.{Refusal}
 use Rattle.edit_simple.specs.declared.refusal.Refusal.TheVariants.{OutOfRange, Memory}
 use Rattle.edit_simple.specs.Inner.Moving.{row_leaves, moved_change}
 use Rattle.edit_simple.specs.Inner.Moves.{is_node_row, MayMove, leaving}
 use Rattle.edit_simple.specs.Move.{moved_by}
+use Rattle.edit_simple.specs.Facts.Lists.{all_listed}
 use Rattle.edit_simple.specs.Facts.Moving.{elsewhere}
 use Rattle.edit_simple.proofs.Alike.{here}
+use Rattle.edit_simple.proofs.ChangesInTurn.{one_fits}
 use Rattle.edit_simple.proofs.FirstUsers.{min_below}
 use Rattle.edit_simple.proofs.LeastNames.{min_assoc}
-
--- ---- the front of a rising list rises
-
-below-take : (x : Name) (xs : List Name) (i : ℕ) → T (below_all name_cmp x (bare_rows xs)) → T (below_all name_cmp x (bare_rows (take i xs)))
-below-take x xs zero h = tt
-below-take x [] (suc i) h = tt
-below-take x (y ∷ ys) (suc i) h =
-    both (is_lt (name_cmp x y)) (below_all name_cmp x (bare_rows (take i ys))) (first (is_lt (name_cmp x y)) (below_all name_cmp x (bare_rows ys)) h)
-    (below-take x ys i (second (is_lt (name_cmp x y)) (below_all name_cmp x (bare_rows ys)) h))
-
-pub IsRising-take : (xs : List Name) (i : ℕ) → IsRising xs → IsRising (take i xs)
-IsRising-take xs zero h = tt
-IsRising-take [] (suc i) h = tt
-IsRising-take (y ∷ ys) (suc i) h =
-    both (below_all name_cmp y (bare_rows (take i ys))) (is_sorted name_cmp (bare_rows (take i ys))) (below-take y ys i (first (below_all name_cmp y (bare_rows ys)) (is_sorted name_cmp (bare_rows ys)) h))
-    (IsRising-take ys i (second (below_all name_cmp y (bare_rows ys)) (is_sorted name_cmp (bare_rows ys)) h))
 
 -- ---- the first of a rising list is the least
 
@@ -76,39 +62,17 @@ all_at p (y ∷ ys) zero x h l is = ap p is ∙ first_true (p y) (list_all p ys)
 all_at p (y ∷ ys) (suc i) x h l is = all_at p ys i x (second_true (p y) (list_all p ys) h) (omega (arith, l)) is
 
 module _ {A : Type 0} (m : Rows A) (dlat dlon : ℤ) where
-  change : Name → Change A
-  change = moved_change m dlat dlon
-
-  names_of_changes : (xs : List Name) → changed_names (map (moved_change m dlat dlon) xs) ≡ xs
-  names_of_changes [] = refl
-  names_of_changes (x ∷ xs) = ap (λ l. x ∷ l) (names_of_changes xs)
-
   pub moved_apart : (o : Option (Element A)) → (int_eq dlat (pos 0) && int_eq dlon (pos 0)) ≡ false → is_node_row o ≡ true → option_map (moved_by dlat dlon) o ≢ o
   moved_apart None far h = absurd (cc)
   moved_apart (Some (Node lat lon tags)) far h = elsewhere lat lon dlat dlon tags far
   moved_apart (Some (Way nodes tags)) far h = absurd (cc)
   moved_apart (Some (Relation members tags)) far h = absurd (cc)
 
-  all_differ : (xs : List Name) → (int_eq dlat (pos 0) && int_eq dlon (pos 0)) ≡ false → list_all (λ y. is_node_row (row_at m y)) xs ≡ true → All (λ (c : Change A). c.after ≢ c.before) (map (moved_change m dlat dlon) xs)
-  all_differ [] far h i d l = absurd (omega (arith, l))
-  all_differ (x ∷ xs) far h zero d l = moved_apart (row_at m x) far (first_true (is_node_row (row_at m x)) (list_all (λ y. is_node_row (row_at m y)) xs) h)
-  all_differ (x ∷ xs) far h (suc i) d l = all_differ xs far (second_true (is_node_row (row_at m x)) (list_all (λ y. is_node_row (row_at m y)) xs) h) i d (omega (arith, l))
-
-  are_changes : (xs : List Name) → MayMove m xs dlat dlon → AreChanges (map (moved_change m dlat dlon) xs)
-  are_changes xs h = record { rising = subst IsRising (sym (names_of_changes xs)) h.rising; differ = all_differ xs h.distance h.there }
-
-  may_take : (xs : List Name) (i : ℕ) → MayMove m xs dlat dlon → MayMove m (take i xs) dlat dlon
-  may_take xs i h = record { rising = IsRising-take xs i h.rising; there = all_take (λ y. is_node_row (row_at m y)) xs i h.there; distance = h.distance }
-
   -- one more change
   module _ (xs : List Name) (i : ℕ) (x : Name) (l : i < length xs) (is : x ≡ get_or xs i x) where
-    pub changes_more : (cs : List (Change A)) (c : Change A) → cs ≡ map (moved_change m dlat dlon) (take i xs) → c ≡ moved_change m dlat dlon x → cs ++ c ∷ [] ≡ map (moved_change m dlat dlon) (take (i + 1) xs)
-    changes_more cs c e f =
-        (λ j. e j ++ f j ∷ []) ∙ sym (map-append (moved_change m dlat dlon) (take i xs) (x ∷ [])) ∙ ap (λ y. map (moved_change m dlat dlon) (take i xs ++ y ∷ [])) is
-        ∙ ap (map (moved_change m dlat dlon)) (sym (take_more xs i x l))
-
     pub push_fits : (cs : List (Change A)) (c : Change A) → MayMove m xs dlat dlon → cs ≡ map (moved_change m dlat dlon) (take i xs) → c ≡ moved_change m dlat dlon x → AreChanges (cs ++ c ∷ [])
-    push_fits cs c h e f = subst (λ ds. AreChanges ds) (sym (changes_more cs c e f)) (are_changes (take (i + 1) xs) (may_take xs (i + 1) h))
+    push_fits cs c h e f =
+        one_fits (moved_change m dlat dlon) (λ y. refl) xs i x l is h.rising (λ y k. moved_apart (row_at m y) h.distance (all_listed (λ z. is_node_row (row_at m z)) xs y h.there k)) cs c e f
 
     pub none_more : leaving m dlat dlon (take i xs) ≡ [] → row_leaves dlat dlon (row_at m x) ≡ false → leaving m dlat dlon (take (i + 1) xs) ≡ []
     none_more none stays =

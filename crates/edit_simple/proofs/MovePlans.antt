@@ -1,5 +1,5 @@
 -- Plans of moves.
-use Rattle.std.proofs.Common.{◌≡◌, ◌+ℤ◌, ℤ, pos, Bool, true, false, not, ◌&&◌, ◌||◌, T, List, [], ◌∷◌, Option, Some, None, Result, Ok, Err, inl, inr, is_some, length, map, nat_eq, arith, refl, sym, ap, ◌∙◌, cond}
+use Rattle.std.proofs.Common.{◌≡◌, ◌+ℤ◌, ℤ, pos, Bool, true, false, not, ◌&&◌, ◌||◌, List, [], ◌∷◌, Option, Some, None, Result, Ok, Err, inl, inr, is_some, length, map, nat_eq, arith, refl, sym, ap, ◌∙◌, cond}
 use Rattle.std.proofs.Math.IntN.{+ℤ_idr}
 use Rattle.std.proofs.lemmas.Bool.Decides.{nat_tests}
 use Rattle.std.specs.Bool.{then_some}
@@ -8,22 +8,18 @@ use Rattle.osm_coords.specs.Latitude.{latitude}
 use Rattle.osm_coords.specs.Longitude.{longitude}
 use Rattle.std.specs.List.{filter, list_any, list_all}
 use Rattle.std.specs.Option.{option_map}
-use Rattle.std.specs.Ordering.{int_eq, int_cmp, is_lt}
-use Rattle.std.specs.FinMap.Entries.{is_sorted, below_all}
+use Rattle.std.specs.Ordering.{int_eq, int_cmp}
 use Rattle.osm_elements.specs.declared.name.Name.{Name}
 use Rattle.osm_elements.specs.declared.element.Element.{Element}
 use Rattle.osm_elements.specs.declared.element.Element.TheVariants.{Node, Way, Relation}
 use Rattle.osm_elements.specs.Made.{is_node, are_nodes}
-use Rattle.osm_elements.specs.Maps.{Rows, is_same, is_among, is_present, is_absent, least, name_set, names_of}
-use Rattle.osm_elements.specs.NameOrder.{name_cmp}
-use Rattle.osm_elements.specs.Rows.{AreInOrder, row_at}
+use Rattle.osm_elements.specs.Maps.{Rows, is_same, is_among, is_present, is_absent, least, name_set}
+use Rattle.osm_elements.specs.Rows.{row_at}
 use Rattle.osm_elements.specs.TagRows.{are_tags}
 use Rattle.osm_elements.specs.Facts.Among.{is_among-name_set, is_among-append}
-use Rattle.osm_elements.specs.Facts.Entries.{both, first, second, find_below}
-use Rattle.osm_elements.specs.Facts.Rows.{same, same_names, row_at_is_find}
+use Rattle.osm_elements.specs.Facts.Rows.{same, same_names}
 use Rattle.osm_elements.specs.Facts.Tests.{first_true, second_true}
 use Rattle.osm_refs.specs.Facts.RisingNames.{same_rising, IsRising-filter, IsRising-name_set, is_among-passing}
-use Rattle.osm_refs.specs.Inner.Rising.{IsRising, bare_rows}
 use Rattle.osm_changes.specs.declared.change.Change.{Change}
 use Rattle.osm_changes.specs.Changes.{differences}
 use Rattle.osm_changes.specs.SameRows.{is_same_row}
@@ -42,11 +38,12 @@ use Rattle.edit_simple.specs.Plans.{IsPlan}
 use Rattle.edit_simple.specs.Facts.Differences.{differing_are, apart_rows}
 use Rattle.edit_simple.specs.Facts.EachRow.{row_at-each_row}
 use Rattle.edit_simple.specs.Facts.Kinds.{sound_kind, node_there}
-use Rattle.edit_simple.specs.Facts.Lists.{or_right, is_among_own, all_listed, all_from}
+use Rattle.edit_simple.specs.Facts.Lists.{is_among_own, all_listed, all_from}
 use Rattle.edit_simple.specs.Facts.Moving.{moves}
 use Rattle.edit_simple.specs.Facts.Relisting.{all_present}
 use Rattle.edit_simple.specs.Facts.Rewriting.{fine}
 use Rattle.edit_simple.proofs.MoveLoops.{moved_apart}
+use Rattle.edit_simple.proofs.PassingRows.{map_same, passes_at, among_rows, rising_names}
 
 apart : (a s t u v : Bool) → (a && ((s || u) || (t || v))) ≡ ((a && (s || t)) || (a && (u || v)))
 apart false s t u v = refl
@@ -55,52 +52,6 @@ apart true false true true v = refl
 apart true false true false v = refl
 apart true false false true v = refl
 apart true false false false v = refl
-
-module _ {X : Type 0} (f g : Name → X) where
-  map_same : (xs : List Name) → ((y : Name) → is_among xs y ≡ true → f y ≡ g y) → map f xs ≡ map g xs
-  map_same [] h = refl
-  map_same (x ∷ xs) h =
-      let own = h x (is_among_own x xs) in
-      let rest = map_same xs (λ y i. h y (or_right (is_same y x) (is_among xs y) i)) in
-      λ i. own i ∷ rest i
-
-module _ {A : Type 0} where
-  -- whether a row is there and passes
-  abbrev passes_at : (Name × Element A → Bool) → Name → Option (Element A) → Bool
-  passes_at p y None = false
-  passes_at p y (Some v) = p (y, v)
-
-  below_names : (p : Name × Element A → Bool) (x : Name) (es : Rows A) → T (below_all name_cmp x es) → T (below_all name_cmp x (bare_rows (names_of (filter p es))))
-  below_names p x [] h = tt
-  below_names p x (e ∷ es) h = by (p e) (below_names p x es (second (is_lt (name_cmp x e.0)) (below_all name_cmp x es) h))
-    where
-      by : (b : Bool) → T (below_all name_cmp x (bare_rows (names_of (filter p es)))) → T (below_all name_cmp x (bare_rows (names_of (cond b (e ∷ filter p es) (filter p es)))))
-      by true i = both (is_lt (name_cmp x e.0)) (below_all name_cmp x (bare_rows (names_of (filter p es)))) (first (is_lt (name_cmp x e.0)) (below_all name_cmp x es) h) i
-      by false i = i
-
-  -- the names of the rows that pass rise
-  rising_names : (p : Name × Element A → Bool) (es : Rows A) → AreInOrder es → IsRising (names_of (filter p es))
-  rising_names p [] h = tt
-  rising_names p (e ∷ es) h = by (p e) (rising_names p es (second (below_all name_cmp e.0 es) (is_sorted name_cmp es) h))
-    where
-      by : (b : Bool) → IsRising (names_of (filter p es)) → IsRising (names_of (cond b (e ∷ filter p es) (filter p es)))
-      by true i = both (below_all name_cmp e.0 (bare_rows (names_of (filter p es)))) (is_sorted name_cmp (bare_rows (names_of (filter p es)))) (below_names p e.0 es (first (below_all name_cmp e.0 es) (is_sorted name_cmp es) h)) i
-      by false i = i
-
-  -- the names of the rows that pass are those of rows that are there and pass
-  among_rows : (p : Name × Element A → Bool) (es : Rows A) → AreInOrder es → (y : Name) → is_among (names_of (filter p es)) y ≡ passes_at p y (row_at es y)
-  among_rows p [] h y = refl
-  among_rows p (e ∷ es) h y = by (is_same y e.0) refl (p e) refl (among_rows p es (second (below_all name_cmp e.0 es) (is_sorted name_cmp es) h) y)
-    where
-      none : is_same y e.0 ≡ true → passes_at p y (row_at es y) ≡ false
-      none s = ap (passes_at p y) (ap (row_at es) (same_names y e.0 s) ∙ row_at_is_find es e.0 ∙ find_below name_cmp e.0 es (first (below_all name_cmp e.0 es) (is_sorted name_cmp es) h))
-
-      by : (s : Bool) → is_same y e.0 ≡ s → (b : Bool) → p e ≡ b → is_among (names_of (filter p es)) y ≡ passes_at p y (row_at es y)
-          → is_among (names_of (cond b (e ∷ filter p es) (filter p es))) y ≡ passes_at p y (cond s (Some e.1) (row_at es y))
-      by true f true g i = ap (λ b. b || is_among (names_of (filter p es)) y) f ∙ sym g ∙ ap (λ z. p (z, e.1)) (sym (same_names y e.0 f))
-      by true f false g i = i ∙ none f ∙ sym g ∙ ap (λ z. p (z, e.1)) (sym (same_names y e.0 f))
-      by false f true g i = ap (λ b. b || is_among (names_of (filter p es)) y) f ∙ i
-      by false f false g i = i
 
 module _ {A : Type 0} (m : Rows A) (sound : is_sound m ≡ true) where
   -- the nodes that one listed name moves

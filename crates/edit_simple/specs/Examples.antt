@@ -65,13 +65,13 @@ unfoldable pub purged : Type 0
 purged =
     (refused (purge_checks start n-1) ≡ None)
     × (after_purge start n-1
-        ≡ (n-3, node_at 3) ∷ (n-2, node_at 2) ∷ (w2, way_of (n-3 ∷ n-2 ∷ [])) ∷ (r1, relation_of ((w2, outer) ∷ (w2, outer) ∷ [])) ∷ [])
+    ≡ (n-3, node_at 3) ∷ (n-2, node_at 2) ∷ (w2, way_of (n-3 ∷ n-2 ∷ [])) ∷ (r1, relation_of ((w2, outer) ∷ (w2, outer) ∷ [])) ∷ [])
     × (row_at (after_purge with_return_twice n-1) w3 ≡ None)
     × (row_at (after_purge with_return_twice n-1) r9 ≡ Some (relation_of ((n-2, x) ∷ [])))
     × (row_at (after_purge with_return_twice n-2) w3 ≡ Some (way_of (n-1 ∷ n-1 ∷ [])))
     × (row_at (after_purge with_return_twice n-2) r9 ≡ Some (relation_of ((w3, outer) ∷ (w3, x) ∷ [])))
     × (after_purge start w2
-        ≡ (n-3, node_at 3) ∷ (n-2, node_at 2) ∷ (n-1, node_at 1) ∷ (w1, way_of (n-1 ∷ n-2 ∷ [])) ∷ (r1, relation_of ((n-1, []) ∷ (w1, outer) ∷ [])) ∷ [])
+    ≡ (n-3, node_at 3) ∷ (n-2, node_at 2) ∷ (n-1, node_at 1) ∷ (w1, way_of (n-1 ∷ n-2 ∷ [])) ∷ (r1, relation_of ((n-1, []) ∷ (w1, outer) ∷ [])) ∷ [])
     × (refused (purge_checks with_itself r9) ≡ None)
     × (after_purge with_itself r9 ≡ start)
     × (row_at (after_purge (after_create start r9 (relation_of ((w2, x) ∷ []))) w2) r9 ≡ Some (relation_of []))

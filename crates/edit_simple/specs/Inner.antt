@@ -4,4 +4,5 @@ pub mod Moves
 pub mod Moving
 pub mod Passing
 pub mod Places
+pub mod Purging
 pub mod Retagging

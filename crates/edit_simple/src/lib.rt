@@ -1,4 +1,4 @@
-//! The actions on single elements: create, retag, move, reverse, nodes, members and delete.
+//! The actions on single elements: create, retag, move, reverse, nodes, members, delete and purge.
 #![tactic(auto)]
 
 mod changing;
@@ -9,6 +9,7 @@ pub mod limits;
 mod lookup;
 mod moving;
 pub mod plans;
+mod purge;
 pub mod refusal;
 mod relist;
 pub mod retag;

@@ -8,12 +8,13 @@ ghost use Rattle.edit_simple.specs.Members.{members_checks, after_members};
 ghost use Rattle.edit_simple.specs.Move.{move_checks, after_move};
 ghost use Rattle.edit_simple.specs.Nodes.{nodes_checks, after_nodes};
 ghost use Rattle.edit_simple.specs.Plans.{IsPlan};
+ghost use Rattle.edit_simple.specs.Purge.{purge_checks, after_purge};
 ghost use Rattle.edit_simple.specs.Retag.{retag_checks, after_retag};
 ghost use Rattle.edit_simple.specs.Reverse.{reverse_checks, after_reverse};
 
 use crate::refusal::Refusal;
 use crate::retag::Retag;
-use crate::{create, delete, moving, relist, retagging};
+use crate::{create, delete, moving, purge, relist, retagging};
 use osm_changes::changes::Changes;
 use osm_changes::store::Store;
 use osm_elements::element::Element;
@@ -120,4 +121,19 @@ pub fn plan_delete<A: Allocator + Clone>(
     ensures { IsPlan store.now.rows (delete_checks store.now.rows name.now) (after_delete store.now.rows name.now) result }
 {
     delete::plan(alloc, store.map(), store.users().of(name), name)
+}
+
+/// Plans to take an element away with every reference to it. The other ways lose their references to it; one that loses
+/// any and keeps fewer than 2 nodes goes too (OpenStreetMap wiki, "Elements": a way has at least 2). The other relations
+/// lose the members that name what goes; no relation goes for that. It refuses `Absent` where the name is not there
+/// (OpenStreetMap API v0.6: nothing absent is named). It looks at the element's users, and at the users of each way that
+/// goes, and sorts their names; it looks at no other element.
+pub fn plan_purge<A: Allocator + Clone>(
+    alloc: A,
+    store: &Store<A>,
+    name: &Name,
+) -> Result<Changes<A>, Refusal<A>>
+    ensures { IsPlan store.now.rows (purge_checks store.now.rows name.now) (after_purge store.now.rows name.now) result }
+{
+    purge::plan(alloc, store.map(), store.users(), name)
 }

@@ -33,7 +33,7 @@ use Rattle.edit_simple.specs.Facts.Rewriting.{Fine, fine, Rewrites, stays_sound,
 
 -- ---- lists of which some are left out
 
-shorter : {X : Type 0} (p : X → Bool) (xs : List X) → length (filter p xs) ≤ length xs
+pub shorter : {X : Type 0} (p : X → Bool) (xs : List X) → length (filter p xs) ≤ length xs
 shorter p [] = omega arith
 shorter p (x ∷ xs) = by (p x) (shorter p xs)
   where

@@ -1,0 +1,61 @@
+-- The names of the rows that pass a test.
+use Rattle.std.proofs.Common.{◌≡◌, ◌||◌, Bool, true, false, T, List, [], ◌∷◌, Option, Some, None, map, refl, sym, ap, ◌∙◌, cond}
+use Rattle.std.specs.List.{filter}
+use Rattle.std.specs.Ordering.{is_lt}
+use Rattle.std.specs.FinMap.Entries.{is_sorted, below_all}
+use Rattle.osm_elements.specs.declared.name.Name.{Name}
+use Rattle.osm_elements.specs.declared.element.Element.{Element}
+use Rattle.osm_elements.specs.Maps.{Rows, is_same, is_among, names_of}
+use Rattle.osm_elements.specs.NameOrder.{name_cmp}
+use Rattle.osm_elements.specs.Rows.{AreInOrder, row_at}
+use Rattle.osm_elements.specs.Facts.Entries.{both, first, second, find_below}
+use Rattle.osm_elements.specs.Facts.Rows.{same_names, row_at_is_find}
+use Rattle.osm_refs.specs.Inner.Rising.{IsRising, bare_rows}
+use Rattle.edit_simple.specs.Facts.Lists.{or_right, is_among_own}
+
+-- lists that are the same where they are looked at
+module _ {X : Type 0} (f g : Name → X) where
+  pub map_same : (xs : List Name) → ((y : Name) → is_among xs y ≡ true → f y ≡ g y) → map f xs ≡ map g xs
+  map_same [] h = refl
+  map_same (x ∷ xs) h =
+      let own = h x (is_among_own x xs) in
+      let rest = map_same xs (λ y i. h y (or_right (is_same y x) (is_among xs y) i)) in
+      λ i. own i ∷ rest i
+
+module _ {A : Type 0} where
+  -- whether a row is there and passes
+  abbrev pub passes_at : (Name × Element A → Bool) → Name → Option (Element A) → Bool
+  passes_at p y None = false
+  passes_at p y (Some v) = p (y, v)
+
+  below_names : (p : Name × Element A → Bool) (x : Name) (es : Rows A) → T (below_all name_cmp x es) → T (below_all name_cmp x (bare_rows (names_of (filter p es))))
+  below_names p x [] h = tt
+  below_names p x (e ∷ es) h = by (p e) (below_names p x es (second (is_lt (name_cmp x e.0)) (below_all name_cmp x es) h))
+    where
+      by : (b : Bool) → T (below_all name_cmp x (bare_rows (names_of (filter p es)))) → T (below_all name_cmp x (bare_rows (names_of (cond b (e ∷ filter p es) (filter p es)))))
+      by true i = both (is_lt (name_cmp x e.0)) (below_all name_cmp x (bare_rows (names_of (filter p es)))) (first (is_lt (name_cmp x e.0)) (below_all name_cmp x es) h) i
+      by false i = i
+
+  -- the names of the rows that pass rise
+  pub rising_names : (p : Name × Element A → Bool) (es : Rows A) → AreInOrder es → IsRising (names_of (filter p es))
+  rising_names p [] h = tt
+  rising_names p (e ∷ es) h = by (p e) (rising_names p es (second (below_all name_cmp e.0 es) (is_sorted name_cmp es) h))
+    where
+      by : (b : Bool) → IsRising (names_of (filter p es)) → IsRising (names_of (cond b (e ∷ filter p es) (filter p es)))
+      by true i = both (below_all name_cmp e.0 (bare_rows (names_of (filter p es)))) (is_sorted name_cmp (bare_rows (names_of (filter p es)))) (below_names p e.0 es (first (below_all name_cmp e.0 es) (is_sorted name_cmp es) h)) i
+      by false i = i
+
+  -- the names of the rows that pass are those of rows that are there and pass
+  pub among_rows : (p : Name × Element A → Bool) (es : Rows A) → AreInOrder es → (y : Name) → is_among (names_of (filter p es)) y ≡ passes_at p y (row_at es y)
+  among_rows p [] h y = refl
+  among_rows p (e ∷ es) h y = by (is_same y e.0) refl (p e) refl (among_rows p es (second (below_all name_cmp e.0 es) (is_sorted name_cmp es) h) y)
+    where
+      none : is_same y e.0 ≡ true → passes_at p y (row_at es y) ≡ false
+      none s = ap (passes_at p y) (ap (row_at es) (same_names y e.0 s) ∙ row_at_is_find es e.0 ∙ find_below name_cmp e.0 es (first (below_all name_cmp e.0 es) (is_sorted name_cmp es) h))
+
+      by : (s : Bool) → is_same y e.0 ≡ s → (b : Bool) → p e ≡ b → is_among (names_of (filter p es)) y ≡ passes_at p y (row_at es y)
+          → is_among (names_of (cond b (e ∷ filter p es) (filter p es))) y ≡ passes_at p y (cond s (Some e.1) (row_at es y))
+      by true f true g i = ap (λ b. b || is_among (names_of (filter p es)) y) f ∙ sym g ∙ ap (λ z. p (z, e.1)) (sym (same_names y e.0 f))
+      by true f false g i = i ∙ none f ∙ sym g ∙ ap (λ z. p (z, e.1)) (sym (same_names y e.0 f))
+      by false f true g i = ap (λ b. b || is_among (names_of (filter p es)) y) f ∙ i
+      by false f false g i = i

@@ -1,0 +1,242 @@
+-- Plans of purges: which rows change, and what they become.
+use Rattle.std.proofs.Common.{◌≡◌, ◌≢◌, ℕ, Bool, true, false, not, ◌&&◌, ◌||◌, List, [], ◌∷◌, Option, Some, None, Ok, is_some, length, map, nat_lt, refl, sym, ap, subst, ◌∙◌, cond}
+use Rattle.std.specs.Bool.{then_some}
+use Rattle.std.specs.List.{filter, flat_map}
+use Rattle.std.specs.Option.{option_map}
+use Rattle.osm_elements.specs.declared.name.Name.{Name}
+use Rattle.osm_elements.specs.declared.element.Element.{Element}
+use Rattle.osm_elements.specs.declared.element.Element.TheVariants.{Node, Way, Relation}
+use Rattle.osm_elements.specs.Maps.{Rows, is_same, is_among, is_present, name_set}
+use Rattle.osm_elements.specs.Rows.{row_at}
+use Rattle.osm_elements.specs.Facts.Among.{is_among-name_set, is_among-append}
+use Rattle.osm_elements.specs.Facts.Dropped.{same_either_way}
+use Rattle.osm_elements.specs.Facts.Rows.{same_names}
+use Rattle.osm_elements.specs.Facts.Tests.{first_true}
+use Rattle.osm_refs.specs.References.{refers_to, users}
+use Rattle.osm_refs.specs.Tables.{UsersState, users_in, table_of}
+use Rattle.osm_refs.specs.Facts.MapTables.{users_in-table_of}
+use Rattle.osm_refs.specs.Facts.RisingNames.{IsRising-name_set, is_among-passing}
+use Rattle.osm_changes.specs.declared.change.Change.{Change}
+use Rattle.osm_changes.specs.Changes.{differences}
+use Rattle.osm_changes.specs.Inner.Stores.{users_of}
+use Rattle.osm_changes.specs.SameRows.{is_same_row}
+use Rattle.osm_changes.specs.Sound.{is_sound}
+use Rattle.osm_changes.specs.Facts.Differing.{same_row}
+use Rattle.osm_changes.specs.Facts.SoundRows.{sound_in_order}
+use Rattle.edit_simple.specs.declared.refusal.Refusal.TheVariants.{Absent}
+use Rattle.edit_simple.specs.Checks.{first_that_holds}
+use Rattle.edit_simple.specs.Inner.Purging.{all_gone, all_reached, row_left, purged_change, MayPurge}
+use Rattle.edit_simple.specs.Parts.{nodes_of, with_nodes, with_members}
+use Rattle.edit_simple.specs.Plans.{IsPlan}
+use Rattle.edit_simple.specs.Purge.{without, falls_short, goes, what_is_left, purge_checks, after_purge}
+use Rattle.edit_simple.specs.Facts.Differences.{differing_are, apart_rows}
+use Rattle.edit_simple.specs.Facts.Lists.{or_left, or_right, is_among_own, all_from}
+use Rattle.edit_simple.specs.Facts.Purging.{row_at-after_purge, x_goes, is_gone, purge_sound, without_none}
+use Rattle.edit_simple.specs.Facts.Rewriting.{fine}
+use Rattle.edit_simple.proofs.PassingRows.{map_same, passes_at, among_rows}
+
+-- ---- lists of lists
+
+from_flat_map : (f : Name → List Name) (xs : List Name) (y : Name) → is_among (flat_map f xs) y ≡ true → (u : Name) × (is_among xs u ≡ true) × (is_among (f u) y ≡ true)
+from_flat_map f [] y h = absurd (cc)
+from_flat_map f (x ∷ xs) y h = by (is_among (f x) y) refl (sym (is_among-append y (f x) (flat_map f xs)) ∙ h) (from_flat_map f xs y)
+  where
+    by : (b : Bool) → is_among (f x) y ≡ b → (b || is_among (flat_map f xs) y) ≡ true
+        → (is_among (flat_map f xs) y ≡ true → (u : Name) × (is_among xs u ≡ true) × (is_among (f u) y ≡ true)) → (u : Name) × (is_among (x ∷ xs) u ≡ true) × (is_among (f u) y ≡ true)
+    by true e g rest = (x, is_among_own x xs, e)
+    by false e g rest = let r = rest g in (r.0, or_right (is_same r.0 x) (is_among xs r.0) r.1, r.2)
+
+to_flat_map : (f : Name → List Name) (xs : List Name) (u y : Name) → is_among xs u ≡ true → is_among (f u) y ≡ true → is_among (flat_map f xs) y ≡ true
+to_flat_map f [] u y i j = absurd (cc)
+to_flat_map f (x ∷ xs) u y i j = is_among-append y (f x) (flat_map f xs) ∙ by (is_same u x) refl i (to_flat_map f xs u y)
+  where
+    by : (b : Bool) → is_same u x ≡ b → (b || is_among xs u) ≡ true → (is_among xs u ≡ true → is_among (f u) y ≡ true → is_among (flat_map f xs) y ≡ true)
+        → (is_among (f x) y || is_among (flat_map f xs) y) ≡ true
+    by true s k rest = or_left (is_among (f x) y) (is_among (flat_map f xs) y) (ap (λ z. is_among (f z) y) (sym (same_names u x s)) ∙ j)
+    by false s k rest = or_right (is_among (f x) y) (is_among (flat_map f xs) y) (rest k j)
+
+-- where all names pass, all members are left
+members_stay : (p : Name → Bool) (members : List (Name × List ℕ)) → ((e : Name) → is_among (map (λ r. r.0) members) e ≡ true → p e ≡ true) → filter (λ r. p r.0) members ≡ members
+members_stay p [] h = refl
+members_stay p (r ∷ members) h =
+    ap (λ b. cond b (r ∷ filter (λ s. p s.0) members) (filter (λ s. p s.0) members)) (h r.0 (is_among_own r.0 (map (λ s. s.0) members)))
+    ∙ ap (λ l. r ∷ l) (members_stay p members (λ e i. h e (or_right (is_same e r.0) (is_among (map (λ s. s.0) members) e) i)))
+
+module _ {A : Type 0} (m : Rows A) (x : Name) (sound : is_sound m ≡ true) where
+  -- ---- users
+
+  among_users : (e y : Name) → is_among (users m e) y ≡ passes_at (λ r. refers_to r.1 e) y (row_at m y)
+  among_users e y = among_rows (λ r. refers_to r.1 e) m (sound_in_order m sound) y
+
+  user_there : (e y : Name) → is_among (users m e) y ≡ true → is_present m y ≡ true
+  user_there e y uses = by (row_at m y) (sym (among_users e y) ∙ uses)
+    where
+      by : (o : Option (Element A)) → passes_at (λ r. refers_to r.1 e) y o ≡ true → is_some o ≡ true
+      by None h = absurd (cc)
+      by (Some v) h = refl
+
+  -- a way that falls short is a user
+  short_is_user : (e : Name) → falls_short x (nodes_of (row_at m e)) ≡ true → is_among (users m x) e ≡ true
+  short_is_user e short = among_users x e ∙ by (row_at m e) short
+    where
+      by : (o : Option (Element A)) → falls_short x (nodes_of o) ≡ true → passes_at (λ r. refers_to r.1 x) e o ≡ true
+      by None h = absurd (cc)
+      by (Some (Node lat lon tags)) h = absurd (cc)
+      by (Some (Way nodes tags)) h = first_true (is_among nodes x) (nat_lt (length (without x nodes)) 2) h
+      by (Some (Relation members tags)) h = absurd (cc)
+
+  -- a row that refers to what goes becomes another: the map after is sound
+  user_changes : (e y : Name) → goes m x e ≡ true → is_among (users m e) y ≡ true → row_at (after_purge m x) y ≢ row_at m y
+  user_changes e y gone uses same = by (row_at m y) refl (sym (among_users e y) ∙ uses)
+    where
+      by : (o : Option (Element A)) → row_at m y ≡ o → passes_at (λ r. refers_to r.1 e) y o ≡ true → ⊥
+      by None is h = cc
+      by (Some v) is h = cc (sym ((fine (after_purge m x) (purge_sound m x sound) y v (same ∙ is)).refs e h) ∙ ap is_some (is_gone m x e gone))
+
+  -- ---- what goes
+
+  abbrev gone : List Name
+  gone = name_set (all_gone m (users m x) x)
+
+  gone_is : (e : Name) → is_among gone e ≡ goes m x e
+  gone_is e =
+      is_among-name_set e (all_gone m (users m x) x) ∙ (λ i. same_either_way e x i || is_among-passing (λ u. falls_short x (nodes_of (row_at m u))) (users m x) e i)
+      ∙ ap (λ b. is_same x e || b) (by (falls_short x (nodes_of (row_at m e))) refl)
+    where
+      by : (b : Bool) → falls_short x (nodes_of (row_at m e)) ≡ b → (b && is_among (users m x) e) ≡ b
+      by true h = short_is_user e h
+      by false h = refl
+
+  row_is : (y : Name) → row_left gone x y (row_at m y) ≡ row_at (after_purge m x) y
+  row_is y =
+      (λ i. cond (gone_is y i) None (option_map (λ v. with_nodes (without x) (with_members (filter (λ r. not (gone_is r.0 i))) v)) (row_at m y))) ∙ sym (row_at-after_purge m x y)
+
+  -- ---- what is reached
+
+  abbrev met : Name → List Name
+  met u = u ∷ cond (goes m x u) (users m u) []
+
+  abbrev reached : List Name
+  reached = x ∷ flat_map met (users m x)
+
+  reached_is : all_reached (table_of m) gone x ≡ reached
+  reached_is = λ i. x ∷ flat_map (λ u. u ∷ cond (gone_is u i) (users_in-table_of m u i) []) (users_in-table_of m x i)
+
+  -- the users of what goes are reached
+  reaches : (e y : Name) → goes m x e ≡ true → is_among (users m e) y ≡ true → is_among reached y ≡ true
+  reaches e y g uses = or_right (is_same y x) (is_among (flat_map met (users m x)) y) (by (is_same x e) refl g)
+    where
+      by : (b : Bool) → is_same x e ≡ b → (b || falls_short x (nodes_of (row_at m e))) ≡ true → is_among (flat_map met (users m x)) y ≡ true
+      by true s h =
+          to_flat_map met (users m x) y y (ap (λ z. is_among (users m z) y) (same_names x e s) ∙ uses) (is_among_own y (cond (goes m x y) (users m y) []))
+      by false s h =
+          to_flat_map met (users m x) e y (short_is_user e h)
+          (or_right (is_same y e) (is_among (cond (goes m x e) (users m e) []) y) (ap (λ b. is_among (cond b (users m e) []) y) g ∙ uses))
+
+  -- what goes is reached
+  gone_reached : (y : Name) → goes m x y ≡ true → is_among reached y ≡ true
+  gone_reached y g = by (is_same x y) refl g
+    where
+      by : (b : Bool) → is_same x y ≡ b → (b || falls_short x (nodes_of (row_at m y))) ≡ true → is_among reached y ≡ true
+      by true s h = or_left (is_same y x) (is_among (flat_map met (users m x)) y) (same_either_way y x ∙ s)
+      by false s h = reaches x y (x_goes m x) (short_is_user y h)
+
+  -- what is reached is the purged name, or a user of what goes
+  reached_from : (y : Name) → is_among reached y ≡ true → is_same y x ≡ false → (e : Name) × (goes m x e ≡ true) × (is_among (users m e) y ≡ true)
+  reached_from y i other =
+      let f = from_flat_map met (users m x) y (ap (λ b. b || is_among (flat_map met (users m x)) y) (sym other) ∙ i) in
+      by f.0 f.1 (is_same y f.0) refl (goes m x f.0) refl f.2
+    where
+      by : (u : Name) → is_among (users m x) u ≡ true → (s : Bool) → is_same y u ≡ s → (b : Bool) → goes m x u ≡ b → (s || is_among (cond b (users m u) []) y) ≡ true
+          → (e : Name) × (goes m x e ≡ true) × (is_among (users m e) y ≡ true)
+      by u j true s b g h = (x, x_goes m x, ap (is_among (users m x)) (same_names y u s) ∙ j)
+      by u j false s true g h = (u, g, h)
+      by u j false s false g h = absurd (cc)
+
+  -- ---- each other row stays
+
+  module _ (y : Name) (out : is_among reached y ≡ false) where
+    refers_to_none : (v : Element A) → row_at m y ≡ Some v → (e : Name) → goes m x e ≡ true → refers_to v e ≡ false
+    refers_to_none v is e g = by (refers_to v e) refl
+      where
+        by : (b : Bool) → refers_to v e ≡ b → b ≡ false
+        by true r = absurd (cc (sym out ∙ reaches e y g (among_users e y ∙ ap (passes_at (λ r. refers_to r.1 e) y) is ∙ r)))
+        by false r = refl
+
+    not_gone : goes m x y ≡ false
+    not_gone = by (goes m x y) refl
+      where
+        by : (b : Bool) → goes m x y ≡ b → b ≡ false
+        by true g = absurd (cc (sym out ∙ gone_reached y g))
+        by false g = refl
+
+    same_element : (v : Element A) → row_at m y ≡ Some v → what_is_left m x v ≡ v
+    same_element (Node lat lon tags) is = refl
+    same_element (Way nodes tags) is = ap (λ l. Way l tags) (without_none x nodes (refers_to_none (Way nodes tags) is x (x_goes m x)))
+    same_element (Relation members tags) is = ap (λ l. Relation l tags) (members_stay (λ e. not (goes m x e)) members (λ e i. by e i (goes m x e) refl))
+      where
+        by : (e : Name) → is_among (map (λ r. r.0) members) e ≡ true → (b : Bool) → goes m x e ≡ b → not b ≡ true
+        by e i true g = absurd (cc (sym i ∙ refers_to_none (Relation members tags) is e g))
+        by e i false g = refl
+
+    stays : row_at (after_purge m x) y ≡ row_at m y
+    stays = row_at-after_purge m x y ∙ ap (λ b. cond b None (option_map (what_is_left m x) (row_at m y))) not_gone ∙ by (row_at m y) refl
+      where
+        by : (o : Option (Element A)) → row_at m y ≡ o → option_map (what_is_left m x) o ≡ o
+        by None is = refl
+        by (Some v) is = ap Some (same_element v is)
+
+  -- ---- each that is reached becomes another
+
+  module _ (here : is_present m x ≡ true) where
+    reached_there : (y : Name) → is_among reached y ≡ true → is_present m y ≡ true
+    reached_there y i = by (is_same y x) refl
+      where
+        by : (b : Bool) → is_same y x ≡ b → is_present m y ≡ true
+        by true s = ap (is_present m) (same_names y x s) ∙ here
+        by false s = let f = reached_from y i s in user_there f.0 y f.2
+
+    becomes_other : (y : Name) → is_among reached y ≡ true → row_at (after_purge m x) y ≢ row_at m y
+    becomes_other y i same = by (is_same y x) refl
+      where
+        by : (b : Bool) → is_same y x ≡ b → ⊥
+        by true s =
+            cc (sym here ∙ ap (is_present m) (sym (same_names y x s)) ∙ ap is_some (sym same ∙ ap (row_at (after_purge m x)) (same_names y x s) ∙ is_gone m x x (x_goes m x)))
+        by false s = let f = reached_from y i s in user_changes f.0 y f.1 f.2 same
+
+    set_differs : (y : Name) → is_among (name_set reached) y ≡ not (is_same_row (row_at m y) (row_at (after_purge m x) y))
+    set_differs y = is_among-name_set y reached ∙ by (is_among reached y) refl
+      where
+        by : (b : Bool) → is_among reached y ≡ b → b ≡ not (is_same_row (row_at m y) (row_at (after_purge m x) y))
+        by true e = sym (ap not (apart_rows (row_at m y) (row_at (after_purge m x) y) (becomes_other y e)))
+        by false e = sym (ap (λ o. not (is_same_row (row_at m y) o)) (stays y e) ∙ ap not (same_row (row_at m y)))
+
+    may_purge : MayPurge m gone x (name_set reached)
+    may_purge = record {
+      rising = IsRising-name_set reached;
+      there = all_from (is_present m) (name_set reached) (λ y i. reached_there y (sym (is_among-name_set y reached) ∙ i));
+      apart = λ y i e. becomes_other y (sym (is_among-name_set y reached) ∙ i) (sym (row_is y) ∙ e);
+    }
+
+    changes_are : map (purged_change m gone x) (name_set reached) ≡ differences m (after_purge m x)
+    changes_are =
+        map_same (purged_change m gone x) (λ y. record { name = y; before = row_at m y; after = row_at (after_purge m x) y }) (name_set reached)
+        (λ y i. ap (λ o. record { name = y; before = row_at m y; after = o }) (row_is y))
+        ∙ ap (map (λ y. record { name = y; before = row_at m y; after = row_at (after_purge m x) y })) (differing_are m (after_purge m x) (name_set reached) (IsRising-name_set reached) set_differs)
+
+    -- ---- the plan, with the names as they are found
+
+    module _ (known : UsersState) (known_is : known ≡ users_of m) (its keys names : List Name) (its_are : its ≡ users_in known.references x) (keys_are : keys ≡ name_set (all_gone m its x))
+        (names_are : names ≡ name_set (all_reached known.references keys x)) where
+      keys_gone : keys ≡ gone
+      keys_gone = keys_are ∙ ap (λ l. name_set (all_gone m l x)) (its_are ∙ ap (λ (u : UsersState). users_in u.references x) known_is ∙ users_in-table_of m x)
+
+      names_reached : names ≡ name_set reached
+      names_reached = names_are ∙ (λ i. name_set (all_reached (known_is i).references (keys_gone i) x)) ∙ ap name_set reached_is
+
+      pub found_may : MayPurge m keys x names
+      found_may = subst (λ k. MayPurge m k x names) (sym keys_gone) (subst (λ l. MayPurge m gone x l) (sym names_reached) may_purge)
+
+      pub purge_planned : (cs : List (Change A)) → cs ≡ map (purged_change m keys x) names → IsPlan m (purge_checks m x) (after_purge m x) (Ok cs)
+      purge_planned cs is =
+          (ap (λ b. first_that_holds (then_some (not b) (Absent x) ∷ [])) here, is ∙ (λ i. map (purged_change m (keys_gone i) x) (names_reached i)) ∙ changes_are)

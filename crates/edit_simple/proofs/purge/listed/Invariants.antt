@@ -1,0 +1,7 @@
+use Rattle.std.proofs.Common.{◌≡◌, ◌∷◌, take}
+use Rattle.std.specs.List.{flat_map}
+use Rattle.edit_simple.specs.Inner.Purging.{reached_with}
+use Rattle.edit_simple.proofs.purge.listed.Given as goal
+
+abbrev pub invariant-loop-user : goal.invariant-loop-user
+invariant-loop-user g l = l.reached.items ≡ l.purged ∷ flat_map (reached_with l.users.references l.gone.keys) (take l.user-index l.user-items)

@@ -1,0 +1,43 @@
+-- A purge, name by name.
+use Rattle.std.specs.Prelude.{◌≡◌, ◌≢◌, true, not, List, [], ◌∷◌, Option, None, if◌then◌else◌}
+use Rattle.std.specs.List.{filter, flat_map, list_all}
+use Rattle.std.specs.Option.{option_map}
+use Rattle.osm_elements.specs.declared.name.Name.{Name}
+use Rattle.osm_elements.specs.declared.element.Element.{Element}
+use Rattle.osm_elements.specs.Maps.{Rows, is_among, is_present}
+use Rattle.osm_elements.specs.Rows.{row_at}
+use Rattle.osm_refs.specs.Inner.Rising.{IsRising}
+use Rattle.osm_refs.specs.Tables.{Table, users_in}
+use Rattle.osm_changes.specs.declared.change.Change.{Change}
+use Rattle.edit_simple.specs.Parts.{nodes_of, with_nodes, with_members}
+use Rattle.edit_simple.specs.Purge.{without, falls_short}
+
+-- a user of a purged name, and its own users where it goes
+abbrev pub reached_with : Table → List Name → Name → List Name
+reached_with users gone u = u ∷ (if is_among gone u then users_in users u else [])
+
+-- the purged name, and what its users reach
+abbrev pub all_reached : Table → List Name → Name → List Name
+all_reached users gone x = x ∷ flat_map (reached_with users gone) (users_in users x)
+
+module _ {A : Type 0} where
+  -- the purged name, and those of its users that fall short without it
+  abbrev pub all_gone : Rows A → List Name → Name → List Name
+  all_gone m users x = x ∷ filter (λ u. falls_short x (nodes_of (row_at m u))) users
+
+  -- what is left of an element that stays
+  abbrev pub left_of : List Name → Name → Element A → Element A
+  left_of gone x v = with_nodes (without x) (with_members (filter (λ r. not (is_among gone r.0))) v)
+
+  -- what a row becomes
+  abbrev pub row_left : List Name → Name → Name → Option (Element A) → Option (Element A)
+  row_left gone x y o = if is_among gone y then None else option_map (left_of gone x) o
+
+  abbrev pub purged_change : Rows A → List Name → Name → Name → Change A
+  purged_change m gone x y = record { name = y; before = row_at m y; after = row_left gone x y (row_at m y) }
+
+  -- rising names that are there, whose rows all become others
+  pub record MayPurge (m : Rows A) (gone : List Name) (x : Name) (names : List Name) : Type 0 where
+    pub rising : IsRising names
+    pub there : list_all (is_present m) names ≡ true
+    pub apart : (y : Name) → is_among names y ≡ true → row_left gone x y (row_at m y) ≢ row_at m y

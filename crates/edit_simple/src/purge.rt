@@ -1,0 +1,258 @@
+//! Plans of purges.
+ghost use Rattle.std.specs.Prelude.{◌≡◌, ◌++◌, [], ◌∷◌, true, not, map, count_by, IfOk, OnOk, Some};
+ghost use Rattle.std.specs.List.{filter};
+ghost use Rattle.osm_elements.specs.Maps.{is_among, is_present, is_same, name_set};
+ghost use Rattle.osm_elements.specs.Members.{member_pair};
+ghost use Rattle.osm_elements.specs.Nodes.{AreNodes};
+ghost use Rattle.osm_elements.specs.Rows.{row_at};
+ghost use Rattle.osm_changes.specs.Inner.Stores.{users_of};
+ghost use Rattle.osm_changes.specs.Sound.{is_sound};
+ghost use Rattle.edit_simple.specs.Inner.Purging.{reached_with, all_reached, all_gone, left_of, row_left, purged_change, MayPurge};
+ghost use Rattle.edit_simple.specs.Parts.{nodes_of};
+ghost use Rattle.edit_simple.specs.Plans.{IsPlan};
+ghost use Rattle.edit_simple.specs.Purge.{without, falls_short, purge_checks, after_purge};
+
+use crate::limits::FEWEST_NODES;
+use crate::lookup::{is_present, is_same};
+use crate::refusal::Refusal;
+use osm_changes::change::Change;
+use osm_changes::changes::Changes;
+use osm_elements::Memory;
+use osm_elements::element::Element;
+use osm_elements::map::OsmMap;
+use osm_elements::member::Member;
+use osm_elements::members::Members;
+use osm_elements::name::Name;
+use osm_elements::nodes::Nodes;
+use osm_refs::users::Users;
+use std::alloc::Allocator;
+use std::collections::BTreeSet;
+
+/// Plans to take an element away with every reference to it.
+pub fn plan<A: Allocator + Clone>(
+    alloc: A,
+    rows: &OsmMap<A>,
+    users: &Users<A>,
+    name: &Name,
+) -> Result<Changes<A>, Refusal<A>>
+    requires sound { is_sound rows.now ≡ true }
+    requires users { users.now ≡ users_of rows.now }
+    ensures { IsPlan rows.now (purge_checks rows.now name.now) (after_purge rows.now name.now) result }
+{
+    if !is_present(rows, name) {
+        return Err(Refusal::Absent(*name));
+    }
+    let gone = all_gone(alloc.clone()?, rows, users.of(name), name)?;
+    let reached = all_reached(alloc.clone()?, users, &gone, name)?;
+    Ok(change_all(alloc, rows, &gone, name, &reached)?)
+}
+
+// The names that go: the purged one, and each way among its users that is left with fewer than 2 nodes.
+fn all_gone<A: Allocator + Clone>(
+    alloc: A,
+    rows: &OsmMap<A>,
+    its_users: &[Name],
+    purged: &Name,
+) -> Result<BTreeSet<Name, A>, Memory>
+    ensures { IfOk result (λ gone. gone.keys ≡ name_set (all_gone rows.now its_users.now purged.now)) }
+{
+    let mut gone = BTreeSet::new(alloc);
+    gone.insert(*purged)?;
+    for user in its_users {
+        if falls_short(rows, user, purged) {
+            gone.insert(*user)?;
+        }
+    }
+    Ok(gone)
+}
+
+// Whether the name is that of a way which the purged node is taken from, and which is left with fewer than 2.
+fn falls_short<A: Allocator>(rows: &OsmMap<A>, name: &Name, purged: &Name) -> bool
+    ensures { result ≡ falls_short purged.now (nodes_of (row_at rows.now name.now)) }
+{
+    match rows.get(name) {
+        Some(Element::Way { nodes, .. }) => is_cut_short(nodes.names(), purged),
+        _ => false,
+    }
+}
+
+// Whether the purged name is taken from a list, and fewer than 2 names are left.
+fn is_cut_short(names: &[Name], purged: &Name) -> bool
+    ensures { result ≡ falls_short purged.now names.now }
+{
+    let left = count_others(names, purged);
+    left < names.len() && left < FEWEST_NODES
+}
+
+// How many names of a list are others than one.
+fn count_others(names: &[Name], one: &Name) -> usize
+    ensures { result ≡ count_by (λ n. not (is_same one.now n)) names.now }
+{
+    names.iter().filter(|name| !is_same(one, *name)).count()
+}
+
+// The names whose rows change, rising, each once: the purged one, its users, and the users of those that go.
+fn all_reached<A: Allocator>(
+    alloc: A,
+    users: &Users<A>,
+    gone: &BTreeSet<Name, A>,
+    purged: &Name,
+) -> Result<Vec<Name, A>, Memory>
+    ensures { IfOk result (λ reached. reached.items ≡ name_set (all_reached users.now.references gone.now.keys purged.now)) }
+{
+    let mut reached = listed(alloc, users, gone, purged)?;
+    reached.sort_unstable();
+    reached.dedup();
+    Ok(reached)
+}
+
+// The purged name, its users, and the users of those that go, in the order in which they are met.
+fn listed<A: Allocator>(
+    alloc: A,
+    users: &Users<A>,
+    gone: &BTreeSet<Name, A>,
+    purged: &Name,
+) -> Result<Vec<Name, A>, Memory>
+    ensures { IfOk result (λ reached. reached.items ≡ all_reached users.now.references gone.now.keys purged.now) }
+{
+    let mut reached = Vec::new(alloc);
+    reached.push(*purged)?;
+    for user in users.of(purged) {
+        add_reached(users, gone, user, &mut reached)?;
+    }
+    Ok(reached)
+}
+
+// Adds a user of the purged name, and its own users where it goes.
+fn add_reached<A: Allocator>(
+    users: &Users<A>,
+    gone: &BTreeSet<Name, A>,
+    user: &Name,
+    reached: &mut Vec<Name, A>,
+) -> Result<(), Memory>
+    ensures { OnOk result (reached.new.items ≡ reached.old.items ++ reached_with users.now.references gone.now.keys user.now) }
+{
+    reached.push(*user)?;
+    if goes(gone, user) {
+        reached.extend_from_slice(users.of(user))?;
+    }
+    Ok(())
+}
+
+// Whether a name is one of those that go.
+fn goes<A: Allocator>(gone: &BTreeSet<Name, A>, name: &Name) -> bool
+    ensures { result ≡ is_among gone.now.keys name.now }
+{
+    gone.contains(name)
+}
+
+// The changes of the names that are reached.
+fn change_all<A: Allocator + Clone>(
+    alloc: A,
+    rows: &OsmMap<A>,
+    gone: &BTreeSet<Name, A>,
+    purged: &Name,
+    reached: &[Name],
+) -> Result<Changes<A>, Memory>
+    requires { MayPurge rows.now gone.now.keys purged.now reached.now }
+    ensures { IfOk result (λ cs. cs ≡ map (purged_change rows.now gone.now.keys purged.now) reached.now) }
+{
+    let mut changes = Changes::empty(alloc.clone()?);
+    for name in reached {
+        let change = purged_change(&alloc, rows, gone, purged, name)?;
+        changes.push(change)?;
+    }
+    Ok(changes)
+}
+
+// The change of a name that is reached.
+fn purged_change<A: Allocator + Clone>(
+    alloc: &A,
+    rows: &OsmMap<A>,
+    gone: &BTreeSet<Name, A>,
+    purged: &Name,
+    name: &Name,
+) -> Result<Change<A>, Memory>
+    requires { is_present rows.now name.now ≡ true }
+    ensures { IfOk result (λ c. c ≡ purged_change rows.now gone.now.keys purged.now name.now) }
+{
+    let Some(element) = rows.get(name) else {
+        unreachable!()
+    };
+    let before = element.copy()?;
+    let after = row_left(alloc, gone, purged, name, element)?;
+    Ok(Change {
+        name: *name,
+        before: Some(before),
+        after,
+    })
+}
+
+// What a name's element becomes: none where the name goes.
+fn row_left<A: Allocator + Clone>(
+    alloc: &A,
+    gone: &BTreeSet<Name, A>,
+    purged: &Name,
+    name: &Name,
+    element: &Element<A>,
+) -> Result<Option<Element<A>>, Memory>
+    ensures { IfOk result (λ after. after ≡ row_left gone.now.keys purged.now name.now (Some element.now)) }
+{
+    if goes(gone, name) {
+        return Ok(None);
+    }
+    Ok(Some(element_left(alloc, gone, purged, element)?))
+}
+
+// What is left of an element that stays.
+fn element_left<A: Allocator + Clone>(
+    alloc: &A,
+    gone: &BTreeSet<Name, A>,
+    purged: &Name,
+    element: &Element<A>,
+) -> Result<Element<A>, Memory>
+    ensures { IfOk result (λ after. after ≡ left_of gone.now.keys purged.now element.now) }
+{
+    match element {
+        Element::Node { .. } => element.copy(),
+        Element::Way { nodes, tags } => Ok(Element::Way {
+            nodes: nodes_left(alloc.clone()?, nodes.names(), purged)?,
+            tags: tags.copy()?,
+        }),
+        Element::Relation { members, tags } => Ok(Element::Relation {
+            members: members_left(alloc.clone()?, members.as_slice(), gone)?,
+            tags: tags.copy()?,
+        }),
+    }
+}
+
+// The nodes of a list without one.
+fn nodes_left<A: Allocator>(alloc: A, nodes: &[Name], purged: &Name) -> Result<Nodes<A>, Memory>
+    requires { AreNodes nodes.now }
+    ensures { IfOk result (λ left. left ≡ without purged.now nodes.now) }
+{
+    let mut left = Nodes::empty(alloc);
+    for node in nodes {
+        if !is_same(purged, node) {
+            left.push(*node)?;
+        }
+    }
+    Ok(left)
+}
+
+// The members of a list whose names don't go.
+fn members_left<A: Allocator + Clone>(
+    alloc: A,
+    members: &[Member<A>],
+    gone: &BTreeSet<Name, A>,
+) -> Result<Members<A>, Memory>
+    ensures { IfOk result (λ left. left ≡ filter (λ r. not (is_among gone.now.keys r.0)) (map member_pair members.now)) }
+{
+    let mut left = Members::empty(alloc);
+    for member in members {
+        if !goes(gone, &member.name) {
+            left.push(member.copy()?)?;
+        }
+    }
+    Ok(left)
+}
