@@ -21,7 +21,7 @@ rewritten_lem = (refl, refl, refl, refl)
 
 pub purged_lem : purged
 unfolding purged name_cmp
-purged_lem = (refl, refl, refl, refl, refl, refl, refl, refl, refl, refl, refl)
+purged_lem = (refl, refl, refl, refl, refl, refl, refl, refl, refl, refl, refl, refl)
 
 pub refusals_lem : refusals
 unfolding refusals name_cmp

@@ -59,8 +59,8 @@ rewritten =
 abbrev pub with_return_twice : Rows Any
 with_return_twice = after_create with_return r9 (relation_of ((w3, outer) ∷ (n-2, x) ∷ (w3, x) ∷ []))
 
--- with an element go the ways that keep one node, and out of each relation go the members that are gone; a relation
--- stays where it keeps none, and so does a way that keeps one node twice
+-- with an element go the ways that keep fewer than two nodes, and out of each relation go the members that are gone; a
+-- relation stays where it keeps none, and so does a way that keeps one node twice
 unfoldable pub purged : Type 0
 purged =
     (refused (purge_checks start n-1) ≡ None)
@@ -68,6 +68,7 @@ purged =
     ≡ (n-3, node_at 3) ∷ (n-2, node_at 2) ∷ (w2, way_of (n-3 ∷ n-2 ∷ [])) ∷ (r1, relation_of ((w2, outer) ∷ (w2, outer) ∷ [])) ∷ [])
     × (row_at (after_purge with_return_twice n-1) w3 ≡ None)
     × (row_at (after_purge with_return_twice n-1) r9 ≡ Some (relation_of ((n-2, x) ∷ [])))
+    × (row_at (after_purge (after_create start w5 (way_of (n-1 ∷ n-1 ∷ []))) n-1) w5 ≡ None)
     × (row_at (after_purge with_return_twice n-2) w3 ≡ Some (way_of (n-1 ∷ n-1 ∷ [])))
     × (row_at (after_purge with_return_twice n-2) r9 ≡ Some (relation_of ((w3, outer) ∷ (w3, x) ∷ [])))
     × (after_purge start w2
