@@ -31,9 +31,9 @@ use Rattle.edit_simple.specs.Move.{moved_by}
 use Rattle.edit_simple.specs.Facts.Lists.{all_listed}
 use Rattle.edit_simple.specs.Facts.Moving.{elsewhere}
 use Rattle.edit_simple.proofs.Alike.{here}
-use Rattle.edit_simple.proofs.ChangesInTurn.{one_fits}
-use Rattle.edit_simple.proofs.FirstUsers.{min_below}
-use Rattle.edit_simple.proofs.LeastNames.{min_assoc}
+use Rattle.edit_simple.specs.Facts.ChangesInTurn.{one_fits}
+use Rattle.edit_simple.specs.Facts.FirstUsers.{min_below}
+use Rattle.edit_simple.specs.Facts.LeastNames.{min_assoc}
 
 -- ---- the first of a rising list is the least
 

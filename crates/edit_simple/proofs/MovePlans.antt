@@ -43,7 +43,7 @@ use Rattle.edit_simple.specs.Facts.Moving.{moves}
 use Rattle.edit_simple.specs.Facts.Relisting.{all_present}
 use Rattle.edit_simple.specs.Facts.Rewriting.{fine}
 use Rattle.edit_simple.proofs.MoveLoops.{moved_apart}
-use Rattle.edit_simple.proofs.PassingRows.{map_same, passes_at, among_rows, rising_names}
+use Rattle.edit_simple.specs.Facts.PassingRows.{map_same, passes_at, among_rows, rising_names}
 
 apart : (a s t u v : Bool) → (a && ((s || u) || (t || v))) ≡ ((a && (s || t)) || (a && (u || v)))
 apart false s t u v = refl

@@ -19,7 +19,7 @@ use Rattle.edit_simple.specs.Delete.{delete_checks, after_delete}
 use Rattle.edit_simple.specs.Plans.{IsPlan}
 use Rattle.edit_simple.specs.Inner.Passing.{passed}
 use Rattle.edit_simple.specs.Facts.Checked.{nones, not_so}
-use Rattle.edit_simple.proofs.FirstUsers.{first_user_is_least}
+use Rattle.edit_simple.specs.Facts.FirstUsers.{first_user_is_least}
 
 pub passed_ok : {X : Type 0} (u : Unit {0}) (o : Option X) → Ok u ≡ passed o → o ≡ None
 passed_ok u None e = refl

@@ -13,7 +13,7 @@ use Rattle.edit_simple.specs.Inner.Purging.{all_gone}
 use Rattle.edit_simple.specs.Parts.{nodes_of}
 use Rattle.edit_simple.specs.Purge.{without, falls_short}
 use Rattle.edit_simple.specs.Facts.Purging.{shorter}
-use Rattle.edit_simple.proofs.LeastNames.{filter_more}
+use Rattle.edit_simple.specs.Facts.LeastNames.{filter_more}
 
 -- ---- what is left of a list
 

@@ -6,7 +6,7 @@ mod create;
 mod delete;
 pub mod laws;
 pub mod limits;
-mod lookup;
+pub mod lookup;
 mod moving;
 pub mod plans;
 mod purge;

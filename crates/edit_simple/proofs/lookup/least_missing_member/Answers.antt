@@ -1,6 +1,6 @@
 use Rattle.std.proofs.Common.{Some, ap, ◌∙◌}
 use Rattle.edit_simple.specs.Create.{is_missing}
-use Rattle.edit_simple.proofs.LeastNames.{least_taken_by, least_passed_by}
+use Rattle.edit_simple.specs.Facts.LeastNames.{least_taken_by, least_passed_by}
 use Rattle.edit_simple.proofs.lookup.least_missing_member.Goals as goal
 use Rattle.edit_simple.proofs.lookup.least_missing_member.Goals.{then-is_missing, else-is_missing}
 

@@ -1,6 +1,6 @@
 use Rattle.std.proofs.Common.{Some, not, ap, ◌∙◌}
 use Rattle.osm_elements.specs.Maps.{is_absent}
-use Rattle.edit_simple.proofs.LeastNames.{least_taken, least_passed}
+use Rattle.edit_simple.specs.Facts.LeastNames.{least_taken, least_passed}
 use Rattle.edit_simple.proofs.moving.least_absent.Goals as goal
 use Rattle.edit_simple.proofs.moving.least_absent.Goals.{then-not-is_present, else-not-is_present}
 

@@ -1,6 +1,6 @@
 use Rattle.std.proofs.Common.{refl}
 use Rattle.edit_simple.specs.Inner.Purging.{purged_change}
-use Rattle.edit_simple.proofs.ChangesInTurn.{one_fits}
+use Rattle.edit_simple.specs.Facts.ChangesInTurn.{one_fits}
 use Rattle.edit_simple.proofs.purge.change_all.Goals as goal
 
 pub push-requires : goal.push-requires

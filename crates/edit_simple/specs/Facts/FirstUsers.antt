@@ -13,7 +13,7 @@ use Rattle.osm_elements.specs.Rows.{AreInOrder}
 use Rattle.osm_elements.specs.Facts.Entries.{first, second}
 use Rattle.osm_elements.specs.Maps.{Rows, lesser, least, names_of}
 use Rattle.osm_refs.specs.References.{users, refers_to}
-use Rattle.edit_simple.proofs.LeastNames.{min_assoc}
+use Rattle.edit_simple.specs.Facts.LeastNames.{min_assoc}
 
 less : (r : Ordering) → T (is_lt r) → r ≡ Less
 less Less t = refl
