@@ -1,6 +1,7 @@
 pub mod BothTags
 pub mod Examples
 pub mod Facts
+pub mod Inner
 pub mod Join
 pub mod Merge
 pub mod Renaming

@@ -1,4 +1,11 @@
 //! The actions that change how elements meet: split, join and merge.
 #![tactic(auto)]
 
+mod both_tags;
+mod join;
+mod kinds;
 pub mod laws;
+mod merge;
+pub mod plans;
+mod split;
+mod touched;

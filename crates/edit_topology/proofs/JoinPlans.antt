@@ -1,0 +1,176 @@
+-- Plans of joins: which rows change, and what they become.
+use Rattle.std.proofs.Common.{◌≡◌, ◌≢◌, ◌≤◌, ◌+◌, Bool, true, false, not, ◌||◌, List, ◌∷◌, Option, Some, None, Ok, is_some, length, map, drop, nat_le, refl, sym, ap, subst, ◌∙◌, cond, arith, length-append}
+use Rattle.std.proofs.lemmas.Bool.Decides.{nat_tests}
+use Rattle.std.proofs.lemmas.List.{length-drop}
+use Rattle.std.specs.Option.{option_map}
+use Rattle.osm_elements.specs.declared.name.Name.{Name}
+use Rattle.osm_elements.specs.declared.element.Element.{Element}
+use Rattle.osm_elements.specs.declared.element.Element.TheVariants.{Way}
+use Rattle.osm_elements.specs.Maps.{Rows, is_same, is_among, is_present, name_set}
+use Rattle.osm_elements.specs.Rows.{row_at}
+use Rattle.osm_elements.specs.TagRows.{Pairs}
+use Rattle.osm_elements.specs.Facts.Among.{is_among-name_set}
+use Rattle.osm_elements.specs.Facts.Dropped.{same_either_way}
+use Rattle.osm_elements.specs.Facts.Rows.{same_names, is_eq-name_cmp_itself}
+use Rattle.osm_elements.specs.Facts.Tests.{first_true}
+use Rattle.osm_refs.specs.References.{refers_to, row_references, users}
+use Rattle.osm_refs.specs.Facts.RisingNames.{IsRising-name_set}
+use Rattle.osm_changes.specs.declared.change.Change.{Change}
+use Rattle.osm_changes.specs.Changes.{differences}
+use Rattle.osm_changes.specs.SameRows.{is_same_row}
+use Rattle.osm_changes.specs.Sound.{is_sound}
+use Rattle.osm_changes.specs.Facts.Differing.{same_row}
+use Rattle.osm_changes.specs.Facts.SoundRows.{sound_in_order}
+use Rattle.edit_simple.specs.Checks.{first_that_holds}
+use Rattle.edit_simple.specs.Parts.{nodes_of, row_tags, with_members}
+use Rattle.edit_simple.specs.Plans.{IsPlan}
+use Rattle.edit_simple.specs.Facts.Differences.{differing_are, apart_rows}
+use Rattle.edit_simple.specs.Facts.Kinds.{way_there}
+use Rattle.edit_simple.specs.Facts.Lists.{all_from}
+use Rattle.edit_simple.specs.Facts.PassingRows.{map_same, passes_at, among_rows}
+use Rattle.edit_simple.specs.Facts.Rewriting.{fine}
+use Rattle.edit_topology.specs.BothTags.{both_tags}
+use Rattle.edit_topology.specs.Inner.Joining.{way_of_both, row_joined, joined_change, MayJoin}
+use Rattle.edit_topology.specs.Join.{end_to_end, joined_members, join_checks, after_join}
+use Rattle.edit_topology.specs.Facts.Changing.{join_changes}
+use Rattle.edit_topology.specs.Facts.EachBut.{row_at-each_but}
+use Rattle.edit_topology.specs.Facts.Joining.{Joins, joins, lengthened, join_row}
+use Rattle.edit_topology.specs.Facts.Lists.{or_first, or_second}
+use Rattle.edit_topology.specs.Facts.Staying.{join_leaves}
+
+-- a list gets longer by another of at least two names
+longer : (one other : List Name) → nat_le 2 (length other) ≡ true → length (end_to_end one other) ≡ length one → ⊥
+longer one other two same =
+    let both : length (end_to_end one other) ≡ length one + length (drop 1 other) = length-append one (drop 1 other) in
+    let rest = length-drop 1 other in
+    let more : 2 ≤ length other = grind (arith, nat_tests) in
+    omega arith
+
+module _ {A : Type 0} (m : Rows A) (w v : Name) (sound : is_sound m ≡ true) (ok : first_that_holds (join_checks m w v) ≡ None) where
+  j : Joins m w v
+  j = joins m w v sound ok
+
+  abbrev n : Rows A
+  n = after_join m w v
+
+  -- ---- users
+
+  user_refers : (y : Name) → is_among (users m v) y ≡ is_among (row_references (row_at m y)) v
+  user_refers y = among_rows (λ r. refers_to r.1 v) m (sound_in_order m sound) y ∙ by (row_at m y)
+    where
+      by : (o : Option (Element A)) → passes_at (λ r. refers_to r.1 v) y o ≡ is_among (row_references o) v
+      by None = refl
+      by (Some u) = refl
+
+  user_there : (y : Name) → is_among (users m v) y ≡ true → is_present m y ≡ true
+  user_there y uses = by (row_at m y) (sym (user_refers y) ∙ uses)
+    where
+      by : (o : Option (Element A)) → is_among (row_references o) v ≡ true → is_some o ≡ true
+      by None h = absurd (cc)
+      by (Some u) h = refl
+
+  -- ---- what rows become
+
+  own_row : (nodes : List Name) × (tags : Pairs) × (row_at m w ≡ Some (Way nodes tags))
+  own_row = way_there m w sound j.way_w j.here_w
+
+  after_w : row_at n w ≡ Some (way_of_both m w v)
+  after_w =
+      row_at-each_but m v (join_row m w v) w ∙ ap (λ b. option_map (join_row m w v w) (cond b None (row_at m w))) j.apart
+      ∙ ap (option_map (join_row m w v w)) own_row.2 ∙ ap (λ b. Some (with_members (joined_members w v) (cond b (lengthened m v own) own))) (is_eq-name_cmp_itself w)
+      ∙ ap (λ o. Some (way_with o)) (sym own_row.2)
+    where
+      own : Element A
+      own = Way own_row.0 own_row.1
+
+      way_with : Option (Element A) → Element A
+      way_with o = Way (end_to_end (nodes_of o) (nodes_of (row_at m v))) (both_tags (row_tags o) (row_tags (row_at m v)))
+
+  after_v : row_at n v ≡ None
+  after_v = row_at-each_but m v (join_row m w v) v ∙ ap (λ b. option_map (join_row m w v v) (cond b None (row_at m v))) (is_eq-name_cmp_itself v)
+
+  row_is : (y : Name) → row_joined m w v (Some (way_of_both m w v)) y ≡ row_at n y
+  row_is y = by (is_same y w) refl (is_same y v) refl
+    where
+      left : (o : Option (Element A)) → is_same w y ≡ false → option_map (with_members (joined_members w v)) o ≡ option_map (join_row m w v y) o
+      left None e = refl
+      left (Some u) e = ap (λ b. Some (with_members (joined_members w v) (cond b (lengthened m v u) u))) (sym e)
+
+      by : (s : Bool) → is_same y w ≡ s → (t : Bool) → is_same y v ≡ t → cond s (Some (way_of_both m w v)) (cond t None (option_map (with_members (joined_members w v)) (row_at m y))) ≡ row_at n y
+      by true e t f = sym after_w ∙ ap (row_at n) (sym (same_names y w e))
+      by false e true f = sym after_v ∙ ap (row_at n) (sym (same_names y v f))
+      by false e false f =
+          left (row_at m y) (same_either_way w y ∙ e)
+          ∙ sym (row_at-each_but m v (join_row m w v) y ∙ ap (λ b. option_map (join_row m w v y) (cond b None (row_at m y))) f)
+
+  -- ---- what is touched
+
+  abbrev touched : List Name
+  touched = w ∷ v ∷ users m v
+
+  which : (X : Type 0) → (y : Name) → is_among touched y ≡ true → (is_same y w ≡ true → X) → (is_same y v ≡ true → X) → (is_among (users m v) y ≡ true → X) → X
+  which X y i f g h = by (is_same y w) refl (is_same y v) refl i
+    where
+      by : (s : Bool) → is_same y w ≡ s → (t : Bool) → is_same y v ≡ t → (s || (t || is_among (users m v) y)) ≡ true → X
+      by true e t d k = f e
+      by false e true d k = g d
+      by false e false d k = h k
+
+  touched_there : (y : Name) → is_among touched y ≡ true → is_present m y ≡ true
+  touched_there y i =
+      which (is_present m y ≡ true) y i (λ e. ap (is_present m) (same_names y w e) ∙ j.here_w) (λ e. ap (is_present m) (same_names y v e) ∙ j.here_v) (user_there y)
+
+  stays : (y : Name) → is_among touched y ≡ false → row_at n y ≡ row_at m y
+  stays y out =
+      let rest : (is_same y v || is_among (users m v) y) ≡ false = or_second (is_same y w) (is_same y v || is_among (users m v) y) out in
+      join_leaves m w v y (or_first (is_same y w) (is_same y v || is_among (users m v) y) out) (or_first (is_same y v) (is_among (users m v) y) rest)
+      (sym (user_refers y) ∙ or_second (is_same y v) (is_among (users m v) y) rest)
+
+  w_changes : row_at n w ≢ row_at m w
+  w_changes same =
+      longer own_row.0 j.others
+      (first_true (nat_le 2 (length j.others)) (nat_le (length j.others) 2000) (fine m sound v (Way j.others j.tags) j.row).lengthy)
+      (λ i. length (nodes i))
+    where
+      nodes : end_to_end own_row.0 j.others ≡ own_row.0
+      nodes =
+          (λ i. end_to_end (nodes_of (sym own_row.2 i)) (nodes_of (sym j.row i))) ∙ ap nodes_of (sym after_w ∙ same ∙ own_row.2)
+
+  becomes_other : (y : Name) → is_among touched y ≡ true → row_at n y ≢ row_at m y
+  becomes_other y i =
+      which (row_at n y ≢ row_at m y) y i
+      (λ e same. w_changes (ap (row_at n) (sym (same_names y w e)) ∙ same ∙ ap (row_at m) (same_names y w e)))
+      (λ e same. cc (sym j.here_v ∙ ap is_some (ap (row_at m) (sym (same_names y v e)) ∙ sym same ∙ ap (row_at n) (same_names y v e) ∙ after_v)))
+      (λ uses. join_changes m w v y sound ok (sym (user_refers y) ∙ uses))
+
+  set_differs : (y : Name) → is_among (name_set touched) y ≡ not (is_same_row (row_at m y) (row_at n y))
+  set_differs y = is_among-name_set y touched ∙ by (is_among touched y) refl
+    where
+      by : (b : Bool) → is_among touched y ≡ b → b ≡ not (is_same_row (row_at m y) (row_at n y))
+      by true e = sym (ap not (apart_rows (row_at m y) (row_at n y) (becomes_other y e)))
+      by false e = sym (ap (λ o. not (is_same_row (row_at m y) o)) (stays y e) ∙ ap not (same_row (row_at m y)))
+
+  may_join : MayJoin m w v (way_of_both m w v) (name_set touched)
+  may_join = record {
+    rising = IsRising-name_set touched;
+    there = all_from (is_present m) (name_set touched) (λ y i. touched_there y (sym (is_among-name_set y touched) ∙ i));
+    apart = λ y i e. becomes_other y (sym (is_among-name_set y touched) ∙ i) (sym (row_is y) ∙ e);
+  }
+
+  changes_are : map (joined_change m w v (Some (way_of_both m w v))) (name_set touched) ≡ differences m n
+  changes_are =
+      map_same (joined_change m w v (Some (way_of_both m w v))) (λ y. record { name = y; before = row_at m y; after = row_at n y }) (name_set touched)
+      (λ y i. ap (λ o. record { name = y; before = row_at m y; after = o }) (row_is y))
+      ∙ ap (map (λ y. record { name = y; before = row_at m y; after = row_at n y })) (differing_are m n (name_set touched) (IsRising-name_set touched) set_differs)
+
+  -- ---- the plan, with the way and the names as they are found
+
+  module _ (joined : Element A) (is_way_of : joined ≡ way_of_both m w v) (its names : List Name) (its_are : its ≡ users m v) (names_are : names ≡ name_set (w ∷ v ∷ its)) where
+    names_touched : names ≡ name_set touched
+    names_touched = names_are ∙ ap (λ l. name_set (w ∷ v ∷ l)) its_are
+
+    pub found_may : MayJoin m w v joined names
+    found_may = subst (λ (u : Element A). MayJoin m w v u names) (sym is_way_of) (subst (λ l. MayJoin m w v (way_of_both m w v) l) (sym names_touched) may_join)
+
+    pub join_planned : (cs : List (Change A)) → cs ≡ map (joined_change m w v (Some joined)) names → IsPlan m (join_checks m w v) (after_join m w v) (Ok cs)
+    join_planned cs is = (ok, is ∙ (λ i. map (joined_change m w v (Some (is_way_of i))) (names_touched i)) ∙ changes_are)

@@ -1,0 +1,14 @@
+use Rattle.std.proofs.Common.{◌≡◌, ◌<◌, ◌⊎◌, length, map}
+use Rattle.osm_elements.specs.declared.fault.TextFault.TheVariants as faults
+use Rattle.osm_elements.specs.TagRows.{tag_pair}
+use Rattle.edit_topology.specs.BothTags.{both_tags}
+use Rattle.edit_topology.proofs.BothTagsLoops.{own_key, fault_told, err_same}
+use Rattle.edit_topology.proofs.both_tags.put_all.Goals as goal
+
+pub put_one-requires : goal.put_one-requires
+put_one-requires g c = record { key = own_key c.args.others.now c.requires.others c.loop-tag.tag-index c.tag-item.result c.loop-tag-test.true c.tag-item.is }
+
+pub returns-in_err-put_one-clause-err : goal.returns-in_err-put_one-clause-err
+returns-in_err-put_one-clause-err g c =
+    err_same (λ e. ((e ≡ faults.TooManyTags) × (1000 < length (both_tags c.args.tags.now (map tag_pair c.args.others.now)))) ⊎ (e ≡ faults.Memory)) c.from_residual.result c.in_err-put_one.field-0.0 c.from_residual.ensures.1
+    (fault_told c.args.others.now c.args.tags.now c.loop-tag.tags c.loop-tag.tag-index c.tag-item.result c.in_err-put_one.field-0.0 c.requires.sorted c.loop-tag-test.true c.tag-item.is c.loop-tag.invariant c.in_err-put_one.ensures.err)

@@ -1,0 +1,16 @@
+use Rattle.std.proofs.Common.{subst, sym, ap, ◌∙◌}
+use Rattle.osm_refs.specs.Facts.MapTables.{users_in-table_of}
+use Rattle.osm_refs.specs.References.{users}
+use Rattle.osm_refs.specs.Tables.{UsersState, users_in}
+use Rattle.edit_simple.specs.Plans.{IsPlan}
+use Rattle.edit_topology.specs.Split.{split_checks, after_split}
+use Rattle.edit_topology.proofs.plans.plan_split.Goals as goal
+
+pub plan-requires-clause-users : goal.plan-requires-clause-users
+plan-requires-clause-users g c =
+    c.of.ensures ∙ ap (λ (u : UsersState). users_in u.references c.args.name.now) c.users.ensures ∙ users_in-table_of c.args.store.now.rows c.args.name.now
+    ∙ ap (λ m. users m c.args.name.now) (sym c.map.ensures.map)
+
+pub returns : goal.returns
+returns g c =
+    subst (λ m. IsPlan m (split_checks m c.args.name.now c.args.place c.args.into.now) (after_split m c.args.name.now c.args.place c.args.into.now) c.plan.result) c.map.ensures.map c.plan.ensures

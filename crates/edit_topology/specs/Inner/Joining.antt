@@ -1,0 +1,45 @@
+-- A join, check by check and name by name.
+use Rattle.std.specs.Prelude.{◌≡◌, ◌≢◌, true, not, List, [], ◌∷◌, Option, Some, None, length, nat_lt, if◌then◌else◌}
+use Rattle.std.specs.Bool.{then_some}
+use Rattle.std.specs.List.{list_all}
+use Rattle.std.specs.Option.{option_map}
+use Rattle.osm_elements.specs.declared.name.Name.{Name}
+use Rattle.osm_elements.specs.declared.element.Element.{Element}
+use Rattle.osm_elements.specs.declared.element.Element.TheVariants.{Way}
+use Rattle.osm_elements.specs.Maps.{Rows, is_same, is_among, is_present}
+use Rattle.osm_elements.specs.Rows.{row_at}
+use Rattle.osm_refs.specs.Inner.Rising.{IsRising}
+use Rattle.osm_changes.specs.declared.change.Change.{Change}
+use Rattle.osm_changes.specs.Sound.{most_nodes}
+use Rattle.edit_simple.specs.declared.refusal.Refusal.{Refusal}
+use Rattle.edit_simple.specs.declared.refusal.Refusal.TheVariants.{WrongKind, Same, NotEndToEnd, TooMany}
+use Rattle.edit_simple.specs.Kinds.{is_way}
+use Rattle.edit_simple.specs.Parts.{nodes_of, row_tags, with_members}
+use Rattle.edit_topology.specs.BothTags.{both_tags}
+use Rattle.edit_topology.specs.Join.{meet_end_to_end, end_to_end, joined_members}
+
+module _ {A : Type 0} where
+  -- both names are ways' and not the same
+  abbrev pub name_checks : Name → Name → List (Option (Refusal A))
+  name_checks w v = then_some (not (is_way w.kind)) (WrongKind w) ∷ then_some (not (is_way v.kind)) (WrongKind v) ∷ then_some (is_same w v) (Same w) ∷ []
+
+  -- the one ends where the other begins, and the list gets not too long
+  abbrev pub list_checks : Name → List Name → List Name → List (Option (Refusal A))
+  list_checks w one other = then_some (not (meet_end_to_end one other)) NotEndToEnd ∷ then_some (nat_lt most_nodes (length (end_to_end one other))) (TooMany w) ∷ []
+
+  -- the way that both become
+  abbrev pub way_of_both : Rows A → Name → Name → Element A
+  way_of_both m w v = Way (end_to_end (nodes_of (row_at m w)) (nodes_of (row_at m v))) (both_tags (row_tags (row_at m w)) (row_tags (row_at m v)))
+
+  -- what the row of y becomes, where that of w becomes `joined`
+  abbrev pub row_joined : Rows A → Name → Name → Option (Element A) → Name → Option (Element A)
+  row_joined m w v joined y = if is_same y w then joined else (if is_same y v then None else option_map (with_members (joined_members w v)) (row_at m y))
+
+  abbrev pub joined_change : Rows A → Name → Name → Option (Element A) → Name → Change A
+  joined_change m w v joined y = record { name = y; before = row_at m y; after = row_joined m w v joined y }
+
+  -- rising names that are there, whose rows all become others
+  pub record MayJoin (m : Rows A) (w v : Name) (joined : Element A) (names : List Name) : Type 0 where
+    pub rising : IsRising names
+    pub there : list_all (is_present m) names ≡ true
+    pub apart : (y : Name) → is_among names y ≡ true → row_joined m w v (Some joined) y ≢ row_at m y

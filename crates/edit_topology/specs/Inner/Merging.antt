@@ -1,0 +1,74 @@
+-- A merge, check by check and name by name.
+use Rattle.std.specs.Prelude.{◌≡◌, ◌≢◌, ◌||◌, Bool, true, false, not, List, [], ◌∷◌, Option, Some, None, length, map, nat_lt, if◌then◌else◌}
+use Rattle.std.specs.Bool.{then_some}
+use Rattle.std.specs.List.{list_all}
+use Rattle.std.specs.Option.{option_map}
+use Rattle.osm_elements.specs.declared.name.Name.{Name}
+use Rattle.osm_elements.specs.declared.element.Element.{Element}
+use Rattle.osm_elements.specs.declared.element.Element.TheVariants.{Node, Way, Relation}
+use Rattle.osm_elements.specs.Made.{is_node}
+use Rattle.osm_elements.specs.Maps.{Rows, is_same, is_among, is_present}
+use Rattle.osm_elements.specs.Rows.{row_at}
+use Rattle.osm_elements.specs.TagRows.{Pairs}
+use Rattle.osm_refs.specs.Inner.Rising.{IsRising}
+use Rattle.osm_changes.specs.declared.change.Change.{Change}
+use Rattle.edit_simple.specs.declared.refusal.Refusal.{Refusal}
+use Rattle.edit_simple.specs.declared.refusal.Refusal.TheVariants.{WrongKind, Same, TagConflict, TooMany}
+use Rattle.edit_simple.specs.Tagging.{most_tags}
+use Rattle.edit_topology.specs.BothTags.{both_tags, conflict}
+use Rattle.edit_topology.specs.Merge.{without_doubled}
+use Rattle.edit_topology.specs.Renaming.{renamed, renamed_members}
+
+abbrev pub is_either : Name → Name → Name → Bool
+is_either k g n = is_same k n || is_same g n
+
+-- a list with k in the place of g, each run of k one k
+abbrev pub replaced : Name → Name → List Name → List Name
+replaced k g nodes = without_doubled k (map (renamed g k) nodes)
+
+-- the names that a merge is of and whose rows change: g, and k where it gains a tag
+abbrev pub subjects : Name → Name → Bool → List Name
+subjects k g gains = if gains then k ∷ g ∷ [] else g ∷ []
+
+module _ {A : Type 0} where
+  -- the checks that look at the names alone
+  abbrev pub name_checks : Name → Name → List (Option (Refusal A))
+  name_checks k g =
+      then_some (not (is_node k.kind)) (WrongKind k)
+      ∷ then_some (not (is_node g.kind)) (WrongKind g)
+      ∷ then_some (is_same k g) (Same k)
+      ∷ []
+
+  -- those that look at the tags alone
+  abbrev pub tag_checks : Name → Pairs → Pairs → List (Option (Refusal A))
+  tag_checks k tags others =
+      option_map TagConflict (conflict tags others)
+      ∷ then_some (nat_lt most_tags (length (both_tags tags others))) (TooMany k)
+      ∷ []
+
+  -- a way that has no nodes but k and g
+  abbrev pub is_cut_short : Name → Name → Option (Element A) → Bool
+  is_cut_short k g None = false
+  is_cut_short k g (Some (Node lat lon tags)) = false
+  is_cut_short k g (Some (Way nodes tags)) = list_all (is_either k g) nodes
+  is_cut_short k g (Some (Relation members tags)) = false
+
+  -- what an element becomes that names g, and what k's becomes, the one node among those that stay and change
+  abbrev pub merged_element : Name → Name → Pairs → Element A → Element A
+  merged_element k g both (Node lat lon tags) = Node lat lon both
+  merged_element k g both (Way nodes tags) = Way (replaced k g nodes) tags
+  merged_element k g both (Relation members tags) = Relation (renamed_members g k members) tags
+
+  -- what a row becomes
+  abbrev pub merged_row : Name → Name → Pairs → Name → Option (Element A) → Option (Element A)
+  merged_row k g both y o = if is_same g y then None else option_map (merged_element k g both) o
+
+  abbrev pub merged_change : Rows A → Name → Name → Pairs → Name → Change A
+  merged_change m k g both y = record { name = y; before = row_at m y; after = merged_row k g both y (row_at m y) }
+
+  -- a node's name, and rising names that are there, whose rows all become others
+  pub record MayMerge (m : Rows A) (k g : Name) (both : Pairs) (names : List Name) : Type 0 where
+    pub node : is_node k.kind ≡ true
+    pub rising : IsRising names
+    pub there : list_all (is_present m) names ≡ true
+    pub apart : (y : Name) → is_among names y ≡ true → merged_row k g both y (row_at m y) ≢ row_at m y

@@ -1,0 +1,83 @@
+//! The tags of two elements that become one.
+ghost use Rattle.std.specs.Prelude.{◌≡◌, ◌⊎◌, ◌<◌, ◌≤◌, true, false, T, map, length, nat_lt, nat_eq, is_some, MatchResult, OnOk, IfErr};
+ghost use Rattle.std.specs.FinMap.Entries.{is_sorted, put};
+ghost use Rattle.std.specs.Option.{option_copied};
+ghost use Rattle.osm_elements.specs.TagRows.{AreTagRows, tag_pair, text_cmp, value_at};
+ghost use Rattle.osm_elements.specs.declared.fault.TextFault.TheVariants as faults;
+ghost use Rattle.edit_simple.specs.declared.refusal.Refusal.TheVariants.{TooMany, Memory as OutOfMemory};
+ghost use Rattle.edit_simple.specs.Tagging.{most_tags};
+ghost use Rattle.edit_topology.specs.BothTags.{both_tags, is_another, conflict};
+
+use edit_simple::lookup::is_same_text;
+use edit_simple::refusal::Refusal;
+use osm_elements::fault::TextFault;
+use osm_elements::name::Name;
+use osm_elements::tags::{Tag, Tags};
+use osm_elements::text::Text;
+use std::alloc::Allocator;
+
+/// The least key that has a value in both and not the same one; none where there is no such key.
+pub fn conflict<'a, A: Allocator>(tags: &'a Tags<A>, others: &Tags<A>) -> Option<&'a Text<A>>
+    ensures { option_copied result ≡ conflict tags.now others.now }
+{
+    for tag in tags.rows() {
+        if has_another(others, tag) {
+            return Some(&tag.key);
+        }
+    }
+    None
+}
+
+// Whether the tags have another value at a tag's key.
+fn has_another<A: Allocator>(tags: &Tags<A>, tag: &Tag<A>) -> bool
+    ensures { result ≡ is_another (value_at tags.now tag.now.key) tag.now.value }
+{
+    match tags.get(tag.key.as_str()) {
+        Some(other) => !is_same_text(other, &tag.value),
+        None => false,
+    }
+}
+
+/// The tags of both: the other's value where both have a key. It refuses `TooMany` with the name for more than 1,000.
+pub fn both_tags<A: Allocator + Clone>(
+    name: &Name,
+    tags: &Tags<A>,
+    others: &Tags<A>,
+) -> Result<Tags<A>, Refusal<A>>
+    ensures { MatchResult result
+        (λ new. (nat_lt most_tags (length (both_tags tags.now others.now)) ≡ false) × (new ≡ both_tags tags.now others.now))
+        (λ r. ((nat_lt most_tags (length (both_tags tags.now others.now)) ≡ true) × (r ≡ TooMany name.now)) ⊎ (r ≡ OutOfMemory)) }
+{
+    let _ = tags.rows();
+    let mut both = tags.copy()?;
+    match put_all(&mut both, others.rows()) {
+        Ok(()) => {
+            let _ = both.rows();
+            Ok(both)
+        }
+        Err(TextFault::TooManyTags) => Err(Refusal::TooMany(*name)),
+        Err(_) => Err(Refusal::Memory),
+    }
+}
+
+// Puts each of the others among the tags. After a refusal the tags are of no use.
+fn put_all<A: Allocator + Clone>(tags: &mut Tags<A>, others: &[Tag<A>]) -> Result<(), TextFault>
+    requires sorted { T (is_sorted text_cmp tags.old) }
+    requires others { AreTagRows (map tag_pair others.now) }
+    ensures ok { OnOk result (tags.new ≡ both_tags tags.old (map tag_pair others.now)) }
+    ensures err { IfErr result (λ e. ((e ≡ faults.TooManyTags) × (1000 < length (both_tags tags.old (map tag_pair others.now)))) ⊎ (e ≡ faults.Memory)) }
+{
+    for tag in others {
+        put_one(tags, tag)?;
+    }
+    Ok(())
+}
+
+// Gives a tag's key its value.
+fn put_one<A: Allocator + Clone>(tags: &mut Tags<A>, tag: &Tag<A>) -> Result<(), TextFault>
+    requires key { nat_eq (length tag.now.key) 0 ≡ false }
+    ensures ok { OnOk result (tags.new ≡ put text_cmp tag.now.key tag.now.value tags.old) }
+    ensures err { IfErr result (λ e. (e ≡ faults.Memory) ⊎ ((e ≡ faults.TooManyTags) × (is_some (value_at tags.old tag.now.key) ≡ false) × (1000 ≤ length tags.old))) }
+{
+    tags.set(tag.key.copy()?, tag.value.copy()?)
+}

@@ -1,0 +1,281 @@
+//! Plans of joins.
+ghost use Rattle.std.specs.Prelude.{◌≡◌, ◌⊎◌, ◌≤◌, true, map, length, None, Some, MatchResult, IfOk, if◌then◌else◌, OnOk};
+ghost use Rattle.std.specs.Option.{option_copied, option_map};
+ghost use Rattle.osm_elements.specs.Maps.{is_absent, is_present, is_same};
+ghost use Rattle.osm_elements.specs.Members.{member_pair};
+ghost use Rattle.osm_elements.specs.Rows.{row_at};
+ghost use Rattle.osm_elements.specs.declared.element.Element.TheVariants.{Way};
+ghost use Rattle.osm_refs.specs.References.{users};
+ghost use Rattle.osm_changes.specs.Sound.{is_sound, most_nodes};
+ghost use Rattle.edit_simple.specs.declared.refusal.Refusal.TheVariants.{Absent, TagConflict, Memory as OutOfMemory};
+ghost use Rattle.edit_simple.specs.Checks.{first_that_holds};
+ghost use Rattle.edit_simple.specs.Inner.Passing.{passed};
+ghost use Rattle.edit_simple.specs.Kinds.{is_way};
+ghost use Rattle.edit_simple.specs.Parts.{with_members};
+ghost use Rattle.edit_simple.specs.Plans.{IsPlan};
+ghost use Rattle.edit_topology.specs.BothTags.{conflict};
+ghost use Rattle.edit_topology.specs.Inner.Joining.{name_checks, list_checks, way_of_both, joined_change, MayJoin};
+ghost use Rattle.edit_topology.specs.Join.{meet_end_to_end, end_to_end, goes_on, joined_members, join_checks, after_join};
+ghost use Rattle.edit_topology.specs.Renaming.{renamed};
+
+use crate::both_tags::{both_tags, conflict};
+use crate::kinds::is_way;
+use crate::touched::touched;
+use edit_simple::limits::MOST_NODES;
+use edit_simple::lookup::{is_same, is_same_text};
+use edit_simple::refusal::Refusal;
+use osm_changes::change::Change;
+use osm_changes::changes::Changes;
+use osm_elements::Memory;
+use osm_elements::element::Element;
+use osm_elements::map::OsmMap;
+use osm_elements::member::Member;
+use osm_elements::members::Members;
+use osm_elements::name::Name;
+use osm_elements::nodes::Nodes;
+use osm_elements::tags::Tags;
+use std::alloc::Allocator;
+
+/// Plans to join a way to another.
+pub fn plan<A: Allocator + Clone>(
+    alloc: A,
+    rows: &OsmMap<A>,
+    its_users: &[Name],
+    name: &Name,
+    other: &Name,
+) -> Result<Changes<A>, Refusal<A>>
+    requires sound { is_sound rows.now ≡ true }
+    requires users { its_users.now ≡ users rows.now other.now }
+    ensures { IsPlan rows.now (join_checks rows.now name.now other.now) (after_join rows.now name.now other.now) result }
+{
+    let joined = way_of_both(rows, name, other)?;
+    let names = touched(alloc.clone()?, &[*name, *other], its_users)?;
+    Ok(change_all(alloc, rows, name, other, joined, &names)?)
+}
+
+// The way that both become, or the refusal of two that can't be joined.
+fn way_of_both<A: Allocator + Clone>(
+    rows: &OsmMap<A>,
+    name: &Name,
+    other: &Name,
+) -> Result<Element<A>, Refusal<A>>
+    requires { is_sound rows.now ≡ true }
+    ensures { MatchResult result
+        (λ joined. (first_that_holds (join_checks rows.now name.now other.now) ≡ None) × (joined ≡ way_of_both rows.now name.now other.now))
+        (λ r. (first_that_holds (join_checks rows.now name.now other.now) ≡ Some r) ⊎ (r ≡ OutOfMemory)) }
+{
+    check_names(name, other)?;
+    let (nodes, tags) = way_at(rows, name)?;
+    let (other_nodes, other_tags) = way_at(rows, other)?;
+    check_lists(name, nodes.names(), other_nodes.names())?;
+    check_tags(tags, other_tags)?;
+    let tags = both_tags(name, tags, other_tags)?;
+    let nodes = end_to_end(nodes, other_nodes)?;
+    Ok(Element::Way { nodes, tags })
+}
+
+// Whether both names are ways' and not the same.
+fn check_names<A: Allocator>(name: &Name, other: &Name) -> Result<(), Refusal<A>>
+    ensures { result ≡ passed (first_that_holds (name_checks name.now other.now)) }
+{
+    if !is_way(name) {
+        return Err(Refusal::WrongKind(*name));
+    }
+    if !is_way(other) {
+        return Err(Refusal::WrongKind(*other));
+    }
+    if is_same(name, other) {
+        return Err(Refusal::Same(*name));
+    }
+    Ok(())
+}
+
+// The nodes and tags of a way, or the refusal of one that is not there.
+fn way_at<'m, A: Allocator>(
+    rows: &'m OsmMap<A>,
+    name: &Name,
+) -> Result<(&'m Nodes<A>, &'m Tags<A>), Refusal<A>>
+    requires sound { is_sound rows.now ≡ true }
+    requires kind { is_way name.now.kind ≡ true }
+    ensures { MatchResult result
+        (λ way. row_at rows.now name.now ≡ Some (Way way.0.now way.1.now))
+        (λ r. (is_absent rows.now name.now ≡ true) × (r ≡ Absent name.now)) }
+{
+    let Some(element) = rows.get(name) else {
+        return Err(Refusal::Absent(*name));
+    };
+    match element {
+        Element::Way { nodes, tags } => Ok((nodes, tags)),
+        _ => unreachable!(),
+    }
+}
+
+// Whether the one list ends where the other begins, and both make a list that is not too long.
+fn check_lists<A: Allocator>(name: &Name, nodes: &[Name], others: &[Name]) -> Result<(), Refusal<A>>
+    requires some { 1 ≤ length others.now }
+    requires few { length nodes.now ≤ most_nodes }
+    requires other_few { length others.now ≤ most_nodes }
+    ensures { result ≡ passed (first_that_holds (list_checks name.now nodes.now others.now)) }
+{
+    if !meet_end_to_end(nodes, others) {
+        return Err(Refusal::NotEndToEnd);
+    }
+    if nodes.len() + others.len() - 1 > MOST_NODES {
+        return Err(Refusal::TooMany(*name));
+    }
+    Ok(())
+}
+
+// Whether the last of the one list is the first of the other.
+fn meet_end_to_end(nodes: &[Name], others: &[Name]) -> bool
+    ensures { result ≡ meet_end_to_end nodes.now others.now }
+{
+    nodes.last() == others.first()
+}
+
+// The refusal of tags of which a key has two values.
+fn check_tags<A: Allocator + Clone>(tags: &Tags<A>, others: &Tags<A>) -> Result<(), Refusal<A>>
+    ensures { MatchResult result
+        (λ _. conflict tags.now others.now ≡ None)
+        (λ r. (option_map TagConflict (conflict tags.now others.now) ≡ Some r) ⊎ (r ≡ OutOfMemory)) }
+{
+    match conflict(tags, others) {
+        Some(key) => Err(Refusal::TagConflict(key.copy()?)),
+        None => Ok(()),
+    }
+}
+
+// The one list, and the other without its first behind it.
+fn end_to_end<A: Allocator + Clone>(nodes: &Nodes<A>, others: &Nodes<A>) -> Result<Nodes<A>, Memory>
+    requires { 1 ≤ length others.now }
+    ensures { IfOk result (λ both. both ≡ end_to_end nodes.now others.now) }
+{
+    let mut names = nodes.copy()?.into_vec();
+    names.extend_from_slice(&others.names()[1..])?;
+    Ok(Nodes::from_vec(names))
+}
+
+// The changes of the names that are touched, of which the way becomes the joined one.
+fn change_all<A: Allocator + Clone>(
+    alloc: A,
+    rows: &OsmMap<A>,
+    name: &Name,
+    other: &Name,
+    joined: Element<A>,
+    names: &[Name],
+) -> Result<Changes<A>, Memory>
+    requires { MayJoin rows.now name.now other.now joined names.now }
+    ensures { IfOk result (λ cs. cs ≡ map (joined_change rows.now name.now other.now (Some joined)) names.now) }
+{
+    let mut joined = Some(joined);
+    let mut changes = Changes::empty(alloc.clone()?);
+    for touched in names {
+        let change = joined_change(&alloc, rows, name, other, &mut joined, touched)?;
+        changes.push(change)?;
+    }
+    Ok(changes)
+}
+
+// The change of a name that is touched. The joined way is given to the way.
+fn joined_change<A: Allocator + Clone>(
+    alloc: &A,
+    rows: &OsmMap<A>,
+    name: &Name,
+    other: &Name,
+    joined: &mut Option<Element<A>>,
+    touched: &Name,
+) -> Result<Change<A>, Memory>
+    requires { is_present rows.now touched.now ≡ true }
+    ensures change { IfOk result (λ c. c ≡ joined_change rows.now name.now other.now joined.old touched.now) }
+    ensures joined { OnOk result (joined.new ≡ (if is_same touched.now name.now then None else joined.old)) }
+{
+    let Some(element) = rows.get(touched) else {
+        unreachable!()
+    };
+    let before = element.copy()?;
+    let after = if is_same(touched, name) {
+        joined.take()
+    } else if is_same(touched, other) {
+        None
+    } else {
+        Some(renamed(alloc, name, other, element)?)
+    };
+    Ok(Change {
+        name: *touched,
+        before: Some(before),
+        after,
+    })
+}
+
+// The element with the way as a member wherever the other was one.
+fn renamed<A: Allocator + Clone>(
+    alloc: &A,
+    name: &Name,
+    other: &Name,
+    element: &Element<A>,
+) -> Result<Element<A>, Memory>
+    ensures { IfOk result (λ after. after ≡ with_members (joined_members name.now other.now) element.now) }
+{
+    match element {
+        Element::Relation { members, tags } => Ok(Element::Relation {
+            members: joined_members(alloc.clone()?, name, other, members.as_slice())?,
+            tags: tags.copy()?,
+        }),
+        _ => element.copy(),
+    }
+}
+
+// The members without each that is the other right behind the way in the same role, and with the way for every other one.
+fn joined_members<A: Allocator + Clone>(
+    alloc: A,
+    name: &Name,
+    other: &Name,
+    members: &[Member<A>],
+) -> Result<Members<A>, Memory>
+    ensures { IfOk result (λ joined. joined ≡ joined_members name.now other.now (map member_pair members.now)) }
+{
+    let mut joined = Members::empty(alloc);
+    let mut before = None;
+    for member in members {
+        if !goes_on(name, other, before, member) {
+            joined.push(renamed_member(name, other, member)?)?;
+        }
+        before = Some(member);
+    }
+    Ok(joined)
+}
+
+// Whether a member is the other, and the one before it is the way in the same role.
+fn goes_on<A: Allocator>(
+    name: &Name,
+    other: &Name,
+    before: Option<&Member<A>>,
+    member: &Member<A>,
+) -> bool
+    ensures { result ≡ goes_on name.now other.now (option_map member_pair (option_copied before.entry)) (member_pair member.now) }
+{
+    match before {
+        Some(before) => {
+            is_same(other, &member.name)
+                && is_same(name, &before.name)
+                && is_same_text(&before.role, &member.role)
+        }
+        None => false,
+    }
+}
+
+// A member that is the other as the way in the same role, and any other member as it is.
+fn renamed_member<A: Allocator + Clone>(
+    name: &Name,
+    other: &Name,
+    member: &Member<A>,
+) -> Result<Member<A>, Memory>
+    ensures { IfOk result (λ m. member_pair m ≡ (renamed other.now name.now member.now.name, member.now.role)) }
+{
+    let new = if is_same(other, &member.name) {
+        *name
+    } else {
+        member.name
+    };
+    Ok(Member::new(new, member.role.copy()?))
+}

@@ -1,0 +1,295 @@
+//! Plans of merges.
+ghost use Rattle.std.specs.Prelude.{◌≡◌, ◌⊎◌, ◌++◌, true, map, None, Some, IfOk, MatchResult};
+ghost use Rattle.std.specs.List.{find, list_all};
+ghost use Rattle.osm_elements.specs.Made.{is_node};
+ghost use Rattle.osm_elements.specs.Maps.{is_present, is_same, name_set};
+ghost use Rattle.osm_elements.specs.Members.{member_pair};
+ghost use Rattle.osm_elements.specs.Nodes.{AreNodes};
+ghost use Rattle.osm_elements.specs.Rows.{row_at};
+ghost use Rattle.osm_refs.specs.References.{users};
+ghost use Rattle.osm_changes.specs.Sound.{is_sound};
+ghost use Rattle.edit_simple.specs.declared.refusal.Refusal.TheVariants.{Memory as OutOfMemory};
+ghost use Rattle.edit_simple.specs.Checks.{first_that_holds};
+ghost use Rattle.edit_simple.specs.Inner.Passing.{passed};
+ghost use Rattle.edit_simple.specs.Plans.{IsPlan};
+ghost use Rattle.edit_topology.specs.BothTags.{both_tags};
+ghost use Rattle.edit_topology.specs.Inner.Merging.{is_either, replaced, subjects, name_checks, tag_checks, is_cut_short, merged_element, merged_row, merged_change, MayMerge};
+ghost use Rattle.edit_topology.specs.Merge.{merge_checks, after_merge};
+ghost use Rattle.edit_topology.specs.Renaming.{renamed, renamed_members};
+
+use crate::both_tags::{both_tags, conflict};
+use crate::kinds::is_node;
+use crate::touched::touched;
+use edit_simple::lookup::is_same;
+use edit_simple::refusal::Refusal;
+use osm_changes::change::Change;
+use osm_changes::changes::Changes;
+use osm_elements::Memory;
+use osm_elements::element::Element;
+use osm_elements::map::OsmMap;
+use osm_elements::member::Member;
+use osm_elements::members::Members;
+use osm_elements::name::Name;
+use osm_elements::nodes::Nodes;
+use osm_elements::tags::Tags;
+use std::alloc::Allocator;
+
+/// Plans to merge another node into a node.
+pub fn plan<A: Allocator + Clone>(
+    alloc: A,
+    rows: &OsmMap<A>,
+    its_users: &[Name],
+    name: &Name,
+    other: &Name,
+) -> Result<Changes<A>, Refusal<A>>
+    requires sound { is_sound rows.now ≡ true }
+    requires users { its_users.now ≡ users rows.now other.now }
+    ensures { IsPlan rows.now (merge_checks rows.now name.now other.now) (after_merge rows.now name.now other.now) result }
+{
+    check_names(name, other)?;
+    let Some(kept) = rows.get(name) else {
+        return Err(Refusal::Absent(*name));
+    };
+    let Some(gone) = rows.get(other) else {
+        return Err(Refusal::Absent(*other));
+    };
+    if let Some(way) = first_cut_short(rows, its_users, name, other) {
+        return Err(Refusal::TooFew(way));
+    }
+    let tags = united(name, kept.tags(), gone.tags())?;
+    let gains = tags.len() > kept.tags().len();
+    let changed = all_changed(alloc.clone()?, its_users, name, other, gains)?;
+    Ok(change_all(alloc, rows, name, other, &tags, &changed)?)
+}
+
+// Whether both names are nodes', and not the same.
+fn check_names<A: Allocator>(name: &Name, other: &Name) -> Result<(), Refusal<A>>
+    ensures { result ≡ passed (first_that_holds (name_checks name.now other.now)) }
+{
+    if !is_node(name) {
+        return Err(Refusal::WrongKind(*name));
+    }
+    if !is_node(other) {
+        return Err(Refusal::WrongKind(*other));
+    }
+    if is_same(name, other) {
+        return Err(Refusal::Same(*name));
+    }
+    Ok(())
+}
+
+// The first of the other's users that is a way with no nodes but the two.
+fn first_cut_short<A: Allocator>(
+    rows: &OsmMap<A>,
+    its_users: &[Name],
+    name: &Name,
+    other: &Name,
+) -> Option<Name>
+    ensures { result ≡ find (λ u. is_cut_short name.now other.now (row_at rows.now u)) its_users.now }
+{
+    for user in its_users {
+        if is_cut_short(rows, user, name, other) {
+            return Some(*user);
+        }
+    }
+    None
+}
+
+// Whether the name of a user is that of a way with no nodes but the two, of which one is left.
+fn is_cut_short<A: Allocator>(rows: &OsmMap<A>, user: &Name, name: &Name, other: &Name) -> bool
+    ensures { result ≡ is_cut_short name.now other.now (row_at rows.now user.now) }
+{
+    match rows.get(user) {
+        Some(Element::Way { nodes, .. }) => are_either(nodes.names(), name, other),
+        _ => false,
+    }
+}
+
+// Whether each name of a list is one of two.
+fn are_either(names: &[Name], name: &Name, other: &Name) -> bool
+    ensures { result ≡ list_all (is_either name.now other.now) names.now }
+{
+    names
+        .iter()
+        .all(|node| is_same(name, node) || is_same(other, node))
+}
+
+// The tags of both nodes, or the refusal of a key with two values or of more than 1,000 tags.
+fn united<A: Allocator + Clone>(
+    name: &Name,
+    tags: &Tags<A>,
+    others: &Tags<A>,
+) -> Result<Tags<A>, Refusal<A>>
+    ensures { MatchResult result
+        (λ new. (first_that_holds (tag_checks {A = A} name.now tags.now others.now) ≡ None) × (new ≡ both_tags tags.now others.now))
+        (λ r. (first_that_holds (tag_checks {A = A} name.now tags.now others.now) ≡ Some r) ⊎ (r ≡ OutOfMemory)) }
+{
+    if let Some(key) = conflict(tags, others) {
+        return Err(Refusal::TagConflict(key.copy()?));
+    }
+    both_tags(name, tags, others)
+}
+
+// The names whose rows change, rising: the node's where it gains a tag, the other's, and those of the other's users.
+fn all_changed<A: Allocator>(
+    alloc: A,
+    its_users: &[Name],
+    name: &Name,
+    other: &Name,
+    gains: bool,
+) -> Result<Vec<Name, A>, Memory>
+    ensures { IfOk result (λ names. names.items ≡ name_set (subjects name.now other.now gains ++ its_users.now)) }
+{
+    if gains {
+        touched(alloc, &[*name, *other], its_users)
+    } else {
+        touched(alloc, &[*other], its_users)
+    }
+}
+
+// The changes of the names whose rows change.
+fn change_all<A: Allocator + Clone>(
+    alloc: A,
+    rows: &OsmMap<A>,
+    name: &Name,
+    other: &Name,
+    both: &Tags<A>,
+    changed: &[Name],
+) -> Result<Changes<A>, Memory>
+    requires { MayMerge rows.now name.now other.now both.now changed.now }
+    ensures { IfOk result (λ cs. cs ≡ map (merged_change rows.now name.now other.now both.now) changed.now) }
+{
+    let mut changes = Changes::empty(alloc.clone()?);
+    for changing in changed {
+        let change = merged_change(&alloc, rows, name, other, both, changing)?;
+        changes.push(change)?;
+    }
+    Ok(changes)
+}
+
+// The change of a name whose row changes.
+fn merged_change<A: Allocator + Clone>(
+    alloc: &A,
+    rows: &OsmMap<A>,
+    name: &Name,
+    other: &Name,
+    both: &Tags<A>,
+    changing: &Name,
+) -> Result<Change<A>, Memory>
+    requires node { is_node name.now.kind ≡ true }
+    requires there { is_present rows.now changing.now ≡ true }
+    ensures { IfOk result (λ c. c ≡ merged_change rows.now name.now other.now both.now changing.now) }
+{
+    let Some(element) = rows.get(changing) else {
+        unreachable!()
+    };
+    let before = element.copy()?;
+    let after = merged_row(alloc, name, other, both, changing, element)?;
+    Ok(Change {
+        name: *changing,
+        before: Some(before),
+        after,
+    })
+}
+
+// What the element of a name becomes: none where the name is the other's.
+fn merged_row<A: Allocator + Clone>(
+    alloc: &A,
+    name: &Name,
+    other: &Name,
+    both: &Tags<A>,
+    changing: &Name,
+    element: &Element<A>,
+) -> Result<Option<Element<A>>, Memory>
+    requires { is_node name.now.kind ≡ true }
+    ensures { IfOk result (λ after. after ≡ merged_row name.now other.now both.now changing.now (Some element.now)) }
+{
+    if is_same(other, changing) {
+        return Ok(None);
+    }
+    Ok(Some(merged_element(alloc, name, other, both, element)?))
+}
+
+// What an element becomes that stays: the node gets the tags of both, and the others name it.
+fn merged_element<A: Allocator + Clone>(
+    alloc: &A,
+    name: &Name,
+    other: &Name,
+    both: &Tags<A>,
+    element: &Element<A>,
+) -> Result<Element<A>, Memory>
+    requires { is_node name.now.kind ≡ true }
+    ensures { IfOk result (λ after. after ≡ merged_element name.now other.now both.now element.now) }
+{
+    match element {
+        Element::Node { lat, lon, .. } => Ok(Element::Node {
+            lat: *lat,
+            lon: *lon,
+            tags: both.copy()?,
+        }),
+        Element::Way { nodes, tags } => Ok(Element::Way {
+            nodes: replaced(alloc.clone()?, nodes.names(), name, other)?,
+            tags: tags.copy()?,
+        }),
+        Element::Relation { members, tags } => Ok(Element::Relation {
+            members: renamed_members(alloc.clone()?, members.as_slice(), name, other)?,
+            tags: tags.copy()?,
+        }),
+    }
+}
+
+// The nodes of a list with a name in the place of the other, once where it stands several times in a row.
+fn replaced<A: Allocator>(
+    alloc: A,
+    nodes: &[Name],
+    name: &Name,
+    other: &Name,
+) -> Result<Nodes<A>, Memory>
+    requires node { is_node name.now.kind ≡ true }
+    requires nodes { AreNodes nodes.now }
+    ensures { IfOk result (λ new. new ≡ replaced name.now other.now nodes.now) }
+{
+    let mut new = renamed_all(alloc, nodes, name, other)?;
+    new.dedup_by(|node, before| is_same(name, node) && is_same(name, before));
+    Ok(Nodes::from_vec(new))
+}
+
+// The names of a list with one in the place of the other.
+fn renamed_all<A: Allocator>(
+    alloc: A,
+    names: &[Name],
+    name: &Name,
+    other: &Name,
+) -> Result<Vec<Name, A>, Memory>
+    ensures { IfOk result (λ new. new.items ≡ map (renamed other.now name.now) names.now) }
+{
+    let new = names
+        .iter()
+        .map(|named| renamed(named, name, other))
+        .collect(alloc)?;
+    Ok(new)
+}
+
+// The name for the other, and any other as it is.
+fn renamed(named: &Name, name: &Name, other: &Name) -> Name
+    ensures { result ≡ renamed other.now name.now named.now }
+{
+    if is_same(other, named) { *name } else { *named }
+}
+
+// The members of a list with a name in the place of the other, in its roles.
+fn renamed_members<A: Allocator + Clone>(
+    alloc: A,
+    members: &[Member<A>],
+    name: &Name,
+    other: &Name,
+) -> Result<Members<A>, Memory>
+    ensures { IfOk result (λ new. new ≡ renamed_members other.now name.now (map member_pair members.now)) }
+{
+    let mut new = Members::empty(alloc);
+    for member in members {
+        let role = member.role.copy()?;
+        new.push(Member::new(renamed(&member.name, name, other), role))?;
+    }
+    Ok(new)
+}

@@ -1,0 +1,277 @@
+//! Plans of splits.
+ghost use Rattle.std.specs.Prelude.{◌≡◌, ◌+◌, ◌++◌, true, Some, map, take, drop, count_by, find, IfOk, OnOk};
+ghost use Rattle.osm_elements.specs.Maps.{is_same};
+ghost use Rattle.osm_elements.specs.Members.{member_pair};
+ghost use Rattle.osm_elements.specs.Rows.{row_at};
+ghost use Rattle.osm_refs.specs.References.{users};
+ghost use Rattle.osm_changes.specs.Sound.{is_sound};
+ghost use Rattle.edit_simple.specs.Checks.{first_that_holds};
+ghost use Rattle.edit_simple.specs.Inner.Passing.{passed};
+ghost use Rattle.edit_simple.specs.Parts.{nodes_of};
+ghost use Rattle.edit_simple.specs.Plans.{IsPlan};
+ghost use Rattle.edit_topology.specs.Inner.Splitting.{split_length, is_overfull, is_way_row, split_member, split_element, new_way, split_change, MaySplit};
+ghost use Rattle.edit_topology.specs.Split.{is_inside, split_members, split_checks, after_split};
+
+use crate::kinds::is_way;
+use crate::touched::touched;
+use edit_simple::limits::MOST_MEMBERS;
+use edit_simple::lookup::{is_present, is_same};
+use edit_simple::refusal::Refusal;
+use osm_changes::change::Change;
+use osm_changes::changes::Changes;
+use osm_elements::Memory;
+use osm_elements::element::Element;
+use osm_elements::map::OsmMap;
+use osm_elements::member::Member;
+use osm_elements::members::Members;
+use osm_elements::name::Name;
+use osm_elements::nodes::Nodes;
+use std::alloc::Allocator;
+
+/// Plans to split a way in two.
+pub fn plan<A: Allocator + Clone>(
+    alloc: A,
+    rows: &OsmMap<A>,
+    its_users: &[Name],
+    name: &Name,
+    place: u32,
+    into: &Name,
+) -> Result<Changes<A>, Refusal<A>>
+    requires sound { is_sound rows.now ≡ true }
+    requires users { its_users.now ≡ users rows.now name.now }
+    ensures { IsPlan rows.now (split_checks rows.now name.now place into.now) (after_split rows.now name.now place into.now) result }
+{
+    check(rows, its_users, name, place, into)?;
+    let names = touched(alloc.clone()?, &[*name, *into], its_users)?;
+    Ok(change_all(alloc, rows, &names, name, place, into)?)
+}
+
+// Whether a way can be split.
+fn check<A: Allocator>(
+    rows: &OsmMap<A>,
+    its_users: &[Name],
+    name: &Name,
+    place: u32,
+    into: &Name,
+) -> Result<(), Refusal<A>>
+    requires sound { is_sound rows.now ≡ true }
+    requires users { its_users.now ≡ users rows.now name.now }
+    ensures { result ≡ passed (first_that_holds (split_checks rows.now name.now place into.now)) }
+{
+    if !is_way(name) {
+        return Err(Refusal::WrongKind(*name));
+    }
+    if !is_way(into) {
+        return Err(Refusal::WrongKind(*into));
+    }
+    let Some(way) = rows.get(name) else {
+        return Err(Refusal::Absent(*name));
+    };
+    if is_present(rows, into) {
+        return Err(Refusal::Present(*into));
+    }
+    if !is_inside(place, way) {
+        return Err(Refusal::BadPosition);
+    }
+    match first_overfull(rows, its_users, name) {
+        Some(relation) => Err(Refusal::TooMany(relation)),
+        None => Ok(()),
+    }
+}
+
+// Whether the place is one of the way's, and neither its first nor its last.
+fn is_inside<A: Allocator>(place: u32, way: &Element<A>) -> bool
+    ensures { result ≡ is_inside place (nodes_of (Some way.now)) }
+{
+    let place = place as usize;
+    match way {
+        Element::Way { nodes, .. } => 0 < place && place + 1 < nodes.len(),
+        _ => false,
+    }
+}
+
+// The first of the way's users that would have more than 32,000 members.
+fn first_overfull<A: Allocator>(rows: &OsmMap<A>, its_users: &[Name], way: &Name) -> Option<Name>
+    ensures { result ≡ find (is_overfull rows.now way.now) its_users.now }
+{
+    its_users
+        .iter()
+        .find(|user| is_overfull(rows, way, *user))
+        .copied()
+}
+
+// Whether a name's element would have more than 32,000 members.
+fn is_overfull<A: Allocator>(rows: &OsmMap<A>, way: &Name, user: &Name) -> bool
+    ensures { result ≡ is_overfull rows.now way.now user.now }
+{
+    match rows.get(user) {
+        Some(Element::Relation { members, .. }) => {
+            split_length(members.as_slice(), way) > MOST_MEMBERS
+        }
+        _ => false,
+    }
+}
+
+// How many members there are once each that names the way is two.
+fn split_length<A: Allocator>(members: &[Member<A>], way: &Name) -> usize
+    ensures { result ≡ split_length way.now (map member_pair members.now) }
+{
+    members.len() + count_named(members, way)
+}
+
+// How many of the members name the way.
+fn count_named<A: Allocator>(members: &[Member<A>], way: &Name) -> usize
+    ensures { result ≡ count_by (λ m. is_same way.now m.name) members.now }
+{
+    members
+        .iter()
+        .filter(|member| is_same(way, &member.name))
+        .count()
+}
+
+// The changes of the names that are touched.
+fn change_all<A: Allocator + Clone>(
+    alloc: A,
+    rows: &OsmMap<A>,
+    names: &[Name],
+    way: &Name,
+    place: u32,
+    into: &Name,
+) -> Result<Changes<A>, Memory>
+    requires { MaySplit rows.now way.now place into.now names.now }
+    ensures { IfOk result (λ cs. cs ≡ map (split_change rows.now way.now place into.now) names.now) }
+{
+    let mut changes = Changes::empty(alloc.clone()?);
+    for name in names {
+        let change = split_change(&alloc, rows, name, way, place, into)?;
+        changes.push(change)?;
+    }
+    Ok(changes)
+}
+
+// The change of a name that is touched: the new way where nothing has the name.
+fn split_change<A: Allocator + Clone>(
+    alloc: &A,
+    rows: &OsmMap<A>,
+    name: &Name,
+    way: &Name,
+    place: u32,
+    into: &Name,
+) -> Result<Change<A>, Memory>
+    requires { is_way_row (row_at rows.now way.now) ≡ true }
+    ensures { IfOk result (λ c. c ≡ split_change rows.now way.now place into.now name.now) }
+{
+    let (before, after) = match rows.get(name) {
+        Some(element) => (
+            Some(element.copy()?),
+            split_element(alloc, element, way, place, into)?,
+        ),
+        None => (None, new_way(alloc, rows, way, place)?),
+    };
+    Ok(Change {
+        name: *name,
+        before,
+        after: Some(after),
+    })
+}
+
+// The new way: the nodes of a way from a place on, and its tags.
+fn new_way<A: Allocator + Clone>(
+    alloc: &A,
+    rows: &OsmMap<A>,
+    way: &Name,
+    place: u32,
+) -> Result<Element<A>, Memory>
+    requires { is_way_row (row_at rows.now way.now) ≡ true }
+    ensures { IfOk result (λ new. new ≡ new_way place (row_at rows.now way.now)) }
+{
+    let Some(Element::Way { nodes, tags }) = rows.get(way) else {
+        unreachable!()
+    };
+    Ok(Element::Way {
+        nodes: nodes_from(alloc, nodes, place)?,
+        tags: tags.copy()?,
+    })
+}
+
+// What an element becomes: a way of the nodes up to a place, a relation whose members that name the way are two each.
+fn split_element<A: Allocator + Clone>(
+    alloc: &A,
+    element: &Element<A>,
+    way: &Name,
+    place: u32,
+    into: &Name,
+) -> Result<Element<A>, Memory>
+    ensures { IfOk result (λ after. after ≡ split_element way.now place into.now element.now) }
+{
+    match element {
+        Element::Node { .. } => element.copy(),
+        Element::Way { nodes, tags } => Ok(Element::Way {
+            nodes: nodes_up_to(alloc, nodes, place)?,
+            tags: tags.copy()?,
+        }),
+        Element::Relation { members, tags } => Ok(Element::Relation {
+            members: split_members(alloc, members.as_slice(), way, into)?,
+            tags: tags.copy()?,
+        }),
+    }
+}
+
+// The nodes up to a place.
+fn nodes_up_to<A: Allocator + Clone>(
+    alloc: &A,
+    nodes: &Nodes<A>,
+    place: u32,
+) -> Result<Nodes<A>, Memory>
+    ensures { IfOk result (λ first. first ≡ take (place + 1) nodes.now) }
+{
+    let count = place as usize + 1;
+    let first = nodes.names().iter().take(count).copied();
+    let names = first.collect(alloc.clone()?)?;
+    Ok(Nodes::from_vec(names))
+}
+
+// The nodes from a place on.
+fn nodes_from<A: Allocator + Clone>(
+    alloc: &A,
+    nodes: &Nodes<A>,
+    place: u32,
+) -> Result<Nodes<A>, Memory>
+    ensures { IfOk result (λ last. last ≡ drop place nodes.now) }
+{
+    let last = nodes.names().iter().skip(place as usize).copied();
+    let names = last.collect(alloc.clone()?)?;
+    Ok(Nodes::from_vec(names))
+}
+
+// The members, each that names the way followed by one that names the new way in the same role.
+fn split_members<A: Allocator + Clone>(
+    alloc: &A,
+    members: &[Member<A>],
+    way: &Name,
+    into: &Name,
+) -> Result<Members<A>, Memory>
+    ensures { IfOk result (λ split. split ≡ split_members way.now into.now (map member_pair members.now)) }
+{
+    let mut split = Vec::with_capacity(alloc.clone()?, split_length(members, way))?;
+    for member in members {
+        add_split(member, way, into, &mut split)?;
+    }
+    Ok(Members::from_vec(split))
+}
+
+// Adds a member, and one that names the new way in its role where it names the way.
+fn add_split<A: Allocator + Clone>(
+    member: &Member<A>,
+    way: &Name,
+    into: &Name,
+    split: &mut Vec<Member<A>, A>,
+) -> Result<(), Memory>
+    ensures { OnOk result (map member_pair split.new.items ≡ map member_pair split.old.items ++ split_member way.now into.now (member_pair member.now)) }
+{
+    split.push(member.copy()?)?;
+    if is_same(way, &member.name) {
+        split.push(Member::new(*into, member.role.copy()?))?;
+    }
+    Ok(())
+}
