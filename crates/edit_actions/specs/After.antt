@@ -8,10 +8,14 @@ use Rattle.edit_simple.specs.Delete.{after_delete}
 use Rattle.edit_simple.specs.Members.{after_members}
 use Rattle.edit_simple.specs.Move.{after_move}
 use Rattle.edit_simple.specs.Nodes.{after_nodes}
+use Rattle.edit_simple.specs.Purge.{after_purge}
 use Rattle.edit_simple.specs.Retag.{after_retag}
 use Rattle.edit_simple.specs.Reverse.{after_reverse}
+use Rattle.edit_topology.specs.Join.{after_join}
+use Rattle.edit_topology.specs.Merge.{after_merge}
+use Rattle.edit_topology.specs.Split.{after_split}
 use Rattle.edit_actions.specs.declared.action.Action.{Action}
-use Rattle.edit_actions.specs.declared.action.Action.TheVariants.{Create, Retag, Move, Reverse, Nodes, Members, Delete}
+use Rattle.edit_actions.specs.declared.action.Action.TheVariants.{Create, Retag, Move, Reverse, Nodes, Members, Delete, Purge, Split, Join, Merge}
 
 module _ {A : Type 0} where
   abbrev pub after : Rows A → Action A → Rows A
@@ -22,6 +26,10 @@ module _ {A : Type 0} where
   after m (Nodes w list) = after_nodes m w list
   after m (Members r list) = after_members m r list
   after m (Delete x) = after_delete m x
+  after m (Purge x) = after_purge m x
+  after m (Split w i v) = after_split m w i v
+  after m (Join w v) = after_join m w v
+  after m (Merge k g) = after_merge m k g
 
   -- the changes of an action
   abbrev pub changes : Rows A → Action A → List (Change A)

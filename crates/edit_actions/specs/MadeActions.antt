@@ -4,7 +4,7 @@ use Rattle.osm_elements.specs.Made.{are_nodes, is_made}
 use Rattle.osm_elements.specs.Members.{are_members}
 use Rattle.edit_simple.specs.Tagging.{are_gifts}
 use Rattle.edit_actions.specs.declared.action.Action.{Action}
-use Rattle.edit_actions.specs.declared.action.Action.TheVariants.{Create, Retag, Move, Reverse, Nodes, Members, Delete}
+use Rattle.edit_actions.specs.declared.action.Action.TheVariants.{Create, Retag, Move, Reverse, Nodes, Members, Delete, Purge, Split, Join, Merge}
 
 -- an action's own values are as their types keep them
 abbrev pub is_made_action : {A : Type 0} → Action A → Bool
@@ -15,3 +15,7 @@ is_made_action (Reverse w) = true
 is_made_action (Nodes w list) = are_nodes list
 is_made_action (Members r list) = are_members list
 is_made_action (Delete x) = true
+is_made_action (Purge x) = true
+is_made_action (Split w i v) = true
+is_made_action (Join w v) = true
+is_made_action (Merge k g) = true

@@ -8,10 +8,14 @@ use Rattle.edit_simple.specs.Delete.{delete_checks}
 use Rattle.edit_simple.specs.Members.{members_checks}
 use Rattle.edit_simple.specs.Move.{move_checks}
 use Rattle.edit_simple.specs.Nodes.{nodes_checks}
+use Rattle.edit_simple.specs.Purge.{purge_checks}
 use Rattle.edit_simple.specs.Retag.{retag_checks}
 use Rattle.edit_simple.specs.Reverse.{reverse_checks}
+use Rattle.edit_topology.specs.Join.{join_checks}
+use Rattle.edit_topology.specs.Merge.{merge_checks}
+use Rattle.edit_topology.specs.Split.{split_checks}
 use Rattle.edit_actions.specs.declared.action.Action.{Action}
-use Rattle.edit_actions.specs.declared.action.Action.TheVariants.{Create, Retag, Move, Reverse, Nodes, Members, Delete}
+use Rattle.edit_actions.specs.declared.action.Action.TheVariants.{Create, Retag, Move, Reverse, Nodes, Members, Delete, Purge, Split, Join, Merge}
 
 module _ {A : Type 0} where
   abbrev pub checks : Rows A → Action A → List (Option (Refusal A))
@@ -22,6 +26,10 @@ module _ {A : Type 0} where
   checks m (Nodes w list) = nodes_checks m w list
   checks m (Members r list) = members_checks m r list
   checks m (Delete x) = delete_checks m x
+  checks m (Purge x) = purge_checks m x
+  checks m (Split w i v) = split_checks m w i v
+  checks m (Join w v) = join_checks m w v
+  checks m (Merge k g) = merge_checks m k g
 
   -- the refusal of an action on a map, or none: it is accepted
   abbrev pub refusal : Rows A → Action A → Option (Refusal A)

@@ -1,6 +1,7 @@
 //! What an author can do to the map.
 ghost use Rattle.std.specs.Prelude.{◌≡◌, IfOk};
 
+use crate::each_action;
 use edit_simple::retag::Retag;
 use osm_elements::Memory;
 use osm_elements::element::Element;
@@ -9,6 +10,17 @@ use osm_elements::name::Name;
 use osm_elements::names::Names;
 use osm_elements::nodes::Nodes;
 use std::alloc::{AllocError, Allocator};
+
+// An action with the same fields, each copied.
+macro_rules! copied {
+    (($action:expr) $($variant:ident { $($field:ident: $how:ident),* } by $plan:ident;)*) => {
+        match $action {
+            $(Action::$variant { $($field),* } => Action::$variant {
+                $($field: $field.clone()?),*
+            },)*
+        }
+    };
+}
 
 /// An action on the map.
 #[derive(Drop)]
@@ -61,37 +73,41 @@ pub enum Action<A: Allocator> {
         /// The name of the element.
         name: Name,
     },
+    /// Takes an element away with every reference to it.
+    Purge {
+        /// The name of the element.
+        name: Name,
+    },
+    /// Splits a way in two.
+    Split {
+        /// The name of the way.
+        name: Name,
+        /// The position among its nodes, counted from 0, at which it is split.
+        place: u32,
+        /// The name of the new way.
+        into: Name,
+    },
+    /// Joins a way to another that begins where it ends.
+    Join {
+        /// The name of the way.
+        name: Name,
+        /// The name of the other, which goes.
+        other: Name,
+    },
+    /// Merges another node into a node.
+    Merge {
+        /// The name of the node.
+        name: Name,
+        /// The name of the other, which goes.
+        other: Name,
+    },
 }
 
 impl<A: Allocator + Clone> Clone for Action<A> {
     ghost is_clone = { λ a b. b ≡ a };
 
     fn clone(&self) -> Result<Action<A>, AllocError> {
-        Ok(match self {
-            Action::Create { name, element } => Action::Create {
-                name: *name,
-                element: element.clone()?,
-            },
-            Action::Retag { name, tags } => Action::Retag {
-                name: *name,
-                tags: tags.clone()?,
-            },
-            Action::Move { names, dlat, dlon } => Action::Move {
-                names: names.clone()?,
-                dlat: *dlat,
-                dlon: *dlon,
-            },
-            Action::Reverse { name } => Action::Reverse { name: *name },
-            Action::Nodes { name, list } => Action::Nodes {
-                name: *name,
-                list: list.clone()?,
-            },
-            Action::Members { name, list } => Action::Members {
-                name: *name,
-                list: list.clone()?,
-            },
-            Action::Delete { name } => Action::Delete { name: *name },
-        })
+        Ok(each_action!(copied(self)))
     }
 }
 

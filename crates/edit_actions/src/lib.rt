@@ -2,5 +2,6 @@
 #![tactic(auto)]
 
 pub mod action;
+mod each_action;
 pub mod laws;
 pub mod plan;

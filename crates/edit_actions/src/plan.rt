@@ -9,14 +9,33 @@ ghost use Rattle.edit_actions.specs.MadeActions.{is_made_action};
 ghost use Rattle.edit_actions.specs.Refusals.{checks};
 
 use crate::action::Action;
+use crate::each_action;
 use edit_simple::plans::{
-    plan_create, plan_delete, plan_members, plan_move, plan_nodes, plan_retag, plan_reverse,
+    plan_create, plan_delete, plan_members, plan_move, plan_nodes, plan_purge, plan_retag,
+    plan_reverse,
 };
 use edit_simple::refusal::Refusal;
+use edit_topology::plans::{plan_join, plan_merge, plan_split};
 use osm_changes::changes::Changes;
 use osm_changes::laws::differences_are_changes;
 use osm_changes::store::Store;
 use std::alloc::Allocator;
+
+// What the action's plan answers.
+macro_rules! planned {
+    (($action:expr, $alloc:expr, $store:expr) $($variant:ident { $($field:ident: $how:ident),* } by $plan:ident;)*) => {
+        match $action {
+            $(Action::$variant { $($field),* } => $plan($alloc, $store, $(handed!($how $field)),*),)*
+        }
+    };
+}
+
+// A field of an action as its plan takes it.
+macro_rules! handed {
+    (lent $field:ident) => { $field };
+    (slice $field:ident) => { $field.as_slice() };
+    (number $field:ident) => { *$field };
+}
 
 /// Plans an action on a store: answers the changes that lead to the map after it, or the first of its checks that
 /// holds, or `Memory` in place of any answer. It leaves the store alone. It costs what the plan of the action does,
@@ -45,17 +64,7 @@ fn plan_of<A: Allocator + Clone>(
 ) -> Result<Changes<A>, Refusal<A>>
     ensures { IsPlan store.now.rows (checks store.now.rows action.now) (after store.now.rows action.now) result }
 {
-    match action {
-        Action::Create { name, element } => plan_create(alloc, store, name, element),
-        Action::Retag { name, tags } => plan_retag(alloc, store, name, tags),
-        Action::Move { names, dlat, dlon } => {
-            plan_move(alloc, store, names.as_slice(), *dlat, *dlon)
-        }
-        Action::Reverse { name } => plan_reverse(alloc, store, name),
-        Action::Nodes { name, list } => plan_nodes(alloc, store, name, list),
-        Action::Members { name, list } => plan_members(alloc, store, name, list),
-        Action::Delete { name } => plan_delete(alloc, store, name),
-    }
+    each_action!(planned(action, alloc, store))
 }
 
 // What holds of every store, of every action by the types of its values, and of the differences between maps. It does

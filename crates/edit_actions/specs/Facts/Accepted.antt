@@ -1,6 +1,9 @@
 -- What holds of accepted actions.
-use Rattle.std.proofs.Common.{◌≡◌, ◌≢◌, true, None, reverse, if◌then◌else◌}
-use Rattle.osm_elements.specs.Maps.{Rows}
+use Rattle.std.proofs.Common.{◌≡◌, ◌≢◌, true, not, None, reverse, if◌then◌else◌}
+use Rattle.std.specs.List.{filter}
+use Rattle.std.specs.FinMap.Entries.{is_sorted-where_key}
+use Rattle.osm_elements.specs.Maps.{Rows, rows_but}
+use Rattle.osm_elements.specs.NameOrder.{name_cmp}
 use Rattle.osm_elements.specs.Rows.{AreInOrder}
 use Rattle.osm_elements.specs.Facts.Dropped.{AreInOrder-rows_but}
 use Rattle.osm_elements.specs.Facts.Rows.{AreInOrder-put_row}
@@ -9,16 +12,21 @@ use Rattle.osm_changes.specs.Sound.{is_sound}
 use Rattle.osm_changes.specs.Facts.Changing.{changed-differences}
 use Rattle.osm_changes.specs.Facts.SoundRows.{sound_in_order}
 use Rattle.edit_simple.specs.Move.{is_moved, moved_by}
-use Rattle.edit_simple.specs.Parts.{at_name, with_tags, with_nodes, with_members}
+use Rattle.edit_simple.specs.Parts.{at_name, with_tags, with_nodes, with_members, each_row}
+use Rattle.edit_simple.specs.Purge.{goes, what_is_left}
 use Rattle.edit_simple.specs.Tagging.{retagged}
 use Rattle.edit_simple.specs.Facts.EachRow.{AreInOrder-each_row}
 use Rattle.edit_simple.specs.Facts.Creating.{create_accepted}
 use Rattle.edit_simple.specs.Facts.Deleting.{delete_accepted}
 use Rattle.edit_simple.specs.Facts.Moving.{move_accepted}
+use Rattle.edit_simple.specs.Facts.Purging.{purge_accepted}
 use Rattle.edit_simple.specs.Facts.Relisting.{reverse_accepted, nodes_accepted, members_accepted}
 use Rattle.edit_simple.specs.Facts.Retagging.{retag_accepted}
+use Rattle.edit_topology.specs.Facts.Joining.{join_row, join_accepted}
+use Rattle.edit_topology.specs.Facts.Merging.{merge_row, merge_accepted}
+use Rattle.edit_topology.specs.Facts.Splitting.{split_row, split_off, split_accepted}
 use Rattle.edit_actions.specs.declared.action.Action.{Action}
-use Rattle.edit_actions.specs.declared.action.Action.TheVariants.{Create, Retag, Move, Reverse, Nodes, Members, Delete}
+use Rattle.edit_actions.specs.declared.action.Action.TheVariants.{Create, Retag, Move, Reverse, Nodes, Members, Delete, Purge, Split, Join, Merge}
 use Rattle.edit_actions.specs.After.{after, changes}
 use Rattle.edit_actions.specs.MadeActions.{is_made_action}
 use Rattle.edit_actions.specs.Refusals.{refusal}
@@ -33,6 +41,10 @@ module _ {A : Type 0} where
   accepted_keeps_sound m (Nodes w list) sound made ok = nodes_accepted m w list sound made ok
   accepted_keeps_sound m (Members r list) sound made ok = members_accepted m r list sound made ok
   accepted_keeps_sound m (Delete x) sound made ok = delete_accepted m x sound ok
+  accepted_keeps_sound m (Purge x) sound made ok = purge_accepted m x sound ok
+  accepted_keeps_sound m (Split w i v) sound made ok = split_accepted m w i v sound ok
+  accepted_keeps_sound m (Join w v) sound made ok = join_accepted m w v sound ok
+  accepted_keeps_sound m (Merge k g) sound made ok = merge_accepted m k g sound ok
 
   -- the map after has its names in order, whether or not the action is accepted
   pub AreInOrder-after : (m : Rows A) (a : Action A) → AreInOrder m → AreInOrder (after m a)
@@ -43,6 +55,11 @@ module _ {A : Type 0} where
   AreInOrder-after m (Nodes w list) h = AreInOrder-each_row (at_name w (with_nodes (λ _. list))) m h
   AreInOrder-after m (Members r list) h = AreInOrder-each_row (at_name r (with_members (λ _. list))) m h
   AreInOrder-after m (Delete x) h = AreInOrder-rows_but m x h
+  AreInOrder-after m (Purge x) h =
+      AreInOrder-each_row (λ _ v. what_is_left m x v) (filter (λ r. not (goes m x r.0)) m) (is_sorted-where_key name_cmp (λ z. not (goes m x z)) m h)
+  AreInOrder-after m (Split w i v) h = AreInOrder-put_row (each_row (split_row w i v) m) v (split_off m w i) (AreInOrder-each_row (split_row w i v) m h)
+  AreInOrder-after m (Join w v) h = AreInOrder-each_row (join_row m w v) (rows_but v m) (AreInOrder-rows_but m v h)
+  AreInOrder-after m (Merge k g) h = AreInOrder-each_row (merge_row m k g) (rows_but g m) (AreInOrder-rows_but m g h)
 
   -- the changes lead to the map after
   pub changes_lead : (m : Rows A) (a : Action A) → is_sound m ≡ true → is_made_action a ≡ true → refusal m a ≡ None → changed m (changes m a) ≡ after m a

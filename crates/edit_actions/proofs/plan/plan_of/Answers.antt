@@ -22,3 +22,12 @@ returns-in-Nodes g c = plan_of c.args.store.now.rows c.args.action.now _ c.plan_
 
 pub returns-in-Members : goal.returns-in-Members
 returns-in-Members g c = plan_of c.args.store.now.rows c.args.action.now _ c.plan_members.result c.in-Members.is c.plan_members.ensures
+
+pub returns-in-Split : goal.returns-in-Split
+returns-in-Split g c = plan_of c.args.store.now.rows c.args.action.now _ c.plan_split.result c.in-Split.is c.plan_split.ensures
+
+pub returns-in-Join : goal.returns-in-Join
+returns-in-Join g c = plan_of c.args.store.now.rows c.args.action.now _ c.plan_join.result c.in-Join.is c.plan_join.ensures
+
+pub returns-in-Merge : goal.returns-in-Merge
+returns-in-Merge g c = plan_of c.args.store.now.rows c.args.action.now _ c.plan_merge.result c.in-Merge.is c.plan_merge.ensures
