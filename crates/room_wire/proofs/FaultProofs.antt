@@ -21,12 +21,12 @@ use Rattle.room_wire.specs.declared.bad.Bad.{Bad}
 use Rattle.room_wire.specs.declared.bad.Fault.{Fault}
 use Rattle.room_wire.specs.declared.bad.Fault.TheVariants.{BadField, BadId, NotJson, NotObject, UnknownDo}
 use Rattle.room_wire.specs.declared.field.Field.{Field}
-use Rattle.room_wire.specs.declared.field.Field.TheVariants.{El, Els, Lat, Lon, Nodes, Members, Tags, Dlat, Dlon, Seq}
+use Rattle.room_wire.specs.declared.field.Field.TheVariants.{El, Els, Lat, Lon, Nodes, Members, Tags, Dlat, Dlon, At, Into, With, Seq}
 use Rattle.room_wire.specs.declared.incoming.Incoming.{Incoming}
 use Rattle.room_wire.specs.declared.incoming.Body.{Body}
 use Rattle.room_wire.specs.declared.incoming.Body.TheVariants as bodies
 use Rattle.room_wire.specs.Reading.{◌>>=◌, or_fault}
-use Rattle.room_wire.specs.Spelling.{body_by, create_at, retag_at, move_at, relist_way_at, relist_relation_at, distance_at, gifts_at, el_at, els_at, element_at, lat_at, lon_at, message_by, message_of, members_at, nodes_at, ordinal, seq_at, seq_from, spells, tags_at, tags_from, under}
+use Rattle.room_wire.specs.Spelling.{body_by, create_at, retag_at, move_at, relist_way_at, relist_relation_at, split_at, join_at, merge_at, name_at, place_at, distance_at, gifts_at, el_at, els_at, element_at, lat_at, lon_at, message_by, message_of, members_at, nodes_at, ordinal, seq_at, seq_from, spells, tags_at, tags_from, under}
 use Rattle.room_wire.specs.Trees.{whole}
 use Rattle.room_wire.specs.WellFormed.{AreGood, HasWord, IsFirstBad, IsNumber, MessageId, Slot, element_slots, slot, slots}
 use Rattle.room_wire.specs.Words.{Word, word_text}
@@ -94,6 +94,11 @@ move_tells d =
     step Els (els_at d) _ _ (only_field Els _) (λ names e. step Dlat (distance_at Dlat d) _ _ (only_field Dlat _)
     (λ dlat e. step Dlon (distance_at Dlon d) (λ dlon. let moves : Action Global = actions.Move names dlat dlon in Ok moves) [] (only_field Dlon _) (λ dlon e. tt)))
 
+split_tells : (d : Data) → Tells (split_at d) (slots words.Split d)
+split_tells d =
+    step El (el_at d) _ _ (only_field El _) (λ name e. step At (place_at d) _ _ (only_field At _)
+    (λ place e. step Into (name_at Into d) (λ into. let splits : Action Global = actions.Split name place into in Ok splits) [] (only_field Into _) (λ into e. tt)))
+
 body_tells : (word : Word) (d : Data) → Tells (body_by (word_text word) d) (slots word d)
 body_tells words.Create d =
     done_tells (create_at d) (slots words.Create d)
@@ -104,6 +109,10 @@ body_tells words.Reverse d = done_tells _ (slots words.Reverse d) (name_tells (�
 body_tells words.Nodes d = done_tells (relist_way_at d) (slots words.Nodes d) (pair_tells Nodes (nodes_at d) (λ name list. actions.Nodes name list) d (only_field Nodes _))
 body_tells words.Members d = done_tells (relist_relation_at d) (slots words.Members d) (pair_tells Members (members_at d) (λ name list. actions.Members name list) d (only_field Members _))
 body_tells words.Delete d = done_tells _ (slots words.Delete d) (name_tells (λ name. actions.Delete name) d)
+body_tells words.Purge d = done_tells _ (slots words.Purge d) (name_tells (λ name. actions.Purge name) d)
+body_tells words.Split d = done_tells (split_at d) (slots words.Split d) (split_tells d)
+body_tells words.Join d = done_tells (join_at d) (slots words.Join d) (pair_tells With (name_at With d) (λ name other. actions.Join name other) d (only_field With _))
+body_tells words.Merge d = done_tells (merge_at d) (slots words.Merge d) (pair_tells With (name_at With d) (λ name other. actions.Merge name other) d (only_field With _))
 body_tells words.Undo d = step Seq (seq_at d) (λ seq. Ok (bodies.Change (requests.Undo seq))) [] (only_seq (get (codes "seq") d)) (λ seq e. tt)
 body_tells words.Get d = step El (el_at d) (λ name. Ok (bodies.Get name)) [] (only_field El _) (λ name e. tt)
 body_tells words.Map d = tt
@@ -198,7 +207,7 @@ other_word w word other = go (bytes_eq w (word_text word)) refl
 unknown_word : (w : List ℕ) (d : Data) → ((word : Word) → w ≡ word_text word → ⊥) → body_by w d ≡ Err UnknownDo
 unknown_word w d other =
     let no : (word : Word) → bytes_eq w (word_text word) ≡ false = λ word. other_word w word (other word) in
-    rw (no words.Undo, no words.Get, no words.Map, no words.Create, no words.Retag, no words.Move, no words.Reverse, no words.Nodes, no words.Members, no words.Delete) refl
+    rw (no words.Undo, no words.Get, no words.Map, no words.Create, no words.Retag, no words.Move, no words.Reverse, no words.Nodes, no words.Members, no words.Delete, no words.Purge, no words.Split, no words.Join, no words.Merge) refl
 
 unknown_body : (d : Data) (o : Option Data) → ((word : Word) → o ≡ Some (string (word_text word)) → ⊥) → (or_fault UnknownDo (option_and_then as_str o) >>= λ w. body_by w d) ≡ Err UnknownDo
 unknown_body d None other = refl

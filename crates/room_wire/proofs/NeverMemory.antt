@@ -12,9 +12,9 @@ use Rattle.room_wire.specs.declared.incoming.Body.{Body}
 use Rattle.room_wire.specs.declared.incoming.Body.TheVariants.{Map}
 use Rattle.std.specs.Str.{bytes_eq}
 use Rattle.room_wire.specs.declared.field.Field.{Field}
-use Rattle.room_wire.specs.declared.field.Field.TheVariants.{El, Els, Lat, Lon, Nodes, Members, Tags, Dlat, Dlon, Seq}
+use Rattle.room_wire.specs.declared.field.Field.TheVariants.{El, Els, Lat, Lon, Nodes, Members, Tags, Dlat, Dlon, At, Into, With, Seq}
 use Rattle.room_wire.specs.Reading.{◌>>=◌, or_fault}
-use Rattle.room_wire.specs.Spelling.{spells, ordinal, word_at, message_of, message_by, under, id_at, body_at, body_by, action_by, create_at, retag_at, move_at, relist_way_at, relist_relation_at, element_at, el_at, els_at, distance_at, lat_at, lon_at, nodes_at, members_at, tags_at, tags_from, gifts_at, seq_at, seq_from}
+use Rattle.room_wire.specs.Spelling.{spells, ordinal, word_at, message_of, message_by, under, id_at, body_at, body_by, action_by, create_at, retag_at, move_at, relist_way_at, relist_relation_at, split_at, join_at, merge_at, element_at, name_at, place_at, el_at, els_at, distance_at, lat_at, lon_at, nodes_at, members_at, tags_at, tags_from, gifts_at, seq_at, seq_from}
 
 Fine : {X : Type 0} → Result X Fault → Type 0
 Fine r = IfErr r (λ f. f ≢ Memory)
@@ -37,8 +37,11 @@ fine_ok : {X : Type 0} (x : X) → Fine (Ok x)
 unfolding Fine
 fine_ok x = tt
 
+name_is_fine : (field : Field) (d : Data) → Fine (name_at field d)
+name_is_fine field d = fine_or (BadField field) _ (λ e. cc)
+
 el_is_fine : (d : Data) → Fine (el_at d)
-el_is_fine d = fine_or (BadField El) _ (λ e. cc)
+el_is_fine d = name_is_fine El d
 
 tags_are_fine : (found : Option Data) → Fine (tags_from found)
 tags_are_fine None = fine_ok _
@@ -83,6 +86,17 @@ relist_way_is_fine d = fine_then (el_at d) _ (el_is_fine d) (λ name. fine_then 
 relist_relation_is_fine : (d : Data) → Fine (relist_relation_at d)
 relist_relation_is_fine d = fine_then (el_at d) _ (el_is_fine d) (λ name. fine_then (members_at d) _ (fine_or (BadField Members) _ (λ e. cc)) (λ list. fine_ok _))
 
+split_is_fine : (d : Data) → Fine (split_at d)
+split_is_fine d =
+    fine_then (el_at d) _ (el_is_fine d) (λ name. fine_then (place_at d) _ (fine_or (BadField At) _ (λ e. cc))
+    (λ place. fine_then (name_at Into d) _ (name_is_fine Into d) (λ into. fine_ok _)))
+
+join_is_fine : (d : Data) → Fine (join_at d)
+join_is_fine d = fine_then (el_at d) _ (el_is_fine d) (λ name. fine_then (name_at With d) _ (name_is_fine With d) (λ other. fine_ok _))
+
+merge_is_fine : (d : Data) → Fine (merge_at d)
+merge_is_fine d = fine_then (el_at d) _ (el_is_fine d) (λ name. fine_then (name_at With d) _ (name_is_fine With d) (λ other. fine_ok _))
+
 action_is_fine : (word : List ℕ) (d : Data) → Fine (action_by word d)
 action_is_fine word d =
     fine_if (bytes_eq word (codes "create")) _ _ (create_is_fine d)
@@ -91,7 +105,11 @@ action_is_fine word d =
     (fine_if (bytes_eq word (codes "reverse")) _ _ (fine_then (el_at d) _ (el_is_fine d) (λ name. fine_ok _))
     (fine_if (bytes_eq word (codes "nodes")) _ _ (relist_way_is_fine d)
     (fine_if (bytes_eq word (codes "members")) _ _ (relist_relation_is_fine d)
-    (fine_if (bytes_eq word (codes "delete")) _ _ (fine_then (el_at d) _ (el_is_fine d) (λ name. fine_ok _)) (err_is_fine UnknownDo _ refl (λ e. cc))))))))
+    (fine_if (bytes_eq word (codes "delete")) _ _ (fine_then (el_at d) _ (el_is_fine d) (λ name. fine_ok _))
+    (fine_if (bytes_eq word (codes "purge")) _ _ (fine_then (el_at d) _ (el_is_fine d) (λ name. fine_ok _))
+    (fine_if (bytes_eq word (codes "split")) _ _ (split_is_fine d)
+    (fine_if (bytes_eq word (codes "join")) _ _ (join_is_fine d)
+    (fine_if (bytes_eq word (codes "merge")) _ _ (merge_is_fine d) (err_is_fine UnknownDo _ refl (λ e. cc))))))))))))
 
 body_is_fine : (word : List ℕ) (d : Data) → Fine (body_by word d)
 body_is_fine word d =

@@ -1,5 +1,5 @@
 -- Every well-formed message spells itself.
-use Rattle.std.proofs.Common.{◌≡◌, ◌&&◌, ◌∙◌, All, ℕ, ℤ, List, codes, true, Option, Some, None, Result, Ok, inl, inr, is_some, option_map, nat_le, refl, sym, ap, arith}
+use Rattle.std.proofs.Common.{◌≡◌, ◌&&◌, ◌∙◌, All, ℕ, ℤ, List, codes, true, cond, Option, Some, None, Result, Ok, inl, inr, is_some, option_map, nat_le, refl, sym, ap, arith}
 use Rattle.std.specs.declared.alloc.Global.{Global}
 use Rattle.std.specs.Option.{option_and_then}
 use Rattle.std.proofs.lemmas.Bool.Decides.{nat_tests}
@@ -22,16 +22,16 @@ use Rattle.room_history.specs.declared.call.Request.TheVariants as requests
 use Rattle.room_wire.specs.declared.bad.Fault.{Fault}
 use Rattle.room_wire.specs.declared.bad.Fault.TheVariants.{BadField, UnknownDo}
 use Rattle.room_wire.specs.declared.field.Field.{Field}
-use Rattle.room_wire.specs.declared.field.Field.TheVariants.{El, Els, Lat, Lon, Nodes, Members, Tags, Dlat, Dlon, Seq}
+use Rattle.room_wire.specs.declared.field.Field.TheVariants.{El, Els, Lat, Lon, Nodes, Members, Tags, Dlat, Dlon, At, Into, With, Seq}
 use Rattle.room_wire.specs.declared.incoming.Incoming.{Incoming}
 use Rattle.room_wire.specs.declared.incoming.Body.{Body}
 use Rattle.room_wire.specs.declared.incoming.Body.TheVariants as bodies
 use Rattle.room_wire.specs.Fields.{field_text}
 use Rattle.room_wire.specs.ReadBack.{HasId, IsWhole}
 use Rattle.room_wire.specs.Reading.{◌>>=◌, or_fault}
-use Rattle.room_wire.specs.Spelling.{body_at, body_by, distance_at, el_at, element_at, els_at, gifts_at, gifts_of, id_at, lat_at, lon_at, names_in, message_by, message_of, members_at, members_in, nodes_at, nodes_in, ordinal, seq_at, seq_from, spells, tags_at, tags_from, text_at, under}
+use Rattle.room_wire.specs.Spelling.{body_at, body_by, distance_at, el_at, element_at, els_at, gifts_at, gifts_of, id_at, lat_at, lon_at, name_at, place_at, place_of, names_in, message_by, message_of, members_at, members_in, nodes_at, nodes_in, ordinal, seq_at, seq_from, spells, tags_at, tags_from, text_at, under}
 use Rattle.room_wire.specs.Trees.{whole}
-use Rattle.room_wire.specs.WellFormed.{Asks, Has, HasDistance, HasElement, HasMembers, HasName, HasNodes, HasSeq, HasTags, HasText, HasWord, IsMessage, IsNumber, MessageId, gifts_tree, names_tree}
+use Rattle.room_wire.specs.WellFormed.{Asks, Has, HasDistance, HasElement, HasMembers, HasName, HasNameAt, HasNodes, HasPlace, HasSeq, HasTags, HasText, HasWord, IsMessage, IsNumber, MessageId, gifts_tree, names_tree}
 use Rattle.room_wire.specs.Words.{Word, word_text}
 use Rattle.room_wire.specs.Words as words
 use Rattle.room_wire.proofs.ReadBackProofs.{as_i64-of_integer, created, gifts_of-gift_members, members_in-trees, names_in-trees, nodes_in-ids, tags_of-tag_members, three, two}
@@ -64,8 +64,17 @@ word_read d word h = ap (λ o. or_fault UnknownDo (option_and_then as_str o) >>=
 text_read : {X : Type 0} (d : Data) (field : Field) (reading : List ℕ → Option X) (x : X) → HasText d field reading x → or_fault (BadField field) (option_and_then reading (text_at field d)) ≡ Ok x
 text_read d field reading x h = ap (λ o. or_fault (BadField field) (option_and_then reading (option_and_then as_str o))) h.1 ∙ ap (or_fault (BadField field)) h.2
 
+name_read : (d : Data) (field : Field) (name : Name) → HasNameAt d field name → name_at field d ≡ Ok name
+name_read d field name h = text_read d field name_of name (_, h.0, name_of_text name h.1)
+
 el_read : (d : Data) (name : Name) → HasName d name → el_at d ≡ Ok name
-el_read d name h = text_read d El name_of name (_, h.0, name_of_text name h.1)
+el_read d name h = name_read d El name h
+
+place_read : (d : Data) (place : ℕ) → HasPlace d place → place_at d ≡ Ok place
+place_read d place h =
+    let high = h.1 in
+    let inside : nat_le place 4294967295 ≡ true = grind (arith, nat_tests) in
+    ap (λ o. or_fault (BadField At) (option_and_then place_of o)) h.0 ∙ ap (λ b. or_fault (BadField At) (cond b (Some place) None)) inside
 
 tags_read : (d : Data) (tags : Pairs) → HasTags d tags → AreTagRows tags → tags_at d ≡ Ok tags
 tags_read d tags (inl h) rows = ap tags_from h ∙ ap (or_fault (BadField Tags)) (tags_of-tag_members tags rows)
@@ -127,6 +136,15 @@ asked d (bodies.Change (requests.Do (actions.Members name list))) (word, named, 
     word_read d words.Members word ∙ ap doing (two {C = Action Global} (λ x y. actions.Members x y) (el_at d) (members_at d) name list (el_read d name named) (members_read d list has))
 asked d (bodies.Change (requests.Do (actions.Delete name))) (word, named) =
     word_read d words.Delete word ∙ ap (λ r. doing (r >>= λ name. Ok (actions.Delete name))) (el_read d name named)
+asked d (bodies.Change (requests.Do (actions.Purge name))) (word, named) =
+    word_read d words.Purge word ∙ ap (λ r. doing (r >>= λ name. Ok (actions.Purge name))) (el_read d name named)
+asked d (bodies.Change (requests.Do (actions.Split name place into))) (word, named, has, new) =
+    word_read d words.Split word ∙ ap doing (three {D = Action Global} (λ x y z. actions.Split x y z) (el_at d) (place_at d) (name_at Into d) name place into
+    (el_read d name named) (place_read d place has) (name_read d Into into new))
+asked d (bodies.Change (requests.Do (actions.Join name other))) (word, named, has) =
+    word_read d words.Join word ∙ ap doing (two {C = Action Global} (λ x y. actions.Join x y) (el_at d) (name_at With d) name other (el_read d name named) (name_read d With other has))
+asked d (bodies.Change (requests.Do (actions.Merge name other))) (word, named, has) =
+    word_read d words.Merge word ∙ ap doing (two {C = Action Global} (λ x y. actions.Merge x y) (el_at d) (name_at With d) name other (el_read d name named) (name_read d With other has))
 asked d (bodies.Change (requests.Undo seq)) (word, has) =
     word_read d words.Undo word ∙ ap (λ r. r >>= λ seq. Ok (bodies.Change (requests.Undo seq))) (seq_read d seq has)
 asked d (bodies.Get name) (word, named) =

@@ -9,7 +9,7 @@ use Rattle.osm_elements.specs.NameTexts.{named}
 use Rattle.edit_actions.specs.declared.action.Action.TheVariants as actions
 use Rattle.edit_actions.specs.declared.action.Action.TheVariants.{Create, Delete}
 use Rattle.room_history.specs.declared.call.Request.TheVariants.{Do, Undo}
-use Rattle.room_wire.specs.declared.field.Field.TheVariants.{El, Els, Lat, Nodes, Members, Tags, Dlat, Dlon, Seq}
+use Rattle.room_wire.specs.declared.field.Field.TheVariants.{El, Els, Lat, Nodes, Members, Tags, Dlat, Dlon, At, Into, With, Seq}
 use Rattle.room_wire.specs.declared.bad.Bad.{Bad}
 use Rattle.room_wire.specs.declared.bad.Fault.{Fault}
 use Rattle.room_wire.specs.declared.bad.Fault.TheVariants.{NotJson, NotObject, BadId, UnknownDo, BadField}
@@ -37,6 +37,9 @@ r-2 = named kinds.Relation (negsuc 1) tt
 abbrev pub greenwich : Element Global
 greenwich = Node (pos 515000000) (negsuc 999999) []
 
+abbrev pub w9 : Name
+w9 = named kinds.Way (pos 9) tt
+
 abbrev pub asks : ℕ → Body → Result Incoming Bad
 asks id body = Ok (record { id = id; body = body })
 
@@ -58,6 +61,11 @@ reads_messages =
     × (spells (codes "{\"id\":2,\"do\":\"nodes\",\"el\":\"w1\",\"nodes\":[7,-1,7]}") ≡ asks 2 (Change (Do (actions.Nodes w1 (n7 ∷ n-1 ∷ n7 ∷ [])))))
     × (spells (codes "{\"id\":2,\"do\":\"members\",\"el\":\"r-2\",\"members\":[[\"n7\",\"\"],[\"w1\",\"outer\"]]}") ≡ asks 2 (Change (Do (actions.Members r-2 ((n7, []) ∷ (w1, codes "outer") ∷ [])))))
     × (spells (codes "{\"id\":0,\"do\":\"delete\",\"el\":\"w1\",\"id\":3}") ≡ asks 3 (Change (Do (Delete w1))))
+    × (spells (codes "{\"id\":2,\"do\":\"purge\",\"el\":\"r-2\"}") ≡ asks 2 (Change (Do (actions.Purge r-2))))
+    × (spells (codes "{\"id\":2,\"do\":\"split\",\"el\":\"w1\",\"at\":0,\"into\":\"w9\"}") ≡ asks 2 (Change (Do (actions.Split w1 0 w9))))
+    × (spells (codes "{\"id\":2,\"do\":\"split\",\"el\":\"n7\",\"at\":4294967295,\"into\":\"n7\"}") ≡ asks 2 (Change (Do (actions.Split n7 4294967295 n7))))
+    × (spells (codes "{\"id\":2,\"do\":\"join\",\"el\":\"w1\",\"with\":\"w9\"}") ≡ asks 2 (Change (Do (actions.Join w1 w9))))
+    × (spells (codes "{\"id\":2,\"do\":\"merge\",\"el\":\"n7\",\"with\":\"n-1\"}") ≡ asks 2 (Change (Do (actions.Merge n7 n-1))))
     × (spells (codes "{\"id\":4,\"do\":\"undo\",\"seq\":9}") ≡ asks 4 (Change (Undo (Some 9))))
     × (spells (codes "{\"id\":5,\"do\":\"undo\"}") ≡ asks 5 (Change (Undo None)))
     × (spells (codes "{\"id\":6,\"do\":\"get\",\"el\":\"n7\"}") ≡ asks 6 (Get n7))
@@ -102,6 +110,14 @@ tells_an_id =
     × (spells (codes "{\"id\":1,\"do\":\"move\",\"els\":[],\"dlat\":1,\"dlon\":9223372036854775808}") ≡ fails 1 (BadField Dlon))
     × (spells (codes "{\"id\":1,\"do\":\"nodes\",\"el\":\"w1\",\"nodes\":null}") ≡ fails 1 (BadField Nodes))
     × (spells (codes "{\"id\":1,\"do\":\"members\",\"el\":\"r-2\",\"nodes\":[]}") ≡ fails 1 (BadField Members))
+    × (spells (codes "{\"id\":1,\"do\":\"purge\",\"el\":7}") ≡ fails 1 (BadField El))
+    × (spells (codes "{\"id\":1,\"do\":\"split\",\"el\":\"w1\",\"into\":1}") ≡ fails 1 (BadField At))
+    × (spells (codes "{\"id\":1,\"do\":\"split\",\"el\":\"w1\",\"at\":-1,\"into\":\"w9\"}") ≡ fails 1 (BadField At))
+    × (spells (codes "{\"id\":1,\"do\":\"split\",\"el\":\"w1\",\"at\":4294967296,\"into\":\"w9\"}") ≡ fails 1 (BadField At))
+    × (spells (codes "{\"id\":1,\"do\":\"split\",\"el\":\"w1\",\"at\":1.0,\"into\":\"w9\"}") ≡ fails 1 (BadField At))
+    × (spells (codes "{\"id\":1,\"do\":\"split\",\"el\":\"w1\",\"at\":1,\"into\":\"w0\"}") ≡ fails 1 (BadField Into))
+    × (spells (codes "{\"id\":1,\"do\":\"join\",\"el\":\"w1\"}") ≡ fails 1 (BadField With))
+    × (spells (codes "{\"id\":1,\"do\":\"merge\",\"el\":\"n7\",\"with\":[\"n-1\"]}") ≡ fails 1 (BadField With))
     × (spells (codes "{\"id\":1,\"do\":\"undo\",\"seq\":null}") ≡ fails 1 (BadField Seq))
 
 -- the texts of some replies

@@ -24,7 +24,7 @@ use Rattle.edit_actions.specs.declared.action.Action.{Action}
 use Rattle.edit_actions.specs.declared.action.Action.TheVariants as actions
 use Rattle.room_history.specs.declared.call.Request.TheVariants as requests
 use Rattle.room_wire.specs.declared.field.Field.{Field}
-use Rattle.room_wire.specs.declared.field.Field.TheVariants.{El, Els, Lat, Lon, Nodes, Members, Tags, Dlat, Dlon, Seq}
+use Rattle.room_wire.specs.declared.field.Field.TheVariants.{El, Els, Lat, Lon, Nodes, Members, Tags, Dlat, Dlon, At, Into, With, Seq}
 use Rattle.room_wire.specs.declared.bad.Fault.{Fault}
 use Rattle.room_wire.specs.declared.bad.Fault.TheVariants.{NotJson, NotObject, BadId, UnknownDo, BadField, Memory}
 use Rattle.room_wire.specs.declared.bad.Bad.{Bad}
@@ -43,8 +43,11 @@ abbrev pub text_at : Field → Data → Option (List ℕ)
 text_at field d = option_and_then as_str (get (field_text field) d)
 
 -- the fields, each with its form
+abbrev pub name_at : Field → Data → Result Name Fault
+name_at field d = or_fault (BadField field) (option_and_then name_of (text_at field d))
+
 abbrev pub el_at : Data → Result Name Fault
-el_at d = or_fault (BadField El) (option_and_then name_of (text_at El d))
+el_at d = name_at El d
 
 abbrev pub lat_at : Data → Result ℤ Fault
 lat_at d = or_fault (BadField Lat) (option_and_then latitude_of (text_at Lat d))
@@ -70,6 +73,13 @@ els_at d = or_fault (BadField Els) (option_and_then names_in (option_and_then as
 -- a whole number that is an i64
 abbrev pub distance_at : Field → Data → Result ℤ Fault
 distance_at field d = or_fault (BadField field) (option_and_then as_i64 (option_and_then as_number (get (field_text field) d)))
+
+-- a position, a whole number in 0..=4294967295
+abbrev pub place_of : Data → Option ℕ
+place_of d = option_and_then (λ n. if nat_le n 4294967295 then Some n else None) (option_and_then as_u64 (as_number d))
+
+abbrev pub place_at : Data → Result ℕ Fault
+place_at d = or_fault (BadField At) (option_and_then place_of (get (field_text At) d))
 
 -- an array of whole numbers, each an i64 other than 0: the ids of nodes
 abbrev pub node_of : Data → Option Name
@@ -179,6 +189,15 @@ relist_way_at d = el_at d >>= λ name. nodes_at d >>= λ list. Ok (actions.Nodes
 abbrev pub relist_relation_at : Data → Result (Action Global) Fault
 relist_relation_at d = el_at d >>= λ name. members_at d >>= λ list. Ok (actions.Members name list)
 
+abbrev pub split_at : Data → Result (Action Global) Fault
+split_at d = el_at d >>= λ name. place_at d >>= λ place. name_at Into d >>= λ into. Ok (actions.Split name place into)
+
+abbrev pub join_at : Data → Result (Action Global) Fault
+join_at d = el_at d >>= λ name. name_at With d >>= λ other. Ok (actions.Join name other)
+
+abbrev pub merge_at : Data → Result (Action Global) Fault
+merge_at d = el_at d >>= λ name. name_at With d >>= λ other. Ok (actions.Merge name other)
+
 -- the action that the word asks for
 abbrev pub action_by : List ℕ → Data → Result (Action Global) Fault
 action_by word d =
@@ -189,7 +208,11 @@ action_by word d =
     else (if bytes_eq word (codes "nodes") then relist_way_at d
     else (if bytes_eq word (codes "members") then relist_relation_at d
     else (if bytes_eq word (codes "delete") then (el_at d >>= λ name. Ok (actions.Delete name))
-    else Err UnknownDo))))))
+    else (if bytes_eq word (codes "purge") then (el_at d >>= λ name. Ok (actions.Purge name))
+    else (if bytes_eq word (codes "split") then split_at d
+    else (if bytes_eq word (codes "join") then join_at d
+    else (if bytes_eq word (codes "merge") then merge_at d
+    else Err UnknownDo))))))))))
 
 -- what the word asks for
 abbrev pub body_by : List ℕ → Data → Result Body Fault

@@ -20,13 +20,13 @@ use Rattle.edit_actions.specs.declared.action.Action.TheVariants as actions
 use Rattle.room_history.specs.declared.call.Request.TheVariants as requests
 use Rattle.room_wire.specs.declared.bad.Fault.{Fault}
 use Rattle.room_wire.specs.declared.field.Field.{Field}
-use Rattle.room_wire.specs.declared.field.Field.TheVariants.{El, Els, Lat, Lon, Nodes, Members, Tags, Dlat, Dlon, Seq}
+use Rattle.room_wire.specs.declared.field.Field.TheVariants.{El, Els, Lat, Lon, Nodes, Members, Tags, Dlat, Dlon, At, Into, With, Seq}
 use Rattle.room_wire.specs.declared.incoming.Incoming.{Incoming}
 use Rattle.room_wire.specs.declared.incoming.Body.{Body}
 use Rattle.room_wire.specs.declared.incoming.Body.TheVariants as bodies
 use Rattle.room_wire.specs.Fields.{field_text}
 use Rattle.room_wire.specs.ReadBack.{HasId, IsWhole}
-use Rattle.room_wire.specs.Spelling.{distance_at, el_at, els_at, gifts_at, lat_at, lon_at, members_at, nodes_at, seq_at, tags_at}
+use Rattle.room_wire.specs.Spelling.{distance_at, el_at, els_at, gifts_at, lat_at, lon_at, members_at, name_at, nodes_at, place_at, seq_at, tags_at}
 use Rattle.room_wire.specs.Trees.{entry_members, members_tree, name_tree, nodes_tree, tags_tree, whole}
 use Rattle.room_wire.specs.Words.{Word, word_text}
 use Rattle.room_wire.specs.Words as words
@@ -74,9 +74,16 @@ abbrev pub HasSeq : Data → Option ℕ → Type 0
 HasSeq d None = IsMissing d Seq
 HasSeq d (Some seq) = Has d Seq (whole seq) × IsNumber seq
 
--- the name of an element, whose id is an i64
+-- a field has the name of an element, whose id is an i64
+abbrev pub HasNameAt : Data → Field → Name → Type 0
+HasNameAt d field name = Has d field (name_tree name) × HasId name
+
 abbrev pub HasName : Data → Name → Type 0
-HasName d name = Has d El (name_tree name) × HasId name
+HasName d name = HasNameAt d El name
+
+-- a position
+abbrev pub HasPlace : Data → ℕ → Type 0
+HasPlace d place = Has d At (whole place) × (place ≤ 4294967295)
 
 -- a distance, which is an i64
 abbrev pub HasDistance : Data → Field → ℤ → Type 0
@@ -106,6 +113,10 @@ Asks d (bodies.Change (requests.Do (actions.Reverse name))) = HasWord d words.Re
 Asks d (bodies.Change (requests.Do (actions.Nodes name list))) = HasWord d words.Nodes × HasName d name × HasNodes d list
 Asks d (bodies.Change (requests.Do (actions.Members name list))) = HasWord d words.Members × HasName d name × HasMembers d list
 Asks d (bodies.Change (requests.Do (actions.Delete name))) = HasWord d words.Delete × HasName d name
+Asks d (bodies.Change (requests.Do (actions.Purge name))) = HasWord d words.Purge × HasName d name
+Asks d (bodies.Change (requests.Do (actions.Split name place into))) = HasWord d words.Split × HasName d name × HasPlace d place × HasNameAt d Into into
+Asks d (bodies.Change (requests.Do (actions.Join name other))) = HasWord d words.Join × HasName d name × HasNameAt d With other
+Asks d (bodies.Change (requests.Do (actions.Merge name other))) = HasWord d words.Merge × HasName d name × HasNameAt d With other
 Asks d (bodies.Change (requests.Undo seq)) = HasWord d words.Undo × HasSeq d seq
 Asks d (bodies.Get name) = HasWord d words.Get × HasName d name
 Asks d bodies.Map = HasWord d words.Map
@@ -141,6 +152,10 @@ slots words.Reverse d = slot El (el_at d) ∷ []
 slots words.Nodes d = slot El (el_at d) ∷ slot Nodes (nodes_at d) ∷ []
 slots words.Members d = slot El (el_at d) ∷ slot Members (members_at d) ∷ []
 slots words.Delete d = slot El (el_at d) ∷ []
+slots words.Purge d = slot El (el_at d) ∷ []
+slots words.Split d = slot El (el_at d) ∷ slot At (place_at d) ∷ slot Into (name_at Into d) ∷ []
+slots words.Join d = slot El (el_at d) ∷ slot With (name_at With d) ∷ []
+slots words.Merge d = slot El (el_at d) ∷ slot With (name_at With d) ∷ []
 slots words.Undo d = slot Seq (seq_at d) ∷ []
 slots words.Get d = slot El (el_at d) ∷ []
 slots words.Map d = []

@@ -9,6 +9,10 @@ pub data Word : Type 0 where
   Nodes : Word
   Members : Word
   Delete : Word
+  Purge : Word
+  Split : Word
+  Join : Word
+  Merge : Word
   Undo : Word
   Get : Word
   Map : Word
@@ -21,6 +25,10 @@ word_text Reverse = codes "reverse"
 word_text Nodes = codes "nodes"
 word_text Members = codes "members"
 word_text Delete = codes "delete"
+word_text Purge = codes "purge"
+word_text Split = codes "split"
+word_text Join = codes "join"
+word_text Merge = codes "merge"
 word_text Undo = codes "undo"
 word_text Get = codes "get"
 word_text Map = codes "map"

@@ -23,6 +23,12 @@ pub enum Field {
     Dlat,
     /// How far to the east.
     Dlon,
+    /// The position at which a way is split.
+    At,
+    /// The name of the way that a split makes.
+    Into,
+    /// The name of the element that a join or a merge takes in.
+    With,
     /// The number of an entry.
     Seq,
 }
@@ -42,6 +48,9 @@ impl Field {
             Field::Tags => "tags",
             Field::Dlat => "dlat",
             Field::Dlon => "dlon",
+            Field::At => "at",
+            Field::Into => "into",
+            Field::With => "with",
             Field::Seq => "seq",
         }
     }

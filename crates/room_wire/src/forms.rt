@@ -3,7 +3,7 @@ ghost use Rattle.std.specs.Prelude.{◌≡◌, IfSome};
 ghost use Rattle.std.specs.Option.{option_map};
 ghost use Rattle.serde_json.specs.View.{view, items_view};
 ghost use Rattle.room_wire.specs.Reading.{Gives, or_fault};
-ghost use Rattle.room_wire.specs.Spelling.{text_at, el_at, name_item, names_in, els_at, distance_at, lat_at, lon_at, node_of, nodes_in, nodes_at, member_with, member_in, member_of, members_in, members_at, text_of, seq_at, ordinal, fault_in};
+ghost use Rattle.room_wire.specs.Spelling.{text_at, name_at, el_at, place_of, place_at, name_item, names_in, els_at, distance_at, lat_at, lon_at, node_of, nodes_in, nodes_at, member_with, member_in, member_of, members_in, members_at, text_of, seq_at, ordinal, fault_in};
 ghost use Rattle.osm_elements.specs.NameTexts.{name_with};
 ghost use Rattle.osm_elements.specs.declared.name.Kind.TheVariants as kind;
 ghost use Rattle.room_wire.specs.declared.bad.Fault.TheVariants.{BadField};
@@ -44,13 +44,42 @@ fn text_at(message: &Value, field: Field) -> Option<&str>
     message.get(field.as_str()).and_then(Value::as_str)
 }
 
-// The name of an element.
+// The name of the element that a message is about.
 pub fn el_of(message: &Value) -> Result<Name, Fault>
     ensures { result ≡ el_at (view message.now) }
 {
-    text_at(message, Field::El)
+    name_at(message, Field::El)
+}
+
+// The name of an element.
+pub fn name_at(message: &Value, field: Field) -> Result<Name, Fault>
+    ensures { result ≡ name_at field (view message.now) }
+{
+    text_at(message, field)
         .and_then(Name::read)
-        .ok_or(Fault::BadField(Field::El))
+        .ok_or(Fault::BadField(field))
+}
+
+// The position at which a way is split.
+pub fn place_at(message: &Value) -> Result<u32, Fault>
+    ensures { result ≡ place_at (view message.now) }
+{
+    message
+        .get(Field::At.as_str())
+        .and_then(place_of)
+        .ok_or(Fault::BadField(Field::At))
+}
+
+// A whole number in `0..=4294967295`.
+fn place_of(value: &Value) -> Option<u32>
+    ensures { result ≡ place_of (view value.now) }
+{
+    let place = value.as_u64()?;
+    if place <= u32::MAX as u64 {
+        Some(place as u32)
+    } else {
+        None
+    }
 }
 
 // The names of elements.

@@ -4,12 +4,13 @@ ghost use Rattle.serde_json.specs.Read.{read};
 ghost use Rattle.serde_json.specs.View.{view};
 ghost use Rattle.room_wire.specs.declared.bad.Fault.TheVariants.{NotJson, Memory};
 ghost use Rattle.room_wire.specs.Reading.{Gives, GivesMessage};
-ghost use Rattle.room_wire.specs.Spelling.{spells, id_at, body_at, body_by, action_by, create_at, retag_at, move_at, relist_way_at, relist_relation_at, element_at};
+ghost use Rattle.room_wire.specs.Spelling.{spells, id_at, body_at, body_by, action_by, create_at, retag_at, move_at, relist_way_at, relist_relation_at, split_at, join_at, merge_at, element_at};
 
 use crate::bad::{Bad, Fault};
 use crate::field::Field;
 use crate::forms::{
-    distance_of, el_of, els_of, lat_of, lon_of, members_of, nodes_of, ordinal, seq_of,
+    distance_of, el_of, els_of, lat_of, lon_of, members_of, name_at, nodes_of, ordinal, place_at,
+    seq_of,
 };
 use crate::incoming::{Body, Incoming};
 use crate::tag_forms::{gifts_of, tags_of};
@@ -33,12 +34,15 @@ use std::alloc::Global;
 /// | `move` | `els`, `dlat`, `dlon` |
 /// | `nodes` | `el`, `nodes` |
 /// | `members` | `el`, `members` |
-/// | `reverse`, `delete`, `get` | `el` |
+/// | `reverse`, `delete`, `purge`, `get` | `el` |
+/// | `split` | `el`, `at`, `into` |
+/// | `join`, `merge` | `el`, `with` |
 /// | `undo` | `seq`, which may be missing |
 /// | `map` | none |
 ///
-/// The first field that is missing or not of its form is told (`BadField`). `el` is the name of an
-/// element, and `els` an array of such names, which may be empty. `lat` and `lon` are strings that [`osm_coords`]
+/// The first field that is missing or not of its form is told (`BadField`). `el`, `into` and `with` are each
+/// the name of an element, and `els` is an array of such names, which may be empty. `at` is a whole number in
+/// `0..=4294967295`. `lat` and `lon` are strings that [`osm_coords`]
 /// reads. `nodes` is an array of whole numbers, each an `i64` other than 0. `members` is an array of arrays of two
 /// strings each, the name of an element and a role of at most 255 characters, which may be empty. `tags` is an
 /// object of at most 1,000 keys, each of 1 to 255 characters, whose values are strings of at most 255 characters
@@ -122,6 +126,12 @@ fn action_by(alloc: Global, word: &str, message: &Value) -> Result<Action<Global
         "delete" => Ok(Action::Delete {
             name: el_of(message)?,
         }),
+        "purge" => Ok(Action::Purge {
+            name: el_of(message)?,
+        }),
+        "split" => split_of(message),
+        "join" => join_of(message),
+        "merge" => merge_of(message),
         _ => Err(Fault::UnknownDo),
     }
 }
@@ -170,6 +180,34 @@ fn relist_relation_of(alloc: Global, message: &Value) -> Result<Action<Global>, 
     let name = el_of(message)?;
     let list = members_of(alloc, message)?;
     Ok(Action::Members { name, list })
+}
+
+// The action of a `split`.
+fn split_of(message: &Value) -> Result<Action<Global>, Fault>
+    ensures { result ≡ split_at (view message.now) }
+{
+    let name = el_of(message)?;
+    let place = place_at(message)?;
+    let into = name_at(message, Field::Into)?;
+    Ok(Action::Split { name, place, into })
+}
+
+// The action of a `join`.
+fn join_of(message: &Value) -> Result<Action<Global>, Fault>
+    ensures { result ≡ join_at (view message.now) }
+{
+    let name = el_of(message)?;
+    let other = name_at(message, Field::With)?;
+    Ok(Action::Join { name, other })
+}
+
+// The action of a `merge`.
+fn merge_of(message: &Value) -> Result<Action<Global>, Fault>
+    ensures { result ≡ merge_at (view message.now) }
+{
+    let name = el_of(message)?;
+    let other = name_at(message, Field::With)?;
+    Ok(Action::Merge { name, other })
 }
 
 // The element of a `create`, by the kind of its name.

@@ -37,6 +37,10 @@ fn tells_bad_names(rt: HostRuntime) -> Result<(), Fail> {
         r#""do":"members","el":["r1"],"members":1"#,
         r#""do":"delete""#,
         r#""do":"delete","els":["n1"]"#,
+        r#""do":"purge","el":"n9223372036854775808""#,
+        r#""do":"split","at":-1,"into":"w0""#,
+        r#""do":"join","with":"w1""#,
+        r#""do":"merge","el":1,"with":"n1""#,
         r#""do":"get","el":"x1""#,
     ];
     are_bad(&rt, rt.alloc(), "el", &messages)?;
@@ -191,5 +195,43 @@ fn tells_missing_distances_and_bad_numbers(rt: HostRuntime) -> Result<(), Fail> 
         r#""do":"undo","seq":9007199254740992"#,
     ];
     are_bad(&rt, rt.alloc(), "seq", &numbers)?;
+    Ok(())
+}
+
+#[test]
+fn tells_bad_positions(rt: HostRuntime) -> Result<(), Fail> {
+    let messages = [
+        r#""do":"split","el":"w1","into":"w2""#,
+        r#""do":"split","el":"w1","at":null,"into":"w2""#,
+        r#""do":"split","el":"w1","at":"1","into":"w2""#,
+        r#""do":"split","el":"w1","at":[1],"into":"w2""#,
+        r#""do":"split","el":"w1","at":1.0,"into":"w2""#,
+        r#""do":"split","el":"w1","at":1e2,"into":"w2""#,
+        r#""do":"split","el":"w1","at":-0,"into":"w2""#,
+        r#""do":"split","el":"w1","at":-1,"into":"w2""#,
+        r#""do":"split","el":"w1","at":4294967296,"into":"w2""#,
+        r#""do":"split","el":"w1","at":18446744073709551616,"into":0"#,
+    ];
+    are_bad(&rt, rt.alloc(), "at", &messages)?;
+    Ok(())
+}
+
+#[test]
+fn tells_bad_second_names(rt: HostRuntime) -> Result<(), Fail> {
+    let into = [
+        r#""do":"split","el":"w1","at":0"#,
+        r#""do":"split","el":"w1","at":0,"with":"w2""#,
+        r#""do":"split","el":"w1","at":0,"into":"w0""#,
+        r#""do":"split","el":"w1","at":0,"into":null"#,
+    ];
+    are_bad(&rt, rt.alloc(), "into", &into)?;
+    let with = [
+        r#""do":"join","el":"w1""#,
+        r#""do":"join","el":"w1","into":"w2""#,
+        r#""do":"join","el":"w1","with":"w02""#,
+        r#""do":"merge","el":"n1","with":2"#,
+        r#""do":"merge","el":"n1","with":["n2"]"#,
+    ];
+    are_bad(&rt, rt.alloc(), "with", &with)?;
     Ok(())
 }

@@ -117,6 +117,9 @@ fn writes_bad_fields(rt: HostRuntime) -> Result<(), Fail> {
         (Field::Tags, "tags"),
         (Field::Dlat, "dlat"),
         (Field::Dlon, "dlon"),
+        (Field::At, "at"),
+        (Field::Into, "into"),
+        (Field::With, "with"),
         (Field::Seq, "seq"),
     ] {
         let outcome = format!(in rt.alloc();

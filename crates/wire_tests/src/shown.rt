@@ -79,7 +79,32 @@ fn shown_action(alloc: Global, id: u64, action: Action<Global>) -> Result<String
             shown_element(alloc, "members", id, name, &relation)
         }
         Action::Delete { name } => told(alloc, "delete", id, &Answer::Absent(name)),
+        Action::Purge { name } => told(alloc, "purge", id, &Answer::Absent(name)),
+        Action::Split { name, place, into } => shown_split(alloc, id, name, place, into),
+        Action::Join { name, other } => told(
+            alloc,
+            "join",
+            id,
+            &Answer::InUse { name, user: other },
+        ),
+        Action::Merge { name, other } => told(
+            alloc,
+            "merge",
+            id,
+            &Answer::InUse { name, user: other },
+        ),
     }
+}
+
+fn shown_split(
+    alloc: Global,
+    id: u64,
+    name: Name,
+    place: u32,
+    into: Name,
+) -> Result<String, AllocError> {
+    let names = told(alloc, "split", id, &Answer::InUse { name, user: into })?;
+    format!(in alloc; "{} {place}", names.as_str())
 }
 
 fn shown_element(

@@ -87,6 +87,30 @@ fn reads_the_other_actions(rt: HostRuntime) -> Result<(), Fail> {
             r#"{"id":6,"do":"delete","el":"r6"}"#,
             r#"delete {"id":6,"no":{"el":"r6","why":"absent"}}"#,
         ),
+        (
+            r#"{"id":7,"do":"purge","el":"n-6","with":1}"#,
+            r#"purge {"id":7,"no":{"el":"n-6","why":"absent"}}"#,
+        ),
+        (
+            r#"{"id":8,"do":"split","el":"w2","at":1,"into":"w9"}"#,
+            r#"split {"id":8,"no":{"by":"w9","el":"w2","why":"in_use"}} 1"#,
+        ),
+        (
+            r#"{"id":9,"do":"split","into":"n2","at":4294967295,"el":"r-9223372036854775808"}"#,
+            r#"split {"id":9,"no":{"by":"n2","el":"r-9223372036854775808","why":"in_use"}} 4294967295"#,
+        ),
+        (
+            r#"{"id":9,"do":"split","el":"w2","at":0,"into":"w2"}"#,
+            r#"split {"id":9,"no":{"by":"w2","el":"w2","why":"in_use"}} 0"#,
+        ),
+        (
+            r#"{"id":10,"do":"join","el":"w2","with":"w9"}"#,
+            r#"join {"id":10,"no":{"by":"w9","el":"w2","why":"in_use"}}"#,
+        ),
+        (
+            r#"{"id":11,"do":"merge","el":"n2","with":"n-9"}"#,
+            r#"merge {"id":11,"no":{"by":"n-9","el":"n2","why":"in_use"}}"#,
+        ),
     ];
     for (text, wanted) in rows {
         is_shown(&rt, rt.alloc(), text, wanted)?;

@@ -6,7 +6,11 @@ use std::io;
 
 const NOT_JSON: &[u8] = b"{\"id\":0,\"no\":{\"why\":\"not_json\"}}\n";
 
-/// Whether the program answers each proper prefix of each message in the lines with `not_json`.
+// The longest line whose message is cut at each of its bytes: the prefixes of a longer one would take too long.
+const LONGEST_CUT: usize = 10_000;
+
+/// Whether the program answers each proper prefix of each message in the lines with `not_json`. Lines of more than
+/// 10,000 bytes are left out.
 pub fn cut_messages_are_not_json(rt: &HostRuntime, lines: &[u8]) -> io::Result<bool> {
     let mut cut = Vec::new(rt.alloc());
     let mut wanted = Vec::new(rt.alloc());
@@ -28,6 +32,9 @@ fn cut_message(line: &[u8], cut: &mut Vec<u8>, wanted: &mut Vec<u8>) -> Result<(
     let Some(space) = line.iter().position(|byte| *byte == b' ') else {
         return Ok(());
     };
+    if line.len() > LONGEST_CUT {
+        return Ok(());
+    }
     for end in space + 1..line.len() {
         cut.extend_from_slice(&line[..end])?;
         cut.push(b'\n')?;

@@ -6,7 +6,8 @@
 //! there, also `NAME.args`, further words of the command line, one a line, `NAME.err`, the standard error (`?` for
 //! any text), and `NAME.status`, the status, which is else 0. So a new example is two new files.
 //!
-//! Besides, each message of an example is cut short at each of its bytes, and has to be answered `not_json`.
+//! Besides, each message of an example is cut short at each of its bytes, and has to be answered `not_json`; only the
+//! messages of lines of more than 10,000 bytes are not.
 #![tactic(auto)]
 
 mod cut;
