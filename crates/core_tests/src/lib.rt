@@ -12,3 +12,5 @@ mod references;
 mod retags;
 #[cfg(test)]
 mod stores;
+#[cfg(test)]
+mod topology;

@@ -1,10 +1,8 @@
 //! What no clause says: that each plan is made and each list of changes applied where there is memory. What is wanted was
 //! worked out by hand.
-use edit_simple::plans::plan_purge;
 use osm_changes::store::Store;
 use sample_edits::applying::{apply, plan_of, store_of};
 use sample_edits::edits::{EDITS, START, STARTED};
-use sample_edits::parts::name;
 use sample_edits::reading::action;
 use sample_edits::shown::{changes_shown, store_shown};
 use sample_edits::whole::from_nothing;
@@ -49,45 +47,7 @@ fn edits_lead_there_and_back(rt: HostRuntime) -> Result<(), Fail> {
     for row in EDITS {
         step(&rt, rt.alloc(), &mut store, row)?;
     }
-    assert_eq!(rt; store.applied(), 33);
-    Ok(())
-}
-
-// Edits that make two nodes, a way of both, a way there and back, and relations of each way, the second of itself too.
-const SHARED: [&str; 6] = [
-    "create n1 1,1",
-    "create n2 2,2",
-    "create w1 n1 n2",
-    "create w2 n2 n1 n2",
-    "create r1 w1/",
-    "create r2 w2/a n2/ w2/b r2/",
-];
-
-// Purges of these, each with its changes.
-const PURGES: [[&str; 2]; 4] = [
-    [
-        "n1",
-        " n1: 1,1 -> none; w1: n1 n2 -> none; w2: n2 n1 n2 -> n2 n2; r1: w1/ ->;",
-    ],
-    [
-        "n2",
-        " n2: 2,2 -> none; w1: n1 n2 -> none; w2: n2 n1 n2 -> none; r1: w1/ ->; r2: w2/a n2/ w2/b r2/ -> r2/;",
-    ],
-    [
-        "w2",
-        " w2: n2 n1 n2 -> none; r2: w2/a n2/ w2/b r2/ -> n2/ r2/;",
-    ],
-    ["r2", " r2: w2/a n2/ w2/b r2/ -> none;"],
-];
-
-#[test]
-fn purges_are_planned(rt: HostRuntime) -> Result<(), Fail> {
-    let store = store_of(rt.alloc(), &SHARED)?;
-    for [purged, wanted] in PURGES {
-        let changes = plan_purge(rt.alloc(), &store, &name(purged)?)?;
-        let shown = changes_shown(rt.alloc(), changes.rows())?;
-        assert_eq!(rt; shown.as_str(), wanted);
-    }
+    assert_eq!(rt; store.applied(), 81);
     Ok(())
 }
 

@@ -1,7 +1,7 @@
 //! Edits with what they lead to, worked out by hand.
 
 /// Edits in turn, of an empty store at first, each with the changes that its plan answers and the store after it.
-pub const EDITS: [[&str; 3]; 10] = [
+pub const EDITS: [[&str; 3]; 18] = [
     [
         "create n1 7,-8 name=Allee",
         " n1: none -> 7,-8 name=Allee;",
@@ -51,6 +51,46 @@ pub const EDITS: [[&str; 3]; 10] = [
         "delete n1",
         " n1: -2,-5 access=no note=x -> none;",
         " n2: 0,12 <- w1; w1: n2 n2 highway=path <- r1; r1: w1/outer <-;",
+    ],
+    [
+        "create n3 5,5",
+        " n3: none -> 5,5;",
+        " n2: 0,12 <- w1; n3: 5,5 <-; w1: n2 n2 highway=path <- r1; r1: w1/outer <-;",
+    ],
+    [
+        "nodes w1 n2 n3 n2",
+        " w1: n2 n2 highway=path -> n2 n3 n2 highway=path;",
+        " n2: 0,12 <- w1; n3: 5,5 <- w1; w1: n2 n3 n2 highway=path <- r1; r1: w1/outer <-;",
+    ],
+    [
+        "split w1 1 w9",
+        " w1: n2 n3 n2 highway=path -> n2 n3 highway=path; w9: none -> n3 n2 highway=path; r1: w1/outer -> w1/outer w9/outer;",
+        " n2: 0,12 <- w1 w9; n3: 5,5 <- w1 w9; w1: n2 n3 highway=path <- r1; w9: n3 n2 highway=path <- r1; r1: w1/outer w9/outer <-;",
+    ],
+    [
+        "join w1 w9",
+        " w1: n2 n3 highway=path -> n2 n3 n2 highway=path; w9: n3 n2 highway=path -> none; r1: w1/outer w9/outer -> w1/outer;",
+        " n2: 0,12 <- w1; n3: 5,5 <- w1; w1: n2 n3 n2 highway=path <- r1; r1: w1/outer <-;",
+    ],
+    [
+        "create n4 6,6 ref=1",
+        " n4: none -> 6,6 ref=1;",
+        " n2: 0,12 <- w1; n3: 5,5 <- w1; n4: 6,6 ref=1 <-; w1: n2 n3 n2 highway=path <- r1; r1: w1/outer <-;",
+    ],
+    [
+        "members r1 w1/outer n4/",
+        " r1: w1/outer -> w1/outer n4/;",
+        " n2: 0,12 <- w1; n3: 5,5 <- w1; n4: 6,6 ref=1 <- r1; w1: n2 n3 n2 highway=path <- r1; r1: w1/outer n4/ <-;",
+    ],
+    [
+        "merge n3 n4",
+        " n3: 5,5 -> 5,5 ref=1; n4: 6,6 ref=1 -> none; r1: w1/outer n4/ -> w1/outer n3/;",
+        " n2: 0,12 <- w1; n3: 5,5 ref=1 <- w1 r1; w1: n2 n3 n2 highway=path <- r1; r1: w1/outer n3/ <-;",
+    ],
+    [
+        "purge n2",
+        " n2: 0,12 -> none; w1: n2 n3 n2 highway=path -> none; r1: w1/outer n3/ -> n3/;",
+        " n3: 5,5 ref=1 <- r1; r1: n3/ <-;",
     ],
 ];
 

@@ -29,7 +29,7 @@ pub fn element<A: Allocator + Copy>(alloc: A, kind: Kind, words: &str) -> Result
     }
 }
 
-/// The action that a text writes. A move is written `move 7,-8 n1 w1`.
+/// The action that a text writes. A move is written `move 7,-8 n1 w1`, a split `split w1 1 w2`.
 pub fn action<A: Allocator + Copy>(alloc: A, text: &str) -> Result<Action<A>, Fail> {
     let (word, rest) = text.split_once(' ').ok_or("a word")?;
     if word == "move" {
@@ -67,6 +67,24 @@ fn named_action<A: Allocator + Copy>(
             Ok(Action::Members { name, list })
         }
         "delete" => Ok(Action::Delete { name }),
+        "purge" => Ok(Action::Purge { name }),
+        "split" => split(name, rest),
+        "join" => Ok(Action::Join {
+            name,
+            other: crate::parts::name(rest)?,
+        }),
+        "merge" => Ok(Action::Merge {
+            name,
+            other: crate::parts::name(rest)?,
+        }),
         _ => Err(Fail::from("no action")),
     }
+}
+
+// The split of a way at a position into another, which some words write.
+fn split<A: Allocator>(name: Name, words: &str) -> Result<Action<A>, Fail> {
+    let (place, into) = words.split_once(' ').ok_or("a position and a name")?;
+    let place = place.parse::<u32>()?;
+    let into = crate::parts::name(into)?;
+    Ok(Action::Split { name, place, into })
 }
