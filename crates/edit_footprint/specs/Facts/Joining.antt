@@ -1,0 +1,47 @@
+-- A join looks at its footprint alone.
+use Rattle.std.proofs.Common.{◌≡◌, false, Option, None, refl, sym, ap, cond}
+use Rattle.std.specs.Option.{option_map}
+use Rattle.osm_elements.specs.declared.name.Name.{Name}
+use Rattle.osm_elements.specs.declared.element.Element.{Element}
+use Rattle.osm_elements.specs.Maps.{is_same, is_among}
+use Rattle.osm_elements.specs.Rows.{row_at}
+use Rattle.osm_refs.specs.References.{row_references}
+use Rattle.edit_simple.specs.Parts.{nodes_of, row_tags, with_nodes, with_tags, with_members, at_name}
+use Rattle.edit_topology.specs.BothTags.{both_tags}
+use Rattle.edit_topology.specs.Join.{end_to_end, joined_members}
+use Rattle.edit_topology.specs.Facts.Changing.{join_changes}
+use Rattle.edit_topology.specs.Facts.Staying.{join_leaves}
+use Rattle.edit_actions.specs.declared.action.Action.{Action}
+use Rattle.edit_actions.specs.declared.action.Action.TheVariants.{Join}
+use Rattle.edit_actions.specs.Refusals.{checks}
+use Rattle.edit_footprint.specs.Footprints.{footprint}
+use Rattle.edit_footprint.specs.Facts.AcceptedAlike.{IsLocal, accepted_alike}
+use Rattle.edit_footprint.specs.Facts.Agreeing.{same_subject, not_named}
+use Rattle.edit_footprint.specs.Facts.Footprints.{subjects_inside}
+use Rattle.edit_footprint.specs.Facts.Subjects.{first, second, another}
+
+module _ {A : Type 0} where
+  pub join_local : (w v : Name) → IsLocal {A = A} (Join w v)
+  join_local w v m n sound sound_n ok agree =
+      accepted_alike m n a agree (λ y o. ap (λ r. option_map (joined r y) (cond (is_same y v) None o)) (sym row_v))
+      (λ y out. join_leaves n w v y (another m a w y (first w v) out) (another m a v y (second w v) out) (unnamed y out)) same ok
+    where
+      a : Action A
+      a = Join w v
+
+      row_w : row_at m w ≡ row_at n w
+      row_w = same_subject m n a agree w (first w v)
+
+      row_v : row_at m v ≡ row_at n v
+      row_v = same_subject m n a agree v (second w v)
+
+      -- what a join makes of an element, by v's row
+      joined : Option (Element A) → Name → Element A → Element A
+      joined r y e = with_members (joined_members w v) (at_name w (λ u. with_nodes (λ list. end_to_end list (nodes_of r)) (with_tags (λ tags. both_tags tags (row_tags r)) u)) y e)
+
+      -- a row outside does not name v, for all that do change
+      unnamed : (y : Name) → is_among (footprint m a) y ≡ false → is_among (row_references (row_at n y)) v ≡ false
+      unnamed = not_named m n a agree sound sound_n v (subjects_inside m a v (second w v)) (λ y. join_changes m w v y sound ok)
+
+      same : checks n a ≡ checks m a
+      same = rw (← row_w, ← row_v) refl

@@ -1,0 +1,129 @@
+-- A move looks at its footprint alone.
+use Rattle.std.proofs.Common.{◌≡◌, ◌&&◌, ◌||◌, ℤ, pos, Bool, true, false, not, List, [], ◌∷◌, Option, Some, None, is_some, length, nat_eq, refl, sym, ap, ◌∙◌, cond}
+use Rattle.std.proofs.lemmas.Bool.{or_from, false_from_ne_true, and_left, and_right}
+use Rattle.std.specs.List.{filter, list_any}
+use Rattle.std.specs.Option.{option_map}
+use Rattle.std.specs.Ordering.{int_eq}
+use Rattle.osm_elements.specs.declared.name.Name.{Name}
+use Rattle.osm_elements.specs.declared.element.Element.{Element}
+use Rattle.osm_elements.specs.declared.element.Element.TheVariants as elements
+use Rattle.osm_elements.specs.Made.{is_node}
+use Rattle.osm_elements.specs.Maps.{Rows, is_same, is_among, is_present, is_absent}
+use Rattle.osm_elements.specs.Rows.{row_at}
+use Rattle.osm_elements.specs.TagRows.{Pairs}
+use Rattle.osm_elements.specs.Facts.Tests.{first_true}
+use Rattle.osm_refs.specs.References.{row_references}
+use Rattle.osm_changes.specs.Sound.{is_sound}
+use Rattle.osm_changes.specs.Facts.SoundRows.{sound_in_order}
+use Rattle.edit_simple.specs.declared.refusal.Refusal.{Refusal}
+use Rattle.edit_simple.specs.declared.refusal.Refusal.TheVariants.{Absent, OutOfRange, Nothing}
+use Rattle.edit_simple.specs.Move.{is_moved, moved_by, is_out_of_range, left_range}
+use Rattle.edit_simple.specs.Parts.{nodes_of}
+use Rattle.edit_simple.specs.Facts.Checked.{nones, not_so, no_least}
+use Rattle.edit_simple.specs.Facts.Kinds.{node_there}
+use Rattle.edit_simple.specs.Facts.Lists.{or_right, second_false, is_among_own}
+use Rattle.edit_simple.specs.Facts.Moving.{moves, elsewhere}
+use Rattle.edit_simple.specs.Facts.Relisting.{all_present}
+use Rattle.edit_topology.specs.Facts.Fitting.{none_named}
+use Rattle.edit_actions.specs.declared.action.Action.{Action}
+use Rattle.edit_actions.specs.declared.action.Action.TheVariants.{Move}
+use Rattle.edit_actions.specs.Refusals.{checks, refusal}
+use Rattle.edit_footprint.specs.Footprints.{footprint}
+use Rattle.edit_footprint.specs.Facts.AcceptedAlike.{IsLocal, accepted_alike}
+use Rattle.edit_footprint.specs.Facts.Agreeing.{same_subject}
+use Rattle.edit_footprint.specs.Facts.Becoming.{row_at-after}
+use Rattle.edit_footprint.specs.Facts.Footprints.{no_subject, rows_outside}
+use Rattle.edit_footprint.specs.Facts.Naming.{named_there, none_of_nodes}
+use Rattle.edit_footprint.specs.Facts.NonePassing.{none_of_list, none_of_map}
+
+-- tests that tell the same of each name of a list
+any_alike : (p q : Name → Bool) (list : List Name) → ((e : Name) → is_among list e ≡ true → p e ≡ q e) → list_any p list ≡ list_any q list
+any_alike p q [] h = refl
+any_alike p q (x ∷ xs) h =
+    let own = h x (is_among_own x xs) in
+    let rest = any_alike p q xs (λ e i. h e (or_right (is_same e x) (is_among xs e) i)) in
+    λ j. own j || rest j
+
+-- a test that no name passes
+none_at_all : (p : Name → Bool) (list : List Name) → ((e : Name) → p e ≡ false) → list_any p list ≡ false
+none_at_all p [] h = refl
+none_at_all p (x ∷ xs) h = or_from (p x) (list_any p xs) (h x) (none_at_all p xs h)
+
+module _ {A : Type 0} where
+  -- a moved node that is there is elsewhere afterwards, so its row changes
+  moved_away : (m : Rows A) (list : List Name) (dlat dlon : ℤ) → is_sound m ≡ true → refusal m (Move list dlat dlon) ≡ None
+      → (y : Name) → is_node y.kind ≡ true → is_present m y ≡ true → is_moved m list y ≡ true → is_among (footprint m (Move list dlat dlon)) y ≡ false → ⊥
+  moved_away m list dlat dlon sound ok y node here moved out = let row = node_there m y sound node here in still row.0 row.1 row.2 row.3
+    where
+      a : Action A
+      a = Move list dlat dlon
+
+      some_distance : (int_eq dlat (pos 0) && int_eq dlon (pos 0)) ≡ false
+      some_distance = second_false (nat_eq (length list) 0) (int_eq dlat (pos 0) && int_eq dlon (pos 0))
+          (not_so {X = Refusal A} (nat_eq (length list) 0 || (int_eq dlat (pos 0) && int_eq dlon (pos 0))) Nothing (nones (checks m a) ok).1.1.1.0)
+
+      still : (lat lon : ℤ) (tags : Pairs) → row_at m y ≡ Some (elements.Node lat lon tags) → ⊥
+      still lat lon tags is = elsewhere lat lon dlat dlon tags some_distance
+          (ap (λ b. Some (cond b (moved_by dlat dlon (elements.Node lat lon tags)) (elements.Node lat lon tags))) (sym moved)
+          ∙ ap (option_map (moves m list dlat dlon y)) (sym is) ∙ sym (row_at-after m a y) ∙ rows_outside m a y out ∙ is)
+
+  -- so no name outside is moved
+  none_moved : (m : Rows A) (list : List Name) (dlat dlon : ℤ) → is_sound m ≡ true → refusal m (Move list dlat dlon) ≡ None
+      → (y : Name) → is_among (footprint m (Move list dlat dlon)) y ≡ false → is_moved m list y ≡ false
+  none_moved m list dlat dlon sound ok y out = false_from_ne_true (is_moved m list y) (λ moved. by (is_present m y) refl moved)
+    where
+      in_a_way : Name → Bool
+      in_a_way w = is_among (nodes_of (row_at m w)) y
+
+      -- what is not there is no node of a way
+      in_none : is_present m y ≡ false → (w : Name) → in_a_way w ≡ false
+      in_none gone w = none_of_nodes (row_at m w) y (false_from_ne_true (is_among (row_references (row_at m w)) y) (λ named. cc (sym (named_there m sound w y named) ∙ gone)))
+
+      by : (b : Bool) → is_present m y ≡ b → is_moved m list y ≡ true → ⊥
+      by true here moved = moved_away m list dlat dlon sound ok y (first_true (is_node y.kind) (is_among list y || list_any in_a_way list) moved) here moved out
+      by false gone moved = cc (sym moved
+          ∙ and_right (is_node y.kind) (is_among list y || list_any in_a_way list) (or_from (is_among list y) (list_any in_a_way list) (no_subject m (Move list dlat dlon) y out) (none_at_all in_a_way list (in_none gone))))
+
+  pub move_local : (list : List Name) (dlat dlon : ℤ) → IsLocal {A = A} (Move list dlat dlon)
+  move_local list dlat dlon m n sound sound_n ok agree =
+      accepted_alike m n a agree (λ y o. ap (λ b. option_map (λ v. cond b (moved_by dlat dlon v) v) o) (same_moved y))
+      (λ y out. row_at-after n a y ∙ ap (λ b. option_map (λ v. cond b (moved_by dlat dlon v) v) (row_at n y)) (same_moved y ∙ stays y out) ∙ as_it_was (row_at n y))
+      same ok
+    where
+      a : Action A
+      a = Move list dlat dlon
+
+      stays : (y : Name) → is_among (footprint m a) y ≡ false → is_moved m list y ≡ false
+      stays = none_moved m list dlat dlon sound ok
+
+      as_it_was : (o : Option (Element A)) → option_map (λ v. v) o ≡ o
+      as_it_was None = refl
+      as_it_was (Some v) = refl
+
+      -- the same nodes are moved, for what is listed has the same rows
+      same_moved : (y : Name) → is_moved n list y ≡ is_moved m list y
+      same_moved y = ap (λ b. is_node y.kind && (is_among list y || b))
+          (any_alike (λ w. is_among (nodes_of (row_at n w)) y) (λ w. is_among (nodes_of (row_at m w)) y) list (λ w i. ap (λ o. is_among (nodes_of o) y) (sym (same_subject m n a agree w i))))
+
+      -- what is listed is in both maps
+      here : filter (is_absent m) list ≡ []
+      here = no_least {A = A} Absent (filter (is_absent m) list) (nones (checks m a) ok).1.0
+
+      here_too : filter (is_absent n) list ≡ []
+      here_too = none_of_list (is_absent n) list
+          (λ e i. ap (λ o. not (is_some o)) (sym (same_subject m n a agree e i)) ∙ ap not (all_present m list (nones (checks m a) ok).1.0 e i))
+
+      -- no moved node leaves the range in either map
+      within : left_range m list dlat dlon ≡ []
+      within = no_least {A = A} OutOfRange (left_range m list dlat dlon) (nones (checks m a) ok).1.1.0
+
+      within_too : left_range n list dlat dlon ≡ []
+      within_too = none_of_map (λ r. is_moved n list r.0 && is_out_of_range (moved_by dlat dlon r.1)) n (sound_in_order n sound_n)
+          (λ y v is. ap (λ b. b && is_out_of_range (moved_by dlat dlon v)) (same_moved y) ∙ by y v is (is_among (footprint m a) y) refl)
+        where
+          by : (y : Name) (v : Element A) → row_at n y ≡ Some v → (b : Bool) → is_among (footprint m a) y ≡ b → (is_moved m list y && is_out_of_range (moved_by dlat dlon v)) ≡ false
+          by y v is true i = none_named (λ z u. is_moved m list z && is_out_of_range (moved_by dlat dlon u)) m within y v (agree.same_row y i ∙ is)
+          by y v is false out = and_left (is_moved m list y) (is_out_of_range (moved_by dlat dlon v)) (stays y out)
+
+      same : checks n a ≡ checks m a
+      same = rw (here, here_too, within, within_too) refl

@@ -1,0 +1,151 @@
+-- A retag, a reverse, a create, a delete, and other nodes or members look at their footprints alone: each changes one row.
+use Rattle.std.proofs.Common.{◌≡◌, ◌&&◌, ℕ, Bool, true, false, not, List, [], Option, Some, None, map, reverse, refl, ap, ◌∙◌, cond}
+use Rattle.std.specs.List.{filter}
+use Rattle.std.specs.Option.{option_map}
+use Rattle.osm_elements.specs.declared.name.Name.{Name}
+use Rattle.osm_elements.specs.declared.element.Element.{Element}
+use Rattle.osm_elements.specs.declared.element.Element.TheVariants as elements
+use Rattle.osm_elements.specs.Maps.{Rows, is_same, is_among, is_present, is_absent}
+use Rattle.osm_elements.specs.Rows.{row_at}
+use Rattle.osm_elements.specs.Facts.Dropped.{same_either_way}
+use Rattle.osm_elements.specs.Facts.Rows.{is_eq-name_cmp_itself}
+use Rattle.osm_refs.specs.References.{references, row_references}
+use Rattle.edit_simple.specs.declared.refusal.Refusal.{Refusal}
+use Rattle.edit_simple.specs.declared.refusal.Refusal.TheVariants.{Absent, WrongKind}
+use Rattle.edit_simple.specs.Create.{is_missing}
+use Rattle.edit_simple.specs.Kinds.{is_way, is_relation}
+use Rattle.edit_simple.specs.Parts.{with_tags, with_nodes, with_members, at_name}
+use Rattle.edit_simple.specs.Tagging.{Gifts, retagged}
+use Rattle.edit_simple.specs.Facts.Checked.{nones, not_so, from_false, no_least}
+use Rattle.edit_simple.specs.Facts.Kinds.{way_there, relation_there}
+use Rattle.edit_simple.specs.Facts.Lists.{none_left}
+use Rattle.edit_simple.specs.Facts.Relisting.{all_present}
+use Rattle.edit_actions.specs.declared.action.Action.{Action}
+use Rattle.edit_actions.specs.declared.action.Action.TheVariants.{Create, Retag, Reverse, Nodes, Members, Delete}
+use Rattle.edit_actions.specs.After.{after}
+use Rattle.edit_actions.specs.Refusals.{checks}
+use Rattle.edit_footprint.specs.Footprints.{subjects, footprint}
+use Rattle.edit_footprint.specs.Facts.AcceptedAlike.{IsLocal, accepted_alike}
+use Rattle.edit_footprint.specs.Facts.Agreeing.{same_subject, same_users_of_subject, still_there}
+use Rattle.edit_footprint.specs.Facts.Becoming.{row_at-after}
+use Rattle.edit_footprint.specs.Facts.NonePassing.{none_of_list}
+use Rattle.edit_footprint.specs.Facts.Subjects.{alone, another}
+
+module _ {A : Type 0} where
+  -- where a subject's row is rewritten and no other, the rows outside are kept
+  others_stay : (m n : Rows A) (a : Action A) (x : Name) (f : Element A → Element A) → is_among (subjects a) x ≡ true
+      → ((y : Name) → row_at (after n a) y ≡ option_map (at_name x f y) (row_at n y))
+      → (y : Name) → is_among (footprint m a) y ≡ false → row_at (after n a) y ≡ row_at n y
+  others_stay m n a x f own rewritten y out = rewritten y ∙ by (row_at n y)
+    where
+      by : (o : Option (Element A)) → option_map (at_name x f y) o ≡ o
+      by None = refl
+      by (Some v) = ap (λ b. Some (cond b (f v) v)) (same_either_way x y ∙ another m a x y own out)
+
+  pub retag_local : (x : Name) (given : Gifts) → IsLocal {A = A} (Retag x given)
+  retag_local x given m n sound sound_n ok agree = accepted_alike m n a agree (λ y o. refl) (others_stay m n a x (with_tags (λ tags. retagged tags given)) (alone x) (row_at-after n a)) same ok
+    where
+      a : Action A
+      a = Retag x given
+
+      same : checks n a ≡ checks m a
+      same = let row = same_subject m n a agree x (alone x) in rw (← row) refl
+
+  pub reverse_local : (w : Name) → IsLocal {A = A} (Reverse w)
+  reverse_local w m n sound sound_n ok agree = accepted_alike m n a agree (λ y o. refl) (others_stay m n a w (with_nodes reverse) (alone w) (row_at-after n a)) same ok
+    where
+      a : Action A
+      a = Reverse w
+
+      same : checks n a ≡ checks m a
+      same = let row = same_subject m n a agree w (alone w) in rw (← row) refl
+
+  pub delete_local : (x : Name) → IsLocal {A = A} (Delete x)
+  delete_local x m n sound sound_n ok agree = accepted_alike m n a agree (λ y o. refl) (λ y out. row_at-after n a y ∙ ap (λ b. cond b None (row_at n y)) (another m a x y (alone x) out)) same ok
+    where
+      a : Action A
+      a = Delete x
+
+      same : checks n a ≡ checks m a
+      same = let row = same_subject m n a agree x (alone x) in let its_users = same_users_of_subject m n a agree x (alone x) in rw (← row, ← its_users) refl
+
+  pub nodes_local : (w : Name) (list : List Name) → IsLocal {A = A} (Nodes w list)
+  nodes_local w list m n sound sound_n ok agree = accepted_alike m n a agree (λ y o. refl) (others_stay m n a w (with_nodes (λ _. list)) (alone w) (row_at-after n a)) same ok
+    where
+      a : Action A
+      a = Nodes w list
+
+      way : (nodes : List Name) × (tags : List (List ℕ × List ℕ)) × (row_at m w ≡ Some (elements.Way nodes tags))
+      way = way_there m w sound (from_false (is_way w.kind) (not_so {X = Refusal A} (not (is_way w.kind)) (WrongKind w) (nones (checks m a) ok).0))
+          (from_false (is_present m w) (not_so {X = Refusal A} (is_absent m w) (Absent w) (nones (checks m a) ok).1.0))
+
+      -- w's row names the list afterwards
+      named : (e : Name) → is_among list e ≡ true → is_among (row_references (row_at (after m a) w)) e ≡ true
+      named e i =
+          ap (λ o. is_among (row_references o) e)
+          (row_at-after m a w ∙ ap (option_map (at_name w (with_nodes (λ _. list)) w)) way.2 ∙ ap (λ b. Some (cond b (elements.Way list way.1) (elements.Way way.0 way.1))) (is_eq-name_cmp_itself w)) ∙ i
+
+      -- what is listed is in both maps
+      here : filter (is_absent m) list ≡ []
+      here = no_least {A = A} Absent (filter (is_absent m) list) (nones (checks m a) ok).1.1.1.1.0
+
+      here_too : filter (is_absent n) list ≡ []
+      here_too = none_of_list (is_absent n) list (λ e i. ap not (still_there m n a agree sound_n w e (alone w) (named e i) (all_present m list (nones (checks m a) ok).1.1.1.1.0 e i)))
+
+      same : checks n a ≡ checks m a
+      same = let row = same_subject m n a agree w (alone w) in rw (← row, here, here_too) refl
+
+  pub members_local : (r : Name) (list : List (Name × List ℕ)) → IsLocal {A = A} (Members r list)
+  members_local r list m n sound sound_n ok agree = accepted_alike m n a agree (λ y o. refl) (others_stay m n a r (with_members (λ _. list)) (alone r) (row_at-after n a)) same ok
+    where
+      a : Action A
+      a = Members r list
+
+      listed : List Name
+      listed = map (λ e. e.0) list
+
+      relation : (members : List (Name × List ℕ)) × (tags : List (List ℕ × List ℕ)) × (row_at m r ≡ Some (elements.Relation members tags))
+      relation = relation_there m r sound (from_false (is_relation r.kind) (not_so {X = Refusal A} (not (is_relation r.kind)) (WrongKind r) (nones (checks m a) ok).0))
+          (from_false (is_present m r) (not_so {X = Refusal A} (is_absent m r) (Absent r) (nones (checks m a) ok).1.0))
+
+      -- r's row names the list afterwards
+      named : (e : Name) → is_among listed e ≡ true → is_among (row_references (row_at (after m a) r)) e ≡ true
+      named e i =
+          ap (λ o. is_among (row_references o) e)
+          (row_at-after m a r ∙ ap (option_map (at_name r (with_members (λ _. list)) r)) relation.2
+          ∙ ap (λ b. Some (cond b (elements.Relation list relation.1) (elements.Relation relation.0 relation.1))) (is_eq-name_cmp_itself r)) ∙ i
+
+      -- what is listed is in both maps
+      here : filter (is_absent m) listed ≡ []
+      here = no_least {A = A} Absent (filter (is_absent m) listed) (nones (checks m a) ok).1.1.1.0
+
+      here_too : filter (is_absent n) listed ≡ []
+      here_too = none_of_list (is_absent n) listed (λ e i. ap not (still_there m n a agree sound_n r e (alone r) (named e i) (all_present m listed (nones (checks m a) ok).1.1.1.0 e i)))
+
+      same : checks n a ≡ checks m a
+      same = let row = same_subject m n a agree r (alone r) in rw (← row, here, here_too) refl
+
+  pub create_local : (x : Name) (v : Element A) → IsLocal {A = A} (Create x v)
+  create_local x v m n sound sound_n ok agree = accepted_alike m n a agree (λ y o. refl) (λ y out. row_at-after n a y ∙ ap (λ b. cond b (Some v) (row_at n y)) (another m a x y (alone x) out)) same ok
+    where
+      a : Action A
+      a = Create x v
+
+      -- x's row names afterwards what v refers to
+      named : (e : Name) → is_among (references v) e ≡ true → is_among (row_references (row_at (after m a) x)) e ≡ true
+      named e i = ap (λ o. is_among (row_references o) e) (row_at-after m a x ∙ ap (λ b. cond b (Some v) (row_at m x)) (is_eq-name_cmp_itself x)) ∙ i
+
+      -- what v refers to is missing in neither map
+      here : filter (is_missing m x) (references v) ≡ []
+      here = no_least {A = A} Absent (filter (is_missing m x) (references v)) (nones (checks m a) ok).1.1.1.1.0
+
+      here_too : filter (is_missing n x) (references v) ≡ []
+      here_too = none_of_list (is_missing n x) (references v) (λ e i. by e i (is_same x e) (is_present m e) refl (none_left (is_missing m x) (references v) here e i))
+        where
+          by : (e : Name) → is_among (references v) e ≡ true → (s b : Bool) → is_present m e ≡ b → (not s && not b) ≡ false → (not s && is_absent n e) ≡ false
+          by e i true b there h = refl
+          by e i false true there h = ap not (still_there m n a agree sound_n x e (alone x) (named e i) there)
+          by e i false false there h = absurd (cc)
+
+      same : checks n a ≡ checks m a
+      same = let row = same_subject m n a agree x (alone x) in rw (← row, here, here_too) refl

@@ -1,0 +1,87 @@
+-- A purge looks at its footprint alone.
+use Rattle.std.proofs.Common.{◌≡◌, ◌≢◌, ◌||◌, ℕ, Bool, true, false, not, List, [], ◌∷◌, Option, Some, None, is_some, length, nat_lt, map, refl, sym, ap, ◌∙◌, cond}
+use Rattle.std.proofs.lemmas.Bool.{and_left, or_from, or_parts, false_from_ne_true, true_from_ne_false}
+use Rattle.std.specs.List.{filter}
+use Rattle.std.specs.Option.{option_map}
+use Rattle.osm_elements.specs.declared.name.Name.{Name}
+use Rattle.osm_elements.specs.declared.element.Element.{Element}
+use Rattle.osm_elements.specs.declared.element.Element.TheVariants.{Node, Way, Relation}
+use Rattle.osm_elements.specs.Maps.{Rows, is_same, is_among}
+use Rattle.osm_elements.specs.Rows.{row_at}
+use Rattle.osm_elements.specs.Facts.Dropped.{same_either_way}
+use Rattle.osm_refs.specs.References.{row_references}
+use Rattle.osm_changes.specs.Sound.{is_sound}
+use Rattle.edit_simple.specs.Parts.{nodes_of, with_nodes, with_members}
+use Rattle.edit_simple.specs.Purge.{without, falls_short, goes, what_is_left, after_purge}
+use Rattle.edit_simple.specs.Facts.Lists.{is_among_own}
+use Rattle.edit_simple.specs.Facts.Purging.{without_none, row_at-after_purge, x_goes, is_gone, purge_sound}
+use Rattle.edit_actions.specs.declared.action.Action.{Action}
+use Rattle.edit_actions.specs.declared.action.Action.TheVariants.{Purge}
+use Rattle.edit_actions.specs.Refusals.{checks}
+use Rattle.edit_footprint.specs.Footprints.{footprint}
+use Rattle.edit_footprint.specs.Facts.AcceptedAlike.{IsLocal, accepted_alike}
+use Rattle.edit_footprint.specs.Facts.Agreeing.{same_subject, not_named}
+use Rattle.edit_footprint.specs.Facts.Footprints.{rows_outside}
+use Rattle.edit_footprint.specs.Facts.Naming.{named_there, none_of_nodes}
+use Rattle.edit_footprint.specs.Facts.Subjects.{alone, another}
+
+-- members of which none goes
+members_stay : (go : Name → Bool) (members : List (Name × List ℕ)) → ((e : Name) → go e ≡ true → is_among (map (λ r. r.0) members) e ≡ false) → filter (λ r. not (go r.0)) members ≡ members
+members_stay go [] h = refl
+members_stay go (r ∷ rs) h =
+    ap (λ b. cond (not b) (r ∷ filter (λ s. not (go s.0)) rs) (filter (λ s. not (go s.0)) rs)) (false_from_ne_true (go r.0) (λ g. cc (sym (is_among_own r.0 (map (λ s. s.0) rs)) ∙ h r.0 g)))
+    ∙ ap (λ l. r ∷ l) (members_stay go rs (λ e g. (or_parts _ _ (h e g)).1))
+
+module _ {A : Type 0} where
+  -- a row that does not go, and names nothing that goes, stays
+  purge_leaves : (m : Rows A) (x y : Name) → goes m x y ≡ false → ((e : Name) → goes m x e ≡ true → is_among (row_references (row_at m y)) e ≡ false) → row_at (after_purge m x) y ≡ row_at m y
+  purge_leaves m x y stays unnamed = row_at-after_purge m x y ∙ ap (λ b. cond b None (option_map (what_is_left m x) (row_at m y))) stays ∙ by (row_at m y) unnamed
+    where
+      by : (o : Option (Element A)) → ((e : Name) → goes m x e ≡ true → is_among (row_references o) e ≡ false) → option_map (what_is_left m x) o ≡ o
+      by None free = refl
+      by (Some (Node lat lon tags)) free = refl
+      by (Some (Way nodes tags)) free = ap (λ l. Some (Way l tags)) (without_none x nodes (free x (x_goes m x)))
+      by (Some (Relation members tags)) free = ap (λ l. Some (Relation l tags)) (members_stay (goes m x) members free)
+
+  -- a row that names something that goes changes, for nothing names it afterwards
+  purge_changes : (m : Rows A) (x e : Name) → is_sound m ≡ true → goes m x e ≡ true → (y : Name) → is_among (row_references (row_at m y)) e ≡ true → row_at (after_purge m x) y ≢ row_at m y
+  purge_changes m x e sound go y named kept =
+      let there = named_there (after_purge m x) (purge_sound m x sound) y e (ap (λ o. is_among (row_references o) e) kept ∙ named) in
+      cc (sym there ∙ ap is_some (is_gone m x e go))
+
+  -- what is outside stays: it is not the subject, and a way that went would have changed
+  stays_outside : (m : Rows A) (x y : Name) → is_among (footprint m (Purge x)) y ≡ false → goes m x y ≡ false
+  stays_outside m x y out = false_from_ne_true (goes m x y) (λ go. by (row_at m y) (sym (rows_outside m (Purge x) y out) ∙ is_gone m x y go) go)
+    where
+      by : (o : Option (Element A)) → o ≡ None → (is_same x y || falls_short x (nodes_of o)) ≡ true → ⊥
+      by None is go = cc (sym go ∙ or_from (is_same x y) false (same_either_way x y ∙ another m (Purge x) x y (alone x) out) refl)
+      by (Some v) is go = cc
+
+  pub purge_local : (x : Name) → IsLocal {A = A} (Purge x)
+  purge_local x m n sound sound_n ok agree =
+      accepted_alike m n a agree (λ y o. ap (λ (go : Name → Bool). cond (go y) None (option_map (λ v. with_nodes (without x) (with_members (filter (λ r. not (go r.0))) v)) o)) same_goes)
+      (λ y out. purge_leaves n x y (ap (λ go. go y) same_goes ∙ stays_outside m x y out) (λ e go. unnamed e (sym (ap (λ f. f e) same_goes) ∙ go) y out)) same ok
+    where
+      a : Action A
+      a = Purge x
+
+      -- a row outside names nothing that goes, for all that do change
+      unnamed : (e : Name) → goes m x e ≡ true → (y : Name) → is_among (footprint m a) y ≡ false → is_among (row_references (row_at n y)) e ≡ false
+      unnamed e go = not_named m n a agree sound sound_n e inside (purge_changes m x e sound go)
+        where
+          inside : is_among (footprint m a) e ≡ true
+          inside = true_from_ne_false (is_among (footprint m a) e) (λ out. cc (sym go ∙ stays_outside m x e out))
+
+      -- the same goes in both maps
+      same_goes : goes n x ≡ goes m x
+      same_goes j y = by (is_among (footprint m a) y) refl j
+        where
+          by : (b : Bool) → is_among (footprint m a) y ≡ b → goes n x y ≡ goes m x y
+          by true inside = ap (λ o. is_same x y || falls_short x (nodes_of o)) (sym (agree.same_row y inside))
+          by false out =
+              or_from (is_same x y) (falls_short x (nodes_of (row_at n y))) (same_either_way x y ∙ another m a x y (alone x) out)
+              (and_left (is_among (nodes_of (row_at n y)) x) (nat_lt (length (without x (nodes_of (row_at n y)))) 2) (none_of_nodes (row_at n y) x (unnamed x (x_goes m x) y out)))
+              ∙ sym (stays_outside m x y out)
+
+      same : checks n a ≡ checks m a
+      same = let row = same_subject m n a agree x (alone x) in rw (← row) refl

@@ -1,0 +1,41 @@
+//! Laws of footprints, each the contract of a function that does nothing.
+ghost use Rattle.std.specs.Prelude.{◌≡◌, true, None};
+ghost use Rattle.osm_elements.specs.Maps.{Rows};
+ghost use Rattle.osm_changes.specs.Sound.{is_sound};
+ghost use Rattle.edit_actions.specs.declared.action.Action.{Action};
+ghost use Rattle.edit_actions.specs.After.{after};
+ghost use Rattle.edit_actions.specs.MadeActions.{is_made_action};
+ghost use Rattle.edit_actions.specs.Refusals.{refusal};
+ghost use Rattle.edit_footprint.specs.Agreement.{Agree};
+ghost use Rattle.edit_footprint.specs.Commutation.{ChangePlaces};
+ghost use Rattle.edit_footprint.specs.Examples.{ceased, split, purged};
+ghost use Rattle.edit_footprint.specs.Footprints.{footprint, meets};
+ghost use Rattle.edit_footprint.specs.Locality.{LeavesTheRest, AcceptedAlike};
+
+use std::alloc::Allocator;
+
+/// An action, accepted or not, leaves each name outside its footprint as it is: the row that it has, and the users.
+pub fn leaves_the_rest<A: Allocator>()
+    ensures { (m : Rows A) (a : Action A) → is_sound m ≡ true → LeavesTheRest m a }
+{}
+
+/// An action looks at its footprint alone: accepted in one sound map, it is accepted in each that has the same rows and
+/// the same users there, with the same changes and the same footprint.
+pub fn locality<A: Allocator>()
+    ensures { (m n : Rows A) (a : Action A) → is_sound m ≡ true → is_sound n ≡ true → refusal m a ≡ None → Agree m n (footprint m a)
+        → AcceptedAlike m n a }
+{}
+
+/// Two actions, accepted one after the other, change places where their footprints share no name: each is accepted, with
+/// its changes and its footprint as they were, and both orders lead to the same map.
+pub fn commutation<A: Allocator>()
+    ensures { (m : Rows A) (a b : Action A) → is_sound m ≡ true → is_made_action a ≡ true → is_made_action b ≡ true → refusal m a ≡ None → refusal (after m a) b ≡ None
+        → meets (footprint m a) (footprint (after m a) b) ≡ None → ChangePlaces m a b }
+{}
+
+/// What the definitions say of the worked examples is what was worked out by hand.
+pub fn examples_are_as_worked()
+    ensures ceased { ceased }
+    ensures split { split }
+    ensures purged { purged }
+{}

@@ -1,0 +1,4 @@
+//! What an action touches, and what follows for actions that touch different elements.
+#![tactic(auto)]
+
+pub mod laws;
