@@ -1,4 +1,9 @@
 //! What an action touches, and what follows for actions that touch different elements.
 #![tactic(auto)]
 
+pub mod footprint;
+pub mod holders;
 pub mod laws;
+mod number_list;
+mod number_lists;
+pub mod touching;

@@ -1,0 +1,128 @@
+//! What an action touches.
+ghost use Rattle.std.specs.Prelude.{◌≡◌, ◌++◌, IfOk, OnOk};
+ghost use Rattle.osm_elements.specs.Maps;
+ghost use Rattle.osm_elements.specs.Maps.{name_set};
+ghost use Rattle.osm_refs.specs.References.{row_references};
+ghost use Rattle.osm_refs.specs.Inner.Rising.{IsRising};
+ghost use Rattle.osm_changes.specs.Changes.{changed_names};
+ghost use Rattle.edit_footprint.specs.Footprints.{subjects, footprint_of, names_but};
+ghost use Rattle.edit_footprint.specs.Inner.Touching.{begun_or_ceased_once, all_begun_or_ceased};
+
+use crate::footprint::Footprint;
+use edit_actions::action::Action;
+use osm_changes::change::Change;
+use osm_changes::changes::Changes;
+use osm_elements::Memory;
+use osm_elements::element::Element;
+use osm_elements::name::Name;
+use osm_elements::names::Names;
+use osm_refs::refs::refs_of;
+use std::alloc::Allocator;
+
+/// The footprint of an action with its changes, or `Memory`: the names that the action is about, those that it changes,
+/// and what their rows begin or cease to name. It takes time `n log n` for changes that name `n` elements.
+pub fn footprint<A: Allocator + Clone>(
+    alloc: A,
+    action: &Action<A>,
+    changes: &Changes<A>,
+) -> Result<Footprint<A>, Memory>
+    ensures { IfOk result (λ f. f ≡ footprint_of action.now changes.now) }
+{
+    let mut names = subjects(alloc.clone()?, action)?;
+    push_changed(&mut names, changes.rows())?;
+    push_all_begun_or_ceased(&alloc, &mut names, changes.rows())?;
+    Ok(Footprint::of(names))
+}
+
+// The names that an action is about.
+fn subjects<A: Allocator>(alloc: A, action: &Action<A>) -> Result<Vec<Name, A>, Memory>
+    ensures { IfOk result (λ names. names.items ≡ subjects action.now) }
+{
+    match action {
+        Action::Move { names, .. } => Ok(Vec::from_slice(alloc, names.as_slice())?),
+        Action::Split { name, into, .. } => Ok(vec![in alloc; *name, *into]?),
+        Action::Join { name, other } | Action::Merge { name, other } => {
+            Ok(vec![in alloc; *name, *other]?)
+        }
+        Action::Create { name, .. }
+        | Action::Retag { name, .. }
+        | Action::Reverse { name }
+        | Action::Nodes { name, .. }
+        | Action::Members { name, .. }
+        | Action::Delete { name }
+        | Action::Purge { name } => Ok(vec![in alloc; *name]?),
+    }
+}
+
+// Puts the names of changes behind other names.
+fn push_changed<A: Allocator>(names: &mut Vec<Name, A>, rows: &[Change<A>]) -> Result<(), Memory>
+    ensures { OnOk result (names.new.items ≡ names.old.items ++ changed_names rows.now) }
+{
+    for change in rows {
+        names.push(change.name)?;
+    }
+    Ok(())
+}
+
+// Puts what rows begin or cease to name behind other names.
+fn push_all_begun_or_ceased<A: Allocator + Clone>(
+    alloc: &A,
+    names: &mut Vec<Name, A>,
+    rows: &[Change<A>],
+) -> Result<(), Memory>
+    ensures { OnOk result (names.new.items ≡ names.old.items ++ all_begun_or_ceased rows.now) }
+{
+    for change in rows {
+        push_begun_or_ceased(alloc, names, change)?;
+    }
+    Ok(())
+}
+
+// Puts what a row begins or ceases to name behind other names.
+fn push_begun_or_ceased<A: Allocator + Clone>(
+    alloc: &A,
+    names: &mut Vec<Name, A>,
+    change: &Change<A>,
+) -> Result<(), Memory>
+    ensures { OnOk result (names.new.items ≡ names.old.items ++ begun_or_ceased_once change.now) }
+{
+    let before = row_refs(alloc.clone()?, &change.before)?;
+    let after = row_refs(alloc.clone()?, &change.after)?;
+    push_but(names, before.as_slice(), after.as_slice())?;
+    push_but(names, after.as_slice(), before.as_slice())
+}
+
+// What a row refers to, rising: nothing where there is no element.
+fn row_refs<A: Allocator>(alloc: A, row: &Option<Element<A>>) -> Result<Names<A>, Memory>
+    ensures { IfOk result (λ names. names ≡ name_set (row_references row.now)) }
+{
+    match row {
+        Some(element) => refs_of(alloc, element),
+        None => Ok(Names::empty(alloc)),
+    }
+}
+
+// Puts those of some names behind other names that are not among a third list, which rises.
+fn push_but<A: Allocator>(
+    names: &mut Vec<Name, A>,
+    from: &[Name],
+    others: &[Name],
+) -> Result<(), Memory>
+    requires { IsRising others.now }
+    ensures { OnOk result (names.new.items ≡ names.old.items ++ names_but from.now others.now) }
+{
+    for name in from {
+        if !is_among(others, name) {
+            names.push(*name)?;
+        }
+    }
+    Ok(())
+}
+
+// Whether a name is among others, which rise.
+fn is_among(names: &[Name], name: &Name) -> bool
+    requires { IsRising names.now }
+    ensures { result ≡ Maps.is_among names.now name.now }
+{
+    names.binary_search(name).is_ok()
+}
