@@ -6,7 +6,7 @@ use Rattle.room_stacks.specs.declared.author.Author.{Author}
 use Rattle.room_stacks.specs.declared.deed.Deed.{Deed}
 use Rattle.room_stacks.specs.declared.spent_ids.Spending.{Spending}
 use Rattle.room_stacks.specs.declared.spent_ids.Work.{Work}
-use Rattle.room_stacks.specs.declared.spent_ids.Work.TheVariants.{Did, Undid}
+use Rattle.room_stacks.specs.declared.spent_ids.Work.TheVariants.{Did, Undid, Redid}
 use Rattle.room_stacks.specs.SameAuthors.{is_same_author}
 use Rattle.room_stacks.specs.Stacks.{number, spent}
 use Rattle.room_stacks.specs.Inner.SpentIds.{deed_of, work_number}
@@ -25,6 +25,7 @@ pub spent-lookup : (author : Author) (id : ℕ) (es : List (Spending × Work)) �
 spent-lookup author id [] = refl
 spent-lookup author id ((k, Did seq) ∷ es) = either (is_key author id k) (Did seq) (deed_of (k, Did seq)) _ _ refl (spent-lookup author id es)
 spent-lookup author id ((k, Undid of seq) ∷ es) = either (is_key author id k) (Undid of seq) (deed_of (k, Undid of seq)) _ _ refl (spent-lookup author id es)
+spent-lookup author id ((k, Redid of seq) ∷ es) = either (is_key author id k) (Redid of seq) (deed_of (k, Redid of seq)) _ _ refl (spent-lookup author id es)
 
 nothing : (r : Option Work) → option_map work_number r ≡ None → r ≡ None
 nothing None h = refl

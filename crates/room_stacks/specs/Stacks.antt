@@ -1,10 +1,10 @@
 -- What the authors of a room did, and what of it each may still use. (The rules of a room are this project's.)
-use Rattle.std.specs.Prelude.{◌&&◌, ◌++◌, ◌<◌, ℕ, Bool, true, false, not, List, [], ◌∷◌, Option, map, nat_eq, nat_lt}
+use Rattle.std.specs.Prelude.{◌&&◌, ◌++◌, ◌-◌, ◌<◌, ℕ, Bool, true, false, not, List, [], ◌∷◌, Option, length, take, map, slice_get, nat_eq, nat_lt}
 use Rattle.std.specs.List.{All, filter, find, fold, list_any}
 use Rattle.std.specs.Option.{option_map}
 use Rattle.room_stacks.specs.declared.author.Author.{Author}
 use Rattle.room_stacks.specs.declared.deed.Deed.{Deed}
-use Rattle.room_stacks.specs.declared.deed.Deed.TheVariants.{Did, Undid}
+use Rattle.room_stacks.specs.declared.deed.Deed.TheVariants.{Did, Undid, Redid}
 use Rattle.room_stacks.specs.SameAuthors.{is_same_author}
 
 -- what the authors did, oldest first, and for whose next deed there is room
@@ -16,26 +16,31 @@ pub record StacksState : Type 0 where
 abbrev pub doer : Deed → Author
 doer (Did author id seq) = author
 doer (Undid author id of seq) = author
+doer (Redid author id of seq) = author
 
 -- the id that it spent
 abbrev pub id_of : Deed → ℕ
 id_of (Did author id seq) = id
 id_of (Undid author id of seq) = id
+id_of (Redid author id of seq) = id
 
 -- its number
 abbrev pub number : Deed → ℕ
 number (Did author id seq) = seq
 number (Undid author id of seq) = seq
+number (Redid author id of seq) = seq
 
--- it did an action
+-- it did an action, for the first time or again
 abbrev pub is_work : Deed → Bool
 is_work (Did author id seq) = true
 is_work (Undid author id of seq) = false
+is_work (Redid author id of seq) = true
 
 -- it undid s, which came before it
 abbrev pub undoes : ℕ → Deed → Bool
 undoes s (Did author id seq) = false
 undoes s (Undid author id of seq) = nat_eq s of && nat_lt s seq
+undoes s (Redid author id of seq) = false
 
 -- a deed is the author's and spent the id
 abbrev pub spends : Author → ℕ → Deed → Bool
@@ -61,10 +66,19 @@ standing deeds author = filter (λ s. not (list_any (undoes s) deeds)) (works de
 abbrev pub is_standing : List Deed → Author → ℕ → Bool
 is_standing deeds author s = list_any (λ t. nat_eq t s) (standing deeds author)
 
--- an author's stack of what it can redo, bottom first, after one more of its deeds: an undo pushes what it undid, an action empties the stack
+-- the top of a stack, the last of its numbers, if it has any
+abbrev pub top : List ℕ → Option ℕ
+top stack = slice_get stack (length stack - 1)
+
+-- the rest of a stack, below its top
+abbrev pub below_top : List ℕ → List ℕ
+below_top stack = take (length stack - 1) stack
+
+-- an author's stack of what it can redo, bottom first, after one more of its deeds: an undo pushes what it undid, a redo takes off the top, a new action empties the stack
 abbrev pub redo_after : List ℕ → Deed → List ℕ
 redo_after stack (Did author id seq) = []
 redo_after stack (Undid author id of seq) = stack ++ of ∷ []
+redo_after stack (Redid author id of seq) = below_top stack
 
 -- that stack after all deeds
 abbrev pub redo : List Deed → Author → List ℕ

@@ -1,5 +1,6 @@
 //! What each author may undo and redo.
 ghost use Rattle.std.specs.Prelude.{◌≡◌, ◌++◌, [], ◌∷◌, true, OnOk};
+ghost use Rattle.room_stacks.specs.Stacks.{below_top};
 ghost use Rattle.room_stacks.specs.Inner.Lists.{standing_at, redo_at, has_room_at, without, IsRising, SameStacks, KeepsRooms, IsRewritten};
 
 use crate::author::Author;
@@ -94,6 +95,19 @@ impl<A: Allocator> AuthorLists<A> {
     {
         match self.by_author.get_mut(author) {
             Some(stacks) => stacks.undid(of),
+            None => unreachable!(),
+        }
+    }
+
+    /// Puts the number of an author's action that it did again on what stands, and takes the top off what it can redo. It
+    /// takes no memory.
+    pub fn redid(&mut self, author: &Author, seq: u64)
+        requires { has_room_at self.old author.now ≡ true }
+        ensures { IsRewritten self.old self.new author.now
+            (standing_at self.old author.now ++ seq ∷ []) (below_top (redo_at self.old author.now)) }
+    {
+        match self.by_author.get_mut(author) {
+            Some(stacks) => stacks.redid(seq),
             None => unreachable!(),
         }
     }

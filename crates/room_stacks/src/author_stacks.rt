@@ -1,5 +1,6 @@
 //! What one author may undo and redo.
 ghost use Rattle.std.specs.Prelude.{◌≡◌, ◌<◌, ◌++◌, [], ◌∷◌, true, IfOk, OnOk, vec_len, vec_capacity};
+ghost use Rattle.room_stacks.specs.Stacks.{below_top};
 ghost use Rattle.room_stacks.specs.Inner.Lists.{without, IsRising};
 
 use osm_elements::Memory;
@@ -87,6 +88,17 @@ impl<A: Allocator> AuthorStacks<A> {
     {
         take_out(&mut self.standing, of);
         push_reserved(&mut self.redo, of);
+    }
+
+    /// Puts the number of an action that was done again on what stands, and takes the top off what can be redone. It takes
+    /// no memory.
+    pub fn redid(&mut self, seq: u64)
+        requires { self.old.has_room ≡ true }
+        ensures standing { self.new.standing ≡ self.old.standing ++ seq ∷ [] }
+        ensures redo { self.new.redo ≡ below_top self.old.redo }
+    {
+        push_reserved(&mut self.standing, seq);
+        let _ = self.redo.pop();
     }
 }
 

@@ -18,4 +18,11 @@ pub enum Deed {
         of: u64,
         seq: u64,
     },
+    /// Did the action of the entry of the number `of` again.
+    Redid {
+        author: Author,
+        id: u64,
+        of: u64,
+        seq: u64,
+    },
 }

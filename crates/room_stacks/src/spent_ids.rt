@@ -24,6 +24,8 @@ pub enum Work {
     Did { seq: u64 },
     /// Undid the entry of the number `of`.
     Undid { of: u64, seq: u64 },
+    /// Did the action of the entry of the number `of` again.
+    Redid { of: u64, seq: u64 },
 }
 
 impl Work {
@@ -34,7 +36,7 @@ impl Work {
         ensures { result ≡ work_number self.now }
     {
         match self {
-            Work::Did { seq } | Work::Undid { seq, .. } => *seq,
+            Work::Did { seq } | Work::Undid { seq, .. } | Work::Redid { seq, .. } => *seq,
         }
     }
 }

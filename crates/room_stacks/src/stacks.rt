@@ -1,8 +1,8 @@
 //! What each author of a room may still use.
 ghost use Rattle.std.specs.Prelude.{◌≡◌, ◌++◌, [], ◌∷◌, true, None, Some, OnOk, OnErr};
 ghost use Rattle.std.specs.List.Sorted.{IsStrictlyIncreasing};
-ghost use Rattle.room_stacks.specs.declared.deed.Deed.TheVariants.{Did, Undid};
-ghost use Rattle.room_stacks.specs.Stacks.{IsAboveAll, spent, standing, is_standing, redo};
+ghost use Rattle.room_stacks.specs.declared.deed.Deed.TheVariants.{Did, Undid, Redid};
+ghost use Rattle.room_stacks.specs.Stacks.{IsAboveAll, spent, standing, is_standing, redo, top};
 
 use crate::author::Author;
 use crate::author_lists::AuthorLists;
@@ -12,7 +12,7 @@ use std::alloc::Allocator;
 use std::marker::Model;
 
 /// What each author of a room may still use. A deed is entered in two steps: [`Stacks::ready`] takes the memory, and may
-/// refuse; then [`Stacks::did`] or [`Stacks::undid`] enters it, and takes none.
+/// refuse; then [`Stacks::did`], [`Stacks::undid`] or [`Stacks::redid`] enters it, and takes none.
 #[derive(Drop)]
 #[derive_where(Debug)]
 pub struct Stacks<A: Allocator> {
@@ -56,7 +56,8 @@ impl<A: Allocator> Stacks<A> {
         self.ids.spent(author, id)
     }
 
-    /// The numbers of an author's actions that nobody undid, rising, in time logarithmic in the number of authors.
+    /// The numbers of the entries by which an author did an action, for the first time or again, and which nobody undid,
+    /// rising, in time logarithmic in the number of authors.
     pub fn standing(&self, author: &Author) -> &[u64]
         ensures numbers { result.now ≡ standing self.now.deeds author.now }
         ensures rising { IsStrictlyIncreasing result.now }
@@ -64,8 +65,8 @@ impl<A: Allocator> Stacks<A> {
         self.lists.standing(author)
     }
 
-    /// The numbers of the actions that an author undid since its last action, in the order of their undos, in time
-    /// logarithmic in the number of authors.
+    /// The numbers of the entries that an author undid since its last new action and did not redo, in the order of their
+    /// undos, in time logarithmic in the number of authors.
     pub fn redo(&self, author: &Author) -> &[u64]
         ensures { result.now ≡ redo self.now.deeds author.now }
     {
@@ -101,7 +102,7 @@ impl<A: Allocator> Stacks<A> {
         self.ready = None;
     }
 
-    /// Enters that an author, who is ready, undid its action of the number `of`, which stands, under an id, by the entry of
+    /// Enters that an author, who is ready, undid its entry of the number `of`, which stands, under an id, by the entry of
     /// the number `seq`. It takes what [`Stacks::did`] takes, and time logarithmic in how many of the author's actions stand;
     /// the numbers of those after `of` are moved. It takes no memory.
     pub fn undid(&mut self, author: Author, id: u64, of: u64, seq: u64)
@@ -114,6 +115,22 @@ impl<A: Allocator> Stacks<A> {
         self.ids
             .spend(Spending { id, author }, Work::Undid { of, seq });
         self.lists.undid(&author, of);
+        self.ready = None;
+    }
+
+    /// Enters that an author, who is ready, did the action of the entry of the number `of` again, under an id, by the entry
+    /// of the number `seq`, which then stands. `of` is the last that [`Stacks::redo`] tells. It takes what [`Stacks::did`]
+    /// takes, and no memory.
+    pub fn redid(&mut self, author: Author, id: u64, of: u64, seq: u64)
+        requires ready { self.old.ready ≡ Some author }
+        requires unspent { spent self.old.deeds author id ≡ None }
+        requires on_top { top (redo self.old.deeds author) ≡ Some of }
+        requires last { IsAboveAll seq self.old.deeds }
+        ensures { self.new ≡ record { deeds = self.old.deeds ++ Redid author id of seq ∷ []; ready = None } }
+    {
+        self.ids
+            .spend(Spending { id, author }, Work::Redid { of, seq });
+        self.lists.redid(&author, seq);
         self.ready = None;
     }
 }

@@ -10,14 +10,42 @@ use std::test::Fail;
 
 type Heap<'a> = &'a Refusing<Global>;
 
-// What is done in a step: an action (0), or the undo of an entry.
-const UNDONE: [u64; 9] = [0, 0, 0, 0, 3, 1, 2, 0, 0];
+// What is done in a step: an action, or the undo or the redo of an entry.
+#[derive(Clone, Copy)]
+enum Step {
+    Act,
+    Undo(u64),
+    Redo(u64),
+}
+
+// What is done in each step. The first has the number 1.
+const STEPS: [Step; 16] = [
+    Step::Act,
+    Step::Act,
+    Step::Act,
+    Step::Act,
+    Step::Undo(3),
+    Step::Undo(1),
+    Step::Undo(2),
+    Step::Redo(1),
+    Step::Redo(2),
+    Step::Undo(8),
+    Step::Redo(8),
+    Step::Redo(3),
+    Step::Undo(9),
+    Step::Act,
+    Step::Undo(4),
+    Step::Act,
+];
 
 // By whom: Anna, or Bob.
-const BY_ANNA: [bool; 9] = [true, false, true, true, true, true, false, false, true];
+const BY_ANNA: [bool; 16] = [
+    true, false, true, true, true, true, false, true, false, true, true, true, false, false, true,
+    true,
+];
 
 // What then stands for Anna, and what she can redo.
-const ANNA: [&str; 9] = [
+const ANNA: [&str; 16] = [
     "[1] []",
     "[1] []",
     "[1, 3] []",
@@ -25,13 +53,21 @@ const ANNA: [&str; 9] = [
     "[1, 4] [3]",
     "[4] [3, 1]",
     "[4] [3, 1]",
-    "[4] [3, 1]",
-    "[4, 9] []",
+    "[4, 8] [3]",
+    "[4, 8] [3]",
+    "[4] [3, 8]",
+    "[4, 11] [3]",
+    "[4, 11, 12] []",
+    "[4, 11, 12] []",
+    "[4, 11, 12] []",
+    "[11, 12] [4]",
+    "[11, 12, 16] []",
 ];
 
 // The same of Bob.
-const BOB: [&str; 9] = [
-    "[] []", "[2] []", "[2] []", "[2] []", "[2] []", "[2] []", "[] [2]", "[8] []", "[8] []",
+const BOB: [&str; 16] = [
+    "[] []", "[2] []", "[2] []", "[2] []", "[2] []", "[2] []", "[] [2]", "[] [2]", "[9] []",
+    "[9] []", "[9] []", "[9] []", "[] [9]", "[14] []", "[14] []", "[14] []",
 ];
 
 // What stands for an author, and what it can redo.
@@ -71,7 +107,7 @@ fn enter(
     heap: Heap<'_>,
     stacks: &mut Stacks<Heap<'_>>,
     author: Author,
-    of: u64,
+    step: Step,
     seq: u64,
 ) -> Result<(), Fail>
     requires ready { stacks.old.ready ≡ Some author }
@@ -82,13 +118,20 @@ fn enter(
         return Err(Fail::from("spent"));
     }
     heap.set(0);
-    if of == 0 {
-        stacks.did(author, seq, seq);
-    } else {
-        if !stacks.standing(&author).contains(&of) {
-            return Err(Fail::from("it does not stand"));
+    match step {
+        Step::Act => stacks.did(author, seq, seq),
+        Step::Undo(of) => {
+            if !stacks.standing(&author).contains(&of) {
+                return Err(Fail::from("it does not stand"));
+            }
+            stacks.undid(author, seq, of, seq);
         }
-        stacks.undid(author, seq, of, seq);
+        Step::Redo(of) => {
+            if stacks.redo(&author).last().copied() != Some(of) {
+                return Err(Fail::from("it is not on top"));
+            }
+            stacks.redid(author, seq, of, seq);
+        }
     }
     heap.set(u64::MAX);
     match stacks.spent(&author, seq) {
@@ -104,11 +147,11 @@ fn deeds_are_entered_once_room_is_made(rt: HostRuntime) -> Result<(), Fail> {
     let anna = Author::read("anna").ok_or("author")?;
     let bob = Author::read("bob").ok_or("author")?;
     let mut refused = 0u64;
-    for step in 0..9usize {
+    for step in 0..16usize {
         let author = if BY_ANNA[step] { anna } else { bob };
         let growths = make_ready(rt.alloc(), &heap, &mut stacks, &author)?;
         refused = refused.wrapping_add(growths);
-        enter(&heap, &mut stacks, author, UNDONE[step], step as u64 + 1)?;
+        enter(&heap, &mut stacks, author, STEPS[step], step as u64 + 1)?;
         let mine = told(rt.alloc(), &stacks, &anna)?;
         let its = told(rt.alloc(), &stacks, &bob)?;
         assert_eq!(rt; mine.as_str(), ANNA[step]);

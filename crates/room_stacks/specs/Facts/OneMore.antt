@@ -9,7 +9,7 @@ use Rattle.std.specs.Cmp.Lexicographic.{nat_list_eq_equiv}
 use Rattle.std.specs.List.{All, filter, fold, list_any}
 use Rattle.room_stacks.specs.declared.author.Author.{Author}
 use Rattle.room_stacks.specs.declared.deed.Deed.{Deed}
-use Rattle.room_stacks.specs.declared.deed.Deed.TheVariants.{Did, Undid}
+use Rattle.room_stacks.specs.declared.deed.Deed.TheVariants.{Did, Undid, Redid}
 use Rattle.room_stacks.specs.SameAuthors.{is_same_author}
 use Rattle.room_stacks.specs.Stacks.{doer, number, is_work, undoes, IsAboveAll, works, standing, is_standing, redo, redo_after}
 use Rattle.room_stacks.specs.Inner.Lists.{IsRising, without}
@@ -72,21 +72,27 @@ latest seq (Undid author id of n ∷ ds) h =
     ap (λ b. (nat_eq seq of && b) || list_any (undoes seq) ds) (not_less seq n low)
     ∙ ap (λ b. b || list_any (undoes seq) ds) (and_false (nat_eq seq of))
     ∙ latest seq ds (All-tail (λ d. number d < seq) (Undid author id of n) ds h)
+latest seq (Redid author id of n ∷ ds) h = latest seq ds (All-tail (λ d. number d < seq) (Redid author id of n) ds h)
 
 module _ (ds : List Deed) (q : Author) where
   works-push : (d : Deed) → works (ds ++ d ∷ []) q ≡ works ds q ++ map number (filter (is_work_of q) (d ∷ []))
   works-push d = ap (map number) (filter-append (is_work_of q) ds (d ∷ [])) ∙ map-append number (filter (is_work_of q) ds) (filter (is_work_of q) (d ∷ []))
 
-  pub standing-did : (author : Author) (id seq : ℕ) → IsAboveAll seq ds → standing (ds ++ Did author id seq ∷ []) q ≡ cond (is_same_author q author) (standing ds q ++ seq ∷ []) (standing ds q)
-  standing-did author id seq h =
-      let d = Did author id seq in
-      filter_agree (stands (ds ++ d ∷ [])) (stands ds) (λ s. ap not (list_any-append (undoes s) ds (d ∷ []) ∙ or_false (list_any (undoes s) ds))) (works (ds ++ d ∷ []) q)
+  -- a deed that did an action stands for its author
+  pub standing-work : (d : Deed) → is_work d ≡ true → ((s : ℕ) → undoes s d ≡ false) → IsAboveAll (number d) ds
+      → standing (ds ++ d ∷ []) q ≡ cond (is_same_author q (doer d)) (standing ds q ++ number d ∷ []) (standing ds q)
+  standing-work d work none h =
+      filter_agree (stands (ds ++ d ∷ [])) (stands ds) same (works (ds ++ d ∷ []) q)
       ∙ ap (filter (stands ds)) (works-push d)
       ∙ filter-append (stands ds) (works ds q) (map number (filter (is_work_of q) (d ∷ [])))
-      ∙ by (is_same_author q author)
+      ∙ ap (λ w. standing ds q ++ filter (stands ds) (map number (cond (w && is_same_author q (doer d)) (d ∷ []) []))) work
+      ∙ by (is_same_author q (doer d))
     where
-      by : (b : Bool) → standing ds q ++ filter (stands ds) (map number (cond b (Did author id seq ∷ []) [])) ≡ cond b (standing ds q ++ seq ∷ []) (standing ds q)
-      by true = ap (λ c. standing ds q ++ cond (not c) (seq ∷ []) []) (latest seq ds h)
+      same : (s : ℕ) → stands (ds ++ d ∷ []) s ≡ stands ds s
+      same s = ap not (list_any-append (undoes s) ds (d ∷ []) ∙ ap (λ b. list_any (undoes s) ds || (b || false)) (none s) ∙ or_false (list_any (undoes s) ds))
+
+      by : (b : Bool) → standing ds q ++ filter (stands ds) (map number (cond b (d ∷ []) [])) ≡ cond b (standing ds q ++ number d ∷ []) (standing ds q)
+      by true = ap (λ c. standing ds q ++ cond (not c) (number d ∷ []) []) (latest (number d) ds h)
       by false = append-nil (standing ds q)
 
   pub standing-undid : (author : Author) (id of seq : ℕ) → IsAboveAll seq ds → standing (ds ++ Undid author id of seq ∷ []) q ≡ without of (standing ds q)

@@ -15,4 +15,4 @@ invariant_of-self g c =
     let deeds : ids.deeds ≡ c.args.self.now.deeds = ap (λ (s : StacksState). s.deeds) c.self.view_is in
     let last : IsAboveAll c.args.seq ids.deeds = subst (λ (ds : List Deed). IsAboveAll c.args.seq ds) (sym deeds) c.requires.last in
     let stood : is_standing ids.deeds c.args.author c.args.of ≡ true = ap (λ (ds : List Deed). is_standing ds c.args.author c.args.of) deeds ∙ c.requires.stands in
-    kept_undid c.self.inside.ready ids c.spend.new.self c.self.inside.lists c.undid.new.self c.self.invariant c.args.author c.args.id c.args.seq last c.args.of stood c.spend.ensures c.undid.ensures
+    kept_undid c.self.inside.ready ids c.spend.new.self c.self.inside.lists c.undid.new.self c.self.invariant c.args.author c.args.id c.args.of c.args.seq last stood c.spend.ensures c.undid.ensures
