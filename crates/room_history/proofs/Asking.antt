@@ -4,12 +4,15 @@ use Rattle.std.specs.declared.alloc.AllocError.{AllocError}
 use Rattle.osm_elements.specs.declared.name.Name.{Name}
 use Rattle.osm_elements.specs.declared.element.Element.{Element}
 use Rattle.osm_elements.specs.Rows.{row_at}
+use Rattle.room_stacks.specs.declared.author.Author.{Author}
 use Rattle.room_history.specs.declared.ask.RoomCall.TheVariants as calls
 use Rattle.room_history.specs.declared.ask.RoomReply.TheVariants as replies
+use Rattle.room_history.specs.declared.ask.Undoable.{Undoable}
 use Rattle.room_history.specs.declared.call.Call.{Call}
 use Rattle.room_history.specs.declared.entry.Entry.{Entry}
 use Rattle.room_history.specs.declared.reply.Reply.{Reply}
 use Rattle.osm_elements.specs.Maps.{Rows}
+use Rattle.room_history.specs.Journals.{undos, redos}
 use Rattle.room_history.specs.Replays.{mapof}
 use Rattle.room_history.specs.Runs.{IsStep}
 use Rattle.room_history.specs.Asking.{IsAnswered}
@@ -26,3 +29,7 @@ module _ {A : Type 0} (base : Rows A) (limit : ℕ) (j : List (Entry A)) where
   pub listed : (r : Result (ℕ × Rows A) AllocError) → IfOk r (λ rows. rows ≡ (length j, mapof base j)) → IsAnswered base limit j calls.Rows (replies.Rows r) j
   listed (Ok rows) h = inl (ap (λ p. (replies.Rows (Ok p), j)) h)
   listed (Err e) h = inr (refl, refl)
+
+  pub gave : (author : Author) (r : Result (Undoable A) AllocError) → IfOk r (λ lists. lists ≡ record { undos = undos j author; redos = redos j author }) → IsAnswered base limit j (calls.Undos author) (replies.Undos r) j
+  gave author (Ok lists) h = inl (ap (λ l. (replies.Undos (Ok l), j)) h)
+  gave author (Err e) h = inr (refl, refl)

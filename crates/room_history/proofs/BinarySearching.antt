@@ -16,6 +16,8 @@ use Rattle.room_history.specs.declared.entry.Entry.{Entry}
 use Rattle.room_history.specs.Journals.{last, standing, undos}
 use Rattle.room_history.specs.Answers.{asked}
 use Rattle.room_history.proofs.Growing.{Rise, Rise-standing_from}
+use Rattle.room_history.proofs.RisingNumbers.{Rise-filter}
+use Rattle.room_history.specs.Journals.{numbered, is_by}
 
 -- rising numbers are at least what they rise from, and do not fall
 risen : (n : ℕ) (xs : List ℕ) (end : ℕ) → Rise n xs end → (k d : ℕ) → k < length xs → n ≤ get_or xs k d
@@ -23,16 +25,16 @@ risen n [] end r k d within = absurd (omega arith)
 risen n (x ∷ xs) end r zero d within = r.0
 risen n (x ∷ xs) end r (suc k) d within = let more = risen (x + 1) xs end r.1 k d (omega arith) in omega (arith, r.0, more)
 
-pub rises : (n : ℕ) (xs : List ℕ) (end : ℕ) → Rise n xs end → IsNonDecreasing xs
+rises : (n : ℕ) (xs : List ℕ) (end : ℕ) → Rise n xs end → IsNonDecreasing xs
 rises n [] end r i j d up within = absurd (omega arith)
 rises n (x ∷ xs) end r zero zero d up within = omega arith
 rises n (x ∷ xs) end r zero (suc j) d up within = let more = risen (x + 1) xs end r.1 j d (omega arith) in omega arith
 rises n (x ∷ xs) end r (suc i) zero d up within = absurd (omega arith)
 rises n (x ∷ xs) end r (suc i) (suc j) d up within = rises (x + 1) xs end r.1 i j d (omega arith) (omega arith)
 
--- the numbers of the entries that stand
-pub standing_rises : {A : Type 0} (j : List (Entry A)) → IsNonDecreasing (standing j)
-standing_rises j = rises 1 (standing j) (1 + length j) (Rise-standing_from 1 j)
+-- the numbers of an author's entries that stand
+pub undos_rise : {A : Type 0} (j : List (Entry A)) (author : Author) → IsNonDecreasing (undos j author)
+undos_rise j author = rises 1 (undos j author) (1 + length j) (Rise-filter (λ s. is_by author (numbered j s)) 1 (standing j) (1 + length j) (Rise-standing_from 1 j))
 
 equal : (a b : ℕ) → a ≡ b → nat_eq a b ≡ true
 equal a b h = grind (arith, nat_tests)
@@ -64,22 +66,6 @@ search_tells x xs up (Err i) gap =
         by : (b : Bool) → nat_lt k i ≡ b → nat_eq (get_or xs k 0) x ≡ false
         by true t = below (get_or xs k 0) x (low k (is_below k i t))
         by false t = above (get_or xs k 0) x (high k (is_not_below k i t) within)
-
--- the first number above another is where those at most it end
-pub first_at_point : (s : ℕ) (xs : List ℕ) (i : ℕ) → IsPartitionPoint (λ y. leb y s ≡ true) (λ y. leb y s ≡ false) xs i → find (nat_lt s) xs ≡ slice_get xs i
-first_at_point s [] i point = refl
-first_at_point s (x ∷ xs) zero point =
-    let high : nat_lt s x ≡ true = let h = point.1 0 0 (omega arith) (omega arith) in grind (arith, nat_tests) in
-    ap (λ b. cond b (Some x) (find (nat_lt s) xs)) high
-first_at_point s (x ∷ xs) (suc i) point =
-    let low : nat_lt s x ≡ false = let h = point.0 0 0 (omega arith) (omega arith) in grind (arith, nat_tests) in
-    ap (λ b. cond b (Some x) (find (nat_lt s) xs)) low
-    ∙ first_at_point s xs i (λ k d l h. point.0 (suc k) d (omega arith) (omega arith), λ k d l h. point.1 (suc k) d (omega arith) (omega arith))
-
--- what is lent of a place, copied
-pub lent_at : {X : Type 0} (xs : List X) (i : ℕ) (r : Option (Bor X)) → IsItemAt xs i r → option_copied r ≡ slice_get xs i
-lent_at xs i None item = sym (slice_get_past xs i item.3)
-lent_at xs i (Some x) item = ap Some (item.3.1 x.now) ∙ sym (slice_get-get_or xs i x.now item.3.0)
 
 -- the last of a list is at its length less one
 module _ {X : Type 0} where

@@ -1,8 +1,9 @@
--- What decides an undo: it is refused by its blocker alone, which is the first later entry that stands.
+-- What decides an undo: it is refused by its blocker alone, which is the first that blocks it.
 use Rattle.std.proofs.Common.{◌≡◌, ◌↔◌, ◌+◌, ◌≤◌, ℕ, true, false, not, List, [], ◌∷◌, Option, Some, None, is_none, length, refl, sym, ap, ◌∙◌, nat_le}
 use Rattle.std.specs.Bool.{then_some}
 use Rattle.std.specs.List.{filter}
 use Rattle.std.specs.Option.{option_map}
+use Rattle.std.specs.Ordering.{is_lt}
 use Rattle.room_stacks.specs.declared.author.Author.{Author}
 use Rattle.room_history.specs.declared.call.Call.{Call}
 use Rattle.room_history.specs.declared.call.Request.TheVariants as requests
@@ -10,15 +11,20 @@ use Rattle.room_history.specs.declared.entry.Entry.{Entry}
 use Rattle.room_history.specs.declared.entry.EntryKind.{EntryKind}
 use Rattle.room_history.specs.declared.entry.EntryKind.TheVariants.{Undo}
 use Rattle.room_history.specs.declared.reply.Reply.{Reply}
-use Rattle.room_history.specs.declared.reply.Reply.TheVariants.{Undid, Repeat, Full, NoSuch, NotYours, NotStanding, NotLast}
+use Rattle.room_history.specs.declared.reply.Reply.TheVariants.{Undid, Repeat, Full, NoSuch, NotYours, NotStanding, Conflict}
+use Rattle.osm_elements.specs.declared.name.Name.{Name}
+use Rattle.osm_elements.specs.NameOrder.{name_cmp}
 use Rattle.osm_elements.specs.Maps.{Rows}
 use Rattle.edit_simple.specs.Checks.{first_that_holds}
 use Rattle.room_history.specs.Journals.{numbered, is_by, is_standing, standing}
-use Rattle.room_history.specs.Answers.{spent, blocker, asked, meant, undo_refusal, meaning_refusal, answered, answer}
+use Rattle.room_history.specs.Answers.{spent, conflict, asked, meant, undo_refusal, meaning_refusal, answered, answer}
+use Rattle.room_history.specs.Blockers.{blocker}
 use Rattle.room_history.specs.Replays.{Past, past}
-use Rattle.room_history.specs.Headline.{Blocks, IsUndoneExactlyWhere, IsUndoOfLast}
+use Rattle.room_history.specs.Headline.{Share, Blocks, IsUndoneExactlyWhere, IsUndoOfLast}
 use Rattle.room_history.proofs.Growing.{Rise-standing_from}
-use Rattle.room_history.proofs.Searching.{First, none_found, found_first, greatest_is_last, Rise-filter, into_filter, out_of_filter}
+use Rattle.room_history.proofs.Blocking.{IsFirst, nothing_blocks, first_blocks}
+use Rattle.room_history.proofs.Leading.{IsLed}
+use Rattle.room_history.proofs.RisingNumbers.{greatest_is_last, Rise-filter, into_filter, out_of_filter}
 
 pub only : {X : Type 0} (o : Option X) → first_that_holds (o ∷ []) ≡ o
 only None = refl
@@ -39,23 +45,23 @@ module _ {A : Type 0} where
   there author None h = absurd (cc)
   there author (Some e) h = refl
 
+  -- an author's undo of an entry of his that stands no more
+  pub not_standing : (p : Past A) (j : List (Entry A)) (author : Author) (s : ℕ) → is_by author (numbered j s) ≡ true → is_standing j s ≡ false → undo_refusal p j author s ≡ Some NotStanding
+  not_standing p j author s own fallen =
+      ap (λ b. first_that_holds (then_some b NoSuch ∷ then_some (not (is_by author (numbered j s))) NotYours ∷ then_some (not (is_standing j s)) NotStanding ∷ option_map conflict (blocker p j s) ∷ [])) (there author (numbered j s) own)
+      ∙ ap (λ b. first_that_holds (then_some (not b) NotYours ∷ then_some (not (is_standing j s)) NotStanding ∷ option_map conflict (blocker p j s) ∷ [])) own
+      ∙ ap (λ b. first_that_holds (then_some (not b) NotStanding ∷ option_map conflict (blocker p j s) ∷ [])) fallen
+
   -- an author's undo of an entry of his that stands is refused by its blocker alone
-  pub own_refusal : (p : Past A) (j : List (Entry A)) (author : Author) (s : ℕ) → is_by author (numbered j s) ≡ true → is_standing j s ≡ true → undo_refusal p j author s ≡ option_map NotLast (blocker p j s)
+  pub own_refusal : (p : Past A) (j : List (Entry A)) (author : Author) (s : ℕ) → is_by author (numbered j s) ≡ true → is_standing j s ≡ true → undo_refusal p j author s ≡ option_map conflict (blocker p j s)
   own_refusal p j author s own stands =
-      ap (λ b. first_that_holds (then_some b NoSuch ∷ then_some (not (is_by author (numbered j s))) NotYours ∷ then_some (not (is_standing j s)) NotStanding ∷ option_map NotLast (blocker p j s) ∷ [])) (there author (numbered j s) own)
-      ∙ ap (λ b. first_that_holds (then_some (not b) NotYours ∷ then_some (not (is_standing j s)) NotStanding ∷ option_map NotLast (blocker p j s) ∷ [])) own
-      ∙ ap (λ b. first_that_holds (then_some (not b) NotStanding ∷ option_map NotLast (blocker p j s) ∷ [])) stands
-      ∙ only (option_map NotLast (blocker p j s))
+      ap (λ b. first_that_holds (then_some b NoSuch ∷ then_some (not (is_by author (numbered j s))) NotYours ∷ then_some (not (is_standing j s)) NotStanding ∷ option_map conflict (blocker p j s) ∷ [])) (there author (numbered j s) own)
+      ∙ ap (λ b. first_that_holds (then_some (not b) NotYours ∷ then_some (not (is_standing j s)) NotStanding ∷ option_map conflict (blocker p j s) ∷ [])) own
+      ∙ ap (λ b. first_that_holds (then_some (not b) NotStanding ∷ option_map conflict (blocker p j s) ∷ [])) stands
+      ∙ only (option_map conflict (blocker p j s))
 
-  -- no blocker: nothing blocks; a blocker: it blocks, and none before it does
-  nothing_blocks : (p : Past A) (j : List (Entry A)) (s : ℕ) → blocker p j s ≡ None → (t : ℕ) → Blocks j s t → ⊥
-  nothing_blocks p j s none t b = none_found s (standing j) none t b.0 b.1
-
-  first_blocks : (p : Past A) (j : List (Entry A)) (s b : ℕ) → blocker p j s ≡ Some b → Blocks j s b × ((u : ℕ) → Blocks j s u → b ≤ u)
-  first_blocks p j s b h = let f : First s b (standing j) = found_first s b 1 (standing j) (1 + length j) (Rise-standing_from 1 j) h in ((f.up, f.there), λ u k. f.least u k.0 k.1)
-
-  pub is_undone_exactly_where : (base : Rows A) (limit : ℕ) (j : List (Entry A)) → IsUndoneExactlyWhere base limit j
-  is_undone_exactly_where base limit j author id s fresh room own stands = by (blocker p j s) refl
+  pub is_undone_exactly_where : (base : Rows A) (limit : ℕ) (j : List (Entry A)) → IsLed base j → IsUndoneExactlyWhere base limit j
+  is_undone_exactly_where base limit j led author id s fresh room own stands = by (blocker p j s) refl
     where
       p : Past A
       p = past base j
@@ -63,24 +69,32 @@ module _ {A : Type 0} where
       c : Call A
       c = record { author = author; id = id; request = requests.Undo (Some s) }
 
-      says : (answer base limit j c).0 ≡ (answered j c (option_map NotLast (blocker p j s)) (Some (Undo s))).0
-      says = ap (λ (q : Reply A × List (Entry A)). q.0) (unspent base limit j c fresh room ∙ ap (λ o. answered j c o (Some (Undo s))) (own_refusal p j author s own stands))
+      reply : Reply A
+      reply = (answer base limit j c).0
 
-      not_both : (r : Reply A) (seq b : ℕ) → r ≡ Undid seq s → r ≡ NotLast b → ⊥
-      not_both r seq b e f = absurd (cc (sym e ∙ f))
+      says : (o : Option (ℕ × Name)) → blocker p j s ≡ o → reply ≡ (answered j c (option_map conflict o) (Some (Undo s))).0
+      says o e =
+          ap (λ (q : Reply A × List (Entry A)). q.0) (unspent base limit j c fresh room ∙ ap (λ o. answered j c o (Some (Undo s))) (own_refusal p j author s own stands))
+          ∙ ap (λ o. (answered j c (option_map conflict o) (Some (Undo s))).0) e
 
-      by : (o : Option ℕ) → blocker p j s ≡ o
-          → (((answer base limit j c).0 ≡ Undid (length j + 1) s) ↔ ((t : ℕ) → Blocks j s t → ⊥))
-          × ((t : ℕ) → Blocks j s t → (b : ℕ) × ((answer base limit j c).0 ≡ NotLast b) × Blocks j s b × ((u : ℕ) → Blocks j s u → b ≤ u))
+      not_both : (r : Reply A) (seq b : ℕ) (x : Name) → r ≡ Undid seq s → r ≡ Conflict b x → ⊥
+      not_both r seq b x e f = absurd (cc (sym e ∙ f))
+
+      by : (o : Option (ℕ × Name)) → blocker p j s ≡ o
+          → ((reply ≡ Undid (length j + 1) s) ↔ ((t : ℕ) (e : Name) → Blocks base j s t e → ⊥))
+          × ((t : ℕ) (e : Name) → Blocks base j s t e
+          → (b : ℕ) × (x : Name) × (reply ≡ Conflict b x) × Blocks base j s b x
+          × ((u : ℕ) (y : Name) → Blocks base j s u y → b ≤ u)
+          × ((y : Name) → Share base j s b y → is_lt (name_cmp y x) ≡ false))
       by None e = (
-        (λ _. nothing_blocks p j s e, λ _. says ∙ ap (λ o. (answered j c (option_map NotLast o) (Some (Undo s))).0) e),
-        λ t k. absurd (nothing_blocks p j s e t k),
+        (λ _. nothing_blocks base j s stands e, λ _. says None e),
+        λ t x k. absurd (nothing_blocks base j s stands e t x k),
       )
       by (Some b) e =
-          let first = first_blocks p j s b e in
-          let refused : (answer base limit j c).0 ≡ NotLast b = says ∙ ap (λ o. (answered j c (option_map NotLast o) (Some (Undo s))).0) e in (
-            (λ done. absurd (not_both (answer base limit j c).0 (length j + 1) b done refused), λ free. absurd (free b first.0)),
-            λ t k. (b, refused, first.0, first.1),
+          let first : IsFirst base j s stands b.0 b.1 = first_blocks base j s stands led b.0 b.1 e in
+          let refused : reply ≡ Conflict b.0 b.1 = says (Some b) e in (
+            (λ done. absurd (not_both reply (length j + 1) b.0 b.1 done refused), λ free. absurd (free b.0 b.1 first.blocks)),
+            λ t x k. (b.0, b.1, refused, first.blocks, first.none_before, first.none_less),
           )
 
   pub is_undo_of_last : (base : Rows A) (limit : ℕ) (j : List (Entry A)) → IsUndoOfLast base limit j

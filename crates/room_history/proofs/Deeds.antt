@@ -7,12 +7,12 @@ use Rattle.room_stacks.specs.declared.author.Author.{Author}
 use Rattle.room_stacks.specs.SameAuthors.{is_same_author}
 use Rattle.room_stacks.specs.Stacks as stacks
 use Rattle.room_stacks.specs.Facts.OneMore.{is_work_of}
-use Rattle.room_stacks.specs.Facts.Numbered.{spent_entries, standing_entries, kept_standing, above_entries, deeds_from-push}
+use Rattle.room_stacks.specs.Facts.Numbered.{spent_entries, standing_entries, kept_standing, above_entries, deeds_from-push, redo_entries}
 use Rattle.room_history.specs.declared.entry.Entry.{Entry}
 use Rattle.room_history.specs.declared.entry.EntryKind.{EntryKind}
-use Rattle.room_history.specs.declared.entry.EntryKind.TheVariants.{Do, Undo}
+use Rattle.room_history.specs.declared.entry.EntryKind.TheVariants.{Do, Undo, Redo}
 use Rattle.room_history.specs.Answers.{spends, spent}
-use Rattle.room_history.specs.Journals.{numbered, is_by, is_undo_of, is_standing, is_work, standing, standing_from, undos}
+use Rattle.room_history.specs.Journals.{numbered, is_by, is_undo_of, is_standing, is_work, standing, standing_from, undos, redos, redos_after}
 use Rattle.room_history.specs.Inner.Deeds.{deed, deed_by, deeds}
 
 -- what is in a list and passes a test is in the list of those that pass
@@ -30,6 +30,20 @@ any_kept p s (t ∷ ts) e h = by (nat_eq t s) refl (p t) refl e (λ f. any_kept 
     by false is true k e rest = ap (λ b. b || list_any (λ t. nat_eq t s) (filter p ts)) is ∙ rest e
     by false is false k e rest = rest e
 
+-- of what passes a test, it is in a list where it is in the list of those that pass
+any_of_kept : (p : ℕ → Bool) (s : ℕ) (ts : List ℕ) → p s ≡ true → list_any (λ t. nat_eq t s) (filter p ts) ≡ list_any (λ t. nat_eq t s) ts
+any_of_kept p s [] h = refl
+any_of_kept p s (t ∷ ts) h = by (nat_eq t s) refl (p t) refl (any_of_kept p s ts h)
+  where
+    same : nat_eq t s ≡ true → t ≡ s
+    same e = grind (arith, nat_tests)
+
+    by : (b : Bool) → nat_eq t s ≡ b → (k : Bool) → p t ≡ k → list_any (λ t. nat_eq t s) (filter p ts) ≡ list_any (λ t. nat_eq t s) ts
+        → list_any (λ t. nat_eq t s) (cond k (t ∷ filter p ts) (filter p ts)) ≡ (nat_eq t s || list_any (λ t. nat_eq t s) ts)
+    by b is true k rest = ap (λ r. nat_eq t s || r) rest
+    by true is false k rest = absurd (cc (sym k ∙ ap p (same is) ∙ h))
+    by false is false k rest = rest ∙ ap (λ b. b || list_any (λ t. nat_eq t s) ts) (sym is)
+
 module _ {A : Type 0} where
   number_is : (n : ℕ) (e : Entry A) → stacks.number (deed n e) ≡ n
   number_is n e = by e.kind
@@ -37,6 +51,7 @@ module _ {A : Type 0} where
       by : (k : EntryKind A) → stacks.number (deed_by n e.author e.id k) ≡ n
       by (Do a) = refl
       by (Undo s) = refl
+      by (Redo s) = refl
 
   spends_is : (author : Author) (id n : ℕ) (e : Entry A) → stacks.spends author id (deed n e) ≡ spends author id e
   spends_is author id n e = by e.kind
@@ -44,6 +59,7 @@ module _ {A : Type 0} where
       by : (k : EntryKind A) → stacks.spends author id (deed_by n e.author e.id k) ≡ spends author id e
       by (Do a) = refl
       by (Undo s) = refl
+      by (Redo s) = refl
 
   own_is : (author : Author) (n : ℕ) (e : Entry A) → is_work_of author (deed n e) ≡ (is_work e.kind && is_same_author author e.author)
   own_is author n e = by e.kind
@@ -51,6 +67,7 @@ module _ {A : Type 0} where
       by : (k : EntryKind A) → is_work_of author (deed_by n e.author e.id k) ≡ (is_work k && is_same_author author e.author)
       by (Do a) = refl
       by (Undo s) = refl
+      by (Redo s) = refl
 
   undid_is : (s n : ℕ) (e : Entry A) → stacks.undoes s (deed n e) ≡ (is_undo_of s e.kind && nat_lt s n)
   undid_is s n e = by e.kind
@@ -58,6 +75,7 @@ module _ {A : Type 0} where
       by : (k : EntryKind A) → stacks.undoes s (deed_by n e.author e.id k) ≡ (is_undo_of s k && nat_lt s n)
       by (Do a) = refl
       by (Undo t) = refl
+      by (Redo t) = refl
 
   -- an id is spent by a deed where it is by an entry
   pub spent_deeds : (j : List (Entry A)) (author : Author) (id : ℕ) → stacks.spent (deeds j) author id ≡ spent j author id
@@ -83,3 +101,27 @@ module _ {A : Type 0} where
   -- an author's entry that stands is among them
   pub stands_among : (j : List (Entry A)) (author : Author) (s : ℕ) → is_standing j s ≡ true → is_by author (numbered j s) ≡ true → list_any (λ t. nat_eq t s) (stacks.standing (deeds j) author) ≡ true
   stands_among j author s stands own = ap (list_any (λ t. nat_eq t s)) (standing_deeds j author) ∙ any_kept (λ t. is_by author (numbered j t)) s (standing j) stands own
+
+  -- what an author can redo by its deeds it can by its entries
+  pub redo_deeds : (j : List (Entry A)) (author : Author) → stacks.redo (deeds j) author ≡ redos j author
+  redo_deeds j author = redo_entries deed number_is author (λ (e : Entry A). is_same_author author e.author) doer_is (λ stack (e : Entry A). redos_after stack e.kind) step_is 1 j
+    where
+      doer_is : (n : ℕ) (e : Entry A) → is_same_author author (stacks.doer (deed n e)) ≡ is_same_author author e.author
+      doer_is n e = by e.kind
+        where
+          by : (k : EntryKind A) → is_same_author author (stacks.doer (deed_by n e.author e.id k)) ≡ is_same_author author e.author
+          by (Do a) = refl
+          by (Undo s) = refl
+          by (Redo t) = refl
+
+      step_is : (stack : List ℕ) (n : ℕ) (e : Entry A) → stacks.redo_after stack (deed n e) ≡ redos_after stack e.kind
+      step_is stack n e = by e.kind
+        where
+          by : (k : EntryKind A) → stacks.redo_after stack (deed_by n e.author e.id k) ≡ redos_after stack k
+          by (Do a) = refl
+          by (Undo s) = refl
+          by (Redo t) = refl
+
+  -- of an author's own entry: it stands where it is among those of the author that do
+  pub own_stands : (j : List (Entry A)) (author : Author) (s : ℕ) → is_by author (numbered j s) ≡ true → list_any (λ t. nat_eq t s) (undos j author) ≡ is_standing j s
+  own_stands j author s own = any_of_kept (λ t. is_by author (numbered j t)) s (standing j) own

@@ -3,7 +3,7 @@ use Rattle.std.proofs.Common.{refl}
 use Rattle.std.specs.Str.{chars}
 use Rattle.osm_elements.specs.NameOrder.{name_cmp}
 use Rattle.osm_elements.specs.Texts.{is_long}
-use Rattle.room_history.specs.Examples.{first_run, range_ends, limit_one, limit_zero, last_first, refusals_in_turn, relations_in_turn}
+use Rattle.room_history.specs.Examples.{first_run, range_ends, limit_one, limit_zero, strangers, in_use, taken_back_way, refusals_in_turn, relations_in_turn, redo_at_once, redo_refused, redo_order, redo_again}
 
 pub first_run_lem : first_run
 unfolding first_run name_cmp
@@ -21,9 +21,17 @@ pub limit_zero_lem : limit_zero
 unfolding limit_zero name_cmp
 limit_zero_lem = refl
 
-pub last_first_lem : last_first
-unfolding last_first name_cmp
-last_first_lem = refl
+pub strangers_lem : strangers
+unfolding strangers name_cmp
+strangers_lem = (refl, refl, refl)
+
+pub in_use_lem : in_use
+unfolding in_use name_cmp
+in_use_lem = (refl, refl)
+
+pub taken_back_way_lem : taken_back_way
+unfolding taken_back_way name_cmp
+taken_back_way_lem = (refl, refl)
 
 pub refusals_in_turn_lem : refusals_in_turn
 unfolding refusals_in_turn name_cmp
@@ -32,3 +40,19 @@ refusals_in_turn_lem = (refl, refl, refl, refl)
 pub relations_in_turn_lem : relations_in_turn
 unfolding relations_in_turn name_cmp is_long chars
 relations_in_turn_lem = (refl, refl, refl, refl)
+
+pub redo_at_once_lem : redo_at_once
+unfolding redo_at_once name_cmp
+redo_at_once_lem = (refl, refl, refl, refl)
+
+pub redo_refused_lem : redo_refused
+unfolding redo_refused name_cmp
+redo_refused_lem = (refl, refl, refl, refl, refl)
+
+pub redo_order_lem : redo_order
+unfolding redo_order name_cmp
+redo_order_lem = (refl, refl, refl, refl, refl)
+
+pub redo_again_lem : redo_again
+unfolding redo_again name_cmp
+redo_again_lem = (refl, refl, refl, refl)

@@ -1,6 +1,6 @@
 -- What one more entry does to a journal.
-use Rattle.std.proofs.Common.{◌≡◌, ◌+◌, ◌<◌, ◌≤◌, ◌&&◌, ◌||◌, ◌++◌, ◌∷◌, ℕ, zero, suc, Bool, true, false, not, List, [], Some, None, length, refl, sym, ap, subst, ◌∙◌, cond, arith, nat_eq, nat_lt, slice_get}
-use Rattle.std.specs.List.{filter, find, list_any}
+use Rattle.std.proofs.Common.{◌≡◌, ◌+◌, ◌≤◌, ◌&&◌, ◌||◌, ◌++◌, ◌∷◌, ℕ, zero, suc, Bool, true, false, not, List, [], Some, length, refl, sym, ap, subst, ◌∙◌, cond, arith, nat_eq, slice_get}
+use Rattle.std.specs.List.{filter, list_any}
 use Rattle.std.proofs.lemmas.List.Folds.{list_any-append}
 use Rattle.std.proofs.lemmas.Bool.Decides.{nat_tests}
 use Rattle.room_history.specs.declared.entry.Entry.{Entry}
@@ -30,42 +30,8 @@ pub Rise-from : (m n : ℕ) (ss : List ℕ) (end : ℕ) → m ≤ n → Rise n s
 Rise-from m n [] end h r = omega arith
 Rise-from m n (s ∷ ss) end h r = (omega (arith, r.0), r.1)
 
--- in rising numbers, one that none is above is the last
-pub record IsLast (s : ℕ) (ss : List ℕ) : Type 0 where
-  pub front : List ℕ
-  pub splits : ss ≡ front ++ s ∷ []
-  pub others : filter (λ t. not (nat_eq t s)) ss ≡ front
-
 pub equal_numbers : (t s : ℕ) → nat_eq t s ≡ true → t ≡ s
 equal_numbers t s e = grind (arith, nat_tests)
-
-pub last_of : (s n : ℕ) (ss : List ℕ) (end : ℕ) → Rise n ss end → list_any (λ t. nat_eq t s) ss ≡ true → find (nat_lt s) ss ≡ None → IsLast s ss
-last_of s n [] end r there none = absurd (cc)
-last_of s n (t ∷ ts) end r there none = by (last_of s (t + 1) ts end r.1) (nat_eq t s) refl (nat_lt s t) refl there none
-  where
-    none_above : (ts : List ℕ) → Rise (t + 1) ts end → t ≡ s → find (nat_lt s) ts ≡ None → ts ≡ []
-    none_above [] r e f = refl
-    none_above (u ∷ us) r e f =
-        let above : nat_lt s u ≡ true = let lt : s < u = omega (arith, r.0, e) in grind (arith, nat_tests) in
-        absurd (cc (ap (λ b. cond b (Some u) (find (nat_lt s) us)) above))
-
-    by : (list_any (λ t. nat_eq t s) ts ≡ true → find (nat_lt s) ts ≡ None → IsLast s ts) → (same : Bool) → nat_eq t s ≡ same → (above : Bool) → nat_lt s t ≡ above → (same || list_any (λ t. nat_eq t s) ts) ≡ true → cond above (Some t) (find (nat_lt s) ts) ≡ None → IsLast s (t ∷ ts)
-    by go same e true f h g = absurd (cc)
-    by go true e false f h g =
-        let is : t ≡ s = equal_numbers t s e in
-        let empty : ts ≡ [] = none_above ts r.1 is g in
-        record {
-          front = [];
-          splits = (λ i. is i ∷ empty i);
-          others = ap (λ b. cond (not b) (t ∷ filter (λ t. not (nat_eq t s)) ts) (filter (λ t. not (nat_eq t s)) ts)) e ∙ ap (filter (λ t. not (nat_eq t s))) empty;
-        }
-    by go false e false f h g =
-        let rest : IsLast s ts = go h g in
-        record {
-          front = t ∷ rest.front;
-          splits = ap (λ r. t ∷ r) rest.splits;
-          others = ap (λ b. cond (not b) (t ∷ filter (λ t. not (nat_eq t s)) ts) (filter (λ t. not (nat_eq t s)) ts)) e ∙ ap (λ r. t ∷ r) rest.others;
-        }
 
 module _ {A : Type 0} where
   abbrev pub new_number : EntryKind A → ℕ → List ℕ

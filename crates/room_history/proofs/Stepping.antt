@@ -1,12 +1,11 @@
 -- One step of a room.
-use Rattle.std.proofs.Common.{◌≡◌, Result, OnErr, ◌<◌, ◌≤◌, ◌+◌, ◌++◌, ◌∷◌, ℕ, true, false, List, [], Option, Some, None, Ok, Err, length, take, refl, sym, ap, subst, ◌∙◌, arith, ◌⊎◌, inl, inr, zero, suc, map, nat_le, length-append}
+use Rattle.std.proofs.Common.{◌≡◌, Result, OnErr, ◌<◌, ◌≤◌, ◌+◌, ◌++◌, ◌∷◌, ℕ, true, false, List, [], Option, Some, None, Ok, Err, length, refl, sym, ap, subst, ◌∙◌, arith, ◌⊎◌, inl, inr, zero, suc, map, nat_le, unwrap_or}
 use Rattle.std.specs.Bool.{then_some}
 use Rattle.std.specs.List.{fold}
-use Rattle.std.specs.Option.{option_map}
+use Rattle.std.specs.Option.{option_map, option_and_then}
 use Rattle.std.proofs.lemmas.Bool.Decides.{nat_tests}
 use Rattle.std.proofs.lemmas.List.{map-append, length-map}
 use Rattle.std.proofs.lemmas.List.Sums.{fold-append}
-use Rattle.std.proofs.Math.Seq.{take-append_seam}
 use Rattle.edit_actions.specs.declared.action.Action.{Action}
 use Rattle.room_stacks.specs.declared.author.Author.{Author}
 use Rattle.room_history.specs.declared.call.Call.{Call}
@@ -14,28 +13,31 @@ use Rattle.room_history.specs.declared.call.Request.{Request}
 use Rattle.room_history.specs.declared.call.Request.TheVariants as requests
 use Rattle.room_history.specs.declared.entry.Entry.{Entry}
 use Rattle.room_history.specs.declared.entry.EntryKind.{EntryKind}
-use Rattle.room_history.specs.declared.entry.EntryKind.TheVariants.{Do, Undo}
+use Rattle.room_history.specs.declared.entry.EntryKind.TheVariants.{Do, Undo, Redo}
 use Rattle.edit_simple.specs.declared.refusal.Refusal.{Refusal}
 use Rattle.room_history.specs.declared.reply.Reply.{Reply}
-use Rattle.room_history.specs.declared.reply.Reply.TheVariants.{Done, Undid, Repeat, Full, Refused, Memory}
+use Rattle.room_history.specs.declared.reply.Reply.TheVariants.{Done, Undid, Redid, Repeat, Full, NothingToRedo, Refused, Memory}
+use Rattle.osm_elements.specs.declared.name.Name.{Name}
 use Rattle.osm_elements.specs.Maps.{Rows}
 use Rattle.osm_changes.specs.Sound.{is_sound}
 use Rattle.edit_actions.specs.After.{after, changes}
 use Rattle.edit_actions.specs.Refusals.{checks, refusal}
 use Rattle.edit_simple.specs.Checks.{first_that_holds}
-use Rattle.room_history.specs.Journals.{numbered, standing}
-use Rattle.room_history.specs.Replays.{Past, Recorded, past, mapof, recorded_next, taken_back}
-use Rattle.room_history.specs.Answers.{spent, asked, meant, undo_refusal, meaning_refusal, with_entry, answered, answer}
+use Rattle.room_history.specs.Journals.{numbered, last, redos}
+use Rattle.room_history.specs.Replays.{Past, Recorded, past, mapof, action_at, recorded_next, taken_back}
+use Rattle.room_history.specs.Answers.{spent, asked, meant, undo_refusal, redo_refusal, meaning_refusal, with_entry, answered, answer}
 use Rattle.edit_actions.specs.MadeActions.{is_made_action}
 use Rattle.room_history.specs.LegalJournals.{IsJournal, opened, called}
 use Rattle.room_history.specs.Runs.{IsStep}
 use Rattle.room_history.specs.Applied.{applied}
 use Rattle.room_history.specs.Inner.Deeds.{deed_by, deeds}
+use Rattle.room_history.specs.Inner.Origins.{done_by, origin_next, origins}
+use Rattle.room_history.proofs.Origins.{origins-append, origins_each, action_by_origin}
 use Rattle.room_history.proofs.Deeds as journals
-use Rattle.room_history.proofs.Deeds.{deeds-append, spent_deeds, stands_among}
+use Rattle.room_history.proofs.Deeds.{deeds-append, spent_deeds, stands_among, redo_deeds}
 use Rattle.room_stacks.specs.Stacks as stacks
 use Rattle.room_stacks.specs.declared.deed.Deed.{Deed}
-use Rattle.room_stacks.specs.declared.deed.Deed.TheVariants.{Did, Undid}
+use Rattle.room_stacks.specs.declared.deed.Deed.TheVariants.{Did, Undid, Redid}
 use Rattle.osm_elements.specs.Rows.{AreInOrder}
 use Rattle.osm_changes.specs.declared.change.Change.{Change}
 use Rattle.osm_changes.specs.Changes.{changed, differences, inverse, AreChanges, AreFrom}
@@ -45,13 +47,19 @@ use Rattle.edit_simple.specs.Plans.{IsPlan}
 use Rattle.room_history.specs.Inner.Refusing.{refusal_reply}
 use Rattle.room_history.specs.Inner.Undoing.{undone_or, asked_or}
 use Rattle.room_history.specs.Inner.Rooms.{IsRoom, MayAppend, recorded_changes}
+use Rattle.room_history.proofs.BinarySearching.{last_is}
 use Rattle.room_history.proofs.Deciding.{unspent}
-use Rattle.room_history.proofs.Holding.{journal_stacked}
+use Rattle.room_history.proofs.Keeping.{journal_led}
 use Rattle.osm_changes.specs.Facts.Changing.{changed-differences}
 use Rattle.osm_changes.specs.Facts.SoundRows.{sound_in_order}
 use Rattle.edit_actions.specs.Facts.Accepted.{AreInOrder-after}
-use Rattle.room_history.proofs.Stacks.{Stacked}
-use Rattle.room_history.proofs.Stacking.{Stacked-undo, Undone, mapof-append, past-append, standing-do}
+use Rattle.edit_footprint.specs.Footprints.{footprint, footprint_of}
+use Rattle.edit_footprint.specs.Holding.{Held, IsNext, without}
+use Rattle.room_history.specs.Blockers.{held}
+use Rattle.room_history.proofs.Appending.{past-append, mapof-append, applied-append, recorded-redo}
+use Rattle.room_history.proofs.HeldEntries.{is_next, held-do, held-redo, held-undo}
+use Rattle.room_history.proofs.Leading.{IsLed, led_sound}
+use Rattle.room_history.proofs.TakingBack.{Undone, undone}
 use Rattle.room_history.proofs.Undoing.{Found, found}
 
 -- the reply that a refusal becomes: itself, or want of memory
@@ -90,6 +98,16 @@ within_numbered (y ∷ ys) (suc (suc i)) x e = let h = within_numbered ys (suc i
 pub on_err : {X E : Type 0} (r : Result X E) (P : Type 0) → P → OnErr r P
 on_err (Ok x) P p = tt
 on_err (Err e) P p = p
+
+-- the reply to the redo of an action whose plan refuses
+pub redo_refused : {A : Type 0} (m : Rows A) (o : Option (Action A)) (a : Action A) (r : Refusal A) (reply : Reply A) → o ≡ Some a → reply ≡ refusal_reply r → IsPlan m (checks m a) (after m a) (Err r)
+    → (reply ≡ Memory) ⊎ (redo_refusal m o ≡ Some reply)
+redo_refused m o a r reply acts is (inr e) = inl (is ∙ ap refusal_reply e)
+redo_refused m o a r reply acts is (inl e) = by (reply_is r)
+  where
+    by : (refusal_reply r ≡ Refused r) ⊎ (refusal_reply r ≡ Memory) → (reply ≡ Memory) ⊎ (redo_refusal m o ≡ Some reply)
+    by (inl same) = inr (ap (redo_refusal m) acts ∙ ap (option_map Refused) e ∙ ap Some (sym (is ∙ same)))
+    by (inr same) = inl (is ∙ same)
 
 module _ {A : Type 0} where
   pub step_full : (base : Rows A) (limit : ℕ) (j : List (Entry A)) (c : Call A) → spent j c.author c.id ≡ None → limit ≤ length j → IsStep base limit j c Full j
@@ -141,6 +159,30 @@ module _ {A : Type 0} where
         subst (λ k. IsJournal base limit k) (ap (λ (p : Reply A × List (Entry A)). p.1) (answer_is (requests.Undo (Some s)) ∙ ap (λ o. answered j (record { author = author; id = id; request = requests.Undo (Some s) }) o (Some (Undo s))) e))
         (called j (record { author = author; id = id; request = requests.Undo (Some s) }) h refl)
 
+    -- a redo whose author has an entry on top, and what is recorded of it
+    again : (t : ℕ) → last (redos j author) ≡ Some t
+        → answer base limit j (record { author = author; id = id; request = requests.Redo }) ≡ answered j (record { author = author; id = id; request = requests.Redo }) (redo_refusal (mapof base j) (action_at (past base j) t)) (Some (Redo t))
+    again t top = answer_is requests.Redo ∙ ap (λ o. answered j (record { author = author; id = id; request = requests.Redo }) (meaning_refusal (past base j) j (record { author = author; id = id; request = requests.Redo }) (option_map Redo o)) (option_map Redo o)) top
+
+    pub step_nothing_to_redo : last (redos j author) ≡ None → IsStep base limit j (record { author = author; id = id; request = requests.Redo }) NothingToRedo j
+    step_nothing_to_redo none = inl (sym (answer_is requests.Redo ∙ ap (λ o. answered j (record { author = author; id = id; request = requests.Redo }) (meaning_refusal (past base j) j (record { author = author; id = id; request = requests.Redo }) (option_map Redo o)) (option_map Redo o)) none))
+
+    pub step_not_redone : (t : ℕ) (reply : Reply A) → last (redos j author) ≡ Some t → (reply ≡ Memory) ⊎ (redo_refusal (mapof base j) (action_at (past base j) t) ≡ Some reply)
+        → IsStep base limit j (record { author = author; id = id; request = requests.Redo }) reply j
+    step_not_redone t reply top (inl is) = inr (is, refl)
+    step_not_redone t reply top (inr is) = inl (sym (again t top ∙ ap (λ o. answered j (record { author = author; id = id; request = requests.Redo }) o (Some (Redo t))) is))
+
+    redone_is : (t : ℕ) → last (redos j author) ≡ Some t → redo_refusal (mapof base j) (action_at (past base j) t) ≡ None
+        → answer base limit j (record { author = author; id = id; request = requests.Redo }) ≡ (Redid (length j + 1) t, with_entry j author id (Redo t))
+    redone_is t top ok = again t top ∙ ap (λ o. answered j (record { author = author; id = id; request = requests.Redo }) o (Some (Redo t))) ok
+
+    pub step_redone : (t seq : ℕ) → last (redos j author) ≡ Some t → redo_refusal (mapof base j) (action_at (past base j) t) ≡ None → seq ≡ length j + 1
+        → IsStep base limit j (record { author = author; id = id; request = requests.Redo }) (Redid seq t) (with_entry j author id (Redo t))
+    step_redone t seq top ok is = inl (ap (λ n. (Redid n t, with_entry j author id (Redo t))) is ∙ sym (redone_is t top ok))
+
+    legal_redo : IsJournal base limit j → (t : ℕ) → last (redos j author) ≡ Some t → redo_refusal (mapof base j) (action_at (past base j) t) ≡ None → IsJournal base limit (with_entry j author id (Redo t))
+    legal_redo h t top ok = subst (λ k. IsJournal base limit k) (ap (λ (p : Reply A × List (Entry A)). p.1) (redone_is t top ok)) (called j (record { author = author; id = id; request = requests.Redo }) h refl)
+
     -- which entry an undo takes back, or why none
     record Taken (number : Option ℕ) (s : ℕ) : Type 0 where
       is : asked j author number ≡ Some s
@@ -176,14 +218,15 @@ module _ {A : Type 0} where
             why (Some p) e = ap (λ q. (q, j)) (cc)
 
   -- a room with nothing in it
-  pub IsRoom-empty : (store : StoreState A) (recorded : List (List (Change A))) (numbers : List ℕ) (done : List Deed) (base : Rows A) (limit : ℕ) (j : List (Entry A))
-      → store ≡ record { rows = []; applied = 0 } → recorded ≡ [] → numbers ≡ [] → done ≡ [] → base ≡ [] → j ≡ [] → IsRoom store recorded numbers done base limit j
-  IsRoom-empty store recorded numbers done base limit j no_rows no_changes no_numbers no_deeds empty no_entries = record {
+  pub IsRoom-empty : (store : StoreState A) (recorded : List (List (Change A))) (firsts : List ℕ) (holders : Held) (done : List Deed) (base : Rows A) (limit : ℕ) (j : List (Entry A))
+      → store ≡ record { rows = []; applied = 0 } → recorded ≡ [] → firsts ≡ [] → holders ≡ [] → done ≡ [] → base ≡ [] → j ≡ [] → IsRoom store recorded firsts holders done base limit j
+  IsRoom-empty store recorded firsts holders done base limit j no_rows no_changes no_firsts no_holders no_deeds empty no_entries = record {
     journal = subst (λ k. IsJournal base limit k) (sym no_entries) opened;
     rows_are = ap (λ (s : StoreState A). s.rows) no_rows ∙ sym empty ∙ ap (mapof base) (sym no_entries);
     count_is = ap (λ (s : StoreState A). s.applied) no_rows ∙ ap (applied base) (sym no_entries);
     recorded_are = no_changes ∙ ap (recorded_changes base) (sym no_entries);
-    numbers_are = no_numbers ∙ ap standing (sym no_entries);
+    firsts_are = no_firsts ∙ ap origins (sym no_entries);
+    holders_are = no_holders ∙ ap (λ k. held (past base k) k) (sym no_entries);
     deeds_are = no_deeds ∙ ap deeds (sym no_entries);
     empty_base = empty;
   }
@@ -192,15 +235,26 @@ module _ {A : Type 0} where
   recorded-append : (base : Rows A) (j : List (Entry A)) (e : Entry A) → recorded_changes base (j ++ e ∷ []) ≡ recorded_changes base j ++ (recorded_next (past base j) e.kind).changes ∷ []
   recorded-append base j e = ap (map (λ (r : Recorded A). r.changes)) (ap (λ (p : Past A). p.entries) (past-append base j e)) ∙ map-append (λ (r : Recorded A). r.changes) (past base j).entries (recorded_next (past base j) e.kind ∷ [])
 
-  pub applied-append : (base : Rows A) (j : List (Entry A)) (e : Entry A) → applied base (j ++ e ∷ []) ≡ counted (applied base j) (recorded_next (past base j) e.kind).changes
-  applied-append base j e =
-      ap (λ (p : Past A). fold (λ n (r : Recorded A). counted n r.changes) 0 p.entries) (past-append base j e)
-      ∙ fold-append (λ n (r : Recorded A). counted n r.changes) 0 (past base j).entries (recorded_next (past base j) e.kind ∷ [])
+  module _ (store : StoreState A) (recorded : List (List (Change A))) (firsts : List ℕ) (holders : Held) (done : List Deed) (base : Rows A) (limit : ℕ) (j : List (Entry A)) (r : IsRoom store recorded firsts holders done base limit j) where
+    base_sound : is_sound base ≡ true
+    base_sound = ap is_sound r.empty_base
 
-  module _ (store : StoreState A) (recorded : List (List (Change A))) (numbers : List ℕ) (done : List Deed) (base : Rows A) (limit : ℕ) (j : List (Entry A)) (r : IsRoom store recorded numbers done base limit j) where
     -- what holds of a room's journal
-    pub room_stacked : Stacked base j
-    room_stacked = journal_stacked base (ap is_sound r.empty_base) limit j r.journal
+    room_led : IsLed base j
+    room_led = journal_led base base_sound limit j r.journal
+
+    -- the next number comes after those of all entries that stand
+    pub stands_next : (n : ℕ) → n ≡ length j → IsNext holders (n + 1)
+    stands_next n is = subst (λ h. IsNext h (n + 1)) (sym r.holders_are) (subst (λ m. IsNext (held (past base j) j) (m + 1)) (sym is) (is_next base j))
+
+    -- the action that the code finds of an entry is the recorded one
+    pub action_told : (es : List (Entry A)) (os : List ℕ) (t : ℕ) (o : Option (Action A)) → es ≡ j → os ≡ firsts → o ≡ option_and_then (λ n. done_by (numbered es n)) (numbered os t) → action_at (past base j) t ≡ o
+    action_told es os t o entries_are origins_are is =
+        action_by_origin base j t ∙ sym (is ∙ (λ i. option_and_then (λ n. done_by (numbered (entries_are i) n)) (numbered ((origins_are ∙ r.firsts_are) i) t)))
+
+    -- what an author can redo is what it can by its deeds
+    pub redos_told : (author : Author) → stacks.redo done author ≡ redos j author
+    redos_told author = ap (λ ds. stacks.redo ds author) r.deeds_are ∙ redo_deeds j author
 
     -- an id is spent where it is by a deed
     pub spent_is : (author : Author) (id : ℕ) → stacks.spent done author id ≡ spent j author id
@@ -214,108 +268,128 @@ module _ {A : Type 0} where
       pub above_deeds : (ds : List Deed) (n : ℕ) → ds ≡ done → n ≡ length j + 1 → stacks.IsAboveAll n ds
       above_deeds ds n is next = subst (λ d. stacks.IsAboveAll n d) (sym (is ∙ r.deeds_are)) (subst (λ m. stacks.IsAboveAll m (deeds j)) (sym next) (journals.above_deeds j))
 
-      -- a room with one more entry: what the store, the recorded changes and the deeds are after it
-      record Grown (k : EntryKind A) (store' : StoreState A) (recorded' : List (List (Change A))) (done' : List Deed) : Type 0 where
-        rows_are : store'.rows ≡ mapof base (with_entry j author id k)
-        count_is : store'.applied ≡ applied base (with_entry j author id k)
-        recorded_are : recorded' ≡ recorded_changes base (with_entry j author id k)
-        deeds_are : done' ≡ deeds (with_entry j author id k)
-
-      grown : (k : EntryKind A) (cs : List (Change A)) → cs ≡ (recorded_next (past base j) k).changes
-          → Grown k (applied_to store cs) (recorded ++ cs ∷ []) (done ++ deed_by (length j + 1) author id k ∷ [])
-      grown k cs is =
+      -- a room with one more entry
+      grown : (k : EntryKind A) (l : List (Entry A)) (store' : StoreState A) (recorded' : List (List (Change A))) (firsts' : List ℕ) (holders' : Held) (done' : List Deed) (cs : List (Change A))
+          → IsJournal base limit (with_entry j author id k) → cs ≡ (recorded_next (past base j) k).changes
+          → store' ≡ applied_to store cs → recorded' ≡ recorded ++ cs ∷ [] → firsts' ≡ firsts ++ origin_next (origins j) k ∷ [] → holders' ≡ held (past base (with_entry j author id k)) (with_entry j author id k)
+          → done' ≡ done ++ deed_by (length j + 1) author id k ∷ [] → l ≡ with_entry j author id k
+          → IsRoom store' recorded' firsts' holders' done' base limit l
+      grown k l store' recorded' firsts' holders' done' cs legal is store_is recorded_is firsts_is holders_is deeds_is l_is =
           let e : Entry A = record { author = author; id = id; kind = k } in
-          record {
-            rows_are = ap (λ m. changed m cs) r.rows_are ∙ ap (changed (mapof base j)) is ∙ sym (mapof-append base j e);
-            count_is = ap (λ n. counted n cs) r.count_is ∙ ap (counted (applied base j)) is ∙ sym (applied-append base j e);
-            recorded_are = (λ i. r.recorded_are i ++ is i ∷ []) ∙ sym (recorded-append base j e);
-            deeds_are = ap (λ ds. ds ++ deed_by (length j + 1) author id k ∷ []) r.deeds_are ∙ sym (deeds-append j e);
-          }
-
-      -- a room after an accepted action
-      pub IsRoom-do : (a : Action A) (k : List (Entry A)) (store' : StoreState A) (recorded' : List (List (Change A))) (numbers' : List ℕ) (done' : List Deed) (cs : List (Change A))
-          → is_made_action a ≡ true → refusal (mapof base j) a ≡ None → cs ≡ changes (mapof base j) a
-          → store' ≡ applied_to store cs → recorded' ≡ recorded ++ cs ∷ [] → numbers' ≡ numbers ++ (length j + 1) ∷ [] → done' ≡ done ++ Did author id (length j + 1) ∷ [] → k ≡ with_entry j author id (Do a)
-          → IsRoom store' recorded' numbers' done' base limit k
-      IsRoom-do a k store' recorded' numbers' done' cs made ok cs_are store_is recorded_is numbers_after deeds_after k_is =
-          let e : Entry A = record { author = author; id = id; kind = Do a } in
-          let g = grown (Do a) cs cs_are in
-          subst (λ l. IsRoom store' recorded' numbers' done' base limit l) (sym k_is) (record {
-            journal = legal_do base limit j author id may r.journal a made ok;
-            rows_are = ap (λ (s : StoreState A). s.rows) store_is ∙ g.rows_are;
-            count_is = ap (λ (s : StoreState A). s.applied) store_is ∙ g.count_is;
-            recorded_are = recorded_is ∙ g.recorded_are;
-            numbers_are = numbers_after ∙ ap (λ ss. ss ++ (length j + 1) ∷ []) r.numbers_are ∙ ap (λ n. standing j ++ n ∷ []) (let n : length j + 1 ≡ 1 + length j = omega arith in n) ∙ sym (standing-do j e a refl);
-            deeds_are = deeds_after ∙ g.deeds_are;
+          subst (λ l. IsRoom store' recorded' firsts' holders' done' base limit l) (sym l_is) (record {
+            journal = legal;
+            rows_are = ap (λ (s : StoreState A). s.rows) store_is ∙ ap (λ m. changed m cs) r.rows_are ∙ ap (changed (mapof base j)) is ∙ sym (mapof-append base j e);
+            count_is = ap (λ (s : StoreState A). s.applied) store_is ∙ ap (λ n. counted n cs) r.count_is ∙ ap (counted (applied base j)) is ∙ sym (applied-append base j e);
+            recorded_are = recorded_is ∙ (λ i. r.recorded_are i ++ is i ∷ []) ∙ sym (recorded-append base j e);
+            firsts_are = firsts_is ∙ ap (λ os. os ++ origin_next (origins j) k ∷ []) r.firsts_are ∙ sym (origins-append j e);
+            holders_are = holders_is;
+            deeds_are = deeds_is ∙ ap (λ ds. ds ++ deed_by (length j + 1) author id k ∷ []) r.deeds_are ∙ sym (deeds-append j e);
             empty_base = r.empty_base;
           })
 
-      -- what an undo of the last entry that stands finds in a room
+      -- where a new action is
+      own_origin : length j + 1 ≡ length (origins j) + 1
+      own_origin = ap (λ n. n + 1) (sym (origins_each j))
+
+      -- a room after an accepted action
+      pub IsRoom-do : (a : Action A) (l : List (Entry A)) (store' : StoreState A) (recorded' : List (List (Change A))) (firsts' : List ℕ) (holders' : Held) (done' : List Deed) (cs : List (Change A))
+          → is_made_action a ≡ true → refusal (mapof base j) a ≡ None → cs ≡ changes (mapof base j) a
+          → store' ≡ applied_to store cs → recorded' ≡ recorded ++ cs ∷ [] → firsts' ≡ firsts ++ (length j + 1) ∷ [] → holders' ≡ holders ++ (length j + 1, footprint_of a cs) ∷ []
+          → done' ≡ done ++ Did author id (length j + 1) ∷ [] → l ≡ with_entry j author id (Do a)
+          → IsRoom store' recorded' firsts' holders' done' base limit l
+      IsRoom-do a l store' recorded' firsts' holders' done' cs made ok cs_are store_is recorded_is firsts_is holders_is deeds_is l_is =
+          grown (Do a) l store' recorded' firsts' holders' done' cs (legal_do base limit j author id may r.journal a made ok) cs_are store_is recorded_is
+          (firsts_is ∙ ap (λ n. firsts ++ n ∷ []) own_origin)
+          (holders_is ∙ (λ i. r.holders_are i ++ (length j + 1, footprint_of a (cs_are i)) ∷ []) ∙ sym (held-do base j (record { author = author; id = id; kind = Do a }) a refl))
+          deeds_is l_is
+
+      -- what a redo that is not refused finds in a room
+      module _ (t : ℕ) (top : last (redos j author) ≡ Some t) (ok : redo_refusal (mapof base j) (action_at (past base j) t) ≡ None) where
+        -- the action, as it is recorded
+        record Again : Type 0 where
+          action : Action A
+          acts : action_at (past base j) t ≡ Some action
+
+        again_of : (o : Option (Action A)) → action_at (past base j) t ≡ o → redo_refusal (mapof base j) o ≡ None → Again
+        again_of None e k = absurd (cc)
+        again_of (Some a) e k = record { action = a; acts = e }
+
+        again_found : Again
+        again_found = again_of (action_at (past base j) t) refl ok
+
+        -- it is on top of the author's stack of deeds
+        pub redo_top : (ds : List Deed) → ds ≡ done → stacks.top (stacks.redo ds author) ≡ Some t
+        redo_top ds is = ap (λ d. stacks.top (stacks.redo d author)) (is ∙ r.deeds_are) ∙ ap stacks.top (redo_deeds j author) ∙ last_is (redos j author) ∙ top
+
+        pub IsRoom-redo : (l : List (Entry A)) (store' : StoreState A) (recorded' : List (List (Change A))) (firsts' : List ℕ) (holders' : Held) (done' : List Deed) (cs : List (Change A)) (names : List Name) (o : ℕ)
+            → cs ≡ (recorded_next (past base j) (Redo t)).changes → names ≡ (recorded_next (past base j) (Redo t)).footprint → o ≡ unwrap_or (numbered firsts t) (length j + 1)
+            → store' ≡ applied_to store cs → recorded' ≡ recorded ++ cs ∷ [] → firsts' ≡ firsts ++ o ∷ [] → holders' ≡ holders ++ (length j + 1, names) ∷ []
+            → done' ≡ done ++ Redid author id t (length j + 1) ∷ [] → l ≡ with_entry j author id (Redo t)
+            → IsRoom store' recorded' firsts' holders' done' base limit l
+        IsRoom-redo l store' recorded' firsts' holders' done' cs names o cs_are names_are o_is store_is recorded_is firsts_is holders_is deeds_is l_is =
+            grown (Redo t) l store' recorded' firsts' holders' done' cs (legal_redo base limit j author id may r.journal t top ok) cs_are store_is recorded_is
+            (firsts_is ∙ ap (λ n. firsts ++ n ∷ []) (o_is ∙ (λ i. unwrap_or (numbered (r.firsts_are i) t) (own_origin i))))
+            (holders_is ∙ (λ i. r.holders_are i ++ (length j + 1, (names_are ∙ ap (λ (w : Recorded A). w.footprint) (recorded-redo base j t again_found.action again_found.acts)) i) ∷ [])
+            ∙ sym (held-redo base j (record { author = author; id = id; kind = Redo t }) t again_found.action refl again_found.acts))
+            deeds_is l_is
+
+      -- what an undo that is not refused finds in a room
       module _ (s : ℕ) (ok : undo_refusal (past base j) j author s ≡ None) where
-        undone : Undone base j s (record { author = author; id = id; kind = Undo s })
-        undone = let f : Found j author s = found (past base j) j author s ok in Stacked-undo base j (record { author = author; id = id; kind = Undo s }) s room_stacked refl f.there f.last
+        there : Found (past base j) j author s
+        there = found (past base j) j author s ok
 
-        size : length numbers ≡ length undone.front + 1
-        size = ap length (r.numbers_are ∙ undone.was) ∙ length-append undone.front (s ∷ [])
-
-        -- the numbers are not empty
-        pub numbers_left : 1 ≤ length numbers
-        numbers_left = omega (arith, size)
+        finds : Undone base j s (record { author = author; id = id; kind = Undo s })
+        finds = undone base j (record { author = author; id = id; kind = Undo s }) s base_sound room_led refl there.there there.free
 
         -- it stands among the author's deeds
         pub stands_there : (ds : List Deed) → ds ≡ done → stacks.is_standing ds author s ≡ true
-        stands_there ds is =
-            let f : Found j author s = found (past base j) j author s ok in
-            ap (λ d. stacks.is_standing d author s) (is ∙ r.deeds_are) ∙ stands_among j author s f.there f.own
+        stands_there ds is = ap (λ d. stacks.is_standing d author s) (is ∙ r.deeds_are) ∙ stands_among j author s there.there there.own
 
         -- its changes are recorded under its number
         pub is_first : 1 ≤ s
-        is_first = by s undone.recorded
+        is_first = by s finds.recorded
           where
-            by : (n : ℕ) → numbered (past base j).entries n ≡ Some undone.was_recorded → 1 ≤ n
+            by : (n : ℕ) → numbered (past base j).entries n ≡ Some finds.was_recorded → 1 ≤ n
             by zero e = absurd (cc)
             by (suc i) e = omega arith
 
         pub is_recorded : s ≤ length recorded
-        is_recorded = let n : length recorded ≡ length (past base j).entries = ap length r.recorded_are ∙ length-map (past base j).entries (λ (r : Recorded A). r.changes) in omega (arith, n, within_numbered (past base j).entries s undone.was_recorded undone.recorded)
+        is_recorded = let n : length recorded ≡ length (past base j).entries = ap length r.recorded_are ∙ length-map (past base j).entries (λ (r : Recorded A). r.changes) in omega (arith, n, within_numbered (past base j).entries s finds.was_recorded finds.recorded)
 
         -- an undo records the changes of the entry taken back
         pub next_is : (cs : List (Change A)) → ((rs : List (Change A)) → numbered recorded s ≡ Some rs → cs ≡ inverse rs) → cs ≡ (recorded_next (past base j) (Undo s)).changes
         next_is cs told =
-            told undone.was_recorded.changes (ap (λ rs. numbered rs s) r.recorded_are ∙ numbered_mapped (λ (r : Recorded A). r.changes) (past base j).entries s ∙ ap (option_map (λ (r : Recorded A). r.changes)) undone.recorded)
-            ∙ ap (λ o. (taken_back o).changes) (sym undone.recorded)
+            told finds.was_recorded.changes (ap (λ rs. numbered rs s) r.recorded_are ∙ numbered_mapped (λ (r : Recorded A). r.changes) (past base j).entries s ∙ ap (option_map (λ (r : Recorded A). r.changes)) finds.recorded)
+            ∙ ap (λ o. (taken_back o).changes) (sym finds.recorded)
+
+        after_sound : is_sound (mapof base (with_entry j author id (Undo s))) ≡ true
+        after_sound = led_sound base (with_entry j author id (Undo s)) base_sound finds.led
 
         pub undo_from : ((m n : Rows A) → AreChanges (differences m n)) → ((m n : Rows A) → AreFrom m (differences m n)) → ((m : Rows A) (cs : List (Change A)) → AreInOrder m → AreChanges cs → AreFrom m cs → AreFrom (changed m cs) (inverse cs))
             → AreFrom store.rows (recorded_next (past base j) (Undo s)).changes
         undo_from differ from back =
-            let order = sound_in_order before undone.stacked.sound in
-            let leads : changed before taken ≡ store.rows = changed-differences before (after before undone.action) order (AreInOrder-after before undone.action order) ∙ undone.before ∙ sym r.rows_are in
-            subst (λ cs. AreFrom store.rows cs) (sym undone.takes_back) (subst (λ m. AreFrom m (inverse taken)) leads (back before taken order (differ before (after before undone.action)) (from before (after before undone.action))))
+            let order = sound_in_order before after_sound in
+            let leads : changed before taken ≡ store.rows = changed-differences before (after before finds.action) order (AreInOrder-after before finds.action order) ∙ finds.before ∙ sym r.rows_are in
+            subst (λ cs. AreFrom store.rows cs) (sym finds.takes_back) (subst (λ m. AreFrom m (inverse taken)) leads (back before taken order (differ before (after before finds.action)) (from before (after before finds.action))))
           where
             before : Rows A
             before = mapof base (with_entry j author id (Undo s))
 
             taken : List (Change A)
-            taken = changes before undone.action
+            taken = changes before finds.action
 
         pub undo_sound : is_sound (changed store.rows (recorded_next (past base j) (Undo s)).changes) ≡ true
         undo_sound =
             ap (λ m. is_sound (changed m (recorded_next (past base j) (Undo s)).changes)) r.rows_are
-            ∙ ap is_sound (sym (mapof-append base j (record { author = author; id = id; kind = Undo s }))) ∙ undone.stacked.sound
+            ∙ ap is_sound (sym (mapof-append base j (record { author = author; id = id; kind = Undo s }))) ∙ after_sound
 
-        pub IsRoom-undo : (k : List (Entry A)) (store' : StoreState A) (recorded' : List (List (Change A))) (rest : ℕ) (numbers' : List ℕ) (done' : List Deed) (cs : List (Change A))
-            → cs ≡ (recorded_next (past base j) (Undo s)).changes → rest + 1 ≡ length numbers
-            → store' ≡ applied_to store cs → recorded' ≡ recorded ++ cs ∷ [] → numbers' ≡ take rest numbers → done' ≡ done ++ Undid author id s (length j + 1) ∷ [] → k ≡ with_entry j author id (Undo s)
-            → IsRoom store' recorded' numbers' done' base limit k
-        IsRoom-undo k store' recorded' rest numbers' done' cs cs_are rest_is store_is recorded_is numbers_after deeds_after k_is =
-            let g = grown (Undo s) cs cs_are in
-            let same : rest ≡ length undone.front = omega (arith, rest_is, size) in
-            subst (λ l. IsRoom store' recorded' numbers' done' base limit l) (sym k_is) (record {
-              journal = legal_undo base limit j author id may r.journal s ok;
-              rows_are = ap (λ (s : StoreState A). s.rows) store_is ∙ g.rows_are;
-              count_is = ap (λ (s : StoreState A). s.applied) store_is ∙ g.count_is;
-              recorded_are = recorded_is ∙ g.recorded_are;
-              numbers_are = numbers_after ∙ ap (λ i. take i numbers) same ∙ ap (take (length undone.front)) (r.numbers_are ∙ undone.was) ∙ take-append_seam undone.front (s ∷ []) ∙ sym undone.standing_is;
-              deeds_are = deeds_after ∙ g.deeds_are;
-              empty_base = r.empty_base;
-            })
+        pub IsRoom-undo : (l : List (Entry A)) (store' : StoreState A) (recorded' : List (List (Change A))) (firsts' : List ℕ) (holders' : Held) (done' : List Deed) (cs : List (Change A))
+            → cs ≡ (recorded_next (past base j) (Undo s)).changes
+            → store' ≡ applied_to store cs → recorded' ≡ recorded ++ cs ∷ [] → firsts' ≡ firsts ++ (length j + 1) ∷ [] → holders' ≡ without holders s
+            → done' ≡ done ++ Undid author id s (length j + 1) ∷ [] → l ≡ with_entry j author id (Undo s)
+            → IsRoom store' recorded' firsts' holders' done' base limit l
+        IsRoom-undo l store' recorded' firsts' holders' done' cs cs_are store_is recorded_is firsts_is holders_is deeds_is l_is =
+            grown (Undo s) l store' recorded' firsts' holders' done' cs (legal_undo base limit j author id may r.journal s ok) cs_are store_is recorded_is
+            (firsts_is ∙ ap (λ n. firsts ++ n ∷ []) own_origin)
+            (holders_is ∙ ap (λ h. without h s) r.holders_are ∙ sym (held-undo base j (record { author = author; id = id; kind = Undo s }) s refl))
+            deeds_is l_is

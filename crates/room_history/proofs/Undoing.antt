@@ -1,15 +1,15 @@
 -- What an accepted undo finds.
-use Rattle.std.proofs.Common.{◌≡◌, ℕ, Bool, true, false, not, List, [], ◌∷◌, Option, Some, None, is_none, refl, nat_eq, nat_lt}
+use Rattle.std.proofs.Common.{◌≡◌, ℕ, Bool, true, false, not, List, [], ◌∷◌, Option, Some, None, is_none, refl}
 use Rattle.std.specs.Bool.{then_some}
-use Rattle.std.specs.List.{find, list_any}
 use Rattle.std.specs.Option.{option_map}
 use Rattle.room_stacks.specs.declared.author.Author.{Author}
 use Rattle.room_history.specs.declared.entry.Entry.{Entry}
-use Rattle.room_history.specs.declared.reply.Reply.TheVariants.{NotLast, NotStanding, NotYours, NoSuch}
+use Rattle.room_history.specs.declared.reply.Reply.TheVariants.{NotStanding, NotYours, NoSuch}
 use Rattle.edit_simple.specs.Checks.{first_that_holds}
-use Rattle.room_history.specs.Journals.{numbered, is_by, is_standing, standing}
+use Rattle.room_history.specs.Answers.{conflict, undo_refusal}
+use Rattle.room_history.specs.Blockers.{blocker}
+use Rattle.room_history.specs.Journals.{numbered, is_by, is_standing}
 use Rattle.room_history.specs.Replays.{Past}
-use Rattle.room_history.specs.Answers.{blocker, undo_refusal}
 
 -- where the last three of four checks are looked at, none holds
 last_three : {X : Type 0} (o p q r : Option X) → first_that_holds (o ∷ p ∷ q ∷ r ∷ []) ≡ None → (p ≡ None) × (q ≡ None) × (r ≡ None)
@@ -23,18 +23,18 @@ passed : {X : Type 0} (b : Bool) (x : X) → then_some (not b) x ≡ None → b 
 passed true x e = refl
 passed false x e = absurd (cc)
 
-mapped_none : {X Y : Type 0} (f : X → Y) (o : Option X) → option_map f o ≡ None → o ≡ None
+pub mapped_none : {X Y : Type 0} (f : X → Y) (o : Option X) → option_map f o ≡ None → o ≡ None
 mapped_none f None e = refl
 mapped_none f (Some x) e = absurd (cc)
 
 module _ {A : Type 0} where
-  -- the entry is the author's and stands, and none after it
-  pub record Found (j : List (Entry A)) (author : Author) (s : ℕ) : Type 0 where
+  -- the entry is the author's and stands, and nothing blocks it
+  pub record Found (p : Past A) (j : List (Entry A)) (author : Author) (s : ℕ) : Type 0 where
     pub own : is_by author (numbered j s) ≡ true
-    pub there : list_any (λ t. nat_eq t s) (standing j) ≡ true
-    pub last : find (nat_lt s) (standing j) ≡ None
+    pub there : is_standing j s ≡ true
+    pub free : blocker p j s ≡ None
 
-  pub found : (p : Past A) (j : List (Entry A)) (author : Author) (s : ℕ) → undo_refusal p j author s ≡ None → Found j author s
+  pub found : (p : Past A) (j : List (Entry A)) (author : Author) (s : ℕ) → undo_refusal p j author s ≡ None → Found p j author s
   found p j author s e =
-      let three = last_three (then_some (is_none (numbered j s)) NoSuch) (then_some (not (is_by author (numbered j s))) NotYours) (then_some (not (is_standing j s)) NotStanding) (option_map NotLast (blocker p j s)) e in
-      record { own = passed (is_by author (numbered j s)) NotYours three.0; there = passed (is_standing j s) NotStanding three.1; last = mapped_none NotLast (blocker p j s) three.2 }
+      let three = last_three (then_some (is_none (numbered j s)) NoSuch) (then_some (not (is_by author (numbered j s))) NotYours) (then_some (not (is_standing j s)) NotStanding) (option_map conflict (blocker p j s)) e in
+      record { own = passed (is_by author (numbered j s)) NotYours three.0; there = passed (is_standing j s) NotStanding three.1; free = mapped_none conflict (blocker p j s) three.2 }

@@ -1,7 +1,7 @@
 -- What a call is answered, and the journal that it leaves: an accepted call appends one entry, a refused one leaves the journal. (The rules of a room are this project's.)
-use Rattle.std.specs.Prelude.{◌+◌, ◌++◌, ◌&&◌, ℕ, Bool, not, List, [], ◌∷◌, Option, Some, None, is_none, length, nat_eq, nat_le, nat_lt}
+use Rattle.std.specs.Prelude.{◌+◌, ◌++◌, ◌&&◌, ℕ, Bool, not, List, [], ◌∷◌, Option, Some, None, is_none, length, nat_eq, nat_le}
 use Rattle.std.specs.Bool.{then_some}
-use Rattle.std.specs.List.{find, position}
+use Rattle.std.specs.List.{position}
 use Rattle.std.specs.Option.{option_map}
 use Rattle.room_stacks.specs.declared.author.Author.{Author}
 use Rattle.room_history.specs.declared.call.Call.{Call}
@@ -9,15 +9,18 @@ use Rattle.room_history.specs.declared.call.Request.{Request}
 use Rattle.room_history.specs.declared.call.Request.TheVariants as requests
 use Rattle.room_history.specs.declared.entry.Entry.{Entry}
 use Rattle.room_history.specs.declared.entry.EntryKind.{EntryKind}
-use Rattle.room_history.specs.declared.entry.EntryKind.TheVariants.{Do, Undo}
+use Rattle.room_history.specs.declared.entry.EntryKind.TheVariants.{Do, Undo, Redo}
 use Rattle.room_history.specs.declared.reply.Reply.{Reply}
-use Rattle.room_history.specs.declared.reply.Reply.TheVariants.{Done, Undid, Repeat, Full, NothingToUndo, NoSuch, NotYours, NotStanding, NotLast, Refused}
+use Rattle.room_history.specs.declared.reply.Reply.TheVariants.{Done, Undid, Redid, Repeat, Full, NothingToUndo, NothingToRedo, NoSuch, NotYours, NotStanding, Conflict, Refused}
+use Rattle.osm_elements.specs.declared.name.Name.{Name}
 use Rattle.osm_elements.specs.Maps.{Rows}
+use Rattle.edit_actions.specs.declared.action.Action.{Action}
 use Rattle.edit_actions.specs.Refusals.{refusal}
 use Rattle.edit_simple.specs.Checks.{first_that_holds}
 use Rattle.room_stacks.specs.SameAuthors.{is_same_author}
-use Rattle.room_history.specs.Journals.{is_by, is_standing, numbered, last, standing, undos}
-use Rattle.room_history.specs.Replays.{Past, past}
+use Rattle.room_history.specs.Blockers.{blocker}
+use Rattle.room_history.specs.Journals.{is_by, is_standing, numbered, last, undos, redos}
+use Rattle.room_history.specs.Replays.{Past, past, action_at}
 
 module _ {A : Type 0} where
   -- an entry is the author's and spent the id
@@ -28,9 +31,9 @@ module _ {A : Type 0} where
   abbrev pub spent : List (Entry A) → Author → ℕ → Option ℕ
   spent j author id = option_map (λ i. i + 1) (position (spends author id) j)
 
-  -- the first entry after s that stands, whatever the past recorded of the two
-  abbrev pub blocker : Past A → List (Entry A) → ℕ → Option ℕ
-  blocker p j s = find (nat_lt s) (standing j)
+  -- the refusal that names a blocker, and what it shares
+  abbrev pub conflict : ℕ × Name → Reply A
+  conflict b = Conflict b.0 b.1
 
   -- which entry an undo asks for: without a number the author's last that stands
   abbrev pub asked : List (Entry A) → Author → Option ℕ → Option ℕ
@@ -41,11 +44,13 @@ module _ {A : Type 0} where
   abbrev pub meant : List (Entry A) → Author → Request A → Option (EntryKind A)
   meant j author (requests.Do a) = Some (Do a)
   meant j author (requests.Undo s) = option_map Undo (asked j author s)
+  meant j author requests.Redo = option_map Redo (last (redos j author))
 
   -- the refusal where a request means nothing
   abbrev pub nothing_meant : Request A → Reply A
   nothing_meant (requests.Do a) = NothingToUndo
   nothing_meant (requests.Undo s) = NothingToUndo
+  nothing_meant requests.Redo = NothingToRedo
 
   -- why an author's undo of s is refused, by the first check that holds
   abbrev pub undo_refusal : Past A → List (Entry A) → Author → ℕ → Option (Reply A)
@@ -53,13 +58,19 @@ module _ {A : Type 0} where
       then_some (is_none (numbered j s)) NoSuch
       ∷ then_some (not (is_by author (numbered j s))) NotYours
       ∷ then_some (not (is_standing j s)) NotStanding
-      ∷ option_map NotLast (blocker p j s)
+      ∷ option_map conflict (blocker p j s)
       ∷ [])
+
+  -- why an action cannot be done again, if there is one
+  abbrev pub redo_refusal : Rows A → Option (Action A) → Option (Reply A)
+  redo_refusal m None = Some NothingToRedo
+  redo_refusal m (Some a) = option_map Refused (refusal m a)
 
   -- why an entry cannot be appended
   abbrev pub kind_refusal : Past A → List (Entry A) → Author → EntryKind A → Option (Reply A)
   kind_refusal p j author (Do a) = option_map Refused (refusal p.map a)
   kind_refusal p j author (Undo s) = undo_refusal p j author s
+  kind_refusal p j author (Redo t) = redo_refusal p.map (action_at p t)
 
   abbrev pub meaning_refusal : Past A → List (Entry A) → Call A → Option (EntryKind A) → Option (Reply A)
   meaning_refusal p j c None = Some (nothing_meant c.request)
@@ -77,6 +88,7 @@ module _ {A : Type 0} where
   abbrev pub accepted : ℕ → EntryKind A → Reply A
   accepted seq (Do a) = Done seq
   accepted seq (Undo s) = Undid seq s
+  accepted seq (Redo t) = Redid seq t
 
   -- the journal with one more entry
   abbrev pub with_entry : List (Entry A) → Author → ℕ → EntryKind A → List (Entry A)

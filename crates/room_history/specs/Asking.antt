@@ -2,12 +2,13 @@
 use Rattle.std.specs.Prelude.{◌≡◌, ◌⊎◌, ℕ, List, Ok, Err, alloc_error, length}
 use Rattle.osm_elements.specs.Rows.{row_at}
 use Rattle.room_history.specs.declared.ask.RoomCall.{RoomCall}
-use Rattle.room_history.specs.declared.ask.RoomCall.TheVariants.{Take, Get, Rows as AllRows}
+use Rattle.room_history.specs.declared.ask.RoomCall.TheVariants.{Take, Get, Rows as AllRows, Undos}
 use Rattle.room_history.specs.declared.ask.RoomReply.{RoomReply}
 use Rattle.room_history.specs.declared.ask.RoomReply.TheVariants as replies
 use Rattle.room_history.specs.declared.entry.Entry.{Entry}
 use Rattle.room_history.specs.declared.reply.Reply.TheVariants.{Memory}
 use Rattle.osm_elements.specs.Maps.{Rows}
+use Rattle.room_history.specs.Journals.{undos, redos}
 use Rattle.room_history.specs.Replays.{mapof}
 use Rattle.room_history.specs.Answers.{answer}
 
@@ -17,12 +18,14 @@ module _ {A : Type 0} where
   room_answer base limit j (Take c) = let step = answer base limit j c in (replies.Take step.0, step.1)
   room_answer base limit j (Get x) = (replies.Get (Ok (row_at (mapof base j) x)), j)
   room_answer base limit j AllRows = (replies.Rows (Ok (length j, mapof base j)), j)
+  room_answer base limit j (Undos author) = (replies.Undos (Ok (record { undos = undos j author; redos = redos j author })), j)
 
   -- want of memory, in the form of what was asked
   abbrev pub wanting : RoomCall A → RoomReply A
   wanting (Take c) = replies.Take Memory
   wanting (Get x) = replies.Get (Err alloc_error)
   wanting AllRows = replies.Rows (Err alloc_error)
+  wanting (Undos author) = replies.Undos (Err alloc_error)
 
   -- asked so, the room gives the reply by the definition, or tells want of memory with the journal as it was
   abbrev pub IsAnswered : Rows A → ℕ → List (Entry A) → RoomCall A → RoomReply A → List (Entry A) → Type 0

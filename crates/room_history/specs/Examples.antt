@@ -1,12 +1,12 @@
 -- What the worked examples say of the definitions.
-use Rattle.std.specs.Prelude.{◌≡◌, ℕ, [], ◌∷◌, Some, None, true, pos, negsuc, replicate}
+use Rattle.std.specs.Prelude.{◌≡◌, ◌++◌, ℕ, [], ◌∷◌, Some, None, true, pos, negsuc, replicate}
 use Rattle.edit_actions.specs.declared.action.Action.TheVariants.{Create, Delete}
 use Rattle.edit_simple.specs.declared.refusal.Refusal.TheVariants.{Absent, Present, WrongKind, TooFew, TooMany, InUse}
-use Rattle.room_history.specs.declared.reply.Reply.TheVariants.{Done, Undid, Repeat, Full, NothingToUndo, NoSuch, NotYours, NotStanding, NotLast, Refused}
+use Rattle.room_history.specs.declared.reply.Reply.TheVariants.{Done, Undid, Redid, Repeat, Full, NothingToUndo, NothingToRedo, NoSuch, NotYours, NotStanding, Conflict, Refused}
 use Rattle.osm_changes.specs.Sound.{is_sound}
 use Rattle.room_history.specs.Replays.{replay, standing_actions}
 use Rattle.room_history.specs.Answers.{answers}
-use Rattle.room_history.specs.Scenes.{n-1, n1, n2, n3, w1, w2, r1, r2, r3, anna, bob, node_at, way_of, relation_of, does, undoes, replies, map_after}
+use Rattle.room_history.specs.Scenes.{n-1, n1, n2, n3, w1, w2, r1, r2, r3, anna, bob, node_at, way_of, relation_of, does, undoes, redoes, replies, map_after, held_after, redos_left}
 
 abbrev pub ample : ℕ
 ample = 1000000
@@ -36,15 +36,47 @@ limit_one = replies 1 (
 unfoldable pub limit_zero : Type 0
 limit_zero = replies 0 (does anna 1 (Create n1 (node_at (pos 0) (pos 0))) ∷ undoes anna 1 None ∷ []) ≡ (Full ∷ Full ∷ [])
 
--- only the last entry that stands can be undone
-unfoldable pub last_first : Type 0
-last_first = replies ample (
+-- two authors each make a node: the footprints do not meet, and the first is undone from below the second
+unfoldable pub strangers : Type 0
+strangers =
+    (let calls =
     does anna 1 (Create n1 (node_at (pos 0) (pos 0)))
-    ∷ does bob 1 (Create n2 (node_at (pos 0) (pos 0)))
+    ∷ does bob 1 (Create n2 (node_at (pos 1) (pos 1)))
     ∷ undoes anna 2 None
-    ∷ undoes bob 2 None
+    ∷ undoes anna 3 None
+    ∷ [] in
+    (replies ample calls ≡ (Done 1 ∷ Done 2 ∷ Undid 3 1 ∷ NothingToUndo ∷ []))
+    × (map_after ample calls ≡ ((n2, node_at (pos 1) (pos 1)) ∷ []))
+    × (held_after ample calls ≡ ((2, n2 ∷ []) ∷ [])))
+
+-- a way through both nodes blocks each of them, by that node
+unfoldable pub in_use : Type 0
+in_use =
+    (let calls =
+    does anna 1 (Create n1 (node_at (pos 0) (pos 0)))
+    ∷ does bob 1 (Create n2 (node_at (pos 1) (pos 1)))
+    ∷ does bob 2 (Create w1 (way_of (n2 ∷ n1 ∷ [])))
     ∷ undoes anna 2 None
-    ∷ []) ≡ (Done 1 ∷ Done 2 ∷ NotLast 2 ∷ Undid 3 2 ∷ Undid 4 1 ∷ [])
+    ∷ undoes bob 3 (Some 2)
+    ∷ [] in
+    (replies ample calls ≡ (Done 1 ∷ Done 2 ∷ Done 3 ∷ Conflict 3 n1 ∷ Conflict 3 n2 ∷ []))
+    × (held_after ample calls ≡ ((1, n1 ∷ []) ∷ (2, n2 ∷ []) ∷ (3, n1 ∷ n2 ∷ w1 ∷ []) ∷ [])))
+
+-- a way that is taken back blocks no more, and where two entries share several names the least is told
+unfoldable pub taken_back_way : Type 0
+taken_back_way =
+    (let calls =
+    does anna 1 (Create n1 (node_at (pos 0) (pos 0)))
+    ∷ does bob 1 (Create n2 (node_at (pos 1) (pos 1)))
+    ∷ does bob 2 (Create w1 (way_of (n2 ∷ n1 ∷ [])))
+    ∷ does anna 2 (Delete w1)
+    ∷ undoes bob 3 None
+    ∷ undoes anna 3 None
+    ∷ undoes bob 3 None
+    ∷ undoes anna 4 None
+    ∷ [] in
+    (replies ample calls ≡ (Done 1 ∷ Done 2 ∷ Done 3 ∷ Done 4 ∷ Conflict 4 n1 ∷ Undid 5 4 ∷ Undid 6 3 ∷ Undid 7 1 ∷ []))
+    × (map_after ample calls ≡ ((n2, node_at (pos 1) (pos 1)) ∷ [])))
 
 -- each refusal of a create, a delete and an undo, in one run
 unfoldable pub refusals_in_turn : Type 0
@@ -90,15 +122,15 @@ refusals_in_turn =
     ∷ NoSuch
     ∷ NoSuch
     ∷ NotYours
-    ∷ NotLast 2
+    ∷ Conflict 3 n1
     ∷ Undid 5 4
     ∷ NotStanding
     ∷ NotStanding
     ∷ Done 6
-    ∷ NotLast 6
+    ∷ Conflict 6 n1
     ∷ []))
     × (map_after ample calls ≡ ((n1, node_at (pos 1) (pos 1)) ∷ (n2, node_at (pos 2) (pos 2)) ∷ []))
-    × (replay [] (standing_actions (answers [] ample [] calls).1) ≡ Some (map_after ample calls))
+    × (replay [] (standing_actions [] (answers [] ample [] calls).1) ≡ Some (map_after ample calls))
     × (is_sound (map_after ample calls) ≡ true))
 
 -- relations, which may be empty and their own members, and what they refuse
@@ -137,5 +169,71 @@ relations_in_turn =
     ∷ Done 7
     ∷ []))
     × (map_after ample calls ≡ ((n1, node_at (pos 1) (pos 1)) ∷ (r1, relation_of (r1 ∷ [])) ∷ (r2, relation_of []) ∷ []))
-    × (replay [] (standing_actions (answers [] ample [] calls).1) ≡ Some (map_after ample calls))
+    × (replay [] (standing_actions [] (answers [] ample [] calls).1) ≡ Some (map_after ample calls))
     × (is_sound (map_after ample calls) ≡ true))
+
+-- an undo redone over a stranger's later entry, with whose footprint its own does not meet
+unfoldable pub redo_at_once : Type 0
+redo_at_once =
+    (let calls =
+    does anna 1 (Create n1 (node_at (pos 0) (pos 0)))
+    ∷ does bob 1 (Create n2 (node_at (pos 1) (pos 1)))
+    ∷ undoes anna 2 None
+    ∷ redoes anna 3
+    ∷ redoes anna 4
+    ∷ [] in
+    (replies ample calls ≡ (Done 1 ∷ Done 2 ∷ Undid 3 1 ∷ Redid 4 1 ∷ NothingToRedo ∷ []))
+    × (map_after ample calls ≡ ((n1, node_at (pos 0) (pos 0)) ∷ (n2, node_at (pos 1) (pos 1)) ∷ []))
+    × (held_after ample calls ≡ ((2, n2 ∷ []) ∷ (4, n1 ∷ []) ∷ []))
+    × (redos_left ample calls anna ≡ []))
+
+-- a way cannot be made again while a node of it is away: the redo is refused and stays the next one, until the node is back
+unfoldable pub redo_refused : Type 0
+redo_refused =
+    (let calls =
+    does anna 1 (Create n1 (node_at (pos 0) (pos 0)))
+    ∷ does bob 1 (Create n2 (node_at (pos 1) (pos 1)))
+    ∷ does anna 2 (Create w1 (way_of (n1 ∷ n2 ∷ [])))
+    ∷ undoes anna 3 None
+    ∷ does bob 2 (Delete n2)
+    ∷ redoes anna 4
+    ∷ redoes bob 3
+    ∷ [] in
+    let later = undoes bob 3 None ∷ redoes anna 4 ∷ [] in
+    (replies ample (calls ++ later) ≡ (Done 1 ∷ Done 2 ∷ Done 3 ∷ Undid 4 3 ∷ Done 5 ∷ Refused (Absent n2) ∷ NothingToRedo ∷ Undid 6 5 ∷ Redid 7 3 ∷ []))
+    × (redos_left ample calls anna ≡ (3 ∷ []))
+    × (redos_left ample (calls ++ later) anna ≡ [])
+    × (map_after ample (calls ++ later) ≡ ((n1, node_at (pos 0) (pos 0)) ∷ (n2, node_at (pos 1) (pos 1)) ∷ (w1, way_of (n1 ∷ n2 ∷ [])) ∷ []))
+    × (held_after ample (calls ++ later) ≡ ((1, n1 ∷ []) ∷ (2, n2 ∷ []) ∷ (7, n1 ∷ n2 ∷ w1 ∷ []) ∷ [])))
+
+-- of two that were undone the last is redone first
+unfoldable pub redo_order : Type 0
+redo_order =
+    (let calls =
+    does anna 1 (Create n1 (node_at (pos 0) (pos 0)))
+    ∷ does anna 2 (Create n2 (node_at (pos 1) (pos 1)))
+    ∷ undoes anna 3 None
+    ∷ undoes anna 4 None
+    ∷ [] in
+    let later = redoes anna 5 ∷ redoes anna 6 ∷ redoes anna 7 ∷ [] in
+    (replies ample (calls ++ later) ≡ (Done 1 ∷ Done 2 ∷ Undid 3 2 ∷ Undid 4 1 ∷ Redid 5 1 ∷ Redid 6 2 ∷ NothingToRedo ∷ []))
+    × (redos_left ample calls anna ≡ (2 ∷ 1 ∷ []))
+    × (map_after ample calls ≡ [])
+    × (map_after ample (calls ++ later) ≡ ((n1, node_at (pos 0) (pos 0)) ∷ (n2, node_at (pos 1) (pos 1)) ∷ []))
+    × (held_after ample (calls ++ later) ≡ ((5, n1 ∷ []) ∷ (6, n2 ∷ []) ∷ [])))
+
+-- a redo is undone and redone under its own number, and the next action empties the stack
+unfoldable pub redo_again : Type 0
+redo_again =
+    (let calls =
+    does anna 1 (Create n1 (node_at (pos 0) (pos 0)))
+    ∷ undoes anna 2 None
+    ∷ redoes anna 3
+    ∷ undoes anna 4 (Some 1)
+    ∷ undoes anna 4 None
+    ∷ [] in
+    let later = redoes anna 5 ∷ undoes anna 6 (Some 5) ∷ does anna 7 (Create n2 (node_at (pos 1) (pos 1))) ∷ redoes anna 8 ∷ [] in
+    (replies ample (calls ++ later) ≡ (Done 1 ∷ Undid 2 1 ∷ Redid 3 1 ∷ NotStanding ∷ Undid 4 3 ∷ Redid 5 3 ∷ Undid 6 5 ∷ Done 7 ∷ NothingToRedo ∷ []))
+    × (redos_left ample calls anna ≡ (3 ∷ []))
+    × (map_after ample (calls ++ later) ≡ ((n2, node_at (pos 1) (pos 1)) ∷ []))
+    × (redos_left ample (calls ++ later) anna ≡ []))

@@ -1,16 +1,24 @@
 -- The theorem: what holds of a room with any of its journals.
-use Rattle.std.specs.Prelude.{◌≡◌, ◌⊎◌, ◌↔◌, ◌+◌, ◌<◌, ◌≤◌, ◌++◌, ℕ, true, false, List, [], ◌∷◌, Some, None, length, nat_le}
+use Rattle.std.specs.Prelude.{◌≡◌, ◌⊎◌, ◌↔◌, ◌+◌, ◌<◌, ◌≤◌, ◌++◌, ℕ, true, false, List, [], ◌∷◌, Option, Some, None, length, map, reverse, nat_le}
+use Rattle.std.specs.Ordering.{is_lt}
 use Rattle.osm_elements.specs.declared.name.Name.{Name}
+use Rattle.osm_elements.specs.NameOrder.{name_cmp}
 use Rattle.room_stacks.specs.declared.author.Author.{Author}
+use Rattle.room_stacks.specs.SameAuthors.{is_same_author}
 use Rattle.room_history.specs.declared.call.Call.{Call}
-use Rattle.room_history.specs.declared.call.Request.TheVariants.{Undo}
+use Rattle.room_history.specs.declared.call.Request.TheVariants.{Undo, Redo}
 use Rattle.room_history.specs.declared.entry.Entry.{Entry}
-use Rattle.room_history.specs.declared.reply.Reply.TheVariants.{Undid, NotLast}
-use Rattle.osm_elements.specs.Maps.{Rows}
+use Rattle.room_history.specs.declared.reply.Reply.{Reply}
+use Rattle.room_history.specs.declared.reply.Reply.TheVariants.{Done, Undid, Redid, Conflict}
+use Rattle.osm_elements.specs.Maps.{Rows, is_among}
 use Rattle.osm_refs.specs.References.{users}
 use Rattle.osm_changes.specs.Sound.{is_sound}
-use Rattle.room_history.specs.Journals.{numbered, standing, is_standing, is_by, is_work}
-use Rattle.room_history.specs.Replays.{mapof, replay, standing_actions}
+use Rattle.edit_actions.specs.declared.action.Action.{Action}
+use Rattle.edit_actions.specs.After.{after}
+use Rattle.edit_actions.specs.Refusals.{refusal}
+use Rattle.room_history.specs.Blockers.{recorded_footprint}
+use Rattle.room_history.specs.Journals.{numbered, standing, is_standing, is_by, is_work, others, redos}
+use Rattle.room_history.specs.Replays.{Past, past, mapof, recorded_of, replay, actions_of, standing_actions}
 use Rattle.room_history.specs.Answers.{answer, answers, spent}
 
 module _ {A : Type 0} where
@@ -22,9 +30,13 @@ module _ {A : Type 0} where
   abbrev pub IsOwn : List (Entry A) → Author → ℕ → Type 0
   IsOwn j author s = is_by author (numbered j s) ≡ true
 
-  -- t stands, and comes after s
-  abbrev pub Blocks : List (Entry A) → ℕ → ℕ → Type 0
-  Blocks j s t = (s < t) × Stands j t
+  -- the recorded footprints of both entries have the name
+  abbrev pub Share : Rows A → List (Entry A) → ℕ → ℕ → Name → Type 0
+  Share base j s t e = (is_among (recorded_footprint (past base j) s) e ≡ true) × (is_among (recorded_footprint (past base j) t) e ≡ true)
+
+  -- t stands, comes after s, and shares the name with it
+  abbrev pub Blocks : Rows A → List (Entry A) → ℕ → ℕ → Name → Type 0
+  Blocks base j s t e = (s < t) × Stands j t × Share base j s t e
 
   -- the map is sound
   abbrev pub IsSound : Rows A → List (Entry A) → Type 0
@@ -32,11 +44,28 @@ module _ {A : Type 0} where
 
   -- the map is that of the standing actions replayed in order from the base
   abbrev pub IsReplayed : Rows A → List (Entry A) → Type 0
-  IsReplayed base j = replay base (standing_actions j) ≡ Some (mapof base j)
+  IsReplayed base j = replay base (standing_actions base j) ≡ Some (mapof base j)
 
   -- each entry that stands has an action, so that the replay passes over none
-  abbrev pub IsNoneDropped : List (Entry A) → Type 0
-  IsNoneDropped j = length (standing_actions j) ≡ length (standing j)
+  abbrev pub IsNoneDropped : Rows A → List (Entry A) → Type 0
+  IsNoneDropped base j = length (standing_actions base j) ≡ length (standing j)
+
+  -- from a map the actions of some entries lead to another, each accepted with the changes and the footprint that are recorded of its entry
+  abbrev pub AreAccepted : Past A → Rows A → List ℕ → Rows A → Type 0
+  AreAccepted p m [] end = m ≡ end
+  AreAccepted p m (s ∷ ss) end = (a : Action A) × (numbered p.entries s ≡ Some (recorded_of m a)) × (refusal m a ≡ None) × AreAccepted p (after m a) ss end
+
+  -- the replay of the entries that stand accepts each as it was recorded
+  abbrev pub IsAcceptedAsRecorded : Rows A → List (Entry A) → Type 0
+  IsAcceptedAsRecorded base j = AreAccepted (past base j) base (standing j) (mapof base j)
+
+  -- an accepted undo leaves the others standing, and its map is the replay of their actions
+  abbrev pub IsRestLeft : Rows A → ℕ → List (Entry A) → Type 0
+  IsRestLeft base limit j = (c : Call A) (seq s : ℕ)
+      → let step = answer base limit j c in
+      step.0 ≡ Undid seq s
+      → (standing step.1 ≡ others j s)
+      × (replay base (actions_of (past base j) (others j s)) ≡ Some (mapof base step.1))
 
   -- an accepted action that its author undoes as the room's next accepted call, with its number or without, refused calls between or not: the map, the users of every name and the entries that stand are those from before it
   abbrev pub IsUndoneAtOnce : Rows A → ℕ → List (Entry A) → Type 0
@@ -55,7 +84,7 @@ module _ {A : Type 0} where
       × ((x : Name) → users (mapof base step.1) x ≡ users (mapof base j) x)
       × (standing step.1 ≡ standing j)
 
-  -- an author's undo of an entry of his that stands, under an unspent id and in a journal that is not full: it is accepted exactly where no entry blocks it, and else refused by the first that does
+  -- an author's undo of an entry of his that stands, under an unspent id and in a journal that is not full: it is accepted exactly where no entry blocks it by any name; else the refusal names the first that does, and the least name that the two share
   abbrev pub IsUndoneExactlyWhere : Rows A → ℕ → List (Entry A) → Type 0
   IsUndoneExactlyWhere base limit j = (author : Author) (id s : ℕ)
       → spent j author id ≡ None
@@ -63,8 +92,11 @@ module _ {A : Type 0} where
       → IsOwn j author s
       → Stands j s
       → let reply = (answer base limit j (record { author = author; id = id; request = Undo (Some s) })).0 in
-      ((reply ≡ Undid (length j + 1) s) ↔ ((t : ℕ) → Blocks j s t → ⊥))
-      × ((t : ℕ) → Blocks j s t → (b : ℕ) × (reply ≡ NotLast b) × Blocks j s b × ((u : ℕ) → Blocks j s u → b ≤ u))
+      ((reply ≡ Undid (length j + 1) s) ↔ ((t : ℕ) (e : Name) → Blocks base j s t e → ⊥))
+      × ((t : ℕ) (e : Name) → Blocks base j s t e
+      → (b : ℕ) × (x : Name) × (reply ≡ Conflict b x) × Blocks base j s b x
+      × ((u : ℕ) (y : Name) → Blocks base j s u y → b ≤ u)
+      × ((y : Name) → Share base j s b y → is_lt (name_cmp y x) ≡ false))
 
   -- an undo without a number is answered as that of the author's last entry that stands
   abbrev pub IsUndoOfLast : Rows A → ℕ → List (Entry A) → Type 0
@@ -74,10 +106,77 @@ module _ {A : Type 0} where
       → ((t : ℕ) → IsOwn j author t → Stands j t → t ≤ s)
       → answer base limit j (record { author = author; id = id; request = Undo None }) ≡ answer base limit j (record { author = author; id = id; request = Undo (Some s) })
 
+  -- an accepted action empties its author's redo stack, an undo pushes what it undid, and a redo takes off the top, which it does again; and no call touches another author's stack
+  abbrev pub IsRedoStacked : Rows A → ℕ → List (Entry A) → Type 0
+  IsRedoStacked base limit j = (c : Call A) (seq s : ℕ)
+      → let step = answer base limit j c in
+      (step.0 ≡ Done seq → redos step.1 c.author ≡ [])
+      × (step.0 ≡ Undid seq s → redos step.1 c.author ≡ redos j c.author ++ s ∷ [])
+      × (step.0 ≡ Redid seq s → redos j c.author ≡ redos step.1 c.author ++ s ∷ [])
+      × ((other : Author) → is_same_author other c.author ≡ false → redos step.1 other ≡ redos j other)
+
+  -- an accepted undo that its author redoes as the room's next accepted call, refused calls between or not: the map and the users of every name are those from before the undo, what was undone stands last under a new number, and each author can redo what it could before the undo
+  abbrev pub IsRedoneAtOnce : Rows A → ℕ → List (Entry A) → Type 0
+  IsRedoneAtOnce base limit j = (undo : Call A) (s : ℕ) (e : Entry A) (between : List (Call A)) (c : Call A)
+      → let k = j ++ e ∷ [] in
+      answer base limit j undo ≡ (Undid (length j + 1) s, k)
+      → (answers base limit k between).1 ≡ k
+      → c.author ≡ undo.author
+      → c.request ≡ Redo
+      → spent k c.author c.id ≡ None
+      → nat_le limit (length k) ≡ false
+      → let step = answer base limit (answers base limit k between).1 c in
+      (step.0 ≡ Redid (length j + 2) s)
+      × (mapof base step.1 ≡ mapof base j)
+      × ((x : Name) → users (mapof base step.1) x ≡ users (mapof base j) x)
+      × (standing step.1 ≡ others j s ++ (length j + 2) ∷ [])
+      × ((author : Author) → redos step.1 author ≡ redos j author)
+
+  -- an author's undo under an id, with a number or without
+  abbrev pub undo_by : Author → ℕ × Option ℕ → Call A
+  undo_by author u = record { author = author; id = u.0; request = Undo u.1 }
+
+  -- an author's redo under an id
+  abbrev pub redo_by : Author → ℕ → Call A
+  redo_by author id = record { author = author; id = id; request = Redo }
+
+  -- the replies to accepted undos of these entries in turn, under the numbers from n on
+  abbrev pub undid_from : ℕ → List ℕ → List (Reply A)
+  undid_from n [] = []
+  undid_from n (s ∷ ss) = Undid n s ∷ undid_from (n + 1) ss
+
+  -- and to accepted redos
+  abbrev pub redid_from : ℕ → List ℕ → List (Reply A)
+  redid_from n [] = []
+  redid_from n (t ∷ ts) = Redid n t ∷ redid_from (n + 1) ts
+
+  -- when the turn of a call comes, its id is unspent and the journal is not full
+  abbrev pub AreFresh : Rows A → ℕ → List (Entry A) → List (Call A) → Type 0
+  AreFresh base limit j [] = Unit {0}
+  AreFresh base limit j (c ∷ cs) = (spent j c.author c.id ≡ None) × (nat_le limit (length j) ≡ false) × AreFresh base limit (answer base limit j c).1 cs
+
+  -- an author's undos in turn, all accepted, and then as many redos of that author: these are accepted, what was undone last first, and the map, the users of every name and what each author can redo are those from before the undos
+  abbrev pub IsRedoneInTurn : Rows A → ℕ → List (Entry A) → Type 0
+  IsRedoneInTurn base limit j = (author : Author) (asked : List (ℕ × Option ℕ)) (undone ids : List ℕ)
+      → let undoing = answers base limit j (map (undo_by author) asked) in
+      let redoing = answers base limit undoing.1 (map (redo_by author) ids) in
+      undoing.0 ≡ undid_from (length j + 1) undone
+      → length ids ≡ length undone
+      → AreFresh base limit undoing.1 (map (redo_by author) ids)
+      → (redoing.0 ≡ redid_from (length undoing.1 + 1) (reverse undone))
+      × (mapof base redoing.1 ≡ mapof base j)
+      × ((x : Name) → users (mapof base redoing.1) x ≡ users (mapof base j) x)
+      × ((other : Author) → redos redoing.1 other ≡ redos j other)
+
   pub record Holds (base : Rows A) (limit : ℕ) (j : List (Entry A)) : Type 0 where
     pub sound : IsSound base j
     pub replayed : IsReplayed base j
-    pub none_dropped : IsNoneDropped j
+    pub none_dropped : IsNoneDropped base j
+    pub accepted_as_recorded : IsAcceptedAsRecorded base j
     pub undone_at_once : IsUndoneAtOnce base limit j
     pub undone_exactly_where : IsUndoneExactlyWhere base limit j
     pub undo_of_last : IsUndoOfLast base limit j
+    pub rest_left : IsRestLeft base limit j
+    pub redo_stacked : IsRedoStacked base limit j
+    pub redone_at_once : IsRedoneAtOnce base limit j
+    pub redone_in_turn : IsRedoneInTurn base limit j

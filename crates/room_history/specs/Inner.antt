@@ -1,5 +1,6 @@
 -- What the code's own functions say of one another. No public call's contract cites these, and no definition beside this folder reads them.
 pub mod Deeds
+pub mod Origins
 pub mod Refusing
 pub mod Rooms
 pub mod Undoing

@@ -1,12 +1,10 @@
 -- The journal: entries numbered from 1, and which of them stand. (The rules of a room are this project's.)
-use Rattle.std.specs.Prelude.{◌&&◌, ◌+◌, ℕ, suc, zero, Bool, true, false, not, List, [], ◌∷◌, Option, Some, None, reverse, nat_eq, slice_get, if◌then◌else◌}
-use Rattle.std.specs.List.{filter, list_any}
-use Rattle.std.specs.Option.{option_and_then}
-use Rattle.edit_actions.specs.declared.action.Action.{Action}
+use Rattle.std.specs.Prelude.{◌&&◌, ◌+◌, ◌-◌, ◌++◌, ℕ, suc, zero, Bool, true, false, not, List, [], ◌∷◌, Option, Some, None, length, reverse, take, nat_eq, slice_get, if◌then◌else◌}
+use Rattle.std.specs.List.{filter, fold, list_any}
 use Rattle.room_stacks.specs.declared.author.Author.{Author}
 use Rattle.room_history.specs.declared.entry.Entry.{Entry}
 use Rattle.room_history.specs.declared.entry.EntryKind.{EntryKind}
-use Rattle.room_history.specs.declared.entry.EntryKind.TheVariants.{Do, Undo}
+use Rattle.room_history.specs.declared.entry.EntryKind.TheVariants.{Do, Undo, Redo}
 use Rattle.room_stacks.specs.SameAuthors.{is_same_author}
 
 -- the item that a number from 1 on names
@@ -23,19 +21,13 @@ module _ {A : Type 0} where
   abbrev pub is_undo_of : ℕ → EntryKind A → Bool
   is_undo_of s (Do a) = false
   is_undo_of s (Undo t) = nat_eq s t
+  is_undo_of s (Redo t) = false
 
-  -- an entry that did an action
+  -- an entry that did an action, or did one again
   abbrev pub is_work : EntryKind A → Bool
   is_work (Do a) = true
   is_work (Undo t) = false
-
-  -- what an entry did
-  abbrev pub action_by : EntryKind A → Option (Action A)
-  action_by (Do a) = Some a
-  action_by (Undo t) = None
-
-  abbrev pub action_of : List (Entry A) → ℕ → Option (Action A)
-  action_of j s = option_and_then (λ (e : Entry A). action_by e.kind) (numbered j s)
+  is_work (Redo t) = true
 
   -- of the entries numbered from n on, those that did an action and that no later one undoes
   abbrev pub standing_from : ℕ → List (Entry A) → List ℕ
@@ -58,3 +50,17 @@ module _ {A : Type 0} where
   -- an author's entries that stand, rising
   abbrev pub undos : List (Entry A) → Author → List ℕ
   undos j author = filter (λ s. is_by author (numbered j s)) (standing j)
+
+  -- the other entries that stand
+  abbrev pub others : List (Entry A) → ℕ → List ℕ
+  others j s = filter (λ t. not (nat_eq t s)) (standing j)
+
+  -- what an author can redo, bottom first, after one more of its entries: an undo pushes what it undid, a redo takes off the top, and an action empties the stack
+  abbrev pub redos_after : List ℕ → EntryKind A → List ℕ
+  redos_after stack (Do a) = []
+  redos_after stack (Undo s) = stack ++ s ∷ []
+  redos_after stack (Redo t) = take (length stack - 1) stack
+
+  -- that stack after all of them
+  abbrev pub redos : List (Entry A) → Author → List ℕ
+  redos j author = fold (λ stack (e : Entry A). redos_after stack e.kind) [] (filter (λ (e : Entry A). is_same_author author e.author) j)

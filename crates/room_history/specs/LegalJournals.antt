@@ -13,6 +13,7 @@ module _ {A : Type 0} where
   abbrev pub is_made_request : Request A → Bool
   is_made_request (requests.Do a) = is_made_action a
   is_made_request (requests.Undo s) = true
+  is_made_request requests.Redo = true
 
 -- the empty journal, and the one that the answer to a call leaves after another
 pub data IsJournal {A : Type 0} (base : Rows A) (limit : ℕ) : List (Entry A) → Type 0 where

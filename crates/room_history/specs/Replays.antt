@@ -1,21 +1,25 @@
 -- The map of a journal, by folding each entry's changes from the base; and the replay of a list of actions. (The rules of a room are this project's.)
-use Rattle.std.specs.Prelude.{◌++◌, List, [], ◌∷◌, Option, Some, None, is_none, if◌then◌else◌}
+use Rattle.std.specs.Prelude.{◌++◌, ℕ, List, [], ◌∷◌, Option, Some, None, is_none, if◌then◌else◌}
 use Rattle.std.specs.List.{fold, filter_map}
+use Rattle.std.specs.Option.{option_and_then}
+use Rattle.osm_elements.specs.declared.name.Name.{Name}
 use Rattle.edit_actions.specs.declared.action.Action.{Action}
 use Rattle.room_history.specs.declared.entry.Entry.{Entry}
 use Rattle.room_history.specs.declared.entry.EntryKind.{EntryKind}
-use Rattle.room_history.specs.declared.entry.EntryKind.TheVariants.{Do, Undo}
+use Rattle.room_history.specs.declared.entry.EntryKind.TheVariants.{Do, Undo, Redo}
 use Rattle.osm_elements.specs.Maps.{Rows}
 use Rattle.edit_actions.specs.After.{after, changes}
 use Rattle.edit_actions.specs.Refusals.{refusal}
 use Rattle.osm_changes.specs.declared.change.Change.{Change}
 use Rattle.osm_changes.specs.Changes.{inverse, changed}
-use Rattle.room_history.specs.Journals.{numbered, standing, action_of}
+use Rattle.edit_footprint.specs.Footprints.{footprint}
+use Rattle.room_history.specs.Journals.{numbered, standing}
 
--- what is recorded of an entry: its action, if it did one, and what it changed
+-- what is recorded of an entry: its action, if it did one, what it changed, and the footprint of its action
 pub record Recorded (A : Type 0) : Type 0 where
   pub action : Option (Action A)
   pub changes : List (Change A)
+  pub footprint : List Name
 
 -- a map, and what is recorded of each entry that led to it
 pub record Past (A : Type 0) : Type 0 where
@@ -25,17 +29,27 @@ pub record Past (A : Type 0) : Type 0 where
 module _ {A : Type 0} where
   -- an action done on a map
   abbrev pub recorded_of : Rows A → Action A → Recorded A
-  recorded_of m a = record { action = Some a; changes = changes m a }
+  recorded_of m a = record { action = Some a; changes = changes m a; footprint = footprint m a }
 
   -- an entry taken back
   abbrev pub taken_back : Option (Recorded A) → Recorded A
-  taken_back None = record { action = None; changes = [] }
-  taken_back (Some r) = record { action = None; changes = inverse r.changes }
+  taken_back None = record { action = None; changes = []; footprint = [] }
+  taken_back (Some r) = record { action = None; changes = inverse r.changes; footprint = [] }
 
-  -- what the next entry records: an undo takes back what the entry that it names changed
+  -- the recorded action of an entry
+  abbrev pub action_at : Past A → ℕ → Option (Action A)
+  action_at p s = option_and_then (λ (r : Recorded A). r.action) (numbered p.entries s)
+
+  -- an action done again, on the map as it is
+  abbrev pub done_again : Rows A → Option (Action A) → Recorded A
+  done_again m None = record { action = None; changes = []; footprint = [] }
+  done_again m (Some a) = recorded_of m a
+
+  -- what the next entry records: an undo takes back what the entry that it names changed, and a redo does the action of the entry that it names
   abbrev pub recorded_next : Past A → EntryKind A → Recorded A
   recorded_next p (Do a) = recorded_of p.map a
   recorded_next p (Undo s) = taken_back (numbered p.entries s)
+  recorded_next p (Redo t) = done_again p.map (action_at p t)
 
   abbrev pub past_after : Past A → EntryKind A → Past A
   past_after p k = let r = recorded_next p k in record { map = changed p.map r.changes; entries = p.entries ++ r ∷ [] }
@@ -53,6 +67,10 @@ module _ {A : Type 0} where
   replay m [] = Some m
   replay m (a ∷ rest) = if is_none (refusal m a) then replay (after m a) rest else None
 
-  -- the actions of the entries that stand, in order
-  abbrev pub standing_actions : List (Entry A) → List (Action A)
-  standing_actions j = filter_map (action_of j) (standing j)
+  -- the recorded actions of some entries, in order
+  abbrev pub actions_of : Past A → List ℕ → List (Action A)
+  actions_of p ss = filter_map (action_at p) ss
+
+  -- those of the entries that stand
+  abbrev pub standing_actions : Rows A → List (Entry A) → List (Action A)
+  standing_actions base j = actions_of (past base j) (standing j)

@@ -6,13 +6,16 @@ use Rattle.osm_elements.specs.declared.element.Element.{Element}
 use Rattle.osm_elements.specs.declared.element.Element.TheVariants.{Node, Way, Relation}
 use Rattle.osm_elements.specs.NameTexts.{named}
 use Rattle.edit_actions.specs.declared.action.Action.{Action}
+use Rattle.edit_footprint.specs.Holding.{Held}
 use Rattle.room_stacks.specs.declared.author.Author.{Author}
 use Rattle.room_history.specs.declared.call.Call.{Call}
-use Rattle.room_history.specs.declared.call.Request.TheVariants.{Do, Undo}
+use Rattle.room_history.specs.declared.call.Request.TheVariants.{Do, Undo, Redo}
 use Rattle.room_history.specs.declared.reply.Reply.{Reply}
 use Rattle.osm_elements.specs.Maps.{Rows}
 use Rattle.room_history.specs.Answers.{answers}
-use Rattle.room_history.specs.Replays.{mapof}
+use Rattle.room_history.specs.Blockers.{held}
+use Rattle.room_history.specs.Journals.{redos}
+use Rattle.room_history.specs.Replays.{past, mapof}
 
 -- nothing in a definition looks at the allocator
 abbrev pub Any : Type 0
@@ -69,9 +72,20 @@ does author id a = record { author = author; id = id; request = Do a }
 abbrev pub undoes : Author → ℕ → Option ℕ → Call Any
 undoes author id s = record { author = author; id = id; request = Undo s }
 
+abbrev pub redoes : Author → ℕ → Call Any
+redoes author id = record { author = author; id = id; request = Redo }
+
 -- the replies of an empty room with this limit, and the map that the calls leave
 abbrev pub replies : ℕ → List (Call Any) → List (Reply Any)
 replies limit calls = (answers [] limit [] calls).0
 
 abbrev pub map_after : ℕ → List (Call Any) → Rows Any
 map_after limit calls = mapof [] (answers [] limit [] calls).1
+
+-- the entries that stand after them, each with its recorded footprint
+abbrev pub held_after : ℕ → List (Call Any) → Held
+held_after limit calls = let j = (answers [] limit [] calls).1 in held (past [] j) j
+
+-- what an author can redo after them
+abbrev pub redos_left : ℕ → List (Call Any) → Author → List ℕ
+redos_left limit calls author = redos (answers [] limit [] calls).1 author

@@ -1,10 +1,12 @@
 //! All that a room is asked: its calls, and the queries.
 use crate::call::Call;
+use crate::numbers::Numbers;
 use crate::reply::Reply;
 use osm_elements::Memory;
 use osm_elements::element::Element;
 use osm_elements::map::Rows;
 use osm_elements::name::Name;
+use room_stacks::author::Author;
 use std::alloc::Allocator;
 
 /// What a room is asked.
@@ -17,6 +19,8 @@ pub enum RoomCall<A: Allocator> {
     Get(Name),
     /// For the rows of its map, and how many entries its journal has.
     Rows,
+    /// For what an author may undo and redo.
+    Undos(Author),
 }
 
 /// What a room answers, in the form of what it was asked. It shares nothing with the room.
@@ -29,4 +33,16 @@ pub enum RoomReply<A: Allocator> {
     Get(Result<Option<Element<A>>, Memory>),
     /// How many entries the journal has, and the rows in name order. The one refusal is want of memory.
     Rows(Result<(u64, Rows<A>), Memory>),
+    /// What the author may undo and redo. The one refusal is want of memory.
+    Undos(Result<Undoable<A>, Memory>),
+}
+
+/// What an author may undo and redo.
+#[derive(Drop)]
+#[derive_where(Debug)]
+pub struct Undoable<A: Allocator> {
+    /// The numbers of its entries that stand, rising.
+    pub undos: Numbers<A>,
+    /// The numbers of the entries that it can redo, bottom first.
+    pub redos: Numbers<A>,
 }

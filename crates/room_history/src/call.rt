@@ -14,6 +14,8 @@ pub enum Request<A: Allocator> {
     Do(Action<A>),
     /// The undo of the entry of this number, or without a number of the author's last entry that stands.
     Undo(Option<u64>),
+    /// The action of the entry that the author undid last and has not redone, done again on the map as it is.
+    Redo,
 }
 
 /// A call of a room: who asks, under which id, and what for.

@@ -11,6 +11,8 @@ pub enum EntryKind<A: Allocator> {
     Do(Action<A>),
     /// Undid the entry of this number.
     Undo(u64),
+    /// Did the action of the entry of this number again.
+    Redo(u64),
 }
 
 /// An entry of the journal. Entries are numbered from 1.

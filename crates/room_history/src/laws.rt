@@ -8,7 +8,7 @@ ghost use Rattle.room_history.specs.Replays.{past, recorded_next};
 ghost use Rattle.room_history.specs.LegalJournals.{IsJournal};
 ghost use Rattle.osm_elements.specs.Maps.{Rows};
 ghost use Rattle.osm_changes.specs.Sound.{is_sound};
-ghost use Rattle.room_history.specs.Examples.{first_run, range_ends, limit_one, limit_zero, last_first, refusals_in_turn, relations_in_turn};
+ghost use Rattle.room_history.specs.Examples.{first_run, range_ends, limit_one, limit_zero, strangers, in_use, taken_back_way, refusals_in_turn, relations_in_turn, redo_at_once, redo_refused, redo_order, redo_again};
 
 use std::alloc::Allocator;
 
@@ -28,7 +28,13 @@ pub fn replies_are_as_worked()
     ensures range_ends { range_ends }
     ensures limit_one { limit_one }
     ensures limit_zero { limit_zero }
-    ensures last_first { last_first }
+    ensures strangers { strangers }
+    ensures in_use { in_use }
+    ensures taken_back_way { taken_back_way }
     ensures refusals_in_turn { refusals_in_turn }
     ensures relations_in_turn { relations_in_turn }
+    ensures redo_at_once { redo_at_once }
+    ensures redo_refused { redo_refused }
+    ensures redo_order { redo_order }
+    ensures redo_again { redo_again }
 {}

@@ -1,4 +1,4 @@
-//! A room: one map, the journal of what its authors did, and undo.
+//! A room: one map, the journal of what its authors did, undo and redo.
 #![tactic(auto)]
 
 pub mod ask;
@@ -6,6 +6,7 @@ pub mod call;
 pub mod entry;
 mod journal;
 pub mod laws;
+pub mod numbers;
 pub mod reply;
 pub mod room;
 pub mod run;

@@ -3,6 +3,7 @@ ghost use Rattle.std.specs.Prelude.{◌≡◌};
 ghost use Rattle.room_history.specs.Inner.Refusing.{refusal_reply};
 
 use edit_simple::refusal::Refusal;
+use osm_elements::name::Name;
 use std::alloc::Allocator;
 use std::marker::Model;
 
@@ -22,6 +23,13 @@ pub enum Reply<A: Allocator> {
         /// The number of the entry that was undone.
         of: u64,
     },
+    /// The action of an entry was done again.
+    Redid {
+        /// The number of the new entry.
+        seq: u64,
+        /// The number of the entry whose action was done again.
+        of: u64,
+    },
     /// The author's accepted entry of this number spent the id.
     Repeat {
         /// The number of that entry.
@@ -37,12 +45,16 @@ pub enum Reply<A: Allocator> {
     NotYours,
     /// The entry of the number is an undo, or has been undone.
     NotStanding,
-    /// A later entry stands.
-    NotLast {
-        /// The number of the first later entry that stands.
+    /// A later entry stands that touched what the entry of the number did.
+    Conflict {
+        /// The number of the first later entry that stands and whose footprint meets that of the entry.
         blocker: u64,
+        /// The least name that both footprints have.
+        shared: Name,
     },
-    /// The action is refused on the map as it is.
+    /// A redo, and the author has nothing to redo.
+    NothingToRedo,
+    /// The action, or the one that was to be done again, is refused on the map as it is.
     Refused(Refusal<A>),
     /// A growth was refused.
     Memory,

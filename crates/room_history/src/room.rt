@@ -1,20 +1,27 @@
 //! The room.
-ghost use Rattle.std.specs.Prelude.{◌≡◌, ◌+◌, ◌<◌, ◌≤◌, List, [], ◌∷◌, ◌++◌, Some, None, true, length, IfOk, OnErr, vec_len, vec_capacity};
+ghost use Rattle.std.specs.Prelude.{◌≡◌, ◌+◌, ◌<◌, ◌≤◌, ◌⊎◌, List, [], ◌∷◌, ◌++◌, Some, None, true, length, IfOk, IfErr, OnOk, OnErr, vec_len, vec_capacity};
 ghost use Rattle.std.specs.Option.{option_copied};
 ghost use Rattle.osm_changes.specs.declared.change.Change.{Change};
 ghost use Rattle.osm_changes.specs.Changes.{differences, changed, inverse, AreChanges, AreFrom};
 ghost use Rattle.osm_elements.specs.Maps.{Rows};
 ghost use Rattle.osm_elements.specs.Rows.{AreInOrder};
+ghost use Rattle.osm_changes.specs.Sound.{is_sound};
+ghost use Rattle.osm_changes.specs.Stores.{applied_to};
+ghost use Rattle.edit_footprint.specs.Holding.{IsNext};
 ghost use Rattle.room_history.specs.Journals.{numbered};
 
-use crate::ask::{RoomCall, RoomReply};
+use crate::ask::{RoomCall, RoomReply, Undoable};
 use crate::call::{Call, Request};
 use crate::entry::{Entry, EntryKind};
-use crate::journal::numbered;
+use crate::journal::{action_of, numbered};
+use crate::numbers::Numbers;
 use crate::reply::Reply;
 use crate::undo::undoable;
 use edit_actions::action::Action;
 use edit_actions::plan::plan;
+use edit_footprint::footprint::Footprint;
+use edit_footprint::holders::Holders;
+use edit_footprint::touching::footprint;
 use osm_changes::changes::Changes;
 use osm_changes::laws::{an_inverse_restores, differences_are_changes};
 use osm_changes::store::Store;
@@ -29,7 +36,8 @@ use std::marker::Model;
 use std::snapshot::Snapshot;
 
 /// A room: one map, and the journal of what its authors did to it. It is as good as its base map (for now
-/// the empty one), its limit and its journal, and contracts see it so. Beside each entry it keeps what that changed.
+/// the empty one), its limit and its journal, and contracts see it so. Beside each entry it keeps what that changed and the
+/// number of the entry that has its action, and of each entry that stands its footprint.
 #[derive(Drop)]
 #[derive_where(Debug)]
 pub struct Room<A: Allocator> {
@@ -39,7 +47,8 @@ pub struct Room<A: Allocator> {
     store: Store<A>,
     entries: Vec<Entry<A>, A>,
     recorded: Vec<Changes<A>, A>,
-    standing: Vec<u64, A>,
+    origins: Vec<u64, A>,
+    holders: Holders<A>,
     stacks: Stacks<A>,
 }
 
@@ -51,18 +60,19 @@ impl<A: Allocator> Model for Room<A> {
 
     ghost view = { λ r. record { base = r.base.value; limit = r.limit; journal = r.entries.items } };
 
-    ghost invariant = { λ r. IsRoom r.store r.recorded.items r.standing.items r.stacks.deeds r.base.value r.limit r.entries.items };
+    ghost invariant = { λ r. IsRoom r.store r.recorded.items r.origins.items r.holders r.stacks.deeds r.base.value r.limit r.entries.items };
 }
 
 impl<A: Allocator + Copy> Room<A> {
-    ghost use Rattle.room_history.specs.Answers.{undo_refusal, with_entry};
+    ghost use Rattle.room_history.specs.Answers.{undo_refusal, redo_refusal, with_entry};
     ghost use Rattle.room_history.specs.declared.call.Request.TheVariants as requests;
+    ghost use Rattle.room_history.specs.declared.reply.Reply.TheVariants as replies;
     ghost use Rattle.edit_actions.specs.Refusals.{refusal};
-    ghost use Rattle.room_history.specs.declared.entry.EntryKind.TheVariants.{Do, Undo};
-    ghost use Rattle.room_history.specs.Replays.{past, mapof};
+    ghost use Rattle.room_history.specs.declared.entry.EntryKind.TheVariants.{Do, Undo, Redo};
+    ghost use Rattle.room_history.specs.Journals.{last, undos, redos};
+    ghost use Rattle.room_history.specs.Replays.{past, mapof, action_at, recorded_next};
     ghost use Rattle.room_history.specs.Applied.{applied};
     ghost use Rattle.edit_actions.specs.After.{changes as changes_of};
-    ghost use Rattle.osm_changes.specs.Sound.{is_sound};
     ghost use Rattle.room_history.specs.Headline.{Holds};
     ghost use Rattle.room_history.specs.Inner.Rooms.{MayAppend};
     ghost use Rattle.edit_actions.specs.MadeActions.{is_made_action};
@@ -81,14 +91,16 @@ impl<A: Allocator + Copy> Room<A> {
             store,
             entries: Vec::new(alloc),
             recorded: Vec::new(alloc),
-            standing: Vec::new(alloc),
+            origins: Vec::new(alloc),
+            holders: Holders::new(alloc),
             stacks: Stacks::new(alloc),
         }
     }
 
     /// Answers a call. The refusals are tested in the order in which `Reply` lists them; after a refusal the
     /// room is as it was, and the call's id is unspent. It costs what the action's plan does and what it changes, and an
-    /// undo what the entry changed that it takes back, times a logarithm; neither the map nor the journal is walked.
+    /// undo what the entry changed that it takes back, and for each name of that entry's footprint a search among the later
+    /// entries that touched the name, times a logarithm; neither the map nor the journal is walked.
     pub fn take(&mut self, call: Call<A>) -> Reply<A>
         ensures step { IsStep self.old.base self.old.limit self.old.journal call result self.new.journal }
         ensures base { self.new.base ≡ self.old.base }
@@ -127,6 +139,7 @@ impl<A: Allocator + Copy> Room<A> {
         match request {
             Request::Do(action) => self.act(author, id, action),
             Request::Undo(number) => self.undo(author, id, number),
+            Request::Redo => self.redo(author, id),
         }
     }
 
@@ -165,21 +178,30 @@ impl<A: Allocator + Copy> Room<A> {
             × (self.new ≡ record self.old { journal = with_entry self.old.journal author id (Do action) })) }
         ensures err { OnErr result (self.new ≡ self.old) }
     {
+        let alloc = *self.entries.allocator();
         self.entries.try_reserve(1)?;
         self.recorded.try_reserve(1)?;
-        self.standing.try_reserve(1)?;
+        self.origins.try_reserve(1)?;
         self.stacks.ready(&author)?;
-        self.store.apply(*self.entries.allocator(), &changes)?;
+        let footprint = footprint(alloc, &action, &changes)?;
         let seq = self.entries.len() as u64 + 1;
+        stand(
+            alloc,
+            &mut self.store,
+            &mut self.holders,
+            &changes,
+            footprint,
+            seq,
+        )?;
         let kind = EntryKind::Do(action);
         push_reserved(&mut self.entries, Entry { author, id, kind });
         push_reserved(&mut self.recorded, changes);
-        push_reserved(&mut self.standing, seq);
+        push_reserved(&mut self.origins, seq);
         self.stacks.did(author, id, seq);
         Ok(seq)
     }
 
-    // Undoes an entry, if it is the last that stands and the author's own.
+    // Undoes an entry, if it stands, is the author's own, and no later entry that stands blocks it.
     fn undo(&mut self, author: Author, id: u64, number: Option<u64>) -> Reply<A>
         requires { MayAppend self.old.limit self.old.journal author id }
         ensures step { IsStep self.old.base self.old.limit self.old.journal
@@ -188,7 +210,7 @@ impl<A: Allocator + Copy> Room<A> {
         ensures limit { self.new.limit ≡ self.old.limit }
     {
         let own = self.stacks.standing(&author);
-        match undoable(&self.entries, &self.standing, own, &author, number) {
+        match undoable(&self.entries, &self.holders, own, &author, number) {
             Ok(of) => match self.append_undo(author, id, of) {
                 Ok(seq) => Reply::Undid { seq, of },
                 Err(_) => Reply::Memory,
@@ -197,7 +219,7 @@ impl<A: Allocator + Copy> Room<A> {
         }
     }
 
-    // Appends the undo of the last entry that stands, which takes back what that changed, and answers its number.
+    // Appends the undo of an entry that nothing blocks, which takes back what that changed, and answers its number.
     fn append_undo(&mut self, author: Author, id: u64, of: u64) -> Result<u64, Memory>
         requires may { MayAppend self.old.limit self.old.journal author id }
         requires accepted { undo_refusal (past self.old.base self.old.journal) self.old.journal author of ≡ None }
@@ -208,6 +230,7 @@ impl<A: Allocator + Copy> Room<A> {
         leads_back::<A>();
         self.entries.try_reserve(1)?;
         self.recorded.try_reserve(1)?;
+        self.origins.try_reserve(1)?;
         self.stacks.ready(&author)?;
         let changes = taken_back(&self.recorded, of)?;
         self.store.apply(*self.entries.allocator(), &changes)?;
@@ -215,9 +238,96 @@ impl<A: Allocator + Copy> Room<A> {
         let kind = EntryKind::Undo(of);
         push_reserved(&mut self.entries, Entry { author, id, kind });
         push_reserved(&mut self.recorded, changes);
-        let rest = self.standing.len() - 1;
-        self.standing.truncate(rest);
+        push_reserved(&mut self.origins, seq);
+        self.holders.fall(of);
         self.stacks.undid(author, id, of, seq);
+        Ok(seq)
+    }
+
+    // Does the action of the entry that the author undid last again, if it is accepted on the map.
+    fn redo(&mut self, author: Author, id: u64) -> Reply<A>
+        requires { MayAppend self.old.limit self.old.journal author id }
+        ensures step { IsStep self.old.base self.old.limit self.old.journal
+            (record { author = author; id = id; request = requests.Redo }) result self.new.journal }
+        ensures base { self.new.base ≡ self.old.base }
+        ensures limit { self.new.limit ≡ self.old.limit }
+    {
+        match self.stacks.redo(&author).last().copied() {
+            Some(of) => match self.plan_again(of) {
+                Ok((changes, footprint)) => {
+                    match self.append_redo(author, id, of, changes, footprint) {
+                        Ok(seq) => Reply::Redid { seq, of },
+                        Err(_) => Reply::Memory,
+                    }
+                }
+                Err(refused) => refused,
+            },
+            None => Reply::NothingToRedo,
+        }
+    }
+
+    // What the action of an entry changes and touches on the map as it is, or the reply that refuses it.
+    fn plan_again(&self, of: u64) -> Result<(Changes<A>, Footprint<A>), Reply<A>>
+        ensures accepted { OnOk result (redo_refusal (mapof self.now.base self.now.journal) (action_at (past self.now.base self.now.journal) of) ≡ None) }
+        ensures changes { IfOk result (λ p. p.0 ≡ (recorded_next (past self.now.base self.now.journal) (Redo of)).changes) }
+        ensures footprint { IfOk result (λ p. p.1 ≡ (recorded_next (past self.now.base self.now.journal) (Redo of)).footprint) }
+        ensures from { IfOk result (λ p. AreFrom (mapof self.now.base self.now.journal) p.0) }
+        ensures sound { IfOk result (λ p. is_sound (changed (mapof self.now.base self.now.journal) p.0) ≡ true) }
+        ensures refused { IfErr result (λ r. (r ≡ replies.Memory) ⊎ (redo_refusal (mapof self.now.base self.now.journal) (action_at (past self.now.base self.now.journal) of) ≡ Some r)) }
+    {
+        let alloc = *self.entries.allocator();
+        match action_of(&self.entries, &self.origins, of) {
+            Some(action) => match plan(alloc, &self.store, action) {
+                Ok(changes) => match footprint(alloc, action, &changes) {
+                    Ok(footprint) => Ok((changes, footprint)),
+                    Err(_) => Err(Reply::Memory),
+                },
+                Err(refusal) => Err(refusal.into()),
+            },
+            None => Err(Reply::NothingToRedo),
+        }
+    }
+
+    // Appends the entry of an action that is done again, with what it changes and touches now, and answers its number.
+    fn append_redo(
+        &mut self,
+        author: Author,
+        id: u64,
+        of: u64,
+        changes: Changes<A>,
+        footprint: Footprint<A>,
+    ) -> Result<u64, Memory>
+        requires may { MayAppend self.old.limit self.old.journal author id }
+        requires top { last (redos self.old.journal author) ≡ Some of }
+        requires accepted { redo_refusal (mapof self.old.base self.old.journal) (action_at (past self.old.base self.old.journal) of) ≡ None }
+        requires changes { changes ≡ (recorded_next (past self.old.base self.old.journal) (Redo of)).changes }
+        requires footprint { footprint ≡ (recorded_next (past self.old.base self.old.journal) (Redo of)).footprint }
+        requires from { AreFrom (mapof self.old.base self.old.journal) changes }
+        requires sound { is_sound (changed (mapof self.old.base self.old.journal) changes) ≡ true }
+        ensures ok { IfOk result (λ seq. (seq ≡ length self.old.journal + 1)
+            × (self.new ≡ record self.old { journal = with_entry self.old.journal author id (Redo of) })) }
+        ensures err { OnErr result (self.new ≡ self.old) }
+    {
+        let alloc = *self.entries.allocator();
+        self.entries.try_reserve(1)?;
+        self.recorded.try_reserve(1)?;
+        self.origins.try_reserve(1)?;
+        self.stacks.ready(&author)?;
+        let seq = self.entries.len() as u64 + 1;
+        let origin = numbered(&self.origins, of).copied().unwrap_or(seq);
+        stand(
+            alloc,
+            &mut self.store,
+            &mut self.holders,
+            &changes,
+            footprint,
+            seq,
+        )?;
+        let kind = EntryKind::Redo(of);
+        push_reserved(&mut self.entries, Entry { author, id, kind });
+        push_reserved(&mut self.recorded, changes);
+        push_reserved(&mut self.origins, origin);
+        self.stacks.redid(author, id, of, seq);
         Ok(seq)
     }
 
@@ -232,6 +342,7 @@ impl<A: Allocator + Copy> Room<A> {
             RoomCall::Take(call) => RoomReply::Take(self.take(call)),
             RoomCall::Get(name) => RoomReply::Get(self.copy_of(&name)),
             RoomCall::Rows => RoomReply::Rows(self.front_and_rows()),
+            RoomCall::Undos(author) => RoomReply::Undos(self.undoable_by(&author)),
         }
     }
 
@@ -250,6 +361,35 @@ impl<A: Allocator + Copy> Room<A> {
         ensures { IfOk result (λ rows. rows ≡ (length self.now.journal, mapof self.now.base self.now.journal)) }
     {
         Ok((self.front(), self.map_rows()?))
+    }
+
+    // Copies of the numbers of an author's entries that stand, and of those that it can redo.
+    fn undoable_by(&self, author: &Author) -> Result<Undoable<A>, Memory>
+        ensures { IfOk result (λ lists. lists ≡ record {
+          undos = undos self.now.journal author.now;
+          redos = redos self.now.journal author.now;
+        }) }
+    {
+        let alloc = *self.entries.allocator();
+        let undos = Numbers::from_vec(Vec::from_slice(alloc, self.undos(author))?);
+        let redos = Numbers::from_vec(Vec::from_slice(alloc, self.redos(author))?);
+        Ok(Undoable { undos, redos })
+    }
+
+    /// The numbers of an author's entries that stand, rising: those that its undos can take back, where nothing blocks them.
+    /// It takes no memory, and time logarithmic in the number of authors.
+    pub fn undos(&self, author: &Author) -> &[u64]
+        ensures { result.now ≡ undos self.now.journal author.now }
+    {
+        self.stacks.standing(author)
+    }
+
+    /// The numbers of the entries that an author can redo, the next one last: those that it undid since its last action, but
+    /// those that it redid. It takes no memory, and time logarithmic in the number of authors.
+    pub fn redos(&self, author: &Author) -> &[u64]
+        ensures { result.now ≡ redos self.now.journal author.now }
+    {
+        self.stacks.redo(author)
     }
 
     /// The element of a name, or none.
@@ -287,6 +427,29 @@ impl<A: Allocator + Copy> Room<A> {
     {
         numbered(&self.entries, seq)
     }
+}
+
+// Lets an entry stand and applies its changes; or refuses, and both are as they were.
+fn stand<A: Allocator + Copy>(
+    alloc: A,
+    store: &mut Store<A>,
+    holders: &mut Holders<A>,
+    changes: &Changes<A>,
+    footprint: Footprint<A>,
+    seq: u64,
+) -> Result<(), Memory>
+    requires next { IsNext holders.old seq }
+    requires from { AreFrom store.old.rows changes.now }
+    requires sound { is_sound (changed store.old.rows changes.now) ≡ true }
+    ensures ok { OnOk result ((store.new ≡ applied_to store.old changes.now) × (holders.new ≡ holders.old ++ (seq, footprint) ∷ [])) }
+    ensures err { OnErr result ((store.new ≡ store.old) × (holders.new ≡ holders.old)) }
+{
+    holders.stand(footprint, seq)?;
+    if let Err(refused) = store.apply(alloc, changes) {
+        holders.fall(seq);
+        return Err(refused);
+    }
+    Ok(())
 }
 
 // The changes that take back those recorded under a number.

@@ -1,34 +1,36 @@
 //! Which entry an undo takes back, or why none.
 ghost use Rattle.std.specs.Prelude.{◌≡◌};
 ghost use Rattle.room_history.specs.Answers.{asked, undo_refusal};
-ghost use Rattle.room_history.specs.Journals.{standing, undos};
+ghost use Rattle.room_history.specs.Blockers.{held};
+ghost use Rattle.room_history.specs.Journals.{undos};
 ghost use Rattle.room_history.specs.Replays.{Past};
 ghost use Rattle.room_history.specs.Inner.Undoing.{asked_or, undone_or};
 
 use crate::entry::Entry;
 use crate::journal::numbered;
 use crate::reply::Reply;
-use crate::standing::{contains, first_after};
+use crate::standing::contains;
+use edit_footprint::holders::Holders;
 use room_stacks::author::Author;
 use std::alloc::Allocator;
 
 /// The number of the entry that an undo takes back: the one asked for, or without a number the author's
-/// last that stands. The refusals are `NothingToUndo`, `NoSuch`, `NotYours`, `NotStanding` and `NotLast`, in
-/// this order. `numbers` are those of the entries that stand, and `own` those of them that are the author's.
-/// It takes time logarithmic in how many stand.
+/// last that stands. The refusals are `NothingToUndo`, `NoSuch`, `NotYours`, `NotStanding` and `Conflict`, in
+/// this order. `holders` are those of the entries that stand, and `own` the numbers of those of them that are the
+/// author's. It takes time logarithmic in how many stand, and what [`Holders::first_after`] takes.
 pub fn undoable<A: Allocator>(
     entries: &[Entry<A>],
-    numbers: &[u64],
+    holders: &Holders<A>,
     own: &[u64],
     author: &Author,
     number: Option<u64>,
 ) -> Result<u64, Reply<A>>
-    requires numbers { numbers.now ≡ standing entries.now }
-    requires own { own.now ≡ undos entries.now author.now }
-    ensures { (p : Past A) → result ≡ asked_or (undo_refusal p entries.now author.now) (asked entries.now author.now number) }
+    requires { own.now ≡ undos entries.now author.now }
+    ensures { (p : Past A) → holders.now ≡ held p entries.now
+        → result ≡ asked_or (undo_refusal p entries.now author.now) (asked entries.now author.now number) }
 {
     match number.or(own.last().copied()) {
-        Some(seq) => checked(entries, numbers, author, seq),
+        Some(seq) => checked(entries, holders, own, author, seq),
         None => Err(Reply::NothingToUndo),
     }
 }
@@ -36,19 +38,20 @@ pub fn undoable<A: Allocator>(
 // The number, where the author can undo that entry.
 fn checked<A: Allocator>(
     entries: &[Entry<A>],
-    numbers: &[u64],
+    holders: &Holders<A>,
+    own: &[u64],
     author: &Author,
     seq: u64,
 ) -> Result<u64, Reply<A>>
-    requires { numbers.now ≡ standing entries.now }
-    ensures { (p : Past A) → result ≡ undone_or seq (undo_refusal p entries.now author.now seq) }
+    requires { own.now ≡ undos entries.now author.now }
+    ensures { (p : Past A) → holders.now ≡ held p entries.now → result ≡ undone_or seq (undo_refusal p entries.now author.now seq) }
 {
     match numbered(entries, seq) {
         None => Err(Reply::NoSuch),
         Some(entry) if !author.is(&entry.author) => Err(Reply::NotYours),
-        Some(_) if !contains(numbers, seq) => Err(Reply::NotStanding),
-        Some(_) => match first_after(numbers, seq) {
-            Some(blocker) => Err(Reply::NotLast { blocker }),
+        Some(_) if !contains(own, seq) => Err(Reply::NotStanding),
+        Some(_) => match holders.first_after(seq) {
+            Some((blocker, shared)) => Err(Reply::Conflict { blocker, shared }),
             None => Ok(seq),
         },
     }

@@ -353,9 +353,11 @@ body_made : (word : List ℕ) (d : Data) → IsInOrder d → IfOk (body_by word 
 unfolding IsMadeBody IsMadeAction
 body_made word d h =
     ok_if IsMadeBody (bytes_eq word (codes "undo")) _ _ (ok_each IsMadeBody (seq_at d) _ (λ seq. refl))
+    (ok_if IsMadeBody (bytes_eq word (codes "redo")) _ _ refl
+    (ok_if IsMadeBody (bytes_eq word (codes "undos")) _ _ refl
     (ok_if IsMadeBody (bytes_eq word (codes "get")) _ _ (ok_each IsMadeBody (el_at d) _ (λ name. refl))
     (ok_if IsMadeBody (bytes_eq word (codes "map")) _ _ refl
-    (ok_then IsMadeAction IsMadeBody (action_by word d) _ (action_made word d h) (λ action made. made))))
+    (ok_then IsMadeAction IsMadeBody (action_by word d) _ (action_made word d h) (λ action made. made))))))
 
 body_at_made : (d : Data) → IsInOrder d → IfOk (body_at d) IsMadeBody
 body_at_made d h = ok_each IsMadeBody (word_at d) _ (λ word. body_made word d h)

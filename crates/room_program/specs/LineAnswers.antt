@@ -22,11 +22,11 @@ use Rattle.room_wire.specs.declared.bad.Bad.{Bad}
 use Rattle.room_wire.specs.declared.bad.Fault.TheVariants.{NotJson}
 use Rattle.room_wire.specs.declared.incoming.Incoming.{Incoming}
 use Rattle.room_wire.specs.declared.incoming.Body.{Body}
-use Rattle.room_wire.specs.declared.incoming.Body.TheVariants.{Change, Get, Map}
+use Rattle.room_wire.specs.declared.incoming.Body.TheVariants.{Change, Get, Map, Undos}
 use Rattle.room_wire.specs.Answers.{reply_answer, fault_answer}
 use Rattle.room_wire.specs.Reading.{id_told}
 use Rattle.room_wire.specs.Spelling.{spells}
-use Rattle.room_wire.specs.Trees.{tree_of, ok_tree, element_tree, rows_tree, whole}
+use Rattle.room_wire.specs.Trees.{tree_of, ok_tree, element_tree, rows_tree, numbers_tree, whole}
 use Rattle.room_program.specs.Scripts.{Loss, Nothing, Answer_lost, Answer_and_id_lost, script_of}
 
 -- the bytes before the first space (32) and those after it, if there is one
@@ -58,17 +58,23 @@ element_text id name (Some element) = compact_text (ok_tree id (object (member (
 abbrev pub map_text : ℕ → Rows Global → ℕ → List ℕ
 map_text id rows front = compact_text (ok_tree id (object (member (codes "map") (rows_tree rows) (member (codes "seq") (whole front) no_members))))
 
+-- the reply with what an author may undo and redo
+abbrev pub undos_text : ℕ → List ℕ → List ℕ → List ℕ
+undos_text id undos redos = compact_text (ok_tree id (object (member (codes "redo") (numbers_tree redos) (member (codes "undos") (numbers_tree undos) no_members))))
+
 -- what a message of an author's asks of the room
 abbrev pub asked_by : Author → ℕ → Body → RoomCall Global
 asked_by author id (Change request) = calls.Take (record { author = author; id = id; request = request })
 asked_by author id (Get name) = calls.Get name
 asked_by author id Map = calls.Rows
+asked_by author id Undos = calls.Undos author
 
 -- the reply to a message, from what the room was asked and answered
 abbrev pub told : ℕ → RoomCall Global → RoomReply Global → List ℕ
 told id call (replies.Take reply) = text_of id (reply_answer reply)
 told id (calls.Get name) (replies.Get (Ok found)) = element_text id name found
 told id call (replies.Rows (Ok rows)) = map_text id rows.1 rows.0
+told id call (replies.Undos (Ok lists)) = undos_text id lists.undos lists.redos
 told id call reply = text_of id answers.Memory
 
 -- the reply to a message of an author's, and the room after it

@@ -1,11 +1,12 @@
 //! What a line says, and what a room answers it.
 ghost use Rattle.std.specs.Prelude.{◌≡◌, ◌⊎◌, ℕ, Some, None, IfOk, MatchOption, length};
-ghost use Rattle.room_wire.specs.declared.incoming.Body.TheVariants.{Change, Get, Map};
+ghost use Rattle.room_wire.specs.declared.incoming.Body.TheVariants.{Change, Get, Map, Undos};
 ghost use Rattle.osm_elements.specs.Rows.{row_at};
 ghost use Rattle.room_stacks.specs.Authors.{author_of};
+ghost use Rattle.room_history.specs.Journals.{undos, redos};
 ghost use Rattle.room_history.specs.Replays.{mapof};
 ghost use Rattle.room_wire.specs.Reading.{GivesMessage, id_told};
-ghost use Rattle.room_program.specs.LineAnswers.{said, spelled, text_of, element_text, map_text, body_answer, message_answer, answered};
+ghost use Rattle.room_program.specs.LineAnswers.{said, spelled, text_of, element_text, map_text, undos_text, body_answer, message_answer, answered};
 ghost use Rattle.room_program.specs.LineReplies.{IsReply};
 
 use crate::answers::Answers;
@@ -103,6 +104,7 @@ fn answer_body(
         Body::Change(request) => answer_change(alloc, room, author, id, request),
         Body::Get(name) => answer_get(alloc, room, id, name),
         Body::Map => answer_map(alloc, room, id),
+        Body::Undos => answer_undos(alloc, room, author, id),
     }
 }
 
@@ -146,4 +148,13 @@ fn answer_map(alloc: Global, room: &Room<Global>, id: u64) -> Result<Json, Memor
         }
         Err(_) => reply_text(alloc, id, &Answer::Memory),
     }
+}
+
+fn answer_undos(alloc: Global, room: &Room<Global>, author: Author, id: u64) -> Result<Json, Memory>
+    ensures { IfOk result (λ text. text ≡ undos_text id
+        (undos room.now.journal author) (redos room.now.journal author)) }
+{
+    let undos = room.undos(&author);
+    let redos = room.redos(&author);
+    reply_text(alloc, id, &Answer::Undos { undos, redos })
 }

@@ -116,6 +116,8 @@ body_tells words.Merge d = done_tells (merge_at d) (slots words.Merge d) (pair_t
 body_tells words.Undo d = step Seq (seq_at d) (λ seq. Ok (bodies.Change (requests.Undo seq))) [] (only_seq (get (codes "seq") d)) (λ seq e. tt)
 body_tells words.Get d = step El (el_at d) (λ name. Ok (bodies.Get name)) [] (only_field El _) (λ name e. tt)
 body_tells words.Map d = tt
+body_tells words.Undos d = tt
+body_tells words.Redo d = tt
 
 one_first : (all : List Slot) (f g : Field) → IsFirstBad all f → IsFirstBad all g → f ≡ g
 one_first [] f g h k = absurd h
@@ -207,7 +209,7 @@ other_word w word other = go (bytes_eq w (word_text word)) refl
 unknown_word : (w : List ℕ) (d : Data) → ((word : Word) → w ≡ word_text word → ⊥) → body_by w d ≡ Err UnknownDo
 unknown_word w d other =
     let no : (word : Word) → bytes_eq w (word_text word) ≡ false = λ word. other_word w word (other word) in
-    rw (no words.Undo, no words.Get, no words.Map, no words.Create, no words.Retag, no words.Move, no words.Reverse, no words.Nodes, no words.Members, no words.Delete, no words.Purge, no words.Split, no words.Join, no words.Merge) refl
+    rw (no words.Undo, no words.Redo, no words.Undos, no words.Get, no words.Map, no words.Create, no words.Retag, no words.Move, no words.Reverse, no words.Nodes, no words.Members, no words.Delete, no words.Purge, no words.Split, no words.Join, no words.Merge) refl
 
 unknown_body : (d : Data) (o : Option Data) → ((word : Word) → o ≡ Some (string (word_text word)) → ⊥) → (or_fault UnknownDo (option_and_then as_str o) >>= λ w. body_by w d) ≡ Err UnknownDo
 unknown_body d None other = refl

@@ -6,10 +6,11 @@ use Rattle.serde_json.specs.Read.{read}
 use Rattle.room_wire.specs.Fields.{field_text}
 use Rattle.osm_elements.specs.declared.name.Kind.{Kind}
 use Rattle.osm_elements.specs.declared.name.Kind.TheVariants as kinds
+use Rattle.room_history.specs.declared.call.Request.TheVariants.{Redo}
 use Rattle.room_wire.specs.declared.bad.Fault.{Fault}
 use Rattle.room_wire.specs.declared.bad.Fault.TheVariants.{Memory, BadField, NotObject, BadId, UnknownDo}
 use Rattle.room_wire.specs.declared.incoming.Body.{Body}
-use Rattle.room_wire.specs.declared.incoming.Body.TheVariants.{Map}
+use Rattle.room_wire.specs.declared.incoming.Body.TheVariants.{Change, Map, Undos}
 use Rattle.std.specs.Str.{bytes_eq}
 use Rattle.room_wire.specs.declared.field.Field.{Field}
 use Rattle.room_wire.specs.declared.field.Field.TheVariants.{El, Els, Lat, Lon, Nodes, Members, Tags, Dlat, Dlon, At, Into, With, Seq}
@@ -114,9 +115,11 @@ action_is_fine word d =
 body_is_fine : (word : List ℕ) (d : Data) → Fine (body_by word d)
 body_is_fine word d =
     fine_if (bytes_eq word (codes "undo")) _ _ (fine_then (seq_at d) _ (seq_is_fine (get (field_text Seq) d)) (λ seq. fine_ok _))
+    (fine_if (bytes_eq word (codes "redo")) _ _ (fine_ok (Change Redo))
+    (fine_if (bytes_eq word (codes "undos")) _ _ (fine_ok Undos)
     (fine_if (bytes_eq word (codes "get")) _ _ (fine_then (el_at d) _ (el_is_fine d) (λ name. fine_ok _))
     (fine_if (bytes_eq word (codes "map")) _ _ (fine_ok Map)
-    (fine_then (action_by word d) _ (action_is_fine word d) (λ action. fine_ok _))))
+    (fine_then (action_by word d) _ (action_is_fine word d) (λ action. fine_ok _))))))
 
 body_at_is_fine : (d : Data) → Fine (body_at d)
 body_at_is_fine d = fine_then (word_at d) (λ word. body_by word d) (fine_or UnknownDo (option_and_then as_str (get (codes "do") d)) (λ e. cc)) (λ word. body_is_fine word d)

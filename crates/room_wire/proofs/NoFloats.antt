@@ -8,8 +8,8 @@ use Rattle.osm_elements.specs.declared.element.Element.{Element}
 use Rattle.osm_elements.specs.declared.element.Element.TheVariants as elements
 use Rattle.osm_elements.specs.TagRows.{Pairs}
 use Rattle.room_wire.specs.declared.answer.Answer.{Answer}
-use Rattle.room_wire.specs.declared.answer.Answer.TheVariants.{Done, Undid, Is, Map, Absent, Present, WrongKind, Same, OutOfRange, TooFew, TooMany, InUse, TagConflict, BadPosition, NotEndToEnd, Nothing, Repeat, NotLast, BadField, Memory, Full, NothingToUndo, NoSuch, NotYours, NotStanding, NotJson, NotObject, BadId, UnknownDo, BadLine}
-use Rattle.room_wire.specs.Trees.{id_tree, nodes_tree, member_tree, members_tree, tag_members, element_tree, rows_tree, tree_of}
+use Rattle.room_wire.specs.declared.answer.Answer.TheVariants.{Done, Undid, Redid, Is, Map, Undos, Absent, Present, WrongKind, Same, OutOfRange, TooFew, TooMany, InUse, TagConflict, BadPosition, NotEndToEnd, Nothing, Repeat, Conflict, BadField, Memory, Full, NothingToUndo, NothingToRedo, NoSuch, NotYours, NotStanding, NotJson, NotObject, BadId, UnknownDo, BadLine}
+use Rattle.room_wire.specs.Trees.{id_tree, nodes_tree, member_tree, members_tree, tag_members, element_tree, rows_tree, numbers_tree, whole, tree_of}
 use Rattle.serde_json.specs.Find.{of_integer, is_float}
 
 items_have_none : {X : Type 0} (f : X → Data) → ((x : X) → has_float (f x) ≡ false) → (xs : List X) → items_have_float (items_of (map f xs)) ≡ false
@@ -38,11 +38,16 @@ element_has_none name (elements.Relation members tags) = rw (members_have_none m
 rows_have_none : {A : Type 0} (rows : List (Name × Element A)) → has_float (rows_tree rows) ≡ false
 rows_have_none rows = items_have_none (λ r. element_tree r.0 r.1) (λ r. element_has_none r.0 r.1) rows
 
+numbers_have_none : (numbers : List ℕ) → has_float (numbers_tree numbers) ≡ false
+numbers_have_none numbers = items_have_none whole (λ n. refl) numbers
+
 pub tree_has_no_float : (id : ℕ) (answer : Answer) → has_float (tree_of id answer) ≡ false
 tree_has_no_float id (Done seq) = refl
 tree_has_no_float id (Undid seq of) = refl
+tree_has_no_float id (Redid seq of) = refl
 tree_has_no_float id (Is name element) = rw (element_has_none name element.now) refl
 tree_has_no_float id (Map rows front) = rw (rows_have_none rows.now) refl
+tree_has_no_float id (Undos undos redos) = rw (numbers_have_none undos.now, numbers_have_none redos.now) refl
 tree_has_no_float id (Absent name) = refl
 tree_has_no_float id (Present name) = refl
 tree_has_no_float id (WrongKind name) = refl
@@ -53,7 +58,7 @@ tree_has_no_float id (TooMany name) = refl
 tree_has_no_float id (InUse name user) = refl
 tree_has_no_float id (TagConflict key) = refl
 tree_has_no_float id (Repeat seq) = refl
-tree_has_no_float id (NotLast blocker) = refl
+tree_has_no_float id (Conflict blocker shared) = refl
 tree_has_no_float id (BadField field) = refl
 tree_has_no_float id BadPosition = refl
 tree_has_no_float id NotEndToEnd = refl
@@ -61,6 +66,7 @@ tree_has_no_float id Nothing = refl
 tree_has_no_float id Memory = refl
 tree_has_no_float id Full = refl
 tree_has_no_float id NothingToUndo = refl
+tree_has_no_float id NothingToRedo = refl
 tree_has_no_float id NoSuch = refl
 tree_has_no_float id NotYours = refl
 tree_has_no_float id NotStanding = refl

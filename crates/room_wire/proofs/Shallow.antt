@@ -8,8 +8,8 @@ use Rattle.osm_elements.specs.declared.element.Element.{Element}
 use Rattle.osm_elements.specs.declared.element.Element.TheVariants as elements
 use Rattle.osm_elements.specs.TagRows.{Pairs}
 use Rattle.room_wire.specs.declared.answer.Answer.{Answer}
-use Rattle.room_wire.specs.declared.answer.Answer.TheVariants.{Done, Undid, Is, Map, Absent, Present, WrongKind, Same, OutOfRange, TooFew, TooMany, InUse, TagConflict, BadPosition, NotEndToEnd, Nothing, Repeat, NotLast, BadField, Memory, Full, NothingToUndo, NoSuch, NotYours, NotStanding, NotJson, NotObject, BadId, UnknownDo, BadLine}
-use Rattle.room_wire.specs.Trees.{id_tree, member_tree, tag_members, element_tree, rows_tree, tree_of}
+use Rattle.room_wire.specs.declared.answer.Answer.TheVariants.{Done, Undid, Redid, Is, Map, Undos, Absent, Present, WrongKind, Same, OutOfRange, TooFew, TooMany, InUse, TagConflict, BadPosition, NotEndToEnd, Nothing, Repeat, Conflict, BadField, Memory, Full, NothingToUndo, NothingToRedo, NoSuch, NotYours, NotStanding, NotJson, NotObject, BadId, UnknownDo, BadLine}
+use Rattle.room_wire.specs.Trees.{id_tree, member_tree, tag_members, element_tree, rows_tree, whole, tree_of}
 
 items_are_shallow : {X : Type 0} (k : ℕ) (f : X → Data) → ((x : X) → depth (f x) ≤ k) → (xs : List X) → items_depth (items_of (map f xs)) ≤ k
 items_are_shallow k f h [] = omega arith
@@ -34,11 +34,16 @@ element_is_shallow name (elements.Relation members tags) = let t = tags_are_flat
 rows_are_shallow : {A : Type 0} (rows : List (Name × Element A)) → depth (rows_tree rows) ≤ 4
 rows_are_shallow rows = let r = items_are_shallow 3 (λ r. element_tree r.0 r.1) (λ r. element_is_shallow r.0 r.1) rows in omega arith
 
+numbers_are_flat : (numbers : List ℕ) → items_depth (items_of (map whole numbers)) ≤ 0
+numbers_are_flat numbers = items_are_shallow 0 whole (λ n. omega arith) numbers
+
 pub tree_is_shallow : (id : ℕ) (answer : Answer) → depth (tree_of id answer) ≤ 127
 tree_is_shallow id (Done seq) = omega arith
 tree_is_shallow id (Undid seq of) = omega arith
+tree_is_shallow id (Redid seq of) = omega arith
 tree_is_shallow id (Is name element) = let e = element_is_shallow name element.now in omega arith
 tree_is_shallow id (Map rows front) = let r = rows_are_shallow rows.now in omega arith
+tree_is_shallow id (Undos undos redos) = let u = numbers_are_flat undos.now in let r = numbers_are_flat redos.now in omega arith
 tree_is_shallow id (Absent name) = omega arith
 tree_is_shallow id (Present name) = omega arith
 tree_is_shallow id (WrongKind name) = omega arith
@@ -49,7 +54,7 @@ tree_is_shallow id (TooMany name) = omega arith
 tree_is_shallow id (InUse name user) = omega arith
 tree_is_shallow id (TagConflict key) = omega arith
 tree_is_shallow id (Repeat seq) = omega arith
-tree_is_shallow id (NotLast blocker) = omega arith
+tree_is_shallow id (Conflict blocker shared) = omega arith
 tree_is_shallow id (BadField field) = omega arith
 tree_is_shallow id BadPosition = omega arith
 tree_is_shallow id NotEndToEnd = omega arith
@@ -57,6 +62,7 @@ tree_is_shallow id Nothing = omega arith
 tree_is_shallow id Memory = omega arith
 tree_is_shallow id Full = omega arith
 tree_is_shallow id NothingToUndo = omega arith
+tree_is_shallow id NothingToRedo = omega arith
 tree_is_shallow id NoSuch = omega arith
 tree_is_shallow id NotYours = omega arith
 tree_is_shallow id NotStanding = omega arith

@@ -147,9 +147,11 @@ asked d (bodies.Change (requests.Do (actions.Merge name other))) (word, named, h
     word_read d words.Merge word ∙ ap doing (two {C = Action Global} (λ x y. actions.Merge x y) (el_at d) (name_at With d) name other (el_read d name named) (name_read d With other has))
 asked d (bodies.Change (requests.Undo seq)) (word, has) =
     word_read d words.Undo word ∙ ap (λ r. r >>= λ seq. Ok (bodies.Change (requests.Undo seq))) (seq_read d seq has)
+asked d (bodies.Change requests.Redo) word = word_read d words.Redo word
 asked d (bodies.Get name) (word, named) =
     word_read d words.Get word ∙ ap (λ r. r >>= λ name. Ok (bodies.Get name)) (el_read d name named)
 asked d bodies.Map word = word_read d words.Map word
+asked d bodies.Undos word = word_read d words.Undos word
 
 pub message_spelled : (text : List ℕ) (d : Data) (message : Incoming) → read text ≡ Some d → IsMessage d message → spells text ≡ Ok message
 message_spelled text d message tree (id, asks) =

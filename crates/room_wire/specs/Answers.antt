@@ -7,7 +7,7 @@ use Rattle.room_history.specs.declared.reply.Reply.TheVariants as replies
 use Rattle.room_wire.specs.declared.bad.Fault.{Fault}
 use Rattle.room_wire.specs.declared.bad.Fault.TheVariants as faults
 use Rattle.room_wire.specs.declared.answer.Answer.{Answer}
-use Rattle.room_wire.specs.declared.answer.Answer.TheVariants.{Done, Undid, Absent, Present, WrongKind, Same, OutOfRange, TooFew, TooMany, InUse, TagConflict, BadPosition, NotEndToEnd, Nothing, Repeat, NotLast, BadField, Memory, Full, NothingToUndo, NoSuch, NotYours, NotStanding, NotJson, NotObject, BadId, UnknownDo}
+use Rattle.room_wire.specs.declared.answer.Answer.TheVariants.{Done, Undid, Redid, Absent, Present, WrongKind, Same, OutOfRange, TooFew, TooMany, InUse, TagConflict, BadPosition, NotEndToEnd, Nothing, Repeat, Conflict, BadField, Memory, Full, NothingToUndo, NothingToRedo, NoSuch, NotYours, NotStanding, NotJson, NotObject, BadId, UnknownDo}
 
 -- a reference to a value, wherever that stands
 abbrev pub to_value : {X : Type 0} → X → Bor X
@@ -31,13 +31,15 @@ refusal_answer refusals.Memory = Memory
 abbrev pub reply_answer : {A : Type 0} → Reply A → Answer
 reply_answer (replies.Done seq) = Done seq
 reply_answer (replies.Undid seq of) = Undid seq of
+reply_answer (replies.Redid seq of) = Redid seq of
 reply_answer (replies.Repeat seq) = Repeat seq
 reply_answer replies.Full = Full
 reply_answer replies.NothingToUndo = NothingToUndo
+reply_answer replies.NothingToRedo = NothingToRedo
 reply_answer replies.NoSuch = NoSuch
 reply_answer replies.NotYours = NotYours
 reply_answer replies.NotStanding = NotStanding
-reply_answer (replies.NotLast blocker) = NotLast blocker
+reply_answer (replies.Conflict blocker shared) = Conflict blocker shared
 reply_answer (replies.Refused refusal) = refusal_answer refusal
 reply_answer replies.Memory = Memory
 

@@ -8,16 +8,17 @@ use Rattle.osm_elements.specs.declared.element.Element.TheVariants.{Node, Way, R
 use Rattle.osm_elements.specs.NameTexts.{named}
 use Rattle.edit_actions.specs.declared.action.Action.TheVariants as actions
 use Rattle.edit_actions.specs.declared.action.Action.TheVariants.{Create, Delete}
-use Rattle.room_history.specs.declared.call.Request.TheVariants.{Do, Undo}
+use Rattle.room_history.specs.declared.call.Request.TheVariants.{Do, Undo, Redo}
 use Rattle.room_wire.specs.declared.field.Field.TheVariants.{El, Els, Lat, Nodes, Members, Tags, Dlat, Dlon, At, Into, With, Seq}
 use Rattle.room_wire.specs.declared.bad.Bad.{Bad}
 use Rattle.room_wire.specs.declared.bad.Fault.{Fault}
 use Rattle.room_wire.specs.declared.bad.Fault.TheVariants.{NotJson, NotObject, BadId, UnknownDo, BadField}
 use Rattle.room_wire.specs.declared.incoming.Incoming.{Incoming}
 use Rattle.room_wire.specs.declared.incoming.Body.{Body}
-use Rattle.room_wire.specs.declared.incoming.Body.TheVariants.{Change, Get, Map}
+use Rattle.room_wire.specs.declared.incoming.Body.TheVariants.{Change, Get, Map, Undos}
 use Rattle.room_wire.specs.declared.answer.Answer.TheVariants as answers
 use Rattle.serde_json.specs.Written.{compact_text}
+use Rattle.room_wire.specs.Answers.{to_value}
 use Rattle.room_wire.specs.Spelling.{spells}
 use Rattle.room_wire.specs.Trees.{tree_of, element_tree, rows_tree}
 
@@ -68,6 +69,8 @@ reads_messages =
     × (spells (codes "{\"id\":2,\"do\":\"merge\",\"el\":\"n7\",\"with\":\"n-1\"}") ≡ asks 2 (Change (Do (actions.Merge n7 n-1))))
     × (spells (codes "{\"id\":4,\"do\":\"undo\",\"seq\":9}") ≡ asks 4 (Change (Undo (Some 9))))
     × (spells (codes "{\"id\":5,\"do\":\"undo\"}") ≡ asks 5 (Change (Undo None)))
+    × (spells (codes "{\"seq\":null,\"do\":\"redo\",\"id\":5}") ≡ asks 5 (Change Redo))
+    × (spells (codes "{\"do\":\"undos\",\"seq\":9,\"id\":6}") ≡ asks 6 Undos)
     × (spells (codes "{\"id\":6,\"do\":\"get\",\"el\":\"n7\"}") ≡ asks 6 (Get n7))
     × (spells (codes "{\"id\":9007199254740991,\"do\":\"map\"}") ≡ asks 9007199254740991 Map)
 
@@ -125,6 +128,9 @@ unfoldable pub writes_replies : Type 0
 writes_replies =
     (compact_text (tree_of 1 (answers.Done 1)) ≡ codes "{\"id\":1,\"ok\":{\"seq\":1}}")
     × (compact_text (tree_of 2 (answers.Undid 3 2)) ≡ codes "{\"id\":2,\"ok\":{\"seq\":3,\"undid\":2}}")
+    × (compact_text (tree_of 2 (answers.Redid 4 1)) ≡ codes "{\"id\":2,\"ok\":{\"redid\":1,\"seq\":4}}")
+    × (compact_text (tree_of 3 (answers.Undos (to_value (2 ∷ 5 ∷ [])) (to_value (4 ∷ [])))) ≡ codes "{\"id\":3,\"ok\":{\"redo\":[4],\"undos\":[2,5]}}")
+    × (compact_text (tree_of 3 (answers.Undos (to_value []) (to_value []))) ≡ codes "{\"id\":3,\"ok\":{\"redo\":[],\"undos\":[]}}")
     × (compact_text (tree_of 1 (answers.InUse n-1 w1)) ≡ codes "{\"id\":1,\"no\":{\"by\":\"w1\",\"el\":\"n-1\",\"why\":\"in_use\"}}")
     × (compact_text (tree_of 1 (answers.Same n-1)) ≡ codes "{\"id\":1,\"no\":{\"el\":\"n-1\",\"why\":\"same\"}}")
     × (compact_text (tree_of 1 (answers.OutOfRange n-1)) ≡ codes "{\"id\":1,\"no\":{\"el\":\"n-1\",\"why\":\"out_of_range\"}}")
@@ -132,7 +138,8 @@ writes_replies =
     × (compact_text (tree_of 1 answers.NotEndToEnd) ≡ codes "{\"id\":1,\"no\":{\"why\":\"not_end_to_end\"}}")
     × (compact_text (tree_of 1 answers.Nothing) ≡ codes "{\"id\":1,\"no\":{\"why\":\"nothing\"}}")
     × (compact_text (tree_of 1 (answers.Repeat 1)) ≡ codes "{\"id\":1,\"no\":{\"seq\":1,\"why\":\"repeat\"}}")
-    × (compact_text (tree_of 2 (answers.NotLast 2)) ≡ codes "{\"id\":2,\"no\":{\"why\":\"not_last\",\"with\":2}}")
+    × (compact_text (tree_of 2 (answers.Conflict 2 n-1)) ≡ codes "{\"id\":2,\"no\":{\"at\":\"n-1\",\"why\":\"conflict\",\"with\":2}}")
+    × (compact_text (tree_of 2 answers.NothingToRedo) ≡ codes "{\"id\":2,\"no\":{\"why\":\"nothing_to_redo\"}}")
     × (compact_text (tree_of 3 (answers.BadField El)) ≡ codes "{\"id\":3,\"no\":{\"field\":\"el\",\"why\":\"bad_field\"}}")
     × (compact_text (tree_of 0 answers.BadLine) ≡ codes "{\"id\":0,\"no\":{\"why\":\"bad_line\"}}")
 

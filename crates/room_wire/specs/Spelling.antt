@@ -30,7 +30,7 @@ use Rattle.room_wire.specs.declared.bad.Fault.TheVariants.{NotJson, NotObject, B
 use Rattle.room_wire.specs.declared.bad.Bad.{Bad}
 use Rattle.room_wire.specs.declared.incoming.Incoming.{Incoming}
 use Rattle.room_wire.specs.declared.incoming.Body.{Body}
-use Rattle.room_wire.specs.declared.incoming.Body.TheVariants.{Change, Get, Map}
+use Rattle.room_wire.specs.declared.incoming.Body.TheVariants.{Change, Get, Map, Undos}
 use Rattle.room_wire.specs.Fields.{field_text}
 use Rattle.room_wire.specs.Reading.{◌>>=◌, or_fault}
 
@@ -218,9 +218,11 @@ action_by word d =
 abbrev pub body_by : List ℕ → Data → Result Body Fault
 body_by word d =
     if bytes_eq word (codes "undo") then (seq_at d >>= λ seq. Ok (Change (requests.Undo seq)))
+    else (if bytes_eq word (codes "redo") then Ok (Change requests.Redo)
+    else (if bytes_eq word (codes "undos") then Ok Undos
     else (if bytes_eq word (codes "get") then (el_at d >>= λ name. Ok (Get name))
     else (if bytes_eq word (codes "map") then Ok Map
-    else (action_by word d >>= λ action. Ok (Change (requests.Do action)))))
+    else (action_by word d >>= λ action. Ok (Change (requests.Do action)))))))
 
 -- the word of a message
 abbrev pub word_at : Data → Result (List ℕ) Fault

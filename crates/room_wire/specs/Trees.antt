@@ -10,7 +10,7 @@ use Rattle.osm_elements.specs.declared.element.Element.TheVariants as elements
 use Rattle.osm_elements.specs.NameTexts.{name_text}
 use Rattle.osm_elements.specs.TagRows.{Pairs}
 use Rattle.room_wire.specs.declared.answer.Answer.{Answer}
-use Rattle.room_wire.specs.declared.answer.Answer.TheVariants.{Done, Undid, Is, Map, Absent, Present, WrongKind, Same, OutOfRange, TooFew, TooMany, InUse, TagConflict, BadPosition, NotEndToEnd, Nothing, Repeat, NotLast, BadField, Memory, Full, NothingToUndo, NoSuch, NotYours, NotStanding, NotJson, NotObject, BadId, UnknownDo, BadLine}
+use Rattle.room_wire.specs.declared.answer.Answer.TheVariants.{Done, Undid, Redid, Is, Map, Undos, Absent, Present, WrongKind, Same, OutOfRange, TooFew, TooMany, InUse, TagConflict, BadPosition, NotEndToEnd, Nothing, Repeat, Conflict, BadField, Memory, Full, NothingToUndo, NothingToRedo, NoSuch, NotYours, NotStanding, NotJson, NotObject, BadId, UnknownDo, BadLine}
 use Rattle.room_wire.specs.Fields.{field_text}
 
 abbrev pub whole : ℕ → Data
@@ -55,6 +55,10 @@ element_tree name (elements.Relation members tags) =
 abbrev pub rows_tree : {A : Type 0} → List (Name × Element A) → Data
 rows_tree rows = array (items_of (map (λ r. element_tree r.0 r.1) rows))
 
+-- the numbers of entries
+abbrev pub numbers_tree : List ℕ → Data
+numbers_tree numbers = array (items_of (map whole numbers))
+
 -- the reply to a message that was answered, and to one that was refused
 abbrev pub ok_tree : ℕ → Data → Data
 ok_tree id d = object (member (codes "id") (whole id) (member (codes "ok") d no_members))
@@ -73,8 +77,10 @@ about id name why = no_tree id (object (member (codes "el") (name_tree name) (me
 abbrev pub tree_of : ℕ → Answer → Data
 tree_of id (Done seq) = ok_tree id (object (member (codes "seq") (whole seq) no_members))
 tree_of id (Undid seq of) = ok_tree id (object (member (codes "seq") (whole seq) (member (codes "undid") (whole of) no_members)))
+tree_of id (Redid seq of) = ok_tree id (object (member (codes "redid") (whole of) (member (codes "seq") (whole seq) no_members)))
 tree_of id (Is name element) = ok_tree id (object (member (codes "is") (element_tree name element.now) no_members))
 tree_of id (Map rows front) = ok_tree id (object (member (codes "map") (rows_tree rows.now) (member (codes "seq") (whole front) no_members)))
+tree_of id (Undos undos redos) = ok_tree id (object (member (codes "redo") (numbers_tree redos.now) (member (codes "undos") (numbers_tree undos.now) no_members)))
 tree_of id (Absent name) = about id name (codes "absent")
 tree_of id (Present name) = about id name (codes "present")
 tree_of id (WrongKind name) = about id name (codes "wrong_kind")
@@ -85,7 +91,8 @@ tree_of id (TooMany name) = about id name (codes "too_many")
 tree_of id (InUse name user) = no_tree id (object (member (codes "by") (name_tree user) (member (codes "el") (name_tree name) (member (codes "why") (string (codes "in_use")) no_members))))
 tree_of id (TagConflict key) = no_tree id (object (member (codes "key") (string key.now) (member (codes "why") (string (codes "tag_conflict")) no_members)))
 tree_of id (Repeat seq) = no_tree id (object (member (codes "seq") (whole seq) (member (codes "why") (string (codes "repeat")) no_members)))
-tree_of id (NotLast blocker) = no_tree id (object (member (codes "why") (string (codes "not_last")) (member (codes "with") (whole blocker) no_members)))
+tree_of id (Conflict blocker shared) =
+    no_tree id (object (member (codes "at") (name_tree shared) (member (codes "why") (string (codes "conflict")) (member (codes "with") (whole blocker) no_members))))
 tree_of id (BadField field) = no_tree id (object (member (codes "field") (string (field_text field)) (member (codes "why") (string (codes "bad_field")) no_members)))
 tree_of id BadPosition = bare id (codes "bad_position")
 tree_of id NotEndToEnd = bare id (codes "not_end_to_end")
@@ -93,6 +100,7 @@ tree_of id Nothing = bare id (codes "nothing")
 tree_of id Memory = bare id (codes "memory")
 tree_of id Full = bare id (codes "full")
 tree_of id NothingToUndo = bare id (codes "nothing_to_undo")
+tree_of id NothingToRedo = bare id (codes "nothing_to_redo")
 tree_of id NoSuch = bare id (codes "no_such")
 tree_of id NotYours = bare id (codes "not_yours")
 tree_of id NotStanding = bare id (codes "not_standing")

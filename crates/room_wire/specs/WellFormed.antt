@@ -118,8 +118,10 @@ Asks d (bodies.Change (requests.Do (actions.Split name place into))) = HasWord d
 Asks d (bodies.Change (requests.Do (actions.Join name other))) = HasWord d words.Join × HasName d name × HasNameAt d With other
 Asks d (bodies.Change (requests.Do (actions.Merge name other))) = HasWord d words.Merge × HasName d name × HasNameAt d With other
 Asks d (bodies.Change (requests.Undo seq)) = HasWord d words.Undo × HasSeq d seq
+Asks d (bodies.Change requests.Redo) = HasWord d words.Redo
 Asks d (bodies.Get name) = HasWord d words.Get × HasName d name
 Asks d bodies.Map = HasWord d words.Map
+Asks d bodies.Undos = HasWord d words.Undos
 
 -- the tree has the members of this message, in whatever order it had them, and whatever else it has
 abbrev pub IsMessage : Data → Incoming → Type 0
@@ -157,6 +159,8 @@ slots words.Split d = slot El (el_at d) ∷ slot At (place_at d) ∷ slot Into (
 slots words.Join d = slot El (el_at d) ∷ slot With (name_at With d) ∷ []
 slots words.Merge d = slot El (el_at d) ∷ slot With (name_at With d) ∷ []
 slots words.Undo d = slot Seq (seq_at d) ∷ []
+slots words.Redo d = []
+slots words.Undos d = []
 slots words.Get d = slot El (el_at d) ∷ []
 slots words.Map d = []
 

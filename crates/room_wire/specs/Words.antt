@@ -14,6 +14,8 @@ pub data Word : Type 0 where
   Join : Word
   Merge : Word
   Undo : Word
+  Redo : Word
+  Undos : Word
   Get : Word
   Map : Word
 
@@ -30,5 +32,7 @@ word_text Split = codes "split"
 word_text Join = codes "join"
 word_text Merge = codes "merge"
 word_text Undo = codes "undo"
+word_text Redo = codes "redo"
+word_text Undos = codes "undos"
 word_text Get = codes "get"
 word_text Map = codes "map"

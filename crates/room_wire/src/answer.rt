@@ -26,6 +26,13 @@ pub enum Answer<'a> {
         /// The number of the entry that was undone.
         of: u64,
     },
+    /// The action of an entry was done again.
+    Redid {
+        /// The number of the new entry.
+        seq: u64,
+        /// The number of the entry whose action was done again.
+        of: u64,
+    },
     /// The element that was asked for.
     Is {
         /// Its name.
@@ -39,6 +46,13 @@ pub enum Answer<'a> {
         rows: &'a Rows<Global>,
         /// The number of the last entry, or 0.
         front: u64,
+    },
+    /// What the author may undo and redo.
+    Undos {
+        /// The numbers of its entries that stand, rising.
+        undos: &'a [u64],
+        /// The numbers of the entries that it can redo, bottom first.
+        redos: &'a [u64],
     },
     /// The map has no element of this name.
     Absent(Name),
@@ -74,10 +88,12 @@ pub enum Answer<'a> {
         /// The number of that entry.
         seq: u64,
     },
-    /// A later entry stands.
-    NotLast {
-        /// The number of the first later entry that stands.
+    /// A later entry stands that touched what the entry of the number did.
+    Conflict {
+        /// The number of the first later entry that stands and whose footprint meets that of the entry.
         blocker: u64,
+        /// The least name that both footprints have.
+        shared: Name,
     },
     /// A field of the message is missing or not of its form.
     BadField(Field),
@@ -87,6 +103,8 @@ pub enum Answer<'a> {
     Full,
     /// No entry of the author's stands.
     NothingToUndo,
+    /// The author has nothing to redo.
+    NothingToRedo,
     /// No entry has the number.
     NoSuch,
     /// The entry of the number is another author's.
@@ -143,13 +161,18 @@ impl<'a> From<&'a Reply<Global>> for Answer<'a> {
         match reply {
             Reply::Done { seq } => Answer::Done { seq: *seq },
             Reply::Undid { seq, of } => Answer::Undid { seq: *seq, of: *of },
+            Reply::Redid { seq, of } => Answer::Redid { seq: *seq, of: *of },
             Reply::Repeat { seq } => Answer::Repeat { seq: *seq },
             Reply::Full => Answer::Full,
             Reply::NothingToUndo => Answer::NothingToUndo,
+            Reply::NothingToRedo => Answer::NothingToRedo,
             Reply::NoSuch => Answer::NoSuch,
             Reply::NotYours => Answer::NotYours,
             Reply::NotStanding => Answer::NotStanding,
-            Reply::NotLast { blocker } => Answer::NotLast { blocker: *blocker },
+            Reply::Conflict { blocker, shared } => Answer::Conflict {
+                blocker: *blocker,
+                shared: *shared,
+            },
             Reply::Refused(refusal) => Answer::from(refusal),
             Reply::Memory => Answer::Memory,
         }

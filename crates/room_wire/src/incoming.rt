@@ -12,6 +12,8 @@ pub enum Body {
     Get(Name),
     /// The whole map.
     Map,
+    /// What the sender may undo and redo.
+    Undos,
 }
 
 /// A message to a room.

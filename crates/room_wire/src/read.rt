@@ -38,7 +38,7 @@ use std::alloc::Global;
 /// | `split` | `el`, `at`, `into` |
 /// | `join`, `merge` | `el`, `with` |
 /// | `undo` | `seq`, which may be missing |
-/// | `map` | none |
+/// | `redo`, `undos`, `map` | none |
 ///
 /// The first field that is missing or not of its form is told (`BadField`). `el`, `into` and `with` are each
 /// the name of an element, and `els` is an array of such names, which may be empty. `at` is a whole number in
@@ -104,6 +104,8 @@ fn body_by(alloc: Global, word: &str, message: &Value) -> Result<Body, Fault>
 {
     match word {
         "undo" => Ok(Body::Change(Request::Undo(seq_of(message)?))),
+        "redo" => Ok(Body::Change(Request::Redo)),
+        "undos" => Ok(Body::Undos),
         "get" => Ok(Body::Get(el_of(message)?)),
         "map" => Ok(Body::Map),
         _ => Ok(Body::Change(Request::Do(action_by(alloc, word, message)?))),

@@ -3,7 +3,7 @@ ghost use Rattle.std.specs.Prelude.{◌≡◌, Some, IfOk};
 ghost use Rattle.serde_json.specs.Read.{read};
 ghost use Rattle.serde_json.specs.View.{view};
 ghost use Rattle.serde_json.specs.Written.{compact_text};
-ghost use Rattle.room_wire.specs.Trees.{tree_of, ok_tree, no_tree, bare, about};
+ghost use Rattle.room_wire.specs.Trees.{tree_of, numbers_tree, ok_tree, no_tree, bare, about};
 
 use crate::answer::Answer;
 use crate::element::{element_tree, name_tree, rows_tree};
@@ -27,8 +27,10 @@ use std::alloc::Global;
 /// |---|---|
 /// | `Done` | `{"seq":SEQ}` |
 /// | `Undid` | `{"seq":SEQ,"undid":OF}` |
+/// | `Redid` | `{"redid":OF,"seq":SEQ}` |
 /// | `Is` | `{"is":ELEMENT}` |
 /// | `Map` | `{"map":[ELEMENT,..],"seq":FRONT}`, in the order of the rows |
+/// | `Undos` | `{"redo":[REDO,..],"undos":[UNDO,..]}`, each in its order |
 ///
 /// | Answer | N |
 /// |---|---|
@@ -36,7 +38,7 @@ use std::alloc::Global;
 /// | `InUse` | `{"by":USER,"el":NAME,"why":"in_use"}` |
 /// | `TagConflict` | `{"key":KEY,"why":"tag_conflict"}` |
 /// | `Repeat` | `{"seq":SEQ,"why":"repeat"}` |
-/// | `NotLast` | `{"why":"not_last","with":BLOCKER}` |
+/// | `Conflict` | `{"at":SHARED,"why":"conflict","with":BLOCKER}` |
 /// | `BadField` | `{"field":FIELD,"why":"bad_field"}` |
 /// | every other | `{"why":WHY}` |
 ///
@@ -64,8 +66,10 @@ fn reply_tree(alloc: Global, id: u64, answer: &Answer<'_>) -> Result<Value, Memo
     match *answer {
         Answer::Done { seq } => done(alloc, id, seq),
         Answer::Undid { seq, of } => undid(alloc, id, seq, of),
+        Answer::Redid { seq, of } => redid(alloc, id, seq, of),
         Answer::Is { name, element } => is(alloc, id, name, element),
         Answer::Map { rows, front } => whole_map(alloc, id, rows, front),
+        Answer::Undos { undos, redos } => both_lists(alloc, id, undos, redos),
         Answer::Absent(name) => about(alloc, id, name, "absent"),
         Answer::Present(name) => about(alloc, id, name, "present"),
         Answer::WrongKind(name) => about(alloc, id, name, "wrong_kind"),
@@ -76,7 +80,7 @@ fn reply_tree(alloc: Global, id: u64, answer: &Answer<'_>) -> Result<Value, Memo
         Answer::InUse { name, user } => in_use(alloc, id, name, user),
         Answer::TagConflict(key) => tag_conflict(alloc, id, key),
         Answer::Repeat { seq } => repeat(alloc, id, seq),
-        Answer::NotLast { blocker } => not_last(alloc, id, blocker),
+        Answer::Conflict { blocker, shared } => conflict(alloc, id, blocker, shared),
         Answer::BadField(field) => bad_field(alloc, id, field),
         Answer::BadPosition => bare(alloc, id, "bad_position"),
         Answer::NotEndToEnd => bare(alloc, id, "not_end_to_end"),
@@ -84,6 +88,7 @@ fn reply_tree(alloc: Global, id: u64, answer: &Answer<'_>) -> Result<Value, Memo
         Answer::Memory => bare(alloc, id, "memory"),
         Answer::Full => bare(alloc, id, "full"),
         Answer::NothingToUndo => bare(alloc, id, "nothing_to_undo"),
+        Answer::NothingToRedo => bare(alloc, id, "nothing_to_redo"),
         Answer::NoSuch => bare(alloc, id, "no_such"),
         Answer::NotYours => bare(alloc, id, "not_yours"),
         Answer::NotStanding => bare(alloc, id, "not_standing"),
@@ -93,6 +98,17 @@ fn reply_tree(alloc: Global, id: u64, answer: &Answer<'_>) -> Result<Value, Memo
         Answer::UnknownDo => bare(alloc, id, "unknown_do"),
         Answer::BadLine => bare(alloc, id, "bad_line"),
     }
+}
+
+// The numbers of entries.
+fn numbers_tree(alloc: Global, numbers: &[u64]) -> Result<Value, Memory>
+    ensures { IfOk result (λ v. view v ≡ numbers_tree numbers.now) }
+{
+    let mut items = Vec::new(alloc);
+    for number in numbers {
+        items.push(Value::from(*number))?;
+    }
+    Ok(Value::Array(items))
 }
 
 // The reply to a message that was answered.
@@ -121,6 +137,12 @@ fn undid(alloc: Global, id: u64, seq: u64, of: u64) -> Result<Value, Memory>
     answered(alloc, id, json!(in alloc; {"seq": seq, "undid": of})?)
 }
 
+fn redid(alloc: Global, id: u64, seq: u64, of: u64) -> Result<Value, Memory>
+    ensures { IfOk result (λ v. view v ≡ tree_of id (Answer.Redid seq of)) }
+{
+    answered(alloc, id, json!(in alloc; {"redid": of, "seq": seq})?)
+}
+
 fn is(alloc: Global, id: u64, name: Name, element: &Element<Global>) -> Result<Value, Memory>
     ensures { IfOk result (λ v. view v ≡ tree_of id (Answer.Is name element.entry)) }
 {
@@ -133,6 +155,14 @@ fn whole_map(alloc: Global, id: u64, rows: &Rows<Global>, front: u64) -> Result<
 {
     let rows = rows_tree(alloc, rows)?;
     answered(alloc, id, json!(in alloc; {"map": rows, "seq": front})?)
+}
+
+fn both_lists(alloc: Global, id: u64, undos: &[u64], redos: &[u64]) -> Result<Value, Memory>
+    ensures { IfOk result (λ v. view v ≡ tree_of id (Answer.Undos undos.entry redos.entry)) }
+{
+    let redos = numbers_tree(alloc, redos)?;
+    let undos = numbers_tree(alloc, undos)?;
+    answered(alloc, id, json!(in alloc; {"redo": redos, "undos": undos})?)
 }
 
 fn in_use(alloc: Global, id: u64, name: Name, user: Name) -> Result<Value, Memory>
@@ -164,13 +194,14 @@ fn repeat(alloc: Global, id: u64, seq: u64) -> Result<Value, Memory>
     refused(alloc, id, json!(in alloc; {"seq": seq, "why": "repeat"})?)
 }
 
-fn not_last(alloc: Global, id: u64, blocker: u64) -> Result<Value, Memory>
-    ensures { IfOk result (λ v. view v ≡ tree_of id (Answer.NotLast blocker)) }
+fn conflict(alloc: Global, id: u64, blocker: u64, shared: Name) -> Result<Value, Memory>
+    ensures { IfOk result (λ v. view v ≡ tree_of id (Answer.Conflict blocker shared)) }
 {
+    let shared = name_tree(alloc, shared)?;
     refused(
         alloc,
         id,
-        json!(in alloc; {"why": "not_last", "with": blocker})?,
+        json!(in alloc; {"at": shared, "why": "conflict", "with": blocker})?,
     )
 }
 

@@ -45,7 +45,8 @@ fn tells_unknown_words(rt: HostRuntime) -> Result<(), Fail> {
         r#"{"id":1,"do":""}"#,
         r#"{"id":1,"do":null}"#,
         r#"{"id":1,"do":["map"]}"#,
-        r#"{"id":1,"do":"map","do":"redo"}"#,
+        r#"{"id":1,"do":"undoes"}"#,
+        r#"{"id":1,"do":"map","do":"redoes"}"#,
         r#"{"id":1,"do":"node","el":"w1","nodes":[]}"#,
         r#"{"id":1,"do":"RETAG","el":"w1","tags":{}}"#,
     ] {
@@ -69,6 +70,8 @@ fn a_cut_message_is_not_json(rt: HostRuntime) -> Result<(), Fail> {
         r#"{"id":2,"do":"get","el":"n-1"}"#,
         r#"{"id":1,"do":"delete","el":"n1"}"#,
         r#"{"id":1,"do":"undo","seq":9}"#,
+        r#"{"id":1,"do":"redo"}"#,
+        r#"{"id":1,"do":"undos"}"#,
         r#"{"id":1,"do":"map"}"#,
     ] {
         for (end, _) in text.char_indices() {

@@ -33,11 +33,15 @@ fn is_written(
 fn writes_replies(rt: HostRuntime) -> Result<(), Fail> {
     let name = Name::new(Kind::Node, -1).ok_or("a name")?;
     let user = Name::new(Kind::Way, 1).ok_or("a name")?;
-    let rows: [(Reply<Global>, &str); 11] = [
+    let rows: [(Reply<Global>, &str); 13] = [
         (Reply::Done { seq: 7 }, r#""ok":{"seq":7}"#),
         (
             Reply::Undid { seq: 9, of: 8 },
             r#""ok":{"seq":9,"undid":8}"#,
+        ),
+        (
+            Reply::Redid { seq: 10, of: 8 },
+            r#""ok":{"redid":8,"seq":10}"#,
         ),
         (
             Reply::Refused(Refusal::InUse(name, user)),
@@ -45,12 +49,16 @@ fn writes_replies(rt: HostRuntime) -> Result<(), Fail> {
         ),
         (Reply::Repeat { seq: 1 }, r#""no":{"seq":1,"why":"repeat"}"#),
         (
-            Reply::NotLast { blocker: 2 },
-            r#""no":{"why":"not_last","with":2}"#,
+            Reply::Conflict {
+                blocker: 2,
+                shared: name,
+            },
+            r#""no":{"at":"n-1","why":"conflict","with":2}"#,
         ),
         (Reply::Memory, r#""no":{"why":"memory"}"#),
         (Reply::Full, r#""no":{"why":"full"}"#),
         (Reply::NothingToUndo, r#""no":{"why":"nothing_to_undo"}"#),
+        (Reply::NothingToRedo, r#""no":{"why":"nothing_to_redo"}"#),
         (Reply::NoSuch, r#""no":{"why":"no_such"}"#),
         (Reply::NotYours, r#""no":{"why":"not_yours"}"#),
         (Reply::NotStanding, r#""no":{"why":"not_standing"}"#),
@@ -139,6 +147,26 @@ fn writes_faults(rt: HostRuntime) -> Result<(), Fail> {
     ];
     for (answer, outcome) in &rows {
         is_written(&rt, rt.alloc(), answer, outcome)?;
+    }
+    Ok(())
+}
+
+// What an author may undo and redo, each list with as many numbers as it has.
+const LISTS: [(&[u64], &[u64], &str); 3] = [
+    (&[], &[], r#""ok":{"redo":[],"undos":[]}"#),
+    (
+        &[2, 18_446_744_073_709_551_615],
+        &[9, 4, 7],
+        r#""ok":{"redo":[9,4,7],"undos":[2,18446744073709551615]}"#,
+    ),
+    (&[1], &[], r#""ok":{"redo":[],"undos":[1]}"#),
+];
+
+#[test]
+fn writes_what_may_be_undone(rt: HostRuntime) -> Result<(), Fail> {
+    for (undos, redos, outcome) in LISTS {
+        let answer = Answer::Undos { undos, redos };
+        is_written(&rt, rt.alloc(), &answer, outcome)?;
     }
     Ok(())
 }

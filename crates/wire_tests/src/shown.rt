@@ -43,8 +43,10 @@ pub fn shown(alloc: Global, text: &str) -> Result<String, AllocError> {
         Body::Change(Request::Do(action)) => shown_action(alloc, id, action),
         Body::Change(Request::Undo(Some(seq))) => told(alloc, "undo", id, &Answer::Done { seq }),
         Body::Change(Request::Undo(None)) => told(alloc, "undo", id, &Answer::NothingToUndo),
+        Body::Change(Request::Redo) => told(alloc, "redo", id, &Answer::NothingToRedo),
         Body::Get(name) => told(alloc, "get", id, &Answer::Absent(name)),
         Body::Map => told(alloc, "map", id, &Answer::Full),
+        Body::Undos => told(alloc, "undos", id, &Answer::Nothing),
     }
 }
 

@@ -134,6 +134,18 @@ fn reads_what_is_no_action(rt: HostRuntime) -> Result<(), Fail> {
             r#"undo {"id":9,"no":{"why":"nothing_to_undo"}}"#,
         ),
         (
+            r#"{"id":9,"do":"redo"}"#,
+            r#"redo {"id":9,"no":{"why":"nothing_to_redo"}}"#,
+        ),
+        (
+            r#"{"seq":0,"el":1,"do":"redo","id":10}"#,
+            r#"redo {"id":10,"no":{"why":"nothing_to_redo"}}"#,
+        ),
+        (
+            r#"{"id":10,"do":"undos","seq":0,"el":1}"#,
+            r#"undos {"id":10,"no":{"why":"nothing"}}"#,
+        ),
+        (
             r#"{"id":9007199254740991,"do":"map"}"#,
             r#"map {"id":9007199254740991,"no":{"why":"full"}}"#,
         ),

@@ -2,17 +2,18 @@
 use Rattle.std.specs.Prelude.{ℕ, List}
 use Rattle.room_stacks.specs.declared.author.Author.{Author}
 use Rattle.room_stacks.specs.declared.deed.Deed.{Deed}
-use Rattle.room_stacks.specs.declared.deed.Deed.TheVariants.{Did, Undid}
+use Rattle.room_stacks.specs.declared.deed.Deed.TheVariants.{Did, Undid, Redid}
 use Rattle.room_stacks.specs.Numbered.{deeds_from}
 use Rattle.room_history.specs.declared.entry.Entry.{Entry}
 use Rattle.room_history.specs.declared.entry.EntryKind.{EntryKind}
-use Rattle.room_history.specs.declared.entry.EntryKind.TheVariants.{Do, Undo}
+use Rattle.room_history.specs.declared.entry.EntryKind.TheVariants.{Do, Undo, Redo}
 
 module _ {A : Type 0} where
   -- what an author did under an id, by the entry of a number
   abbrev pub deed_by : ℕ → Author → ℕ → EntryKind A → Deed
   deed_by seq author id (Do a) = Did author id seq
   deed_by seq author id (Undo s) = Undid author id s seq
+  deed_by seq author id (Redo t) = Redid author id t seq
 
   abbrev pub deed : ℕ → Entry A → Deed
   deed seq e = deed_by seq e.author e.id e.kind

@@ -6,25 +6,28 @@ use Rattle.osm_elements.specs.Maps.{Rows}
 use Rattle.room_stacks.specs.declared.author.Author.{Author}
 use Rattle.room_stacks.specs.declared.deed.Deed.{Deed}
 use Rattle.room_history.specs.declared.entry.Entry.{Entry}
+use Rattle.edit_footprint.specs.Holding.{Held}
 use Rattle.room_history.specs.Applied.{applied}
-use Rattle.room_history.specs.Journals.{standing}
+use Rattle.room_history.specs.Blockers.{held}
 use Rattle.room_history.specs.Replays.{Recorded, past, mapof}
 use Rattle.room_history.specs.Answers.{spent}
 use Rattle.room_history.specs.LegalJournals.{IsJournal}
 use Rattle.room_history.specs.Inner.Deeds.{deeds}
+use Rattle.room_history.specs.Inner.Origins.{origins}
 
 module _ {A : Type 0} where
   -- what each entry changed
   abbrev pub recorded_changes : Rows A → List (Entry A) → List (List (Change A))
   recorded_changes base j = map (λ (r : Recorded A). r.changes) (past base j).entries
 
-  -- the journal is one that calls lead to; the store, the recorded changes, the numbers that stand and the deeds are those of its entries; for now the base is the empty map
-  pub record IsRoom (store : StoreState A) (recorded : List (List (Change A))) (numbers : List ℕ) (done : List Deed) (base : Rows A) (limit : ℕ) (j : List (Entry A)) : Type 0 where
+  -- the journal is one that calls lead to; the store, the recorded changes, where the actions are, the holders of what stands and the deeds are those of its entries; for now the base is the empty map
+  pub record IsRoom (store : StoreState A) (recorded : List (List (Change A))) (firsts : List ℕ) (holders : Held) (done : List Deed) (base : Rows A) (limit : ℕ) (j : List (Entry A)) : Type 0 where
     pub journal : IsJournal base limit j
     pub rows_are : store.rows ≡ mapof base j
     pub count_is : store.applied ≡ applied base j
     pub recorded_are : recorded ≡ recorded_changes base j
-    pub numbers_are : numbers ≡ standing j
+    pub firsts_are : firsts ≡ origins j
+    pub holders_are : holders ≡ held (past base j) j
     pub deeds_are : done ≡ deeds j
     pub empty_base : base ≡ []
 

@@ -1,4 +1,4 @@
-use Rattle.room_history.proofs.Stepping.{applied-append}
+use Rattle.room_history.proofs.Appending.{applied-append}
 use Rattle.room_history.proofs.laws.entries_are_counted.Goals as goal
 
 pub returns : goal.returns

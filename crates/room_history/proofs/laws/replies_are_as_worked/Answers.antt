@@ -1,4 +1,4 @@
-use Rattle.room_history.proofs.ExampleProofs.{first_run_lem, range_ends_lem, limit_one_lem, limit_zero_lem, last_first_lem, refusals_in_turn_lem, relations_in_turn_lem}
+use Rattle.room_history.proofs.ExampleProofs.{first_run_lem, range_ends_lem, limit_one_lem, limit_zero_lem, strangers_lem, in_use_lem, taken_back_way_lem, refusals_in_turn_lem, relations_in_turn_lem, redo_at_once_lem, redo_refused_lem, redo_order_lem, redo_again_lem}
 use Rattle.room_history.proofs.laws.replies_are_as_worked.Goals as goal
 
 pub returns-clause-first_run : goal.returns-clause-first_run
@@ -13,11 +13,29 @@ returns-clause-limit_one c = limit_one_lem
 pub returns-clause-limit_zero : goal.returns-clause-limit_zero
 returns-clause-limit_zero c = limit_zero_lem
 
-pub returns-clause-last_first : goal.returns-clause-last_first
-returns-clause-last_first c = last_first_lem
+pub returns-clause-strangers : goal.returns-clause-strangers
+returns-clause-strangers c = strangers_lem
+
+pub returns-clause-in_use : goal.returns-clause-in_use
+returns-clause-in_use c = in_use_lem
+
+pub returns-clause-taken_back_way : goal.returns-clause-taken_back_way
+returns-clause-taken_back_way c = taken_back_way_lem
 
 pub returns-clause-refusals_in_turn : goal.returns-clause-refusals_in_turn
 returns-clause-refusals_in_turn c = refusals_in_turn_lem
 
 pub returns-clause-relations_in_turn : goal.returns-clause-relations_in_turn
 returns-clause-relations_in_turn c = relations_in_turn_lem
+
+pub returns-clause-redo_at_once : goal.returns-clause-redo_at_once
+returns-clause-redo_at_once c = redo_at_once_lem
+
+pub returns-clause-redo_refused : goal.returns-clause-redo_refused
+returns-clause-redo_refused c = redo_refused_lem
+
+pub returns-clause-redo_order : goal.returns-clause-redo_order
+returns-clause-redo_order c = redo_order_lem
+
+pub returns-clause-redo_again : goal.returns-clause-redo_again
+returns-clause-redo_again c = redo_again_lem

@@ -1,4 +1,4 @@
-use Rattle.room_history.proofs.Asking.{took, got, listed}
+use Rattle.room_history.proofs.Asking.{took, got, listed, gave}
 use Rattle.room_history.proofs.room.Room.ask.Goals as goal
 
 pub returns-in-Take-clause-answer : goal.returns-in-Take-clause-answer
@@ -15,3 +15,8 @@ pub returns-in-Rows-clause-answer : goal.returns-in-Rows-clause-answer
 returns-in-Rows-clause-answer g c =
     let state = c.args.self.now in
     rw c.in-Rows.is (listed state.base state.limit state.journal c.front_and_rows.result c.front_and_rows.ensures)
+
+pub returns-in-Undos-clause-answer : goal.returns-in-Undos-clause-answer
+returns-in-Undos-clause-answer g c =
+    let state = c.args.self.now in
+    rw c.in-Undos.is (gave state.base state.limit state.journal c.in-Undos.author c.undoable_by.result c.undoable_by.ensures)

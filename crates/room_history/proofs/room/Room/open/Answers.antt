@@ -6,6 +6,6 @@ use Rattle.room_history.proofs.room.Room.open.Goals as goal
 
 pub invariant_of-result : goal.invariant_of-result
 invariant_of-result g c =
-    IsRoom-empty c.new-store.result c.new-2.result.items c.new-3.result.items c.new-4.result.deeds c.of.result.value c.args.limit c.new.result.items
-    c.new-store.ensures c.new-2.ensures.items c.new-3.ensures.items (ap (λ (s : StacksState). s.deeds) c.new-4.ensures)
+    IsRoom-empty c.new-store.result c.new-2.result.items c.new-3.result.items c.new-4.result c.new-5.result.deeds c.of.result.value c.args.limit c.new.result.items
+    c.new-store.ensures c.new-2.ensures.items c.new-3.ensures.items c.new-4.ensures (ap (λ (s : StacksState). s.deeds) c.new-5.ensures)
     ((search rules) ∙ c.map.ensures.map ∙ ap (λ (s : StoreState _). s.rows) c.new-store.ensures) c.new.ensures.items

@@ -1,0 +1,163 @@
+-- The entries that stand with their footprints: which of them blocks another, and how they follow a journal that grows.
+use Rattle.std.proofs.Common.{◌≡◌, ◌+◌, ◌<◌, ◌≤◌, ◌++◌, ◌||◌, ℕ, suc, Bool, true, false, not, List, [], ◌∷◌, Option, Some, None, All, length, map, nat_eq, nat_lt, unwrap_or, refl, sym, ap, ◌∙◌, cond, arith}
+use Rattle.std.specs.List.{filter}
+use Rattle.std.specs.Option.{option_map, option_or}
+use Rattle.std.specs.Ordering.{is_eq, nat_cmp}
+use Rattle.std.specs.FinMap.Entries.{find}
+use Rattle.std.specs.declared.cmp.Ordering.TheVariants.{Less, Equal, Greater}
+use Rattle.std.proofs.lemmas.Bool.Decides.{nat_tests}
+use Rattle.std.proofs.lemmas.List.{map-append}
+use Rattle.std.proofs.lemmas.List.Elements.{All-cons}
+use Rattle.osm_elements.specs.declared.name.Name.{Name}
+use Rattle.osm_elements.specs.Maps.{Rows}
+use Rattle.edit_actions.specs.declared.action.Action.{Action}
+use Rattle.edit_footprint.specs.Footprints.{footprint, meets}
+use Rattle.edit_footprint.specs.Holding.{Held, behind, first_meeting, without, IsNext}
+use Rattle.room_history.specs.declared.entry.Entry.{Entry}
+use Rattle.room_history.specs.declared.entry.EntryKind.TheVariants.{Do, Undo, Redo}
+use Rattle.room_history.specs.Blockers.{footprint_of_recorded, recorded_footprint, held, blocker}
+use Rattle.room_history.specs.Journals.{is_work, standing, is_standing}
+use Rattle.room_history.specs.Replays.{Past, past, mapof, recorded_of, recorded_next, action_at}
+use Rattle.room_history.proofs.Appending.{past-append, recorded_each, recorded-last, recorded-redo, standing-work, standing-undo}
+use Rattle.room_history.proofs.Chains.{Work, touched, IsApart}
+use Rattle.room_history.proofs.Growing.{numbered_within, Rise, Rise-standing_from, equal_numbers}
+use Rattle.room_history.proofs.RisingNumbers.{is_in, below_end}
+use Rattle.room_history.proofs.Works.{IsRecorded, AreRecorded}
+
+tied : (a b : ℕ) → is_eq (nat_cmp a b) ≡ nat_eq b a
+tied a b = by (nat_lt a b) refl (nat_eq a b) refl
+  where
+    turned : nat_eq a b ≡ nat_eq b a
+    turned = grind (arith, nat_tests)
+
+    apart : nat_lt a b ≡ true → false ≡ nat_eq b a
+    apart e = grind (arith, nat_tests)
+
+    by : (t : Bool) → nat_lt a b ≡ t → (u : Bool) → nat_eq a b ≡ u → is_eq (cond t Less (cond u Equal Greater)) ≡ nat_eq b a
+    by true e u f = apart e
+    by false e true f = sym f ∙ turned
+    by false e false f = sym f ∙ turned
+
+-- an entry that came last and falls again leaves all as it was
+pub fallen_again : (h : Held) (seq : ℕ) (names : List Name) → IsNext h seq → without (h ++ (seq, names) ∷ []) seq ≡ h
+fallen_again [] seq names next = ap (λ b. cond (not b) ((seq, names) ∷ []) []) itself
+  where
+    itself : nat_eq seq seq ≡ true
+    itself = grind (arith, nat_tests)
+fallen_again (e ∷ es) seq names next =
+    ap (λ b. cond (not b) (e ∷ without (es ++ (seq, names) ∷ []) seq) (without (es ++ (seq, names) ∷ []) seq)) (apart (next 0 e (omega arith)))
+    ∙ ap (λ l. e ∷ l) (fallen_again es seq names (λ k d within. next (suc k) d (omega arith)))
+  where
+    apart : e.0 < seq → nat_eq e.0 seq ≡ false
+    apart below = grind (arith, nat_tests)
+
+module _ (f : ℕ → List Name) where
+  -- numbers, each with its footprint
+  abbrev pub with_names : List ℕ → Held
+  with_names ss = map (λ s. (s, f s)) ss
+
+  found_there : (s : ℕ) (ss : List ℕ) → is_in s ss ≡ true → find nat_cmp s (with_names ss) ≡ Some (f s)
+  found_there s [] h = absurd (cc)
+  found_there s (x ∷ xs) h = ap (λ b. cond b (Some (f x)) (find nat_cmp s (with_names xs))) (tied s x) ∙ by (nat_eq x s) refl h (found_there s xs)
+    where
+      by : (b : Bool) → nat_eq x s ≡ b → (b || is_in s xs) ≡ true → (is_in s xs ≡ true → find nat_cmp s (with_names xs) ≡ Some (f s)) → cond b (Some (f x)) (find nat_cmp s (with_names xs)) ≡ Some (f s)
+      by true e h go = ap (λ t. Some (f t)) (equal_numbers x s e)
+      by false e h go = go h
+
+  behind_is : (s : ℕ) (ss : List ℕ) → behind (with_names ss) s ≡ with_names (filter (nat_lt s) ss)
+  behind_is s [] = refl
+  behind_is s (x ∷ xs) = by (nat_lt s x) (behind_is s xs)
+    where
+      by : (b : Bool) → behind (with_names xs) s ≡ with_names (filter (nat_lt s) xs) → cond b ((x, f x) ∷ behind (with_names xs) s) (behind (with_names xs) s) ≡ with_names (cond b (x ∷ filter (nat_lt s) xs) (filter (nat_lt s) xs))
+      by true h = ap (λ l. (x, f x) ∷ l) h
+      by false h = h
+
+  without_is : (s : ℕ) (ss : List ℕ) → without (with_names ss) s ≡ with_names (filter (λ t. not (nat_eq t s)) ss)
+  without_is s [] = refl
+  without_is s (x ∷ xs) = by (nat_eq x s) (without_is s xs)
+    where
+      by : (b : Bool) → without (with_names xs) s ≡ with_names (filter (λ t. not (nat_eq t s)) xs)
+          → cond (not b) ((x, f x) ∷ without (with_names xs) s) (without (with_names xs) s) ≡ with_names (cond (not b) (x ∷ filter (λ t. not (nat_eq t s)) xs) (filter (λ t. not (nat_eq t s)) xs))
+      by true h = h
+      by false h = ap (λ l. (x, f x) ∷ l) h
+
+  all_below : (n m : ℕ) (ss : List ℕ) (end : ℕ) → Rise m ss end → end ≤ n → All (λ h. h.0 < n) (with_names ss)
+  all_below n m [] end r h = λ k d w. absurd (omega arith)
+  all_below n m (x ∷ xs) end r h = All-cons (λ h. h.0 < n) _ _ (below_end n x xs end r.1 h) (all_below n (x + 1) xs end r.1 h)
+
+-- numbers below an end, of which two functions give the same
+same_below : (f g : ℕ → List Name) (n m : ℕ) (ss : List ℕ) (end : ℕ) → Rise m ss end → end ≤ n → ((t : ℕ) → t < n → g t ≡ f t) → with_names g ss ≡ with_names f ss
+same_below f g n m [] end r h same = refl
+same_below f g n m (x ∷ xs) end r h same = (λ i. (x, same x (below_end n x xs end r.1 h) i) ∷ same_below f g n (x + 1) xs end r.1 h same i)
+
+module _ {A : Type 0} where
+  -- the blocker of an entry that stands
+  pub blocker_is : (p : Past A) (j : List (Entry A)) (s : ℕ) → is_standing j s ≡ true → blocker p j s ≡ first_meeting (recorded_footprint p s) (with_names (recorded_footprint p) (filter (nat_lt s) (standing j)))
+  blocker_is p j s stands =
+      ap (λ o. first_meeting (unwrap_or o []) (behind (held p j) s)) (found_there (recorded_footprint p) s (standing j) stands)
+      ∙ ap (first_meeting (recorded_footprint p s)) (behind_is (recorded_footprint p) s (standing j))
+
+  -- the recorded footprint of a work is that of its entry
+  footprint_is : (p : Past A) (s : ℕ) (w : Work A) → IsRecorded p.entries s w → recorded_footprint p s ≡ touched w
+  footprint_is p s w h = ap footprint_of_recorded h
+
+  -- where no later one meets it, a work is apart from the later ones
+  pub is_apart : (p : Past A) (s : ℕ) (w : Work A) (later : List ℕ) (ws : List (Work A)) → IsRecorded p.entries s w → AreRecorded p.entries later ws
+      → first_meeting (recorded_footprint p s) (with_names (recorded_footprint p) later) ≡ None → IsApart w ws
+  is_apart p s w [] [] is are none = tt
+  is_apart p s w [] (v ∷ vs) is are none = absurd are
+  is_apart p s w (t ∷ ts) [] is are none = absurd are
+  is_apart p s w (t ∷ ts) (v ∷ vs) is are none = by (meets (recorded_footprint p s) (recorded_footprint p t)) refl none (is_apart p s w ts vs is are.1)
+    where
+      rest : Option (ℕ × Name)
+      rest = first_meeting (recorded_footprint p s) (with_names (recorded_footprint p) ts)
+
+      by : (o : Option Name) → meets (recorded_footprint p s) (recorded_footprint p t) ≡ o → option_or (option_map (λ e. (t, e)) o) rest ≡ None → (rest ≡ None → IsApart w vs) → IsApart w (v ∷ vs)
+      by None e none go = (ap (meets (touched w)) (sym (footprint_is p t v are.0)) ∙ ap (λ l. meets l (recorded_footprint p t)) (sym (footprint_is p s w is)) ∙ e, go none)
+      by (Some x) e none go = absurd (cc)
+
+module _ {A : Type 0} (base : Rows A) (j : List (Entry A)) where
+  -- what is recorded of earlier entries stays
+  earlier_stay : (e : Entry A) (t : ℕ) → t < 1 + length j → recorded_footprint (past base (j ++ e ∷ [])) t ≡ recorded_footprint (past base j) t
+  earlier_stay e t low =
+      ap (λ (p : Past A). recorded_footprint p t) (past-append base j e)
+      ∙ ap footprint_of_recorded (numbered_within (past base j).entries (recorded_next (past base j) e.kind) t (let same = recorded_each base j in omega (arith, low, same)))
+
+  same_held : (e : Entry A) → with_names (recorded_footprint (past base (j ++ e ∷ []))) (standing j) ≡ held (past base j) j
+  same_held e = same_below (recorded_footprint (past base j)) (recorded_footprint (past base (j ++ e ∷ []))) (1 + length j) 1 (standing j) (1 + length j) (Rise-standing_from 1 j) (omega arith) (earlier_stay e)
+
+  -- the next entry's number comes after all
+  pub is_next : IsNext (held (past base j) j) (length j + 1)
+  is_next = all_below (recorded_footprint (past base j)) (length j + 1) 1 (standing j) (1 + length j) (Rise-standing_from 1 j) (omega arith)
+
+  -- an entry that does an action stands with the footprint that the action has on the map
+  pub held-work : (e : Entry A) (a : Action A) → is_work e.kind ≡ true → recorded_next (past base j) e.kind ≡ recorded_of (mapof base j) a
+      → held (past base (j ++ e ∷ [])) (j ++ e ∷ []) ≡ held (past base j) j ++ (length j + 1, footprint (mapof base j) a) ∷ []
+  held-work e a work records =
+      ap (with_names f) (standing-work j e work) ∙ map-append (λ s. (s, f s)) (standing j) ((1 + length j) ∷ []) ∙ ap (λ l. l ++ (1 + length j, f (1 + length j)) ∷ []) (same_held e)
+      ∙ ap (λ n. held (past base j) j ++ (1 + length j, f n) ∷ []) next ∙ ap (λ o. held (past base j) j ++ (1 + length j, footprint_of_recorded o) ∷ []) (recorded-last base j e ∙ ap Some records)
+      ∙ ap (λ n. held (past base j) j ++ (n, footprint (mapof base j) a) ∷ []) number
+    where
+      f : ℕ → List Name
+      f = recorded_footprint (past base (j ++ e ∷ []))
+
+      next : 1 + length j ≡ suc (length j)
+      next = omega arith
+
+      number : 1 + length j ≡ length j + 1
+      number = omega arith
+
+  pub held-do : (e : Entry A) (a : Action A) → e.kind ≡ Do a → held (past base (j ++ e ∷ [])) (j ++ e ∷ []) ≡ held (past base j) j ++ (length j + 1, footprint (mapof base j) a) ∷ []
+  held-do e a k = held-work e a (ap is_work k) (ap (recorded_next (past base j)) k)
+
+  pub held-redo : (e : Entry A) (t : ℕ) (a : Action A) → e.kind ≡ Redo t → action_at (past base j) t ≡ Some a
+      → held (past base (j ++ e ∷ [])) (j ++ e ∷ []) ≡ held (past base j) j ++ (length j + 1, footprint (mapof base j) a) ∷ []
+  held-redo e t a k acts = held-work e a (ap is_work k) (ap (recorded_next (past base j)) k ∙ recorded-redo base j t a acts)
+
+  -- what an undo takes back falls
+  pub held-undo : (e : Entry A) (s : ℕ) → e.kind ≡ Undo s → held (past base (j ++ e ∷ [])) (j ++ e ∷ []) ≡ without (held (past base j) j) s
+  held-undo e s k =
+      ap (with_names f) (standing-undo j e s k) ∙ sym (without_is f s (standing j)) ∙ ap (λ h. without h s) (same_held e)
+    where
+      f : ℕ → List Name
+      f = recorded_footprint (past base (j ++ e ∷ []))

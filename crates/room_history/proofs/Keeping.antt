@@ -1,0 +1,108 @@
+-- What every journal keeps that calls lead to.
+use Rattle.std.proofs.Common.{◌≡◌, ◌⊎◌, ℕ, true, List, [], Option, Some, None, inl, inr, refl, sym, ap, subst, ◌∙◌}
+use Rattle.std.specs.Option.{option_map}
+use Rattle.osm_elements.specs.Maps.{Rows}
+use Rattle.osm_changes.specs.Sound.{is_sound}
+use Rattle.edit_actions.specs.declared.action.Action.{Action}
+use Rattle.edit_actions.specs.MadeActions.{is_made_action}
+use Rattle.edit_actions.specs.Refusals.{refusal}
+use Rattle.room_stacks.specs.declared.author.Author.{Author}
+use Rattle.room_history.specs.declared.call.Call.{Call}
+use Rattle.room_history.specs.declared.call.Request.{Request}
+use Rattle.room_history.specs.declared.call.Request.TheVariants as requests
+use Rattle.room_history.specs.declared.entry.Entry.{Entry}
+use Rattle.room_history.specs.declared.entry.EntryKind.{EntryKind}
+use Rattle.room_history.specs.declared.entry.EntryKind.TheVariants.{Do, Undo, Redo}
+use Rattle.room_history.specs.declared.reply.Reply.{Reply}
+use Rattle.room_history.specs.declared.reply.Reply.TheVariants.{Refused}
+use Rattle.room_history.specs.Answers.{asked, meant, redo_refusal, kind_refusal, with_entry, answer}
+use Rattle.room_history.specs.Journals.{last, redos}
+use Rattle.room_history.specs.LegalJournals.{is_made_request, IsJournal, opened, called}
+use Rattle.room_history.specs.Replays.{past, mapof}
+use Rattle.room_history.proofs.Leading.{IsLed, led-do, led-redo}
+use Rattle.room_history.proofs.Outcomes.{Appended, Left, outcome}
+use Rattle.room_history.proofs.Redoable.{Acts, AreRedoable, redoable-append, top_acts}
+use Rattle.room_history.proofs.TakingBack.{Undone, undone}
+use Rattle.room_history.proofs.Undoing.{Found, found, mapped_none}
+
+module _ {A : Type 0} where
+  no_do : (a : Action A) (f : ℕ → EntryKind A) (o : Option ℕ) → ((s : ℕ) → f s ≡ Do a → ⊥) → option_map f o ≡ Some (Do a) → ⊥
+  no_do a f None not e = absurd (cc)
+  no_do a f (Some s) not e = not s (cc)
+
+  -- the action that a made request means is made
+  meant_made : (j : List (Entry A)) (author : Author) (r : Request A) (a : Action A) → is_made_request r ≡ true → meant j author r ≡ Some (Do a) → is_made_action a ≡ true
+  meant_made j author (requests.Do b) a made e = let same : b ≡ a = cc in ap is_made_action (sym same) ∙ made
+  meant_made j author (requests.Undo s) a made e = absurd (no_do a Undo (asked j author s) (λ s e. cc) e)
+  meant_made j author requests.Redo a made e = absurd (no_do a Redo (last (redos j author)) (λ t e. cc) e)
+
+  -- a redo that is meant is of the top of its author's stack
+  pub meant_redo : (j : List (Entry A)) (author : Author) (r : Request A) (t : ℕ) → meant j author r ≡ Some (Redo t) → last (redos j author) ≡ Some t
+  meant_redo j author (requests.Do a) t e = absurd (cc)
+  meant_redo j author (requests.Undo s) t e = absurd (by (asked j author s) e)
+    where
+      by : (o : Option ℕ) → option_map {T = ℕ} {U = EntryKind A} Undo o ≡ Some (Redo t) → ⊥
+      by None e = absurd (cc)
+      by (Some s) e = absurd (cc)
+  meant_redo j author requests.Redo t e = by (last (redos j author)) e
+    where
+      by : (o : Option ℕ) → option_map {T = ℕ} {U = EntryKind A} Redo o ≡ Some (Redo t) → o ≡ Some t
+      by None e = absurd (cc)
+      by (Some s) e = cc
+
+  module _ (base : Rows A) (sound : is_sound base ≡ true) where
+    -- the works of what stands lead to the map, and what can be redone has its action
+    pub record IsKept (j : List (Entry A)) : Type 0 where
+      pub led : IsLed base j
+      pub redoable : AreRedoable base j
+
+    -- what an undo that is not refused does
+    pub undone_by : (j : List (Entry A)) → IsLed base j → (e : Entry A) (s : ℕ) → e.kind ≡ Undo s → kind_refusal (past base j) j e.author (Undo s) ≡ None → Undone base j s e
+    undone_by j led e s is passes = let f : Found (past base j) j e.author s = found (past base j) j e.author s passes in undone base j e s sound led is f.there f.free
+
+    kept_next : (j : List (Entry A)) (c : Call A) → IsKept j → is_made_request c.request ≡ true → (k : EntryKind A) → meant j c.author c.request ≡ Some k → kind_refusal (past base j) j c.author k ≡ None → IsKept (with_entry j c.author c.id k)
+    kept_next j c kept made (Do a) means passes = record {
+      led = led-do base j e a sound kept.led refl (meant_made j c.author c.request a made means) (mapped_none Refused (refusal (mapof base j) a) passes);
+      redoable = redoable-append base j e kept.redoable (λ s is. absurd (cc));
+    }
+      where
+        e : Entry A
+        e = record { author = c.author; id = c.id; kind = Do a }
+    kept_next j c kept made (Undo s) means passes = record {
+      led = back.led;
+      redoable = redoable-append base j e kept.redoable (λ t is. subst (Acts base j) (same t is) (record { action = back.action; acts = back.acts; made = back.made }));
+    }
+      where
+        e : Entry A
+        e = record { author = c.author; id = c.id; kind = Undo s }
+
+        same : (t : ℕ) → e.kind ≡ Undo t → s ≡ t
+        same t is = cc
+
+        back : Undone base j s e
+        back = undone_by j kept.led e s refl passes
+    kept_next j c kept made (Redo t) means passes = record {
+      led = led-redo base j e t top.action sound kept.led refl top.acts top.made (mapped_none Refused (refusal (mapof base j) top.action) (ap (redo_refusal (mapof base j)) (sym top.acts) ∙ passes));
+      redoable = redoable-append base j e kept.redoable (λ s is. absurd (cc));
+    }
+      where
+        e : Entry A
+        e = record { author = c.author; id = c.id; kind = Redo t }
+
+        top : Acts base j t
+        top = top_acts base j kept.redoable c.author t (meant_redo j c.author c.request t means)
+
+    pub journal_kept : (limit : ℕ) (j : List (Entry A)) → IsJournal base limit j → IsKept j
+    journal_kept limit j opened = record { led = record { works = []; recorded = tt; leads = refl }; redoable = λ author t h. absurd (cc) }
+    journal_kept limit j (called i c before made) = by (outcome base limit i c) (journal_kept limit i before)
+      where
+        by : Appended base i c (answer base limit i c) ⊎ Left i (answer base limit i c) → IsKept i → IsKept (answer base limit i c).1
+        by (inl a) kept = subst IsKept (sym (ap (λ (p : Reply A × List (Entry A)). p.1) a.is)) (kept_next i c kept made a.kind a.means a.passes)
+        by (inr l) kept = subst IsKept (sym l.same) kept
+
+    pub journal_led : (limit : ℕ) (j : List (Entry A)) → IsJournal base limit j → IsLed base j
+    journal_led limit j h = (journal_kept limit j h).led
+
+    -- of the entry that an author's redo would do again a made action is recorded
+    pub redo_found : (limit : ℕ) (j : List (Entry A)) → IsJournal base limit j → (author : Author) (t : ℕ) → last (redos j author) ≡ Some t → Acts base j t
+    redo_found limit j h = top_acts base j (journal_kept limit j h).redoable

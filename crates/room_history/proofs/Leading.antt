@@ -1,0 +1,73 @@
+-- The works of the entries that stand lead from the base to the map of the journal.
+use Rattle.std.proofs.Common.{◌≡◌, ◌+◌, ◌++◌, ℕ, suc, true, List, [], ◌∷◌, Some, None, length, refl, sym, ap, subst, ◌∙◌, arith}
+use Rattle.osm_elements.specs.Maps.{Rows}
+use Rattle.osm_changes.specs.Changes.{changed}
+use Rattle.osm_changes.specs.Sound.{is_sound}
+use Rattle.edit_actions.specs.declared.action.Action.{Action}
+use Rattle.edit_actions.specs.After.{changes}
+use Rattle.edit_actions.specs.MadeActions.{is_made_action}
+use Rattle.edit_actions.specs.Refusals.{refusal}
+use Rattle.edit_actions.specs.Facts.Accepted.{changes_lead}
+use Rattle.room_history.specs.declared.entry.Entry.{Entry}
+use Rattle.room_history.specs.declared.entry.EntryKind.TheVariants.{Do, Redo}
+use Rattle.room_history.specs.Journals.{numbered, standing}
+use Rattle.room_history.specs.Replays.{Recorded, Past, past, mapof, recorded_of, recorded_next, action_at}
+use Rattle.room_history.proofs.Appending.{past-append, recorded_each, recorded-redo, standing-do, standing-redo}
+use Rattle.room_history.proofs.Chains.{Work, Leads, leads_sound, leads-append}
+use Rattle.room_history.proofs.Growing.{numbered_next}
+use Rattle.room_history.proofs.Works.{AreRecorded, recorded-grown, recorded-joined}
+
+module _ {A : Type 0} where
+  -- what every journal keeps
+  pub record IsLed (base : Rows A) (j : List (Entry A)) : Type 0 where
+    pub works : List (Work A)
+    pub recorded : AreRecorded (past base j).entries (standing j) works
+    pub leads : Leads base works (mapof base j)
+
+  pub led_sound : (base : Rows A) (j : List (Entry A)) → is_sound base ≡ true → IsLed base j → is_sound (mapof base j) ≡ true
+  led_sound base j sound led = leads_sound base led.works (mapof base j) sound led.leads
+
+  -- a past with one more that is recorded
+  abbrev with_recorded : Past A → Recorded A → Past A
+  with_recorded p r = record { map = changed p.map r.changes; entries = p.entries ++ r ∷ [] }
+
+  -- an entry that is recorded as an action which is accepted, and that stands last
+  pub led-work : (base : Rows A) (j : List (Entry A)) (e : Entry A) (a : Action A) → is_sound base ≡ true → IsLed base j → is_made_action a ≡ true → refusal (mapof base j) a ≡ None
+      → recorded_next (past base j) e.kind ≡ recorded_of (mapof base j) a → standing (j ++ e ∷ []) ≡ standing j ++ (1 + length j) ∷ [] → IsLed base (j ++ e ∷ [])
+  led-work base j e a sound led made ok records stands = record {
+    works = led.works ++ w ∷ [];
+    recorded = subst (λ (p : Past A). AreRecorded p.entries (standing (j ++ e ∷ [])) (led.works ++ w ∷ [])) (sym now) (subst (λ ss. AreRecorded (entries ++ r ∷ []) ss (led.works ++ w ∷ [])) (sym stands) are);
+    leads = subst (λ (p : Past A). Leads base (led.works ++ w ∷ []) p.map) (sym now) (subst (Leads base (led.works ++ w ∷ [])) (sym (changes_lead m a (led_sound base j sound led) made ok))
+        (leads-append base led.works w m led.leads (record { made = made; accepted = ok; same_changes = refl })));
+  }
+    where
+      m : Rows A
+      m = mapof base j
+
+      w : Work A
+      w = record { action = a; changes = changes m a }
+
+      r : Recorded A
+      r = recorded_of m a
+
+      entries : List (Recorded A)
+      entries = (past base j).entries
+
+      now : past base (j ++ e ∷ []) ≡ with_recorded (past base j) r
+      now = past-append base j e ∙ ap (with_recorded (past base j)) records
+
+      number : suc (length entries) ≡ 1 + length j
+      number = let same = recorded_each base j in omega (arith, same)
+
+      are : AreRecorded (entries ++ r ∷ []) (standing j ++ (1 + length j) ∷ []) (led.works ++ w ∷ [])
+      are = recorded-joined (entries ++ r ∷ []) (standing j) ((1 + length j) ∷ []) led.works (w ∷ []) (recorded-grown entries r (standing j) led.works led.recorded)
+          (ap (numbered (entries ++ r ∷ [])) (sym number) ∙ numbered_next entries r, tt)
+
+  -- an accepted action
+  pub led-do : (base : Rows A) (j : List (Entry A)) (e : Entry A) (a : Action A) → is_sound base ≡ true → IsLed base j → e.kind ≡ Do a → is_made_action a ≡ true → refusal (mapof base j) a ≡ None → IsLed base (j ++ e ∷ [])
+  led-do base j e a sound led k made ok = led-work base j e a sound led made ok (ap (recorded_next (past base j)) k) (standing-do j e a k)
+
+  -- and one done again
+  pub led-redo : (base : Rows A) (j : List (Entry A)) (e : Entry A) (t : ℕ) (a : Action A) → is_sound base ≡ true → IsLed base j → e.kind ≡ Redo t → action_at (past base j) t ≡ Some a
+      → is_made_action a ≡ true → refusal (mapof base j) a ≡ None → IsLed base (j ++ e ∷ [])
+  led-redo base j e t a sound led k acts made ok = led-work base j e a sound led made ok (ap (recorded_next (past base j)) k ∙ recorded-redo base j t a acts) (standing-redo j e t k)

@@ -1,0 +1,106 @@
+-- What an answer comes to: an entry that nothing refuses is appended, or a refusal leaves the journal.
+use Rattle.std.proofs.Common.{◌≡◌, ◌⊎◌, ◌+◌, ◌++◌, ◌∷◌, ℕ, Bool, true, false, not, List, [], Option, Some, None, is_none, length, refl, sym, ap, ◌∙◌, inl, inr, nat_le, arith, length-append}
+use Rattle.std.specs.Bool.{then_some}
+use Rattle.std.specs.Option.{option_map}
+use Rattle.osm_elements.specs.declared.name.Name.{Name}
+use Rattle.osm_elements.specs.Maps.{Rows}
+use Rattle.edit_actions.specs.declared.action.Action.{Action}
+use Rattle.edit_actions.specs.Refusals.{refusal}
+use Rattle.edit_simple.specs.Checks.{first_that_holds}
+use Rattle.edit_simple.specs.declared.refusal.Refusal.{Refusal}
+use Rattle.room_stacks.specs.declared.author.Author.{Author}
+use Rattle.room_history.specs.declared.call.Call.{Call}
+use Rattle.room_history.specs.declared.call.Request.{Request}
+use Rattle.room_history.specs.declared.call.Request.TheVariants as requests
+use Rattle.room_history.specs.declared.entry.Entry.{Entry}
+use Rattle.room_history.specs.declared.entry.EntryKind.{EntryKind}
+use Rattle.room_history.specs.declared.entry.EntryKind.TheVariants.{Do, Undo, Redo}
+use Rattle.room_history.specs.declared.reply.Reply.{Reply}
+use Rattle.room_history.specs.declared.reply.Reply.TheVariants.{Done, Undid, Redid, Repeat, Full, NoSuch, NotYours, NotStanding, Refused}
+use Rattle.room_history.specs.Answers.{spent, conflict, meant, nothing_meant, undo_refusal, redo_refusal, kind_refusal, meaning_refusal, accepted, with_entry, answered, answer}
+use Rattle.room_history.specs.Blockers.{blocker}
+use Rattle.room_history.specs.Journals.{numbered, is_by, is_standing}
+use Rattle.room_history.specs.Replays.{Past, past, action_at}
+use Rattle.room_history.proofs.LastItems.{same_end}
+
+module _ {A : Type 0} where
+  -- a reply to an accepted call
+  abbrev pub is_acceptance : Reply A → Bool
+  is_acceptance (Done seq) = true
+  is_acceptance (Undid seq s) = true
+  is_acceptance (Redid seq t) = true
+  is_acceptance r = false
+
+  -- a refusal is no such reply
+  pub no_acceptance : (r q : Reply A) → is_acceptance r ≡ false → is_acceptance q ≡ true → r ≡ q → ⊥
+  no_acceptance r q refused accepts e = let clash : true ≡ false = sym accepts ∙ ap is_acceptance (sym e) ∙ refused in absurd (cc)
+
+  nothing_refused : (r : Request A) → is_acceptance (nothing_meant r) ≡ false
+  nothing_refused (requests.Do a) = refl
+  nothing_refused (requests.Undo s) = refl
+  nothing_refused requests.Redo = refl
+
+  -- no reply that a check may give is to an accepted call
+  abbrev Refuses : Option (Reply A) → Type 0
+  Refuses None = Unit {0}
+  Refuses (Some r) = is_acceptance r ≡ false
+
+  action_refused : (o : Option (Refusal A)) → Refuses (option_map Refused o)
+  action_refused None = tt
+  action_refused (Some q) = refl
+
+  undo_refused : (p : Past A) (j : List (Entry A)) (author : Author) (s : ℕ) → Refuses (undo_refusal p j author s)
+  undo_refused p j author s = by (is_none (numbered j s)) (not (is_by author (numbered j s))) (not (is_standing j s)) (blocker p j s)
+    where
+      by : (a b c : Bool) (o : Option (ℕ × Name)) → Refuses (first_that_holds (then_some a NoSuch ∷ then_some b NotYours ∷ then_some c NotStanding ∷ option_map conflict o ∷ []))
+      by true b c o = refl
+      by false true c o = refl
+      by false false true o = refl
+      by false false false (Some b) = refl
+      by false false false None = tt
+
+  redo_refused : (m : Rows A) (o : Option (Action A)) → Refuses (redo_refusal m o)
+  redo_refused m None = refl
+  redo_refused m (Some a) = action_refused (refusal m a)
+
+  kind_refused : (p : Past A) (j : List (Entry A)) (author : Author) (k : EntryKind A) → Refuses (kind_refusal p j author k)
+  kind_refused p j author (Do a) = action_refused (refusal p.map a)
+  kind_refused p j author (Undo s) = undo_refused p j author s
+  kind_refused p j author (Redo t) = redo_refused p.map (action_at p t)
+
+  -- an entry that is appended, and that nothing refuses
+  pub record Appended (base : Rows A) (j : List (Entry A)) (c : Call A) (step : Reply A × List (Entry A)) : Type 0 where
+    pub kind : EntryKind A
+    pub means : meant j c.author c.request ≡ Some kind
+    pub passes : kind_refusal (past base j) j c.author kind ≡ None
+    pub is : step ≡ (accepted (length j + 1) kind, with_entry j c.author c.id kind)
+
+  -- a refusal, and the journal as it was
+  pub record Left (j : List (Entry A)) (step : Reply A × List (Entry A)) : Type 0 where
+    pub refused : is_acceptance step.0 ≡ false
+    pub same : step.1 ≡ j
+
+  abbrev Outcome : Rows A → List (Entry A) → Call A → Reply A × List (Entry A) → Type 0
+  Outcome base j c step = Appended base j c step ⊎ Left j step
+
+  pub outcome : (base : Rows A) (limit : ℕ) (j : List (Entry A)) (c : Call A) → Outcome base j c (answer base limit j c)
+  outcome base limit j c = by (spent j c.author c.id) (nat_le limit (length j)) (meant j c.author c.request) refl
+    where
+      of_kind : (k : EntryKind A) → meant j c.author c.request ≡ Some k → (o : Option (Reply A)) → kind_refusal (past base j) j c.author k ≡ o → Refuses o → Outcome base j c (answered j c (first_that_holds (o ∷ [])) (Some k))
+      of_kind k means None passes refuses = inl (record { kind = k; means = means; passes = passes; is = refl })
+      of_kind k means (Some r) passes refuses = inr (record { refused = refuses; same = refl })
+
+      by : (o : Option ℕ) (full : Bool) (k : Option (EntryKind A)) → meant j c.author c.request ≡ k → Outcome base j c (answered j c (first_that_holds (option_map Repeat o ∷ then_some full Full ∷ meaning_refusal (past base j) j c k ∷ [])) k)
+      by (Some n) full k means = inr (record { refused = refl; same = refl })
+      by None true k means = inr (record { refused = refl; same = refl })
+      by None false None means = inr (record { refused = nothing_refused c.request; same = refl })
+      by None false (Some k) means = of_kind k means (kind_refusal (past base j) j c.author k) refl (kind_refused (past base j) j c.author k)
+
+  longer : (j : List (Entry A)) (e : Entry A) → j ≡ j ++ e ∷ [] → ⊥
+  longer j e h = let n : length j ≡ length j + 1 = ap length h ∙ length-append j (e ∷ []) in omega (arith, n)
+
+  -- where the journal got an entry longer, that entry is the call's, and nothing refuses it
+  pub got_longer : (base : Rows A) (j : List (Entry A)) (c : Call A) (step : Reply A × List (Entry A)) (e : Entry A) → Outcome base j c step → step.1 ≡ j ++ e ∷ []
+      → (a : Appended base j c step) × (e ≡ record { author = c.author; id = c.id; kind = a.kind })
+  got_longer base j c step e (inl a) h = (a, sym (same_end j (record { author = c.author; id = c.id; kind = a.kind }) e (sym (ap (λ (p : Reply A × List (Entry A)). p.1) a.is) ∙ h)))
+  got_longer base j c step e (inr l) h = absurd (longer j e (sym l.same ∙ h))
