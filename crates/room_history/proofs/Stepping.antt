@@ -1,11 +1,9 @@
 -- One step of a room.
 use Rattle.std.proofs.Common.{◌≡◌, Result, OnErr, ◌<◌, ◌≤◌, ◌+◌, ◌++◌, ◌∷◌, ℕ, true, false, List, [], Option, Some, None, Ok, Err, length, refl, sym, ap, subst, ◌∙◌, arith, ◌⊎◌, inl, inr, zero, suc, map, nat_le, unwrap_or}
 use Rattle.std.specs.Bool.{then_some}
-use Rattle.std.specs.List.{fold}
 use Rattle.std.specs.Option.{option_map, option_and_then}
 use Rattle.std.proofs.lemmas.Bool.Decides.{nat_tests}
 use Rattle.std.proofs.lemmas.List.{map-append, length-map}
-use Rattle.std.proofs.lemmas.List.Sums.{fold-append}
 use Rattle.edit_actions.specs.declared.action.Action.{Action}
 use Rattle.room_stacks.specs.declared.author.Author.{Author}
 use Rattle.room_history.specs.declared.call.Call.{Call}
@@ -53,7 +51,7 @@ use Rattle.room_history.proofs.Keeping.{journal_led}
 use Rattle.osm_changes.specs.Facts.Changing.{changed-differences}
 use Rattle.osm_changes.specs.Facts.SoundRows.{sound_in_order}
 use Rattle.edit_actions.specs.Facts.Accepted.{AreInOrder-after}
-use Rattle.edit_footprint.specs.Footprints.{footprint, footprint_of}
+use Rattle.edit_footprint.specs.Footprints.{footprint_of}
 use Rattle.edit_footprint.specs.Holding.{Held, IsNext, without}
 use Rattle.room_history.specs.Blockers.{held}
 use Rattle.room_history.proofs.Appending.{past-append, mapof-append, applied-append, recorded-redo}

@@ -1,4 +1,4 @@
-use Rattle.std.proofs.Common.{◌≡◌, ◌+◌, ◌-◌, ◌++◌, ◌∷◌, [], length, sym, ap, subst, ◌∙◌, arith, rules}
+use Rattle.std.proofs.Common.{◌≡◌, ◌+◌, ◌++◌, ◌∷◌, [], length, sym, ap, subst, ◌∙◌, rules}
 use Rattle.osm_changes.specs.Changes.{changed, AreFrom}
 use Rattle.osm_changes.specs.Sound.{is_sound}
 use Rattle.room_stacks.specs.Stacks.{StacksState}
