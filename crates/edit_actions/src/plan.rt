@@ -79,8 +79,8 @@ fn keeps<A: Allocator>(store: &Store<A>, action: &Action<A>)
     keeps_values(action);
 }
 
-// What holds of every action, by the types of its values. It does nothing.
-fn keeps_values<A: Allocator>(action: &Action<A>)
+/// What holds of every action, by the types of its values. It does nothing.
+pub fn keeps_values<A: Allocator>(action: &Action<A>)
     ensures { is_made_action action.now ≡ true }
 {
     match action {

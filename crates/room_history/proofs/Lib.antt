@@ -23,5 +23,6 @@ pub mod RisingNumbers
 pub mod Stacking
 pub mod Stepping
 pub mod TakingBack
+pub mod Turning
 pub mod Undoing
 pub mod Works

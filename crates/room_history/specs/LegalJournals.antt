@@ -1,6 +1,8 @@
 -- The journals that there are: those that calls lead to, where each entry is the one that an answer appends. (The rules of a room are this project's.)
 use Rattle.std.specs.Prelude.{◌≡◌, ℕ, Bool, true, List, []}
 use Rattle.edit_actions.specs.MadeActions.{is_made_action}
+use Rattle.room_history.specs.declared.ask.RoomCall.{RoomCall}
+use Rattle.room_history.specs.declared.ask.RoomCall.TheVariants as asked
 use Rattle.room_history.specs.declared.call.Call.{Call}
 use Rattle.room_history.specs.declared.call.Request.{Request}
 use Rattle.room_history.specs.declared.call.Request.TheVariants as requests
@@ -14,6 +16,13 @@ module _ {A : Type 0} where
   is_made_request (requests.Do a) = is_made_action a
   is_made_request (requests.Undo s) = true
   is_made_request requests.Redo = true
+
+  -- and those of what a room is asked
+  abbrev pub is_made_room_call : RoomCall A → Bool
+  is_made_room_call (asked.Take c) = is_made_request c.request
+  is_made_room_call (asked.Get x) = true
+  is_made_room_call asked.Rows = true
+  is_made_room_call (asked.Undos author) = true
 
 -- the empty journal, and the one that the answer to a call leaves after another
 pub data IsJournal {A : Type 0} (base : Rows A) (limit : ℕ) : List (Entry A) → Type 0 where

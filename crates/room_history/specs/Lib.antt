@@ -11,3 +11,4 @@ pub mod Replays
 pub mod Rooms
 pub mod Runs
 pub mod Scenes
+pub mod Turns

@@ -1,11 +1,14 @@
 //! Laws of the definitions, each the contract of a function that does nothing.
 ghost use Rattle.std.specs.Prelude.{◌≡◌, ◌++◌, ℕ, true, List, [], ◌∷◌};
 ghost use Rattle.room_history.specs.declared.entry.Entry.{Entry};
+ghost use Rattle.room_history.specs.declared.turned.Opening.{Opening};
 ghost use Rattle.osm_changes.specs.Stores.{counted};
 ghost use Rattle.room_history.specs.Applied.{applied};
 ghost use Rattle.room_history.specs.Headline.{Holds};
 ghost use Rattle.room_history.specs.Replays.{past, recorded_next};
 ghost use Rattle.room_history.specs.LegalJournals.{IsJournal};
+ghost use Rattle.room_history.specs.Turns.{IsTurn};
+ghost use Rattle.turn_desk.specs.History.{History, entries, IsLegal};
 ghost use Rattle.osm_elements.specs.Maps.{Rows};
 ghost use Rattle.osm_changes.specs.Sound.{is_sound};
 ghost use Rattle.room_history.specs.Examples.{first_run, range_ends, limit_one, limit_zero, strangers, in_use, taken_back_way, refusals_in_turn, relations_in_turn, redo_at_once, redo_refused, redo_order, redo_again};
@@ -15,6 +18,12 @@ use std::alloc::Allocator;
 /// Every journal that calls lead to from a sound base holds.
 pub fn journals_hold<A: Allocator>()
     ensures { (base : Rows A) (limit : ℕ) (j : List (Entry A)) → is_sound base ≡ true → IsJournal base limit j → Holds base limit j }
+{}
+
+/// Every legal history that a desk tells of a room, over a sound base, is a journal that calls lead to, and so holds.
+pub fn legal_histories_hold<A: Allocator>()
+    ensures journal { (opening : Opening A) (h : History (Entry A)) → IsLegal IsTurn opening h → IsJournal opening.base opening.limit (entries h) }
+    ensures holds { (opening : Opening A) (h : History (Entry A)) → is_sound opening.base ≡ true → IsLegal IsTurn opening h → Holds opening.base opening.limit (entries h) }
 {}
 
 /// Each entry is counted by what it changed: an action by its changes, an undo by those that it takes back.

@@ -11,4 +11,5 @@ pub mod reply;
 pub mod room;
 pub mod run;
 mod standing;
+pub mod turned;
 mod undo;

@@ -1,0 +1,58 @@
+-- What a turn leaves of a room's journal.
+use Rattle.std.proofs.Common.{◌≡◌, ◌⊎◌, ◌++◌, ℕ, true, List, [], ◌∷◌, refl, sym, ap, subst, inl, inr, append_assoc, append-nil}
+use Rattle.osm_elements.specs.Maps.{Rows}
+use Rattle.turn_desk.specs.History.{GainsAtMostOne, MayAllFollow}
+use Rattle.room_history.specs.declared.ask.RoomCall.{RoomCall}
+use Rattle.room_history.specs.declared.ask.RoomCall.TheVariants.{Take, Get, Rows as AllRows, Undos}
+use Rattle.room_history.specs.declared.ask.RoomReply.{RoomReply}
+use Rattle.room_history.specs.declared.call.Call.{Call}
+use Rattle.room_history.specs.declared.entry.Entry.{Entry}
+use Rattle.room_history.specs.declared.turned.Opening.{Opening}
+use Rattle.room_history.specs.Answers.{answer}
+use Rattle.room_history.specs.Asking.{room_answer, IsAnswered}
+use Rattle.room_history.specs.LegalJournals.{IsJournal, called, is_made_room_call}
+use Rattle.room_history.specs.Turns.{IsTurn}
+use Rattle.room_history.proofs.Outcomes.{Appended, Left, outcome}
+
+module _ {A : Type 0} (base : Rows A) (limit : ℕ) (j : List (Entry A)) where
+  -- the journal of a step
+  abbrev journal_of : {X : Type 0} → X × List (Entry A) → List (Entry A)
+  journal_of step = step.1
+
+  -- an answer leaves the journal, or adds one entry
+  gains-answer : (c : Call A) → GainsAtMostOne j (answer base limit j c).1
+  gains-answer c = by (outcome base limit j c)
+    where
+      by : Appended base j c (answer base limit j c) ⊎ Left j (answer base limit j c) → GainsAtMostOne j (answer base limit j c).1
+      by (inl a) = inr (record { author = c.author; id = c.id; kind = a.kind }, ap journal_of a.is)
+      by (inr l) = inl l.same
+
+  gains-room_answer : (call : RoomCall A) → GainsAtMostOne j (room_answer base limit j call).1
+  gains-room_answer (Take c) = gains-answer c
+  gains-room_answer (Get x) = inl refl
+  gains-room_answer AllRows = inl refl
+  gains-room_answer (Undos author) = inl refl
+
+  -- whatever a room is asked, its journal stays or gains one entry
+  pub gains : (call : RoomCall A) (reply : RoomReply A) (k : List (Entry A)) → IsAnswered base limit j call reply k → GainsAtMostOne j k
+  gains call reply k (inl e) = subst (GainsAtMostOne j) (sym (ap journal_of e)) (gains-room_answer call)
+  gains call reply k (inr e) = inl e.1
+
+  leads-room_answer : (call : RoomCall A) → is_made_room_call call ≡ true → IsJournal base limit j → IsJournal base limit (room_answer base limit j call).1
+  leads-room_answer (Take c) made before = called j c before made
+  leads-room_answer (Get x) made before = before
+  leads-room_answer AllRows made before = before
+  leads-room_answer (Undos author) made before = before
+
+  -- an answer leads from a journal to one
+  leads : (call : RoomCall A) (reply : RoomReply A) (k : List (Entry A)) → is_made_room_call call ≡ true → IsAnswered base limit j call reply k → IsJournal base limit j → IsJournal base limit k
+  leads call reply k made (inl e) before = subst (IsJournal base limit) (sym (ap journal_of e)) (leads-room_answer call made before)
+  leads call reply k made (inr e) before = subst (IsJournal base limit) (sym e.1) before
+
+-- entries that may follow a journal, one after another, lead to one
+pub all_lead : {A : Type 0} (opening : Opening A) (j later : List (Entry A)) → IsJournal opening.base opening.limit j → MayAllFollow IsTurn opening j later → IsJournal opening.base opening.limit (j ++ later)
+all_lead opening j [] before follow = subst (IsJournal opening.base opening.limit) (sym (append-nil j)) before
+all_lead opening j (e ∷ later) before follow =
+    let turn = follow.0 in
+    let next = leads opening.base opening.limit j turn.0 turn.1 (j ++ e ∷ []) turn.2.0 turn.2.1 before in
+    subst (IsJournal opening.base opening.limit) (append_assoc j (e ∷ []) later) (all_lead opening (j ++ e ∷ []) later next follow.1)
