@@ -7,6 +7,7 @@ use osm_elements::name::{Kind, Name};
 use room_history::room::Room;
 use room_stacks::author::Author;
 use std::alloc::Global;
+use std::process::Abort;
 use std::sync::Wait;
 use std::test::Fail;
 use std::thread::{Threads, join};
@@ -65,6 +66,18 @@ fn in_two_threads<R: Threads + Wait + Sync>(
     one
 }
 
+// The room has so many entries, and a map of as many nodes, which have the ids from 1 on.
+fn has_nodes(rt: &impl Abort, room: &Room<Global>, count: u32) -> Result<(), Fail> {
+    assert_eq!(rt; room.front(), u64::from(count));
+    assert_eq!(rt; room.map_rows()?.as_slice().len(), count as usize);
+    for id in 0..count {
+        let id = i64::from(id) + 1;
+        let name = Name::new(Kind::Node, id).ok_or("zero")?;
+        assert!(rt; room.get(&name).is_some(), "node {id}");
+    }
+    Ok(())
+}
+
 #[test]
 fn two_threads_create_a_hundred_nodes_each(rt: HostRuntime) -> Result<(), Fail> {
     let alloc = rt.alloc();
@@ -72,12 +85,5 @@ fn two_threads_create_a_hundred_nodes_each(rt: HostRuntime) -> Result<(), Fail> 
     let bob = Author::read("bob").ok_or("author")?;
     let (desk, seat) = Desk::open(alloc, Room::open(alloc, 1000))?;
     let seat = in_two_threads(&rt, alloc, &desk, seat, anna, bob);
-    let room = desk.close(&rt, seat);
-    assert_eq!(rt; room.front(), 200);
-    assert_eq!(rt; room.map_rows()?.as_slice().len(), 200);
-    for id in 1..=200i64 {
-        let name = Name::new(Kind::Node, id).ok_or("zero")?;
-        assert!(rt; room.get(&name).is_some(), "node {id}");
-    }
-    Ok(())
+    has_nodes(&rt, &desk.close(&rt, seat), 2 * EACH)
 }
