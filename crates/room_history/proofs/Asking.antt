@@ -12,7 +12,9 @@ use Rattle.room_history.specs.declared.call.Call.{Call}
 use Rattle.room_history.specs.declared.entry.Entry.{Entry}
 use Rattle.room_history.specs.declared.reply.Reply.{Reply}
 use Rattle.osm_elements.specs.Maps.{Rows}
+use Rattle.room_history.specs.declared.news.News.{News}
 use Rattle.room_history.specs.Journals.{undos, redos}
+use Rattle.room_history.specs.News.{news}
 use Rattle.room_history.specs.Replays.{mapof}
 use Rattle.room_history.specs.Runs.{IsStep}
 use Rattle.room_history.specs.Asking.{IsAnswered}
@@ -33,3 +35,7 @@ module _ {A : Type 0} (base : Rows A) (limit : ℕ) (j : List (Entry A)) where
   pub gave : (author : Author) (r : Result (Undoable A) AllocError) → IfOk r (λ lists. lists ≡ record { undos = undos j author; redos = redos j author }) → IsAnswered base limit j (calls.Undos author) (replies.Undos r) j
   gave author (Ok lists) h = inl (ap (λ l. (replies.Undos (Ok l), j)) h)
   gave author (Err e) h = inr (refl, refl)
+
+  pub told : (from : ℕ) (r : Result (List (News A)) AllocError) → IfOk r (λ ns. ns ≡ news base j from) → IsAnswered base limit j (calls.News from) (replies.News r) j
+  told from (Ok ns) h = inl (ap (λ l. (replies.News (Ok l), j)) h)
+  told from (Err e) h = inr (refl, refl)

@@ -4,6 +4,7 @@ pub mod AtOnce
 pub mod BinarySearching
 pub mod Blocking
 pub mod Chains
+pub mod ChangingEntries
 pub mod Deciding
 pub mod Deeds
 pub mod ExampleProofs
@@ -24,5 +25,6 @@ pub mod Stacking
 pub mod Stepping
 pub mod TakingBack
 pub mod Turning
+pub mod Telling
 pub mod Undoing
 pub mod Works

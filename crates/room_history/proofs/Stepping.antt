@@ -44,7 +44,8 @@ use Rattle.edit_simple.specs.declared.refusal.Refusal.TheVariants as refusals
 use Rattle.edit_simple.specs.Plans.{IsPlan}
 use Rattle.room_history.specs.Inner.Refusing.{refusal_reply}
 use Rattle.room_history.specs.Inner.Undoing.{undone_or, asked_or}
-use Rattle.room_history.specs.Inner.Rooms.{IsRoom, MayAppend, recorded_changes}
+use Rattle.room_history.specs.Inner.Rooms.{IsRoom, MayAppend}
+use Rattle.room_history.specs.News.{recorded_changes}
 use Rattle.room_history.proofs.BinarySearching.{last_is}
 use Rattle.room_history.proofs.Deciding.{unspent}
 use Rattle.room_history.proofs.Keeping.{journal_led}

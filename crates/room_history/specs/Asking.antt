@@ -2,13 +2,14 @@
 use Rattle.std.specs.Prelude.{◌≡◌, ◌⊎◌, ℕ, List, Ok, Err, alloc_error, length}
 use Rattle.osm_elements.specs.Rows.{row_at}
 use Rattle.room_history.specs.declared.ask.RoomCall.{RoomCall}
-use Rattle.room_history.specs.declared.ask.RoomCall.TheVariants.{Take, Get, Rows as AllRows, Undos}
+use Rattle.room_history.specs.declared.ask.RoomCall.TheVariants.{Take, Get, Rows as AllRows, Undos, News as NewsPast}
 use Rattle.room_history.specs.declared.ask.RoomReply.{RoomReply}
 use Rattle.room_history.specs.declared.ask.RoomReply.TheVariants as replies
 use Rattle.room_history.specs.declared.entry.Entry.{Entry}
 use Rattle.room_history.specs.declared.reply.Reply.TheVariants.{Memory}
 use Rattle.osm_elements.specs.Maps.{Rows}
 use Rattle.room_history.specs.Journals.{undos, redos}
+use Rattle.room_history.specs.News.{news}
 use Rattle.room_history.specs.Replays.{mapof}
 use Rattle.room_history.specs.Answers.{answer}
 
@@ -19,6 +20,7 @@ module _ {A : Type 0} where
   room_answer base limit j (Get x) = (replies.Get (Ok (row_at (mapof base j) x)), j)
   room_answer base limit j AllRows = (replies.Rows (Ok (length j, mapof base j)), j)
   room_answer base limit j (Undos author) = (replies.Undos (Ok (record { undos = undos j author; redos = redos j author })), j)
+  room_answer base limit j (NewsPast from) = (replies.News (Ok (news base j from)), j)
 
   -- want of memory, in the form of what was asked
   abbrev pub wanting : RoomCall A → RoomReply A
@@ -26,6 +28,7 @@ module _ {A : Type 0} where
   wanting (Get x) = replies.Get (Err alloc_error)
   wanting AllRows = replies.Rows (Err alloc_error)
   wanting (Undos author) = replies.Undos (Err alloc_error)
+  wanting (NewsPast from) = replies.News (Err alloc_error)
 
   -- asked so, the room gives the reply by the definition, or tells want of memory with the journal as it was
   abbrev pub IsAnswered : Rows A → ℕ → List (Entry A) → RoomCall A → RoomReply A → List (Entry A) → Type 0

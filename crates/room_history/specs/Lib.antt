@@ -7,6 +7,7 @@ pub mod Headline
 pub mod Inner
 pub mod Journals
 pub mod LegalJournals
+pub mod News
 pub mod Replays
 pub mod Rooms
 pub mod Runs

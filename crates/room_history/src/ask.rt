@@ -1,5 +1,6 @@
 //! All that a room is asked: its calls, and the queries.
 use crate::call::Call;
+use crate::news::NewsList;
 use crate::numbers::Numbers;
 use crate::reply::Reply;
 use osm_elements::Memory;
@@ -21,6 +22,8 @@ pub enum RoomCall<A: Allocator> {
     Rows,
     /// For what an author may undo and redo.
     Undos(Author),
+    /// For the news of all entries but the first so many.
+    News(u64),
 }
 
 /// What a room answers, in the form of what it was asked. It shares nothing with the room.
@@ -35,6 +38,8 @@ pub enum RoomReply<A: Allocator> {
     Rows(Result<(u64, Rows<A>), Memory>),
     /// What the author may undo and redo. The one refusal is want of memory.
     Undos(Result<Undoable<A>, Memory>),
+    /// The news, in the order of their entries. The one refusal is want of memory.
+    News(Result<NewsList<A>, Memory>),
 }
 
 /// What an author may undo and redo.

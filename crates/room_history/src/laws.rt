@@ -2,10 +2,11 @@
 ghost use Rattle.std.specs.Prelude.{◌≡◌, ◌++◌, ℕ, true, List, [], ◌∷◌};
 ghost use Rattle.room_history.specs.declared.entry.Entry.{Entry};
 ghost use Rattle.room_history.specs.declared.turned.Opening.{Opening};
+ghost use Rattle.osm_changes.specs.Changes.{AreChanges, AreFrom};
 ghost use Rattle.osm_changes.specs.Stores.{counted};
 ghost use Rattle.room_history.specs.Applied.{applied};
 ghost use Rattle.room_history.specs.Headline.{Holds};
-ghost use Rattle.room_history.specs.Replays.{past, recorded_next};
+ghost use Rattle.room_history.specs.Replays.{past, mapof, recorded_next};
 ghost use Rattle.room_history.specs.LegalJournals.{IsJournal};
 ghost use Rattle.room_history.specs.Turns.{IsTurn};
 ghost use Rattle.turn_desk.specs.History.{History, entries, IsLegal};
@@ -13,6 +14,7 @@ ghost use Rattle.osm_elements.specs.Maps.{Rows};
 ghost use Rattle.osm_changes.specs.Sound.{is_sound};
 ghost use Rattle.room_history.specs.Examples.{first_run, range_ends, limit_one, limit_zero, strangers, in_use, taken_back_way, refusals_in_turn, relations_in_turn, redo_at_once, redo_refused, redo_order, redo_again};
 
+use osm_changes::laws::{an_inverse_restores, differences_are_changes};
 use std::alloc::Allocator;
 
 /// Every journal that calls lead to from a sound base holds.
@@ -30,6 +32,18 @@ pub fn legal_histories_hold<A: Allocator>()
 pub fn entries_are_counted<A: Allocator>()
     ensures { (base : Rows A) (j : List (Entry A)) (e : Entry A) → applied base (j ++ e ∷ []) ≡ counted (applied base j) (recorded_next (past base j) e.kind).changes }
 {}
+
+/// What an entry of a journal changed are changes from the map before it: their names rise, and each leads from the row that the
+/// map has there to another one.
+pub fn entries_change_their_maps<A: Allocator>()
+    ensures changes { (base : Rows A) (limit : ℕ) (i k : List (Entry A)) (e : Entry A) → is_sound base ≡ true → IsJournal base limit (i ++ e ∷ k)
+        → AreChanges (recorded_next (past base i) e.kind).changes }
+    ensures from { (base : Rows A) (limit : ℕ) (i k : List (Entry A)) (e : Entry A) → is_sound base ≡ true → IsJournal base limit (i ++ e ∷ k)
+        → AreFrom (mapof base i) (recorded_next (past base i) e.kind).changes }
+{
+    differences_are_changes::<A>();
+    an_inverse_restores::<A>();
+}
 
 /// What the definitions say of the worked examples is what was worked out by hand.
 pub fn replies_are_as_worked()

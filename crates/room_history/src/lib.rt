@@ -6,6 +6,7 @@ pub mod call;
 pub mod entry;
 mod journal;
 pub mod laws;
+pub mod news;
 pub mod numbers;
 pub mod reply;
 pub mod room;

@@ -14,6 +14,7 @@ use crate::ask::{RoomCall, RoomReply, Undoable};
 use crate::call::{Call, Request};
 use crate::entry::{Entry, EntryKind};
 use crate::journal::{action_of, numbered};
+use crate::news::{NewsList, news_past};
 use crate::numbers::Numbers;
 use crate::reply::Reply;
 use crate::undo::undoable;
@@ -76,6 +77,7 @@ impl<A: Allocator + Copy> Room<A> {
     ghost use Rattle.room_history.specs.Headline.{Holds};
     ghost use Rattle.room_history.specs.Inner.Rooms.{MayAppend};
     ghost use Rattle.edit_actions.specs.MadeActions.{is_made_action};
+    ghost use Rattle.room_history.specs.News.{news};
     ghost use Rattle.room_history.specs.Runs.{IsStep};
     ghost use Rattle.room_history.specs.Asking.{IsAnswered};
     ghost use Rattle.osm_elements.specs.Rows.{row_at};
@@ -343,6 +345,7 @@ impl<A: Allocator + Copy> Room<A> {
             RoomCall::Get(name) => RoomReply::Get(self.copy_of(&name)),
             RoomCall::Rows => RoomReply::Rows(self.front_and_rows()),
             RoomCall::Undos(author) => RoomReply::Undos(self.undoable_by(&author)),
+            RoomCall::News(from) => RoomReply::News(self.news(from)),
         }
     }
 
@@ -404,6 +407,15 @@ impl<A: Allocator + Copy> Room<A> {
         ensures { IfOk result (λ rows. rows ≡ mapof self.now.base self.now.journal) }
     {
         self.store.map().rows(*self.entries.allocator())
+    }
+
+    /// The news of all entries but the first `from`, in order. It costs what those entries changed, which it copies; the
+    /// one refusal is want of memory.
+    pub fn news(&self, from: u64) -> Result<NewsList<A>, Memory>
+        ensures { IfOk result (λ told. told ≡ news self.now.base self.now.journal from) }
+    {
+        let alloc = *self.entries.allocator();
+        news_past(alloc, &self.entries, &self.recorded, from)
     }
 
     /// How many entries the journal has.

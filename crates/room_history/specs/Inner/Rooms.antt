@@ -1,5 +1,5 @@
 -- What a room holds beside its journal.
-use Rattle.std.specs.Prelude.{◌≡◌, ◌<◌, ℕ, List, [], None, length, map}
+use Rattle.std.specs.Prelude.{◌≡◌, ◌<◌, ℕ, List, [], None, length}
 use Rattle.osm_changes.specs.declared.change.Change.{Change}
 use Rattle.osm_changes.specs.Stores.{StoreState}
 use Rattle.osm_elements.specs.Maps.{Rows}
@@ -9,17 +9,14 @@ use Rattle.room_history.specs.declared.entry.Entry.{Entry}
 use Rattle.edit_footprint.specs.Holding.{Held}
 use Rattle.room_history.specs.Applied.{applied}
 use Rattle.room_history.specs.Blockers.{held}
-use Rattle.room_history.specs.Replays.{Recorded, past, mapof}
+use Rattle.room_history.specs.News.{recorded_changes}
+use Rattle.room_history.specs.Replays.{past, mapof}
 use Rattle.room_history.specs.Answers.{spent}
 use Rattle.room_history.specs.LegalJournals.{IsJournal}
 use Rattle.room_history.specs.Inner.Deeds.{deeds}
 use Rattle.room_history.specs.Inner.Origins.{origins}
 
 module _ {A : Type 0} where
-  -- what each entry changed
-  abbrev pub recorded_changes : Rows A → List (Entry A) → List (List (Change A))
-  recorded_changes base j = map (λ (r : Recorded A). r.changes) (past base j).entries
-
   -- the journal is one that calls lead to; the store, the recorded changes, where the actions are, the holders of what stands and the deeds are those of its entries; for now the base is the empty map
   pub record IsRoom (store : StoreState A) (recorded : List (List (Change A))) (firsts : List ℕ) (holders : Held) (done : List Deed) (base : Rows A) (limit : ℕ) (j : List (Entry A)) : Type 0 where
     pub journal : IsJournal base limit j

@@ -1,4 +1,4 @@
-use Rattle.room_history.proofs.Asking.{took, got, listed, gave}
+use Rattle.room_history.proofs.Asking.{took, got, listed, gave, told}
 use Rattle.room_history.proofs.room.Room.ask.Goals as goal
 
 pub returns-in-Take-clause-answer : goal.returns-in-Take-clause-answer
@@ -20,3 +20,8 @@ pub returns-in-Undos-clause-answer : goal.returns-in-Undos-clause-answer
 returns-in-Undos-clause-answer g c =
     let state = c.args.self.now in
     rw c.in-Undos.is (gave state.base state.limit state.journal c.in-Undos.author c.undoable_by.result c.undoable_by.ensures)
+
+pub returns-in-News-clause-answer : goal.returns-in-News-clause-answer
+returns-in-News-clause-answer g c =
+    let state = c.args.self.now in
+    rw c.in-News.is (told state.base state.limit state.journal c.in-News.from c.news.result c.news.ensures)

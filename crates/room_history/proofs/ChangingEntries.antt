@@ -1,0 +1,113 @@
+-- What an entry of a journal changed are changes from the map before it.
+use Rattle.std.proofs.Common.{◌≡◌, ◌≢◌, ◌⊎◌, ◌++◌, ℕ, true, T, List, [], ◌∷◌, Option, Some, None, All, inl, inr, map, refl, sym, ap, subst, ◌∙◌}
+use Rattle.std.specs.List.{fold}
+use Rattle.std.proofs.lemmas.List.Elements.{All-map}
+use Rattle.edit_actions.specs.declared.action.Action.{Action}
+use Rattle.edit_actions.specs.After.{after, changes}
+use Rattle.edit_actions.specs.Facts.Accepted.{AreInOrder-after}
+use Rattle.osm_elements.specs.Maps.{Rows}
+use Rattle.osm_elements.specs.Rows.{AreInOrder}
+use Rattle.osm_changes.specs.declared.change.Change.{Change}
+use Rattle.osm_changes.specs.Changes.{taken_back, inverse, changed, changed_names, are_rising, differences, AreChanges, AreFrom}
+use Rattle.osm_changes.specs.Sound.{is_sound}
+use Rattle.osm_changes.specs.Facts.Changing.{changed-differences}
+use Rattle.osm_changes.specs.Facts.SoundRows.{sound_in_order}
+use Rattle.room_stacks.specs.declared.author.Author.{Author}
+use Rattle.room_history.specs.declared.call.Call.{Call}
+use Rattle.room_history.specs.declared.entry.Entry.{Entry}
+use Rattle.room_history.specs.declared.entry.EntryKind.{EntryKind}
+use Rattle.room_history.specs.declared.entry.EntryKind.TheVariants.{Do, Undo, Redo}
+use Rattle.room_history.specs.declared.reply.Reply.{Reply}
+use Rattle.room_history.specs.Answers.{redo_refusal, kind_refusal, with_entry, answer}
+use Rattle.room_history.specs.LegalJournals.{IsJournal, opened, called}
+use Rattle.room_history.specs.Replays.{Past, Recorded, past, past_after, mapof, recorded_of, recorded_next, action_at}
+use Rattle.room_history.proofs.Appending.{recorded-redo}
+use Rattle.room_history.proofs.Keeping.{journal_led, undone_by}
+use Rattle.room_history.proofs.Leading.{IsLed, led_sound}
+use Rattle.room_history.proofs.Outcomes.{Appended, Left, outcome}
+use Rattle.room_history.proofs.TakingBack.{Undone}
+
+module _ {A : Type 0} where
+  names_back : (cs : List (Change A)) → changed_names (inverse cs) ≡ changed_names cs
+  names_back [] = refl
+  names_back (c ∷ cs) = ap (λ rest. c.name ∷ rest) (names_back cs)
+
+  AreChanges-inverse : (cs : List (Change A)) → AreChanges cs → AreChanges (inverse cs)
+  AreChanges-inverse cs h = record {
+    rising = subst (λ names. T (are_rising names)) (sym (names_back cs)) h.rising;
+    differ = All-map (λ (c : Change A). c.after ≢ c.before) taken_back cs (λ k d l e. h.differ k d l (sym e));
+  }
+
+  -- what the next entry records are changes from the map as it is
+  pub record IsChange (p : Past A) (k : EntryKind A) : Type 0 where
+    pub changes : AreChanges (recorded_next p k).changes
+    pub from : AreFrom p.map (recorded_next p k).changes
+
+  -- so it is of each entry in turn
+  abbrev AreSteps : Past A → List (Entry A) → Type 0
+  AreSteps p [] = Unit {0}
+  AreSteps p (e ∷ j) = IsChange p e.kind × AreSteps (past_after p e.kind) j
+
+  abbrev past_from : Past A → List (Entry A) → Past A
+  past_from p j = fold (λ p (e : Entry A). past_after p e.kind) p j
+
+  steps-append : (p : Past A) (j : List (Entry A)) (e : Entry A) → AreSteps p j → IsChange (past_from p j) e.kind → AreSteps p (j ++ e ∷ [])
+  steps-append p [] e h c = (c, tt)
+  steps-append p (x ∷ j) e h c = (h.0, steps-append (past_after p x.kind) j e h.1 c)
+
+  step_at : (p : Past A) (i k : List (Entry A)) (e : Entry A) → AreSteps p (i ++ e ∷ k) → IsChange (past_from p i) e.kind
+  step_at p [] k e h = h.0
+  step_at p (x ∷ i) k e h = step_at (past_after p x.kind) i k e h.1
+
+  module _ (differ : (m n : Rows A) → AreChanges (differences m n)) (from : (m n : Rows A) → AreFrom m (differences m n))
+      (back : (m : Rows A) (cs : List (Change A)) → AreInOrder m → AreChanges cs → AreFrom m cs → AreFrom (changed m cs) (inverse cs)) (base : Rows A) (sound : is_sound base ≡ true) where
+    -- an action that is done, or done again
+    done : (p : Past A) (k : EntryKind A) (a : Action A) → recorded_next p k ≡ recorded_of p.map a → IsChange p k
+    done p k a is = record {
+      changes = subst (λ (r : Recorded A). AreChanges r.changes) (sym is) (differ p.map (after p.map a));
+      from = subst (λ (r : Recorded A). AreFrom p.map r.changes) (sym is) (from p.map (after p.map a));
+    }
+
+    -- an entry that is taken back
+    taken : (j : List (Entry A)) (e : Entry A) (s : ℕ) → e.kind ≡ Undo s → Undone base j s e → IsChange (past base j) e.kind
+    taken j e s is u = record {
+      changes = subst (λ cs. AreChanges cs) (sym u.takes_back) (AreChanges-inverse did (differ before (after before u.action)));
+      from = subst (λ cs. AreFrom (mapof base j) cs) (sym u.takes_back)
+          (subst (λ m. AreFrom m (inverse did)) leads (back before did order (differ before (after before u.action)) (from before (after before u.action))));
+    }
+      where
+        before : Rows A
+        before = mapof base (j ++ e ∷ [])
+
+        did : List (Change A)
+        did = changes before u.action
+
+        order : AreInOrder before
+        order = sound_in_order before (led_sound base (j ++ e ∷ []) sound u.led)
+
+        leads : changed before did ≡ mapof base j
+        leads = changed-differences before (after before u.action) order (AreInOrder-after before u.action order) ∙ u.before
+
+    next : (j : List (Entry A)) (author : Author) (id : ℕ) (k : EntryKind A) → IsLed base j → kind_refusal (past base j) j author k ≡ None → IsChange (past base j) k
+    next j author id (Do a) led passes = done (past base j) (Do a) a refl
+    next j author id (Undo s) led passes = let e = record { author = author; id = id; kind = Undo s } in taken j e s refl (undone_by base sound j led e s refl passes)
+    next j author id (Redo t) led passes = by (action_at (past base j) t) refl passes
+      where
+        by : (o : Option (Action A)) → action_at (past base j) t ≡ o → redo_refusal (mapof base j) o ≡ None → IsChange (past base j) (Redo t)
+        by None e r = absurd (cc)
+        by (Some a) e r = done (past base j) (Redo t) a (recorded-redo base j t a e)
+
+    journal_steps : (limit : ℕ) (j : List (Entry A)) → IsJournal base limit j → AreSteps (record { map = base; entries = [] }) j
+    journal_steps limit j opened = tt
+    journal_steps limit j (called i c before made) = by (outcome base limit i c) (journal_steps limit i before)
+      where
+        start : Past A
+        start = record { map = base; entries = [] }
+
+        by : Appended base i c (answer base limit i c) ⊎ Left i (answer base limit i c) → AreSteps start i → AreSteps start (answer base limit i c).1
+        by (inl a) steps = subst (AreSteps start) (sym (ap (λ (p : Reply A × List (Entry A)). p.1) a.is))
+            (steps-append start i (record { author = c.author; id = c.id; kind = a.kind }) steps (next i c.author c.id a.kind (journal_led base sound limit i before) a.passes))
+        by (inr l) steps = subst (AreSteps start) (sym l.same) steps
+
+    pub entry_changes : (limit : ℕ) (i k : List (Entry A)) (e : Entry A) → IsJournal base limit (i ++ e ∷ k) → IsChange (past base i) e.kind
+    entry_changes limit i k e h = step_at (record { map = base; entries = [] }) i k e (journal_steps limit (i ++ e ∷ k) h)

@@ -1,0 +1,222 @@
+//! What others are told of an entry: the names that it changed, with their rows after it.
+ghost use Rattle.std.specs.Prelude.{◌≡◌, IfOk, length, map, drop};
+ghost use Rattle.room_history.specs.News.{news_row, news_of, news_from};
+
+use crate::entry::Entry;
+use osm_changes::change::Change;
+use osm_changes::changes::Changes;
+use osm_elements::Memory;
+use osm_elements::element::Element;
+use osm_elements::name::Name;
+use room_stacks::author::Author;
+use std::alloc::{AllocError, Allocator};
+use std::marker::Model;
+
+/// A name that an entry changed, with the element that it has since; none where the row is gone.
+#[derive(Drop)]
+#[derive_where(Debug)]
+pub struct NewsRow<A: Allocator> {
+    /// The changed name.
+    pub name: Name,
+    /// Its element after the entry.
+    pub element: Option<Element<A>>,
+}
+
+impl<A: Allocator> NewsRow<A> {
+    /// An equal row, or `Memory`.
+    pub fn copy(&self) -> Result<NewsRow<A>, Memory>
+    where
+        A: Clone,
+        ensures { IfOk result (λ r. r ≡ self.now) }
+    {
+        Ok(self.clone()?)
+    }
+}
+
+impl<A: Allocator + Clone> Clone for NewsRow<A> {
+    ghost is_clone = { λ a b. b ≡ a };
+
+    fn clone(&self) -> Result<NewsRow<A>, AllocError> {
+        let element = copy_of(&self.element)?;
+        Ok(NewsRow {
+            name: self.name,
+            element,
+        })
+    }
+}
+
+/// A list of rows as news tell them.
+#[derive(Drop)]
+#[derive_where(Debug)]
+pub struct NewsRows<A: Allocator> {
+    rows: Vec<NewsRow<A>, A>,
+}
+
+// Rows of news are seen as the list of them.
+impl<A: Allocator> Model for NewsRows<A> {
+    ghost use Rattle.std.specs.Prelude.{List};
+    ghost use Rattle.room_history.specs.declared.news.NewsRow.{NewsRow};
+
+    ghost Value = { List (NewsRow A) };
+
+    ghost view = { λ r. r.rows.items };
+}
+
+impl<A: Allocator> NewsRows<A> {
+    /// Takes the rows of a vector and gives them as a list, in their order. It takes no memory.
+    pub fn from_vec(rows: Vec<NewsRow<A>, A>) -> NewsRows<A>
+        ensures { result ≡ rows.items }
+    {
+        NewsRows { rows }
+    }
+
+    /// Gives the rows back as a vector, in their order. It takes no memory.
+    pub fn into_vec(self) -> Vec<NewsRow<A>, A>
+        ensures { result.items ≡ self }
+    {
+        let NewsRows { rows } = self;
+        rows
+    }
+
+    /// The rows as a slice, in their order. It takes no memory.
+    pub fn as_slice(&self) -> &[NewsRow<A>]
+        ensures { result.now ≡ self.now }
+    {
+        &self.rows
+    }
+
+    /// A second list of equal rows, or `Memory`.
+    pub fn copy(&self) -> Result<NewsRows<A>, Memory>
+    where
+        A: Clone,
+        ensures { IfOk result (λ r. r ≡ self.now) }
+    {
+        Ok(self.clone()?)
+    }
+}
+
+impl<A: Allocator + Clone> Clone for NewsRows<A> {
+    ghost is_clone = { λ a b. b ≡ a };
+
+    fn clone(&self) -> Result<NewsRows<A>, AllocError> {
+        let rows = self.rows.clone()?;
+        Ok(NewsRows { rows })
+    }
+}
+
+/// What others are told of an entry.
+#[derive(Drop)]
+#[derive_where(Debug)]
+pub struct News<A: Allocator> {
+    /// The number of the entry.
+    pub seq: u64,
+    /// Whose call it was.
+    pub author: Author,
+    /// The names that it changed, rising, each with its row after it: of an undo with what it put back.
+    pub rows: NewsRows<A>,
+}
+
+/// A list of news, in the order of their entries.
+#[derive(Drop)]
+#[derive_where(Debug)]
+pub struct NewsList<A: Allocator> {
+    news: Vec<News<A>, A>,
+}
+
+// News are seen as the list of them.
+impl<A: Allocator> Model for NewsList<A> {
+    ghost use Rattle.std.specs.Prelude.{List};
+    ghost use Rattle.room_history.specs.declared.news.News.{News};
+
+    ghost Value = { List (News A) };
+
+    ghost view = { λ n. n.news.items };
+}
+
+impl<A: Allocator> NewsList<A> {
+    /// Takes the news of a vector and gives them as a list, in their order. It takes no memory.
+    pub fn from_vec(news: Vec<News<A>, A>) -> NewsList<A>
+        ensures { result ≡ news.items }
+    {
+        NewsList { news }
+    }
+
+    /// Gives the news back as a vector, in their order. It takes no memory.
+    pub fn into_vec(self) -> Vec<News<A>, A>
+        ensures { result.items ≡ self }
+    {
+        let NewsList { news } = self;
+        news
+    }
+
+    /// The news as a slice, in their order. It takes no memory.
+    pub fn as_slice(&self) -> &[News<A>]
+        ensures { result.now ≡ self.now }
+    {
+        &self.news
+    }
+}
+
+/// The news of all entries but the first `from`, in order, from the entries and what each of them changed. The one
+/// refusal is want of memory. It copies what those entries changed.
+pub fn news_past<A: Allocator + Copy>(
+    alloc: A,
+    entries: &[Entry<A>],
+    recorded: &[Changes<A>],
+    from: u64,
+) -> Result<NewsList<A>, Memory>
+    requires { length recorded.now ≡ length entries.now }
+    ensures { IfOk result (λ told. told ≡ drop from (news_from 1 entries.now recorded.now)) }
+{
+    let mut told = Vec::new(alloc);
+    for place in from as usize..entries.len() {
+        let news = news_of(alloc, place as u64 + 1, &entries[place], &recorded[place])?;
+        told.push(news)?;
+    }
+    Ok(NewsList::from_vec(told))
+}
+
+// The news of an entry under its number.
+fn news_of<A: Allocator + Copy>(
+    alloc: A,
+    seq: u64,
+    entry: &Entry<A>,
+    changes: &Changes<A>,
+) -> Result<News<A>, Memory>
+    ensures { IfOk result (λ n. n ≡ news_of seq entry.now changes.now) }
+{
+    let rows = rows_after(alloc, changes.rows())?;
+    Ok(News {
+        seq,
+        author: entry.author,
+        rows,
+    })
+}
+
+// The changed names, each with a copy of its row after the change.
+fn rows_after<A: Allocator + Copy>(
+    alloc: A,
+    changes: &[Change<A>],
+) -> Result<NewsRows<A>, Memory>
+    ensures { IfOk result (λ rows. rows ≡ map news_row changes.now) }
+{
+    let mut rows = Vec::with_capacity(alloc, changes.len())?;
+    for change in changes {
+        let element = copy_of(&change.after)?;
+        rows.push(NewsRow {
+            name: change.name,
+            element,
+        })?;
+    }
+    Ok(NewsRows { rows })
+}
+
+// An equal element, where there is one.
+fn copy_of<A: Allocator + Clone>(element: &Option<Element<A>>) -> Result<Option<Element<A>>, Memory>
+    ensures { IfOk result (λ copy. copy ≡ element.now) }
+{
+    match element {
+        Some(element) => Ok(Some(element.copy()?)),
+        None => Ok(None),
+    }
+}
