@@ -90,7 +90,7 @@ module _ {A : Type 0} where
 
     next : (j : List (Entry A)) (author : Author) (id : ℕ) (k : EntryKind A) → IsLed base j → kind_refusal (past base j) j author k ≡ None → IsChange (past base j) k
     next j author id (Do a) led passes = done (past base j) (Do a) a refl
-    next j author id (Undo s) led passes = let e = record { author = author; id = id; kind = Undo s } in taken j e s refl (undone_by base sound j led e s refl passes)
+    next j author id (Undo s) led passes = let e : Entry A = record { author = author; id = id; kind = Undo s } in taken j e s refl (undone_by base sound j led e s refl passes)
     next j author id (Redo t) led passes = by (action_at (past base j) t) refl passes
       where
         by : (o : Option (Action A)) → action_at (past base j) t ≡ o → redo_refusal (mapof base j) o ≡ None → IsChange (past base j) (Redo t)
