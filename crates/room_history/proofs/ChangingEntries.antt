@@ -1,5 +1,5 @@
 -- What an entry of a journal changed are changes from the map before it.
-use Rattle.std.proofs.Common.{◌≡◌, ◌≢◌, ◌⊎◌, ◌++◌, ℕ, true, T, List, [], ◌∷◌, Option, Some, None, All, inl, inr, map, refl, sym, ap, subst, ◌∙◌}
+use Rattle.std.proofs.Common.{◌≡◌, ◌≢◌, ◌⊎◌, ◌++◌, ℕ, true, T, List, [], ◌∷◌, Option, Some, None, inl, inr, refl, sym, ap, subst, ◌∙◌}
 use Rattle.std.specs.List.{fold}
 use Rattle.std.proofs.lemmas.List.Elements.{All-map}
 use Rattle.edit_actions.specs.declared.action.Action.{Action}
@@ -13,12 +13,11 @@ use Rattle.osm_changes.specs.Sound.{is_sound}
 use Rattle.osm_changes.specs.Facts.Changing.{changed-differences}
 use Rattle.osm_changes.specs.Facts.SoundRows.{sound_in_order}
 use Rattle.room_stacks.specs.declared.author.Author.{Author}
-use Rattle.room_history.specs.declared.call.Call.{Call}
 use Rattle.room_history.specs.declared.entry.Entry.{Entry}
 use Rattle.room_history.specs.declared.entry.EntryKind.{EntryKind}
 use Rattle.room_history.specs.declared.entry.EntryKind.TheVariants.{Do, Undo, Redo}
 use Rattle.room_history.specs.declared.reply.Reply.{Reply}
-use Rattle.room_history.specs.Answers.{redo_refusal, kind_refusal, with_entry, answer}
+use Rattle.room_history.specs.Answers.{redo_refusal, kind_refusal, answer}
 use Rattle.room_history.specs.LegalJournals.{IsJournal, opened, called}
 use Rattle.room_history.specs.Replays.{Past, Recorded, past, past_after, mapof, recorded_of, recorded_next, action_at}
 use Rattle.room_history.proofs.Appending.{recorded-redo}

@@ -1,4 +1,4 @@
-use Rattle.std.proofs.Common.{◌≡◌, ◌+◌, ◌++◌, drop, ap, ◌∙◌}
+use Rattle.std.proofs.Common.{◌+◌, ◌++◌, drop, ap, ◌∙◌}
 use Rattle.room_history.specs.News.{news_from}
 use Rattle.room_history.proofs.Telling.{one_more_told, all_told}
 use Rattle.room_history.proofs.news.news_past.Goals as goal
