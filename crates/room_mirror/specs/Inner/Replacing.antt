@@ -1,0 +1,24 @@
+-- Rows replaced where there is room: first each name that is absent gets an empty relation, and then each row is replaced or taken out, which takes no memory.
+use Rattle.std.specs.Prelude.{◌≡◌, true, List, [], None}
+use Rattle.std.specs.List.{filter, fold}
+use Rattle.osm_elements.specs.declared.element.Element.TheVariants.{Relation}
+use Rattle.osm_elements.specs.declared.name.Name.{Name}
+use Rattle.osm_elements.specs.Maps.{Rows, is_absent, is_among, is_present}
+use Rattle.osm_elements.specs.Rows.{put_row, without_row, row_at}
+
+module _ {A : Type 0} where
+  -- the map with an empty relation of this name
+  abbrev pub with_empty : Rows A → Name → Rows A
+  with_empty m x = put_row m x (Relation [] [])
+
+  -- the names that are absent
+  abbrev pub absent_names : Rows A → List Name → List Name
+  absent_names m names = filter (is_absent m) names
+
+  -- the map has none of the names
+  abbrev pub AreAbsent : Rows A → List Name → Type 0
+  AreAbsent m names = (x : Name) → is_among names x ≡ true → row_at m x ≡ None
+
+  -- the map has all of the names
+  abbrev pub ArePresent : Rows A → List Name → Type 0
+  ArePresent m names = (x : Name) → is_among names x ≡ true → is_present m x ≡ true

@@ -1,0 +1,70 @@
+-- A mirror, which follows the news of a room by their numbers. (The rules of a mirror are this project's.)
+use Rattle.std.specs.Prelude.{◌≡◌, ◌&&◌, ◌+◌, ◌-◌, ◌^◌, ℕ, Bool, not, List, [], ◌∷◌, Option, Some, None, Result, Ok, Err, map, min, nat_eq, take}
+use Rattle.std.specs.Bool.{then_some}
+use Rattle.std.specs.List.{list_all}
+use Rattle.osm_elements.specs.declared.name.Name.{Name}
+use Rattle.osm_elements.specs.Maps.{Rows}
+use Rattle.osm_elements.specs.Rows.{row_at}
+use Rattle.osm_changes.specs.Changes.{are_rising}
+use Rattle.osm_changes.specs.SameRows.{is_same_row}
+use Rattle.edit_simple.specs.Checks.{first_that_holds}
+use Rattle.room_history.specs.declared.entry.Entry.{Entry}
+use Rattle.room_history.specs.declared.news.News.{News}
+use Rattle.room_history.specs.declared.news.NewsRow.{NewsRow}
+use Rattle.room_history.specs.News.{mirrored}
+use Rattle.room_history.specs.Replays.{mapof}
+use Rattle.room_mirror.specs.declared.fault.MirrorFault.{MirrorFault}
+use Rattle.room_mirror.specs.declared.fault.MirrorFault.TheVariants.{Gap, Mismatch, Memory}
+
+-- the number of the news that it took last, and its rows
+pub record MirrorState (A : Type 0) : Type 0 where
+  pub seq : ℕ
+  pub rows : Rows A
+
+-- the number that is due after another; numbers end at 2^64 - 1
+abbrev pub due_after : ℕ → ℕ
+due_after seq = min (seq + 1) (2 ^ 64 - 1)
+
+module _ {A : Type 0} where
+  abbrev pub told_names : List (NewsRow A) → List Name
+  told_names rows = map (λ (r : NewsRow A). r.name) rows
+
+  -- the row is another than the map's: another element, one where the map has none, or none where it has one
+  abbrev pub tells_another : Rows A → NewsRow A → Bool
+  tells_another m r = not (is_same_row r.element (row_at m r.name))
+
+  -- the names rise, and each row is another than the map's
+  abbrev pub fits : Rows A → List (NewsRow A) → Bool
+  fits m rows = are_rising (told_names rows) && list_all (tells_another m) rows
+
+  -- why news are not taken
+  abbrev pub fault : MirrorState A → News A → Option MirrorFault
+  fault s n = first_that_holds (
+      then_some (not (nat_eq n.seq (s.seq + 1))) (Gap (due_after s.seq) n.seq)
+      ∷ then_some (not (fits s.rows n.rows)) Mismatch
+      ∷ [])
+
+  -- a mirror with news taken
+  abbrev pub with_news : MirrorState A → News A → MirrorState A
+  with_news s n = record { seq = n.seq; rows = mirrored s.rows n.rows }
+
+  -- the mirror of a room after the first entries of its journal
+  abbrev pub mirror_of : Rows A → List (Entry A) → ℕ → MirrorState A
+  mirror_of base j n = record { seq = n; rows = mapof base (take n j) }
+
+  -- news are refused by their fault, or by want of memory where they have none
+  abbrev pub IsRefused : MirrorState A → News A → MirrorFault → Type 0
+  IsRefused s n f = by (fault s n)
+    where
+      by : Option MirrorFault → Type 0
+      by (Some g) = f ≡ g
+      by None = f ≡ Memory
+
+  -- news taken in turn: the mirror after all of them, or the first fault
+  abbrev pub taken_in_turn : MirrorState A → List (News A) → Result (MirrorState A) MirrorFault
+  taken_in_turn s [] = Ok s
+  taken_in_turn s (n ∷ ns) = unless (fault s n) (taken_in_turn (with_news s n) ns)
+    where
+      unless : Option MirrorFault → Result (MirrorState A) MirrorFault → Result (MirrorState A) MirrorFault
+      unless None rest = rest
+      unless (Some f) rest = Err f

@@ -1,0 +1,110 @@
+//! The mirror.
+ghost use Rattle.std.specs.Prelude.{◌≡◌, IfOk, OnOk, IfErr, None};
+ghost use Rattle.osm_elements.specs.Rows.{AreInOrder};
+
+use crate::fault::MirrorFault;
+use crate::fitting::fits;
+use crate::replacing::replace;
+use osm_elements::Memory;
+use osm_elements::map::{OsmMap, Rows};
+use room_history::news::News;
+use std::alloc::Allocator;
+use std::marker::Model;
+
+/// A map that follows a room: as long as it takes each news in turn, it has the rows that the room has after the entry
+/// of its number.
+#[derive(Drop)]
+#[derive_where(Debug)]
+pub struct Mirror<A: Allocator> {
+    #[derive_where(skip)]
+    alloc: A,
+    seq: u64,
+    map: OsmMap<A>,
+}
+
+// A mirror is seen as its number and its rows.
+impl<A: Allocator> Model for Mirror<A> {
+    ghost use Rattle.room_mirror.specs.Mirrors.{MirrorState};
+
+    ghost Value = { MirrorState A };
+
+    ghost view = { λ m. record { seq = m.seq; rows = m.map } };
+}
+
+impl<A: Allocator + Copy> Mirror<A> {
+    ghost use Rattle.room_mirror.specs.Mirrors.{fault, with_news, IsRefused};
+
+    /// A mirror of these rows, whose names rise, as they were after the entry of this number. The one refusal is want
+    /// of memory.
+    pub fn from_rows(alloc: A, seq: u64, rows: Rows<A>) -> Result<Mirror<A>, Memory>
+        requires { AreInOrder rows }
+        ensures { IfOk result (λ m. m ≡ record { seq = seq; rows = rows }) }
+    {
+        let map = map_of(alloc, rows)?;
+        Ok(Mirror { alloc, seq, map })
+    }
+
+    /// Takes the news that come next. It refuses `Gap` where they have another number than the one after its own; then
+    /// `Mismatch` where their names do not rise, or it has one of their rows already; then `Memory`. After a refusal it
+    /// is as it was. It costs what the news tell, times a logarithm, and never the map.
+    pub fn take(&mut self, news: &News<A>) -> Result<(), MirrorFault>
+        ensures ok { OnOk result ((fault self.old news.now ≡ None) × (self.new ≡ with_news self.old news.now)) }
+        ensures err { IfErr result (λ f. IsRefused self.old news.now f × (self.new ≡ self.old)) }
+    {
+        if let Some(fault) = self.fault(news) {
+            return Err(fault);
+        }
+        match replace(&mut self.map, self.alloc, &news.rows) {
+            Ok(()) => {
+                self.seq = news.seq;
+                Ok(())
+            }
+            Err(_) => Err(MirrorFault::Memory),
+        }
+    }
+
+    // Why it does not take news, want of memory apart.
+    fn fault(&self, news: &News<A>) -> Option<MirrorFault>
+        ensures { result ≡ fault self.now news.now }
+    {
+        if self.seq.checked_add(1) != Some(news.seq) {
+            let want = self.seq.saturating_add(1);
+            return Some(MirrorFault::Gap {
+                want,
+                got: news.seq,
+            });
+        }
+        if !fits(&self.map, news.rows.as_slice()) {
+            return Some(MirrorFault::Mismatch);
+        }
+        None
+    }
+
+    /// The number of the entry whose news it took last.
+    pub fn seq(&self) -> u64
+        ensures { result ≡ self.now.seq }
+    {
+        self.seq
+    }
+
+    /// Its map.
+    pub fn map(&self) -> &OsmMap<A>
+        ensures { result.now ≡ self.now.rows }
+    {
+        &self.map
+    }
+}
+
+// A map of rows whose names rise. The one refusal is want of memory.
+fn map_of<A: Allocator + Copy>(alloc: A, rows: Rows<A>) -> Result<OsmMap<A>, Memory>
+    requires { AreInOrder rows }
+    ensures { IfOk result (λ m. m ≡ rows) }
+{
+    let mut map = OsmMap::new(alloc);
+    for row in rows.into_vec() {
+        if let Err((_, memory)) = map.put(row.name, row.element) {
+            return Err(memory);
+        }
+    }
+    Ok(map)
+}
