@@ -25,7 +25,13 @@ pub record MirrorState (A : Type 0) : Type 0 where
 abbrev pub due_after : ℕ → ℕ
 due_after seq = min (seq + 1) (2 ^ 64 - 1)
 
+-- refused by the fault that there is, or by want of memory where there is none
+abbrev pub IsRefused : Option MirrorFault → MirrorFault → Type 0
+IsRefused None f = f ≡ Memory
+IsRefused (Some g) f = f ≡ g
+
 module _ {A : Type 0} where
+  -- the names of the rows
   abbrev pub told_names : List (NewsRow A) → List Name
   told_names rows = map (λ (r : NewsRow A). r.name) rows
 
@@ -52,19 +58,12 @@ module _ {A : Type 0} where
   abbrev pub mirror_of : Rows A → List (Entry A) → ℕ → MirrorState A
   mirror_of base j n = record { seq = n; rows = mapof base (take n j) }
 
-  -- news are refused by their fault, or by want of memory where they have none
-  abbrev pub IsRefused : MirrorState A → News A → MirrorFault → Type 0
-  IsRefused s n f = by (fault s n)
-    where
-      by : Option MirrorFault → Type 0
-      by (Some g) = f ≡ g
-      by None = f ≡ Memory
+  -- a fault, or what comes of there being none
+  abbrev pub taken_or : Option MirrorFault → Result (MirrorState A) MirrorFault → Result (MirrorState A) MirrorFault
+  taken_or None rest = rest
+  taken_or (Some f) rest = Err f
 
   -- news taken in turn: the mirror after all of them, or the first fault
   abbrev pub taken_in_turn : MirrorState A → List (News A) → Result (MirrorState A) MirrorFault
   taken_in_turn s [] = Ok s
-  taken_in_turn s (n ∷ ns) = unless (fault s n) (taken_in_turn (with_news s n) ns)
-    where
-      unless : Option MirrorFault → Result (MirrorState A) MirrorFault → Result (MirrorState A) MirrorFault
-      unless None rest = rest
-      unless (Some f) rest = Err f
+  taken_in_turn s (n ∷ ns) = taken_or (fault s n) (taken_in_turn (with_news s n) ns)

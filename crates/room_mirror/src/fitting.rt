@@ -25,11 +25,9 @@ pub fn fits<A: Allocator>(rows: &OsmMap<A>, told: &[NewsRow<A>]) -> bool
 fn are_rising<A: Allocator>(told: &[NewsRow<A>]) -> bool
     ensures { result ≡ are_rising (told_names told.now) }
 {
-    for (place, row) in told.iter().enumerate() {
-        if let Some(next) = told.get(place + 1) {
-            if !is_before(&row.name, &next.name) {
-                return false;
-            }
+    for place in 0..told.len() {
+        if place + 1 < told.len() && !is_before(&told[place].name, &told[place + 1].name) {
+            return false;
         }
     }
     true
@@ -39,7 +37,11 @@ fn are_rising<A: Allocator>(told: &[NewsRow<A>]) -> bool
 fn is_before(one: &Name, other: &Name) -> bool
     ensures { result ≡ is_before one.now other.now }
 {
-    matches!(one.cmp(other), Ordering::Less)
+    match one.cmp(other) {
+        Ordering::Less => true,
+        Ordering::Equal => false,
+        Ordering::Greater => false,
+    }
 }
 
 // Whether each row is another than the map's.

@@ -49,7 +49,7 @@ impl<A: Allocator + Copy> Mirror<A> {
     /// is as it was. It costs what the news tell, times a logarithm, and never the map.
     pub fn take(&mut self, news: &News<A>) -> Result<(), MirrorFault>
         ensures ok { OnOk result ((fault self.old news.now ≡ None) × (self.new ≡ with_news self.old news.now)) }
-        ensures err { IfErr result (λ f. IsRefused self.old news.now f × (self.new ≡ self.old)) }
+        ensures err { IfErr result (λ f. IsRefused (fault self.old news.now) f × (self.new ≡ self.old)) }
     {
         if let Some(fault) = self.fault(news) {
             return Err(fault);

@@ -121,13 +121,14 @@ fn replace_one<A: Allocator + Copy>(rows: &mut OsmMap<A>, row: NewsRow<A>)
     requires present { is_present rows.old row.name ≡ true }
     ensures { rows.new ≡ with_row rows.old row.name row.element }
 {
-    match row.element {
-        Some(element) => match rows.put(row.name, element) {
+    let NewsRow { name, element } = row;
+    match element {
+        Some(element) => match rows.put(name, element) {
             Ok(_) => {}
             Err(_) => unreachable!(),
         },
         None => {
-            let _ = rows.take_out(&row.name);
+            let _ = rows.take_out(&name);
         }
     }
 }

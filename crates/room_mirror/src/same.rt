@@ -17,7 +17,7 @@ use std::alloc::Allocator;
 
 /// Whether both rows are there and the same, or neither is there.
 pub fn is_same_row<A: Allocator>(one: &Option<Element<A>>, other: Option<&Element<A>>) -> bool
-    ensures { result ≡ is_same_row one.now (option_copied other) }
+    ensures { result ≡ is_same_row one.now (option_copied other.entry) }
 {
     match (one, other) {
         (Some(one), Some(other)) => is_same_element(one, other),

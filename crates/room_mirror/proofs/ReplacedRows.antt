@@ -1,0 +1,79 @@
+-- News put into a map row by row.
+use Rattle.std.proofs.Common.{◌≡◌, ◌||◌, ◌+◌, ◌<◌, ℕ, Bool, true, false, T, List, [], ◌∷◌, ◌++◌, Option, is_some, length, get_or, take, map, refl, sym, ap, subst, ◌∙◌, cond}
+use Rattle.std.specs.List.{filter, fold}
+use Rattle.osm_elements.specs.declared.element.Element.{Element}
+use Rattle.osm_elements.specs.declared.name.Name.{Name}
+use Rattle.osm_elements.specs.Maps.{Rows, is_among, is_present, is_same}
+use Rattle.osm_elements.specs.Rows.{AreInOrder, row_at}
+use Rattle.osm_elements.specs.Facts.Rows.{is_eq-name_cmp_itself, same_rows}
+use Rattle.osm_changes.specs.Changes.{are_rising, with_row}
+use Rattle.osm_changes.specs.Facts.Changing.{row_at-with_row, AreInOrder-with_row}
+use Rattle.room_history.specs.declared.news.NewsRow.{NewsRow}
+use Rattle.room_history.specs.News.{mirrored}
+use Rattle.room_mirror.specs.Mirrors.{told_names}
+use Rattle.room_mirror.specs.Inner.Replacing.{with_empty, absent_names, ArePresent}
+use Rattle.room_mirror.proofs.Rising.{earlier}
+use Rattle.room_mirror.proofs.Rooming.{not_passed, row_at-with_empties, order-with_empties}
+
+or_left : (a b : Bool) → (a || b) ≡ false → a ≡ false
+or_left true b e = e
+or_left false b e = refl
+
+or_right : (a b : Bool) → (a || b) ≡ false → b ≡ false
+or_right true b e = absurd (cc)
+or_right false b e = e
+
+module _ {A : Type 0} where
+  pub AreInOrder-mirrored : (told : List (NewsRow A)) (m : Rows A) → AreInOrder m → AreInOrder (mirrored m told)
+  AreInOrder-mirrored [] m h = h
+  AreInOrder-mirrored (r ∷ rs) m h = AreInOrder-mirrored rs (with_row m r.name r.element) (AreInOrder-with_row m r.name r.element h)
+
+  -- a name that is not told keeps its row
+  kept : (told : List (NewsRow A)) (m : Rows A) (x : Name) → is_among (told_names told) x ≡ false → row_at (mirrored m told) x ≡ row_at m x
+  kept [] m x h = refl
+  kept (r ∷ rs) m x h =
+      kept rs (with_row m r.name r.element) x (or_right (is_same x r.name) (is_among (told_names rs) x) h) ∙ row_at-with_row m r.name r.element x
+      ∙ ap (λ b. cond b r.element (row_at m x)) (or_left (is_same x r.name) (is_among (told_names rs) x) h)
+
+  -- two maps that differ at told names alone
+  same_told : (told : List (NewsRow A)) (m n : Rows A) → ((x : Name) → is_among (told_names told) x ≡ false → row_at m x ≡ row_at n x) → (x : Name) → row_at (mirrored m told) x ≡ row_at (mirrored n told) x
+  same_told [] m n h x = h x refl
+  same_told (r ∷ rs) m n h x =
+      same_told rs (with_row m r.name r.element) (with_row n r.name r.element)
+      (λ y e. row_at-with_row m r.name r.element y ∙ by y e (is_same y r.name) refl ∙ sym (row_at-with_row n r.name r.element y)) x
+    where
+      by : (y : Name) → is_among (told_names rs) y ≡ false → (b : Bool) → is_same y r.name ≡ b → cond b r.element (row_at m y) ≡ cond b r.element (row_at n y)
+      by y e true s = refl
+      by y e false s = h y (ap (λ b. b || is_among (told_names rs) y) s ∙ e)
+
+  -- the rows that only make room are no longer seen
+  pub room_is_filled : (m : Rows A) (told : List (NewsRow A)) → AreInOrder m → mirrored (fold with_empty m (absent_names m (told_names told))) told ≡ mirrored m told
+  room_is_filled m told order =
+      same_rows (mirrored n told) (mirrored m told) (AreInOrder-mirrored told n (order-with_empties names m order)) (AreInOrder-mirrored told m order) (same_told told n m untold)
+    where
+      names : List Name
+      names = absent_names m (told_names told)
+
+      n : Rows A
+      n = fold with_empty m names
+
+      untold : (x : Name) → is_among (told_names told) x ≡ false → row_at n x ≡ row_at m x
+      untold x e = row_at-with_empties names m x ∙ ap (λ b. cond b _ (row_at m x)) (not_passed _ x (told_names told) e)
+
+  names-append : (xs ys : List (NewsRow A)) → told_names (xs ++ ys) ≡ told_names xs ++ told_names ys
+  names-append [] ys = refl
+  names-append (x ∷ xs) ys = ap (λ zs. x.name ∷ zs) (names-append xs ys)
+
+  among_later : (done rest : List (NewsRow A)) (r : NewsRow A) → is_among (told_names (done ++ r ∷ rest)) r.name ≡ true
+  among_later [] rest r = ap (λ b. b || is_among (told_names rest) r.name) (is_eq-name_cmp_itself r.name)
+  among_later (d ∷ done) rest r = ap (λ b. is_same r.name d.name || b) (among_later done rest r) ∙ or_true (is_same r.name d.name)
+    where
+      or_true : (b : Bool) → (b || true) ≡ true
+      or_true true = refl
+      or_true false = refl
+
+  -- a name that was there is there until its turn comes
+  pub still_there : (m : Rows A) (all done rest : List (NewsRow A)) (r : NewsRow A) → done ++ r ∷ rest ≡ all → T (are_rising (told_names all)) → ArePresent m (told_names all) → is_present (mirrored m done) r.name ≡ true
+  still_there m all done rest r is rising there =
+      ap is_some (kept done m r.name (earlier (told_names done) r.name (told_names rest) (subst (λ names. T (are_rising names)) (ap told_names (sym is) ∙ names-append done (r ∷ rest)) rising)))
+      ∙ there r.name (ap (λ rows. is_among (told_names rows) r.name) (sym is) ∙ among_later done rest r)
