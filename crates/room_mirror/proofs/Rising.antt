@@ -8,7 +8,7 @@ use Rattle.osm_elements.specs.declared.name.Name.{Name}
 use Rattle.osm_elements.specs.NameOrder.{name_cmp}
 use Rattle.osm_elements.specs.Maps.{is_same, is_among}
 use Rattle.osm_elements.specs.Facts.Dropped.{same_either_way}
-use Rattle.osm_elements.specs.Facts.Entries.{first, second, below_less, less}
+use Rattle.osm_elements.specs.Facts.Entries.{first, second, below_less}
 use Rattle.osm_elements.specs.Facts.Names.{name_cmp_total}
 use Rattle.osm_elements.specs.Facts.Tests.{first_true}
 use Rattle.osm_changes.specs.Changes.{are_rising}
@@ -20,6 +20,11 @@ use Rattle.room_mirror.specs.Inner.Rising.{is_before}
 -- names with nothing beside them
 abbrev bare : List Name → List (Name × Unit {0})
 bare names = map (λ x. (x, tt)) names
+
+less : (o : Ordering) → T (is_lt o) → o ≡ Less
+less Less h = refl
+less Equal h = absurd h
+less Greater h = absurd h
 
 -- a test that another brings along
 with_another : (b r : Bool) → (r ≡ true → b ≡ true) → (b && r) ≡ r
@@ -69,3 +74,8 @@ module _ {A : Type 0} where
   rising_last (r ∷ []) (suc i) l m = absurd (omega (arith, l))
   rising_last (r ∷ s ∷ rs) zero l m = absurd (omega (arith, m))
   rising_last (r ∷ s ∷ rs) (suc i) l m = let place : suc i + 1 ≡ suc (i + 1) = omega arith in rw place (rising_last (s ∷ rs) i (omega (arith, l)) (omega (arith, m)))
+
+  -- a walk over the names goes on where the next name is above
+  pub rises_on : (told : List (NewsRow A)) (i : ℕ) (d e : NewsRow A) (all : Bool) → i + 1 < length told → true ≡ is_before (get_or told i d).name (get_or told (i + 1) e).name
+      → all ≡ are_rising (told_names (drop i told)) → all ≡ are_rising (told_names (drop (i + 1) told))
+  rises_on told i d e all l above before = before ∙ rising_at told i d e l ∙ ap (λ b. b && are_rising (told_names (drop (i + 1) told))) (sym above)
