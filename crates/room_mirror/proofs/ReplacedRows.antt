@@ -1,9 +1,10 @@
 -- News put into a map row by row.
-use Rattle.std.proofs.Common.{◌≡◌, ◌||◌, ◌+◌, ◌<◌, ℕ, Bool, true, false, T, List, [], ◌∷◌, ◌++◌, Option, is_some, length, get_or, take, map, refl, sym, ap, subst, ◌∙◌, cond}
+use Rattle.std.proofs.Common.{◌≡◌, ◌||◌, ◌+◌, ◌<◌, ℕ, Bool, true, false, T, List, [], ◌∷◌, ◌++◌, Option, Some, is_some, length, get_or, take, map, refl, sym, ap, subst, ◌∙◌, cond}
 use Rattle.std.specs.List.{filter, fold}
 use Rattle.osm_elements.specs.declared.element.Element.{Element}
+use Rattle.osm_elements.specs.declared.element.Element.TheVariants.{Relation}
 use Rattle.osm_elements.specs.declared.name.Name.{Name}
-use Rattle.osm_elements.specs.Maps.{Rows, is_among, is_present, is_same}
+use Rattle.osm_elements.specs.Maps.{Rows, is_absent, is_among, is_present, is_same}
 use Rattle.osm_elements.specs.Rows.{AreInOrder, row_at}
 use Rattle.osm_elements.specs.Facts.Rows.{is_eq-name_cmp_itself, same_rows}
 use Rattle.osm_changes.specs.Changes.{are_rising, with_row}
@@ -58,7 +59,7 @@ module _ {A : Type 0} where
       n = fold with_empty m names
 
       untold : (x : Name) → is_among (told_names told) x ≡ false → row_at n x ≡ row_at m x
-      untold x e = row_at-with_empties names m x ∙ ap (λ b. cond b _ (row_at m x)) (not_passed _ x (told_names told) e)
+      untold x e = row_at-with_empties names m x ∙ ap (λ b. cond b (Some (Relation [] [])) (row_at m x)) (not_passed (is_absent m) x (told_names told) e)
 
   names-append : (xs ys : List (NewsRow A)) → told_names (xs ++ ys) ≡ told_names xs ++ told_names ys
   names-append [] ys = refl

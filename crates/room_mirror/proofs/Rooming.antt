@@ -11,41 +11,38 @@ use Rattle.osm_elements.specs.Facts.Dropped.{same_either_way}
 use Rattle.osm_elements.specs.Facts.Rows.{same_names, same_rows, row_at-put_row, row_at-without_row, AreInOrder-put_row, AreInOrder-without_row}
 use Rattle.room_mirror.specs.Inner.Replacing.{with_empty, absent_names, AreAbsent, ArePresent}
 
+clash : {X : Type 0} → false ≡ true → X
+clash e = absurd (cc)
+
 -- the names at the front are among all
 among_front : (x : Name) (i : ℕ) (names : List Name) → is_among (take i names) x ≡ true → is_among names x ≡ true
-among_front x zero names h = absurd (cc)
-among_front x (suc i) [] h = absurd (cc)
-among_front x (suc i) (y ∷ ys) h = by (is_same x y) h
+among_front x zero names h = clash h
+among_front x (suc i) [] h = clash h
+among_front x (suc i) (y ∷ ys) h = by (is_same x y) h (among_front x i ys)
   where
-    by : (b : Bool) → (b || is_among (take i ys) x) ≡ true → (b || is_among ys x) ≡ true
-    by true e = refl
-    by false e = among_front x i ys e
+    by : (b : Bool) → (b || is_among (take i ys) x) ≡ true → (is_among (take i ys) x ≡ true → is_among ys x ≡ true) → (b || is_among ys x) ≡ true
+    by true e go = refl
+    by false e go = go e
 
 -- what is among those that pass, passes
 among_passes : (p : Name → Bool) (x : Name) (names : List Name) → is_among (filter p names) x ≡ true → p x ≡ true
-among_passes p x [] h = absurd (cc)
-among_passes p x (y ∷ ys) h = by (p y) refl h
+among_passes p x [] h = clash h
+among_passes p x (y ∷ ys) h = by (p y) refl (is_same x y) refl h (among_passes p x ys)
   where
-    found : p y ≡ true → (b : Bool) → is_same x y ≡ b → (b || is_among (filter p ys) x) ≡ true → p x ≡ true
-    found e true s h = ap p (same_names x y s) ∙ e
-    found e false s h = among_passes p x ys h
-
-    by : (b : Bool) → p y ≡ b → is_among (cond b (y ∷ filter p ys) (filter p ys)) x ≡ true → p x ≡ true
-    by true e h = found e (is_same x y) refl h
-    by false e h = among_passes p x ys h
+    by : (b : Bool) → p y ≡ b → (s : Bool) → is_same x y ≡ s → is_among (cond b (y ∷ filter p ys) (filter p ys)) x ≡ true → (is_among (filter p ys) x ≡ true → p x ≡ true) → p x ≡ true
+    by true e true s h go = ap p (same_names x y s) ∙ e
+    by true e false s h go = go (ap (λ c. c || is_among (filter p ys) x) (sym s) ∙ h)
+    by false e s t h go = go h
 
 -- what is not among names is not among those of them that pass
 pub not_passed : (p : Name → Bool) (x : Name) (names : List Name) → is_among names x ≡ false → is_among (filter p names) x ≡ false
 not_passed p x [] h = refl
-not_passed p x (y ∷ ys) h = by (is_same x y) refl h
+not_passed p x (y ∷ ys) h = by (p y) (is_same x y) refl h (not_passed p x ys)
   where
-    kept : (b : Bool) → is_same x y ≡ false → is_among ys x ≡ false → is_among (cond b (y ∷ filter p ys) (filter p ys)) x ≡ false
-    kept true s h = ap (λ c. c || is_among (filter p ys) x) s ∙ not_passed p x ys h
-    kept false s h = not_passed p x ys h
-
-    by : (b : Bool) → is_same x y ≡ b → (b || is_among ys x) ≡ false → is_among (cond (p y) (y ∷ filter p ys) (filter p ys)) x ≡ false
-    by true s h = absurd (cc)
-    by false s h = kept (p y) s h
+    by : (b s : Bool) → is_same x y ≡ s → (s || is_among ys x) ≡ false → (is_among ys x ≡ false → is_among (filter p ys) x ≡ false) → is_among (cond b (y ∷ filter p ys) (filter p ys)) x ≡ false
+    by b true s h go = clash (sym h)
+    by true false s h go = ap (λ c. c || is_among (filter p ys) x) s ∙ go h
+    by false false s h go = go h
 
 module _ {A : Type 0} where
   abbrev empty_row : Option (Element A)
@@ -83,8 +80,8 @@ module _ {A : Type 0} where
     where
       turned : (a b : Bool) → a ≡ b → cond (not a) (row_at m x) None ≡ cond b None (row_at m x)
       turned true true e = refl
-      turned true false e = absurd (cc)
-      turned false true e = absurd (cc)
+      turned true false e = clash (sym e)
+      turned false true e = clash e
       turned false false e = refl
 
   -- what was put at absent names and is taken out again leaves the map
@@ -112,7 +109,7 @@ module _ {A : Type 0} where
     where
       none : (o : Option (Element A)) → not (is_some o) ≡ true → o ≡ None
       none None e = refl
-      none (Some v) e = absurd (cc)
+      none (Some v) e = clash e
 
   -- where they have room, all names are there
   pub all_present : (m : Rows A) (names : List Name) → ArePresent (fold with_empty m (absent_names m names)) names
@@ -121,4 +118,4 @@ module _ {A : Type 0} where
       by : (a : Bool) → is_among (absent_names m names) x ≡ a → (b : Bool) → is_present m x ≡ b → is_some (cond a empty_row (row_at m x)) ≡ true
       by true e b f = refl
       by false e true f = f
-      by false e false f = let told : is_among (absent_names m names) x ≡ is_among names x = is_among-filter (is_absent m) x (ap not f) names in absurd (cc)
+      by false e false f = let told : is_among (absent_names m names) x ≡ is_among names x = is_among-filter (is_absent m) x (ap not f) names in clash (sym e ∙ told ∙ h)

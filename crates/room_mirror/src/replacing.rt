@@ -2,7 +2,7 @@
 //! each row is replaced or taken out, which takes none.
 ghost use Rattle.std.specs.Prelude.{◌≡◌, T, true, map, IfOk, OnOk, OnErr};
 ghost use Rattle.std.specs.List.{fold};
-ghost use Rattle.osm_elements.specs.Maps.{is_present};
+ghost use Rattle.osm_elements.specs.Maps.{is_absent, is_present};
 ghost use Rattle.osm_elements.specs.Rows.{AreInOrder, row_at, without_row};
 ghost use Rattle.osm_changes.specs.Changes.{are_rising, with_row};
 ghost use Rattle.room_history.specs.News.{mirrored};
@@ -48,11 +48,18 @@ fn absent_names<A: Allocator + Copy>(
 {
     let mut names = Vec::new(alloc);
     for row in told {
-        if rows.get(&row.name).is_none() {
+        if is_absent(rows, &row.name) {
             names.push(row.name)?;
         }
     }
     Ok(names)
+}
+
+// Whether the map has not the name.
+fn is_absent<A: Allocator>(rows: &OsmMap<A>, name: &Name) -> bool
+    ensures { result ≡ is_absent rows.now name.now }
+{
+    rows.get(name).is_none()
 }
 
 // Puts an empty relation at each of some absent names. After a refusal, which is want of memory, the map is as it was.
