@@ -1,6 +1,8 @@
 -- News put into a map row by row.
-use Rattle.std.proofs.Common.{◌≡◌, ◌||◌, ◌+◌, ◌<◌, ℕ, Bool, true, false, T, List, [], ◌∷◌, ◌++◌, Option, Some, is_some, length, get_or, take, map, refl, sym, ap, subst, ◌∙◌, cond}
+use Rattle.std.proofs.Common.{◌≡◌, ◌||◌, ◌+◌, ◌<◌, ℕ, Bool, true, false, T, List, [], ◌∷◌, ◌++◌, Option, Some, is_some, length, get_or, take, map, refl, sym, ap, subst, ◌∙◌, append-nil, cond}
 use Rattle.std.specs.List.{filter, fold}
+use Rattle.std.proofs.lemmas.List.{take_more}
+use Rattle.std.proofs.lemmas.List.Elements.{filter-append}
 use Rattle.osm_elements.specs.declared.element.Element.{Element}
 use Rattle.osm_elements.specs.declared.element.Element.TheVariants.{Relation}
 use Rattle.osm_elements.specs.declared.name.Name.{Name}
@@ -78,3 +80,22 @@ module _ {A : Type 0} where
   still_there m all done rest r is rising there =
       ap is_some (kept done m r.name (earlier (told_names done) r.name (told_names rest) (subst (λ names. T (are_rising names)) (ap told_names (sym is) ∙ names-append done (r ∷ rest)) rising)))
       ∙ there r.name (ap (λ rows. is_among (told_names rows) r.name) (sym is) ∙ among_later done rest r)
+
+  one_more : (p : Name → Bool) (told : List (NewsRow A)) (i : ℕ) (d : NewsRow A) → i < length told → d ≡ get_or told i d
+      → filter p (told_names (take i told)) ++ cond (p d.name) (d.name ∷ []) [] ≡ filter p (told_names (take (i + 1) told))
+  one_more p told i d l is =
+      (λ k. filter p (told_names (take i told)) ++ filter p ((is k).name ∷ []))
+      ∙ sym (filter-append p (told_names (take i told)) ((get_or told i d).name ∷ []))
+      ∙ ap (filter p) (sym (names-append (take i told) (get_or told i d ∷ [])))
+      ∙ ap (λ rows. filter p (told_names rows)) (sym (take_more told i d l))
+
+  -- the absent names of one row more
+  pub absent_more : (p : Name → Bool) (told : List (NewsRow A)) (i : ℕ) (d : NewsRow A) (names : List Name) → i < length told → d ≡ get_or told i d → true ≡ p d.name
+      → names ≡ filter p (told_names (take i told)) → names ++ d.name ∷ [] ≡ filter p (told_names (take (i + 1) told))
+  absent_more p told i d names l is passes before =
+      (λ k. before k ++ cond (passes k) (d.name ∷ []) []) ∙ one_more p told i d l is
+
+  pub absent_as_before : (p : Name → Bool) (told : List (NewsRow A)) (i : ℕ) (d : NewsRow A) (names : List Name) → i < length told → d ≡ get_or told i d → false ≡ p d.name
+      → names ≡ filter p (told_names (take i told)) → names ≡ filter p (told_names (take (i + 1) told))
+  absent_as_before p told i d names l is passes before =
+      sym (append-nil names) ∙ (λ k. before k ++ cond (passes k) (d.name ∷ []) []) ∙ one_more p told i d l is
