@@ -1,8 +1,12 @@
 -- A map made of rows in order, put one after another.
-use Rattle.std.proofs.Common.{◌≡◌, Bool, true, false, T, List, [], ◌∷◌, Option, Some, None, refl, sym, ap, ◌∙◌, cond}
+use Rattle.std.proofs.Common.{◌≡◌, Bool, true, false, T, List, [], ◌∷◌, ◌++◌, Option, Some, None, map, refl, sym, ap, ◌∙◌, cond}
 use Rattle.std.specs.List.{fold}
 use Rattle.std.specs.FinMap.Entries.{below_all, find, is_sorted}
+use Rattle.std.proofs.lemmas.List.{map-append}
+use Rattle.std.proofs.lemmas.List.Sums.{fold-append}
 use Rattle.osm_elements.specs.declared.element.Element.{Element}
+use Rattle.osm_elements.specs.declared.map.Row.{Row}
+use Rattle.osm_elements.specs.RowPairs.{row_pair}
 use Rattle.osm_elements.specs.declared.name.Name.{Name}
 use Rattle.osm_elements.specs.Maps.{Rows, is_same}
 use Rattle.osm_elements.specs.NameOrder.{name_cmp}
@@ -44,3 +48,7 @@ module _ {A : Type 0} where
   -- rows in order make their own map
   pub put_all_is : (rows : Rows A) → AreInOrder rows → put_all [] rows ≡ rows
   put_all_is rows h = same_rows (put_all [] rows) rows (AreInOrder-put_all rows [] tt) h (λ x. row_at-put_all rows [] x h ∙ or_none (row_at rows x))
+
+  -- one row more
+  pub put_more : (done : List (Row A)) (r : Row A) → put_all [] (map row_pair (done ++ r ∷ [])) ≡ put_row (put_all [] (map row_pair done)) r.name r.element
+  put_more done r = ap (put_all []) (map-append row_pair done (r ∷ [])) ∙ fold-append (λ n (r : Name × Element A). put_row n r.0 r.1) [] (map row_pair done) (row_pair r ∷ [])

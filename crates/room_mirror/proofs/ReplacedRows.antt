@@ -1,7 +1,8 @@
 -- News put into a map row by row.
-use Rattle.std.proofs.Common.{◌≡◌, ◌||◌, ◌+◌, ◌<◌, ℕ, Bool, true, false, T, List, [], ◌∷◌, ◌++◌, Option, Some, is_some, length, get_or, take, map, refl, sym, ap, subst, ◌∙◌, append-nil, cond}
+use Rattle.std.proofs.Common.{◌≡◌, ◌||◌, ◌+◌, ◌<◌, ℕ, Bool, true, false, T, List, [], ◌∷◌, ◌++◌, Option, Some, is_some, length, get_or, take, map, refl, sym, ap, subst, ◌∙◌, append-nil, arith, cond}
 use Rattle.std.specs.List.{filter, fold}
 use Rattle.std.proofs.lemmas.List.{take_more}
+use Rattle.std.proofs.lemmas.List.Sums.{fold-append}
 use Rattle.std.proofs.lemmas.List.Elements.{filter-append}
 use Rattle.osm_elements.specs.declared.element.Element.{Element}
 use Rattle.osm_elements.specs.declared.element.Element.TheVariants.{Relation}
@@ -26,7 +27,15 @@ or_right : (a b : Bool) → (a || b) ≡ false → b ≡ false
 or_right true b e = absurd (cc)
 or_right false b e = e
 
+pub nothing_left : {X : Type 0} (xs : List X) → length xs ≡ 0 → xs ≡ []
+nothing_left [] e = refl
+nothing_left (x ∷ xs) e = absurd (omega arith)
+
 module _ {A : Type 0} where
+  -- one row more
+  pub mirrored_more : (m : Rows A) (done : List (NewsRow A)) (r : NewsRow A) → mirrored m (done ++ r ∷ []) ≡ with_row (mirrored m done) r.name r.element
+  mirrored_more m done r = fold-append (λ n (r : NewsRow A). with_row n r.name r.element) m done (r ∷ [])
+
   pub AreInOrder-mirrored : (told : List (NewsRow A)) (m : Rows A) → AreInOrder m → AreInOrder (mirrored m told)
   AreInOrder-mirrored [] m h = h
   AreInOrder-mirrored (r ∷ rs) m h = AreInOrder-mirrored rs (with_row m r.name r.element) (AreInOrder-with_row m r.name r.element h)

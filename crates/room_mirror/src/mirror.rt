@@ -1,12 +1,12 @@
 //! The mirror.
-ghost use Rattle.std.specs.Prelude.{◌≡◌, IfOk, OnOk, IfErr, None};
-ghost use Rattle.osm_elements.specs.Rows.{AreInOrder};
+ghost use Rattle.std.specs.Prelude.{◌≡◌, IfOk, IfErr, OnOk, OnErr, None};
+ghost use Rattle.osm_elements.specs.Rows.{AreInOrder, put_row};
 
 use crate::fault::MirrorFault;
 use crate::fitting::fits;
 use crate::replacing::replace;
 use osm_elements::Memory;
-use osm_elements::map::{OsmMap, Rows};
+use osm_elements::map::{OsmMap, Row, Rows};
 use room_history::news::News;
 use std::alloc::Allocator;
 use std::marker::Model;
@@ -102,9 +102,18 @@ fn map_of<A: Allocator + Copy>(alloc: A, rows: Rows<A>) -> Result<OsmMap<A>, Mem
 {
     let mut map = OsmMap::new(alloc);
     for row in rows.into_vec() {
-        if let Err((_, memory)) = map.put(row.name, row.element) {
-            return Err(memory);
-        }
+        put(&mut map, row)?;
     }
     Ok(map)
+}
+
+// Puts a row. After a refusal, which is want of memory, the map is as it was.
+fn put<A: Allocator + Copy>(map: &mut OsmMap<A>, row: Row<A>) -> Result<(), Memory>
+    ensures ok { OnOk result (map.new ≡ put_row map.old row.name row.element) }
+    ensures err { OnErr result (map.new ≡ map.old) }
+{
+    match map.put(row.name, row.element) {
+        Ok(_) => Ok(()),
+        Err((_, memory)) => Err(memory),
+    }
 }

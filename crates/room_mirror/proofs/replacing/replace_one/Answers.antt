@@ -1,0 +1,8 @@
+use Rattle.std.proofs.Common.{ap, sym, ◌∙◌}
+use Rattle.osm_elements.specs.Facts.Rows.{without_row_is_filter}
+use Rattle.osm_changes.specs.Changes.{with_row}
+use Rattle.room_mirror.proofs.replacing.replace_one.Goals as goal
+
+pub returns-in-None : goal.returns-in-None
+returns-in-None g c =
+    c.take_out.ensures.rest ∙ without_row_is_filter c.args.rows.now c.args.row.name c.requires.order ∙ ap (with_row c.args.rows.now c.args.row.name) (sym c.in-None.is)
