@@ -7,7 +7,7 @@ use Rattle.room_mirror.proofs.ReplacedRows.{nothing_left}
 use Rattle.room_mirror.proofs.mirror.map_of.Goals as goal
 
 pub loop-row-init : goal.loop-row-init
-loop-row-init g c = record { all = ap (map row_pair) c.into_iter-row-iterator.ensures.into_iter_gives.0 ∙ c.into_vec.ensures; map_is = c.new-map.ensures }
+loop-row-init g c = record { all = ap (map row_pair) c.into_iter-row-iterator.ensures.into_iter_gives.0 ∙ c.into_vec-row-items.ensures; map_is = c.new-map.ensures }
 
 pub loop-row-preserved : goal.loop-row-preserved
 loop-row-preserved g c =

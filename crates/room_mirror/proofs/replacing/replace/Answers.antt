@@ -1,0 +1,40 @@
+use Rattle.std.proofs.Common.{◌≡◌, T, sym, ap, subst, ◌∙◌}
+use Rattle.std.specs.List.{fold}
+use Rattle.osm_changes.specs.Changes.{are_rising}
+use Rattle.room_history.specs.News.{mirrored}
+use Rattle.room_mirror.specs.Mirrors.{told_names}
+use Rattle.room_mirror.specs.Inner.Replacing.{absent_names, AreAbsent, ArePresent, with_empty}
+use Rattle.room_mirror.proofs.ReplacedRows.{room_is_filled}
+use Rattle.room_mirror.proofs.Rooming.{absent_are, all_present}
+use Rattle.room_mirror.proofs.replacing.replace.Goals as goal
+
+pub make_room-requires-clause-order : goal.make_room-requires-clause-order
+make_room-requires-clause-order g c = c.len.ensures.in_order
+
+pub make_room-requires-clause-absent : goal.make_room-requires-clause-absent
+make_room-requires-clause-absent g c =
+    let m = c.args.rows.now in
+    let names = c.deref.ensures.value ∙ c.in_ok-absent.ensures ∙ ap (λ rs. absent_names m (told_names rs)) c.as_slice.ensures in
+    subst (AreAbsent m) (sym names) (absent_are m (told_names c.args.told.now))
+
+pub replace_all-requires-clause-order : goal.replace_all-requires-clause-order
+replace_all-requires-clause-order g c = c.len-2.ensures.in_order
+
+pub replace_all-requires-clause-rising : goal.replace_all-requires-clause-rising
+replace_all-requires-clause-rising g c = subst (λ rs. T (are_rising (told_names rs))) (sym (c.into_vec.ensures ∙ c.in_ok-copies.ensures)) c.requires
+
+pub replace_all-requires-clause-present : goal.replace_all-requires-clause-present
+replace_all-requires-clause-present g c =
+    let m = c.args.rows.now in
+    let names = c.deref.ensures.value ∙ c.in_ok-absent.ensures ∙ ap (λ rs. absent_names m (told_names rs)) c.as_slice.ensures in
+    let room = c.in_ok-make_room.ensures.ok ∙ ap (fold with_empty m) names in
+    subst (λ n. ArePresent n (told_names c.into_vec.result.items)) (sym room)
+    (subst (λ rs. ArePresent (fold with_empty m (absent_names m (told_names c.args.told.now))) (told_names rs)) (sym (c.into_vec.ensures ∙ c.in_ok-copies.ensures)) (all_present m (told_names c.args.told.now)))
+
+pub returns-clause-ok : goal.returns-clause-ok
+returns-clause-ok g c =
+    let m = c.args.rows.now in
+    let names = c.deref.ensures.value ∙ c.in_ok-absent.ensures ∙ ap (λ rs. absent_names m (told_names rs)) c.as_slice.ensures in
+    let room = c.in_ok-make_room.ensures.ok ∙ ap (fold with_empty m) names in
+    let copied = c.into_vec.ensures ∙ c.in_ok-copies.ensures in
+    c.replace_all.ensures ∙ (λ k. mirrored (room k) (copied k)) ∙ room_is_filled m c.args.told.now c.len.ensures.in_order
