@@ -22,7 +22,7 @@ pub record MirrorState (A : Type 0) : Type 0 where
   pub rows : Rows A
 
 -- the number that is due after another; numbers end at 2^64 - 1
-abbrev pub due_after : ℕ → ℕ
+unfoldable pub due_after : ℕ → ℕ
 due_after seq = min (seq + 1) (2 ^ 64 - 1)
 
 -- refused by the fault that there is, or by want of memory where there is none

@@ -1,6 +1,7 @@
 //! The mirror.
-ghost use Rattle.std.specs.Prelude.{◌≡◌, IfOk, IfErr, OnOk, OnErr, None};
+ghost use Rattle.std.specs.Prelude.{◌≡◌, ◌+◌, IfOk, IfErr, OnOk, OnErr, None, nat_eq};
 ghost use Rattle.osm_elements.specs.Rows.{AreInOrder, put_row};
+ghost use Rattle.room_mirror.specs.Mirrors.{due_after};
 
 use crate::fault::MirrorFault;
 use crate::fitting::fits;
@@ -67,10 +68,9 @@ impl<A: Allocator + Copy> Mirror<A> {
     fn fault(&self, news: &News<A>) -> Option<MirrorFault>
         ensures { result ≡ fault self.now news.now }
     {
-        if self.seq.checked_add(1) != Some(news.seq) {
-            let want = self.seq.saturating_add(1);
+        if !is_next(self.seq, news.seq) {
             return Some(MirrorFault::Gap {
-                want,
+                want: due_after(self.seq),
                 got: news.seq,
             });
         }
@@ -93,6 +93,24 @@ impl<A: Allocator + Copy> Mirror<A> {
     {
         &self.map
     }
+}
+
+// Whether a number comes next after another.
+fn is_next(seq: u64, got: u64) -> bool
+    ensures { result ≡ nat_eq got (seq + 1) }
+{
+    match seq.checked_add(1) {
+        Some(next) => got == next,
+        None => false,
+    }
+}
+
+// The number that is due after another, at most the greatest there is.
+#[tactic(auto, unfolding(crate::specs::Mirrors::due_after))]
+fn due_after(seq: u64) -> u64
+    ensures { result ≡ due_after seq }
+{
+    seq.saturating_add(1)
 }
 
 // A map of rows whose names rise. The one refusal is want of memory.
