@@ -194,10 +194,7 @@ fn news_of<A: Allocator + Copy>(
 }
 
 // The changed names, each with a copy of its row after the change.
-fn rows_after<A: Allocator + Copy>(
-    alloc: A,
-    changes: &[Change<A>],
-) -> Result<NewsRows<A>, Memory>
+fn rows_after<A: Allocator + Copy>(alloc: A, changes: &[Change<A>]) -> Result<NewsRows<A>, Memory>
     ensures { IfOk result (λ rows. rows ≡ map news_row changes.now) }
 {
     let mut rows = Vec::with_capacity(alloc, changes.len())?;

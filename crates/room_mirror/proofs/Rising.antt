@@ -40,7 +40,7 @@ by_neighbours x y ys = by (is_lt (name_cmp x y)) refl
     by false e = refl
     by true e = with_another (below_all name_cmp x (bare ys)) (are_rising (y ∷ ys))
         (λ r. is_true (below_all name_cmp x (bare ys))
-          (below_less name_cmp name_cmp_total x y (bare ys) (less (name_cmp x y) (so (is_lt (name_cmp x y)) e)) (so (below_all name_cmp y (bare ys)) (first_true (below_all name_cmp y (bare ys)) (are_rising ys) r))))
+        (below_less name_cmp name_cmp_total x y (bare ys) (less (name_cmp x y) (so (is_lt (name_cmp x y)) e)) (so (below_all name_cmp y (bare ys)) (first_true (below_all name_cmp y (bare ys)) (are_rising ys) r))))
 
 below_is_other : (o : Ordering) → T (is_lt o) → is_eq o ≡ false
 below_is_other Less h = refl

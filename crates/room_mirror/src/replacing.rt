@@ -83,11 +83,7 @@ fn make_room<A: Allocator + Copy>(
 }
 
 // Puts an empty relation, which itself takes no memory, at a name.
-fn put_empty<A: Allocator + Copy>(
-    rows: &mut OsmMap<A>,
-    alloc: A,
-    name: Name,
-) -> Result<(), Memory>
+fn put_empty<A: Allocator + Copy>(rows: &mut OsmMap<A>, alloc: A, name: Name) -> Result<(), Memory>
     ensures ok { OnOk result (rows.new ≡ with_empty rows.old name) }
     ensures err { OnErr result (rows.new ≡ rows.old) }
 {

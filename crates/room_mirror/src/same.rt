@@ -39,9 +39,7 @@ fn is_same_element<A: Allocator>(one: &Element<A>, other: &Element<A>) -> bool
                 tags: tags2,
             },
         ) => {
-            lat.value() == lat2.value()
-                && lon.value() == lon2.value()
-                && are_same_tags(tags, tags2)
+            lat.value() == lat2.value() && lon.value() == lon2.value() && are_same_tags(tags, tags2)
         }
         (
             Element::Way { nodes, tags },
