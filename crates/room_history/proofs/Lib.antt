@@ -24,7 +24,7 @@ pub mod RisingNumbers
 pub mod Stacking
 pub mod Stepping
 pub mod TakingBack
-pub mod Turning
 pub mod Telling
+pub mod Turning
 pub mod Undoing
 pub mod Works

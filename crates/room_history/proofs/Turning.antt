@@ -3,7 +3,7 @@ use Rattle.std.proofs.Common.{◌≡◌, ◌⊎◌, ◌++◌, ℕ, true, List, [
 use Rattle.osm_elements.specs.Maps.{Rows}
 use Rattle.turn_desk.specs.History.{GainsAtMostOne, MayAllFollow}
 use Rattle.room_history.specs.declared.ask.RoomCall.{RoomCall}
-use Rattle.room_history.specs.declared.ask.RoomCall.TheVariants.{Take, Get, Rows as AllRows, Undos}
+use Rattle.room_history.specs.declared.ask.RoomCall.TheVariants.{Take, Get, Rows as AllRows, Undos, News as NewsPast}
 use Rattle.room_history.specs.declared.ask.RoomReply.{RoomReply}
 use Rattle.room_history.specs.declared.call.Call.{Call}
 use Rattle.room_history.specs.declared.entry.Entry.{Entry}
@@ -32,6 +32,7 @@ module _ {A : Type 0} (base : Rows A) (limit : ℕ) (j : List (Entry A)) where
   gains-room_answer (Get x) = inl refl
   gains-room_answer AllRows = inl refl
   gains-room_answer (Undos author) = inl refl
+  gains-room_answer (NewsPast from) = inl refl
 
   -- whatever a room is asked, its journal stays or gains one entry
   pub gains : (call : RoomCall A) (reply : RoomReply A) (k : List (Entry A)) → IsAnswered base limit j call reply k → GainsAtMostOne j k
@@ -43,6 +44,7 @@ module _ {A : Type 0} (base : Rows A) (limit : ℕ) (j : List (Entry A)) where
   leads-room_answer (Get x) made before = before
   leads-room_answer AllRows made before = before
   leads-room_answer (Undos author) made before = before
+  leads-room_answer (NewsPast from) made before = before
 
   -- an answer leads from a journal to one
   leads : (call : RoomCall A) (reply : RoomReply A) (k : List (Entry A)) → is_made_room_call call ≡ true → IsAnswered base limit j call reply k → IsJournal base limit j → IsJournal base limit k

@@ -23,6 +23,7 @@ module _ {A : Type 0} where
   is_made_room_call (asked.Get x) = true
   is_made_room_call asked.Rows = true
   is_made_room_call (asked.Undos author) = true
+  is_made_room_call (asked.News from) = true
 
 -- the empty journal, and the one that the answer to a call leaves after another
 pub data IsJournal {A : Type 0} (base : Rows A) (limit : ℕ) : List (Entry A) → Type 0 where
