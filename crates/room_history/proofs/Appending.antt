@@ -54,9 +54,6 @@ module _ {A : Type 0} where
   mapof-work base j e a here records =
       mapof-append base j e ∙ ap (λ (r : Recorded A). changed (mapof base j) r.changes) records ∙ changed-differences (mapof base j) (after (mapof base j) a) here (AreInOrder-after (mapof base j) a here)
 
-  pub mapof-do : (base : Rows A) (j : List (Entry A)) (e : Entry A) (a : Action A) → AreInOrder (mapof base j) → e.kind ≡ Do a → mapof base (j ++ e ∷ []) ≡ after (mapof base j) a
-  mapof-do base j e a here k = mapof-work base j e a here (ap (recorded_next (past base j)) k)
-
   -- a redo is recorded as the action of the entry that it names, done on the map as it is
   pub recorded-redo : (base : Rows A) (j : List (Entry A)) (t : ℕ) (a : Action A) → action_at (past base j) t ≡ Some a → recorded_next (past base j) (Redo t) ≡ recorded_of (mapof base j) a
   recorded-redo base j t a acts = ap (done_again (mapof base j)) acts

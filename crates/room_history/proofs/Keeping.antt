@@ -102,7 +102,3 @@ module _ {A : Type 0} where
 
     pub journal_led : (limit : ℕ) (j : List (Entry A)) → IsJournal base limit j → IsLed base j
     journal_led limit j h = (journal_kept limit j h).led
-
-    -- of the entry that an author's redo would do again a made action is recorded
-    pub redo_found : (limit : ℕ) (j : List (Entry A)) → IsJournal base limit j → (author : Author) (t : ℕ) → last (redos j author) ≡ Some t → Acts base j t
-    redo_found limit j h = top_acts base j (journal_kept limit j h).redoable

@@ -78,9 +78,6 @@ module _ {A : Type 0} where
           next (Undo s) = (omega arith, omega (arith, size))
           next (Redo t) = known (numbered (origins j) t) (before t)
 
-  pub origin_within : (j : List (Entry A)) (s o : ℕ) → numbered (origins j) s ≡ Some o → (1 ≤ o) × (o ≤ length j)
-  origin_within j s o is = subst (IsWithin (length j)) is (each_within j s)
-
   -- the action that the entry of an origin does
   abbrev done_at : List (Entry A) → Option ℕ → Option (Action A)
   done_at j o = option_and_then (λ o. done_by (numbered j o)) o
