@@ -12,7 +12,7 @@ use Rattle.room_wire.specs.declared.bad.Bad.{Bad}
 use Rattle.room_wire.specs.declared.bad.Fault.TheVariants.{NotJson}
 use Rattle.room_wire.specs.declared.incoming.Incoming.{Incoming}
 use Rattle.room_wire.specs.declared.incoming.Body.{Body}
-use Rattle.room_wire.specs.declared.incoming.Body.TheVariants.{Change, Get, Map, Undos}
+use Rattle.room_wire.specs.declared.incoming.Body.TheVariants.{Hello, Change, Get, Map, Undos}
 use Rattle.room_program.specs.Made.{is_made_body}
 use Rattle.room_wire.specs.Spelling.{spells}
 use Rattle.room_program.specs.LineAnswers.{said, spelled, body_answer, message_answer, line_answer, answered, opened_with}
@@ -40,6 +40,7 @@ body_step limit room author id (Change request) made h =
 body_step limit room author id (Get name) made h = record { base = h.base; limit_is = h.limit_is; journal = h.journal }
 body_step limit room author id Map made h = record { base = h.base; limit_is = h.limit_is; journal = h.journal }
 body_step limit room author id Undos made h = record { base = h.base; limit_is = h.limit_is; journal = h.journal }
+body_step limit room author id (Hello to name) made h = h
 
 message_step : (limit : ℕ) (room : RoomState Global) (author : Author) (r : Result Incoming Bad) → IsMade r → IsLegal limit room → IsLegal limit (message_answer room author r).1
 message_step limit room author (Ok message) made h = body_step limit room author message.id message.body made h

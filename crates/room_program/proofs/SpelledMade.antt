@@ -33,7 +33,7 @@ use Rattle.room_wire.specs.declared.incoming.Body.{Body}
 use Rattle.room_wire.specs.Fields.{field_text}
 use Rattle.room_program.specs.Made.{is_made_body}
 use Rattle.room_wire.specs.Reading.{◌>>=◌, or_fault}
-use Rattle.room_wire.specs.Spelling.{text_at, text_of, key_of, value_of, given_of, entry_of, entries_in, entries_of, tags_of, tags_from, tags_at, gifts_of, gifts_at, items_in, node_of, nodes_in, nodes_at, member_in, member_of, members_in, members_at, lat_at, lon_at, el_at, els_at, distance_at, seq_at, element_at, create_at, retag_at, move_at, relist_way_at, relist_relation_at, split_at, join_at, merge_at, name_at, place_at, action_by, body_by, body_at, word_at, id_at, message_by, message_of, under, spells}
+use Rattle.room_wire.specs.Spelling.{text_at, text_of, key_of, value_of, given_of, entry_of, entries_in, entries_of, tags_of, tags_from, tags_at, gifts_of, gifts_at, items_in, node_of, nodes_in, nodes_at, member_in, member_of, members_in, members_at, lat_at, lon_at, el_at, els_at, distance_at, seq_at, element_at, create_at, retag_at, move_at, relist_way_at, relist_relation_at, split_at, join_at, merge_at, name_at, place_at, author_at, hello_at, action_by, body_by, body_at, word_at, id_at, message_by, message_of, under, spells}
 use Rattle.room_program.proofs.TreesInOrder.{pairs_of, IsInOrder, if_map, if_then, if_more, if_any, get_in_order, read_in_order}
 
 both : (a b : Bool) → a ≡ true → b ≡ true → (a && b) ≡ true
@@ -349,15 +349,20 @@ action_made word d h =
 IsMadeBody : Body → Type 0
 IsMadeBody body = is_made_body body ≡ true
 
+hello_made : (d : Data) → IfOk (hello_at d) IsMadeBody
+unfolding IsMadeBody
+hello_made d = ok_each IsMadeBody (author_at fields.Room d) _ (λ room. ok_each IsMadeBody (author_at fields.Name d) _ (λ name. refl))
+
 body_made : (word : List ℕ) (d : Data) → IsInOrder d → IfOk (body_by word d) IsMadeBody
 unfolding IsMadeBody IsMadeAction
 body_made word d h =
-    ok_if IsMadeBody (bytes_eq word (codes "undo")) _ _ (ok_each IsMadeBody (seq_at d) _ (λ seq. refl))
+    ok_if IsMadeBody (bytes_eq word (codes "hello")) _ _ (hello_made d)
+    (ok_if IsMadeBody (bytes_eq word (codes "undo")) _ _ (ok_each IsMadeBody (seq_at d) _ (λ seq. refl))
     (ok_if IsMadeBody (bytes_eq word (codes "redo")) _ _ refl
     (ok_if IsMadeBody (bytes_eq word (codes "undos")) _ _ refl
     (ok_if IsMadeBody (bytes_eq word (codes "get")) _ _ (ok_each IsMadeBody (el_at d) _ (λ name. refl))
     (ok_if IsMadeBody (bytes_eq word (codes "map")) _ _ refl
-    (ok_then IsMadeAction IsMadeBody (action_by word d) _ (action_made word d h) (λ action made. made))))))
+    (ok_then IsMadeAction IsMadeBody (action_by word d) _ (action_made word d h) (λ action made. made)))))))
 
 body_at_made : (d : Data) → IsInOrder d → IfOk (body_at d) IsMadeBody
 body_at_made d h = ok_each IsMadeBody (word_at d) _ (λ word. body_made word d h)

@@ -22,7 +22,7 @@ use Rattle.room_wire.specs.declared.bad.Bad.{Bad}
 use Rattle.room_wire.specs.declared.bad.Fault.TheVariants.{NotJson}
 use Rattle.room_wire.specs.declared.incoming.Incoming.{Incoming}
 use Rattle.room_wire.specs.declared.incoming.Body.{Body}
-use Rattle.room_wire.specs.declared.incoming.Body.TheVariants.{Change, Get, Map, Undos}
+use Rattle.room_wire.specs.declared.incoming.Body.TheVariants.{Hello, Change, Get, Map, Undos}
 use Rattle.room_wire.specs.Answers.{reply_answer, fault_answer}
 use Rattle.room_wire.specs.Reading.{id_told}
 use Rattle.room_wire.specs.Spelling.{spells}
@@ -62,13 +62,6 @@ map_text id rows front = compact_text (ok_tree id (object (member (codes "map") 
 abbrev pub undos_text : ℕ → List ℕ → List ℕ → List ℕ
 undos_text id undos redos = compact_text (ok_tree id (object (member (codes "redo") (numbers_tree redos) (member (codes "undos") (numbers_tree undos) no_members))))
 
--- what a message of an author's asks of the room
-abbrev pub asked_by : Author → ℕ → Body → RoomCall Global
-asked_by author id (Change request) = calls.Take (record { author = author; id = id; request = request })
-asked_by author id (Get name) = calls.Get name
-asked_by author id Map = calls.Rows
-asked_by author id Undos = calls.Undos author
-
 -- the reply to a message, from what the room was asked and answered
 abbrev pub told : ℕ → RoomCall Global → RoomReply Global → List ℕ
 told id call (replies.Take reply) = text_of id (reply_answer reply)
@@ -77,12 +70,19 @@ told id call (replies.Rows (Ok rows)) = map_text id rows.1 rows.0
 told id call (replies.Undos (Ok lists)) = undos_text id lists.undos lists.redos
 told id call reply = text_of id answers.Memory
 
--- the reply to a message of an author's, and the room after it
-abbrev pub body_answer : RoomState Global → Author → ℕ → Body → List ℕ × RoomState Global
-body_answer room author id body =
-    let call = asked_by author id body in
+-- the reply to a message that asks the room, and the room after it
+abbrev pub room_step : RoomState Global → ℕ → RoomCall Global → List ℕ × RoomState Global
+room_step room id call =
     let step = room_answer room.base room.limit room.journal call in
     (told id call step.0, record { base = room.base; limit = room.limit; journal = step.1 })
+
+-- the reply to a message of an author's, and the room after it; here every author's session has begun
+abbrev pub body_answer : RoomState Global → Author → ℕ → Body → List ℕ × RoomState Global
+body_answer room author id (Change request) = room_step room id (calls.Take (record { author = author; id = id; request = request }))
+body_answer room author id (Get name) = room_step room id (calls.Get name)
+body_answer room author id Map = room_step room id calls.Rows
+body_answer room author id Undos = room_step room id (calls.Undos author)
+body_answer room author id (Hello to name) = (text_of id answers.HelloTwice, room)
 
 abbrev pub message_answer : RoomState Global → Author → Result Incoming Bad → List ℕ × RoomState Global
 message_answer room author (Ok message) = body_answer room author message.id message.body

@@ -105,6 +105,7 @@ fn answer_body(
         Body::Get(name) => answer_get(alloc, room, id, name),
         Body::Map => answer_map(alloc, room, id),
         Body::Undos => answer_undos(alloc, room, author, id),
+        Body::Hello { .. } => reply_text(alloc, id, &Answer::HelloTwice),
     }
 }
 

@@ -14,8 +14,9 @@ use Rattle.room_wire.specs.declared.incoming.Body.TheVariants.{Change, Map, Undo
 use Rattle.std.specs.Str.{bytes_eq}
 use Rattle.room_wire.specs.declared.field.Field.{Field}
 use Rattle.room_wire.specs.declared.field.Field.TheVariants.{El, Els, Lat, Lon, Nodes, Members, Tags, Dlat, Dlon, At, Into, With, Seq}
+use Rattle.room_wire.specs.declared.field.Field.TheVariants as fields
 use Rattle.room_wire.specs.Reading.{◌>>=◌, or_fault}
-use Rattle.room_wire.specs.Spelling.{spells, ordinal, word_at, message_of, message_by, under, id_at, body_at, body_by, action_by, create_at, retag_at, move_at, relist_way_at, relist_relation_at, split_at, join_at, merge_at, element_at, name_at, place_at, el_at, els_at, distance_at, lat_at, lon_at, nodes_at, members_at, tags_at, tags_from, gifts_at, seq_at, seq_from}
+use Rattle.room_wire.specs.Spelling.{spells, ordinal, word_at, message_of, message_by, under, id_at, body_at, body_by, action_by, create_at, retag_at, move_at, relist_way_at, relist_relation_at, split_at, join_at, merge_at, element_at, name_at, place_at, el_at, els_at, distance_at, lat_at, lon_at, nodes_at, members_at, tags_at, tags_from, gifts_at, seq_at, seq_from, author_at, hello_at}
 
 Fine : {X : Type 0} → Result X Fault → Type 0
 Fine r = IfErr r (λ f. f ≢ Memory)
@@ -112,14 +113,21 @@ action_is_fine word d =
     (fine_if (bytes_eq word (codes "join")) _ _ (join_is_fine d)
     (fine_if (bytes_eq word (codes "merge")) _ _ (merge_is_fine d) (err_is_fine UnknownDo _ refl (λ e. cc))))))))))))
 
+author_is_fine : (field : Field) (d : Data) → Fine (author_at field d)
+author_is_fine field d = fine_or (BadField field) _ (λ e. cc)
+
+hello_is_fine : (d : Data) → Fine (hello_at d)
+hello_is_fine d = fine_then (author_at fields.Room d) _ (author_is_fine fields.Room d) (λ room. fine_then (author_at fields.Name d) _ (author_is_fine fields.Name d) (λ name. fine_ok _))
+
 body_is_fine : (word : List ℕ) (d : Data) → Fine (body_by word d)
 body_is_fine word d =
-    fine_if (bytes_eq word (codes "undo")) _ _ (fine_then (seq_at d) _ (seq_is_fine (get (field_text Seq) d)) (λ seq. fine_ok _))
+    fine_if (bytes_eq word (codes "hello")) _ _ (hello_is_fine d)
+    (fine_if (bytes_eq word (codes "undo")) _ _ (fine_then (seq_at d) _ (seq_is_fine (get (field_text Seq) d)) (λ seq. fine_ok _))
     (fine_if (bytes_eq word (codes "redo")) _ _ (fine_ok (Change Redo))
     (fine_if (bytes_eq word (codes "undos")) _ _ (fine_ok Undos)
     (fine_if (bytes_eq word (codes "get")) _ _ (fine_then (el_at d) _ (el_is_fine d) (λ name. fine_ok _))
     (fine_if (bytes_eq word (codes "map")) _ _ (fine_ok Map)
-    (fine_then (action_by word d) _ (action_is_fine word d) (λ action. fine_ok _))))))
+    (fine_then (action_by word d) _ (action_is_fine word d) (λ action. fine_ok _)))))))
 
 body_at_is_fine : (d : Data) → Fine (body_at d)
 body_at_is_fine d = fine_then (word_at d) (λ word. body_by word d) (fine_or UnknownDo (option_and_then as_str (get (codes "do") d)) (λ e. cc)) (λ word. body_is_fine word d)

@@ -8,7 +8,7 @@ use Rattle.osm_elements.specs.declared.element.Element.{Element}
 use Rattle.osm_elements.specs.declared.element.Element.TheVariants as elements
 use Rattle.osm_elements.specs.TagRows.{Pairs}
 use Rattle.room_wire.specs.declared.answer.Answer.{Answer}
-use Rattle.room_wire.specs.declared.answer.Answer.TheVariants.{Done, Undid, Redid, Is, Map, Undos, Absent, Present, WrongKind, Same, OutOfRange, TooFew, TooMany, InUse, TagConflict, BadPosition, NotEndToEnd, Nothing, Repeat, Conflict, BadField, Memory, Full, NothingToUndo, NothingToRedo, NoSuch, NotYours, NotStanding, NotJson, NotObject, BadId, UnknownDo, BadLine}
+use Rattle.room_wire.specs.declared.answer.Answer.TheVariants.{Done, Undid, Redid, Is, Map, Undos, Absent, Present, WrongKind, Same, OutOfRange, TooFew, TooMany, InUse, TagConflict, BadPosition, NotEndToEnd, Nothing, Repeat, Conflict, BadField, Memory, Full, NothingToUndo, NothingToRedo, NoSuch, NotYours, NotStanding, NotJson, NotObject, BadId, UnknownDo, BadLine, NoHello, NoRoom, HelloTwice}
 use Rattle.room_wire.specs.Trees.{id_tree, nodes_tree, member_tree, members_tree, tag_members, element_tree, rows_tree, numbers_tree, whole, tree_of}
 use Rattle.serde_json.specs.Find.{of_integer, is_float}
 
@@ -75,3 +75,6 @@ tree_has_no_float id NotObject = refl
 tree_has_no_float id BadId = refl
 tree_has_no_float id UnknownDo = refl
 tree_has_no_float id BadLine = refl
+tree_has_no_float id NoHello = refl
+tree_has_no_float id NoRoom = refl
+tree_has_no_float id HelloTwice = refl

@@ -8,7 +8,7 @@ use Rattle.osm_elements.specs.declared.element.Element.{Element}
 use Rattle.osm_elements.specs.declared.element.Element.TheVariants as elements
 use Rattle.osm_elements.specs.TagRows.{Pairs}
 use Rattle.room_wire.specs.declared.answer.Answer.{Answer}
-use Rattle.room_wire.specs.declared.answer.Answer.TheVariants.{Done, Undid, Redid, Is, Map, Undos, Absent, Present, WrongKind, Same, OutOfRange, TooFew, TooMany, InUse, TagConflict, BadPosition, NotEndToEnd, Nothing, Repeat, Conflict, BadField, Memory, Full, NothingToUndo, NothingToRedo, NoSuch, NotYours, NotStanding, NotJson, NotObject, BadId, UnknownDo, BadLine}
+use Rattle.room_wire.specs.declared.answer.Answer.TheVariants.{Done, Undid, Redid, Is, Map, Undos, Absent, Present, WrongKind, Same, OutOfRange, TooFew, TooMany, InUse, TagConflict, BadPosition, NotEndToEnd, Nothing, Repeat, Conflict, BadField, Memory, Full, NothingToUndo, NothingToRedo, NoSuch, NotYours, NotStanding, NotJson, NotObject, BadId, UnknownDo, BadLine, NoHello, NoRoom, HelloTwice}
 use Rattle.room_wire.specs.Trees.{id_tree, member_tree, tag_members, element_tree, rows_tree, whole, tree_of}
 
 items_are_shallow : {X : Type 0} (k : ℕ) (f : X → Data) → ((x : X) → depth (f x) ≤ k) → (xs : List X) → items_depth (items_of (map f xs)) ≤ k
@@ -71,3 +71,6 @@ tree_is_shallow id NotObject = omega arith
 tree_is_shallow id BadId = omega arith
 tree_is_shallow id UnknownDo = omega arith
 tree_is_shallow id BadLine = omega arith
+tree_is_shallow id NoHello = omega arith
+tree_is_shallow id NoRoom = omega arith
+tree_is_shallow id HelloTwice = omega arith

@@ -18,20 +18,23 @@ use Rattle.osm_elements.specs.TagRows.{AreTagRows, Pairs}
 use Rattle.edit_simple.specs.Tagging.{AreGifts, Gifts}
 use Rattle.edit_actions.specs.declared.action.Action.{Action}
 use Rattle.edit_actions.specs.declared.action.Action.TheVariants as actions
+use Rattle.room_stacks.specs.declared.author.Author.{Author}
+use Rattle.room_stacks.specs.Authors.{author_of}
 use Rattle.room_history.specs.declared.call.Request.TheVariants as requests
 use Rattle.room_wire.specs.declared.bad.Fault.{Fault}
 use Rattle.room_wire.specs.declared.bad.Fault.TheVariants.{BadField, UnknownDo}
 use Rattle.room_wire.specs.declared.field.Field.{Field}
 use Rattle.room_wire.specs.declared.field.Field.TheVariants.{El, Els, Lat, Lon, Nodes, Members, Tags, Dlat, Dlon, At, Into, With, Seq}
+use Rattle.room_wire.specs.declared.field.Field.TheVariants as fields
 use Rattle.room_wire.specs.declared.incoming.Incoming.{Incoming}
 use Rattle.room_wire.specs.declared.incoming.Body.{Body}
 use Rattle.room_wire.specs.declared.incoming.Body.TheVariants as bodies
 use Rattle.room_wire.specs.Fields.{field_text}
 use Rattle.room_wire.specs.ReadBack.{HasId, IsWhole}
 use Rattle.room_wire.specs.Reading.{◌>>=◌, or_fault}
-use Rattle.room_wire.specs.Spelling.{body_at, body_by, distance_at, el_at, element_at, els_at, gifts_at, gifts_of, id_at, lat_at, lon_at, name_at, place_at, place_of, names_in, message_by, message_of, members_at, members_in, nodes_at, nodes_in, ordinal, seq_at, seq_from, spells, tags_at, tags_from, text_at, under}
+use Rattle.room_wire.specs.Spelling.{author_at, body_at, body_by, distance_at, el_at, element_at, els_at, gifts_at, gifts_of, id_at, lat_at, lon_at, name_at, place_at, place_of, names_in, message_by, message_of, members_at, members_in, nodes_at, nodes_in, ordinal, seq_at, seq_from, spells, tags_at, tags_from, text_at, under}
 use Rattle.room_wire.specs.Trees.{whole}
-use Rattle.room_wire.specs.WellFormed.{Asks, Has, HasDistance, HasElement, HasMembers, HasName, HasNameAt, HasNodes, HasPlace, HasSeq, HasTags, HasText, HasWord, IsMessage, IsNumber, MessageId, gifts_tree, names_tree}
+use Rattle.room_wire.specs.WellFormed.{Asks, Has, HasAuthor, HasDistance, HasElement, HasMembers, HasName, HasNameAt, HasNodes, HasPlace, HasSeq, HasTags, HasText, HasWord, IsMessage, IsNumber, MessageId, gifts_tree, names_tree}
 use Rattle.room_wire.specs.Words.{Word, word_text}
 use Rattle.room_wire.specs.Words as words
 use Rattle.room_wire.proofs.ReadBackProofs.{as_i64-of_integer, created, gifts_of-gift_members, members_in-trees, names_in-trees, nodes_in-ids, tags_of-tag_members, three, two}
@@ -69,6 +72,9 @@ name_read d field name h = text_read d field name_of name (_, h.0, name_of_text 
 
 el_read : (d : Data) (name : Name) → HasName d name → el_at d ≡ Ok name
 el_read d name h = name_read d El name h
+
+author_read : (d : Data) (field : Field) (author : Author) → HasAuthor d field author → author_at field d ≡ Ok author
+author_read d field author h = text_read d field author_of author (_, h.0, ap (λ b. cond b (Some author) None) h.1)
 
 place_read : (d : Data) (place : ℕ) → HasPlace d place → place_at d ≡ Ok place
 place_read d place h =
@@ -152,6 +158,8 @@ asked d (bodies.Get name) (word, named) =
     word_read d words.Get word ∙ ap (λ r. r >>= λ name. Ok (bodies.Get name)) (el_read d name named)
 asked d bodies.Map word = word_read d words.Map word
 asked d bodies.Undos word = word_read d words.Undos word
+asked d (bodies.Hello room name) (word, at, named) =
+    word_read d words.Hello word ∙ two {C = Body} (λ x y. bodies.Hello x y) (author_at fields.Room d) (author_at fields.Name d) room name (author_read d fields.Room room at) (author_read d fields.Name name named)
 
 pub message_spelled : (text : List ℕ) (d : Data) (message : Incoming) → read text ≡ Some d → IsMessage d message → spells text ≡ Ok message
 message_spelled text d message tree (id, asks) =

@@ -15,7 +15,7 @@ use Rattle.room_wire.specs.declared.bad.Fault.{Fault}
 use Rattle.room_wire.specs.declared.bad.Fault.TheVariants.{NotJson, NotObject, BadId, UnknownDo, BadField}
 use Rattle.room_wire.specs.declared.incoming.Incoming.{Incoming}
 use Rattle.room_wire.specs.declared.incoming.Body.{Body}
-use Rattle.room_wire.specs.declared.incoming.Body.TheVariants.{Change, Get, Map, Undos}
+use Rattle.room_wire.specs.declared.incoming.Body.TheVariants.{Hello, Change, Get, Map, Undos}
 use Rattle.room_wire.specs.declared.answer.Answer.TheVariants as answers
 use Rattle.serde_json.specs.Written.{compact_text}
 use Rattle.room_wire.specs.Answers.{to_value}
@@ -70,6 +70,7 @@ reads_messages =
     × (spells (codes "{\"id\":4,\"do\":\"undo\",\"seq\":9}") ≡ asks 4 (Change (Undo (Some 9))))
     × (spells (codes "{\"id\":5,\"do\":\"undo\"}") ≡ asks 5 (Change (Undo None)))
     × (spells (codes "{\"seq\":null,\"do\":\"redo\",\"id\":5}") ≡ asks 5 (Change Redo))
+    × (spells (codes "{\"name\":\"anna_2\",\"id\":6,\"do\":\"hello\",\"room\":\"paris\"}") ≡ asks 6 (Hello (codes "paris") (codes "anna_2")))
     × (spells (codes "{\"do\":\"undos\",\"seq\":9,\"id\":6}") ≡ asks 6 Undos)
     × (spells (codes "{\"id\":6,\"do\":\"get\",\"el\":\"n7\"}") ≡ asks 6 (Get n7))
     × (spells (codes "{\"id\":9007199254740991,\"do\":\"map\"}") ≡ asks 9007199254740991 Map)
@@ -121,6 +122,8 @@ tells_an_id =
     × (spells (codes "{\"id\":1,\"do\":\"split\",\"el\":\"w1\",\"at\":1,\"into\":\"w0\"}") ≡ fails 1 (BadField Into))
     × (spells (codes "{\"id\":1,\"do\":\"join\",\"el\":\"w1\"}") ≡ fails 1 (BadField With))
     × (spells (codes "{\"id\":1,\"do\":\"merge\",\"el\":\"n7\",\"with\":[\"n-1\"]}") ≡ fails 1 (BadField With))
+    × (spells (codes "{\"id\":1,\"do\":\"hello\",\"name\":\"Anna\"}") ≡ fails 1 (BadField Room))
+    × (spells (codes "{\"id\":1,\"do\":\"hello\",\"room\":\"paris\",\"name\":\"Anna\"}") ≡ fails 1 (BadField Name))
     × (spells (codes "{\"id\":1,\"do\":\"undo\",\"seq\":null}") ≡ fails 1 (BadField Seq))
 
 -- the texts of some replies
@@ -142,6 +145,9 @@ writes_replies =
     × (compact_text (tree_of 2 answers.NothingToRedo) ≡ codes "{\"id\":2,\"no\":{\"why\":\"nothing_to_redo\"}}")
     × (compact_text (tree_of 3 (answers.BadField El)) ≡ codes "{\"id\":3,\"no\":{\"field\":\"el\",\"why\":\"bad_field\"}}")
     × (compact_text (tree_of 0 answers.BadLine) ≡ codes "{\"id\":0,\"no\":{\"why\":\"bad_line\"}}")
+    × (compact_text (tree_of 7 answers.NoHello) ≡ codes "{\"id\":7,\"no\":{\"why\":\"no_hello\"}}")
+    × (compact_text (tree_of 7 answers.NoRoom) ≡ codes "{\"id\":7,\"no\":{\"why\":\"no_room\"}}")
+    × (compact_text (tree_of 7 answers.HelloTwice) ≡ codes "{\"id\":7,\"no\":{\"why\":\"hello_twice\"}}")
 
 -- the texts of elements
 unfoldable pub writes_elements : Type 0

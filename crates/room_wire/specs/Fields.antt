@@ -1,7 +1,7 @@
 -- The keys of a message's fields. (RFC 8259, section 4: the names in an object. The keys are this project's.)
 use Rattle.std.specs.Prelude.{ℕ, List, codes}
 use Rattle.room_wire.specs.declared.field.Field.{Field}
-use Rattle.room_wire.specs.declared.field.Field.TheVariants.{El, Els, Lat, Lon, Nodes, Members, Tags, Dlat, Dlon, At, Into, With, Seq}
+use Rattle.room_wire.specs.declared.field.Field.TheVariants.{El, Els, Lat, Lon, Nodes, Members, Tags, Dlat, Dlon, At, Into, With, Seq, Room, Name}
 
 abbrev pub field_text : Field → List ℕ
 field_text El = codes "el"
@@ -17,3 +17,5 @@ field_text At = codes "at"
 field_text Into = codes "into"
 field_text With = codes "with"
 field_text Seq = codes "seq"
+field_text Room = codes "room"
+field_text Name = codes "name"

@@ -22,15 +22,18 @@ use Rattle.osm_elements.specs.Texts.{is_long}
 use Rattle.edit_simple.specs.Tagging.{Gifts}
 use Rattle.edit_actions.specs.declared.action.Action.{Action}
 use Rattle.edit_actions.specs.declared.action.Action.TheVariants as actions
+use Rattle.room_stacks.specs.declared.author.Author.{Author}
+use Rattle.room_stacks.specs.Authors.{author_of}
 use Rattle.room_history.specs.declared.call.Request.TheVariants as requests
 use Rattle.room_wire.specs.declared.field.Field.{Field}
 use Rattle.room_wire.specs.declared.field.Field.TheVariants.{El, Els, Lat, Lon, Nodes, Members, Tags, Dlat, Dlon, At, Into, With, Seq}
+use Rattle.room_wire.specs.declared.field.Field.TheVariants as fields
 use Rattle.room_wire.specs.declared.bad.Fault.{Fault}
 use Rattle.room_wire.specs.declared.bad.Fault.TheVariants.{NotJson, NotObject, BadId, UnknownDo, BadField, Memory}
 use Rattle.room_wire.specs.declared.bad.Bad.{Bad}
 use Rattle.room_wire.specs.declared.incoming.Incoming.{Incoming}
 use Rattle.room_wire.specs.declared.incoming.Body.{Body}
-use Rattle.room_wire.specs.declared.incoming.Body.TheVariants.{Change, Get, Map, Undos}
+use Rattle.room_wire.specs.declared.incoming.Body.TheVariants.{Hello, Change, Get, Map, Undos}
 use Rattle.room_wire.specs.Fields.{field_text}
 use Rattle.room_wire.specs.Reading.{◌>>=◌, or_fault}
 
@@ -48,6 +51,9 @@ name_at field d = or_fault (BadField field) (option_and_then name_of (text_at fi
 
 abbrev pub el_at : Data → Result Name Fault
 el_at d = name_at El d
+
+abbrev pub author_at : Field → Data → Result Author Fault
+author_at field d = or_fault (BadField field) (option_and_then author_of (text_at field d))
 
 abbrev pub lat_at : Data → Result ℤ Fault
 lat_at d = or_fault (BadField Lat) (option_and_then latitude_of (text_at Lat d))
@@ -214,15 +220,20 @@ action_by word d =
     else (if bytes_eq word (codes "merge") then merge_at d
     else Err UnknownDo))))))))))
 
+-- whom a hello asks for
+abbrev pub hello_at : Data → Result Body Fault
+hello_at d = author_at fields.Room d >>= λ room. author_at fields.Name d >>= λ name. Ok (Hello room name)
+
 -- what the word asks for
 abbrev pub body_by : List ℕ → Data → Result Body Fault
 body_by word d =
-    if bytes_eq word (codes "undo") then (seq_at d >>= λ seq. Ok (Change (requests.Undo seq)))
+    if bytes_eq word (codes "hello") then hello_at d
+    else (if bytes_eq word (codes "undo") then (seq_at d >>= λ seq. Ok (Change (requests.Undo seq)))
     else (if bytes_eq word (codes "redo") then Ok (Change requests.Redo)
     else (if bytes_eq word (codes "undos") then Ok Undos
     else (if bytes_eq word (codes "get") then (el_at d >>= λ name. Ok (Get name))
     else (if bytes_eq word (codes "map") then Ok Map
-    else (action_by word d >>= λ action. Ok (Change (requests.Do action)))))))
+    else (action_by word d >>= λ action. Ok (Change (requests.Do action))))))))
 
 -- the word of a message
 abbrev pub word_at : Data → Result (List ℕ) Fault

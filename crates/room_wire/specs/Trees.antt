@@ -10,7 +10,7 @@ use Rattle.osm_elements.specs.declared.element.Element.TheVariants as elements
 use Rattle.osm_elements.specs.NameTexts.{name_text}
 use Rattle.osm_elements.specs.TagRows.{Pairs}
 use Rattle.room_wire.specs.declared.answer.Answer.{Answer}
-use Rattle.room_wire.specs.declared.answer.Answer.TheVariants.{Done, Undid, Redid, Is, Map, Undos, Absent, Present, WrongKind, Same, OutOfRange, TooFew, TooMany, InUse, TagConflict, BadPosition, NotEndToEnd, Nothing, Repeat, Conflict, BadField, Memory, Full, NothingToUndo, NothingToRedo, NoSuch, NotYours, NotStanding, NotJson, NotObject, BadId, UnknownDo, BadLine}
+use Rattle.room_wire.specs.declared.answer.Answer.TheVariants.{Done, Undid, Redid, Is, Map, Undos, Absent, Present, WrongKind, Same, OutOfRange, TooFew, TooMany, InUse, TagConflict, BadPosition, NotEndToEnd, Nothing, Repeat, Conflict, BadField, Memory, Full, NothingToUndo, NothingToRedo, NoSuch, NotYours, NotStanding, NotJson, NotObject, BadId, UnknownDo, BadLine, NoHello, NoRoom, HelloTwice}
 use Rattle.room_wire.specs.Fields.{field_text}
 
 abbrev pub whole : ℕ → Data
@@ -109,6 +109,9 @@ tree_of id NotObject = bare id (codes "not_object")
 tree_of id BadId = bare id (codes "bad_id")
 tree_of id UnknownDo = bare id (codes "unknown_do")
 tree_of id BadLine = bare id (codes "bad_line")
+tree_of id NoHello = bare id (codes "no_hello")
+tree_of id NoRoom = bare id (codes "no_room")
+tree_of id HelloTwice = bare id (codes "hello_twice")
 
 -- two answers have the same replies
 abbrev pub AreToldAlike : Answer → Answer → Type 0

@@ -17,16 +17,19 @@ use Rattle.osm_elements.specs.Nodes.{AreNodes}
 use Rattle.osm_elements.specs.TagRows.{Pairs}
 use Rattle.edit_simple.specs.Tagging.{AreGifts, Gifts}
 use Rattle.edit_actions.specs.declared.action.Action.TheVariants as actions
+use Rattle.room_stacks.specs.declared.author.Author.{Author}
+use Rattle.room_stacks.specs.Authors.{is_author}
 use Rattle.room_history.specs.declared.call.Request.TheVariants as requests
 use Rattle.room_wire.specs.declared.bad.Fault.{Fault}
 use Rattle.room_wire.specs.declared.field.Field.{Field}
 use Rattle.room_wire.specs.declared.field.Field.TheVariants.{El, Els, Lat, Lon, Nodes, Members, Tags, Dlat, Dlon, At, Into, With, Seq}
+use Rattle.room_wire.specs.declared.field.Field.TheVariants as fields
 use Rattle.room_wire.specs.declared.incoming.Incoming.{Incoming}
 use Rattle.room_wire.specs.declared.incoming.Body.{Body}
 use Rattle.room_wire.specs.declared.incoming.Body.TheVariants as bodies
 use Rattle.room_wire.specs.Fields.{field_text}
 use Rattle.room_wire.specs.ReadBack.{HasId, IsWhole}
-use Rattle.room_wire.specs.Spelling.{distance_at, el_at, els_at, gifts_at, lat_at, lon_at, members_at, name_at, nodes_at, place_at, seq_at, tags_at}
+use Rattle.room_wire.specs.Spelling.{author_at, distance_at, el_at, els_at, gifts_at, lat_at, lon_at, members_at, name_at, nodes_at, place_at, seq_at, tags_at}
 use Rattle.room_wire.specs.Trees.{entry_members, members_tree, name_tree, nodes_tree, tags_tree, whole}
 use Rattle.room_wire.specs.Words.{Word, word_text}
 use Rattle.room_wire.specs.Words as words
@@ -81,6 +84,10 @@ HasNameAt d field name = Has d field (name_tree name) × HasId name
 abbrev pub HasName : Data → Name → Type 0
 HasName d name = HasNameAt d El name
 
+-- a field has a name of 1 to 32 characters of a-z, 0-9 and _
+abbrev pub HasAuthor : Data → Field → Author → Type 0
+HasAuthor d field author = Has d field (string author) × (is_author author ≡ true)
+
 -- a position
 abbrev pub HasPlace : Data → ℕ → Type 0
 HasPlace d place = Has d At (whole place) × (place ≤ 4294967295)
@@ -122,6 +129,7 @@ Asks d (bodies.Change requests.Redo) = HasWord d words.Redo
 Asks d (bodies.Get name) = HasWord d words.Get × HasName d name
 Asks d bodies.Map = HasWord d words.Map
 Asks d bodies.Undos = HasWord d words.Undos
+Asks d (bodies.Hello room name) = HasWord d words.Hello × HasAuthor d fields.Room room × HasAuthor d fields.Name name
 
 -- the tree has the members of this message, in whatever order it had them, and whatever else it has
 abbrev pub IsMessage : Data → Incoming → Type 0
@@ -163,6 +171,7 @@ slots words.Redo d = []
 slots words.Undos d = []
 slots words.Get d = slot El (el_at d) ∷ []
 slots words.Map d = []
+slots words.Hello d = slot fields.Room (author_at fields.Room d) ∷ slot fields.Name (author_at fields.Name d) ∷ []
 
 -- the fields before it are well formed, and this one is not
 abbrev pub IsFirstBad : List Slot → Field → Type 0

@@ -18,6 +18,7 @@ pub data Word : Type 0 where
   Undos : Word
   Get : Word
   Map : Word
+  Hello : Word
 
 abbrev pub word_text : Word → List ℕ
 word_text Create = codes "create"
@@ -36,3 +37,4 @@ word_text Redo = codes "redo"
 word_text Undos = codes "undos"
 word_text Get = codes "get"
 word_text Map = codes "map"
+word_text Hello = codes "hello"

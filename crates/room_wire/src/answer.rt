@@ -121,6 +121,12 @@ pub enum Answer<'a> {
     UnknownDo,
     /// The line is not an author, a space and a message.
     BadLine,
+    /// The session has not begun: its first message is to be a hello.
+    NoHello,
+    /// There is no room of the name that the hello tells.
+    NoRoom,
+    /// The session has begun already.
+    HelloTwice,
 }
 
 impl<'a> From<&'a Refusal<Global>> for Answer<'a> {

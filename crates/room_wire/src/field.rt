@@ -31,6 +31,10 @@ pub enum Field {
     With,
     /// The number of an entry.
     Seq,
+    /// The name of a room.
+    Room,
+    /// The name of an author.
+    Name,
 }
 
 impl Field {
@@ -52,6 +56,8 @@ impl Field {
             Field::Into => "into",
             Field::With => "with",
             Field::Seq => "seq",
+            Field::Room => "room",
+            Field::Name => "name",
         }
     }
 }

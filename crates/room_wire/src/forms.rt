@@ -3,7 +3,7 @@ ghost use Rattle.std.specs.Prelude.{◌≡◌, IfSome};
 ghost use Rattle.std.specs.Option.{option_map};
 ghost use Rattle.serde_json.specs.View.{view, items_view};
 ghost use Rattle.room_wire.specs.Reading.{Gives, or_fault};
-ghost use Rattle.room_wire.specs.Spelling.{text_at, name_at, el_at, place_of, place_at, name_item, names_in, els_at, distance_at, lat_at, lon_at, node_of, nodes_in, nodes_at, member_with, member_in, member_of, members_in, members_at, text_of, seq_at, ordinal, fault_in};
+ghost use Rattle.room_wire.specs.Spelling.{text_at, name_at, author_at, el_at, place_of, place_at, name_item, names_in, els_at, distance_at, lat_at, lon_at, node_of, nodes_in, nodes_at, member_with, member_in, member_of, members_in, members_at, text_of, seq_at, ordinal, fault_in};
 ghost use Rattle.osm_elements.specs.NameTexts.{name_with};
 ghost use Rattle.osm_elements.specs.declared.name.Kind.TheVariants as kind;
 ghost use Rattle.room_wire.specs.declared.bad.Fault.TheVariants.{BadField};
@@ -19,6 +19,7 @@ use osm_elements::name::{Kind, Name};
 use osm_elements::names::Names;
 use osm_elements::nodes::Nodes;
 use osm_elements::text::Text;
+use room_stacks::author::Author;
 use serde_json::Value;
 use std::alloc::Global;
 
@@ -57,6 +58,15 @@ pub fn name_at(message: &Value, field: Field) -> Result<Name, Fault>
 {
     text_at(message, field)
         .and_then(Name::read)
+        .ok_or(Fault::BadField(field))
+}
+
+// The name of an author, or of a room, which has the same form.
+pub fn author_at(message: &Value, field: Field) -> Result<Author, Fault>
+    ensures { result ≡ author_at field (view message.now) }
+{
+    text_at(message, field)
+        .and_then(Author::read)
         .ok_or(Fault::BadField(field))
 }
 

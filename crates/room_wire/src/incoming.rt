@@ -1,11 +1,19 @@
 //! Messages to a room.
 use osm_elements::name::Name;
 use room_history::call::Request;
+use room_stacks::author::Author;
 use std::alloc::Global;
 
 /// What a message asks for.
 #[derive(Debug, Drop)]
 pub enum Body {
+    /// To begin a session.
+    Hello {
+        /// The name of the room, which has the form of an author's.
+        room: Author,
+        /// Whose calls the session's are to be.
+        name: Author,
+    },
     /// A change of the room.
     Change(Request<Global>),
     /// The element of this name.

@@ -4,13 +4,13 @@ ghost use Rattle.serde_json.specs.Read.{read};
 ghost use Rattle.serde_json.specs.View.{view};
 ghost use Rattle.room_wire.specs.declared.bad.Fault.TheVariants.{NotJson, Memory};
 ghost use Rattle.room_wire.specs.Reading.{Gives, GivesMessage};
-ghost use Rattle.room_wire.specs.Spelling.{spells, id_at, body_at, body_by, action_by, create_at, retag_at, move_at, relist_way_at, relist_relation_at, split_at, join_at, merge_at, element_at};
+ghost use Rattle.room_wire.specs.Spelling.{spells, id_at, body_at, body_by, hello_at, action_by, create_at, retag_at, move_at, relist_way_at, relist_relation_at, split_at, join_at, merge_at, element_at};
 
 use crate::bad::{Bad, Fault};
 use crate::field::Field;
 use crate::forms::{
-    distance_of, el_of, els_of, lat_of, lon_of, members_of, name_at, nodes_of, ordinal, place_at,
-    seq_of,
+    author_at, distance_of, el_of, els_of, lat_of, lon_of, members_of, name_at, nodes_of, ordinal,
+    place_at, seq_of,
 };
 use crate::incoming::{Body, Incoming};
 use crate::tag_forms::{gifts_of, tags_of};
@@ -39,6 +39,7 @@ use std::alloc::Global;
 /// | `join`, `merge` | `el`, `with` |
 /// | `undo` | `seq`, which may be missing |
 /// | `redo`, `undos`, `map` | none |
+/// | `hello` | `room`, `name` |
 ///
 /// The first field that is missing or not of its form is told (`BadField`). `el`, `into` and `with` are each
 /// the name of an element, and `els` is an array of such names, which may be empty. `at` is a whole number in
@@ -47,7 +48,8 @@ use std::alloc::Global;
 /// strings each, the name of an element and a role of at most 255 characters, which may be empty. `tags` is an
 /// object of at most 1,000 keys, each of 1 to 255 characters, whose values are strings of at most 255 characters
 /// (OpenStreetMap wiki, "Elements"); those of `retag` may be `null` too, which removes the key. `dlat` and `dlon`
-/// are whole numbers, each an `i64`, in ten-millionths of a degree. `seq` has the form of `id`.
+/// are whole numbers, each an `i64`, in ten-millionths of a degree. `seq` has the form of `id`. `room` and
+/// `name` are strings of 1 to 32 characters of `a-z`, `0-9` and `_`.
 ///
 /// A whole number is one that is written without a point and an exponent and fits 64 bits, and is not
 /// `-0`. Of members with the same key the last counts, `null` is a value, and members that no message
@@ -103,6 +105,7 @@ fn body_by(alloc: Global, word: &str, message: &Value) -> Result<Body, Fault>
     ensures { Gives result (body_by word.now (view message.now)) }
 {
     match word {
+        "hello" => hello_of(message),
         "undo" => Ok(Body::Change(Request::Undo(seq_of(message)?))),
         "redo" => Ok(Body::Change(Request::Redo)),
         "undos" => Ok(Body::Undos),
@@ -110,6 +113,15 @@ fn body_by(alloc: Global, word: &str, message: &Value) -> Result<Body, Fault>
         "map" => Ok(Body::Map),
         _ => Ok(Body::Change(Request::Do(action_by(alloc, word, message)?))),
     }
+}
+
+// Whom a hello asks for.
+fn hello_of(message: &Value) -> Result<Body, Fault>
+    ensures { Gives result (hello_at (view message.now)) }
+{
+    let room = author_at(message, Field::Room)?;
+    let name = author_at(message, Field::Name)?;
+    Ok(Body::Hello { room, name })
 }
 
 // The action that a message with this word asks for.

@@ -97,6 +97,9 @@ fn reply_tree(alloc: Global, id: u64, answer: &Answer<'_>) -> Result<Value, Memo
         Answer::BadId => bare(alloc, id, "bad_id"),
         Answer::UnknownDo => bare(alloc, id, "unknown_do"),
         Answer::BadLine => bare(alloc, id, "bad_line"),
+        Answer::NoHello => bare(alloc, id, "no_hello"),
+        Answer::NoRoom => bare(alloc, id, "no_room"),
+        Answer::HelloTwice => bare(alloc, id, "hello_twice"),
     }
 }
 

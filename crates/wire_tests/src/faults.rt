@@ -73,6 +73,7 @@ fn a_cut_message_is_not_json(rt: HostRuntime) -> Result<(), Fail> {
         r#"{"id":1,"do":"redo"}"#,
         r#"{"id":1,"do":"undos"}"#,
         r#"{"id":1,"do":"map"}"#,
+        r#"{"id":1,"do":"hello","room":"paris","name":"anna"}"#,
     ] {
         for (end, _) in text.char_indices() {
             let cut = text.get(..end).ok_or("not at a character")?;

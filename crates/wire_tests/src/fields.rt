@@ -235,3 +235,26 @@ fn tells_bad_second_names(rt: HostRuntime) -> Result<(), Fail> {
     are_bad(&rt, rt.alloc(), "with", &with)?;
     Ok(())
 }
+
+#[test]
+fn tells_bad_hellos(rt: HostRuntime) -> Result<(), Fail> {
+    let room = [
+        r#""do":"hello""#,
+        r#""do":"hello","name":"Anna""#,
+        r#""do":"hello","room":"","name":"anna""#,
+        r#""do":"hello","room":"Paris","name":"anna""#,
+        r#""do":"hello","room":"le havre","name":"anna""#,
+        r#""do":"hello","room":7,"name":"anna""#,
+        r#""do":"hello","room":"a23456789_123456789_123456789_123","name":"anna""#,
+    ];
+    are_bad(&rt, rt.alloc(), "room", &room)?;
+    let name = [
+        r#""do":"hello","room":"paris""#,
+        r#""do":"hello","room":"paris","name":null"#,
+        r#""do":"hello","room":"paris","name":"""#,
+        r#""do":"hello","room":"paris","name":"anna-2""#,
+        r#""do":"hello","room":"paris","name":"a23456789_123456789_123456789_123""#,
+    ];
+    are_bad(&rt, rt.alloc(), "name", &name)?;
+    Ok(())
+}

@@ -129,6 +129,8 @@ fn writes_bad_fields(rt: HostRuntime) -> Result<(), Fail> {
         (Field::Into, "into"),
         (Field::With, "with"),
         (Field::Seq, "seq"),
+        (Field::Room, "room"),
+        (Field::Name, "name"),
     ] {
         let outcome = format!(in rt.alloc();
             "\"no\":{{\"field\":\"{key}\",\"why\":\"bad_field\"}}"
@@ -144,6 +146,9 @@ fn writes_faults(rt: HostRuntime) -> Result<(), Fail> {
     let rows = [
         (Answer::from(Fault::Memory), r#""no":{"why":"memory"}"#),
         (Answer::BadLine, r#""no":{"why":"bad_line"}"#),
+        (Answer::NoHello, r#""no":{"why":"no_hello"}"#),
+        (Answer::NoRoom, r#""no":{"why":"no_room"}"#),
+        (Answer::HelloTwice, r#""no":{"why":"hello_twice"}"#),
     ];
     for (answer, outcome) in &rows {
         is_written(&rt, rt.alloc(), answer, outcome)?;

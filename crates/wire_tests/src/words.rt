@@ -146,6 +146,14 @@ fn reads_what_is_no_action(rt: HostRuntime) -> Result<(), Fail> {
             r#"undos {"id":10,"no":{"why":"nothing"}}"#,
         ),
         (
+            r#"{"name":"anna_2","do":"hello","id":11,"room":"paris"}"#,
+            "hello 11 paris anna_2",
+        ),
+        (
+            r#"{"id":12,"do":"hello","room":"a23456789_123456789_123456789_12","name":"_"}"#,
+            "hello 12 a23456789_123456789_123456789_12 _",
+        ),
+        (
             r#"{"id":9007199254740991,"do":"map"}"#,
             r#"map {"id":9007199254740991,"no":{"why":"full"}}"#,
         ),
