@@ -3,6 +3,7 @@ pub mod Empty
 pub mod EntryLists
 pub mod ExampleProofs
 pub mod FaultProofs
+pub mod FaultsToldOn
 pub mod ItemLists
 pub mod MemberPairs
 pub mod NeverMemory

@@ -10,6 +10,7 @@ use Rattle.edit_actions.specs.declared.action.Action.TheVariants as actions
 use Rattle.edit_actions.specs.declared.action.Action.TheVariants.{Create, Delete}
 use Rattle.room_history.specs.declared.call.Request.TheVariants.{Do, Undo, Redo}
 use Rattle.room_wire.specs.declared.field.Field.TheVariants.{El, Els, Lat, Nodes, Members, Tags, Dlat, Dlon, At, Into, With, Seq}
+use Rattle.room_wire.specs.declared.field.Field.TheVariants as fields
 use Rattle.room_wire.specs.declared.bad.Bad.{Bad}
 use Rattle.room_wire.specs.declared.bad.Fault.{Fault}
 use Rattle.room_wire.specs.declared.bad.Fault.TheVariants.{NotJson, NotObject, BadId, UnknownDo, BadField}
@@ -122,8 +123,8 @@ tells_an_id =
     × (spells (codes "{\"id\":1,\"do\":\"split\",\"el\":\"w1\",\"at\":1,\"into\":\"w0\"}") ≡ fails 1 (BadField Into))
     × (spells (codes "{\"id\":1,\"do\":\"join\",\"el\":\"w1\"}") ≡ fails 1 (BadField With))
     × (spells (codes "{\"id\":1,\"do\":\"merge\",\"el\":\"n7\",\"with\":[\"n-1\"]}") ≡ fails 1 (BadField With))
-    × (spells (codes "{\"id\":1,\"do\":\"hello\",\"name\":\"Anna\"}") ≡ fails 1 (BadField Room))
-    × (spells (codes "{\"id\":1,\"do\":\"hello\",\"room\":\"paris\",\"name\":\"Anna\"}") ≡ fails 1 (BadField Name))
+    × (spells (codes "{\"id\":1,\"do\":\"hello\",\"name\":\"Anna\"}") ≡ fails 1 (BadField fields.Room))
+    × (spells (codes "{\"id\":1,\"do\":\"hello\",\"room\":\"paris\",\"name\":\"Anna\"}") ≡ fails 1 (BadField fields.Name))
     × (spells (codes "{\"id\":1,\"do\":\"undo\",\"seq\":null}") ≡ fails 1 (BadField Seq))
 
 -- the texts of some replies

@@ -4,7 +4,7 @@ ghost use Rattle.serde_json.specs.Read.{read};
 ghost use Rattle.serde_json.specs.View.{view};
 ghost use Rattle.room_wire.specs.declared.bad.Fault.TheVariants.{NotJson, Memory};
 ghost use Rattle.room_wire.specs.Reading.{Gives, GivesMessage};
-ghost use Rattle.room_wire.specs.Spelling.{spells, id_at, body_at, body_by, hello_at, action_by, create_at, retag_at, move_at, relist_way_at, relist_relation_at, split_at, join_at, merge_at, element_at};
+ghost use Rattle.room_wire.specs.Spelling.{spells, under, id_at, body_at, body_by, hello_at, action_by, create_at, retag_at, move_at, relist_way_at, relist_relation_at, split_at, join_at, merge_at, element_at};
 
 use crate::bad::{Bad, Fault};
 use crate::field::Field;
@@ -64,8 +64,7 @@ pub fn read_request(alloc: Global, text: &str) -> Result<Incoming, Bad>
 {
     let message = parse(alloc, text).map_err(Bad::unread)?;
     let id = id_of(&message).map_err(Bad::unread)?;
-    let body = body_of(alloc, &message).map_err(|fault| Bad { id, fault })?;
-    Ok(Incoming { id, body })
+    incoming_of(alloc, id, &message)
 }
 
 // The tree of a text.
@@ -87,6 +86,16 @@ fn id_of(message: &Value) -> Result<u64, Fault>
         return Err(Fault::NotObject);
     }
     message.get("id").and_then(ordinal).ok_or(Fault::BadId)
+}
+
+// What a message asks for, under its id.
+fn incoming_of(alloc: Global, id: u64, message: &Value) -> Result<Incoming, Bad>
+    ensures exact { GivesMessage result (under id (body_at (view message.now))) }
+{
+    match body_of(alloc, message) {
+        Ok(body) => Ok(Incoming { id, body }),
+        Err(fault) => Err(Bad { id, fault }),
+    }
 }
 
 // What a message asks for.
