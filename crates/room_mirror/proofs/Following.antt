@@ -1,5 +1,5 @@
 -- A mirror that takes the news of a room in turn.
-use Rattle.std.proofs.Common.{◌≡◌, ◌≢◌, ◌&&◌, ◌+◌, ◌-◌, ◌<◌, ◌≤◌, ◌++◌, ℕ, zero, suc, Bool, true, false, not, T, List, [], ◌∷◌, None, Ok, All, Option, Result, length, drop, take, map, nat_eq, refl, sym, ap, subst, ◌∙◌, append_assoc, append-nil, length-drop, arith}
+use Rattle.std.proofs.Common.{◌≡◌, ◌≢◌, ◌+◌, ◌-◌, ◌≤◌, ◌++◌, ℕ, zero, suc, Bool, true, false, not, List, [], ◌∷◌, None, Ok, All, length, drop, take, map, nat_eq, refl, sym, ap, subst, ◌∙◌, append_assoc, append-nil, length-drop, arith}
 use Rattle.std.specs.Bool.{then_some}
 use Rattle.std.specs.List.{fold, list_all}
 use Rattle.std.proofs.lemmas.Bool.Decides.{nat_tests}
@@ -19,10 +19,10 @@ use Rattle.edit_simple.specs.Checks.{first_that_holds}
 use Rattle.room_history.specs.declared.entry.Entry.{Entry}
 use Rattle.room_history.specs.declared.news.News.{News}
 use Rattle.room_history.specs.LegalJournals.{IsJournal}
-use Rattle.room_history.specs.News.{recorded_changes, news_row, news_of, news_from, news, mirrored}
+use Rattle.room_history.specs.News.{news_row, news_of, news_from, news, mirrored}
 use Rattle.room_history.specs.Replays.{Past, Recorded, past, past_after, mapof, recorded_next}
 use Rattle.room_mirror.specs.declared.fault.MirrorFault.TheVariants.{Gap, Mismatch}
-use Rattle.room_mirror.specs.Mirrors.{MirrorState, due_after, told_names, tells_another, fits, fault, mirror_of, taken_or, taken_in_turn}
+use Rattle.room_mirror.specs.Mirrors.{due_after, told_names, tells_another, fits, fault, mirror_of, taken_or, taken_in_turn}
 
 same_number : (n : ℕ) → nat_eq n n ≡ true
 same_number n = grind (arith, nat_tests)

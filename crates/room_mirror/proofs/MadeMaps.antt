@@ -1,7 +1,7 @@
 -- A map made of rows in order, put one after another.
-use Rattle.std.proofs.Common.{◌≡◌, Bool, true, false, T, List, [], ◌∷◌, ◌++◌, Option, Some, None, map, refl, sym, ap, ◌∙◌, cond}
+use Rattle.std.proofs.Common.{◌≡◌, Bool, true, false, List, [], ◌∷◌, ◌++◌, Option, Some, None, map, refl, ap, ◌∙◌, cond}
 use Rattle.std.specs.List.{fold}
-use Rattle.std.specs.FinMap.Entries.{below_all, find, is_sorted}
+use Rattle.std.specs.FinMap.Entries.{below_all, is_sorted}
 use Rattle.std.proofs.lemmas.List.{map-append}
 use Rattle.std.proofs.lemmas.List.Sums.{fold-append}
 use Rattle.osm_elements.specs.declared.element.Element.{Element}

@@ -1,10 +1,10 @@
 -- Rows replaced where there is room: first each name that is absent gets an empty relation, and then each row is replaced or taken out, which takes no memory.
 use Rattle.std.specs.Prelude.{◌≡◌, true, List, [], None}
-use Rattle.std.specs.List.{filter, fold}
+use Rattle.std.specs.List.{filter}
 use Rattle.osm_elements.specs.declared.element.Element.TheVariants.{Relation}
 use Rattle.osm_elements.specs.declared.name.Name.{Name}
 use Rattle.osm_elements.specs.Maps.{Rows, is_absent, is_among, is_present}
-use Rattle.osm_elements.specs.Rows.{put_row, without_row, row_at}
+use Rattle.osm_elements.specs.Rows.{put_row, row_at}
 
 module _ {A : Type 0} where
   -- the map with an empty relation of this name

@@ -1,7 +1,7 @@
-use Rattle.std.proofs.Common.{◌≡◌, ◌++◌, ◌∷◌, [], length, map, sym, ap, subst, ◌∙◌, rules, append_assoc, append-nil}
+use Rattle.std.proofs.Common.{◌≡◌, ◌++◌, ◌∷◌, [], length, map, sym, ap, ◌∙◌, rules, append_assoc, append-nil}
 use Rattle.std.specs.Vec.Iter.{into_iter_items}
 use Rattle.osm_elements.specs.RowPairs.{row_pair}
-use Rattle.osm_elements.specs.Rows.{AreInOrder, put_row}
+use Rattle.osm_elements.specs.Rows.{put_row}
 use Rattle.room_mirror.proofs.MadeMaps.{put_all, put_more, put_all_is}
 use Rattle.room_mirror.proofs.ReplacedRows.{nothing_left}
 use Rattle.room_mirror.proofs.mirror.map_of.Goals as goal

@@ -1,4 +1,4 @@
-use Rattle.std.proofs.Common.{◌≡◌, T, sym, ap, subst, ◌∙◌}
+use Rattle.std.proofs.Common.{T, sym, ap, subst, ◌∙◌}
 use Rattle.std.specs.List.{fold}
 use Rattle.osm_changes.specs.Changes.{are_rising}
 use Rattle.room_history.specs.News.{mirrored}
