@@ -6,14 +6,12 @@ use osm_elements::name::{Kind, Name};
 use osm_elements::names::Names;
 use osm_elements::tags::Tags;
 use room_history::call::Request;
-use room_stacks::author::Author;
 use room_wire::answer::Answer;
 use room_wire::bad::Bad;
 use room_wire::incoming::{Body, Incoming};
 use room_wire::{read_request, reply_text};
 use std::alloc::{AllocError, Global};
 use std::process::Abort;
-use std::str;
 
 // Checks what is read of a text.
 pub fn is_shown(
@@ -49,14 +47,8 @@ pub fn shown(alloc: Global, text: &str) -> Result<String, AllocError> {
         Body::Get(name) => told(alloc, "get", id, &Answer::Absent(name)),
         Body::Map => told(alloc, "map", id, &Answer::Full),
         Body::Undos => told(alloc, "undos", id, &Answer::Nothing),
-        Body::Hello { room, name } => shown_hello(alloc, id, room, name),
+        Body::Hello { .. } => told(alloc, "hello", id, &Answer::HelloTwice),
     }
-}
-
-fn shown_hello(alloc: Global, id: u64, room: Author, name: Author) -> Result<String, AllocError> {
-    let room = str::from_utf8(room.as_bytes()).unwrap_or("");
-    let name = str::from_utf8(name.as_bytes()).unwrap_or("");
-    format!(in alloc; "hello {id} {room} {name}")
 }
 
 // A word and the text of a reply.

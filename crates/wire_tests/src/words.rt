@@ -147,11 +147,11 @@ fn reads_what_is_no_action(rt: HostRuntime) -> Result<(), Fail> {
         ),
         (
             r#"{"name":"anna_2","do":"hello","id":11,"room":"paris"}"#,
-            "hello 11 paris anna_2",
+            r#"hello {"id":11,"no":{"why":"hello_twice"}}"#,
         ),
         (
             r#"{"id":12,"do":"hello","room":"a23456789_123456789_123456789_12","name":"_"}"#,
-            "hello 12 a23456789_123456789_123456789_12 _",
+            r#"hello {"id":12,"no":{"why":"hello_twice"}}"#,
         ),
         (
             r#"{"id":9007199254740991,"do":"map"}"#,
