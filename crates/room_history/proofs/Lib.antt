@@ -5,6 +5,7 @@ pub mod BinarySearching
 pub mod Blocking
 pub mod Chains
 pub mod ChangingEntries
+pub mod Crossing
 pub mod Deciding
 pub mod Deeds
 pub mod ExampleProofs
