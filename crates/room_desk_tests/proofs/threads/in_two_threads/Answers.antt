@@ -8,7 +8,7 @@ use Rattle.std.specs.contracts.impls.GlobalAllocator.TheImpl as heap
 use Rattle.std.below.core.specs.contracts.clone.Clone+copy.TheImpl as cloning
 use Rattle.room_history.specs.contracts.turned.RoomTurned.TheImpl.{no_dict}
 use Rattle.room_stacks.proofs.author.Author.TheSendSync as author
-use Rattle.room_desk_tests.proofs.Crossing.{seat_send, desk_sync, closure_send}
+use Rattle.room_history.proofs.Crossing.{seat_send, desk_sync, closure_send}
 use Rattle.room_desk_tests.proofs.threads.in_two_threads.Goals as goal
 
 -- the closure takes with it references to the runtime, the allocator, the desk and the author, and the seat
