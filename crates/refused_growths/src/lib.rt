@@ -15,9 +15,9 @@ mod map;
 #[cfg(test)]
 mod nodes;
 #[cfg(test)]
-mod retags;
+mod printed;
 #[cfg(test)]
-mod room;
+mod retags;
 #[cfg(test)]
 mod tags;
 #[cfg(test)]
