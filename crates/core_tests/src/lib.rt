@@ -12,5 +12,3 @@ mod references;
 mod retags;
 #[cfg(test)]
 mod stores;
-#[cfg(test)]
-mod topology;

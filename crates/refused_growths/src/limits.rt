@@ -94,12 +94,7 @@ fn are_thousand(rt: &impl Abort, alloc: Global, tags: &Tags<Global>) -> Result<(
 }
 
 // Gives a key a value, as texts.
-fn set(
-    alloc: Global,
-    tags: &mut Tags<Global>,
-    key: &str,
-    value: &str,
-) -> Result<(), TextFault> {
+fn set(alloc: Global, tags: &mut Tags<Global>, key: &str, value: &str) -> Result<(), TextFault> {
     tags.set(Text::new(alloc, key)?, Text::new(alloc, value)?)
 }
 
@@ -117,7 +112,10 @@ fn an_element_has_a_thousand_tags(rt: HostRuntime) -> Result<(), Fail> {
     let alloc = rt.alloc();
     let mut tags = thousand_tags(alloc)?;
     are_thousand(&rt, alloc, &tags)?;
-    assert_eq!(rt; set(alloc, &mut tags, "more", ""), Err(TextFault::TooManyTags));
+    assert_eq!(rt;
+        set(alloc, &mut tags, "more", ""),
+        Err(TextFault::TooManyTags)
+    );
     are_thousand(&rt, alloc, &tags.copy()?)?;
     last_is_changed(&rt, alloc, &mut tags)
 }
