@@ -1,6 +1,7 @@
 //! What no clause says: that each call that asks for memory succeeds where there is some, and answers
 //! as the sources of its rule say.
 ghost use Rattle.std.specs.Prelude.{◌≡◌, IfOk};
+ghost use Rattle.osm_elements.specs.declared.name.Kind.TheVariants as kinds;
 
 use osm_coords::{Lat, Lon};
 use osm_elements::element::Element;
@@ -11,6 +12,7 @@ use osm_elements::nodes::Nodes;
 use osm_elements::tags::Tags;
 use osm_elements::text::Text;
 use std::alloc::Global;
+use std::process::Abort;
 use std::test::Fail;
 
 fn name(kind: Kind, id: i64) -> Result<Name, Fail>
@@ -86,17 +88,28 @@ fn names_go_by_kind_and_then_by_number(rt: HostRuntime) {
     }
 }
 
-#[test]
-fn a_text_has_at_most_255_characters(rt: HostRuntime) -> Result<(), Fail> {
-    let mut letters = String::new(rt.alloc());
-    for _ in 0..255 {
+// So many letters, each of two bytes.
+fn letters(alloc: Global, count: u32) -> Result<String, Fail> {
+    let mut letters = String::new(alloc);
+    for _ in 0..count {
         letters.push_str("\u{e9}")?;
     }
+    Ok(letters)
+}
+
+#[test]
+fn a_text_has_at_most_255_characters(rt: HostRuntime) -> Result<(), Fail> {
+    let letters = letters(rt.alloc(), 255)?;
     assert_eq!(rt; letters.len(), 510);
     let text = Text::new(rt.alloc(), letters.as_str())?;
     assert_eq!(rt; text.as_str(), letters.as_str());
     assert_eq!(rt; text.copy()?.as_str(), letters.as_str());
-    letters.push_str("\u{e9}")?;
+    Ok(())
+}
+
+#[test]
+fn a_text_has_not_256_characters(rt: HostRuntime) -> Result<(), Fail> {
+    let letters = letters(rt.alloc(), 256)?;
     match Text::new(rt.alloc(), letters.as_str()) {
         Ok(_) => assert!(rt; false, "256 characters"),
         Err(fault) => assert_eq!(rt; fault, TextFault::TextTooLong),
@@ -104,18 +117,28 @@ fn a_text_has_at_most_255_characters(rt: HostRuntime) -> Result<(), Fail> {
     Ok(())
 }
 
-#[test]
-fn an_element_has_at_most_1000_tags(rt: HostRuntime) -> Result<(), Fail> {
-    let alloc = rt.alloc();
+// Sets a tag, or tells why not.
+fn set(alloc: Global, tags: &mut Tags<Global>, key: &str, value: &str) -> Result<(), TextFault> {
+    tags.set(Text::new(alloc, key)?, Text::new(alloc, value)?)
+}
+
+// Tags of the keys `key:0` to `key:999`.
+fn thousand_tags(alloc: Global) -> Result<Tags<Global>, Fail> {
     let mut tags = Tags::empty(alloc);
     for at in 0..1000u16 {
         let key = format!(in alloc; "key:{at}")?;
-        tags.set(Text::new(alloc, key.as_str())?, Text::new(alloc, "first")?)?;
+        set(alloc, &mut tags, key.as_str(), "first")?;
     }
+    Ok(tags)
+}
+
+#[test]
+fn an_element_has_at_most_1000_tags(rt: HostRuntime) -> Result<(), Fail> {
+    let mut tags = thousand_tags(rt.alloc())?;
     assert_eq!(rt; tags.len(), 1000);
-    let more = tags.set(Text::new(alloc, "name")?, Text::new(alloc, "")?);
+    let more = set(rt.alloc(), &mut tags, "name", "");
     assert_eq!(rt; more, Err(TextFault::TooManyTags));
-    tags.set(Text::new(alloc, "key:500")?, Text::new(alloc, "second")?)?;
+    set(rt.alloc(), &mut tags, "key:500", "second")?;
     let value = tags.get("key:500").ok_or("a tag")?;
     assert_eq!(rt; value.as_str(), "second");
     assert!(rt; tags.clear("key:0"));
@@ -124,50 +147,66 @@ fn an_element_has_at_most_1000_tags(rt: HostRuntime) -> Result<(), Fail> {
     Ok(())
 }
 
+// The keys of tags, each behind a space.
+fn keys_of(alloc: Global, tags: &Tags<Global>) -> Result<String, Fail> {
+    let mut keys = String::new(alloc);
+    for tag in tags.rows() {
+        keys.push(' ')?;
+        keys.push_str(tag.key.as_str())?;
+    }
+    Ok(keys)
+}
+
 #[test]
 fn tags_go_by_the_bytes_of_their_keys(rt: HostRuntime) -> Result<(), Fail> {
-    let alloc = rt.alloc();
-    let mut tags = Tags::empty(alloc);
+    let mut tags = Tags::empty(rt.alloc());
     for key in ["name:de", "\u{e9}", "a", "name", "Z"] {
-        tags.set(Text::new(alloc, key)?, Text::new(alloc, "")?)?;
+        set(rt.alloc(), &mut tags, key, "")?;
     }
-    let mut keys = Vec::new(alloc);
-    for tag in tags.copy()?.rows() {
-        keys.push(tag.key.copy()?)?;
-    }
-    let wanted = ["Z", "a", "name", "name:de", "\u{e9}"];
-    assert_eq!(rt; keys.len(), wanted.len());
-    for (key, wanted) in keys.iter().zip(wanted.iter()) {
-        assert_eq!(rt; key.as_str(), *wanted);
-    }
-    let no_key = tags.set(Text::new(alloc, "")?, Text::new(alloc, "yes")?);
+    let keys = keys_of(rt.alloc(), &tags.copy()?)?;
+    assert_eq!(rt; keys.as_str(), " Z a name name:de \u{e9}");
+    let no_key = set(rt.alloc(), &mut tags, "", "yes");
     assert_eq!(rt; no_key, Err(TextFault::EmptyKey));
     Ok(())
+}
+
+// A way of two nodes.
+fn way(rt: &impl Abort, alloc: Global, first: Name, second: Name) -> Result<Element<Global>, Fail>
+    requires first { first.kind ≡ kinds.Node }
+    requires second { second.kind ≡ kinds.Node }
+{
+    let mut nodes = Nodes::empty(alloc);
+    nodes.push(first)?;
+    nodes.push(second)?;
+    assert_eq!(rt; nodes.copy()?.names(), [first, second].as_slice());
+    let tags = Tags::empty(alloc);
+    Ok(Element::Way { nodes, tags })
+}
+
+// The names of rows, in their order.
+fn names_of(alloc: Global, rows: &Rows<Global>) -> Result<Vec<Name>, Fail> {
+    let mut names = Vec::new(alloc);
+    for row in rows.iter() {
+        names.push(row.name)?;
+    }
+    Ok(names)
 }
 
 #[test]
 fn a_map_lists_its_rows_in_name_order(rt: HostRuntime) -> Result<(), Fail> {
     let alloc = rt.alloc();
-    let (first, second, way) = (
-        name(Kind::Node, -1)?,
-        name(Kind::Node, 2)?,
-        name(Kind::Way, -1)?,
-    );
-    let mut nodes = Nodes::empty(alloc);
-    nodes.push(second)?;
-    nodes.push(first)?;
-    assert_eq!(rt; nodes.copy()?.names(), [second, first].as_slice());
+    let first = name(Kind::Node, -1)?;
+    let second = name(Kind::Node, 2)?;
+    let road = name(Kind::Way, -1)?;
     let mut map = OsmMap::new(alloc);
-    let tags = Tags::empty(alloc);
-    assert!(rt; map.put(way, Element::Way { nodes, tags }).is_ok());
+    assert!(rt; map.put(road, way(&rt, alloc, second, first)?).is_ok());
     assert!(rt; map.put(second, node(alloc, 1, 2)?).is_ok());
     assert!(rt; map.put(first, node(alloc, 900000000, -1800000000)?).is_ok());
     let rows = map.rows(alloc)?;
-    let mut names = Vec::new(alloc);
-    for row in rows.iter() {
-        names.push(row.name)?;
-    }
-    assert_eq!(rt; names.as_slice(), [first, second, way].as_slice());
+    assert_eq!(rt;
+        names_of(alloc, &rows)?.as_slice(),
+        [first, second, road].as_slice()
+    );
     let rows = Rows::from_vec(rows.copy()?.into_vec());
     assert_eq!(rt; rows.as_slice().len(), 3);
     Ok(())

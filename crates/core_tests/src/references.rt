@@ -15,6 +15,7 @@ use osm_elements::text::Text;
 use osm_refs::refs::refs_of;
 use osm_refs::users::Users;
 use std::alloc::Global;
+use std::process::Abort;
 use std::test::Fail;
 
 // A small pseudo-random generator (a linear congruential one, by the constants of "Numerical Recipes").
@@ -148,6 +149,62 @@ fn drop_row(map: &mut OsmMap<Global>, users: &mut Users<Global>, name: &Name) ->
     Ok(())
 }
 
+// At most five of the names, some twice.
+fn some_names(alloc: Global, dice: &mut Dice, names: &[Name]) -> Result<Vec<Name>, Fail> {
+    let mut some = Vec::new(alloc);
+    for _ in 0..dice.roll(6) {
+        some.push(some_name(dice, names)?)?;
+    }
+    Ok(some)
+}
+
+// Puts a row of some name, or takes it out, and notes it.
+fn change(
+    alloc: Global,
+    dice: &mut Dice,
+    names: &[Name],
+    map: &mut OsmMap<Global>,
+    users: &mut Users<Global>,
+) -> Result<(), Fail>
+    requires { users.old ≡ record { references = table_of map.old; waiting = [] } }
+    ensures { IfOk result (λ _. users.new ≡ record { references = table_of map.new; waiting = [] }) }
+{
+    let name = some_name(dice, names)?;
+    let parts = some_names(alloc, dice, names)?;
+    if dice.roll(4) == 0 {
+        drop_row(map, users, &name)
+    } else {
+        put_row(map, users, name, element(alloc, &name, &parts)?)
+    }
+}
+
+// A name has the users that a search finds.
+fn has_users_of_search(
+    rt: &impl Abort,
+    alloc: Global,
+    map: &OsmMap<Global>,
+    users: &Users<Global>,
+    name: &Name,
+) -> Result<(), Fail> {
+    let wanted = users_by_search(alloc, map, name)?;
+    assert_eq!(rt; users.of(name), wanted.as_slice());
+    Ok(())
+}
+
+// Each name has the users that a search finds.
+fn have_users_of_search(
+    rt: &impl Abort,
+    alloc: Global,
+    map: &OsmMap<Global>,
+    users: &Users<Global>,
+    names: &[Name],
+) -> Result<(), Fail> {
+    for name in names {
+        has_users_of_search(rt, alloc, map, users, name)?;
+    }
+    Ok(())
+}
+
 #[test]
 fn a_thousand_changes_leave_the_users_that_a_search_finds(rt: HostRuntime) -> Result<(), Fail> {
     let alloc = rt.alloc();
@@ -156,65 +213,79 @@ fn a_thousand_changes_leave_the_users_that_a_search_finds(rt: HostRuntime) -> Re
     let mut map = OsmMap::new(alloc);
     let mut users = Users::new(alloc);
     for _ in 0..1000u32 {
-        let name = some_name(&mut dice, &names)?;
-        let mut parts = Vec::new(alloc);
-        for _ in 0..dice.roll(6) {
-            parts.push(some_name(&mut dice, &names)?)?;
-        }
-        if dice.roll(4) == 0 {
-            drop_row(&mut map, &mut users, &name)?;
-        } else {
-            put_row(&mut map, &mut users, name, element(alloc, &name, &parts)?)?;
-        }
-        for name in &names {
-            let wanted = users_by_search(alloc, &map, name)?;
-            assert_eq!(rt; users.of(name), wanted.as_slice());
-        }
+        change(alloc, &mut dice, &names, &mut map, &mut users)?;
+        have_users_of_search(&rt, alloc, &map, &users, &names)?;
     }
+    Ok(())
+}
+
+// The names of some texts.
+fn names_of(alloc: Global, texts: &[&str]) -> Result<Vec<Name>, Fail> {
+    let mut names = Vec::new(alloc);
+    for text in texts {
+        names.push(Name::read(text).ok_or("a name")?)?;
+    }
+    Ok(names)
+}
+
+// An element refers to these names, in this order.
+fn has_refs(
+    rt: &impl Abort,
+    alloc: Global,
+    element: &Element<Global>,
+    wanted: &[&str],
+) -> Result<(), Fail> {
+    let refs = refs_of(alloc, element)?;
+    let wanted = names_of(alloc, wanted)?;
+    assert_eq!(rt; refs.as_slice(), wanted.as_slice());
     Ok(())
 }
 
 #[test]
 fn an_element_refers_to_each_name_once_in_order(rt: HostRuntime) -> Result<(), Fail> {
     let alloc = rt.alloc();
-    let mut names = Vec::new(alloc);
-    for text in ["r1", "n2", "w7", "n2", "n-2", "r1"] {
-        names.push(Name::read(text).ok_or(text)?)?;
-    }
-    let refs = refs_of(alloc, &relation(alloc, &names)?)?;
-    let mut wanted = Vec::new(alloc);
-    for text in ["n-2", "n2", "w7", "r1"] {
-        wanted.push(Name::read(text).ok_or(text)?)?;
-    }
-    assert_eq!(rt; refs.as_slice(), wanted.as_slice());
-    let refs = refs_of(alloc, &way(alloc, &names)?)?;
-    assert_eq!(rt; refs.len(), 2);
-    assert!(rt; refs_of(alloc, &node(alloc)?)?.is_empty());
+    let names = names_of(alloc, &["r1", "n2", "w7", "n2", "n-2", "r1"])?;
+    has_refs(
+        &rt,
+        alloc,
+        &relation(alloc, &names)?,
+        &["n-2", "n2", "w7", "r1"],
+    )?;
+    has_refs(&rt, alloc, &way(alloc, &names)?, &["n-2", "n2"])?;
+    has_refs(&rt, alloc, &node(alloc)?, &[])
+}
+
+// A name has these users.
+fn has_users(
+    rt: &impl Abort,
+    users: &Users<Global>,
+    text: &str,
+    wanted: &[Name],
+) -> Result<(), Fail> {
+    let name = Name::read(text).ok_or("a name")?;
+    assert_eq!(rt; users.of(&name), wanted);
     Ok(())
 }
 
 #[test]
 fn a_note_waits_until_it_is_entered_or_forgotten(rt: HostRuntime) -> Result<(), Fail> {
     let alloc = rt.alloc();
-    let first = Name::read("n1").ok_or("n1")?;
-    let second = Name::read("n2").ok_or("n2")?;
     let road = Name::read("w1").ok_or("w1")?;
-    let short = way(alloc, &[first])?;
-    let long = way(alloc, &[second, first])?;
+    let short = way(alloc, &names_of(alloc, &["n1"])?)?;
+    let long = way(alloc, &names_of(alloc, &["n2", "n1"])?)?;
     let mut users = Users::new(alloc);
     users.ready(&road, None, Some(&long))?;
     users.forget();
     users.ready(&road, None, Some(&short))?;
     users.ready(&road, Some(&short), Some(&long))?;
-    assert!(rt; users.of(&first).is_empty());
+    has_users(&rt, &users, "n1", &[])?;
     users.note();
-    assert_eq!(rt; users.of(&first), [road].as_slice());
-    assert!(rt; users.of(&second).is_empty());
+    has_users(&rt, &users, "n1", &[road])?;
+    has_users(&rt, &users, "n2", &[])?;
     let mut copy = users.copy()?;
     users.forget();
     copy.note();
-    assert_eq!(rt; copy.of(&first), [road].as_slice());
-    assert_eq!(rt; copy.of(&second), [road].as_slice());
-    assert!(rt; users.of(&second).is_empty());
-    Ok(())
+    has_users(&rt, &copy, "n1", &[road])?;
+    has_users(&rt, &copy, "n2", &[road])?;
+    has_users(&rt, &users, "n2", &[])
 }

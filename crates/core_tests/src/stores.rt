@@ -1,5 +1,9 @@
 //! What no clause says: that each plan is made and each list of changes applied where there is memory. What is wanted was
 //! worked out by hand.
+ghost use Rattle.std.specs.Prelude.{IfOk};
+ghost use Rattle.sample_edits.specs.Applying.{MayApply};
+
+use osm_changes::changes::Changes;
 use osm_changes::store::Store;
 use sample_edits::applying::{apply, plan_of, store_of};
 use sample_edits::edits::{EDITS, START, STARTED};
@@ -22,6 +26,22 @@ fn is_shown(
     Ok(())
 }
 
+// The changes of an edit, which are shown so.
+fn planned(
+    rt: &impl Abort,
+    alloc: Global,
+    store: &Store<Global>,
+    text: &str,
+    wanted: &str,
+) -> Result<Changes<Global>, Fail>
+    ensures { IfOk result (λ cs. MayApply store.now.rows cs) }
+{
+    let changes = plan_of(alloc, store, &action(alloc, text)?.copy()?)?;
+    let shown = changes_shown(alloc, changes.copy()?.rows())?;
+    assert_eq!(rt; shown.as_str(), wanted);
+    Ok(changes)
+}
+
 // Plans an edit, applies it, takes it back and applies it again.
 fn step(
     rt: &impl Abort,
@@ -30,9 +50,7 @@ fn step(
     [text, wanted, after]: [&str; 3],
 ) -> Result<(), Fail> {
     let before = store_shown(alloc, store)?;
-    let changes = plan_of(alloc, store, &action(alloc, text)?.copy()?)?;
-    let shown = changes_shown(alloc, changes.copy()?.rows())?;
-    assert_eq!(rt; shown.as_str(), wanted);
+    let changes = planned(rt, alloc, store, text, wanted)?;
     let back = apply(alloc, store, changes)?;
     is_shown(rt, alloc, store, after)?;
     let forth = apply(alloc, store, back)?;
@@ -87,6 +105,24 @@ const REFUSED: [(&str, &str); 12] = [
     ),
 ];
 
+// An edit is refused so, as refusals are printed.
+fn is_refused(
+    rt: &impl Abort,
+    alloc: Global,
+    store: &Store<Global>,
+    text: &str,
+    wanted: &str,
+) -> Result<(), Fail> {
+    match plan_of(alloc, store, &action(alloc, text)?) {
+        Ok(_) => Err(Fail::from("an edit was accepted")),
+        Err(refusal) => {
+            let told = format!(in alloc; "{refusal:?}")?;
+            assert_eq!(rt; told.as_str(), wanted, "{text}");
+            Ok(())
+        }
+    }
+}
+
 #[test]
 fn refused_edits_name_what_is_wrong(rt: HostRuntime) -> Result<(), Fail> {
     let alloc = rt.alloc();
@@ -95,13 +131,7 @@ fn refused_edits_name_what_is_wrong(rt: HostRuntime) -> Result<(), Fail> {
         &["create n1 1,1", "create n2 2,2", "create w1 n2 n2"],
     )?;
     for (text, wanted) in REFUSED {
-        match plan_of(alloc, &store, &action(alloc, text)?) {
-            Ok(_) => assert!(rt; false, "{text}"),
-            Err(refusal) => {
-                let told = format!(in alloc; "{refusal:?}")?;
-                assert_eq!(rt; told.as_str(), wanted);
-            }
-        }
+        is_refused(&rt, alloc, &store, text, wanted)?;
     }
     Ok(())
 }

@@ -1,7 +1,5 @@
 //! The worked examples of a mirror's faults and of the news of a purge.
-use crate::making::{
-    START, STARTED, accept, mirror, mirror_shown, mirror_wanted, news, news_by, room,
-};
+use crate::making::{START, STARTED, accept, mirror, news, news_by, room, shows};
 use room_history::room::Room;
 use room_mirror::fault::MirrorFault;
 use std::alloc::Global;
@@ -35,10 +33,7 @@ fn the_first_news_are_taken(rt: HostRuntime) -> Result<(), Fail> {
     let mut mirror = mirror(rt.alloc(), 0, "")?;
     let told = news_by(rt.alloc(), 1, "anna", "n-1 515000000,-1000000")?;
     assert_eq!(rt; mirror.take(&told), Ok(()));
-    let shown = mirror_shown(rt.alloc(), &mirror)?;
-    let wanted = mirror_wanted(rt.alloc(), 1, "n-1 515000000,-1000000")?;
-    assert_eq!(rt; shown.as_str(), wanted.as_str());
-    Ok(())
+    shows(&rt, rt.alloc(), &mirror, 1, "n-1 515000000,-1000000")
 }
 
 // Each fault has its own text.
@@ -90,8 +85,5 @@ fn a_purge_is_taken(rt: HostRuntime) -> Result<(), Fail> {
     for news in told.as_slice() {
         assert_eq!(rt; mirror.take(news), Ok(()));
     }
-    let shown = mirror_shown(rt.alloc(), &mirror)?;
-    let wanted = mirror_wanted(rt.alloc(), 7, LEFT)?;
-    assert_eq!(rt; shown.as_str(), wanted.as_str());
-    Ok(())
+    shows(&rt, rt.alloc(), &mirror, 7, LEFT)
 }

@@ -61,6 +61,12 @@ fn by(call: &str) -> &str {
     by
 }
 
+// The text of one news, with the rows that another text writes.
+fn wanted(alloc: Global, seq: u64, by: &str, rows: &str) -> Result<String, Fail> {
+    let wanted = [news_by(alloc, seq, by, rows)?];
+    Ok(format!(in alloc; "{:?}", wanted.as_slice())?)
+}
+
 // The room takes a call and tells its news alone, with the rows that a text writes.
 fn tells(
     rt: &impl Abort,
@@ -72,11 +78,22 @@ fn tells(
     let before = room.front();
     accept(alloc, room, call)?;
     let told = room.news(before)?;
-    let wanted = [news_by(alloc, before.wrapping_add(1), by(call), rows)?];
     let shown = format!(in alloc; "{:?}", told.as_slice())?;
-    let wanted = format!(in alloc; "{:?}", wanted.as_slice())?;
+    let wanted = wanted(alloc, before.wrapping_add(1), by(call), rows)?;
     assert_eq!(rt; shown.as_str(), wanted.as_str(), "{call}");
     Ok(told)
+}
+
+// The mirror takes all of the news.
+fn takes_all(
+    rt: &impl Abort,
+    mirror: &mut Mirror<Global>,
+    told: &NewsList<Global>,
+) -> Result<(), Fail> {
+    for news in told.as_slice() {
+        assert_eq!(rt; mirror.take(news), Ok(()));
+    }
+    Ok(())
 }
 
 // The mirror takes news, and then has the number and the map of the room.
@@ -87,9 +104,7 @@ fn follows(
     told: &NewsList<Global>,
     room: &Room<Global>,
 ) -> Result<(), Fail> {
-    for news in told.as_slice() {
-        assert_eq!(rt; mirror.take(news), Ok(()));
-    }
+    takes_all(rt, mirror, told)?;
     assert_eq!(rt; mirror.seq(), room.front());
     let held = format!(in alloc; "{:?}", mirror.map().rows(alloc)?)?;
     let wanted = format!(in alloc; "{:?}", room.map_rows()?)?;
@@ -129,17 +144,32 @@ fn room_after(alloc: Global, calls: usize) -> Result<Room<Global>, Fail> {
     Ok(room)
 }
 
+// The mirror of the room after some of the calls.
+fn mirror_after(alloc: Global, calls: usize) -> Result<Mirror<Global>, Fail> {
+    let map = map_now(&room_after(alloc, calls)?, alloc)?;
+    mirror_of(alloc, calls as u64, &map)
+}
+
+// A mirror that is made after so many calls takes the news of all later ones of the room.
+fn catches_up(
+    rt: &impl Abort,
+    alloc: Global,
+    room: &Room<Global>,
+    calls: usize,
+) -> Result<(), Fail> {
+    let mut mirror = mirror_after(alloc, calls)?;
+    let told = room.news(calls as u64)?;
+    assert_eq!(rt; told.as_slice().len(), STEPS.len().saturating_sub(calls));
+    follows(rt, alloc, &mut mirror, &told, room)
+}
+
 // A mirror that is made after any of the calls takes the news of all later ones at once.
 #[test]
 fn a_mirror_catches_up(rt: HostRuntime) -> Result<(), Fail> {
     let alloc = rt.alloc();
     let room = room_after(alloc, STEPS.len())?;
     for calls in 0..=STEPS.len() {
-        let map = map_now(&room_after(alloc, calls)?, alloc)?;
-        let mut mirror = mirror_of(alloc, calls as u64, &map)?;
-        let told = room.news(calls as u64)?;
-        assert_eq!(rt; told.as_slice().len(), STEPS.len() - calls);
-        follows(&rt, alloc, &mut mirror, &told, &room)?;
+        catches_up(&rt, alloc, &room, calls)?;
     }
     Ok(())
 }

@@ -1,10 +1,9 @@
 //! Each growth refused in turn: what is asked is answered once there is memory, and until then nothing changes.
 use crate::making::{
-    Heap, MOST, START, STARTED, accept, map, mirror, mirror_shown, mirror_wanted, news, news_by,
-    room,
+    Heap, MOST, START, STARTED, accept, map, mirror, mirror_shown, news, news_by, room, shows,
 };
 use refusing::Refusing;
-use room_history::ask::{RoomCall, RoomReply};
+use room_history::ask::RoomCall;
 use room_history::news::NewsList;
 use room_history::room::Room;
 use room_mirror::fault::MirrorFault;
@@ -35,6 +34,20 @@ fn take_within<'a>(
     Ok(answer)
 }
 
+// A mirror refused news for want of memory, and is as it was.
+fn was_refused(
+    rt: &impl Abort,
+    alloc: Global,
+    mirror: &Mirror<Heap<'_>>,
+    answer: Result<(), MirrorFault>,
+    before: &str,
+) -> Result<(), Fail> {
+    assert_eq!(rt; answer, Err(MirrorFault::Memory));
+    let after = mirror_shown(alloc, mirror)?;
+    assert_eq!(rt; after.as_str(), before);
+    Ok(())
+}
+
 // Refuses each growth in turn, until the news are taken, and gives how many were refused.
 fn take_at_last<'a>(
     rt: &impl Abort,
@@ -49,9 +62,7 @@ fn take_at_last<'a>(
         if answer.is_ok() {
             return Ok(growths);
         }
-        assert_eq!(rt; answer, Err(MirrorFault::Memory));
-        let after = mirror_shown(alloc, mirror)?;
-        assert_eq!(rt; after.as_str(), before.as_str(), "at growth {growths}");
+        was_refused(rt, alloc, mirror, answer, before.as_str())?;
     }
     Err("never with memory".into())
 }
@@ -62,10 +73,7 @@ fn a_mirror_refuses_each_growth(rt: HostRuntime) -> Result<(), Fail> {
     let mut mirror = mirror(&heap, 6, STARTED)?;
     let refused = take_at_last(&rt, rt.alloc(), &heap, &mut mirror, TOLD)?;
     assert!(rt; refused > 0, "no growth was refused");
-    let shown = mirror_shown(rt.alloc(), &mirror)?;
-    let wanted = mirror_wanted(rt.alloc(), 7, AFTER)?;
-    assert_eq!(rt; shown.as_str(), wanted.as_str());
-    Ok(())
+    shows(&rt, rt.alloc(), &mirror, 7, AFTER)
 }
 
 // So many new nodes.
@@ -86,11 +94,8 @@ fn a_mirror_takes_many_new_names(rt: HostRuntime) -> Result<(), Fail> {
     let mut mirror = mirror(&heap, 6, "n40 1,1")?;
     let refused = take_at_last(&rt, rt.alloc(), &heap, &mut mirror, told.as_str())?;
     assert!(rt; refused > 3, "{refused} growths were refused");
-    let shown = mirror_shown(rt.alloc(), &mirror)?;
     let all = format!(in rt.alloc(); "{told} n40 1,1")?;
-    let wanted = mirror_wanted(rt.alloc(), 7, all.as_str())?;
-    assert_eq!(rt; shown.as_str(), wanted.as_str());
-    Ok(())
+    shows(&rt, rt.alloc(), &mirror, 7, all.as_str())
 }
 
 // Makes a mirror where at first each growth is refused, and gives how many were refused.
@@ -113,10 +118,7 @@ fn a_mirror_is_made_once_there_is_memory(rt: HostRuntime) -> Result<(), Fail> {
     let heap = Refusing::new(rt.alloc(), u64::MAX);
     let (mirror, refused) = made_at_last(&heap)?;
     assert!(rt; refused > 0, "no growth was refused");
-    let shown = mirror_shown(rt.alloc(), &mirror)?;
-    let wanted = mirror_wanted(rt.alloc(), 6, STARTED)?;
-    assert_eq!(rt; shown.as_str(), wanted.as_str());
-    Ok(())
+    shows(&rt, rt.alloc(), &mirror, 6, STARTED)
 }
 
 // A mirror's number and its map are read with no memory.
@@ -172,26 +174,52 @@ fn told_at_last<'a>(
     Err("never with memory".into())
 }
 
+// The room tells its last two news, some growths refused before.
+fn tells_at_last<'a>(
+    rt: &impl Abort,
+    alloc: Global,
+    heap: Heap<'a>,
+    room: &Room<Heap<'a>>,
+) -> Result<(), Fail> {
+    let (told, refused) = told_at_last(heap, room)?;
+    assert!(rt; refused > 0, "no growth was refused");
+    let told = format!(in alloc; "{told:?}")?;
+    assert_eq!(rt; told.as_str(), wanted(alloc)?.as_str());
+    Ok(())
+}
+
+// A room tells this, in its map and its journal.
+fn room_shows(
+    rt: &impl Abort,
+    alloc: Global,
+    room: &Room<Heap<'_>>,
+    wanted: &str,
+) -> Result<(), Fail> {
+    let shown = room_shown(alloc, room)?;
+    assert_eq!(rt; shown.as_str(), wanted);
+    Ok(())
+}
+
 #[test]
 fn news_are_told_once_there_is_memory(rt: HostRuntime) -> Result<(), Fail> {
     let heap = Refusing::new(rt.alloc(), u64::MAX);
     let room = purged(&heap)?;
     let before = room_shown(rt.alloc(), &room)?;
-    let (told, refused) = told_at_last(&heap, &room)?;
-    assert!(rt; refused > 0, "no growth was refused");
-    let told = format!(in rt.alloc(); "{told:?}")?;
-    assert_eq!(rt; told.as_str(), wanted(rt.alloc())?.as_str());
-    let after = room_shown(rt.alloc(), &room)?;
-    assert_eq!(rt; after.as_str(), before.as_str());
-    Ok(())
+    tells_at_last(&rt, rt.alloc(), &heap, &room)?;
+    room_shows(&rt, rt.alloc(), &room, before.as_str())
 }
 
-// Asks for the last two news where only so many growths are granted.
-fn ask_within<'a>(heap: Heap<'a>, room: &mut Room<Heap<'a>>, growths: u64) -> RoomReply<Heap<'a>> {
+// What is answered where the last two news are asked for and only so many growths are granted.
+fn ask_within<'a>(
+    alloc: Global,
+    heap: Heap<'a>,
+    room: &mut Room<Heap<'a>>,
+    growths: u64,
+) -> Result<String, Fail> {
     heap.set(growths);
     let reply = room.ask(RoomCall::News(5));
     heap.set(u64::MAX);
-    reply
+    Ok(format!(in alloc; "{reply:?}")?)
 }
 
 // Asks for the last two news where at first each growth is refused, which is told and changes nothing.
@@ -203,10 +231,8 @@ fn answered_at_last<'a>(
 ) -> Result<(String, u64), Fail> {
     let before = room_shown(alloc, room)?;
     for growths in 0..MOST {
-        let reply = ask_within(heap, room, growths);
-        let after = room_shown(alloc, room)?;
-        assert_eq!(rt; after.as_str(), before.as_str(), "at growth {growths}");
-        let reply = format!(in alloc; "{reply:?}")?;
+        let reply = ask_within(alloc, heap, room, growths)?;
+        room_shows(rt, alloc, room, before.as_str())?;
         if reply.as_str() != "News(Err(AllocError))" {
             return Ok((reply, growths));
         }

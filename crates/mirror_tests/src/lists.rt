@@ -3,6 +3,7 @@ use crate::making::{Heap, MOST, news, rows};
 use refusing::Refusing;
 use room_history::news::{NewsList, NewsRow, NewsRows};
 use std::alloc::{AllocError, Global};
+use std::process::Abort;
 use std::test::Fail;
 
 // Rows of each kind, and one that is gone.
@@ -49,14 +50,20 @@ fn a_copy_of_rows_is_equal(rt: HostRuntime) -> Result<(), Fail> {
     Ok(())
 }
 
+// A copy of a row is equal.
+fn is_copied(rt: &impl Abort, alloc: Global, row: &NewsRow<Heap<'_>>) -> Result<(), Fail> {
+    let copy = row.copy()?;
+    let copy = format!(in alloc; "{copy:?}")?;
+    let wanted = format!(in alloc; "{row:?}")?;
+    assert_eq!(rt; copy.as_str(), wanted.as_str());
+    Ok(())
+}
+
 #[test]
 fn a_copy_of_a_row_is_equal(rt: HostRuntime) -> Result<(), Fail> {
     let heap = Refusing::new(rt.alloc(), u64::MAX);
     for row in rows(&heap, ROWS)?.as_slice() {
-        let copy = row.copy()?;
-        let copy = format!(in rt.alloc(); "{copy:?}")?;
-        let wanted = format!(in rt.alloc(); "{row:?}")?;
-        assert_eq!(rt; copy.as_str(), wanted.as_str());
+        is_copied(&rt, rt.alloc(), row)?;
     }
     Ok(())
 }

@@ -12,6 +12,7 @@ use room_stacks::author::Author;
 use sample_edits::parts::name;
 use sample_edits::reading::{action, element};
 use std::alloc::{Allocator, Global};
+use std::process::Abort;
 use std::test::Fail;
 
 /// What counts its growths.
@@ -163,8 +164,22 @@ pub fn mirror_shown<A: Allocator + Copy>(
     Ok(format!(in alloc; "{seq} {map:?}")?)
 }
 
-/// The text of a mirror of a number, with the rows that another text writes.
-pub fn mirror_wanted(alloc: Global, seq: u64, text: &str) -> Result<String, Fail> {
+// The text of a mirror of a number, with the rows that another text writes.
+fn mirror_wanted(alloc: Global, seq: u64, text: &str) -> Result<String, Fail> {
     let map = map(alloc, text)?;
     Ok(format!(in alloc; "{seq} {map:?}")?)
+}
+
+/// A mirror has a number and the rows that a text writes.
+pub fn shows<A: Allocator + Copy>(
+    rt: &impl Abort,
+    alloc: Global,
+    mirror: &Mirror<A>,
+    seq: u64,
+    rows: &str,
+) -> Result<(), Fail> {
+    let shown = mirror_shown(alloc, mirror)?;
+    let wanted = mirror_wanted(alloc, seq, rows)?;
+    assert_eq!(rt; shown.as_str(), wanted.as_str());
+    Ok(())
 }

@@ -4,6 +4,7 @@ use room_history::ask::RoomCall;
 use room_history::news::NewsList;
 use room_history::room::Room;
 use std::alloc::Global;
+use std::process::Abort;
 use std::test::Fail;
 
 // Two nodes of Anna's, which Bob moves; then each takes back what was done last, and Anna does hers again.
@@ -39,16 +40,28 @@ fn wanted(alloc: Global, from: usize) -> Result<String, Fail> {
     Ok(format!(in alloc; "{wanted:?}")?)
 }
 
+// A room tells the news of all calls but the first so many.
+fn tells(rt: &impl Abort, alloc: Global, room: &Room<Global>, from: usize) -> Result<(), Fail> {
+    let told = room.news(from as u64)?;
+    let told = format!(in alloc; "{told:?}")?;
+    let wanted = wanted(alloc, from)?;
+    assert_eq!(rt; told.as_str(), wanted.as_str(), "past {from}");
+    Ok(())
+}
+
 // All but the first so many are told, also all, and none where there are no more.
 #[test]
 fn news_past_a_number_are_told(rt: HostRuntime) -> Result<(), Fail> {
     let room = room(rt.alloc(), &CALLS)?;
     for from in 0..8usize {
-        let told = room.news(from as u64)?;
-        let told = format!(in rt.alloc(); "{told:?}")?;
-        let wanted = wanted(rt.alloc(), from)?;
-        assert_eq!(rt; told.as_str(), wanted.as_str(), "past {from}");
+        tells(&rt, rt.alloc(), &room, from)?;
     }
+    Ok(())
+}
+
+// A room has no news past this number.
+fn tells_none(rt: &impl Abort, room: &Room<Global>, from: u64) -> Result<(), Fail> {
+    assert_eq!(rt; room.news(from)?.as_slice().len(), 0);
     Ok(())
 }
 
@@ -57,11 +70,10 @@ fn no_news_are_told_past_the_last(rt: HostRuntime) -> Result<(), Fail> {
     let empty = Room::open(rt.alloc(), 0);
     let full = room(rt.alloc(), &CALLS)?;
     for from in [6, 7, u64::from(u32::MAX), u64::MAX - 1, u64::MAX] {
-        assert_eq!(rt; empty.news(from)?.as_slice().len(), 0);
-        assert_eq!(rt; full.news(from)?.as_slice().len(), 0);
+        tells_none(&rt, &empty, from)?;
+        tells_none(&rt, &full, from)?;
     }
-    assert_eq!(rt; empty.news(0)?.as_slice().len(), 0);
-    Ok(())
+    tells_none(&rt, &empty, 0)
 }
 
 // A refused call has no news.
@@ -70,10 +82,21 @@ fn refused_calls_are_not_told(rt: HostRuntime) -> Result<(), Fail> {
     let mut room = room(rt.alloc(), &CALLS)?;
     let _ = room.take(call(rt.alloc(), 9, "bob delete n7")?);
     let _ = room.take(call(rt.alloc(), 9, "anna redo")?);
-    let told = room.news(5)?;
-    let told = format!(in rt.alloc(); "{told:?}")?;
-    let wanted = wanted(rt.alloc(), 5)?;
-    assert_eq!(rt; told.as_str(), wanted.as_str());
+    tells(&rt, rt.alloc(), &room, 5)
+}
+
+// A room answers with the news of all calls but the first so many.
+fn answers(
+    rt: &impl Abort,
+    alloc: Global,
+    room: &mut Room<Global>,
+    from: usize,
+) -> Result<(), Fail> {
+    let reply = room.ask(RoomCall::News(from as u64));
+    let reply = format!(in alloc; "{reply:?}")?;
+    let wanted = wanted(alloc, from)?;
+    let wanted = format!(in alloc; "News(Ok({wanted}))")?;
+    assert_eq!(rt; reply.as_str(), wanted.as_str(), "past {from}");
     Ok(())
 }
 
@@ -82,11 +105,7 @@ fn refused_calls_are_not_told(rt: HostRuntime) -> Result<(), Fail> {
 fn news_are_asked_for(rt: HostRuntime) -> Result<(), Fail> {
     let mut room = room(rt.alloc(), &CALLS)?;
     for from in 0..8usize {
-        let reply = room.ask(RoomCall::News(from as u64));
-        let reply = format!(in rt.alloc(); "{reply:?}")?;
-        let wanted = wanted(rt.alloc(), from)?;
-        let wanted = format!(in rt.alloc(); "News(Ok({wanted}))")?;
-        assert_eq!(rt; reply.as_str(), wanted.as_str(), "past {from}");
+        answers(&rt, rt.alloc(), &mut room, from)?;
     }
     Ok(())
 }

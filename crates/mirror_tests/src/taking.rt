@@ -1,6 +1,8 @@
 //! Mirrors that take news and refuse news, worked out by hand.
-use crate::making::{map, mirror, mirror_shown, mirror_wanted, news};
+use crate::making::{Heap, mirror, news, shows};
 use refusing::Refusing;
+use room_history::news::News;
+use room_mirror::mirror::Mirror;
 use std::alloc::Global;
 use std::process::Abort;
 use std::test::Fail;
@@ -49,10 +51,7 @@ fn takes(rt: &impl Abort, alloc: Global, held: &str, told: &str, after: &str) ->
     let mut mirror = mirror(alloc, 4, held)?;
     let answer = mirror.take(&news(alloc, 5, told)?);
     assert_eq!(rt; answer, Ok(()), "{told}");
-    let shown = mirror_shown(alloc, &mirror)?;
-    let wanted = mirror_wanted(alloc, 5, after)?;
-    assert_eq!(rt; shown.as_str(), wanted.as_str(), "{told}");
-    Ok(())
+    shows(rt, alloc, &mirror, 5, after)
 }
 
 // Rows of news that do not fit those held above.
@@ -79,25 +78,37 @@ const MISFITS: [&str; 14] = [
 #[test]
 fn news_that_do_not_fit_are_refused(rt: HostRuntime) -> Result<(), Fail> {
     for told in MISFITS {
-        refuses(&rt, rt.alloc(), 4, 5, told, "Mismatch")?;
+        refuses(&rt, rt.alloc(), 4, 5, told, "Err(Mismatch)")?;
     }
     Ok(())
 }
 
 // The number of a mirror, that of the news, and the fault that is told.
 const GAPS: [(u64, u64, &str); 9] = [
-    (0, 0, "Gap { want: 1, got: 0 }"),
-    (0, 2, "Gap { want: 1, got: 2 }"),
-    (4, 3, "Gap { want: 5, got: 3 }"),
-    (4, 4, "Gap { want: 5, got: 4 }"),
-    (4, 6, "Gap { want: 5, got: 6 }"),
-    (4, u64::MAX, "Gap { want: 5, got: 18446744073709551615 }"),
-    (u64::MAX, 0, "Gap { want: 18446744073709551615, got: 0 }"),
-    (u64::MAX, 1, "Gap { want: 18446744073709551615, got: 1 }"),
+    (0, 0, "Err(Gap { want: 1, got: 0 })"),
+    (0, 2, "Err(Gap { want: 1, got: 2 })"),
+    (4, 3, "Err(Gap { want: 5, got: 3 })"),
+    (4, 4, "Err(Gap { want: 5, got: 4 })"),
+    (4, 6, "Err(Gap { want: 5, got: 6 })"),
+    (
+        4,
+        u64::MAX,
+        "Err(Gap { want: 5, got: 18446744073709551615 })",
+    ),
+    (
+        u64::MAX,
+        0,
+        "Err(Gap { want: 18446744073709551615, got: 0 })",
+    ),
+    (
+        u64::MAX,
+        1,
+        "Err(Gap { want: 18446744073709551615, got: 1 })",
+    ),
     (
         u64::MAX,
         u64::MAX,
-        "Gap { want: 18446744073709551615, got: 18446744073709551615 }",
+        "Err(Gap { want: 18446744073709551615, got: 18446744073709551615 })",
     ),
 ];
 
@@ -106,9 +117,24 @@ const GAPS: [(u64, u64, &str); 9] = [
 fn news_of_another_number_are_refused(rt: HostRuntime) -> Result<(), Fail> {
     for (seq, got, fault) in GAPS {
         refuses(&rt, rt.alloc(), seq, got, "n2 gone", fault)?;
+    }
+    for (seq, got, fault) in GAPS {
         refuses(&rt, rt.alloc(), seq, got, "n7 gone", fault)?;
     }
     Ok(())
+}
+
+// What news are answered where there is no memory.
+fn answer_without_memory<'a>(
+    alloc: Global,
+    heap: Heap<'a>,
+    mirror: &mut Mirror<Heap<'a>>,
+    news: &News<Heap<'a>>,
+) -> Result<String, Fail> {
+    heap.set(0);
+    let answer = mirror.take(news);
+    heap.set(u64::MAX);
+    Ok(format!(in alloc; "{answer:?}")?)
 }
 
 // A mirror of the rows above refuses news by a fault also where there is no memory, and is as it was.
@@ -123,16 +149,9 @@ fn refuses(
     let heap = Refusing::new(alloc, u64::MAX);
     let mut mirror = mirror(&heap, seq, HELD)?;
     let news = news(&heap, got, told)?;
-    heap.set(0);
-    let answer = mirror.take(&news);
-    heap.set(u64::MAX);
-    let answer = format!(in alloc; "{answer:?}")?;
-    let wanted = format!(in alloc; "Err({fault})")?;
-    assert_eq!(rt; answer.as_str(), wanted.as_str(), "{told}");
-    let shown = mirror_shown(alloc, &mirror)?;
-    let wanted = mirror_wanted(alloc, seq, HELD)?;
-    assert_eq!(rt; shown.as_str(), wanted.as_str(), "{told}");
-    Ok(())
+    let answer = answer_without_memory(alloc, &heap, &mut mirror, &news)?;
+    assert_eq!(rt; answer.as_str(), fault, "{told}");
+    shows(rt, alloc, &mirror, seq, HELD)
 }
 
 // The greatest number is that of the last news that a mirror takes.
@@ -150,12 +169,7 @@ fn the_greatest_number_is_taken(rt: HostRuntime) -> Result<(), Fail> {
 #[test]
 fn a_mirror_is_made_from_rows(rt: HostRuntime) -> Result<(), Fail> {
     for (seq, text) in [(0, ""), (6, HELD), (u64::MAX, "r1")] {
-        let mirror = mirror(rt.alloc(), seq, text)?;
-        assert_eq!(rt; mirror.seq(), seq);
-        let shown = format!(in rt.alloc(); "{:?}", mirror.map())?;
-        let wanted = map(rt.alloc(), text)?;
-        let wanted = format!(in rt.alloc(); "{wanted:?}")?;
-        assert_eq!(rt; shown.as_str(), wanted.as_str());
+        shows(&rt, rt.alloc(), &mirror(rt.alloc(), seq, text)?, seq, text)?;
     }
     Ok(())
 }

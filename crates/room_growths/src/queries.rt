@@ -41,6 +41,27 @@ fn reply_within<'a>(
     Ok(printed(heap, &reply)?)
 }
 
+// Whether a query is answered so where only so many growths are granted; else it is refused for want of memory. The room
+// tells what it told.
+fn is_answered<'a>(
+    rt: &impl Abort,
+    heap: Heap<'a>,
+    room: &mut Room<Heap<'a>>,
+    text: &str,
+    wanted: &str,
+    before: &str,
+    growths: u64,
+) -> Result<bool, Fail> {
+    let reply = reply_within(heap, room, query(text)?, growths)?;
+    tells(rt, heap, room, before)?;
+    if reply.as_str().ends_with("(Err(AllocError))") {
+        return Ok(false);
+    }
+    assert_eq!(rt; reply.as_str(), wanted);
+    assert!(rt; growths > 0, "{text}: no growth was refused");
+    Ok(true)
+}
+
 // Refuses each growth of a query in turn, and at least one, until it is answered so.
 fn refuse_each<'a>(
     rt: &impl Abort,
@@ -51,11 +72,7 @@ fn refuse_each<'a>(
 ) -> Result<(), Fail> {
     let before = told(heap, room)?;
     for growths in 0..MOST {
-        let reply = reply_within(heap, room, query(text)?, growths)?;
-        tells(rt, heap, room, before.as_str())?;
-        if !reply.as_str().ends_with("(Err(AllocError))") {
-            assert_eq!(rt; reply.as_str(), wanted);
-            assert!(rt; growths > 0, "{text}: no growth was refused");
+        if is_answered(rt, heap, room, text, wanted, before.as_str(), growths)? {
             return Ok(());
         }
     }

@@ -77,22 +77,37 @@ pub fn tells<'a>(
     Ok(())
 }
 
+// Whether a call is answered so where only so many growths are granted; else it is refused for want of memory, and the
+// room tells what it told.
+fn is_answered<'a>(
+    rt: &impl Abort,
+    heap: Heap<'a>,
+    room: &mut Room<Heap<'a>>,
+    [text, wanted]: [&str; 2],
+    before: &str,
+    growths: u64,
+) -> Result<bool, Fail> {
+    let answer = answer_within(heap, room, text, growths)?;
+    if answer.as_str() != "Memory" {
+        assert_eq!(rt; answer.as_str(), wanted, "{text}");
+        return Ok(true);
+    }
+    tells(rt, heap, room, before)?;
+    Ok(false)
+}
+
 // Refuses each growth of a call in turn, until it is answered so, and gives how many were refused.
 fn refuse_each<'a>(
     rt: &impl Abort,
     heap: Heap<'a>,
     room: &mut Room<Heap<'a>>,
-    text: &str,
-    wanted: &str,
+    row: [&str; 2],
 ) -> Result<u64, Fail> {
     let before = told(heap, room)?;
     for growths in 0..MOST {
-        let answer = answer_within(heap, room, text, growths)?;
-        if answer.as_str() != "Memory" {
-            assert_eq!(rt; answer.as_str(), wanted, "{text}");
+        if is_answered(rt, heap, room, row, before.as_str(), growths)? {
             return Ok(growths);
         }
-        tells(rt, heap, room, before.as_str())?;
     }
     Err(Fail::from("never with memory"))
 }
@@ -110,24 +125,24 @@ fn has_lists<'a>(
     Ok(())
 }
 
-// Takes an accepted call, each growth of it refused before, and at least one.
+// Takes an accepted call, each growth of it refused before, and at least one. Anna and Bob may undo and redo these then.
 fn accept<'a>(
     rt: &impl Abort,
     heap: Heap<'a>,
     room: &mut Room<Heap<'a>>,
-    [text, answer]: [&str; 2],
+    row: [&str; 2],
+    [anna, bob]: [&str; 2],
 ) -> Result<(), Fail> {
-    let refused = refuse_each(rt, heap, room, text, answer)?;
-    assert!(rt; refused > 0, "{text}: no growth was refused");
-    Ok(())
+    let refused = refuse_each(rt, heap, room, row)?;
+    assert!(rt; refused > 0, "no growth was refused");
+    has_lists(rt, heap, room, "anna", anna)?;
+    has_lists(rt, heap, room, "bob", bob)
 }
 
 // Refuses each growth of each accepted call.
 fn accept_all<'a>(rt: &impl Abort, heap: Heap<'a>, room: &mut Room<Heap<'a>>) -> Result<(), Fail> {
-    for (row, [anna, bob]) in ACCEPTED.into_iter().zip(LISTS) {
-        accept(rt, heap, room, row)?;
-        has_lists(rt, heap, room, "anna", anna)?;
-        has_lists(rt, heap, room, "bob", bob)?;
+    for (row, lists) in ACCEPTED.into_iter().zip(LISTS) {
+        accept(rt, heap, room, row, lists)?;
     }
     Ok(())
 }
@@ -165,6 +180,19 @@ const OF_A_FULL_ROOM: [[&str; 2]; 4] = [
     ["carl 1 delete n3", "Full"],
 ];
 
+// Refuses a call without a growth, and the room tells what it told.
+fn refuse<'a>(
+    rt: &impl Abort,
+    heap: Heap<'a>,
+    room: &mut Room<Heap<'a>>,
+    [text, wanted]: [&str; 2],
+    before: &str,
+) -> Result<(), Fail> {
+    let answer = answer_within(heap, room, text, 0)?;
+    assert_eq!(rt; answer.as_str(), wanted, "{text}");
+    tells(rt, heap, room, before)
+}
+
 // Refuses some calls without a growth, and the room stays as it was.
 fn refuse_all<'a>(
     rt: &impl Abort,
@@ -173,10 +201,8 @@ fn refuse_all<'a>(
     rows: &[[&str; 2]],
 ) -> Result<(), Fail> {
     let before = told(heap, room)?;
-    for [text, wanted] in rows {
-        let answer = answer_within(heap, room, text, 0)?;
-        assert_eq!(rt; answer.as_str(), *wanted, "{text}");
-        tells(rt, heap, room, before.as_str())?;
+    for row in rows {
+        refuse(rt, heap, room, *row, before.as_str())?;
     }
     Ok(())
 }
