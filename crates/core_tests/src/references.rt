@@ -255,37 +255,28 @@ fn an_element_refers_to_each_name_once_in_order(rt: HostRuntime) -> Result<(), F
     has_refs(&rt, alloc, &node(alloc)?, &[])
 }
 
-// A name has these users.
-fn has_users(
-    rt: &impl Abort,
-    users: &Users<Global>,
-    text: &str,
-    wanted: &[Name],
-) -> Result<(), Fail> {
-    let name = Name::read(text).ok_or("a name")?;
-    assert_eq!(rt; users.of(&name), wanted);
-    Ok(())
-}
-
 #[test]
 fn a_note_waits_until_it_is_entered_or_forgotten(rt: HostRuntime) -> Result<(), Fail> {
     let alloc = rt.alloc();
+    let first = Name::read("n1").ok_or("n1")?;
+    let second = Name::read("n2").ok_or("n2")?;
     let road = Name::read("w1").ok_or("w1")?;
-    let short = way(alloc, &names_of(alloc, &["n1"])?)?;
-    let long = way(alloc, &names_of(alloc, &["n2", "n1"])?)?;
+    let short = way(alloc, &[first])?;
+    let long = way(alloc, &[second, first])?;
     let mut users = Users::new(alloc);
     users.ready(&road, None, Some(&long))?;
     users.forget();
     users.ready(&road, None, Some(&short))?;
     users.ready(&road, Some(&short), Some(&long))?;
-    has_users(&rt, &users, "n1", &[])?;
+    assert!(rt; users.of(&first).is_empty());
     users.note();
-    has_users(&rt, &users, "n1", &[road])?;
-    has_users(&rt, &users, "n2", &[])?;
+    assert_eq!(rt; users.of(&first), [road].as_slice());
+    assert!(rt; users.of(&second).is_empty());
     let mut copy = users.copy()?;
     users.forget();
     copy.note();
-    has_users(&rt, &copy, "n1", &[road])?;
-    has_users(&rt, &copy, "n2", &[road])?;
-    has_users(&rt, &users, "n2", &[])
+    assert_eq!(rt; copy.of(&first), [road].as_slice());
+    assert_eq!(rt; copy.of(&second), [road].as_slice());
+    assert!(rt; users.of(&second).is_empty());
+    Ok(())
 }
