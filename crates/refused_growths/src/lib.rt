@@ -15,9 +15,9 @@ mod map;
 #[cfg(test)]
 mod nodes;
 #[cfg(test)]
-mod printed;
-#[cfg(test)]
 mod retags;
+#[cfg(test)]
+mod room;
 #[cfg(test)]
 mod tags;
 #[cfg(test)]

@@ -1,13 +1,18 @@
 //! With ample memory each call that takes some answers, at its limits too, and the answer is compared whole: no contract
 //! refuses a body that gives up in a corner.
 use crate::map::node;
+use edit_actions::action::Action;
 use osm_elements::element::Element;
 use osm_elements::fault::TextFault;
-use osm_elements::map::{OsmMap, Row};
+use osm_elements::map::OsmMap;
 use osm_elements::name::{Kind, Name};
 use osm_elements::nodes::Nodes;
 use osm_elements::tags::Tags;
 use osm_elements::text::Text;
+use room_history::call::{Call, Calls, Request};
+use room_history::reply::Reply;
+use room_history::run::run;
+use room_stacks::author::Author;
 use std::alloc::{AllocError, Global};
 use std::process::Abort;
 use std::test::Fail;
@@ -61,49 +66,26 @@ fn thousand_tags(alloc: Global) -> Result<Tags<Global>, Fail> {
     for number in 0..500u32 {
         for number in [number, 999 - number] {
             let key = key(alloc, number)?;
-            set(alloc, &mut tags, key.as_str(), value.as_str())?;
+            tags.set(
+                Text::new(alloc, key.as_str())?,
+                Text::new(alloc, value.as_str())?,
+            )?;
         }
     }
     Ok(tags)
 }
 
-// The tag of a number is there, in its place.
-fn is_tag(
-    rt: &impl Abort,
-    alloc: Global,
-    tags: &Tags<Global>,
-    number: usize,
-    value: &str,
-) -> Result<(), Fail> {
-    let key = key(alloc, (number % 1000) as u32)?;
-    let tag = tags.rows().get(number).ok_or("a tag")?;
-    assert_eq!(rt; tag.key.as_str(), key.as_str());
-    assert_eq!(rt; tag.value.as_str(), value);
-    assert_eq!(rt; tags.get(key.as_str()).map(Text::as_str), Some(value));
-    Ok(())
-}
-
 // Each tag is there, in its place.
-fn are_thousand(rt: &impl Abort, alloc: Global, tags: &Tags<Global>) -> Result<(), Fail> {
+fn are_thousand(rt: &impl Abort, alloc: Global, tags: &Tags<Global>) -> Result<(), AllocError> {
     let value = umlauts(alloc, 255)?;
     assert_eq!(rt; tags.len(), 1000);
-    for number in 0..1000usize {
-        is_tag(rt, alloc, tags, number, value.as_str())?;
+    for (number, tag) in tags.rows().iter().enumerate() {
+        let key = key(alloc, (number % 1000) as u32)?;
+        assert_eq!(rt; tag.key.as_str(), key.as_str());
+        assert_eq!(rt; tag.value.as_str(), value.as_str());
+        let found = tags.get(key.as_str()).map(Text::as_str);
+        assert_eq!(rt; found, Some(value.as_str()));
     }
-    Ok(())
-}
-
-// Gives a key a value, as texts.
-fn set(alloc: Global, tags: &mut Tags<Global>, key: &str, value: &str) -> Result<(), TextFault> {
-    tags.set(Text::new(alloc, key)?, Text::new(alloc, value)?)
-}
-
-// The last key gets another value, and is cleared.
-fn last_is_changed(rt: &impl Abort, alloc: Global, tags: &mut Tags<Global>) -> Result<(), Fail> {
-    let last = key(alloc, 999)?;
-    set(alloc, tags, last.as_str(), "last")?;
-    assert_eq!(rt; tags.get(last.as_str()).map(Text::as_str), Some("last"));
-    assert!(rt; tags.clear(last.as_str()) && tags.len() == 999);
     Ok(())
 }
 
@@ -112,12 +94,14 @@ fn an_element_has_a_thousand_tags(rt: HostRuntime) -> Result<(), Fail> {
     let alloc = rt.alloc();
     let mut tags = thousand_tags(alloc)?;
     are_thousand(&rt, alloc, &tags)?;
-    assert_eq!(rt;
-        set(alloc, &mut tags, "more", ""),
-        Err(TextFault::TooManyTags)
-    );
+    let more = tags.set(Text::new(alloc, "more")?, Text::new(alloc, "")?);
+    assert!(rt; matches!(more, Err(TextFault::TooManyTags)));
     are_thousand(&rt, alloc, &tags.copy()?)?;
-    last_is_changed(&rt, alloc, &mut tags)
+    let last = key(alloc, 999)?;
+    tags.set(Text::new(alloc, last.as_str())?, Text::new(alloc, "last")?)?;
+    assert_eq!(rt; tags.get(last.as_str()).map(Text::as_str), Some("last"));
+    assert!(rt; tags.clear(last.as_str()) && tags.len() == 999);
+    Ok(())
 }
 
 // The same names as the list of a way.
@@ -153,7 +137,7 @@ fn lists(
     alloc: Global,
     way: &Element<Global>,
     names: &[Name],
-) -> Result<(), Fail> {
+) -> Result<(), AllocError> {
     match way {
         Element::Way { nodes, tags } => {
             assert!(rt; nodes.names() == names);
@@ -166,22 +150,16 @@ fn lists(
     }
 }
 
-// Puts a node at as many ten-millionths as its id says.
-fn put_node(alloc: Global, map: &mut OsmMap<Global>, id: u32) -> Result<(), Fail> {
-    let name = Name::new(Kind::Node, i64::from(id)).ok_or("zero")?;
-    let element = node(alloc, (id % 3001) as i32).ok_or("range")?;
-    match map.put(name, element) {
-        Ok(_) => Ok(()),
-        Err(_) => Err(Fail::from("no memory")),
-    }
-}
-
-// A map of 3,000 nodes, put in out of their order (14 is a primitive root of 3,001).
+// A map of 3,000 nodes, put in out of their order (14 is a primitive root of 3,001); each stands at as many ten-millionths as its id says.
 fn large_map(alloc: Global) -> Result<OsmMap<Global>, Fail> {
     let mut map = OsmMap::new(alloc);
     let mut id = 1u32;
     for _ in 0..3000u32 {
-        put_node(alloc, &mut map, id)?;
+        let name = Name::new(Kind::Node, i64::from(id)).ok_or("zero")?;
+        let element = node(alloc, (id % 3001) as i32).ok_or("range")?;
+        if map.put(name, element).is_err() {
+            return Err(Fail::from("no memory"));
+        }
         id = (id % 3001) * 14 % 3001;
     }
     Ok(map)
@@ -196,31 +174,64 @@ fn stands_at(element: &Element<Global>, at: i32) -> bool {
     }
 }
 
-// Whether a row is that of the node of an id.
-fn is_row(row: &Row<Global>, id: u32) -> bool {
-    row.name.id() == i64::from(id)
-        && row.name.kind() == Kind::Node
-        && stands_at(&row.element, (id % 3001) as i32)
-}
-
-// There are three thousand rows, rising.
-fn are_rising(rt: &impl Abort, rows: &[Row<Global>]) {
-    assert_eq!(rt; rows.len(), 3000);
-    let mut id = 0u32;
-    for row in rows {
-        id = id.wrapping_add(1);
-        assert!(rt; is_row(row, id), "row {id}");
-    }
-}
-
 #[test]
 fn a_map_has_thousands_of_rows(rt: HostRuntime) -> Result<(), Fail> {
     let alloc = rt.alloc();
     let map = large_map(alloc)?;
     assert_eq!(rt; map.len(), 3000);
-    let rows = map.rows(alloc)?;
-    are_rising(&rt, rows.as_slice());
-    are_rising(&rt, rows.copy()?.as_slice());
-    are_rising(&rt, map.copy()?.rows(alloc)?.as_slice());
+    for copy in [
+        map.rows(alloc)?,
+        map.copy()?.rows(alloc)?,
+        map.rows(alloc)?.copy()?,
+    ] {
+        assert_eq!(rt; copy.as_slice().len(), 3000);
+        let mut id = 0u32;
+        for row in copy.as_slice() {
+            id = id.wrapping_add(1);
+            assert!(rt;
+                row.name.id() == i64::from(id) && row.name.kind() == Kind::Node,
+                "row {id}"
+            );
+            assert!(rt; stands_at(&row.element, (id % 3001) as i32), "row {id}");
+        }
+    }
+    Ok(())
+}
+
+// A call of an author with the longest name there is. (What a room holds at its limits is asked of the built program,
+// by tests/large.)
+fn call(id: u64, request: Request<Global>) -> Result<Call<Global>, Fail> {
+    let author = Author::read("a_name_of_thirty_two_characters0").ok_or("author")?;
+    Ok(Call {
+        author,
+        id,
+        request,
+    })
+}
+
+fn create(alloc: Global, id: u32) -> Result<Request<Global>, Fail> {
+    let name = Name::new(Kind::Node, i64::from(id)).ok_or("zero")?;
+    let element = node(alloc, (id % 3001) as i32).ok_or("range")?;
+    Ok(Request::Do(Action::Create { name, element }))
+}
+
+#[test]
+fn a_run_has_thousands_of_calls(rt: HostRuntime) -> Result<(), Fail> {
+    let alloc = rt.alloc();
+    let mut calls = Vec::new(alloc);
+    for id in 1..3001u32 {
+        calls.push(call(u64::from(id), create(alloc, id)?)?)?;
+    }
+    let (room, replies) = run(alloc, 2999, Calls::from_vec(calls))?;
+    assert_eq!(rt; replies.as_slice().len(), 3000);
+    for (place, reply) in replies.as_slice().iter().enumerate() {
+        let is_right = match reply {
+            Reply::Done { seq } => place < 2999 && *seq == (place as u64).wrapping_add(1),
+            Reply::Full => place == 2999,
+            _ => false,
+        };
+        assert!(rt; is_right, "call {place}: {reply:?}");
+    }
+    assert_eq!(rt; room.map_rows()?.as_slice().len(), 2999);
     Ok(())
 }

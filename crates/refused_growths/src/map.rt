@@ -1,5 +1,4 @@
 //! Maps of elements.
-use crate::printed::{Heap, is_printed, printed};
 use osm_coords::{Lat, Lon};
 use osm_elements::element::Element;
 use osm_elements::map::OsmMap;
@@ -7,7 +6,6 @@ use osm_elements::name::{Kind, Name};
 use osm_elements::tags::Tags;
 use refusing::Refusing;
 use std::alloc::Allocator;
-use std::process::Abort;
 use std::test::Fail;
 
 /// A node at so many ten-millionths of a degree, both ways.
@@ -18,70 +16,40 @@ pub fn node<A: Allocator>(alloc: A, at: i32) -> Option<Element<A>> {
     Some(Element::Node { lat, lon, tags })
 }
 
-// How many growths are refused before one call is given up on as never served.
-const MOST: u64 = 40;
-
-// A map of so many nodes, from node 1 on.
-fn map_of(heap: Heap<'_>, held: i64) -> Result<OsmMap<Heap<'_>>, Fail> {
-    let mut map = OsmMap::new(heap);
-    for id in 0..held {
-        let name = Name::new(Kind::Node, id + 1).ok_or("zero")?;
-        let element = node(heap, 7).ok_or("range")?;
-        let _ = map.put(name, element);
-    }
-    Ok(map)
-}
-
-// Puts a node once, with so many growths; where that is too few, it is given back.
-fn put_within<'a>(
-    rt: &impl Abort,
-    heap: Heap<'a>,
-    map: &mut OsmMap<Heap<'a>>,
-    name: Name,
-    growths: u64,
-) -> Result<bool, Fail> {
-    let element = node(heap, 9).ok_or("range")?;
-    let given = printed(heap, &element)?;
-    heap.set(growths);
-    let answer = map.put(name, element);
-    heap.set(u64::MAX);
-    match answer {
-        Ok(_) => Ok(true),
-        Err((element, _)) => {
-            is_printed(rt, heap, &element, given.as_str())?;
-            Ok(false)
-        }
-    }
-}
-
-// Puts a node under a new name with each growth refused in turn, until it is there, and answers how many were refused.
-fn put_refused<'a>(
-    rt: &impl Abort,
-    heap: Heap<'a>,
-    map: &mut OsmMap<Heap<'a>>,
-    name: Name,
-) -> Result<u64, Fail> {
-    let before = printed(heap, map)?;
-    for growths in 0..MOST {
-        if put_within(rt, heap, map, name, growths)? {
-            assert!(rt; map.get(&name).is_some());
-            return Ok(growths);
-        }
-        is_printed(rt, heap, map, before.as_str())?;
-        assert!(rt; map.get(&name).is_none());
-    }
-    Err(Fail::from("never with memory"))
-}
-
 // A put of a new row into maps of many sizes.
 #[test]
 fn put_refuses_each_growth(rt: HostRuntime) -> Result<(), Fail> {
-    let heap = Refusing::new(rt.alloc(), u64::MAX);
-    let name = Name::new(Kind::Node, -5).ok_or("zero")?;
     let mut refused = 0u64;
     for held in 0..40i64 {
-        let mut map = map_of(&heap, held)?;
-        refused = refused.wrapping_add(put_refused(&rt, &heap, &mut map, name)?);
+        let heap = Refusing::new(rt.alloc(), u64::MAX);
+        let mut map = OsmMap::new(&heap);
+        for id in 0..held {
+            let name = Name::new(Kind::Node, id + 1).ok_or("zero")?;
+            let element = node(&heap, 7).ok_or("range")?;
+            let _ = map.put(name, element);
+        }
+        let before = format!(in rt.alloc(); "{map:?}")?;
+        let name = Name::new(Kind::Node, -5).ok_or("zero")?;
+        let mut done = false;
+        for growths in 0..20u64 {
+            let element = node(&heap, 9).ok_or("range")?;
+            let given = format!(in rt.alloc(); "{element:?}")?;
+            heap.set(growths);
+            let answer = map.put(name, element);
+            heap.set(u64::MAX);
+            let Err((element, _)) = answer else {
+                done = true;
+                break;
+            };
+            refused = refused.wrapping_add(1);
+            let back = format!(in rt.alloc(); "{element:?}")?;
+            assert_eq!(rt; back.as_str(), given.as_str(), "at growth {growths}");
+            let after = format!(in rt.alloc(); "{map:?}")?;
+            assert_eq!(rt; after.as_str(), before.as_str(), "at growth {growths}");
+            assert!(rt; map.get(&name).is_none());
+        }
+        assert!(rt; done, "never with memory");
+        assert!(rt; map.get(&name).is_some());
     }
     assert!(rt; refused > 0, "no growth was refused");
     Ok(())
@@ -106,34 +74,33 @@ fn put_over_a_name_takes_no_memory(rt: HostRuntime) -> Result<(), Fail> {
     Ok(())
 }
 
-// Lists the rows of a map with each growth refused in turn, until they are listed so, and answers how many were refused.
-fn rows_refused<'a>(
-    rt: &impl Abort,
-    heap: Heap<'a>,
-    map: &OsmMap<Heap<'a>>,
-    wanted: &str,
-) -> Result<u64, Fail> {
-    let before = printed(heap, map)?;
-    for growths in 0..MOST {
-        heap.set(growths);
-        let answer = map.rows(heap);
-        heap.set(u64::MAX);
-        if let Ok(rows) = answer {
-            is_printed(rt, heap, &rows, wanted)?;
-            return Ok(growths);
-        }
-        is_printed(rt, heap, map, before.as_str())?;
-    }
-    Err(Fail::from("never with memory"))
-}
-
 #[test]
 fn rows_refuse_each_growth(rt: HostRuntime) -> Result<(), Fail> {
     let heap = Refusing::new(rt.alloc(), u64::MAX);
-    let map = map_of(&heap, 9)?;
-    let rows = map.rows(&heap)?;
-    let wanted = printed(&heap, &rows)?;
-    let refused = rows_refused(&rt, &heap, &map, wanted.as_str())?;
-    assert!(rt; refused > 0, "no growth was refused");
+    let mut map = OsmMap::new(&heap);
+    for id in 1..10i64 {
+        let name = Name::new(Kind::Node, id).ok_or("zero")?;
+        let element = node(&heap, 7).ok_or("range")?;
+        let _ = map.put(name, element);
+    }
+    let before = format!(in rt.alloc(); "{map:?}")?;
+    let wanted = format!(in rt.alloc(); "{:?}", map.rows(&heap)?)?;
+    let mut refused = 0u64;
+    let mut done = false;
+    for growths in 0..40u64 {
+        heap.set(growths);
+        let answer = map.rows(&heap);
+        heap.set(u64::MAX);
+        if let Ok(rows) = answer {
+            let text = format!(in rt.alloc(); "{rows:?}")?;
+            assert_eq!(rt; text.as_str(), wanted.as_str());
+            done = true;
+            break;
+        }
+        refused = refused.wrapping_add(1);
+        let after = format!(in rt.alloc(); "{map:?}")?;
+        assert_eq!(rt; after.as_str(), before.as_str(), "at growth {growths}");
+    }
+    assert!(rt; done && refused > 0, "no growth was refused, or all were");
     Ok(())
 }
