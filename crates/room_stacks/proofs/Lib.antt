@@ -1,3 +1,4 @@
+pub mod Ascii
 pub mod Entering
 pub mod Padding
 pub mod Rewriting

@@ -6,6 +6,7 @@ ghost use Rattle.room_stacks.specs.Authors.{author_of, is_author, is_name_charac
 use std::cmp::Ordering;
 use std::hash::{Hash, Hasher};
 use std::marker::Model;
+use std::str;
 
 /// The length of the longest name of an author, in bytes.
 pub const AUTHOR_LENGTH: usize = 32;
@@ -55,6 +56,13 @@ impl Author {
         ensures { result.now ≡ self.now }
     {
         &self.bytes[..self.length]
+    }
+
+    /// The name, as text.
+    pub fn as_str(&self) -> &str
+        ensures { result.now ≡ self.now }
+    {
+        str::from_utf8(&self.bytes[..self.length]).unwrap()
     }
 
     /// Whether this is the other author.
