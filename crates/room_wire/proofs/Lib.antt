@@ -7,8 +7,11 @@ pub mod FaultsToldOn
 pub mod ItemLists
 pub mod MemberPairs
 pub mod NeverMemory
+pub mod NewsBackProofs
+pub mod NewsExampleProofs
 pub mod NoFloats
 pub mod ReadBackProofs
+pub mod Rising
 pub mod Shallow
 pub mod TagMembers
 pub mod WellFormedProofs

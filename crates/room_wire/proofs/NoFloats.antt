@@ -1,5 +1,5 @@
--- The trees of replies have whole numbers only.
-use Rattle.std.proofs.Common.{◌≡◌, ℕ, ℤ, pos, negsuc, List, [], ◌∷◌, map, false, refl}
+-- The trees of replies and of news have whole numbers only.
+use Rattle.std.proofs.Common.{◌≡◌, ℕ, ℤ, pos, negsuc, List, [], ◌∷◌, Option, Some, None, map, false, refl}
 use Rattle.serde_json.specs.Data.{Data}
 use Rattle.serde_json.specs.View.{items_of}
 use Rattle.serde_json.specs.Written.{has_float, items_have_float, members_have_float}
@@ -7,8 +7,11 @@ use Rattle.osm_elements.specs.declared.name.Name.{Name}
 use Rattle.osm_elements.specs.declared.element.Element.{Element}
 use Rattle.osm_elements.specs.declared.element.Element.TheVariants as elements
 use Rattle.osm_elements.specs.TagRows.{Pairs}
+use Rattle.room_history.specs.declared.news.News.{News}
+use Rattle.room_history.specs.declared.news.NewsRow.{NewsRow}
 use Rattle.room_wire.specs.declared.answer.Answer.{Answer}
 use Rattle.room_wire.specs.declared.answer.Answer.TheVariants.{Done, Undid, Redid, Is, Map, Undos, Absent, Present, WrongKind, Same, OutOfRange, TooFew, TooMany, InUse, TagConflict, BadPosition, NotEndToEnd, Nothing, Repeat, Conflict, BadField, Memory, Full, NothingToUndo, NothingToRedo, NoSuch, NotYours, NotStanding, NotJson, NotObject, BadId, UnknownDo, BadLine, NoHello, NoRoom, HelloTwice}
+use Rattle.room_wire.specs.News.{news_rows_tree, news_tree, row_tree}
 use Rattle.room_wire.specs.Trees.{id_tree, nodes_tree, member_tree, members_tree, tag_members, element_tree, rows_tree, numbers_tree, whole, tree_of}
 use Rattle.serde_json.specs.Find.{of_integer, is_float}
 
@@ -78,3 +81,14 @@ tree_has_no_float id BadLine = refl
 tree_has_no_float id NoHello = refl
 tree_has_no_float id NoRoom = refl
 tree_has_no_float id HelloTwice = refl
+
+-- news
+row_has_none : {A : Type 0} (name : Name) (element : Option (Element A)) → has_float (row_tree name element) ≡ false
+row_has_none name None = refl
+row_has_none name (Some element) = element_has_none name element
+
+news_rows_have_none : {A : Type 0} (rows : List (NewsRow A)) → has_float (news_rows_tree rows) ≡ false
+news_rows_have_none rows = items_have_none (λ r. row_tree r.name r.element) (λ r. row_has_none r.name r.element) rows
+
+pub news_have_no_float : {A : Type 0} (n : News A) → has_float (news_tree n) ≡ false
+news_have_no_float n = rw (news_rows_have_none n.rows) refl

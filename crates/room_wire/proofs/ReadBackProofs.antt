@@ -140,27 +140,34 @@ three f r s t a b c h g k = rw (h, g, k) refl
 pub created : (d : Data) (name : Name) (element : Element Global) → el_at d ≡ Ok name → element_at name.kind d ≡ Ok element → create_at d ≡ Ok (Create name element)
 created d name element h g = rw (h, g) refl
 
+-- the name
+pub el_back : (name : Name) (element : Element Global) → HasId name → el_at (element_tree name element) ≡ Ok name
+el_back name (Node lat lon tags) f = ap (or_fault (BadField fields.El)) (name_of_text name f)
+el_back name (Way nodes tags) f = ap (or_fault (BadField fields.El)) (name_of_text name f)
+el_back name (Relation members tags) f = ap (or_fault (BadField fields.El)) (name_of_text name f)
+
 module _ (latitude_back : (z : ℤ) → IsLatitude z → latitude_of (written z) ≡ Some z) (longitude_back : (z : ℤ) → IsLongitude z → longitude_of (written z) ≡ Some z) where
-  pub element_read_back : (name : Name) (element : Element Global) → HasId name → kind_of element ≡ name.kind → IsWhole element → create_at (element_tree name element) ≡ Ok (Create name element)
-  element_read_back name (Node lat lon tags) f kind whole =
+  -- the other fields
+  pub element_back : (name : Name) (element : Element Global) → kind_of element ≡ name.kind → IsWhole element → element_at name.kind (element_tree name element) ≡ Ok element
+  element_back name (Node lat lon tags) kind whole =
       let node : Element Global = Node lat lon tags in
       let d = element_tree name node in
       let lat_is : lat_at d ≡ Ok lat = ap (or_fault (BadField fields.Lat)) (latitude_back lat whole.0) in
       let lon_is : lon_at d ≡ Ok lon = ap (or_fault (BadField fields.Lon)) (longitude_back lon whole.1) in
       let tags_are : tags_at d ≡ Ok tags = ap (or_fault (BadField fields.Tags)) (tags_of-tag_members tags whole.2) in
-      created d name node (ap (or_fault (BadField fields.El)) (name_of_text name f))
-      (ap (λ k. element_at k d) (sym kind) ∙ three {D = Element Global} (λ x y z. Node x y z) (lat_at d) (lon_at d) (tags_at d) lat lon tags lat_is lon_is tags_are)
-  element_read_back name (Way nodes tags) f kind whole =
+      ap (λ k. element_at k d) (sym kind) ∙ three {D = Element Global} (λ x y z. Node x y z) (lat_at d) (lon_at d) (tags_at d) lat lon tags lat_is lon_is tags_are
+  element_back name (Way nodes tags) kind whole =
       let way : Element Global = Way nodes tags in
       let d = element_tree name way in
       let nodes_are : nodes_at d ≡ Ok nodes = ap (or_fault (BadField fields.Nodes)) (nodes_in-ids nodes whole.0 whole.1) in
       let tags_are : tags_at d ≡ Ok tags = ap (or_fault (BadField fields.Tags)) (tags_of-tag_members tags whole.2) in
-      created d name way (ap (or_fault (BadField fields.El)) (name_of_text name f))
-      (ap (λ k. element_at k d) (sym kind) ∙ two {C = Element Global} (λ x y. Way x y) (nodes_at d) (tags_at d) nodes tags nodes_are tags_are)
-  element_read_back name (Relation members tags) f kind whole =
+      ap (λ k. element_at k d) (sym kind) ∙ two {C = Element Global} (λ x y. Way x y) (nodes_at d) (tags_at d) nodes tags nodes_are tags_are
+  element_back name (Relation members tags) kind whole =
       let relation : Element Global = Relation members tags in
       let d = element_tree name relation in
       let members_are : members_at d ≡ Ok members = ap (or_fault (BadField fields.Members)) (members_in-trees members whole.0 whole.1) in
       let tags_are : tags_at d ≡ Ok tags = ap (or_fault (BadField fields.Tags)) (tags_of-tag_members tags whole.2) in
-      created d name relation (ap (or_fault (BadField fields.El)) (name_of_text name f))
-      (ap (λ k. element_at k d) (sym kind) ∙ two {C = Element Global} (λ x y. Relation x y) (members_at d) (tags_at d) members tags members_are tags_are)
+      ap (λ k. element_at k d) (sym kind) ∙ two {C = Element Global} (λ x y. Relation x y) (members_at d) (tags_at d) members tags members_are tags_are
+
+  pub element_read_back : (name : Name) (element : Element Global) → HasId name → kind_of element ≡ name.kind → IsWhole element → create_at (element_tree name element) ≡ Ok (Create name element)
+  element_read_back name element f kind whole = created (element_tree name element) name element (el_back name element f) (element_back name element kind whole)

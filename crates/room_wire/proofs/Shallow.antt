@@ -1,5 +1,5 @@
--- The trees of replies nest at most six deep.
-use Rattle.std.proofs.Common.{◌≤◌, ℕ, List, [], ◌∷◌, map, arith}
+-- The trees of replies and of news nest at most six deep.
+use Rattle.std.proofs.Common.{◌≤◌, ℕ, List, [], ◌∷◌, Option, Some, None, map, arith}
 use Rattle.std.proofs.Math.Nat.{max-le}
 use Rattle.serde_json.specs.Data.{Data, depth, items_depth, members_depth}
 use Rattle.serde_json.specs.View.{items_of}
@@ -7,8 +7,11 @@ use Rattle.osm_elements.specs.declared.name.Name.{Name}
 use Rattle.osm_elements.specs.declared.element.Element.{Element}
 use Rattle.osm_elements.specs.declared.element.Element.TheVariants as elements
 use Rattle.osm_elements.specs.TagRows.{Pairs}
+use Rattle.room_history.specs.declared.news.News.{News}
+use Rattle.room_history.specs.declared.news.NewsRow.{NewsRow}
 use Rattle.room_wire.specs.declared.answer.Answer.{Answer}
 use Rattle.room_wire.specs.declared.answer.Answer.TheVariants.{Done, Undid, Redid, Is, Map, Undos, Absent, Present, WrongKind, Same, OutOfRange, TooFew, TooMany, InUse, TagConflict, BadPosition, NotEndToEnd, Nothing, Repeat, Conflict, BadField, Memory, Full, NothingToUndo, NothingToRedo, NoSuch, NotYours, NotStanding, NotJson, NotObject, BadId, UnknownDo, BadLine, NoHello, NoRoom, HelloTwice}
+use Rattle.room_wire.specs.News.{news_rows_tree, news_tree, row_tree}
 use Rattle.room_wire.specs.Trees.{id_tree, member_tree, tag_members, element_tree, rows_tree, whole, tree_of}
 
 items_are_shallow : {X : Type 0} (k : ℕ) (f : X → Data) → ((x : X) → depth (f x) ≤ k) → (xs : List X) → items_depth (items_of (map f xs)) ≤ k
@@ -74,3 +77,14 @@ tree_is_shallow id BadLine = omega arith
 tree_is_shallow id NoHello = omega arith
 tree_is_shallow id NoRoom = omega arith
 tree_is_shallow id HelloTwice = omega arith
+
+-- news
+row_is_shallow : {A : Type 0} (name : Name) (element : Option (Element A)) → depth (row_tree name element) ≤ 3
+row_is_shallow name None = omega arith
+row_is_shallow name (Some element) = element_is_shallow name element
+
+news_rows_are_shallow : {A : Type 0} (rows : List (NewsRow A)) → depth (news_rows_tree rows) ≤ 4
+news_rows_are_shallow rows = let r = items_are_shallow 3 (λ r. row_tree r.name r.element) (λ r. row_is_shallow r.name r.element) rows in omega arith
+
+pub news_are_shallow : {A : Type 0} (n : News A) → depth (news_tree n) ≤ 127
+news_are_shallow n = let r = news_rows_are_shallow n.rows in omega arith

@@ -39,7 +39,7 @@ use Rattle.room_wire.specs.Words.{Word, word_text}
 use Rattle.room_wire.specs.Words as words
 use Rattle.room_wire.proofs.ReadBackProofs.{as_i64-of_integer, created, gifts_of-gift_members, members_in-trees, names_in-trees, nodes_in-ids, tags_of-tag_members, three, two}
 
-number_read : (n : ℕ) → IsNumber n → ordinal (whole n) ≡ Some n
+pub number_read : (n : ℕ) → IsNumber n → ordinal (whole n) ≡ Some n
 number_read n h =
     let low = h.0 in
     let high = h.1 in

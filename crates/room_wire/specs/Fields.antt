@@ -2,6 +2,7 @@
 use Rattle.std.specs.Prelude.{ℕ, List, codes}
 use Rattle.room_wire.specs.declared.field.Field.{Field}
 use Rattle.room_wire.specs.declared.field.Field.TheVariants.{El, Els, Lat, Lon, Nodes, Members, Tags, Dlat, Dlon, At, Into, With, Seq, Room, Name}
+use Rattle.room_wire.specs.declared.field.Field.TheVariants as fields
 
 abbrev pub field_text : Field → List ℕ
 field_text El = codes "el"
@@ -19,3 +20,8 @@ field_text With = codes "with"
 field_text Seq = codes "seq"
 field_text Room = codes "room"
 field_text Name = codes "name"
+field_text fields.Ok = codes "ok"
+field_text fields.Map = codes "map"
+field_text fields.News = codes "news"
+field_text fields.By = codes "by"
+field_text fields.Rows = codes "rows"

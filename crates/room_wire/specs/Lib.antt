@@ -1,9 +1,15 @@
 pub mod Answers
 pub mod Examples
 pub mod Fields
+pub mod Inner
+pub mod Lists
+pub mod News
+pub mod NewsBack
+pub mod NewsExamples
 pub mod ReadBack
 pub mod Reading
 pub mod Spelling
 pub mod Trees
+pub mod Welcomes
 pub mod WellFormed
 pub mod Words

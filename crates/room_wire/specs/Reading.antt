@@ -30,3 +30,12 @@ id_told (Err bad) = bad.id
 abbrev pub GivesMessage : Result Incoming Bad → Result Incoming Bad → Type 0
 GivesMessage (Ok incoming) read = read ≡ Ok incoming
 GivesMessage (Err bad) read = ((bad.fault ≡ Memory) × ((bad.id ≡ 0) ⊎ (bad.id ≡ id_told read))) ⊎ (read ≡ Err bad)
+
+-- The same for a text that is read whole, whose id, where it has one, tells the answer
+abbrev pub id_of : {X : Type 0} → (X → ℕ) → Result X Bad → ℕ
+id_of id (Ok x) = id x
+id_of id (Err bad) = bad.id
+
+abbrev pub GivesUnder : {X : Type 0} → (X → ℕ) → Result X Bad → Result X Bad → Type 0
+GivesUnder id (Ok x) read = read ≡ Ok x
+GivesUnder id (Err bad) read = ((bad.fault ≡ Memory) × ((bad.id ≡ 0) ⊎ (bad.id ≡ id_of id read))) ⊎ (read ≡ Err bad)

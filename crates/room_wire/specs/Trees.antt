@@ -73,13 +73,17 @@ bare id why = no_tree id (object (member (codes "why") (string why) no_members))
 abbrev pub about : ℕ → Name → List ℕ → Data
 about id name why = no_tree id (object (member (codes "el") (name_tree name) (member (codes "why") (string why) no_members)))
 
+-- a whole map, after so many entries
+abbrev pub map_tree : {A : Type 0} → ℕ → List (Name × Element A) → ℕ → Data
+map_tree id rows front = ok_tree id (object (member (codes "map") (rows_tree rows) (member (codes "seq") (whole front) no_members)))
+
 -- the tree of the reply to the message with this id
 abbrev pub tree_of : ℕ → Answer → Data
 tree_of id (Done seq) = ok_tree id (object (member (codes "seq") (whole seq) no_members))
 tree_of id (Undid seq of) = ok_tree id (object (member (codes "seq") (whole seq) (member (codes "undid") (whole of) no_members)))
 tree_of id (Redid seq of) = ok_tree id (object (member (codes "redid") (whole of) (member (codes "seq") (whole seq) no_members)))
 tree_of id (Is name element) = ok_tree id (object (member (codes "is") (element_tree name element.now) no_members))
-tree_of id (Map rows front) = ok_tree id (object (member (codes "map") (rows_tree rows.now) (member (codes "seq") (whole front) no_members)))
+tree_of id (Map rows front) = map_tree id rows.now front
 tree_of id (Undos undos redos) = ok_tree id (object (member (codes "redo") (numbers_tree redos.now) (member (codes "undos") (numbers_tree undos.now) no_members)))
 tree_of id (Absent name) = about id name (codes "absent")
 tree_of id (Present name) = about id name (codes "present")

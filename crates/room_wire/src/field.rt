@@ -2,7 +2,7 @@
 ghost use Rattle.std.specs.Prelude.{◌≡◌};
 ghost use Rattle.room_wire.specs.Fields.{field_text};
 
-/// A field of a message.
+/// A field of a message, of the welcome or of news.
 #[derive(Clone, Copy, Debug, PartialEq, Eq)]
 pub enum Field {
     /// The name of an element.
@@ -35,6 +35,16 @@ pub enum Field {
     Room,
     /// The name of an author.
     Name,
+    /// What a message was answered.
+    Ok,
+    /// The elements of a map.
+    Map,
+    /// What an entry changed.
+    News,
+    /// Whose entry it is.
+    By,
+    /// The names that an entry changed, with their elements.
+    Rows,
 }
 
 impl Field {
@@ -58,6 +68,11 @@ impl Field {
             Field::Seq => "seq",
             Field::Room => "room",
             Field::Name => "name",
+            Field::Ok => "ok",
+            Field::Map => "map",
+            Field::News => "news",
+            Field::By => "by",
+            Field::Rows => "rows",
         }
     }
 }

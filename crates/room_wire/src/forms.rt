@@ -1,6 +1,8 @@
 //! The fields of a message, each read by its form.
 ghost use Rattle.std.specs.Prelude.{◌≡◌, IfSome};
 ghost use Rattle.std.specs.Option.{option_map};
+ghost use Rattle.std.specs.Result.{result_map_both};
+ghost use Rattle.room_wire.specs.News.{object_at};
 ghost use Rattle.serde_json.specs.View.{view, items_view};
 ghost use Rattle.room_wire.specs.Reading.{Gives, or_fault};
 ghost use Rattle.room_wire.specs.Spelling.{text_at, name_at, author_at, el_at, place_of, place_at, name_item, names_in, els_at, distance_at, lat_at, lon_at, node_of, nodes_in, nodes_at, member_with, member_in, member_of, members_in, members_at, text_of, seq_at, ordinal, fault_in};
@@ -273,5 +275,21 @@ pub fn fault_in(field: Field, fault: TextFault) -> Fault
         TextFault::TextTooLong | TextFault::EmptyKey | TextFault::TooManyTags => {
             Fault::BadField(field)
         }
+    }
+}
+
+// A field that is an object.
+pub fn object_at(message: &Value, field: Field) -> Result<&Value, Fault>
+    ensures { result_map_both (λ v. view v.now) (λ f. f) result ≡ object_at field (view message.now) }
+{
+    match message.get(field.as_str()) {
+        Some(value) => {
+            if value.is_object() {
+                Ok(value)
+            } else {
+                Err(Fault::BadField(field))
+            }
+        }
+        None => Err(Fault::BadField(field)),
     }
 }

@@ -5,6 +5,11 @@ ghost use Rattle.osm_elements.specs.Elements.{kind_of};
 ghost use Rattle.osm_elements.specs.declared.name.Name.{Name};
 ghost use Rattle.osm_elements.specs.declared.element.Element.{Element};
 ghost use Rattle.edit_actions.specs.declared.action.Action.TheVariants.{Create};
+ghost use Rattle.room_history.specs.declared.news.News.{News};
+ghost use Rattle.room_wire.specs.declared.welcome.Welcome.{Welcome};
+ghost use Rattle.room_wire.specs.News.{news_tree, spells_news};
+ghost use Rattle.room_wire.specs.NewsBack.{AreNews, IsWelcome};
+ghost use Rattle.room_wire.specs.Welcomes.{spells_welcome, welcome_tree};
 ghost use Rattle.room_wire.specs.declared.bad.Fault.TheVariants.{BadField, BadId, Memory, NotJson, NotObject, UnknownDo};
 ghost use Rattle.room_wire.specs.declared.field.Field.{Field};
 ghost use Rattle.room_wire.specs.ReadBack.{HasId, IsWhole};
@@ -17,6 +22,7 @@ ghost use Rattle.serde_json.specs.Data.{Data};
 ghost use Rattle.serde_json.specs.Find.{as_object};
 ghost use Rattle.serde_json.specs.Read.{read};
 ghost use Rattle.room_wire.specs.Examples.{reads_messages, tells_no_id, tells_an_id, writes_replies, writes_elements};
+ghost use Rattle.room_wire.specs.NewsExamples.{writes_news, reads_news, tells_bad_news, reads_welcomes, tells_bad_welcomes};
 
 /// What the definitions say of worked examples is what was worked out by hand.
 pub fn examples_are_as_worked()
@@ -27,11 +33,38 @@ pub fn examples_are_as_worked()
     ensures writes_elements { writes_elements }
 {}
 
+/// What the definitions say of worked examples of news and of the welcome is what was worked out by hand.
+pub fn news_are_as_worked()
+    ensures writes_news { writes_news }
+    ensures reads_news { reads_news }
+    ensures tells_bad_news { tells_bad_news }
+    ensures reads_welcomes { reads_welcomes }
+    ensures tells_bad_welcomes { tells_bad_welcomes }
+{}
+
 /// The members of a written element are read, as those of a `create`, as that very element under its
 /// name: what a room shows can be sent again as it is.
 pub fn an_element_is_read_back()
     ensures { (name : Name) (element : Element Global) → HasId name → kind_of element ≡ name.kind
         → IsWhole element → create_at (element_tree name element) ≡ Ok (Create name element) }
+{
+    osm_coords::laws::latitude_is_read_back();
+    osm_coords::laws::longitude_is_read_back();
+}
+
+/// Every text whose tree is that of news, as the one that [`news_text`](crate::news_text) writes is, is read as those very
+/// news: a client makes of a text what the room was told.
+pub fn news_are_read_back()
+    ensures { (text : List ℕ) (n : News Global) → read text ≡ Some (news_tree n) → AreNews n → spells_news text ≡ Ok n }
+{
+    osm_coords::laws::latitude_is_read_back();
+    osm_coords::laws::longitude_is_read_back();
+}
+
+/// Every text whose tree is that of a welcome, as the one that [`welcome_text`](crate::welcome_text) writes is, is read as that
+/// very welcome, and so is the reply to a `map`.
+pub fn a_welcome_is_read_back()
+    ensures { (text : List ℕ) (w : Welcome) → read text ≡ Some (welcome_tree w) → IsWelcome w → spells_welcome text ≡ Ok w }
 {
     osm_coords::laws::latitude_is_read_back();
     osm_coords::laws::longitude_is_read_back();

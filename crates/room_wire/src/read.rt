@@ -69,7 +69,7 @@ pub fn read_request(alloc: Global, text: &str) -> Result<Incoming, Bad>
 
 // The tree of a text.
 #[tactic(auto, using(crate::proofs::Empty::read_is_filled))]
-fn parse(alloc: Global, text: &str) -> Result<Value, Fault>
+pub fn parse(alloc: Global, text: &str) -> Result<Value, Fault>
     ensures ok { IfOk result (λ v. read text.now ≡ Some (view v)) }
     ensures filled { OnOk result (0 < length text.now) }
     ensures err { IfErr result (λ f. (f ≡ Memory) ⊎ ((f ≡ NotJson) × (read text.now ≡ None))) }
@@ -79,7 +79,7 @@ fn parse(alloc: Global, text: &str) -> Result<Value, Fault>
 }
 
 // The id of a message.
-fn id_of(message: &Value) -> Result<u64, Fault>
+pub fn id_of(message: &Value) -> Result<u64, Fault>
     ensures { result ≡ id_at (view message.now) }
 {
     if !message.is_object() {
@@ -234,7 +234,7 @@ fn merge_of(message: &Value) -> Result<Action<Global>, Fault>
 }
 
 // The element of a `create`, by the kind of its name.
-fn element_of(alloc: Global, kind: Kind, message: &Value) -> Result<Element<Global>, Fault>
+pub fn element_of(alloc: Global, kind: Kind, message: &Value) -> Result<Element<Global>, Fault>
     ensures { Gives result (element_at kind (view message.now)) }
 {
     match kind {

@@ -8,8 +8,12 @@ mod fields;
 #[cfg(test)]
 mod limits;
 #[cfg(test)]
+mod news;
+#[cfg(test)]
 mod replies;
 #[cfg(test)]
 mod shown;
+#[cfg(test)]
+mod welcomes;
 #[cfg(test)]
 mod words;

@@ -1,0 +1,54 @@
+-- The tree of a welcome, and what a text of a welcome says. (RFC 8259: the tree. The members are this project's.)
+use Rattle.std.specs.Prelude.{ℕ, List, map, Option, Some, None, Result, Ok, Err, nat_le, if◌then◌else◌}
+use Rattle.std.specs.Option.{option_and_then}
+use Rattle.std.specs.declared.alloc.Global.{Global}
+use Rattle.serde_json.specs.Data.{Data}
+use Rattle.serde_json.specs.Find.{get, as_number, as_u64}
+use Rattle.serde_json.specs.Read.{read}
+use Rattle.osm_elements.specs.Maps.{Rows}
+use Rattle.osm_elements.specs.RowPairs.{row_pair}
+use Rattle.room_wire.specs.declared.field.Field.TheVariants as fields
+use Rattle.room_wire.specs.declared.bad.Fault.{Fault}
+use Rattle.room_wire.specs.declared.bad.Fault.TheVariants.{NotJson, BadField}
+use Rattle.room_wire.specs.declared.bad.Bad.{Bad}
+use Rattle.room_wire.specs.declared.welcome.Welcome.{Welcome}
+use Rattle.room_wire.specs.Fields.{field_text}
+use Rattle.room_wire.specs.Reading.{◌>>=◌, or_fault}
+use Rattle.room_wire.specs.Spelling.{id_at}
+use Rattle.room_wire.specs.Lists.{row_at, rows_at}
+use Rattle.room_wire.specs.News.{object_at}
+use Rattle.room_wire.specs.Trees.{map_tree}
+
+-- it is that of the reply to a `map`
+abbrev pub welcome_tree : Welcome → Data
+welcome_tree w = map_tree w.id w.rows w.seq
+
+abbrev pub map_at : Data → Result (Rows Global) Fault
+map_at d = rows_at row_at (λ r. r.name) fields.Map d >>= λ rows. Ok (map row_pair rows)
+
+-- a whole number in 0..=9007199254740991
+abbrev pub count_of : Data → Option ℕ
+count_of d = option_and_then (λ n. if nat_le n 9007199254740991 then Some n else None) (option_and_then as_u64 (as_number d))
+
+abbrev pub count_at : Data → Result ℕ Fault
+count_at d = or_fault (BadField fields.Seq) (option_and_then count_of (get (field_text fields.Seq) d))
+
+abbrev pub told_at : Data → Result (Rows Global × ℕ) Fault
+told_at d = object_at fields.Ok d >>= λ ok. map_at ok >>= λ rows. count_at ok >>= λ seq. Ok (rows, seq)
+
+-- a welcome under the id of its message
+abbrev pub welcomed : ℕ → Result (Rows Global × ℕ) Fault → Result Welcome Bad
+welcomed id (Ok told) = Ok (record { id = id; seq = told.1; rows = told.0 })
+welcomed id (Err fault) = Err (record { id = id; fault = fault })
+
+abbrev pub welcome_by : Result ℕ Fault → Data → Result Welcome Bad
+welcome_by (Ok id) d = welcomed id (told_at d)
+welcome_by (Err fault) d = Err (record { id = 0; fault = fault })
+
+abbrev pub welcome_of : Option Data → Result Welcome Bad
+welcome_of None = Err (record { id = 0; fault = NotJson })
+welcome_of (Some d) = welcome_by (id_at d) d
+
+-- what a text says: a welcome, or its one fault
+abbrev pub spells_welcome : List ℕ → Result Welcome Bad
+spells_welcome text = welcome_of (read text)

@@ -1,0 +1,128 @@
+//! Rows whose names rise, read from an array.
+ghost use Rattle.std.specs.Prelude.{◌≡◌, map};
+ghost use Rattle.std.specs.Result.{result_map_both, result_ok};
+ghost use Rattle.serde_json.specs.View.{view, items_view};
+ghost use Rattle.osm_changes.specs.Changes.{are_rising};
+ghost use Rattle.room_wire.specs.declared.bad.Fault.TheVariants.{BadField};
+ghost use Rattle.room_wire.specs.Inner.Rising.{is_before};
+ghost use Rattle.room_wire.specs.Lists.{in_list, row_at, rows_at, rows_in};
+ghost use Rattle.room_wire.specs.Reading.{Gives, or_fault};
+
+use crate::bad::Fault;
+use crate::field::Field;
+use crate::forms::el_of;
+use crate::read::element_of;
+use osm_elements::map::Row;
+use osm_elements::name::Name;
+use serde_json::Value;
+use std::alloc::{AllocError, Global};
+use std::cmp::Ordering;
+
+// What an item of an array is, under the name of an element.
+pub trait Listed: Drop {
+    ghost use Rattle.std.specs.Prelude.{Result};
+    ghost use Rattle.serde_json.specs.Data.{Data};
+    ghost use Rattle.osm_elements.specs.declared.name.Name.{Name};
+    ghost use Rattle.room_wire.specs.declared.bad.Fault.{Fault};
+
+    ghost reads: { Data → Result Self Fault };
+
+    ghost named: { Self → Name };
+
+    fn read(alloc: Global, item: &Value) -> Result<Self, Fault>
+        ensures { Gives result (reads (view item.now)) };
+
+    fn name(&self) -> Name
+        ensures { result ≡ named self.now };
+}
+
+// An element under its name.
+impl Listed for Row<Global> {
+    ghost reads = { row_at };
+
+    ghost named = { λ r. r.name };
+
+    fn read(alloc: Global, item: &Value) -> Result<Row<Global>, Fault> {
+        let name = el_of(item)?;
+        let element = element_of(alloc, name.kind(), item)?;
+        Ok(Row { name, element })
+    }
+
+    fn name(&self) -> Name {
+        self.name
+    }
+}
+
+// The rows of a field, whose names rise.
+pub fn rows_of<T: Listed>(alloc: Global, field: Field, message: &Value) -> Result<Vec<T>, Fault>
+    ensures { Gives (result_map_both (λ v. v.items) (λ f. f) result) (rows_at T.reads T.named field (view message.now)) }
+{
+    let items = message
+        .get(field.as_str())
+        .and_then(Value::as_array)
+        .ok_or(Fault::BadField(field))?;
+    let rows = rows_in::<T>(alloc, field, items)?;
+    if are_rising(&rows) {
+        Ok(rows)
+    } else {
+        Err(Fault::BadField(field))
+    }
+}
+
+// The rows that some items are.
+fn rows_in<T: Listed>(alloc: Global, field: Field, items: &[Value]) -> Result<Vec<T>, Fault>
+    ensures { Gives (result_map_both (λ v. v.items) (λ f. f) result) (or_fault (BadField field) (rows_in T.reads T.named (items_view items.now))) }
+{
+    let mut rows = Vec::new(alloc);
+    for item in items {
+        let row = row_in::<T>(alloc, field, item)?;
+        match rows.push(row) {
+            Ok(()) => {}
+            Err(error) => return Err(AllocError::from(error).into()),
+        }
+    }
+    Ok(rows)
+}
+
+// The row that an item is, whose faults are those of its list.
+fn row_in<T: Listed>(alloc: Global, field: Field, item: &Value) -> Result<T, Fault>
+    ensures { Gives result (or_fault (BadField field) (result_ok (T.reads (view item.now)))) }
+{
+    match T::read(alloc, item) {
+        Ok(row) => Ok(row),
+        Err(fault) => Err(in_list(field, fault)),
+    }
+}
+
+// What a fault inside a list is.
+fn in_list(field: Field, fault: Fault) -> Fault
+    ensures { result ≡ in_list field fault }
+{
+    match fault {
+        Fault::Memory => Fault::Memory,
+        _ => Fault::BadField(field),
+    }
+}
+
+// Whether the names of the rows rise.
+fn are_rising<T: Listed>(rows: &[T]) -> bool
+    ensures { result ≡ are_rising (map T.named rows.now) }
+{
+    for place in 0..rows.len() {
+        if place + 1 < rows.len() && !is_before(&rows[place].name(), &rows[place + 1].name()) {
+            return false;
+        }
+    }
+    true
+}
+
+// Whether a name comes before another.
+fn is_before(one: &Name, other: &Name) -> bool
+    ensures { result ≡ is_before one.now other.now }
+{
+    match one.cmp(other) {
+        Ordering::Less => true,
+        Ordering::Equal => false,
+        Ordering::Greater => false,
+    }
+}

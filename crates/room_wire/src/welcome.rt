@@ -1,0 +1,97 @@
+//! The welcome to a hello.
+ghost use Rattle.std.specs.Prelude.{◌≡◌, ◌<◌, length, IfErr};
+ghost use Rattle.serde_json.specs.View.{view};
+ghost use Rattle.room_wire.specs.declared.bad.Fault.TheVariants.{Memory};
+ghost use Rattle.room_wire.specs.Reading.{Gives, GivesUnder};
+ghost use Rattle.room_wire.specs.Welcomes.{count_at, count_of, map_at, spells_welcome, told_at, welcomed};
+
+use crate::bad::{Bad, Fault};
+use crate::field::Field;
+use crate::forms::object_at;
+use crate::listed::rows_of;
+use crate::read::{id_of, parse};
+use osm_elements::map::{Row, Rows};
+use serde_json::Value;
+use std::alloc::Global;
+
+// The greatest number of an entry.
+const GREATEST_NUMBER: u64 = 9_007_199_254_740_991;
+
+/// What a hello is answered where its room is there: the room's map, and how many entries its journal has.
+#[derive(Debug, Drop)]
+pub struct Welcome {
+    /// The id of the hello.
+    pub id: u64,
+    /// How many entries the journal has, which is the number of the last one.
+    pub seq: u64,
+    /// The elements after that entry, in name order.
+    pub rows: Rows<Global>,
+}
+
+/// The welcome that a JSON text is (RFC 8259), or its first fault.
+///
+/// The text has to be JSON that nests at most 127 deep (`NotJson`), and an object (`NotObject`), whose `id` is a whole number
+/// in `1..=9007199254740991` (`BadId`). The first of these that is missing or not of its form is told (`BadField`), under that
+/// id: `ok`, an object; in it `map`, an array of elements whose names rise, each with the fields of a `create`, of which `tags`
+/// may be missing; and `seq`, a whole number in `0..=9007199254740991`. A fault inside an element is that of `map`. Other
+/// members are ignored.
+///
+/// `Memory` stands in the place of any other answer where a growth was refused, under the id if that was read before, or else
+/// under 0.
+pub fn read_welcome(alloc: Global, text: &str) -> Result<Welcome, Bad>
+    ensures exact { GivesUnder (λ w. w.id) result (spells_welcome text.now) }
+    ensures memory { IfErr result (λ bad. bad.fault ≡ Memory → 0 < length text.now) }
+{
+    let reply = parse(alloc, text).map_err(Bad::unread)?;
+    let id = id_of(&reply).map_err(Bad::unread)?;
+    welcomed(alloc, id, &reply)
+}
+
+// The welcome of a reply, under its id.
+fn welcomed(alloc: Global, id: u64, reply: &Value) -> Result<Welcome, Bad>
+    ensures { GivesUnder (λ w. w.id) result (welcomed id (told_at (view reply.now))) }
+{
+    match told_of(alloc, reply) {
+        Ok((rows, seq)) => Ok(Welcome { id, seq, rows }),
+        Err(fault) => Err(Bad { id, fault }),
+    }
+}
+
+// The elements and the number that a reply tells.
+fn told_of(alloc: Global, reply: &Value) -> Result<(Rows<Global>, u64), Fault>
+    ensures { Gives result (told_at (view reply.now)) }
+{
+    let told = object_at(reply, Field::Ok)?;
+    let rows = map_of(alloc, told)?;
+    let seq = count_of(told)?;
+    Ok((rows, seq))
+}
+
+// The elements of a map.
+fn map_of(alloc: Global, told: &Value) -> Result<Rows<Global>, Fault>
+    ensures { Gives result (map_at (view told.now)) }
+{
+    let rows = rows_of::<Row<Global>>(alloc, Field::Map, told)?;
+    Ok(Rows::from_vec(rows))
+}
+
+// How many entries there are.
+fn count_of(told: &Value) -> Result<u64, Fault>
+    ensures { result ≡ count_at (view told.now) }
+{
+    told.get(Field::Seq.as_str())
+        .and_then(count_in)
+        .ok_or(Fault::BadField(Field::Seq))
+}
+
+// A whole number in `0..=9007199254740991`.
+fn count_in(value: &Value) -> Option<u64>
+    ensures { result ≡ count_of (view value.now) }
+{
+    let number = value.as_u64()?;
+    if number <= GREATEST_NUMBER {
+        Some(number)
+    } else {
+        None
+    }
+}
