@@ -16,8 +16,8 @@ use std::test::Fail;
 // What counts its growths.
 type Heap<'a> = &'a Refusing<Global>;
 
-// Two nodes of Anna's, of which Bob deletes one; then each takes back what was done last.
-const STEPS: usize = 5;
+// Two nodes of Anna's, of which Bob deletes one; then each takes back what was done last, and Anna does hers again.
+const STEPS: usize = 6;
 
 // What the steps are answered, as replies are printed.
 const ANSWERS: [&str; STEPS] = [
@@ -26,6 +26,7 @@ const ANSWERS: [&str; STEPS] = [
     "Done { seq: 3 }",
     "Undid { seq: 4, of: 3 }",
     "Undid { seq: 5, of: 2 }",
+    "Redid { seq: 6, of: 2 }",
 ];
 
 // The call of a step.
@@ -47,7 +48,8 @@ fn call<'a>(heap: &'a Refusing<Global>, step: usize) -> Result<Call<&'a Refusing
         }
         2 => (bob, 1, Request::Do(Action::Delete { name: first })),
         3 => (bob, 2, Request::Undo(None)),
-        _ => (anna, 3, Request::Undo(Some(2))),
+        4 => (anna, 3, Request::Undo(Some(2))),
+        _ => (anna, 4, Request::Redo),
     };
     Ok(Call {
         author,
@@ -61,7 +63,10 @@ fn told<'a>(heap: Heap<'a>, room: &Room<Heap<'a>>) -> Result<String<Heap<'a>>, F
     let rows = room.map_rows()?;
     let front = room.front();
     let applied = room.applied();
-    let mut all = format!(in heap; "{front} {applied} {rows:?}")?;
+    let anna = Author::read("anna").ok_or("author")?;
+    let undos = room.undos(&anna);
+    let redos = room.redos(&anna);
+    let mut all = format!(in heap; "{front} {applied} {rows:?} {undos:?} {redos:?}")?;
     for seq in 0..=front {
         let entry = room.entry(seq);
         let entry = format!(in heap; "{entry:?}")?;
@@ -113,7 +118,7 @@ fn refuse_step<'a>(
 #[test]
 fn take_refuses_each_growth(rt: HostRuntime) -> Result<(), Fail> {
     let heap = Refusing::new(rt.alloc(), u64::MAX);
-    let mut room = Room::open(&heap, 5);
+    let mut room = Room::open(&heap, 6);
     for (step, answer) in ANSWERS.iter().enumerate() {
         let refused = refuse_step(&rt, &heap, &mut room, step, answer)?;
         assert!(rt; refused > 0, "step {step}: no growth was refused");
@@ -131,18 +136,18 @@ fn a_run_has_memory(rt: HostRuntime) -> Result<(), Fail> {
     }
     let calls = Calls::from_vec(calls);
     assert_eq!(rt; calls.as_slice().len(), STEPS);
-    let (room, replies) = run(&heap, 5, calls)?;
+    let (room, replies) = run(&heap, 6, calls)?;
     let replies = Replies::from_vec(replies.into_vec());
     assert_eq!(rt; replies.as_slice().len(), STEPS);
     for (reply, answer) in replies.as_slice().iter().zip(ANSWERS.iter()) {
         let reply = format!(in rt.alloc(); "{reply:?}")?;
         assert_eq!(rt; reply.as_str(), *answer);
     }
-    assert_eq!(rt; room.front(), 5);
+    assert_eq!(rt; room.front(), 6);
     let first = Name::new(Kind::Node, 1).ok_or("zero")?;
     let second = Name::new(Kind::Node, 2).ok_or("zero")?;
     assert!(rt; room.get(&first).is_some());
-    assert!(rt; room.get(&second).is_none());
+    assert!(rt; room.get(&second).is_some());
     Ok(())
 }
 
