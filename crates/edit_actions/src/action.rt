@@ -13,7 +13,7 @@ use std::alloc::{AllocError, Allocator};
 
 // An action with the same fields, each copied.
 macro_rules! copied {
-    (($action:expr) $($variant:ident { $($field:ident: $how:ident),* } by $plan:ident;)*) => {
+    (($action:expr) $($variant:ident $word:literal { $($field:ident: $how:ident from $source:ident $(by $name:ident)?),* } by $plan:ident;)*) => {
         match $action {
             $(Action::$variant { $($field),* } => Action::$variant {
                 $($field: $field.clone()?),*

@@ -2,24 +2,25 @@
 
 /// Writes the same for each action: hands the list of the actions to a macro, behind what the macro is given.
 ///
-/// A line of the list has the action, its fields, and its plan, which takes the fields in this order. Each field says how
-/// the plan takes it: `lent`, as a `slice`, or as a `number`.
+/// A line of the list has the action, its word in a message, its fields, and its plan, which takes the fields in this order.
+/// Each field says how the plan takes it, `lent`, as a `slice`, or as a `number`; and from which field of a message it is read,
+/// in this order, and by the `kind` of which name that is read, if it matters.
 #[macro_export]
 macro_rules! each_action {
     ($write:ident $given:tt) => {
         $write! {
             $given
-            Create { name: lent, element: lent } by plan_create;
-            Retag { name: lent, tags: lent } by plan_retag;
-            Move { names: slice, dlat: number, dlon: number } by plan_move;
-            Reverse { name: lent } by plan_reverse;
-            Nodes { name: lent, list: lent } by plan_nodes;
-            Members { name: lent, list: lent } by plan_members;
-            Delete { name: lent } by plan_delete;
-            Purge { name: lent } by plan_purge;
-            Split { name: lent, place: number, into: lent } by plan_split;
-            Join { name: lent, other: lent } by plan_join;
-            Merge { name: lent, other: lent } by plan_merge;
+            Create "create" { name: lent from el, element: lent from element by name } by plan_create;
+            Retag "retag" { name: lent from el, tags: lent from gifts } by plan_retag;
+            Move "move" { names: slice from els, dlat: number from dlat, dlon: number from dlon } by plan_move;
+            Reverse "reverse" { name: lent from el } by plan_reverse;
+            Nodes "nodes" { name: lent from el, list: lent from nodes } by plan_nodes;
+            Members "members" { name: lent from el, list: lent from members } by plan_members;
+            Delete "delete" { name: lent from el } by plan_delete;
+            Purge "purge" { name: lent from el } by plan_purge;
+            Split "split" { name: lent from el, place: number from at, into: lent from into } by plan_split;
+            Join "join" { name: lent from el, other: lent from with } by plan_join;
+            Merge "merge" { name: lent from el, other: lent from with } by plan_merge;
         }
     };
 }
