@@ -3,6 +3,7 @@
 
 pub mod ask;
 pub mod call;
+mod effects;
 pub mod entry;
 mod journal;
 pub mod laws;

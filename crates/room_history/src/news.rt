@@ -159,7 +159,7 @@ impl<A: Allocator> NewsList<A> {
 
 /// The news of all entries but the first `from`, in order, from the entries and what each of them changed. The one
 /// refusal is want of memory. It copies what those entries changed.
-pub fn news_past<A: Allocator + Copy>(
+pub(crate) fn news_past<A: Allocator + Copy>(
     alloc: A,
     entries: &[Entry<A>],
     recorded: &[Changes<A>],

@@ -12,6 +12,7 @@ ghost use Rattle.room_history.specs.Journals.{numbered};
 
 use crate::ask::{RoomCall, RoomReply, Undoable};
 use crate::call::{Call, Request};
+use crate::effects::{stand, taken_back};
 use crate::entry::{Entry, EntryKind};
 use crate::journal::{action_of, numbered};
 use crate::news::{NewsList, news_past};
@@ -402,6 +403,13 @@ impl<A: Allocator + Copy> Room<A> {
         self.store.map().get(name)
     }
 
+    /// The map. It takes no memory.
+    pub fn map(&self) -> &OsmMap<A>
+        ensures { result.now ≡ mapof self.now.base self.now.journal }
+    {
+        self.store.map()
+    }
+
     /// The rows of the map, in name order. It copies them; the one refusal is want of memory.
     pub fn map_rows(&self) -> Result<Rows<A>, Memory>
         ensures { IfOk result (λ rows. rows ≡ mapof self.now.base self.now.journal) }
@@ -439,38 +447,6 @@ impl<A: Allocator + Copy> Room<A> {
     {
         numbered(&self.entries, seq)
     }
-}
-
-// Lets an entry stand and applies its changes; or refuses, and both are as they were.
-fn stand<A: Allocator + Copy>(
-    alloc: A,
-    store: &mut Store<A>,
-    holders: &mut Holders<A>,
-    changes: &Changes<A>,
-    footprint: Footprint<A>,
-    seq: u64,
-) -> Result<(), Memory>
-    requires next { IsNext holders.old seq }
-    requires from { AreFrom store.old.rows changes.now }
-    requires sound { is_sound (changed store.old.rows changes.now) ≡ true }
-    ensures ok { OnOk result ((store.new ≡ applied_to store.old changes.now) × (holders.new ≡ holders.old ++ (seq, footprint) ∷ [])) }
-    ensures err { OnErr result ((store.new ≡ store.old) × (holders.new ≡ holders.old)) }
-{
-    holders.stand(footprint, seq)?;
-    if let Err(refused) = store.apply(alloc, changes) {
-        holders.fall(seq);
-        return Err(refused);
-    }
-    Ok(())
-}
-
-// The changes that take back those recorded under a number.
-fn taken_back<A: Allocator + Clone>(recorded: &[Changes<A>], of: u64) -> Result<Changes<A>, Memory>
-    requires first { 1 ≤ of }
-    requires there { of ≤ length recorded.now }
-    ensures { IfOk result (λ cs. (rs : List (Change A)) → numbered recorded.now of ≡ Some rs → cs ≡ inverse rs) }
-{
-    Ok(recorded[of as usize - 1].copy()?.inverse())
 }
 
 // What holds of changes that are taken back. It does nothing.

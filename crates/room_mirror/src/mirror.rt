@@ -9,7 +9,8 @@ use crate::replacing::replace;
 use osm_elements::Memory;
 use osm_elements::map::{OsmMap, Row, Rows};
 use room_history::news::News;
-use std::alloc::Allocator;
+use room_wire::welcome::Welcome;
+use std::alloc::{Allocator, Global};
 use std::marker::Model;
 
 /// A map that follows a room: as long as it takes each news in turn, it has the rows that the room has after the entry
@@ -92,6 +93,18 @@ impl<A: Allocator + Copy> Mirror<A> {
         ensures { result.now ≡ self.now.rows }
     {
         &self.map
+    }
+}
+
+impl Mirror<Global> {
+    /// The mirror that a welcome makes, whose names rise, as those of every welcome that was read do: it has the rows of the
+    /// welcome, and its number. The one refusal is want of memory.
+    pub fn from_welcome(alloc: Global, welcome: Welcome) -> Result<Mirror<Global>, Memory>
+        requires { AreInOrder welcome.rows }
+        ensures { IfOk result (λ m. m ≡ record { seq = welcome.seq; rows = welcome.rows }) }
+    {
+        let Welcome { seq, rows, .. } = welcome;
+        Mirror::from_rows(alloc, seq, rows)
     }
 }
 

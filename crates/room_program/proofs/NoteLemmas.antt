@@ -1,5 +1,5 @@
 -- What a note says of the call that was noted last, and counts of noted calls.
-use Rattle.std.proofs.Common.{◌≡◌, ◌≢◌, ◌<◌, ◌∙◌, ◌+◌, ◌^◌, ℕ, suc, zero, [], ◌∷◌, Ok, Err, Some, true≢false, ap, arith, inl, inr, length, refl, sym, add-zero}
+use Rattle.std.proofs.Common.{◌≡◌, ◌<◌, ◌∙◌, ◌+◌, ◌^◌, ℕ, suc, zero, [], ◌∷◌, Ok, Err, Some, true≢false, ap, arith, inl, inr, length, refl, sym, add-zero}
 use Rattle.room_program.specs.declared.io.Io.{Io}
 use Rattle.room_program.specs.declared.noted.Calls.{Calls}
 use Rattle.room_program.specs.declared.noted.Stop.TheVariants.{Failed}

@@ -3,7 +3,7 @@ ghost use Rattle.std.specs.Prelude.{◌≡◌, ℕ, List, IfOk};
 ghost use Rattle.room_program.specs.Scripts.{Loss};
 
 use osm_elements::Memory;
-use room_wire::json::Json;
+use room_wire::json_text::Json;
 use std::alloc::Global;
 
 /// What answers a stream line by line.

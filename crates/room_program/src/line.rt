@@ -19,8 +19,8 @@ use room_stacks::author::Author;
 use room_wire::answer::Answer;
 use room_wire::bad::{Bad, Fault};
 use room_wire::incoming::{Body, Incoming};
-use room_wire::json::Json;
-use room_wire::{read_request, reply_text};
+use room_wire::json_text::Json;
+use room_wire::{map_text, read_request, reply_text};
 use std::alloc::Global;
 use std::str;
 
@@ -138,17 +138,10 @@ fn answer_get(alloc: Global, room: &Room<Global>, id: u64, name: Name) -> Result
 }
 
 fn answer_map(alloc: Global, room: &Room<Global>, id: u64) -> Result<Json, Memory>
-    ensures { IfOk result (λ text. (text ≡ map_text id
-        (mapof room.now.base room.now.journal) (length room.now.journal))
-        ⊎ (text ≡ text_of id Answer.Memory)) }
+    ensures { IfOk result (λ text. text ≡ map_text id
+        (mapof room.now.base room.now.journal) (length room.now.journal)) }
 {
-    match room.map_rows() {
-        Ok(rows) => {
-            let front = room.front();
-            reply_text(alloc, id, &Answer::Map { rows: &rows, front })
-        }
-        Err(_) => reply_text(alloc, id, &Answer::Memory),
-    }
+    map_text(alloc, id, room.map(), room.front())
 }
 
 fn answer_undos(alloc: Global, room: &Room<Global>, author: Author, id: u64) -> Result<Json, Memory>

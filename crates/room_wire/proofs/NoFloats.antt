@@ -33,7 +33,7 @@ nodes_have_none names = items_have_none id_tree (λ n. integer_is_none n.id) nam
 members_have_none : (members : List (Name × List ℕ)) → has_float (members_tree members) ≡ false
 members_have_none members = items_have_none member_tree (λ m. refl) members
 
-element_has_none : {A : Type 0} (name : Name) (e : Element A) → has_float (element_tree name e) ≡ false
+pub element_has_none : {A : Type 0} (name : Name) (e : Element A) → has_float (element_tree name e) ≡ false
 element_has_none name (elements.Node lat lon tags) = rw (tags_have_none tags) refl
 element_has_none name (elements.Way nodes tags) = rw (nodes_have_none nodes, tags_have_none tags) refl
 element_has_none name (elements.Relation members tags) = rw (members_have_none members, tags_have_none tags) refl

@@ -12,7 +12,7 @@ use Rattle.room_history.specs.declared.news.NewsRow.{NewsRow}
 use Rattle.room_wire.specs.declared.answer.Answer.{Answer}
 use Rattle.room_wire.specs.declared.answer.Answer.TheVariants.{Done, Undid, Redid, Is, Map, Undos, Absent, Present, WrongKind, Same, OutOfRange, TooFew, TooMany, InUse, TagConflict, BadPosition, NotEndToEnd, Nothing, Repeat, Conflict, BadField, Memory, Full, NothingToUndo, NothingToRedo, NoSuch, NotYours, NotStanding, NotJson, NotObject, BadId, UnknownDo, BadLine, NoHello, NoRoom, HelloTwice}
 use Rattle.room_wire.specs.News.{news_rows_tree, news_tree, row_tree}
-use Rattle.room_wire.specs.Trees.{id_tree, member_tree, tag_members, element_tree, rows_tree, whole, tree_of}
+use Rattle.room_wire.specs.Trees.{id_tree, member_tree, tag_members, element_tree, rows_tree, whole, map_tree, tree_of}
 
 items_are_shallow : {X : Type 0} (k : ℕ) (f : X → Data) → ((x : X) → depth (f x) ≤ k) → (xs : List X) → items_depth (items_of (map f xs)) ≤ k
 items_are_shallow k f h [] = omega arith
@@ -40,12 +40,15 @@ rows_are_shallow rows = let r = items_are_shallow 3 (λ r. element_tree r.0 r.1)
 numbers_are_flat : (numbers : List ℕ) → items_depth (items_of (map whole numbers)) ≤ 0
 numbers_are_flat numbers = items_are_shallow 0 whole (λ n. omega arith) numbers
 
+pub map_is_shallow : {A : Type 0} (id : ℕ) (rows : List (Name × Element A)) (front : ℕ) → depth (map_tree id rows front) ≤ 127
+map_is_shallow id rows front = let r = rows_are_shallow rows in omega arith
+
 pub tree_is_shallow : (id : ℕ) (answer : Answer) → depth (tree_of id answer) ≤ 127
 tree_is_shallow id (Done seq) = omega arith
 tree_is_shallow id (Undid seq of) = omega arith
 tree_is_shallow id (Redid seq of) = omega arith
 tree_is_shallow id (Is name element) = let e = element_is_shallow name element.now in omega arith
-tree_is_shallow id (Map rows front) = let r = rows_are_shallow rows.now in omega arith
+tree_is_shallow id (Map rows front) = map_is_shallow id rows.now front
 tree_is_shallow id (Undos undos redos) = let u = numbers_are_flat undos.now in let r = numbers_are_flat redos.now in omega arith
 tree_is_shallow id (Absent name) = omega arith
 tree_is_shallow id (Present name) = omega arith

@@ -10,7 +10,7 @@ use Rattle.osm_elements.specs.declared.tags.Tag.{Tag}
 use Rattle.osm_elements.specs.TagRows.{Pairs, AreTagRows, tag_pair, text_cmp}
 use Rattle.room_wire.specs.Trees.{tag_members}
 
-first_test : (a b : Bool) → T (a && b) → T a
+pub first_test : (a b : Bool) → T (a && b) → T a
 first_test true b p = tt
 first_test false b p = p
 

@@ -1,15 +1,17 @@
 //! The trees of elements.
-ghost use Rattle.std.specs.Prelude.{◌≡◌, IfOk};
+ghost use Rattle.std.specs.Prelude.{◌≡◌, All, IfOk, OnOk};
 ghost use Rattle.serde_json.specs.Data.{string};
 ghost use Rattle.serde_json.specs.View.{view};
 ghost use Rattle.std.specs.Str.{IsAscii};
-ghost use Rattle.room_wire.specs.Trees.{name_tree, nodes_tree, member_tree, members_tree, tags_tree, element_tree, rows_tree};
+ghost use Rattle.room_wire.specs.Trees.{name_tree, id_tree, nodes_tree, member_tree, members_tree, tags_tree, element_tree};
 ghost use Rattle.osm_elements.specs.Members.{member_pair};
+ghost use Rattle.osm_elements.specs.TagRows.{AreTagRows};
+ghost use Rattle.room_wire.specs.Inner.Readable.{IsReadable};
+ghost use Rattle.room_wire.specs.ReadBack.{HasId};
 
 use osm_coords::COORDINATE_LENGTH;
 use osm_elements::Memory;
 use osm_elements::element::Element;
-use osm_elements::map::Rows;
 use osm_elements::member::Member;
 use osm_elements::members::Members;
 use osm_elements::name::{NAME_LENGTH, Name};
@@ -21,7 +23,8 @@ use std::str;
 
 // An element under its name.
 pub fn element_tree(alloc: Global, name: Name, element: &Element<Global>) -> Result<Value, Memory>
-    ensures { IfOk result (λ v. view v ≡ element_tree name element.now) }
+    ensures tree { IfOk result (λ v. view v ≡ element_tree name element.now) }
+    ensures readable { OnOk result (IsReadable (element_tree name element.now)) }
 {
     match element {
         Element::Node { lat, lon, tags } => {
@@ -49,17 +52,6 @@ pub fn element_tree(alloc: Global, name: Name, element: &Element<Global>) -> Res
     }
 }
 
-// The rows of a map, one element after another.
-pub fn rows_tree(alloc: Global, rows: &Rows<Global>) -> Result<Value, Memory>
-    ensures { IfOk result (λ v. view v ≡ rows_tree rows.now) }
-{
-    let mut items = Vec::new(alloc);
-    for row in rows.as_slice() {
-        items.push(element_tree(alloc, row.name, &row.element)?)?;
-    }
-    Ok(Value::Array(items))
-}
-
 // A name as its text.
 pub fn name_tree(alloc: Global, name: Name) -> Result<Value, Memory>
     ensures { IfOk result (λ v. view v ≡ name_tree name) }
@@ -80,13 +72,22 @@ fn ascii_tree(alloc: Global, text: &[u8]) -> Result<Value, Memory>
 
 // The ids of a way's nodes.
 fn nodes_tree(alloc: Global, nodes: &Nodes<Global>) -> Result<Value, Memory>
-    ensures { IfOk result (λ v. view v ≡ nodes_tree nodes.now) }
+    ensures tree { IfOk result (λ v. view v ≡ nodes_tree nodes.now) }
+    ensures ids { OnOk result (All HasId nodes.now) }
 {
     let mut items = Vec::new(alloc);
     for node in nodes.names() {
-        items.push(Value::from(node.id()))?;
+        items.push(id_tree(node))?;
     }
     Ok(Value::Array(items))
+}
+
+// The id of a node.
+fn id_tree(node: &Name) -> Value
+    ensures tree { view result ≡ id_tree node.now }
+    ensures id { HasId node.now }
+{
+    Value::from(node.id())
 }
 
 // The members of a relation.
@@ -111,7 +112,8 @@ fn member_tree(alloc: Global, member: &Member<Global>) -> Result<Value, Memory>
 
 // An object with a member for each tag.
 fn tags_tree(alloc: Global, tags: &Tags<Global>) -> Result<Value, Memory>
-    ensures { IfOk result (λ v. view v ≡ tags_tree tags.now) }
+    ensures tree { IfOk result (λ v. view v ≡ tags_tree tags.now) }
+    ensures rows { AreTagRows tags.now }
 {
     let mut members = Map::new(alloc);
     for tag in tags.rows() {

@@ -1,6 +1,6 @@
 //! The messages to a room and its replies, as JSON texts (RFC 8259).
 //!
-//! [`read_request`] reads a message, and [`reply_text`] writes the text of a reply. [`welcome_text`] and [`news_text`] write
+//! [`read_request`] reads a message, [`reply_text`] writes the text of a reply, and [`map_text`] that of a reply with a whole map. [`welcome_text`] and [`news_text`] write
 //! what a client is told beside that, and [`read_welcome`] and [`read_news`] read it. What a text means, and which fault it
 //! has, is one definite answer for each text.
 #![tactic(auto)]
@@ -11,7 +11,7 @@ mod element;
 pub mod field;
 mod forms;
 pub mod incoming;
-pub mod json;
+pub mod json_text;
 pub mod laws;
 mod listed;
 mod news;
@@ -19,10 +19,12 @@ mod read;
 mod tag_forms;
 pub mod welcome;
 mod write;
+mod write_map;
 mod write_news;
 
 pub use news::read_news;
 pub use read::read_request;
 pub use welcome::read_welcome;
 pub use write::reply_text;
+pub use write_map::map_text;
 pub use write_news::{news_text, welcome_text};

@@ -1,5 +1,5 @@
 //! Rows whose names rise, read from an array.
-ghost use Rattle.std.specs.Prelude.{◌≡◌, map};
+ghost use Rattle.std.specs.Prelude.{◌≡◌, true, map, IfOk};
 ghost use Rattle.std.specs.Result.{result_map_both, result_ok};
 ghost use Rattle.serde_json.specs.View.{view, items_view};
 ghost use Rattle.osm_changes.specs.Changes.{are_rising};
@@ -55,7 +55,8 @@ impl Listed for Row<Global> {
 
 // The rows of a field, whose names rise.
 pub fn rows_of<T: Listed>(alloc: Global, field: Field, message: &Value) -> Result<Vec<T>, Fault>
-    ensures { Gives (result_map_both (λ v. v.items) (λ f. f) result) (rows_at T.reads T.named field (view message.now)) }
+    ensures read { Gives (result_map_both (λ v. v.items) (λ f. f) result) (rows_at T.reads T.named field (view message.now)) }
+    ensures rising { IfOk result (λ v. are_rising (map T.named v.items) ≡ true) }
 {
     let items = message
         .get(field.as_str())

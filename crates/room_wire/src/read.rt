@@ -4,7 +4,7 @@ ghost use Rattle.serde_json.specs.Read.{read};
 ghost use Rattle.serde_json.specs.View.{view};
 ghost use Rattle.room_wire.specs.declared.bad.Fault.TheVariants.{NotJson, Memory};
 ghost use Rattle.room_wire.specs.Reading.{Gives, GivesMessage};
-ghost use Rattle.room_wire.specs.Spelling.{spells, under, id_at, body_at, body_by, hello_at, action_by, create_at, retag_at, move_at, relist_way_at, relist_relation_at, split_at, join_at, merge_at, element_at};
+ghost use Rattle.room_wire.specs.Spelling.{spells, under, id_at, body_at, body_by, hello_at, action_by, element_at};
 
 use crate::bad::{Bad, Fault};
 use crate::field::Field;
@@ -15,11 +15,40 @@ use crate::forms::{
 use crate::incoming::{Body, Incoming};
 use crate::tag_forms::{gifts_of, tags_of};
 use edit_actions::action::Action;
+use edit_actions::each_action;
 use osm_elements::element::Element;
 use osm_elements::name::Kind;
 use room_history::call::Request;
 use serde_json::Value;
 use std::alloc::Global;
+
+// The action of a word, with the fields that it has.
+macro_rules! read_by {
+    (($alloc:expr, $word:expr, $message:expr) $($variant:ident $text:literal { $($field:ident: $how:ident from $source:ident $(by $name:ident)?),* } by $plan:ident;)*) => {
+        match $word {
+            $($text => {
+                $(let $field = field!($source ($alloc, $message) $($name)?)?;)*
+                Ok(Action::$variant { $($field),* })
+            })*
+            _ => Err(Fault::UnknownDo),
+        }
+    };
+}
+
+// A field of an action as a message has it.
+macro_rules! field {
+    (el ($alloc:expr, $message:expr)) => { el_of($message) };
+    (els ($alloc:expr, $message:expr)) => { els_of($alloc, $message) };
+    (element ($alloc:expr, $message:expr) $name:ident) => { element_of($alloc, $name.kind(), $message) };
+    (gifts ($alloc:expr, $message:expr)) => { gifts_of($alloc, $message) };
+    (nodes ($alloc:expr, $message:expr)) => { nodes_of($alloc, $message) };
+    (members ($alloc:expr, $message:expr)) => { members_of($alloc, $message) };
+    (dlat ($alloc:expr, $message:expr)) => { distance_of($message, Field::Dlat) };
+    (dlon ($alloc:expr, $message:expr)) => { distance_of($message, Field::Dlon) };
+    (at ($alloc:expr, $message:expr)) => { place_at($message) };
+    (into ($alloc:expr, $message:expr)) => { name_at($message, Field::Into) };
+    (with ($alloc:expr, $message:expr)) => { name_at($message, Field::With) };
+}
 
 /// The message that a JSON text is (RFC 8259), or its first fault.
 ///
@@ -133,104 +162,12 @@ fn hello_of(message: &Value) -> Result<Body, Fault>
     Ok(Body::Hello { room, name })
 }
 
-// The action that a message with this word asks for.
+// The action that a message with this word asks for. Its fields are read in the order of the list of actions, up to the
+// first fault.
 fn action_by(alloc: Global, word: &str, message: &Value) -> Result<Action<Global>, Fault>
     ensures { Gives result (action_by word.now (view message.now)) }
 {
-    match word {
-        "create" => create_of(alloc, message),
-        "retag" => retag_of(alloc, message),
-        "move" => move_of(alloc, message),
-        "reverse" => Ok(Action::Reverse {
-            name: el_of(message)?,
-        }),
-        "nodes" => relist_way_of(alloc, message),
-        "members" => relist_relation_of(alloc, message),
-        "delete" => Ok(Action::Delete {
-            name: el_of(message)?,
-        }),
-        "purge" => Ok(Action::Purge {
-            name: el_of(message)?,
-        }),
-        "split" => split_of(message),
-        "join" => join_of(message),
-        "merge" => merge_of(message),
-        _ => Err(Fault::UnknownDo),
-    }
-}
-
-// The action of a `create`.
-fn create_of(alloc: Global, message: &Value) -> Result<Action<Global>, Fault>
-    ensures { Gives result (create_at (view message.now)) }
-{
-    let name = el_of(message)?;
-    let element = element_of(alloc, name.kind(), message)?;
-    Ok(Action::Create { name, element })
-}
-
-// The action of a `retag`.
-fn retag_of(alloc: Global, message: &Value) -> Result<Action<Global>, Fault>
-    ensures { Gives result (retag_at (view message.now)) }
-{
-    let name = el_of(message)?;
-    let tags = gifts_of(alloc, message)?;
-    Ok(Action::Retag { name, tags })
-}
-
-// The action of a `move`.
-fn move_of(alloc: Global, message: &Value) -> Result<Action<Global>, Fault>
-    ensures { Gives result (move_at (view message.now)) }
-{
-    let names = els_of(alloc, message)?;
-    let dlat = distance_of(message, Field::Dlat)?;
-    let dlon = distance_of(message, Field::Dlon)?;
-    Ok(Action::Move { names, dlat, dlon })
-}
-
-// The action of `nodes`.
-fn relist_way_of(alloc: Global, message: &Value) -> Result<Action<Global>, Fault>
-    ensures { Gives result (relist_way_at (view message.now)) }
-{
-    let name = el_of(message)?;
-    let list = nodes_of(alloc, message)?;
-    Ok(Action::Nodes { name, list })
-}
-
-// The action of `members`.
-fn relist_relation_of(alloc: Global, message: &Value) -> Result<Action<Global>, Fault>
-    ensures { Gives result (relist_relation_at (view message.now)) }
-{
-    let name = el_of(message)?;
-    let list = members_of(alloc, message)?;
-    Ok(Action::Members { name, list })
-}
-
-// The action of a `split`.
-fn split_of(message: &Value) -> Result<Action<Global>, Fault>
-    ensures { result ≡ split_at (view message.now) }
-{
-    let name = el_of(message)?;
-    let place = place_at(message)?;
-    let into = name_at(message, Field::Into)?;
-    Ok(Action::Split { name, place, into })
-}
-
-// The action of a `join`.
-fn join_of(message: &Value) -> Result<Action<Global>, Fault>
-    ensures { result ≡ join_at (view message.now) }
-{
-    let name = el_of(message)?;
-    let other = name_at(message, Field::With)?;
-    Ok(Action::Join { name, other })
-}
-
-// The action of a `merge`.
-fn merge_of(message: &Value) -> Result<Action<Global>, Fault>
-    ensures { result ≡ merge_at (view message.now) }
-{
-    let name = el_of(message)?;
-    let other = name_at(message, Field::With)?;
-    Ok(Action::Merge { name, other })
+    each_action!(read_by(alloc, word, message))
 }
 
 // The element of a `create`, by the kind of its name.

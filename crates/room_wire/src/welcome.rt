@@ -1,6 +1,7 @@
 //! The welcome to a hello.
-ghost use Rattle.std.specs.Prelude.{◌≡◌, ◌<◌, length, IfErr};
+ghost use Rattle.std.specs.Prelude.{◌≡◌, ◌<◌, length, IfErr, IfOk};
 ghost use Rattle.serde_json.specs.View.{view};
+ghost use Rattle.osm_elements.specs.Rows.{AreInOrder};
 ghost use Rattle.room_wire.specs.declared.bad.Fault.TheVariants.{Memory};
 ghost use Rattle.room_wire.specs.Reading.{Gives, GivesUnder};
 ghost use Rattle.room_wire.specs.Welcomes.{count_at, count_of, map_at, spells_welcome, told_at, welcomed};
@@ -41,6 +42,8 @@ pub struct Welcome {
 pub fn read_welcome(alloc: Global, text: &str) -> Result<Welcome, Bad>
     ensures exact { GivesUnder (λ w. w.id) result (spells_welcome text.now) }
     ensures memory { IfErr result (λ bad. bad.fault ≡ Memory → 0 < length text.now) }
+    // A mirror can be made of them.
+    ensures in_order { IfOk result (λ w. AreInOrder w.rows) }
 {
     let reply = parse(alloc, text).map_err(Bad::unread)?;
     let id = id_of(&reply).map_err(Bad::unread)?;
@@ -49,7 +52,8 @@ pub fn read_welcome(alloc: Global, text: &str) -> Result<Welcome, Bad>
 
 // The welcome of a reply, under its id.
 fn welcomed(alloc: Global, id: u64, reply: &Value) -> Result<Welcome, Bad>
-    ensures { GivesUnder (λ w. w.id) result (welcomed id (told_at (view reply.now))) }
+    ensures exact { GivesUnder (λ w. w.id) result (welcomed id (told_at (view reply.now))) }
+    ensures in_order { IfOk result (λ w. AreInOrder w.rows) }
 {
     match told_of(alloc, reply) {
         Ok((rows, seq)) => Ok(Welcome { id, seq, rows }),
@@ -59,7 +63,8 @@ fn welcomed(alloc: Global, id: u64, reply: &Value) -> Result<Welcome, Bad>
 
 // The elements and the number that a reply tells.
 fn told_of(alloc: Global, reply: &Value) -> Result<(Rows<Global>, u64), Fault>
-    ensures { Gives result (told_at (view reply.now)) }
+    ensures exact { Gives result (told_at (view reply.now)) }
+    ensures in_order { IfOk result (λ told. AreInOrder told.0) }
 {
     let told = object_at(reply, Field::Ok)?;
     let rows = map_of(alloc, told)?;
@@ -68,8 +73,10 @@ fn told_of(alloc: Global, reply: &Value) -> Result<(Rows<Global>, u64), Fault>
 }
 
 // The elements of a map.
+#[tactic(auto, using(crate::proofs::RowsInOrder::rising_is_in_order))]
 fn map_of(alloc: Global, told: &Value) -> Result<Rows<Global>, Fault>
-    ensures { Gives result (map_at (view told.now)) }
+    ensures exact { Gives result (map_at (view told.now)) }
+    ensures in_order { IfOk result (λ rows. AreInOrder rows) }
 {
     let rows = rows_of::<Row<Global>>(alloc, Field::Map, told)?;
     Ok(Rows::from_vec(rows))

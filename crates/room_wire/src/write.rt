@@ -1,17 +1,18 @@
 //! The texts of replies.
-ghost use Rattle.std.specs.Prelude.{◌≡◌, Some, IfOk};
+ghost use Rattle.std.specs.Prelude.{◌≡◌, Some, false, IfOk};
 ghost use Rattle.serde_json.specs.Read.{read};
 ghost use Rattle.serde_json.specs.View.{view};
 ghost use Rattle.serde_json.specs.Written.{compact_text};
+ghost use Rattle.room_wire.specs.Inner.Maps.{is_map};
 ghost use Rattle.room_wire.specs.Trees.{tree_of, numbers_tree, ok_tree, no_tree, bare, about};
 
 use crate::answer::Answer;
-use crate::element::{element_tree, name_tree, rows_tree};
+use crate::element::{element_tree, name_tree};
 use crate::field::Field;
-use crate::json::Json;
+use crate::json_text::Json;
+use crate::write_map::rows_text;
 use osm_elements::Memory;
 use osm_elements::element::Element;
-use osm_elements::map::Rows;
 use osm_elements::name::Name;
 use osm_elements::text::Text;
 use serde_json::{Value, json};
@@ -47,28 +48,33 @@ use std::alloc::Global;
 /// `{"el":NAME,"nodes":[ID,..],"tags":{..}}`, and a relation is
 /// `{"el":NAME,"members":[[NAME,ROLE],..],"tags":{..}}` (OpenStreetMap wiki, "Elements").
 ///
-/// The one refusal is `Memory`. The time is that of the reply's length, but for the sorting of keys.
+/// The one refusal is `Memory`. The time is that of the reply's length, but for the sorting of keys. A map is written row by
+/// row: no tree but that of one row is held.
 #[tactic(auto, using(crate::proofs::NoFloats::tree_has_no_float, crate::proofs::Shallow::tree_is_shallow))]
 pub fn reply_text(alloc: Global, id: u64, answer: &Answer<'_>) -> Result<Json, Memory>
     ensures text { IfOk result (λ json. json ≡ compact_text (tree_of id answer.now)) }
     // Any reader of JSON finds the tree in it.
     ensures reads_back { IfOk result (λ json. read json ≡ Some (tree_of id answer.now)) }
 {
+    if let Answer::Map { rows, front } = *answer {
+        return rows_text(alloc, id, rows, front);
+    }
     let reply = reply_tree(alloc, id, answer)?;
     let text = reply.to_string(alloc)?;
     Ok(Json::from_string(text))
 }
 
-// The tree of the reply.
+// The tree of a reply. That of a map is not made: its text is written row by row.
 fn reply_tree(alloc: Global, id: u64, answer: &Answer<'_>) -> Result<Value, Memory>
+    requires { is_map answer.now ≡ false }
     ensures { IfOk result (λ v. view v ≡ tree_of id answer.now) }
 {
     match *answer {
+        Answer::Map { .. } => unreachable!(),
         Answer::Done { seq } => done(alloc, id, seq),
         Answer::Undid { seq, of } => undid(alloc, id, seq, of),
         Answer::Redid { seq, of } => redid(alloc, id, seq, of),
         Answer::Is { name, element } => is(alloc, id, name, element),
-        Answer::Map { rows, front } => whole_map(alloc, id, rows, front),
         Answer::Undos { undos, redos } => both_lists(alloc, id, undos, redos),
         Answer::Absent(name) => about(alloc, id, name, "absent"),
         Answer::Present(name) => about(alloc, id, name, "present"),
@@ -151,13 +157,6 @@ fn is(alloc: Global, id: u64, name: Name, element: &Element<Global>) -> Result<V
 {
     let element = element_tree(alloc, name, element)?;
     answered(alloc, id, json!(in alloc; {"is": element})?)
-}
-
-fn whole_map(alloc: Global, id: u64, rows: &Rows<Global>, front: u64) -> Result<Value, Memory>
-    ensures { IfOk result (λ v. view v ≡ tree_of id (Answer.Map rows.entry front)) }
-{
-    let rows = rows_tree(alloc, rows)?;
-    answered(alloc, id, json!(in alloc; {"map": rows, "seq": front})?)
 }
 
 fn both_lists(alloc: Global, id: u64, undos: &[u64], redos: &[u64]) -> Result<Value, Memory>

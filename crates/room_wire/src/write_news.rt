@@ -8,7 +8,7 @@ ghost use Rattle.room_wire.specs.Welcomes.{welcome_tree};
 
 use crate::answer::Answer;
 use crate::element::{element_tree, name_tree};
-use crate::json::Json;
+use crate::json_text::Json;
 use crate::welcome::Welcome;
 use crate::write::reply_text;
 use osm_elements::Memory;

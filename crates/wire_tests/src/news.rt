@@ -1,6 +1,6 @@
 //! News, read of a text and written.
 use room_wire::answer::Answer;
-use room_wire::json::Json;
+use room_wire::json_text::Json;
 use room_wire::{news_text, read_news, reply_text};
 use std::alloc::{AllocError, Global};
 use std::process::Abort;

@@ -16,8 +16,8 @@ loop-tag-preserved c =
     let put_is = c.in_ok-put.ensures.ok ∙ ap₂ (λ k d. put k d (members_view l.members.entries)) c.as_str-in-loop-tag.ensures.value value ∙ ap (put tag.key (string tag.value)) l.invariant in
     put_is ∙ put_next c.rows-tag-items.result.now c.args.tags.now l.tag-index tag (omega arith) c.tag-item.is c.rows-tag-items.ensures.rows c.rows-tag-items.ensures.sound
 
-pub returns : goal.returns
-returns c =
+pub returns-clause-tree : goal.returns-clause-tree
+returns-clause-tree c =
     let l = c.loop-tag in
     let whole : take l.tag-index c.rows-tag-items.result.now ≡ c.rows-tag-items.result.now = take_all l.tag-index c.rows-tag-items.result.now (omega arith) in
     view-Object l.members ∙ ap object (l.invariant ∙ ap (λ ys. tag_members (map tag_pair ys)) whole ∙ ap tag_members c.rows-tag-items.ensures.rows)

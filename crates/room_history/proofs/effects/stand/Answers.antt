@@ -1,7 +1,7 @@
 use Rattle.std.proofs.Common.{ap, ◌∙◌}
 use Rattle.edit_footprint.specs.Holding.{without}
 use Rattle.room_history.proofs.HeldEntries.{fallen_again}
-use Rattle.room_history.proofs.room.stand.Goals as goal
+use Rattle.room_history.proofs.effects.stand.Goals as goal
 
 pub returns-in-Err-clause-err : goal.returns-in-Err-clause-err
 returns-in-Err-clause-err g c = (

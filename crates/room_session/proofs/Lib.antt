@@ -1,0 +1,3 @@
+pub mod CatchingUp
+pub mod Coming
+pub mod Told

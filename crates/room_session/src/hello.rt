@@ -1,0 +1,107 @@
+//! How a session begins.
+ghost use Rattle.std.specs.Prelude.{◌≡◌, [], ◌∷◌, IfOk, Result};
+ghost use Rattle.room_session.specs.Events.{only, Begins, BeginsBy, Greets, Refuses, Welcomes};
+ghost use Rattle.room_session.specs.Replies.{text_of};
+ghost use Rattle.room_session.specs.Rooms.{KeepsKnown, IsRoom};
+ghost use Rattle.room_session.specs.Running.{IsRunOn};
+ghost use Rattle.room_wire.specs.declared.bad.Bad.{Bad};
+ghost use Rattle.room_wire.specs.declared.incoming.Incoming.{Incoming};
+ghost use Rattle.room_wire.specs.Reading.{GivesMessage};
+ghost use Rattle.room_wire.specs.Spelling.{spells};
+
+use crate::next::Next;
+use crate::rooms::Rooms;
+use crate::sent::Texts;
+use crate::session::State;
+use osm_elements::Memory;
+use room_history::ask::{RoomCall, RoomReply};
+use room_stacks::author::Author;
+use room_wire::answer::Answer;
+use room_wire::incoming::{Body, Incoming};
+use room_wire::{read_request, reply_text};
+use std::alloc::Global;
+use std::sync::Wait;
+
+// What comes of a text before a hello.
+pub(crate) fn greet<R: Rooms, W: Wait>(
+    alloc: Global,
+    rt: &W,
+    rooms: &mut R,
+    text: &str,
+) -> Result<Next, Memory>
+    ensures ok { IfOk result (λ next. (said : Result Incoming Bad) × GivesMessage said (spells text.now) × Begins (R.known rooms.old) (only next.texts) next.state (R.known rooms.new) said) }
+    ensures keeps { KeepsKnown (R.known rooms.old) (R.known rooms.new) }
+    ensures runs { IfOk result (λ next. IsRunOn next.state (R.known rooms.new)) }
+{
+    match read_request(alloc, text) {
+        Ok(message) => begin(alloc, rt, rooms, message),
+        Err(bad) => refuse(alloc, bad.id, &Answer::from(bad.fault)),
+    }
+}
+
+// What comes of a message before a hello.
+fn begin<R: Rooms, W: Wait>(
+    alloc: Global,
+    rt: &W,
+    rooms: &mut R,
+    message: Incoming,
+) -> Result<Next, Memory>
+    ensures ok { IfOk result (λ next. BeginsBy (R.known rooms.old) (only next.texts) next.state (R.known rooms.new) message.id message.body) }
+    ensures keeps { KeepsKnown (R.known rooms.old) (R.known rooms.new) }
+    ensures runs { IfOk result (λ next. IsRunOn next.state (R.known rooms.new)) }
+{
+    let id = message.id;
+    match &message.body {
+        Body::Hello { room, name } => match rooms.find(room.as_str()) {
+            Some(room) => welcome(alloc, rt, rooms, id, room, *name),
+            None => refuse(alloc, id, &Answer::NoRoom),
+        },
+        Body::Change(_) | Body::Get(_) | Body::Map | Body::Undos => {
+            refuse(alloc, id, &Answer::NoHello)
+        }
+    }
+}
+
+// What comes of a hello to the room at this place.
+fn welcome<R: Rooms, W: Wait>(
+    alloc: Global,
+    rt: &W,
+    rooms: &mut R,
+    id: u64,
+    room: usize,
+    author: Author,
+) -> Result<Next, Memory>
+    requires { IsRoom (R.known rooms.old) room }
+    ensures ok { IfOk result (λ next. Greets (R.known rooms.old) (only next.texts) next.state (R.known rooms.new) id author (Some room)) }
+    ensures keeps { KeepsKnown (R.known rooms.old) (R.known rooms.new) }
+    ensures runs { IfOk result (λ next. IsRunOn next.state (R.known rooms.new)) }
+{
+    match rooms.turn(rt, room, RoomCall::Rows) {
+        RoomReply::Rows(Ok((front, rows))) => {
+            let rows = &rows;
+            let texts = one(alloc, id, &Answer::Map { rows, front })?;
+            let told = front;
+            let state = State::Open { room, author, told };
+            Ok(Next { texts, state })
+        }
+        _ => refuse(alloc, id, &Answer::Memory),
+    }
+}
+
+// An answer goes out, and the session has not begun.
+fn refuse(alloc: Global, id: u64, answer: &Answer<'_>) -> Result<Next, Memory>
+    ensures { IfOk result (λ next. Refuses (only next.texts) next.state (text_of id answer.now)) }
+{
+    let texts = one(alloc, id, answer)?;
+    let state = State::BeforeHello;
+    Ok(Next { texts, state })
+}
+
+// The text of an answer alone.
+fn one(alloc: Global, id: u64, answer: &Answer<'_>) -> Result<Texts, Memory>
+    ensures { IfOk result (λ texts. texts ≡ text_of id answer.now ∷ []) }
+{
+    let mut texts = Texts::empty(alloc);
+    texts.push(reply_text(alloc, id, answer)?)?;
+    Ok(texts)
+}

@@ -1,0 +1,105 @@
+//! News to a client.
+ghost use Rattle.std.specs.Prelude.{◌≡◌, ◌≤◌, ◌++◌, [], IfOk, OnOk, length};
+ghost use Rattle.room_session.specs.Events.{only, CatchesUp};
+ghost use Rattle.room_session.specs.Inner.LastTold.{last_told};
+ghost use Rattle.room_session.specs.Inner.Telling.{Tells};
+ghost use Rattle.room_session.specs.Replies.{news_texts};
+ghost use Rattle.room_session.specs.Rooms.{KeepsKnown, IsRoom};
+ghost use Rattle.room_session.specs.Running.{IsRunOn};
+
+use crate::next::Next;
+use crate::rooms::Rooms;
+use crate::sent::Texts;
+use crate::session::State;
+use osm_elements::Memory;
+use room_history::ask::{RoomCall, RoomReply};
+use room_history::news::News;
+use room_stacks::author::Author;
+use room_wire::news_text;
+use std::alloc::Global;
+use std::sync::Wait;
+
+// The news of an open session alone.
+pub(crate) fn news_alone<R: Rooms, W: Wait>(
+    alloc: Global,
+    rt: &W,
+    rooms: &mut R,
+    room: usize,
+    author: Author,
+    told: u64,
+) -> Result<Next, Memory>
+    requires room { IsRoom (R.known rooms.old) room }
+    requires told { told ≤ length ((R.known rooms.old).seen room) }
+    ensures ok { IfOk result (λ next. CatchesUp (R.known rooms.old) (only next.texts) next.state (R.known rooms.new) room author told []) }
+    ensures keeps { KeepsKnown (R.known rooms.old) (R.known rooms.new) }
+    ensures runs { IfOk result (λ next. IsRunOn next.state (R.known rooms.new)) }
+{
+    catch_up(alloc, rt, rooms, room, author, told, Texts::empty(alloc))
+}
+
+// The texts, and after them the news of all that has come to the room past the entry that was told last.
+pub(crate) fn catch_up<R: Rooms, W: Wait>(
+    alloc: Global,
+    rt: &W,
+    rooms: &mut R,
+    room: usize,
+    author: Author,
+    told: u64,
+    mut texts: Texts,
+) -> Result<Next, Memory>
+    requires room { IsRoom (R.known rooms.old) room }
+    requires told { told ≤ length ((R.known rooms.old).seen room) }
+    ensures ok { IfOk result (λ next. CatchesUp (R.known rooms.old) (only next.texts) next.state (R.known rooms.new) room author told texts) }
+    ensures keeps { KeepsKnown (R.known rooms.old) (R.known rooms.new) }
+    ensures runs { IfOk result (λ next. IsRunOn next.state (R.known rooms.new)) }
+{
+    let told = tell(alloc, rt, rooms, room, told, &mut texts)?;
+    let state = State::Open { room, author, told };
+    Ok(Next { texts, state })
+}
+
+// Adds the news of all that has come to the room past the entry that was told last, and gives the number of the last entry.
+fn tell<R: Rooms, W: Wait>(
+    alloc: Global,
+    rt: &W,
+    rooms: &mut R,
+    room: usize,
+    told: u64,
+    texts: &mut Texts,
+) -> Result<u64, Memory>
+    requires room { IsRoom (R.known rooms.old) room }
+    requires told { told ≤ length ((R.known rooms.old).seen room) }
+    ensures ok { IfOk result (λ front. Tells (R.known rooms.old) room told texts.old texts.new front (R.known rooms.new)) }
+    ensures keeps { KeepsKnown (R.known rooms.old) (R.known rooms.new) }
+{
+    if rooms.front(room) <= told {
+        return Ok(told);
+    }
+    match rooms.turn(rt, room, RoomCall::News(told)) {
+        RoomReply::News(Ok(news)) => {
+            add(alloc, texts, news.as_slice())?;
+            Ok(last_number(news.as_slice(), told))
+        }
+        _ => Err(Memory),
+    }
+}
+
+// Adds the text of each of the news.
+fn add(alloc: Global, texts: &mut Texts, news: &[News<Global>]) -> Result<(), Memory>
+    ensures { OnOk result (texts.new ≡ texts.old ++ news_texts news.now) }
+{
+    for one in news {
+        texts.push(news_text(alloc, one)?)?;
+    }
+    Ok(())
+}
+
+// The number of the last news, or the one before them where there are none.
+fn last_number(news: &[News<Global>], before: u64) -> u64
+    ensures { result ≡ last_told before news.now }
+{
+    match news.last() {
+        Some(last) => last.seq,
+        None => before,
+    }
+}

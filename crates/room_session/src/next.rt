@@ -1,0 +1,10 @@
+//! What comes of an event where there was memory for it.
+use crate::sent::Texts;
+use crate::session::State;
+
+// The texts that go out, and the state after them.
+#[derive(Debug, Drop)]
+pub(crate) struct Next {
+    pub texts: Texts,
+    pub state: State,
+}

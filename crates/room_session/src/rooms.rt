@@ -1,0 +1,27 @@
+//! What a session asks of the rooms.
+ghost use Rattle.std.specs.Prelude.{◌≡◌};
+ghost use Rattle.room_session.specs.Rooms.{Known, IsRoom, Answers, Looks};
+
+use room_history::ask::{RoomCall, RoomReply};
+use std::alloc::Global;
+use std::sync::Wait;
+
+/// Rooms that have names. A room is asked in turns, which it takes with those who ask it elsewhere.
+pub trait Rooms {
+    // what is known of them
+    ghost known: { Self → Known };
+
+    /// Where the room of this name stands, or none where there is no such room.
+    fn find(&self, name: &str) -> Option<usize>
+        ensures { result ≡ (known self.now).place name.now };
+
+    /// Waits for a turn at a room and asks it.
+    fn turn<W: Wait>(&mut self, rt: &W, room: usize, call: RoomCall<Global>) -> RoomReply<Global>
+        requires { IsRoom (known self.old) room }
+        ensures { Answers (known self.old) room call result (known self.new) };
+
+    /// How many entries a room has. It waits for nobody.
+    fn front(&mut self, room: usize) -> u64
+        requires { IsRoom (known self.old) room }
+        ensures { Looks (known self.old) room result (known self.new) };
+}
