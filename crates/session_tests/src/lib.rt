@@ -1,5 +1,7 @@
-//! Tests of sessions over one room.
+//! Tests of sessions over one room, and such a room.
 #![tactic(auto)]
+
+pub mod named_room;
 
 #[cfg(test)]
 mod beginnings;
@@ -7,8 +9,6 @@ mod beginnings;
 mod closings;
 #[cfg(test)]
 mod mirrors;
-#[cfg(test)]
-mod named_room;
 #[cfg(test)]
 mod said;
 #[cfg(test)]
