@@ -1,11 +1,12 @@
-//! Rooms: a call whose growth is refused leaves the room as it was, and is answered once there is memory.
+//! Rooms: a run of calls and what a room is asked, which the program does not reach. (Each growth of a call that it does reach
+//! is refused by tests/growths.)
 use crate::map::node;
 use edit_actions::action::Action;
 use osm_elements::name::{Kind, Name};
 use refusing::Refusing;
 use room_history::ask::{RoomCall, RoomReply};
 use room_history::call::{Call, Calls, Request};
-use room_history::reply::{Replies, Reply};
+use room_history::reply::Replies;
 use room_history::room::Room;
 use room_history::run::run;
 use room_stacks::author::Author;
@@ -73,57 +74,6 @@ fn told<'a>(heap: Heap<'a>, room: &Room<Heap<'a>>) -> Result<String<Heap<'a>>, F
         all.push_str(entry.as_str())?;
     }
     Ok(all)
-}
-
-// Takes the call of a step where only so many growths are granted.
-fn reply_within<'a>(
-    heap: Heap<'a>,
-    room: &mut Room<Heap<'a>>,
-    step: usize,
-    growths: u64,
-) -> Result<Reply<Heap<'a>>, Fail> {
-    let call = call(heap, step)?;
-    heap.set(growths);
-    let reply = room.take(call);
-    heap.set(u64::MAX);
-    Ok(reply)
-}
-
-// Refuses each growth of a step in turn, until it is answered, and gives how many were refused.
-fn refuse_step<'a>(
-    rt: &impl Abort,
-    heap: Heap<'a>,
-    room: &mut Room<Heap<'a>>,
-    step: usize,
-    answer: &str,
-) -> Result<u64, Fail> {
-    let before = told(heap, room)?;
-    for growths in 0..40u64 {
-        let reply = reply_within(heap, room, step, growths)?;
-        if !matches!(reply, Reply::Memory) {
-            let reply = format!(in heap; "{reply:?}")?;
-            assert_eq!(rt; reply.as_str(), answer, "step {step}");
-            return Ok(growths);
-        }
-        let after = told(heap, room)?;
-        assert_eq!(rt;
-            after.as_str(),
-            before.as_str(),
-            "step {step}, at growth {growths}"
-        );
-    }
-    Err("never with memory".into())
-}
-
-#[test]
-fn take_refuses_each_growth(rt: HostRuntime) -> Result<(), Fail> {
-    let heap = Refusing::new(rt.alloc(), u64::MAX);
-    let mut room = Room::open(&heap, 6);
-    for (step, answer) in ANSWERS.iter().enumerate() {
-        let refused = refuse_step(&rt, &heap, &mut room, step, answer)?;
-        assert!(rt; refused > 0, "step {step}: no growth was refused");
-    }
-    Ok(())
 }
 
 // With ample memory a run answers each call.
