@@ -1,0 +1,39 @@
+//! Changes applied to a store.
+ghost use Rattle.std.specs.Prelude.{IfOk};
+ghost use Rattle.part_lines.specs.Applying.{MayApply};
+
+use edit_actions::action::Action;
+use edit_actions::plan::plan;
+use edit_simple::refusal::Refusal;
+use osm_changes::changes::Changes;
+use osm_changes::laws::an_inverse_restores;
+use osm_changes::store::Store;
+use osm_elements::Memory;
+use std::alloc::Global;
+
+/// The plan of an action, whose changes may be applied to the store.
+pub fn plan_of(
+    alloc: Global,
+    store: &Store<Global>,
+    action: &Action<Global>,
+) -> Result<Changes<Global>, Refusal<Global>>
+    ensures { IfOk result (λ cs. MayApply store.now.rows cs) }
+{
+    plan(alloc, store, action)
+}
+
+/// Applies changes, and answers those that take them back.
+pub fn apply(
+    alloc: Global,
+    store: &mut Store<Global>,
+    changes: Changes<Global>,
+) -> Result<Changes<Global>, Memory>
+    requires { MayApply store.old.rows changes }
+    ensures { IfOk result (λ back. MayApply store.new.rows back) }
+{
+    an_inverse_restores::<Global>();
+    let _ = changes.rows();
+    let _ = store.map();
+    store.apply(alloc, &changes)?;
+    Ok(changes.inverse())
+}

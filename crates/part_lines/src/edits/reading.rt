@@ -1,0 +1,95 @@
+//! Elements and actions from texts.
+use crate::edits::parts::{members, name, names, nodes, pair, retag, tags};
+use crate::edits::unread::Unread;
+use edit_actions::action::Action;
+use osm_coords::{Lat, Lon};
+use osm_elements::element::Element;
+use osm_elements::name::{Kind, Name};
+use osm_elements::names::Names;
+use std::alloc::Global;
+
+/// The element of a kind that some words write.
+pub fn element(alloc: Global, kind: Kind, words: &str) -> Result<Element<Global>, Unread> {
+    let tags = tags(alloc, words)?;
+    match kind {
+        Kind::Node => {
+            let (lat, lon) = pair(words)?;
+            let lat = Lat::new(coordinate(lat)?).ok_or(Unread::NoEdit)?;
+            let lon = Lon::new(coordinate(lon)?).ok_or(Unread::NoEdit)?;
+            Ok(Element::Node { lat, lon, tags })
+        }
+        Kind::Way => {
+            let nodes = nodes(alloc, words)?;
+            Ok(Element::Way { nodes, tags })
+        }
+        Kind::Relation => {
+            let members = members(alloc, words)?;
+            Ok(Element::Relation { members, tags })
+        }
+    }
+}
+
+// The value of a coordinate.
+fn coordinate(value: i64) -> Result<i32, Unread> {
+    i32::try_from(value).map_err(|_| Unread::NoEdit)
+}
+
+/// The action that a text writes. A move is written `move 7,-8 n1 w1`, a split `split w1 1 w2`.
+pub fn action(alloc: Global, text: &str) -> Result<Action<Global>, Unread> {
+    let (word, rest) = text.split_once(' ').ok_or(Unread::NoEdit)?;
+    if word == "move" {
+        let (dlat, dlon) = pair(rest)?;
+        let names = Names::from_vec(names(alloc, rest)?);
+        return Ok(Action::Move { names, dlat, dlon });
+    }
+    let (first, rest) = rest.split_once(' ').unwrap_or((rest, ""));
+    named_action(alloc, word, name(first)?, rest)
+}
+
+// The action on one name that a word, the name and further words write.
+fn named_action(
+    alloc: Global,
+    word: &str,
+    name: Name,
+    rest: &str,
+) -> Result<Action<Global>, Unread> {
+    match word {
+        "create" => {
+            let element = element(alloc, name.kind(), rest)?;
+            Ok(Action::Create { name, element })
+        }
+        "retag" => {
+            let tags = retag(alloc, rest)?;
+            Ok(Action::Retag { name, tags })
+        }
+        "reverse" => Ok(Action::Reverse { name }),
+        "nodes" => {
+            let list = nodes(alloc, rest)?;
+            Ok(Action::Nodes { name, list })
+        }
+        "members" => {
+            let list = members(alloc, rest)?;
+            Ok(Action::Members { name, list })
+        }
+        "delete" => Ok(Action::Delete { name }),
+        "purge" => Ok(Action::Purge { name }),
+        "split" => split(name, rest),
+        "join" => Ok(Action::Join {
+            name,
+            other: crate::edits::parts::name(rest)?,
+        }),
+        "merge" => Ok(Action::Merge {
+            name,
+            other: crate::edits::parts::name(rest)?,
+        }),
+        _ => Err(Unread::NoEdit),
+    }
+}
+
+// The split of a way at a position into another, which some words write.
+fn split(name: Name, words: &str) -> Result<Action<Global>, Unread> {
+    let (place, into) = words.split_once(' ').ok_or(Unread::NoEdit)?;
+    let place = place.parse::<u32>().map_err(|_| Unread::NoEdit)?;
+    let into = crate::edits::parts::name(into)?;
+    Ok(Action::Split { name, place, into })
+}

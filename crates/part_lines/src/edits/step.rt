@@ -1,0 +1,102 @@
+//! An edit: planned, applied, taken back and applied again.
+ghost use Rattle.std.specs.Prelude.{IfOk};
+ghost use Rattle.part_lines.specs.Applying.{MayApply};
+
+use crate::edits::applying::{apply, plan_of};
+use crate::edits::outcome::Outcome;
+use crate::edits::reading::action;
+use crate::edits::shown::{changes_shown, names_shown, store_shown};
+use crate::edits::unread::Unread;
+use edit_actions::action::Action;
+use edit_footprint::touching::footprint;
+use osm_changes::changes::Changes;
+use osm_changes::store::Store;
+use std::alloc::Global;
+
+/// Does an edit that a text writes; or only plans it, where `plan` stands before it. Where it is refused, and where it is only
+/// planned, the store is as it was.
+pub fn step(alloc: Global, store: &mut Store<Global>, line: &str) -> Result<Outcome, Unread> {
+    let (text, is_done) = match line.strip_prefix("plan ") {
+        Some(text) => (text, false),
+        None => (line, true),
+    };
+    let action = action(alloc, text)?.copy()?;
+    match plan_of(alloc, store, &action) {
+        Ok(changes) if is_done => done(alloc, store, &action, changes),
+        Ok(changes) => planned(alloc, &action, &changes),
+        Err(refusal) => Ok(Outcome::Refused(refusal)),
+    }
+}
+
+// Tells what an action would change.
+fn planned(
+    alloc: Global,
+    action: &Action<Global>,
+    changes: &Changes<Global>,
+) -> Result<Outcome, Unread> {
+    Ok(Outcome::Planned {
+        changes: changes_shown(alloc, changes.copy()?.rows())?,
+        touched: touched(alloc, action, changes)?,
+    })
+}
+
+// Applies the changes of an action, and tells all of it.
+fn done(
+    alloc: Global,
+    store: &mut Store<Global>,
+    action: &Action<Global>,
+    changes: Changes<Global>,
+) -> Result<Outcome, Unread>
+    requires { MayApply store.old.rows changes }
+{
+    let touched = touched(alloc, action, &changes)?;
+    let shown = changes_shown(alloc, changes.copy()?.rows())?;
+    let before = store_shown(alloc, store)?;
+    let back = apply(alloc, store, changes)?;
+    let map = store_shown(alloc, &store.copy()?)?;
+    match there_again(alloc, store, back, before.as_str(), map.as_str())? {
+        Some(astray) => Ok(astray),
+        None => Ok(Outcome::Done {
+            changes: shown,
+            touched,
+            map,
+        }),
+    }
+}
+
+// The names that an action touches.
+fn touched(
+    alloc: Global,
+    action: &Action<Global>,
+    changes: &Changes<Global>,
+) -> Result<String, Unread> {
+    let touched = footprint(alloc, action, changes)?.copy()?;
+    Ok(names_shown(alloc, touched.names())?)
+}
+
+// Takes changes back and applies them again, and tells where that did not lead to the map before them and to that after them.
+fn there_again(
+    alloc: Global,
+    store: &mut Store<Global>,
+    back: Changes<Global>,
+    before: &str,
+    after: &str,
+) -> Result<Option<Outcome>, Unread>
+    requires { MayApply store.old.rows back }
+{
+    let forth = apply(alloc, store, back)?;
+    let first = astray(alloc, store, before)?;
+    let _ = apply(alloc, store, forth)?;
+    let second = astray(alloc, store, after)?;
+    Ok(first.or(second))
+}
+
+// Tells where a store is not shown as it should be.
+fn astray(alloc: Global, store: &Store<Global>, wanted: &str) -> Result<Option<Outcome>, Unread> {
+    let found = store_shown(alloc, store)?;
+    if found.as_str() == wanted {
+        return Ok(None);
+    }
+    let wanted = String::from_str(alloc, wanted)?;
+    Ok(Some(Outcome::Astray { wanted, found }))
+}

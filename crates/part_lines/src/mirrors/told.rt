@@ -1,0 +1,101 @@
+//! What is told for a line.
+use crate::mirrors::line::{Line, read};
+use osm_elements::Memory;
+use room_mirror::fault::MirrorFault;
+use room_mirror::mirror::Mirror;
+use room_wire::bad::Bad;
+use room_wire::json_text::Json;
+use room_wire::welcome::Welcome;
+use room_wire::{read_news, read_welcome, welcome_text};
+use std::alloc::Global;
+use std::fmt::{self, Display, Formatter};
+use thiserror::Error;
+
+// The id under which a map is told.
+const ID: u64 = 1;
+
+/// What is told of a mirror.
+#[derive(Debug, Drop)]
+pub enum Told {
+    /// The number of its last entry.
+    Number(u64),
+    /// Its map, as a room tells it.
+    Map(Json),
+}
+
+impl Display for Told {
+    fn fmt<W: fmt::Write>(&self, f: &mut Formatter<W>) -> fmt::Result {
+        match self {
+            Told::Number(seq) => write!(f, "{seq}"),
+            Told::Map(text) => f.write_str(text.as_str()),
+        }
+    }
+}
+
+/// Why a line did nothing.
+#[derive(Debug, Drop, Error)]
+pub enum Refused {
+    /// The line says nothing known.
+    #[error("the line says nothing known")]
+    Unknown,
+    /// There was no welcome yet.
+    #[error("there is no mirror")]
+    NoMirror,
+    /// The text is not what it should be.
+    #[error("{0}")]
+    Text(Bad),
+    /// The mirror did not take the news.
+    #[error("{0}")]
+    News(MirrorFault),
+    /// A growth was refused.
+    #[error("out of memory")]
+    Memory,
+}
+
+impl From<Memory> for Refused {
+    fn from(_memory: Memory) -> Refused {
+        Refused::Memory
+    }
+}
+
+/// Hands a mirror what a line says, and gives what is told for it. After a refusal the mirror is as it was.
+pub fn tell(
+    alloc: Global,
+    mirror: &mut Option<Mirror<Global>>,
+    line: &str,
+) -> Result<Told, Refused> {
+    match read(line) {
+        Some(Line::Welcome(text)) => {
+            let made = made(alloc, text)?;
+            let seq = made.seq();
+            *mirror = Some(made);
+            Ok(Told::Number(seq))
+        }
+        Some(Line::News(text)) => take(alloc, mirror.as_mut().ok_or(Refused::NoMirror)?, text),
+        Some(Line::Map) => map(alloc, mirror.as_ref().ok_or(Refused::NoMirror)?),
+        None => Err(Refused::Unknown),
+    }
+}
+
+// The mirror that the text of a welcome makes.
+fn made(alloc: Global, text: &str) -> Result<Mirror<Global>, Refused> {
+    let welcome = read_welcome(alloc, text).map_err(Refused::Text)?;
+    Ok(Mirror::from_welcome(alloc, welcome)?)
+}
+
+// Hands a mirror the text of news.
+fn take(alloc: Global, mirror: &mut Mirror<Global>, text: &str) -> Result<Told, Refused> {
+    let news = read_news(alloc, text).map_err(Refused::Text)?;
+    mirror.take(&news).map_err(Refused::News)?;
+    Ok(Told::Number(mirror.seq()))
+}
+
+// The map of a mirror, as a welcome tells it.
+fn map(alloc: Global, mirror: &Mirror<Global>) -> Result<Told, Refused> {
+    let welcome = Welcome {
+        id: ID,
+        seq: mirror.seq(),
+        rows: mirror.map().rows(alloc)?,
+    };
+    Ok(Told::Map(welcome_text(alloc, &welcome)?))
+}

@@ -1,0 +1,21 @@
+//! Rooms that are run, and rooms that are shared by turns: what is answered, and how fast.
+
+mod calls;
+mod rates;
+mod runs;
+mod seats;
+mod standing;
+mod turns;
+
+pub use rates::measure;
+use std::alloc::Global;
+use std::io;
+use std::sync::Wait;
+use std::thread::Threads;
+
+/// Prints what is answered to runs of calls, and to seats on one thread and on two, and what blocks entries that stand.
+pub fn show<R: Print + Threads + Wait + Sync>(rt: &R, alloc: Global) -> io::Result<()> {
+    runs::show(rt, alloc)?;
+    seats::show(rt, alloc)?;
+    standing::show(rt, alloc)
+}

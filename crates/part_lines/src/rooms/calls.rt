@@ -1,0 +1,49 @@
+//! What rooms are asked here.
+use edit_actions::action::Action;
+use osm_coords::{Lat, Lon};
+use osm_elements::element::Element;
+use osm_elements::name::{Kind, Name};
+use osm_elements::tags::Tags;
+use room_history::ask::RoomCall;
+use room_history::call::{Call, Request};
+use room_stacks::author::Author;
+use std::alloc::Global;
+use std::io::{self, ErrorKind};
+
+/// The author of a name.
+pub fn author(name: &str) -> io::Result<Author> {
+    Author::read(name).ok_or(ErrorKind::InvalidInput.into())
+}
+
+/// The name of a node.
+pub fn node(id: i64) -> io::Result<Name> {
+    Name::new(Kind::Node, id).ok_or(ErrorKind::InvalidInput.into())
+}
+
+/// The call of an author to create a node of this name in the middle of the range, or none where that is no coordinate.
+pub fn creation(alloc: Global, author: Author, id: u64, name: Name) -> Option<Call<Global>> {
+    let lat = Lat::new(0)?;
+    let lon = Lon::new(0)?;
+    let tags = Tags::empty(alloc);
+    let element = Element::Node { lat, lon, tags };
+    Some(call(author, id, Request::Do(Action::Create { name, element })))
+}
+
+/// The same, by the node's id, or what is wrong.
+pub fn create(alloc: Global, author: Author, id: u64, name: i64) -> io::Result<Call<Global>> {
+    creation(alloc, author, id, node(name)?).ok_or(ErrorKind::InvalidInput.into())
+}
+
+/// A call of an author.
+pub fn call(author: Author, id: u64, request: Request<Global>) -> Call<Global> {
+    Call {
+        author,
+        id,
+        request,
+    }
+}
+
+/// To take a call.
+pub fn take(author: Author, id: u64, request: Request<Global>) -> RoomCall<Global> {
+    RoomCall::Take(call(author, id, request))
+}

@@ -1,0 +1,115 @@
+//! Rooms that are run.
+use crate::rooms::calls::{author, call, create, node};
+use edit_actions::action::Action;
+use osm_elements::Memory;
+use osm_elements::names::Names;
+use room_history::call::{Call, Calls, Request};
+use room_history::reply::{Replies, Reply};
+use room_history::room::Room;
+use room_history::run::run;
+use std::alloc::Global;
+use std::io;
+
+// How many calls the first run has.
+const CALLS: usize = 9;
+
+// How many calls the long run has, and how many entries its room takes.
+const MANY: u32 = 3000;
+
+const LIMIT: u32 = 2999;
+
+/// Shows what runs are answered: a redo at once and then a redo that cannot be, and thousands of calls.
+pub fn show<R: Print>(rt: &R, alloc: Global) -> io::Result<()> {
+    let (room, replies) = ran(alloc, 9, calls(alloc)?)?;
+    show_replies(rt, &replies)?;
+    show_room(rt, &room)?;
+    let (room, replies) = ran(alloc, LIMIT, creations(alloc)?)?;
+    println!(rt; "{} right replies of {MANY}", right_replies(&replies))?;
+    show_room(rt, &room)
+}
+
+// A run.
+fn ran(
+    alloc: Global,
+    limit: u32,
+    calls: Calls<Global>,
+) -> Result<(Room<Global>, Replies<Global>), Memory> {
+    run(alloc, limit, calls)
+}
+
+fn show_replies<R: Print>(rt: &R, replies: &Replies<Global>) -> io::Result<()> {
+    for reply in replies.as_slice() {
+        println!(rt; "{reply:?}")?;
+    }
+    Ok(())
+}
+
+fn show_room<R: Print>(rt: &R, room: &Room<Global>) -> io::Result<()> {
+    let rows = room.map_rows()?.as_slice().len();
+    println!(rt; "entries {}, elements {rows}", room.front())
+}
+
+fn calls(alloc: Global) -> io::Result<Calls<Global>> {
+    let mut calls = Vec::new(alloc);
+    for place in 0..CALLS {
+        calls.push(call_at(alloc, place)?)?;
+    }
+    Ok(Calls::from_vec(calls))
+}
+
+// The call of a place: Anna creates node -5, takes it back and does it again, and Carl moves it and can do so no more.
+fn call_at(alloc: Global, place: usize) -> io::Result<Call<Global>> {
+    let anna = author("anna")?;
+    let carl = author("carl")?;
+    Ok(match place {
+        0 => create(alloc, anna, 1, -5)?,
+        1 => create(alloc, author("bob")?, 1, -6)?,
+        2 => call(anna, 2, Request::Undo(None)),
+        3 => call(anna, 3, Request::Redo),
+        4 => call(carl, 1, movement(alloc)?),
+        5 => call(carl, 2, Request::Undo(None)),
+        6 => call(anna, 4, Request::Undo(Some(4))),
+        7 => call(carl, 3, Request::Redo),
+        _ => call(carl, 2, Request::Redo),
+    })
+}
+
+// To move node -5 by one ten-millionth of a degree to the north.
+fn movement(alloc: Global) -> io::Result<Request<Global>> {
+    let mut names = Vec::new(alloc);
+    names.push(node(-5)?)?;
+    let names = Names::from_vec(names);
+    Ok(Request::Do(Action::Move {
+        names,
+        dlat: 1,
+        dlon: 0,
+    }))
+}
+
+// Creates of an author with the longest name that there is.
+fn creations(alloc: Global) -> io::Result<Calls<Global>> {
+    let author = author("a_name_of_thirty_two_characters0")?;
+    let mut calls = Vec::new(alloc);
+    for id in 1..=MANY {
+        calls.push(create(alloc, author, u64::from(id), i64::from(id))?)?;
+    }
+    Ok(Calls::from_vec(calls))
+}
+
+// How many replies are those of creates in a room that takes so many entries.
+fn right_replies(replies: &Replies<Global>) -> usize {
+    replies
+        .as_slice()
+        .iter()
+        .enumerate()
+        .filter(|(place, reply)| is_right(reply, *place as u64))
+        .count()
+}
+
+fn is_right(reply: &Reply<Global>, place: u64) -> bool {
+    match reply {
+        Reply::Done { seq } => place < u64::from(LIMIT) && *seq == place.wrapping_add(1),
+        Reply::Full => place == u64::from(LIMIT),
+        _ => false,
+    }
+}

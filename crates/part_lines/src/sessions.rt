@@ -1,0 +1,37 @@
+//! Sessions of two clients with one room, `paris`.
+//!
+//! A line is the name of a client, `anna` or `bob`, a space, and what comes from it: `connect`, a new connection in the place of the
+//! one before; `quiet`, nothing for a while; `binary`, a message that is no text; `close`, the end of the connection; or a text. For
+//! each line is printed what goes out to this client, and then an empty line: each text on a line, `close` and the code where the
+//! connection is closed, and that the session is closed where it was before.
+
+mod client;
+mod line;
+mod named_room;
+
+use crate::sessions::client::hear_line;
+use crate::sessions::named_room::NamedRoom;
+use room_session::session::Session;
+use room_stacks::author::Author;
+use std::alloc::Global;
+use std::io::{self, Lines, StdinLock};
+use std::sync::Wait;
+
+/// Runs the sessions that lines tell with a room whose journal takes at most so many entries.
+pub fn run<R: Print + Wait>(
+    rt: &R,
+    alloc: Global,
+    lines: Lines<StdinLock<'_>, Global>,
+    limit: u32,
+) -> io::Result<()> {
+    let Some(paris) = Author::read("paris") else {
+        return Err(io::ErrorKind::InvalidInput.into());
+    };
+    let mut rooms = NamedRoom::open(alloc, paris, limit);
+    let mut anna = Session::new();
+    let mut bob = Session::new();
+    for line in lines {
+        hear_line(rt, alloc, &mut anna, &mut bob, &mut rooms, &line?)?;
+    }
+    Ok(())
+}

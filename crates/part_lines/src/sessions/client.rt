@@ -1,0 +1,74 @@
+//! What comes from a client, and what goes out to it.
+ghost use Rattle.room_session.specs.Rooms.{KeepsKnown};
+ghost use Rattle.room_session.specs.Running.{IsRunOn};
+ghost use Rattle.part_lines.specs.NamedRooms.{known_of};
+
+use crate::sessions::line::{Client, Event, read};
+use crate::sessions::named_room::NamedRoom;
+use room_session::sent::Sent;
+use room_session::session::{Ended, Session};
+use std::alloc::Global;
+use std::io;
+use std::sync::Wait;
+
+/// Hands the session that a line is for what the line says, and prints what goes out for it.
+#[tactic(auto, using(room_session::specs::Facts::Running::still_runs))]
+pub fn hear_line<R: Print + Wait>(
+    rt: &R,
+    alloc: Global,
+    anna: &mut Session,
+    bob: &mut Session,
+    rooms: &mut NamedRoom,
+    line: &str,
+) -> io::Result<()>
+    requires anna { IsRunOn anna.old (known_of rooms.old) }
+    requires bob { IsRunOn bob.old (known_of rooms.old) }
+    ensures anna { IsRunOn anna.new (known_of rooms.new) }
+    ensures bob { IsRunOn bob.new (known_of rooms.new) }
+{
+    match read(line) {
+        Some((Client::Anna, event)) => hear(rt, alloc, anna, rooms, event),
+        Some((Client::Bob, event)) => hear(rt, alloc, bob, rooms, event),
+        None => Err(io::ErrorKind::InvalidInput.into()),
+    }
+}
+
+// Hands a session what comes from its client, and prints what goes out for it.
+fn hear<R: Print + Wait>(
+    rt: &R,
+    alloc: Global,
+    session: &mut Session,
+    rooms: &mut NamedRoom,
+    event: Event<'_>,
+) -> io::Result<()>
+    requires { IsRunOn session.old (known_of rooms.old) }
+    ensures keeps { KeepsKnown (known_of rooms.old) (known_of rooms.new) }
+    ensures runs { IsRunOn session.new (known_of rooms.new) }
+{
+    match event {
+        Event::Connect => {
+            *session = Session::new();
+            println!(rt;)
+        }
+        Event::Quiet => show(rt, session.on_quiet(alloc, rt, rooms)),
+        Event::Binary => show(rt, session.on_binary(alloc)),
+        Event::Close => show(rt, session.on_close(alloc)),
+        Event::Text(text) => show(rt, session.on_text(alloc, rt, rooms, text)),
+    }
+}
+
+// Prints what goes out to a client.
+fn show<R: Print>(rt: &R, sent: Result<Sent, Ended>) -> io::Result<()> {
+    match sent {
+        Ok(sent) => {
+            for text in sent.texts.as_slice() {
+                println!(rt; "{}", text.as_str())?;
+            }
+            if let Some(code) = sent.close {
+                println!(rt; "close {code}")?;
+            }
+        }
+        Err(ended) => println!(rt; "{ended}")?,
+    }
+    println!(rt;)
+}

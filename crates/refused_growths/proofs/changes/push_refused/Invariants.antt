@@ -1,5 +1,0 @@
-use Rattle.std.proofs.Common.{◌≡◌}
-use Rattle.refused_growths.proofs.changes.push_refused.Given as goal
-
-abbrev pub invariant-loop-growths : goal.invariant-loop-growths
-invariant-loop-growths g l = l.changes ≡ l.fn.changes

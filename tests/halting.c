@@ -1,0 +1,76 @@
+// Lets the standard streams of the program that it is loaded into halt: reads of standard input and writes of standard output
+// are interrupted, give or take few bytes, give or take none, or fail. The environment says how, by READ_ or WRITE_ and
+//
+//   PIECE          how many bytes are given or taken at a time
+//   INTERRUPTIONS  how many calls in a row are interrupted before each that is answered
+//   NOTHING_AT     which call that is answered gives or takes nothing, counted from 0
+//   FAILS_AFTER    behind how many bytes each call fails
+//
+// A read after one that gave nothing is told on standard error. The C library is named by hand, since the kit has no headers.
+
+typedef __SIZE_TYPE__ size_t;
+
+char *getenv(const char *name);
+long atol(const char *text);
+long syscall(long number, ...);
+int *__errno_location(void);
+
+enum { READ = 0, WRITE = 1, INTERRUPTED = 4, INPUT_OUTPUT = 5 };
+
+struct habit {
+  long piece, interruptions, nothing_at, fails_after;
+  long interrupted, answered, passed, has_ended;
+};
+
+static struct habit habits[2];
+
+static long number_of(const char *name, long other) {
+  const char *text = getenv(name);
+  return text ? atol(text) : other;
+}
+
+__attribute__((constructor)) static void read_habits(void) {
+  static const char *const names[2][4] = {{"READ_PIECE", "READ_INTERRUPTIONS", "READ_NOTHING_AT", "READ_FAILS_AFTER"},
+                                          {"WRITE_PIECE", "WRITE_INTERRUPTIONS", "WRITE_NOTHING_AT", "WRITE_FAILS_AFTER"}};
+  for (int call = READ; call <= WRITE; call++) {
+    habits[call].piece = number_of(names[call][0], 1L << 30);
+    habits[call].interruptions = number_of(names[call][1], 0);
+    habits[call].nothing_at = number_of(names[call][2], -1);
+    habits[call].fails_after = number_of(names[call][3], 1L << 40);
+  }
+}
+
+static long failed(int why) {
+  *__errno_location() = why;
+  return -1;
+}
+
+// A call of the system by its number, read or write, which are also the numbers of the streams that halt.
+static long answer(int call, void *bytes, size_t count) {
+  static const char late[] = "a read after the end\n";
+  struct habit *habit = &habits[call];
+  if (habit->has_ended)
+    (void)syscall(WRITE, 2, late, sizeof late - 1);
+  if (habit->interrupted < habit->interruptions) {
+    habit->interrupted += 1;
+    return failed(INTERRUPTED);
+  }
+  habit->interrupted = 0;
+  long left = habit->fails_after - habit->passed;
+  if (left <= 0 && count > 0)
+    return failed(INPUT_OUTPUT);
+  long most = habit->piece < left ? habit->piece : left;
+  if (habit->answered == habit->nothing_at)
+    most = 0;
+  habit->answered += 1;
+  long given = most > 0 ? syscall(call, call, bytes, count < (size_t)most ? count : (size_t)most) : 0;
+  habit->passed += given > 0 ? given : 0;
+  habit->has_ended = call == READ && given == 0 && count > 0;
+  return given;
+}
+
+long read(int file, void *bytes, size_t count) { return file == 0 ? answer(READ, bytes, count) : syscall(READ, file, bytes, count); }
+
+long write(int file, const void *bytes, size_t count) {
+  return file == 1 ? answer(WRITE, (void *)bytes, count) : syscall(WRITE, file, bytes, count);
+}
