@@ -22,7 +22,8 @@ const LIMIT: u32 = 1_000;
 
 fn main(rt: HostRuntime) -> io::Result<()> {
     let Some(asked) = what_is_asked(&rt) else {
-        return rt.eprintln("usage: part_lines edits | mirrors | sessions [LIMIT] | rooms [TURNS]");
+        rt.eprintln("usage: part_lines edits | mirrors | sessions [LIMIT] | rooms [TURNS]")?;
+        return Err(io::ErrorKind::InvalidInput.into());
     };
     let alloc = rt.alloc();
     match asked {

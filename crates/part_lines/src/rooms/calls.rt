@@ -20,7 +20,7 @@ pub fn node(id: i64) -> io::Result<Name> {
     Name::new(Kind::Node, id).ok_or(ErrorKind::InvalidInput.into())
 }
 
-/// The call of an author to create a node of this name in the middle of the range, or none where that is no coordinate.
+/// The call of an author to create a node of this name where both coordinates are 0.
 pub fn creation(alloc: Global, author: Author, id: u64, name: Name) -> Option<Call<Global>> {
     let lat = Lat::new(0)?;
     let lon = Lon::new(0)?;
@@ -29,7 +29,7 @@ pub fn creation(alloc: Global, author: Author, id: u64, name: Name) -> Option<Ca
     Some(call(author, id, Request::Do(Action::Create { name, element })))
 }
 
-/// The same, by the node's id, or what is wrong.
+/// The same, by the id of the node, which is not 0.
 pub fn create(alloc: Global, author: Author, id: u64, name: i64) -> io::Result<Call<Global>> {
     creation(alloc, author, id, node(name)?).ok_or(ErrorKind::InvalidInput.into())
 }

@@ -20,12 +20,20 @@ const LIMIT: u32 = 2999;
 
 /// Shows what runs are answered: a redo at once and then a redo that cannot be, and thousands of calls.
 pub fn show<R: Print>(rt: &R, alloc: Global) -> io::Result<()> {
+    show_each(rt, alloc)?;
+    show_many(rt, alloc)
+}
+
+// Shows each reply to a few calls, and the room then.
+fn show_each<R: Print>(rt: &R, alloc: Global) -> io::Result<()> {
     let (room, replies) = ran(alloc, 9, calls(alloc)?)?;
-    show_replies(rt, &replies)?;
-    show_room(rt, &room)?;
+    show_replies(rt, &room, &replies)
+}
+
+// Shows how many replies to many calls are right, and the room then.
+fn show_many<R: Print>(rt: &R, alloc: Global) -> io::Result<()> {
     let (room, replies) = ran(alloc, LIMIT, creations(alloc)?)?;
-    println!(rt; "{} right replies of {MANY}", right_replies(&replies))?;
-    show_room(rt, &room)
+    show_count(rt, &room, &replies)
 }
 
 // A run.
@@ -37,16 +45,31 @@ fn ran(
     run(alloc, limit, calls)
 }
 
-fn show_replies<R: Print>(rt: &R, replies: &Replies<Global>) -> io::Result<()> {
+fn show_replies<R: Print>(
+    rt: &R,
+    room: &Room<Global>,
+    replies: &Replies<Global>,
+) -> io::Result<()> {
     for reply in replies.as_slice() {
         println!(rt; "{reply:?}")?;
     }
-    Ok(())
+    show_room(rt, room)
 }
 
-fn show_room<R: Print>(rt: &R, room: &Room<Global>) -> io::Result<()> {
-    let rows = room.map_rows()?.as_slice().len();
-    println!(rt; "entries {}, elements {rows}", room.front())
+fn show_count<R: Print>(rt: &R, room: &Room<Global>, replies: &Replies<Global>) -> io::Result<()> {
+    println!(rt; "{} right replies of {MANY}", right_replies(replies))?;
+    show_room(rt, room)
+}
+
+/// Prints how many entries and elements a room has, these by its rows.
+pub fn show_room<R: Print>(rt: &R, room: &Room<Global>) -> io::Result<()> {
+    let elements = count_elements(room)?;
+    println!(rt; "entries {}, elements {elements}", room.front())
+}
+
+fn count_elements(room: &Room<Global>) -> Result<usize, Memory> {
+    let rows = room.map_rows()?;
+    Ok(rows.as_slice().len())
 }
 
 fn calls(alloc: Global) -> io::Result<Calls<Global>> {

@@ -3,6 +3,7 @@ ghost use Rattle.std.specs.Prelude.{◌≡◌};
 ghost use Rattle.turn_desk.specs.Desk.{IsAt};
 
 use crate::rooms::calls::{author, create, take};
+use crate::rooms::runs::show_room;
 use crate::rooms::turns::{Asked, shared_by_two};
 use room_history::ask::{RoomCall, RoomReply};
 use room_history::call::Request;
@@ -46,29 +47,58 @@ fn show_to_all<R: Print + Wait>(rt: &R, alloc: Global) -> io::Result<()> {
     let (desk, first) = Desk::open(alloc, Room::open(alloc, 9))?;
     let (first, mut second) = desk.split(first);
     let (mut first, mut third) = desk.split(first);
-    let call = RoomCall::Take(create(alloc, author("anna")?, 1, -5)?);
-    show_turn(rt, &desk, &mut first, call)?;
-    println!(rt; "front {}", desk.front(&mut second))?;
-    show_turn(rt, &desk, &mut third, RoomCall::Rows)
+    take_and_look(rt, alloc, &desk, &mut first, &mut second, &mut third)
+}
+
+// Creates a node in a turn at one seat, looks at another how many entries there are, and asks for the rows at a third.
+fn take_and_look<R: Print + Wait>(
+    rt: &R,
+    alloc: Global,
+    desk: &Desk<Room<Global>, Global>,
+    first: &mut Seat<Room<Global>>,
+    second: &mut Seat<Room<Global>>,
+    third: &mut Seat<Room<Global>>,
+) -> io::Result<()>
+    requires first { IsAt desk.now first.old }
+    requires second { IsAt desk.now second.old }
+    requires third { IsAt desk.now third.old }
+{
+    let call = create(alloc, author("anna")?, 1, -5)?;
+    show_turn(rt, desk, first, RoomCall::Take(call))?;
+    println!(rt; "front {}", desk.front(second))?;
+    show_turn(rt, desk, third, RoomCall::Rows)
 }
 
 // The worked example of a redo at once, each author at a seat.
 fn show_two_authors<R: Print + Wait>(rt: &R, alloc: Global) -> io::Result<()> {
-    let (anna, bob) = (author("anna")?, author("bob")?);
     let (desk, seat) = Desk::open(alloc, Room::open(alloc, 9))?;
     let (mut hers, mut his) = desk.split(seat);
-    let call = RoomCall::Take(create(alloc, anna, 1, -5)?);
-    show_turn(rt, &desk, &mut hers, call)?;
-    let call = RoomCall::Take(create(alloc, bob, 1, -6)?);
-    show_turn(rt, &desk, &mut his, call)?;
-    show_turn(rt, &desk, &mut hers, take(anna, 2, Request::Undo(None)))?;
-    show_turn(rt, &desk, &mut hers, take(anna, 3, Request::Redo))?;
-    println!(rt; "front {}", desk.front(&mut his))
+    redo_at_once(rt, alloc, &desk, &mut hers, &mut his)
+}
+
+// Anna creates a node, and Bob another; she takes hers back, and does it again.
+fn redo_at_once<R: Print + Wait>(
+    rt: &R,
+    alloc: Global,
+    desk: &Desk<Room<Global>, Global>,
+    hers: &mut Seat<Room<Global>>,
+    his: &mut Seat<Room<Global>>,
+) -> io::Result<()>
+    requires hers { IsAt desk.now hers.old }
+    requires his { IsAt desk.now his.old }
+{
+    let (anna, bob) = (author("anna")?, author("bob")?);
+    let call = create(alloc, anna, 1, -5)?;
+    show_turn(rt, desk, hers, RoomCall::Take(call))?;
+    let call = create(alloc, bob, 1, -6)?;
+    show_turn(rt, desk, his, RoomCall::Take(call))?;
+    show_turn(rt, desk, hers, take(anna, 2, Request::Undo(None)))?;
+    show_turn(rt, desk, hers, take(anna, 3, Request::Redo))?;
+    println!(rt; "front {}", desk.front(his))
 }
 
 // Two threads create nodes, each at a seat of its own; the room that is left has all of them.
 fn show_two_threads<R: Print + Threads + Wait + Sync>(rt: &R, alloc: Global) -> io::Result<()> {
     let room = shared_by_two(rt, alloc, Asked::Create, EACH)?;
-    let rows = room.map_rows()?.as_slice().len();
-    println!(rt; "entries {}, elements {rows}", room.front())
+    show_room(rt, &room)
 }

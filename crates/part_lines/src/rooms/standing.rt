@@ -11,11 +11,15 @@ use std::io;
 /// Shows what blocks each of four entries, and what after each fall.
 pub fn show<R: Print>(rt: &R, alloc: Global) -> io::Result<()> {
     let mut holders = four(alloc)?;
-    show_blockers(rt, &holders)?;
+    show_falls(rt, alloc, &mut holders)
+}
+
+fn show_falls<R: Print>(rt: &R, alloc: Global, holders: &mut Holders<Global>) -> io::Result<()> {
+    show_blockers(rt, holders)?;
     for fallen in [9, 2, 5, 7] {
         holders.fall(fallen);
         println!(rt; "without {fallen}")?;
-        show_blockers(rt, &holders)?;
+        show_blockers(rt, holders)?;
     }
     let numbers = holders.numbers(alloc)?;
     println!(rt; "standing {:?}", numbers.as_slice())
