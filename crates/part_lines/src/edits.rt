@@ -26,10 +26,20 @@ use std::io::{self, Lines, StdinLock};
 pub fn run(rt: &impl Print, alloc: Global, lines: Lines<StdinLock<'_>, Global>) -> io::Result<()> {
     let mut store = Store::new(alloc);
     for line in lines {
-        match step(alloc, &mut store, line?.as_str()) {
-            Ok(outcome) => println!(rt; "{outcome}\n")?,
-            Err(unread) => println!(rt; "{unread}\n")?,
-        }
+        do_line(rt, alloc, &mut store, &line?)?;
     }
     Ok(())
+}
+
+// Does the edit of a line, and prints what comes of it.
+fn do_line(
+    rt: &impl Print,
+    alloc: Global,
+    store: &mut Store<Global>,
+    line: &str,
+) -> io::Result<()> {
+    match step(alloc, store, line) {
+        Ok(outcome) => println!(rt; "{outcome}\n"),
+        Err(unread) => println!(rt; "{unread}\n"),
+    }
 }

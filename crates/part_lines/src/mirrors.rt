@@ -8,6 +8,7 @@ mod line;
 mod told;
 
 use crate::mirrors::told::tell;
+use room_mirror::mirror::Mirror;
 use std::alloc::Global;
 use std::io::{self, Lines, StdinLock};
 
@@ -15,10 +16,20 @@ use std::io::{self, Lines, StdinLock};
 pub fn run(rt: &impl Print, alloc: Global, lines: Lines<StdinLock<'_>, Global>) -> io::Result<()> {
     let mut mirror = None;
     for line in lines {
-        match tell(alloc, &mut mirror, line?.as_str()) {
-            Ok(told) => println!(rt; "{told}")?,
-            Err(fault) => println!(rt; "{fault}")?,
-        }
+        tell_line(rt, alloc, &mut mirror, &line?)?;
     }
     Ok(())
+}
+
+// Hands a mirror the text of a line, and prints what is told for it.
+fn tell_line(
+    rt: &impl Print,
+    alloc: Global,
+    mirror: &mut Option<Mirror<Global>>,
+    line: &str,
+) -> io::Result<()> {
+    match tell(alloc, mirror, line) {
+        Ok(told) => println!(rt; "{told}"),
+        Err(fault) => println!(rt; "{fault}"),
+    }
 }

@@ -5,6 +5,9 @@
 //! each line is printed what goes out to this client, and then an empty line: each text on a line, `close` and the code where the
 //! connection is closed, and that the session is closed where it was before.
 
+ghost use Rattle.room_session.specs.Running.{IsRunOn};
+ghost use Rattle.part_lines.specs.NamedRooms.{known_of};
+
 mod client;
 mod line;
 mod named_room;
@@ -30,8 +33,23 @@ pub fn run<R: Print + Wait>(
     let mut rooms = NamedRoom::open(alloc, paris, limit);
     let mut anna = Session::new();
     let mut bob = Session::new();
+    hear_lines(rt, alloc, &mut anna, &mut bob, &mut rooms, lines)
+}
+
+// Hands the two sessions what the lines say.
+fn hear_lines<R: Print + Wait>(
+    rt: &R,
+    alloc: Global,
+    anna: &mut Session,
+    bob: &mut Session,
+    rooms: &mut NamedRoom,
+    lines: Lines<StdinLock<'_>, Global>,
+) -> io::Result<()>
+    requires anna { IsRunOn anna.old (known_of rooms.old) }
+    requires bob { IsRunOn bob.old (known_of rooms.old) }
+{
     for line in lines {
-        hear_line(rt, alloc, &mut anna, &mut bob, &mut rooms, &line?)?;
+        hear_line(rt, alloc, anna, bob, rooms, &line?)?;
     }
     Ok(())
 }

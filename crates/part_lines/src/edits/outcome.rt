@@ -4,7 +4,7 @@ use std::alloc::Global;
 use std::fmt::{self, Display, Formatter};
 
 /// What comes of a line.
-#[derive(Debug, Drop)]
+#[derive(Drop)]
 pub enum Outcome {
     /// The edit was refused.
     Refused(Refusal<Global>),

@@ -4,6 +4,7 @@ use edit_simple::retag::Retag;
 use osm_elements::member::Member;
 use osm_elements::members::Members;
 use osm_elements::name::{Kind, Name};
+use osm_elements::names::Names;
 use osm_elements::nodes::Nodes;
 use osm_elements::tags::Tags;
 use osm_elements::text::Text;
@@ -27,11 +28,11 @@ fn number(text: &str) -> Result<i64, Unread> {
 }
 
 /// The names among some words.
-pub fn names(alloc: Global, words: &str) -> Result<Vec<Name>, Unread> {
-    let mut names = Vec::new(alloc);
+pub fn names(alloc: Global, words: &str) -> Result<Names<Global>, Unread> {
+    let mut names = Names::empty(alloc);
     for word in words.split(' ') {
         if let Some(name) = Name::read(word) {
-            names.push(name).map_err(|_| Unread::Memory)?;
+            names.push(name)?;
         }
     }
     Ok(names)
@@ -56,10 +57,16 @@ pub fn members(alloc: Global, words: &str) -> Result<Members<Global>, Unread> {
     let mut members = Members::empty(alloc);
     for word in words.split(' ') {
         if let Some((member, role)) = word.split_once('/') {
-            members.push(Member::new(name(member)?, Text::new(alloc, role)?))?;
+            members.push(member_of(alloc, member, role)?)?;
         }
     }
     Ok(members)
+}
+
+// The member of a name and a role.
+fn member_of(alloc: Global, member: &str, role: &str) -> Result<Member<Global>, Unread> {
+    let name = name(member)?;
+    Ok(Member::new(name, Text::new(alloc, role)?))
 }
 
 /// The tags among some words: a key, an equals sign and a value.
@@ -67,10 +74,17 @@ pub fn tags(alloc: Global, words: &str) -> Result<Tags<Global>, Unread> {
     let mut tags = Tags::empty(alloc);
     for word in words.split(' ') {
         if let Some((key, value)) = word.split_once('=') {
-            tags.set(Text::new(alloc, key)?, Text::new(alloc, value)?)?;
+            set_tag(alloc, &mut tags, key, value)?;
         }
     }
     Ok(tags)
+}
+
+fn set_tag(alloc: Global, tags: &mut Tags<Global>, key: &str, value: &str) -> Result<(), Unread> {
+    let key = Text::new(alloc, key)?;
+    let value = Text::new(alloc, value)?;
+    tags.set(key, value)?;
+    Ok(())
 }
 
 /// What some words give the tags of an element: `key=value` a value, `-key` none.
@@ -78,10 +92,26 @@ pub fn retag(alloc: Global, words: &str) -> Result<Retag<Global>, Unread> {
     let mut given = Retag::empty(alloc);
     for word in words.split(' ') {
         if let Some((key, value)) = word.split_once('=') {
-            given.set(Text::new(alloc, key)?, Some(Text::new(alloc, value)?))?;
+            give(alloc, &mut given, key, Some(value))?;
         } else if let Some(key) = word.strip_prefix('-') {
-            given.set(Text::new(alloc, key)?, None)?;
+            give(alloc, &mut given, key, None)?;
         }
     }
     Ok(given)
+}
+
+// Gives a key a value, or takes it away.
+fn give(
+    alloc: Global,
+    given: &mut Retag<Global>,
+    key: &str,
+    value: Option<&str>,
+) -> Result<(), Unread> {
+    let key = Text::new(alloc, key)?;
+    let value = match value {
+        Some(value) => Some(Text::new(alloc, value)?),
+        None => None,
+    };
+    given.set(key, value)?;
+    Ok(())
 }

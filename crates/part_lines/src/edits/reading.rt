@@ -5,7 +5,6 @@ use edit_actions::action::Action;
 use osm_coords::{Lat, Lon};
 use osm_elements::element::Element;
 use osm_elements::name::{Kind, Name};
-use osm_elements::names::Names;
 use std::alloc::Global;
 
 /// The element of a kind that some words write.
@@ -39,7 +38,7 @@ pub fn action(alloc: Global, text: &str) -> Result<Action<Global>, Unread> {
     let (word, rest) = text.split_once(' ').ok_or(Unread::NoEdit)?;
     if word == "move" {
         let (dlat, dlon) = pair(rest)?;
-        let names = Names::from_vec(names(alloc, rest)?);
+        let names = names(alloc, rest)?.copy()?;
         return Ok(Action::Move { names, dlat, dlon });
     }
     let (first, rest) = rest.split_once(' ').unwrap_or((rest, ""));
@@ -59,7 +58,7 @@ fn named_action(
             Ok(Action::Create { name, element })
         }
         "retag" => {
-            let tags = retag(alloc, rest)?;
+            let tags = retag(alloc, rest)?.copy()?;
             Ok(Action::Retag { name, tags })
         }
         "reverse" => Ok(Action::Reverse { name }),

@@ -2,9 +2,11 @@
 use osm_changes::change::Change;
 use osm_changes::store::Store;
 use osm_elements::element::Element;
+use osm_elements::map::{Row, Rows};
 use osm_elements::member::Member;
 use osm_elements::name::Name;
-use osm_elements::tags::Tags;
+use osm_elements::tags::{Tag, Tags};
+use osm_refs::users::Users;
 use std::alloc::{AllocError, Global};
 
 // Writes a space and a name.
@@ -37,12 +39,21 @@ fn put_members(
 
 fn put_tags(text: &mut String, tags: &Tags<Global>) -> Result<(), AllocError> {
     for tag in tags.rows() {
-        text.push(' ')?;
-        text.push_str(tag.key.as_str())?;
-        text.push('=')?;
-        text.push_str(tag.value.as_str())?;
+        put_tag_copied(text, tag)?;
     }
     Ok(())
+}
+
+// Writes a copy of a tag.
+fn put_tag_copied(text: &mut String, tag: &Tag<Global>) -> Result<(), AllocError> {
+    put_tag(text, &tag.copy()?)
+}
+
+fn put_tag(text: &mut String, tag: &Tag<Global>) -> Result<(), AllocError> {
+    text.push(' ')?;
+    text.push_str(tag.key.as_str())?;
+    text.push('=')?;
+    text.push_str(tag.value.as_str())
 }
 
 // Writes an element, its parts each after a space.
@@ -62,7 +73,8 @@ fn put_element(
     put_tags(text, element.tags())
 }
 
-fn put_row(
+// Writes an element that there is before a change or after it, or that there is none.
+fn put_side(
     alloc: Global,
     text: &mut String,
     element: &Option<Element<Global>>,
@@ -71,6 +83,49 @@ fn put_row(
         Some(element) => put_element(alloc, text, element),
         None => text.push_str(" none"),
     }
+}
+
+fn put_change(alloc: Global, text: &mut String, change: &Change<Global>) -> Result<(), AllocError> {
+    put_name(alloc, text, &change.name)?;
+    text.push(':')?;
+    put_side(alloc, text, &change.before)?;
+    text.push_str(" ->")?;
+    put_side(alloc, text, &change.after)?;
+    text.push(';')
+}
+
+// Writes a row, and the names that refer to it.
+fn put_row(
+    alloc: Global,
+    text: &mut String,
+    row: &Row<Global>,
+    users: &[Name],
+) -> Result<(), AllocError> {
+    put_name(alloc, text, &row.name)?;
+    text.push(':')?;
+    put_element(alloc, text, &row.element)?;
+    text.push_str(" <-")?;
+    put_names(alloc, text, users)?;
+    text.push(';')
+}
+
+// Writes a copy of a change.
+fn put_change_copied(
+    alloc: Global,
+    text: &mut String,
+    change: &Change<Global>,
+) -> Result<(), AllocError> {
+    put_change(alloc, text, &change.copy()?)
+}
+
+// Writes a copy of a row, and the names that refer to it.
+fn put_row_copied(
+    alloc: Global,
+    text: &mut String,
+    row: &Row<Global>,
+    users: &Users<Global>,
+) -> Result<(), AllocError> {
+    put_row(alloc, text, &row.copy()?, users.of(&row.name))
 }
 
 /// Names as a text, each after a space.
@@ -84,26 +139,40 @@ pub fn names_shown(alloc: Global, names: &[Name]) -> Result<String, AllocError> 
 pub fn changes_shown(alloc: Global, changes: &[Change<Global>]) -> Result<String, AllocError> {
     let mut text = String::new(alloc);
     for change in changes {
-        put_name(alloc, &mut text, &change.name)?;
-        text.push(':')?;
-        put_row(alloc, &mut text, &change.before)?;
-        text.push_str(" ->")?;
-        put_row(alloc, &mut text, &change.after)?;
-        text.push(';')?;
+        put_change_copied(alloc, &mut text, change)?;
     }
     Ok(text)
 }
 
 /// The map and the users of a store as a text: each row as `w1: n1 n2 <- r1;` after a space, with the names that refer to it.
 pub fn store_shown(alloc: Global, store: &Store<Global>) -> Result<String, AllocError> {
+    let rows = rows_copied(alloc, store)?;
+    rows_shown(alloc, &rows, store)
+}
+
+// A copy of the rows of a copy of the map.
+fn rows_copied(alloc: Global, store: &Store<Global>) -> Result<Rows<Global>, AllocError> {
+    store.map().copy()?.rows(alloc)?.copy()
+}
+
+// Rows with their users, these from a copy, as a text.
+fn rows_shown(
+    alloc: Global,
+    rows: &Rows<Global>,
+    store: &Store<Global>,
+) -> Result<String, AllocError> {
+    let users = store.users().copy()?;
+    put_rows(alloc, rows, &users)
+}
+
+fn put_rows(
+    alloc: Global,
+    rows: &Rows<Global>,
+    users: &Users<Global>,
+) -> Result<String, AllocError> {
     let mut text = String::new(alloc);
-    for (name, element) in store.map().iter() {
-        put_name(alloc, &mut text, name)?;
-        text.push(':')?;
-        put_element(alloc, &mut text, element)?;
-        text.push_str(" <-")?;
-        put_names(alloc, &mut text, store.users().of(name))?;
-        text.push(';')?;
+    for row in rows.iter() {
+        put_row_copied(alloc, &mut text, row, users)?;
     }
     Ok(text)
 }

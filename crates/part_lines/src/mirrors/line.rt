@@ -1,7 +1,7 @@
 //! Lines: what a mirror is handed, or asked for.
 
 /// What a line says.
-#[derive(Clone, Copy, Debug)]
+#[derive(Clone, Copy)]
 pub enum Line<'a> {
     /// The text of a welcome.
     Welcome(&'a str),

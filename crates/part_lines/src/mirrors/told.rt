@@ -1,6 +1,7 @@
 //! What is told for a line.
 use crate::mirrors::line::{Line, read};
 use osm_elements::Memory;
+use room_history::news::{News, NewsRows};
 use room_mirror::fault::MirrorFault;
 use room_mirror::mirror::Mirror;
 use room_wire::bad::Bad;
@@ -15,7 +16,7 @@ use thiserror::Error;
 const ID: u64 = 1;
 
 /// What is told of a mirror.
-#[derive(Debug, Drop)]
+#[derive(Drop)]
 pub enum Told {
     /// The number of its last entry.
     Number(u64),
@@ -83,11 +84,24 @@ fn made(alloc: Global, text: &str) -> Result<Mirror<Global>, Refused> {
     Ok(Mirror::from_welcome(alloc, welcome)?)
 }
 
-// Hands a mirror the text of news.
+// Hands a mirror a copy of the news that a text tells.
 fn take(alloc: Global, mirror: &mut Mirror<Global>, text: &str) -> Result<Told, Refused> {
     let news = read_news(alloc, text).map_err(Refused::Text)?;
-    mirror.take(&news).map_err(Refused::News)?;
+    mirror.take(&copied(alloc, &news)?).map_err(Refused::News)?;
     Ok(Told::Number(mirror.seq()))
+}
+
+// News, copied row by row.
+fn copied(alloc: Global, news: &News<Global>) -> Result<News<Global>, Memory> {
+    let mut rows = Vec::new(alloc);
+    for row in news.rows.as_slice() {
+        rows.push(row.copy()?)?;
+    }
+    Ok(News {
+        seq: news.seq,
+        author: news.author,
+        rows: NewsRows::from_vec(rows).copy()?,
+    })
 }
 
 // The map of a mirror, as a welcome tells it.

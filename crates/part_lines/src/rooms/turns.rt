@@ -11,7 +11,7 @@ use std::alloc::Global;
 use std::io;
 use std::sync::Wait;
 use std::thread::{Threads, join};
-use std::time::{Clock, Instant};
+use std::time::{Clock, Duration, Instant};
 use turn_desk::{Desk, Seat};
 
 /// What a room is asked in each turn.
@@ -87,17 +87,51 @@ pub fn rate<R: Clock + Threads + Wait + Sync>(
         thread: 0,
     };
     let (desk, seat) = Desk::open(alloc, Room::open(alloc, u32::MAX)).ok()?;
-    let start = Instant::now(rt).ok()?;
-    let seat = match threads {
-        1 => take_turns(rt, &desk, seat, &work),
-        2 => in_two_threads(rt, &desk, seat, &work),
-        4 => in_four_threads(rt, &desk, seat, &work),
-        _ => in_eight_threads(rt, &desk, seat, &work),
-    };
-    let time = start.elapsed(rt).ok()?;
+    let (seat, time) = timed(rt, &desk, seat, &work, threads);
     desk.close(rt, seat);
     let taken = u128::from(work.turns) * u128::from(threads);
-    (taken * 1_000_000_000).checked_div(time.as_nanos())
+    (taken * 1_000_000_000).checked_div(time?.as_nanos())
+}
+
+// Takes the turns of so many threads, and tells how long that took, where there is a clock.
+fn timed<R: Clock + Threads + Wait + Sync>(
+    rt: &R,
+    desk: &Desk<Room<Global>, Global>,
+    seat: Seat<Room<Global>>,
+    work: &Work,
+    threads: u32,
+) -> (Seat<Room<Global>>, Option<Duration>)
+    requires seat { IsAt desk.now seat }
+    requires parts { 8192 ≤ seat.parts }
+    ensures { IsAt desk.now result.0 }
+{
+    let start = Instant::now(rt);
+    let seat = in_threads(rt, desk, seat, work, threads);
+    let time = match start {
+        Ok(start) => start.elapsed(rt).ok(),
+        Err(_) => None,
+    };
+    (seat, time)
+}
+
+// Takes the turns of 1, 2, 4 or 8 threads.
+fn in_threads<R: Threads + Wait + Sync>(
+    rt: &R,
+    desk: &Desk<Room<Global>, Global>,
+    seat: Seat<Room<Global>>,
+    work: &Work,
+    threads: u32,
+) -> Seat<Room<Global>>
+    requires seat { IsAt desk.now seat }
+    requires parts { 8192 ≤ seat.parts }
+    ensures { IsAt desk.now result }
+{
+    match threads {
+        1 => take_turns(rt, desk, seat, work),
+        2 => in_two_threads(rt, desk, seat, work),
+        4 => in_four_threads(rt, desk, seat, work),
+        _ => in_eight_threads(rt, desk, seat, work),
+    }
 }
 
 /// The room that two threads leave which take so many turns each.

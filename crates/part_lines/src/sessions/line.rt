@@ -1,14 +1,14 @@
 //! Lines: whose they are, and what comes from this client.
 
 /// Who says something.
-#[derive(Clone, Copy, Debug, PartialEq, Eq)]
+#[derive(Clone, Copy)]
 pub enum Client {
     Anna,
     Bob,
 }
 
 /// What comes from a client.
-#[derive(Clone, Copy, Debug)]
+#[derive(Clone, Copy)]
 pub enum Event<'a> {
     /// A new connection in the place of the one before.
     Connect,

@@ -1,6 +1,6 @@
 use Rattle.room_session.specs.Running.{IsRunOn}
 use Rattle.part_lines.specs.NamedRooms.{known_of}
-use Rattle.part_lines.proofs.sessions.run.Given as goal
+use Rattle.part_lines.proofs.sessions.hear_lines.Given as goal
 
 abbrev pub invariant-loop-line : goal.invariant-loop-line
 invariant-loop-line g l =
