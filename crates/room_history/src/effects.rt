@@ -1,5 +1,5 @@
 //! What the parts of a room do for an entry: what it did stands, and what it did is taken back.
-ghost use Rattle.std.specs.Prelude.{◌≡◌, ◌≤◌, List, [], ◌∷◌, ◌++◌, Some, true, length, IfOk, OnOk, OnErr};
+ghost use Rattle.std.specs.Prelude.{◌≡◌, ◌<◌, ◌≤◌, List, [], ◌∷◌, ◌++◌, Some, true, length, IfOk, OnOk, OnErr, vec_len, vec_capacity};
 ghost use Rattle.osm_changes.specs.declared.change.Change.{Change};
 ghost use Rattle.osm_changes.specs.Changes.{changed, inverse, AreFrom};
 ghost use Rattle.osm_changes.specs.Sound.{is_sound};
@@ -7,12 +7,70 @@ ghost use Rattle.osm_changes.specs.Stores.{applied_to};
 ghost use Rattle.edit_footprint.specs.Holding.{IsNext};
 ghost use Rattle.room_history.specs.Journals.{numbered};
 
+use crate::entry::Entry;
 use edit_footprint::footprint::Footprint;
 use edit_footprint::holders::Holders;
 use osm_changes::changes::Changes;
 use osm_changes::store::Store;
 use osm_elements::Memory;
+use room_stacks::author::Author;
+use room_stacks::stacks::Stacks;
 use std::alloc::Allocator;
+
+// Makes room for one more entry, an author's, in each list and in the stacks; or refuses. Either way nothing is added.
+pub(crate) fn make_room<A: Allocator + Copy>(
+    entries: &mut Vec<Entry<A>, A>,
+    recorded: &mut Vec<Changes<A>, A>,
+    origins: &mut Vec<u64, A>,
+    stacks: &mut Stacks<A>,
+    author: &Author,
+) -> Result<(), Memory>
+    ensures entries { entries.new.items ≡ entries.old.items }
+    ensures recorded { recorded.new.items ≡ recorded.old.items }
+    ensures origins { origins.new.items ≡ origins.old.items }
+    ensures deeds { stacks.new.deeds ≡ stacks.old.deeds }
+    ensures ready { OnOk result (stacks.new.ready ≡ Some author.now) }
+    ensures room { OnOk result ((vec_len entries.new < vec_capacity entries.new)
+        × (vec_len recorded.new < vec_capacity recorded.new)
+        × (vec_len origins.new < vec_capacity origins.new)) }
+{
+    entries.try_reserve(1)?;
+    recorded.try_reserve(1)?;
+    origins.try_reserve(1)?;
+    stacks.ready(author)
+}
+
+// Adds an entry, what it changed, and the number of the entry that has its action, to lists that have room for them.
+pub(crate) fn enter<A: Allocator>(
+    entries: &mut Vec<Entry<A>, A>,
+    recorded: &mut Vec<Changes<A>, A>,
+    origins: &mut Vec<u64, A>,
+    entry: Entry<A>,
+    changes: Changes<A>,
+    origin: u64,
+)
+    requires room { (vec_len entries.old < vec_capacity entries.old)
+        × (vec_len recorded.old < vec_capacity recorded.old)
+        × (vec_len origins.old < vec_capacity origins.old) }
+    ensures entries { entries.new.items ≡ entries.old.items ++ entry ∷ [] }
+    ensures recorded { recorded.new.items ≡ recorded.old.items ++ changes ∷ [] }
+    ensures origins { origins.new.items ≡ origins.old.items ++ origin ∷ [] }
+{
+    push_reserved(entries, entry);
+    push_reserved(recorded, changes);
+    push_reserved(origins, origin);
+}
+
+// Adds an item to a list that has room for it.
+fn push_reserved<T: Drop, A: Allocator>(list: &mut Vec<T, A>, item: T)
+    requires { vec_len list.old < vec_capacity list.old }
+    ensures { list.new.items ≡ list.old.items ++ item ∷ [] }
+{
+    match list.push(item) {
+        Ok(()) => {}
+        Err(_) => unreachable!(),
+    }
+}
 
 // Lets an entry stand and applies its changes; or refuses, and both are as they were.
 pub(crate) fn stand<A: Allocator + Copy>(

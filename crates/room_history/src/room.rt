@@ -1,5 +1,5 @@
 //! The room.
-ghost use Rattle.std.specs.Prelude.{◌≡◌, ◌+◌, ◌<◌, ◌≤◌, ◌⊎◌, List, [], ◌∷◌, ◌++◌, Some, None, true, length, IfOk, IfErr, OnOk, OnErr, vec_len, vec_capacity};
+ghost use Rattle.std.specs.Prelude.{◌≡◌, ◌+◌, ◌⊎◌, List, [], Some, None, true, length, IfOk, IfErr, OnOk, OnErr};
 ghost use Rattle.std.specs.Option.{option_copied};
 ghost use Rattle.osm_changes.specs.declared.change.Change.{Change};
 ghost use Rattle.osm_changes.specs.Changes.{differences, changed, inverse, AreChanges, AreFrom};
@@ -12,7 +12,7 @@ ghost use Rattle.room_history.specs.Journals.{numbered};
 
 use crate::ask::{RoomCall, RoomReply, Undoable};
 use crate::call::{Call, Request};
-use crate::effects::{stand, taken_back};
+use crate::effects::{enter, make_room, stand, taken_back};
 use crate::entry::{Entry, EntryKind};
 use crate::journal::{action_of, numbered};
 use crate::news::{NewsList, news_past};
@@ -182,10 +182,13 @@ impl<A: Allocator + Copy> Room<A> {
         ensures err { OnErr result (self.new ≡ self.old) }
     {
         let alloc = *self.entries.allocator();
-        self.entries.try_reserve(1)?;
-        self.recorded.try_reserve(1)?;
-        self.origins.try_reserve(1)?;
-        self.stacks.ready(&author)?;
+        make_room(
+            &mut self.entries,
+            &mut self.recorded,
+            &mut self.origins,
+            &mut self.stacks,
+            &author,
+        )?;
         let footprint = footprint(alloc, &action, &changes)?;
         let seq = self.entries.len() as u64 + 1;
         stand(
@@ -197,9 +200,14 @@ impl<A: Allocator + Copy> Room<A> {
             seq,
         )?;
         let kind = EntryKind::Do(action);
-        push_reserved(&mut self.entries, Entry { author, id, kind });
-        push_reserved(&mut self.recorded, changes);
-        push_reserved(&mut self.origins, seq);
+        enter(
+            &mut self.entries,
+            &mut self.recorded,
+            &mut self.origins,
+            Entry { author, id, kind },
+            changes,
+            seq,
+        );
         self.stacks.did(author, id, seq);
         Ok(seq)
     }
@@ -231,17 +239,25 @@ impl<A: Allocator + Copy> Room<A> {
         ensures err { OnErr result (self.new ≡ self.old) }
     {
         leads_back::<A>();
-        self.entries.try_reserve(1)?;
-        self.recorded.try_reserve(1)?;
-        self.origins.try_reserve(1)?;
-        self.stacks.ready(&author)?;
+        make_room(
+            &mut self.entries,
+            &mut self.recorded,
+            &mut self.origins,
+            &mut self.stacks,
+            &author,
+        )?;
         let changes = taken_back(&self.recorded, of)?;
         self.store.apply(*self.entries.allocator(), &changes)?;
         let seq = self.entries.len() as u64 + 1;
         let kind = EntryKind::Undo(of);
-        push_reserved(&mut self.entries, Entry { author, id, kind });
-        push_reserved(&mut self.recorded, changes);
-        push_reserved(&mut self.origins, seq);
+        enter(
+            &mut self.entries,
+            &mut self.recorded,
+            &mut self.origins,
+            Entry { author, id, kind },
+            changes,
+            seq,
+        );
         self.holders.fall(of);
         self.stacks.undid(author, id, of, seq);
         Ok(seq)
@@ -312,10 +328,13 @@ impl<A: Allocator + Copy> Room<A> {
         ensures err { OnErr result (self.new ≡ self.old) }
     {
         let alloc = *self.entries.allocator();
-        self.entries.try_reserve(1)?;
-        self.recorded.try_reserve(1)?;
-        self.origins.try_reserve(1)?;
-        self.stacks.ready(&author)?;
+        make_room(
+            &mut self.entries,
+            &mut self.recorded,
+            &mut self.origins,
+            &mut self.stacks,
+            &author,
+        )?;
         let seq = self.entries.len() as u64 + 1;
         let origin = numbered(&self.origins, of).copied().unwrap_or(seq);
         stand(
@@ -327,9 +346,14 @@ impl<A: Allocator + Copy> Room<A> {
             seq,
         )?;
         let kind = EntryKind::Redo(of);
-        push_reserved(&mut self.entries, Entry { author, id, kind });
-        push_reserved(&mut self.recorded, changes);
-        push_reserved(&mut self.origins, origin);
+        enter(
+            &mut self.entries,
+            &mut self.recorded,
+            &mut self.origins,
+            Entry { author, id, kind },
+            changes,
+            origin,
+        );
         self.stacks.redid(author, id, of, seq);
         Ok(seq)
     }
@@ -457,16 +481,4 @@ fn leads_back<A: Allocator>()
 {
     differences_are_changes::<A>();
     an_inverse_restores::<A>();
-}
-
-// Adds an item to a list that has room for it.
-fn push_reserved<T: Drop, A: Allocator>(list: &mut Vec<T, A>, item: T)
-    requires { vec_len list.old < vec_capacity list.old }
-    ensures items { list.new.items ≡ list.old.items ++ item ∷ [] }
-    ensures len { vec_len list.new ≡ vec_len list.old + 1 }
-{
-    match list.push(item) {
-        Ok(()) => {}
-        Err(_) => unreachable!(),
-    }
 }

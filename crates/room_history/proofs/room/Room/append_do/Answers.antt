@@ -27,7 +27,7 @@ did-requires-clause-unspent g c =
     let room = c.self.inside in
     unspent_deed room.store room.recorded.items room.origins.items room.holders room.stacks.deeds room.base.value room.limit room.entries.items c.self.invariant c.args.author c.args.id
     (subst (λ s. MayAppend s.limit s.journal c.args.author c.args.id) (sym c.self.view_is) c.requires.may)
-    c.ready.new.self.deeds (ap (λ (s : StacksState). s.deeds) c.in_ok-ready.ensures.ok)
+    c.make_room.new.stacks.deeds c.make_room.ensures.deeds
 
 pub did-requires-clause-last : goal.did-requires-clause-last
 did-requires-clause-last g c =
@@ -35,7 +35,7 @@ did-requires-clause-last g c =
     let count : c.len.result ≡ length room.entries.items = search rules in
     above_deeds room.store room.recorded.items room.origins.items room.holders room.stacks.deeds room.base.value room.limit room.entries.items c.self.invariant c.args.author c.args.id
     (subst (λ s. MayAppend s.limit s.journal c.args.author c.args.id) (sym c.self.view_is) c.requires.may)
-    c.ready.new.self.deeds (c.len.result + 1) (ap (λ (s : StacksState). s.deeds) c.in_ok-ready.ensures.ok) (ap (λ n. n + 1) count)
+    c.make_room.new.stacks.deeds (c.len.result + 1) c.make_room.ensures.deeds (ap (λ n. n + 1) count)
 
 pub invariant_of-self-2 : goal.invariant_of-self-2
 invariant_of-self-2 g c =
@@ -43,29 +43,29 @@ invariant_of-self-2 g c =
     let count : c.len.result ≡ length room.entries.items = search rules in
     IsRoom-do room.store room.recorded.items room.origins.items room.holders room.stacks.deeds room.base.value room.limit room.entries.items c.self.invariant c.args.author c.args.id
     (subst (λ s. MayAppend s.limit s.journal c.args.author c.args.id) (sym c.self.view_is) c.requires.may)
-    c.args.action c.push_reserved.new.list.items c.stand.new.store c.push_reserved-2.new.list.items c.push_reserved-3.new.list.items c.stand.new.holders c.did.new.self.deeds c.args.changes
+    c.args.action c.enter.new.entries.items c.stand.new.store c.enter.new.recorded.items c.enter.new.origins.items c.stand.new.holders c.did.new.self.deeds c.args.changes
     c.requires.made
     (ap (λ s. refusal (mapof s.base s.journal) c.args.action) c.self.view_is ∙ c.requires.accepted)
     (c.requires.changes ∙ sym (ap (λ s. changes (mapof s.base s.journal) c.args.action) c.self.view_is))
     c.in_ok-stand.ensures.ok.0
-    (c.push_reserved-2.ensures.items ∙ ap (λ rs. rs ++ c.args.changes ∷ []) c.try_reserve-2.ensures.items)
-    (c.push_reserved-3.ensures.items ∙ ap (λ os. os ++ (c.len.result + 1) ∷ []) c.try_reserve-3.ensures.items ∙ ap (λ n. room.origins.items ++ (n + 1) ∷ []) count)
+    (c.enter.ensures.recorded ∙ ap (λ rs. rs ++ c.args.changes ∷ []) c.make_room.ensures.recorded)
+    (c.enter.ensures.origins ∙ ap (λ os. os ++ (c.len.result + 1) ∷ []) c.make_room.ensures.origins ∙ ap (λ n. room.origins.items ++ (n + 1) ∷ []) count)
     (c.in_ok-stand.ensures.ok.1 ∙ ap (λ f. room.holders ++ (c.len.result + 1, f) ∷ []) c.in_ok-footprint.ensures ∙ ap (λ n. room.holders ++ (n + 1, footprint_of c.args.action c.args.changes) ∷ []) count)
-    (ap (λ (s : StacksState). s.deeds) c.did.ensures ∙ ap (λ ds. ds ++ Did c.args.author c.args.id (c.len.result + 1) ∷ []) (ap (λ (s : StacksState). s.deeds) c.in_ok-ready.ensures.ok) ∙ ap (λ n. room.stacks.deeds ++ Did c.args.author c.args.id (n + 1) ∷ []) count)
-    (c.push_reserved.ensures.items ∙ ap (λ es. es ++ record { author = c.args.author; id = c.args.id; kind = Do c.args.action } ∷ []) c.try_reserve.ensures.items)
+    (ap (λ (s : StacksState). s.deeds) c.did.ensures ∙ ap (λ ds. ds ++ Did c.args.author c.args.id (c.len.result + 1) ∷ []) c.make_room.ensures.deeds ∙ ap (λ n. room.stacks.deeds ++ Did c.args.author c.args.id (n + 1) ∷ []) count)
+    (c.enter.ensures.entries ∙ ap (λ es. es ++ record { author = c.args.author; id = c.args.id; kind = Do c.args.action } ∷ []) c.make_room.ensures.entries)
 
 pub returns-in_err-footprint-clause-err : goal.returns-in_err-footprint-clause-err
 returns-in_err-footprint-clause-err g c =
-    on_err c.from_residual-in_err-footprint.result _ (ap (λ es. record { base = c.self.inside.base.value; limit = c.self.inside.limit; journal = es }) c.try_reserve.ensures.items ∙ c.self.view_is)
+    on_err c.from_residual-in_err-footprint.result _ (ap (λ es. record { base = c.self.inside.base.value; limit = c.self.inside.limit; journal = es }) c.make_room.ensures.entries ∙ c.self.view_is)
 
 pub returns-in_err-stand-clause-err : goal.returns-in_err-stand-clause-err
 returns-in_err-stand-clause-err g c =
-    on_err c.from_residual-in_err-stand.result _ (ap (λ es. record { base = c.self.inside.base.value; limit = c.self.inside.limit; journal = es }) c.try_reserve.ensures.items ∙ c.self.view_is)
+    on_err c.from_residual-in_err-stand.result _ (ap (λ es. record { base = c.self.inside.base.value; limit = c.self.inside.limit; journal = es }) c.make_room.ensures.entries ∙ c.self.view_is)
 
-pub returns-in_err-ready-clause-err : goal.returns-in_err-ready-clause-err
-returns-in_err-ready-clause-err g c =
-    on_err c.from_residual-in_err-ready.result _ (ap (λ es. record { base = c.self.inside.base.value; limit = c.self.inside.limit; journal = es }) c.try_reserve.ensures.items ∙ c.self.view_is)
+pub returns-in_err-make_room-clause-err : goal.returns-in_err-make_room-clause-err
+returns-in_err-make_room-clause-err g c =
+    on_err c.from_residual.result _ (ap (λ es. record { base = c.self.inside.base.value; limit = c.self.inside.limit; journal = es }) c.make_room.ensures.entries ∙ c.self.view_is)
 
 pub invariant_of-self-in_err-stand : goal.invariant_of-self-in_err-stand
 invariant_of-self-in_err-stand g c =
-    rw (c.in_err-stand.ensures.err.0, c.in_err-stand.ensures.err.1, c.try_reserve-2.ensures.items, c.try_reserve-3.ensures.items, ap (λ (s : StacksState). s.deeds) c.in_ok-ready.ensures.ok, c.try_reserve.ensures.items) c.self.invariant
+    rw (c.in_err-stand.ensures.err.0, c.in_err-stand.ensures.err.1, c.make_room.ensures.recorded, c.make_room.ensures.origins, c.make_room.ensures.deeds, c.make_room.ensures.entries) c.self.invariant

@@ -23,14 +23,14 @@ stand-requires-clause-from g c =
 
 pub returns-in_err-stand-clause-err : goal.returns-in_err-stand-clause-err
 returns-in_err-stand-clause-err g c =
-    on_err c.from_residual-in_err-stand.result _ (ap (λ es. record { base = c.self.inside.base.value; limit = c.self.inside.limit; journal = es }) c.try_reserve.ensures.items ∙ c.self.view_is)
+    on_err c.from_residual-in_err-stand.result _ (ap (λ es. record { base = c.self.inside.base.value; limit = c.self.inside.limit; journal = es }) c.make_room.ensures.entries ∙ c.self.view_is)
 
 pub redid-requires-clause-unspent : goal.redid-requires-clause-unspent
 redid-requires-clause-unspent g c =
     let room = c.self.inside in
     unspent_deed room.store room.recorded.items room.origins.items room.holders room.stacks.deeds room.base.value room.limit room.entries.items c.self.invariant c.args.author c.args.id
     (subst (λ s. MayAppend s.limit s.journal c.args.author c.args.id) (sym c.self.view_is) c.requires.may)
-    c.ready.new.self.deeds (ap (λ (s : StacksState). s.deeds) c.in_ok-ready.ensures.ok)
+    c.make_room.new.stacks.deeds c.make_room.ensures.deeds
 
 pub redid-requires-clause-last : goal.redid-requires-clause-last
 redid-requires-clause-last g c =
@@ -38,7 +38,7 @@ redid-requires-clause-last g c =
     let count : c.len.result ≡ length room.entries.items = search rules in
     above_deeds room.store room.recorded.items room.origins.items room.holders room.stacks.deeds room.base.value room.limit room.entries.items c.self.invariant c.args.author c.args.id
     (subst (λ s. MayAppend s.limit s.journal c.args.author c.args.id) (sym c.self.view_is) c.requires.may)
-    c.ready.new.self.deeds (c.len.result + 1) (ap (λ (s : StacksState). s.deeds) c.in_ok-ready.ensures.ok) (ap (λ n. n + 1) count)
+    c.make_room.new.stacks.deeds (c.len.result + 1) c.make_room.ensures.deeds (ap (λ n. n + 1) count)
 
 pub redid-requires-clause-on_top : goal.redid-requires-clause-on_top
 redid-requires-clause-on_top g c =
@@ -47,7 +47,7 @@ redid-requires-clause-on_top g c =
     let top = ap (λ s. last (redos s.journal c.args.author)) c.self.view_is ∙ c.requires.top in
     let ok = ap (λ s. redo_refusal (mapof s.base s.journal) (action_at (past s.base s.journal) c.args.of)) c.self.view_is ∙ c.requires.accepted in
     redo_top room.store room.recorded.items room.origins.items room.holders room.stacks.deeds room.base.value room.limit room.entries.items c.self.invariant c.args.author c.args.id may c.args.of top ok
-    c.ready.new.self.deeds (ap (λ (s : StacksState). s.deeds) c.in_ok-ready.ensures.ok)
+    c.make_room.new.stacks.deeds c.make_room.ensures.deeds
 
 pub invariant_of-self-2 : goal.invariant_of-self-2
 invariant_of-self-2 g c =
@@ -57,21 +57,21 @@ invariant_of-self-2 g c =
     let top = ap (λ s. last (redos s.journal c.args.author)) c.self.view_is ∙ c.requires.top in
     let ok = ap (λ s. redo_refusal (mapof s.base s.journal) (action_at (past s.base s.journal) c.args.of)) c.self.view_is ∙ c.requires.accepted in
     IsRoom-redo room.store room.recorded.items room.origins.items room.holders room.stacks.deeds room.base.value room.limit room.entries.items c.self.invariant c.args.author c.args.id may c.args.of top ok
-    c.push_reserved.new.list.items c.stand.new.store c.push_reserved-2.new.list.items c.push_reserved-3.new.list.items c.stand.new.holders c.redid.new.self.deeds c.args.changes c.args.footprint c.unwrap_or-origin.result
+    c.enter.new.entries.items c.stand.new.store c.enter.new.recorded.items c.enter.new.origins.items c.stand.new.holders c.redid.new.self.deeds c.args.changes c.args.footprint c.unwrap_or-origin.result
     (c.requires.changes ∙ sym (ap (λ s. (recorded_next (past s.base s.journal) (Redo c.args.of)).changes) c.self.view_is))
     (c.requires.footprint ∙ sym (ap (λ s. (recorded_next (past s.base s.journal) (Redo c.args.of)).footprint) c.self.view_is))
-    (c.unwrap_or-origin.ensures ∙ (λ i. unwrap_or ((c.copied.ensures ∙ c.numbered.ensures ∙ ap (λ os. numbered os c.args.of) (c.deref.ensures.value ∙ c.try_reserve-3.ensures.items)) i) (count i + 1)))
+    (c.unwrap_or-origin.ensures ∙ (λ i. unwrap_or ((c.copied.ensures ∙ c.numbered.ensures ∙ ap (λ os. numbered os c.args.of) (c.deref.ensures.value ∙ c.make_room.ensures.origins)) i) (count i + 1)))
     c.in_ok-stand.ensures.ok.0
-    (c.push_reserved-2.ensures.items ∙ ap (λ rs. rs ++ c.args.changes ∷ []) c.try_reserve-2.ensures.items)
-    (c.push_reserved-3.ensures.items ∙ ap (λ os. os ++ c.unwrap_or-origin.result ∷ []) c.try_reserve-3.ensures.items)
+    (c.enter.ensures.recorded ∙ ap (λ rs. rs ++ c.args.changes ∷ []) c.make_room.ensures.recorded)
+    (c.enter.ensures.origins ∙ ap (λ os. os ++ c.unwrap_or-origin.result ∷ []) c.make_room.ensures.origins)
     (c.in_ok-stand.ensures.ok.1 ∙ ap (λ n. room.holders ++ (n + 1, c.args.footprint) ∷ []) count)
-    (ap (λ (s : StacksState). s.deeds) c.redid.ensures ∙ ap (λ ds. ds ++ Redid c.args.author c.args.id c.args.of (c.len.result + 1) ∷ []) (ap (λ (s : StacksState). s.deeds) c.in_ok-ready.ensures.ok) ∙ ap (λ n. room.stacks.deeds ++ Redid c.args.author c.args.id c.args.of (n + 1) ∷ []) count)
-    (c.push_reserved.ensures.items ∙ ap (λ es. es ++ record { author = c.args.author; id = c.args.id; kind = Redo c.args.of } ∷ []) c.try_reserve.ensures.items)
+    (ap (λ (s : StacksState). s.deeds) c.redid.ensures ∙ ap (λ ds. ds ++ Redid c.args.author c.args.id c.args.of (c.len.result + 1) ∷ []) c.make_room.ensures.deeds ∙ ap (λ n. room.stacks.deeds ++ Redid c.args.author c.args.id c.args.of (n + 1) ∷ []) count)
+    (c.enter.ensures.entries ∙ ap (λ es. es ++ record { author = c.args.author; id = c.args.id; kind = Redo c.args.of } ∷ []) c.make_room.ensures.entries)
 
-pub returns-in_err-ready-clause-err : goal.returns-in_err-ready-clause-err
-returns-in_err-ready-clause-err g c =
-    on_err c.from_residual-in_err-ready.result _ (ap (λ es. record { base = c.self.inside.base.value; limit = c.self.inside.limit; journal = es }) c.try_reserve.ensures.items ∙ c.self.view_is)
+pub returns-in_err-make_room-clause-err : goal.returns-in_err-make_room-clause-err
+returns-in_err-make_room-clause-err g c =
+    on_err c.from_residual.result _ (ap (λ es. record { base = c.self.inside.base.value; limit = c.self.inside.limit; journal = es }) c.make_room.ensures.entries ∙ c.self.view_is)
 
 pub invariant_of-self-in_err-stand : goal.invariant_of-self-in_err-stand
 invariant_of-self-in_err-stand g c =
-    rw (c.in_err-stand.ensures.err.0, c.in_err-stand.ensures.err.1, c.try_reserve-2.ensures.items, c.try_reserve-3.ensures.items, ap (λ (s : StacksState). s.deeds) c.in_ok-ready.ensures.ok, c.try_reserve.ensures.items) c.self.invariant
+    rw (c.in_err-stand.ensures.err.0, c.in_err-stand.ensures.err.1, c.make_room.ensures.recorded, c.make_room.ensures.origins, c.make_room.ensures.deeds, c.make_room.ensures.entries) c.self.invariant

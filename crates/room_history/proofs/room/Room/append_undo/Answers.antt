@@ -23,14 +23,14 @@ taken_back-requires-clause-there g c =
     let may = subst (λ s. MayAppend s.limit s.journal c.args.author c.args.id) (sym c.self.view_is) c.requires.may in
     let ok = ap (λ s. undo_refusal (past s.base s.journal) s.journal c.args.author c.args.of) c.self.view_is ∙ c.requires.accepted in
     let there = is_recorded room.store room.recorded.items room.origins.items room.holders room.stacks.deeds room.base.value room.limit room.entries.items c.self.invariant c.args.author c.args.id may c.args.of ok in
-    rw (c.deref.ensures.value ∙ c.try_reserve-2.ensures.items) there
+    rw (c.deref.ensures.value ∙ c.make_room.ensures.recorded) there
 
 pub apply-requires-clause-from : goal.apply-requires-clause-from
 apply-requires-clause-from g c =
     let room = c.self.inside in
     let may = subst (λ s. MayAppend s.limit s.journal c.args.author c.args.id) (sym c.self.view_is) c.requires.may in
     let ok = ap (λ s. undo_refusal (past s.base s.journal) s.journal c.args.author c.args.of) c.self.view_is ∙ c.requires.accepted in
-    let told = rw (c.deref.ensures.value ∙ c.try_reserve-2.ensures.items) at c.in_ok-changes.ensures in
+    let told = rw (c.deref.ensures.value ∙ c.make_room.ensures.recorded) at c.in_ok-changes.ensures in
     let next = next_is room.store room.recorded.items room.origins.items room.holders room.stacks.deeds room.base.value room.limit room.entries.items c.self.invariant c.args.author c.args.id may c.args.of ok c.in_ok-changes.changes told in
     subst (λ cs. AreFrom room.store.rows cs) (sym next) (undo_from room.store room.recorded.items room.origins.items room.holders room.stacks.deeds room.base.value room.limit room.entries.items c.self.invariant c.args.author c.args.id may c.args.of ok c.leads_back.ensures.differ c.leads_back.ensures.from c.leads_back.ensures.back)
 
@@ -39,51 +39,51 @@ apply-requires-clause-sound g c =
     let room = c.self.inside in
     let may = subst (λ s. MayAppend s.limit s.journal c.args.author c.args.id) (sym c.self.view_is) c.requires.may in
     let ok = ap (λ s. undo_refusal (past s.base s.journal) s.journal c.args.author c.args.of) c.self.view_is ∙ c.requires.accepted in
-    let told = rw (c.deref.ensures.value ∙ c.try_reserve-2.ensures.items) at c.in_ok-changes.ensures in
+    let told = rw (c.deref.ensures.value ∙ c.make_room.ensures.recorded) at c.in_ok-changes.ensures in
     let next = next_is room.store room.recorded.items room.origins.items room.holders room.stacks.deeds room.base.value room.limit room.entries.items c.self.invariant c.args.author c.args.id may c.args.of ok c.in_ok-changes.changes told in
     ap (λ cs. is_sound (changed room.store.rows cs)) next ∙ undo_sound room.store room.recorded.items room.origins.items room.holders room.stacks.deeds room.base.value room.limit room.entries.items c.self.invariant c.args.author c.args.id may c.args.of ok
 
 pub invariant_of-self-in_err-apply : goal.invariant_of-self-in_err-apply
 invariant_of-self-in_err-apply g c =
-    rw (c.in_err-apply.ensures.err, c.try_reserve-2.ensures.items, c.try_reserve-3.ensures.items, ap (λ (s : StacksState). s.deeds) c.in_ok-ready.ensures.ok, c.try_reserve.ensures.items) c.self.invariant
+    rw (c.in_err-apply.ensures.err, c.make_room.ensures.recorded, c.make_room.ensures.origins, c.make_room.ensures.deeds, c.make_room.ensures.entries) c.self.invariant
 
 pub returns-in_err-apply-clause-err : goal.returns-in_err-apply-clause-err
 returns-in_err-apply-clause-err g c =
-    on_err c.from_residual-in_err-apply.result _ (ap (λ es. record { base = c.self.inside.base.value; limit = c.self.inside.limit; journal = es }) c.try_reserve.ensures.items ∙ c.self.view_is)
+    on_err c.from_residual-in_err-apply.result _ (ap (λ es. record { base = c.self.inside.base.value; limit = c.self.inside.limit; journal = es }) c.make_room.ensures.entries ∙ c.self.view_is)
 
 pub undid-requires-clause-unspent : goal.undid-requires-clause-unspent
 undid-requires-clause-unspent g c =
     let room = c.self.inside in
     let may = subst (λ s. MayAppend s.limit s.journal c.args.author c.args.id) (sym c.self.view_is) c.requires.may in
-    unspent_deed room.store room.recorded.items room.origins.items room.holders room.stacks.deeds room.base.value room.limit room.entries.items c.self.invariant c.args.author c.args.id may c.ready.new.self.deeds (ap (λ (s : StacksState). s.deeds) c.in_ok-ready.ensures.ok)
+    unspent_deed room.store room.recorded.items room.origins.items room.holders room.stacks.deeds room.base.value room.limit room.entries.items c.self.invariant c.args.author c.args.id may c.make_room.new.stacks.deeds c.make_room.ensures.deeds
 
 pub undid-requires-clause-stands : goal.undid-requires-clause-stands
 undid-requires-clause-stands g c =
     let room = c.self.inside in
     let may = subst (λ s. MayAppend s.limit s.journal c.args.author c.args.id) (sym c.self.view_is) c.requires.may in
     let ok = ap (λ s. undo_refusal (past s.base s.journal) s.journal c.args.author c.args.of) c.self.view_is ∙ c.requires.accepted in
-    stands_there room.store room.recorded.items room.origins.items room.holders room.stacks.deeds room.base.value room.limit room.entries.items c.self.invariant c.args.author c.args.id may c.args.of ok c.ready.new.self.deeds (ap (λ (s : StacksState). s.deeds) c.in_ok-ready.ensures.ok)
+    stands_there room.store room.recorded.items room.origins.items room.holders room.stacks.deeds room.base.value room.limit room.entries.items c.self.invariant c.args.author c.args.id may c.args.of ok c.make_room.new.stacks.deeds c.make_room.ensures.deeds
 
 pub undid-requires-clause-last : goal.undid-requires-clause-last
 undid-requires-clause-last g c =
     let room = c.self.inside in
     let may = subst (λ s. MayAppend s.limit s.journal c.args.author c.args.id) (sym c.self.view_is) c.requires.may in
     let count : c.len.result ≡ length room.entries.items = search rules in
-    above_deeds room.store room.recorded.items room.origins.items room.holders room.stacks.deeds room.base.value room.limit room.entries.items c.self.invariant c.args.author c.args.id may c.ready.new.self.deeds (c.len.result + 1) (ap (λ (s : StacksState). s.deeds) c.in_ok-ready.ensures.ok) (ap (λ n. n + 1) count)
+    above_deeds room.store room.recorded.items room.origins.items room.holders room.stacks.deeds room.base.value room.limit room.entries.items c.self.invariant c.args.author c.args.id may c.make_room.new.stacks.deeds (c.len.result + 1) c.make_room.ensures.deeds (ap (λ n. n + 1) count)
 
 pub invariant_of-self-2 : goal.invariant_of-self-2
 invariant_of-self-2 g c =
     let room = c.self.inside in
     let may = subst (λ s. MayAppend s.limit s.journal c.args.author c.args.id) (sym c.self.view_is) c.requires.may in
     let ok = ap (λ s. undo_refusal (past s.base s.journal) s.journal c.args.author c.args.of) c.self.view_is ∙ c.requires.accepted in
-    let told = rw (c.deref.ensures.value ∙ c.try_reserve-2.ensures.items) at c.in_ok-changes.ensures in
+    let told = rw (c.deref.ensures.value ∙ c.make_room.ensures.recorded) at c.in_ok-changes.ensures in
     let next = next_is room.store room.recorded.items room.origins.items room.holders room.stacks.deeds room.base.value room.limit room.entries.items c.self.invariant c.args.author c.args.id may c.args.of ok c.in_ok-changes.changes told in
     let count : c.len.result ≡ length room.entries.items = search rules in
-    IsRoom-undo room.store room.recorded.items room.origins.items room.holders room.stacks.deeds room.base.value room.limit room.entries.items c.self.invariant c.args.author c.args.id may c.args.of ok c.push_reserved.new.list.items c.apply.new.self c.push_reserved-2.new.list.items c.push_reserved-3.new.list.items c.fall.new.self c.undid.new.self.deeds c.in_ok-changes.changes
+    IsRoom-undo room.store room.recorded.items room.origins.items room.holders room.stacks.deeds room.base.value room.limit room.entries.items c.self.invariant c.args.author c.args.id may c.args.of ok c.enter.new.entries.items c.apply.new.self c.enter.new.recorded.items c.enter.new.origins.items c.fall.new.self c.undid.new.self.deeds c.in_ok-changes.changes
     next
     c.in_ok-apply.ensures.ok
-    (c.push_reserved-2.ensures.items ∙ ap (λ rs. rs ++ c.in_ok-changes.changes ∷ []) c.try_reserve-2.ensures.items)
-    (c.push_reserved-3.ensures.items ∙ ap (λ os. os ++ (c.len.result + 1) ∷ []) c.try_reserve-3.ensures.items ∙ ap (λ n. room.origins.items ++ (n + 1) ∷ []) count)
+    (c.enter.ensures.recorded ∙ ap (λ rs. rs ++ c.in_ok-changes.changes ∷ []) c.make_room.ensures.recorded)
+    (c.enter.ensures.origins ∙ ap (λ os. os ++ (c.len.result + 1) ∷ []) c.make_room.ensures.origins ∙ ap (λ n. room.origins.items ++ (n + 1) ∷ []) count)
     c.fall.ensures
-    (ap (λ (s : StacksState). s.deeds) c.undid.ensures ∙ ap (λ ds. ds ++ Undid c.args.author c.args.id c.args.of (c.len.result + 1) ∷ []) (ap (λ (s : StacksState). s.deeds) c.in_ok-ready.ensures.ok) ∙ ap (λ n. room.stacks.deeds ++ Undid c.args.author c.args.id c.args.of (n + 1) ∷ []) count)
-    (c.push_reserved.ensures.items ∙ ap (λ es. es ++ record { author = c.args.author; id = c.args.id; kind = Undo c.args.of } ∷ []) c.try_reserve.ensures.items)
+    (ap (λ (s : StacksState). s.deeds) c.undid.ensures ∙ ap (λ ds. ds ++ Undid c.args.author c.args.id c.args.of (c.len.result + 1) ∷ []) c.make_room.ensures.deeds ∙ ap (λ n. room.stacks.deeds ++ Undid c.args.author c.args.id c.args.of (n + 1) ∷ []) count)
+    (c.enter.ensures.entries ∙ ap (λ es. es ++ record { author = c.args.author; id = c.args.id; kind = Undo c.args.of } ∷ []) c.make_room.ensures.entries)
