@@ -1,5 +1,5 @@
 -- One step of a room.
-use Rattle.std.proofs.Common.{◌≡◌, Result, OnErr, ◌<◌, ◌≤◌, ◌+◌, ◌++◌, ◌∷◌, ℕ, true, false, List, [], Option, Some, None, Ok, Err, length, refl, sym, ap, subst, ◌∙◌, arith, ◌⊎◌, inl, inr, zero, suc, map, nat_le, unwrap_or}
+use Rattle.std.proofs.Common.{◌≡◌, Result, OnOk, OnErr, IfOk, IfErr, ◌<◌, ◌≤◌, ◌+◌, ◌++◌, ◌∷◌, ℕ, true, false, List, [], Option, Some, None, Ok, Err, length, refl, sym, ap, subst, ◌∙◌, arith, ◌⊎◌, inl, inr, zero, suc, map, nat_le, unwrap_or}
 use Rattle.std.specs.Bool.{then_some}
 use Rattle.std.specs.Option.{option_map, option_and_then}
 use Rattle.std.proofs.lemmas.Bool.Decides.{nat_tests}
@@ -22,7 +22,7 @@ use Rattle.edit_actions.specs.After.{after, changes}
 use Rattle.edit_actions.specs.Refusals.{checks, refusal}
 use Rattle.edit_simple.specs.Checks.{first_that_holds}
 use Rattle.room_history.specs.Journals.{numbered, last, redos}
-use Rattle.room_history.specs.Replays.{Past, Recorded, past, mapof, action_at, recorded_next, taken_back}
+use Rattle.room_history.specs.Replays.{Past, Recorded, past, mapof, action_at, recorded_next, done_again, taken_back}
 use Rattle.room_history.specs.Answers.{spent, asked, meant, undo_refusal, redo_refusal, meaning_refusal, with_entry, answered, answer}
 use Rattle.edit_actions.specs.MadeActions.{is_made_action}
 use Rattle.room_history.specs.LegalJournals.{IsJournal, opened, called}
@@ -98,15 +98,33 @@ pub on_err : {X E : Type 0} (r : Result X E) (P : Type 0) → P → OnErr r P
 on_err (Ok x) P p = tt
 on_err (Err e) P p = p
 
--- the reply to the redo of an action whose plan refuses
-pub redo_refused : {A : Type 0} (m : Rows A) (o : Option (Action A)) (a : Action A) (r : Refusal A) (reply : Reply A) → o ≡ Some a → reply ≡ refusal_reply r → IsPlan m (checks m a) (after m a) (Err r)
-    → (reply ≡ Memory) ⊎ (redo_refusal m o ≡ Some reply)
-redo_refused m o a r reply acts is (inr e) = inl (is ∙ ap refusal_reply e)
-redo_refused m o a r reply acts is (inl e) = by (reply_is r)
+-- the reply to an action whose plan refuses
+pub plan_refused : {A : Type 0} (m : Rows A) (a : Action A) (r : Refusal A) (reply : Reply A) → reply ≡ refusal_reply r → IsPlan m (checks m a) (after m a) (Err r)
+    → (reply ≡ Memory) ⊎ (option_map Refused (refusal m a) ≡ Some reply)
+plan_refused m a r reply is (inr e) = inl (is ∙ ap refusal_reply e)
+plan_refused m a r reply is (inl e) = by (reply_is r)
   where
-    by : (refusal_reply r ≡ Refused r) ⊎ (refusal_reply r ≡ Memory) → (reply ≡ Memory) ⊎ (redo_refusal m o ≡ Some reply)
-    by (inl same) = inr (ap (redo_refusal m) acts ∙ ap (option_map Refused) e ∙ ap Some (sym (is ∙ same)))
+    by : (refusal_reply r ≡ Refused r) ⊎ (refusal_reply r ≡ Memory) → (reply ≡ Memory) ⊎ (option_map Refused (refusal m a) ≡ Some reply)
+    by (inl same) = inr (ap (option_map Refused) e ∙ ap Some (sym (is ∙ same)))
     by (inr same) = inl (is ∙ same)
+
+-- what is planned for the action of an entry is what its redo wants
+pub accepted_again : {A X E : Type 0} (m : Rows A) (o : Option (Action A)) (a : Action A) (r : Result X E) → o ≡ Some a → OnOk r (refusal m a ≡ None) → OnOk r (redo_refusal m o ≡ None)
+accepted_again m o a (Ok x) acts e = ap (redo_refusal m) acts ∙ ap (option_map Refused) e
+accepted_again m o a (Err x) acts e = tt
+
+pub changed_again : {A F E : Type 0} (m : Rows A) (o : Option (Action A)) (a : Action A) (r : Result (List (Change A) × F) E) → o ≡ Some a → IfOk r (λ p. p.0 ≡ changes m a) → IfOk r (λ p. p.0 ≡ (done_again m o).changes)
+changed_again m o a (Ok x) acts e = e ∙ sym (ap (λ q. (done_again m q).changes) acts)
+changed_again m o a (Err x) acts e = tt
+
+pub touched_again : {A C E : Type 0} (m : Rows A) (o : Option (Action A)) (a : Action A) (r : Result (C × List Name) E) → o ≡ Some a → IfOk r (λ p. p.1 ≡ footprint_of a (changes m a)) → IfOk r (λ p. p.1 ≡ (done_again m o).footprint)
+touched_again m o a (Ok x) acts e = e ∙ sym (ap (λ q. (done_again m q).footprint) acts)
+touched_again m o a (Err x) acts e = tt
+
+pub refused_again : {A X : Type 0} (m : Rows A) (o : Option (Action A)) (a : Action A) (r : Result X (Reply A)) → o ≡ Some a → IfErr r (λ reply. (reply ≡ Memory) ⊎ (option_map Refused (refusal m a) ≡ Some reply)) → IfErr r (λ reply. (reply ≡ Memory) ⊎ (redo_refusal m o ≡ Some reply))
+refused_again m o a (Ok x) acts e = tt
+refused_again m o a (Err x) acts (inl e) = inl e
+refused_again m o a (Err x) acts (inr e) = inr (ap (redo_refusal m) acts ∙ e)
 
 module _ {A : Type 0} where
   pub step_full : (base : Rows A) (limit : ℕ) (j : List (Entry A)) (c : Call A) → spent j c.author c.id ≡ None → limit ≤ length j → IsStep base limit j c Full j
@@ -135,17 +153,9 @@ module _ {A : Type 0} where
     done_is : (a : Action A) → refusal (mapof base j) a ≡ None → answer base limit j (record { author = author; id = id; request = requests.Do a }) ≡ (Done (length j + 1), with_entry j author id (Do a))
     done_is a e = answer_is (requests.Do a) ∙ ap (λ o. answered j (record { author = author; id = id; request = requests.Do a }) (option_map Refused o) (Some (Do a))) e
 
-    step_refused : (a : Action A) (r : Refusal A) → refusal (mapof base j) a ≡ Some r → IsStep base limit j (record { author = author; id = id; request = requests.Do a }) (Refused r) j
-    step_refused a r e = inl (sym (answer_is (requests.Do a) ∙ ap (λ o. answered j (record { author = author; id = id; request = requests.Do a }) (option_map Refused o) (Some (Do a))) e))
-
-    -- a plan that refuses
-    pub step_not_done : (a : Action A) (r : Refusal A) → IsPlan (mapof base j) (checks (mapof base j) a) (after (mapof base j) a) (Err r) → IsStep base limit j (record { author = author; id = id; request = requests.Do a }) (refusal_reply r) j
-    step_not_done a r (inr e) = inr (ap refusal_reply e, refl)
-    step_not_done a r (inl e) = by (reply_is r)
-      where
-        by : (refusal_reply r ≡ Refused r) ⊎ (refusal_reply r ≡ Memory) → IsStep base limit j (record { author = author; id = id; request = requests.Do a }) (refusal_reply r) j
-        by (inl is) = subst (λ reply. IsStep base limit j (record { author = author; id = id; request = requests.Do a }) reply j) (sym is) (step_refused a r e)
-        by (inr is) = inr (is, refl)
+    pub step_not_done : (a : Action A) (reply : Reply A) → (reply ≡ Memory) ⊎ (option_map Refused (refusal (mapof base j) a) ≡ Some reply) → IsStep base limit j (record { author = author; id = id; request = requests.Do a }) reply j
+    step_not_done a reply (inl is) = inr (is, refl)
+    step_not_done a reply (inr is) = inl (sym (answer_is (requests.Do a) ∙ ap (λ o. answered j (record { author = author; id = id; request = requests.Do a }) o (Some (Do a))) is))
 
     pub step_done : (a : Action A) (seq : ℕ) → refusal (mapof base j) a ≡ None → seq ≡ length j + 1 → IsStep base limit j (record { author = author; id = id; request = requests.Do a }) (Done seq) (with_entry j author id (Do a))
     step_done a seq e is = inl (ap (λ n. (Done n, with_entry j author id (Do a))) is ∙ sym (done_is a e))

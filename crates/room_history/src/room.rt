@@ -1,11 +1,12 @@
 //! The room.
 ghost use Rattle.std.specs.Prelude.{◌≡◌, ◌+◌, ◌⊎◌, List, [], Some, None, true, length, IfOk, IfErr, OnOk, OnErr};
-ghost use Rattle.std.specs.Option.{option_copied};
+ghost use Rattle.std.specs.Option.{option_copied, option_map};
 ghost use Rattle.osm_changes.specs.declared.change.Change.{Change};
 ghost use Rattle.osm_changes.specs.Changes.{differences, changed, inverse, AreChanges, AreFrom};
 ghost use Rattle.osm_elements.specs.Maps.{Rows};
 ghost use Rattle.osm_elements.specs.Rows.{AreInOrder};
 ghost use Rattle.osm_changes.specs.Sound.{is_sound};
+ghost use Rattle.edit_footprint.specs.Footprints.{footprint_of};
 ghost use Rattle.osm_changes.specs.Stores.{applied_to};
 ghost use Rattle.edit_footprint.specs.Holding.{IsNext};
 ghost use Rattle.room_history.specs.Journals.{numbered};
@@ -154,27 +155,51 @@ impl<A: Allocator + Copy> Room<A> {
         ensures base { self.new.base ≡ self.old.base }
         ensures limit { self.new.limit ≡ self.old.limit }
     {
-        match plan(*self.entries.allocator(), &self.store, &action) {
-            Ok(changes) => match self.append_do(author, id, action, changes) {
-                Ok(seq) => Reply::Done { seq },
-                Err(_) => Reply::Memory,
-            },
-            Err(refusal) => refusal.into(),
+        match self.planned(&action) {
+            Ok((changes, footprint)) => {
+                match self.append_do(author, id, action, changes, footprint) {
+                    Ok(seq) => Reply::Done { seq },
+                    Err(_) => Reply::Memory,
+                }
+            }
+            Err(refused) => refused,
         }
     }
 
-    // Appends the entry of an accepted action with what it changes, and answers its number.
+    // What an action changes and touches on the map as it is, or the reply that refuses it.
+    fn planned(&self, action: &Action<A>) -> Result<(Changes<A>, Footprint<A>), Reply<A>>
+        ensures made { is_made_action action.now ≡ true }
+        ensures accepted { OnOk result (refusal (mapof self.now.base self.now.journal) action.now ≡ None) }
+        ensures changes { IfOk result (λ p. p.0 ≡ changes_of (mapof self.now.base self.now.journal) action.now) }
+        ensures footprint { IfOk result (λ p. p.1 ≡ footprint_of action.now (changes_of (mapof self.now.base self.now.journal) action.now)) }
+        ensures from { IfOk result (λ p. AreFrom (mapof self.now.base self.now.journal) p.0) }
+        ensures sound { IfOk result (λ p. is_sound (changed (mapof self.now.base self.now.journal) p.0) ≡ true) }
+        ensures refused { IfErr result (λ r. (r ≡ replies.Memory) ⊎ (option_map replies.Refused (refusal (mapof self.now.base self.now.journal) action.now) ≡ Some r)) }
+    {
+        let alloc = *self.entries.allocator();
+        match plan(alloc, &self.store, action) {
+            Ok(changes) => match footprint(alloc, action, &changes) {
+                Ok(footprint) => Ok((changes, footprint)),
+                Err(_) => Err(Reply::Memory),
+            },
+            Err(refusal) => Err(refusal.into()),
+        }
+    }
+
+    // Appends the entry of an accepted action with what it changes and touches, and answers its number.
     fn append_do(
         &mut self,
         author: Author,
         id: u64,
         action: Action<A>,
         changes: Changes<A>,
+        footprint: Footprint<A>,
     ) -> Result<u64, Memory>
         requires may { MayAppend self.old.limit self.old.journal author id }
         requires made { is_made_action action ≡ true }
         requires accepted { refusal (mapof self.old.base self.old.journal) action ≡ None }
         requires changes { changes ≡ changes_of (mapof self.old.base self.old.journal) action }
+        requires footprint { footprint ≡ footprint_of action (changes_of (mapof self.old.base self.old.journal) action) }
         requires from { AreFrom (mapof self.old.base self.old.journal) changes }
         requires sound { is_sound (changed (mapof self.old.base self.old.journal) changes) ≡ true }
         ensures ok { IfOk result (λ seq. (seq ≡ length self.old.journal + 1)
@@ -189,7 +214,6 @@ impl<A: Allocator + Copy> Room<A> {
             &mut self.stacks,
             &author,
         )?;
-        let footprint = footprint(alloc, &action, &changes)?;
         let seq = self.entries.len() as u64 + 1;
         stand(
             alloc,
@@ -294,15 +318,8 @@ impl<A: Allocator + Copy> Room<A> {
         ensures sound { IfOk result (λ p. is_sound (changed (mapof self.now.base self.now.journal) p.0) ≡ true) }
         ensures refused { IfErr result (λ r. (r ≡ replies.Memory) ⊎ (redo_refusal (mapof self.now.base self.now.journal) (action_at (past self.now.base self.now.journal) of) ≡ Some r)) }
     {
-        let alloc = *self.entries.allocator();
         match action_of(&self.entries, &self.origins, of) {
-            Some(action) => match plan(alloc, &self.store, action) {
-                Ok(changes) => match footprint(alloc, action, &changes) {
-                    Ok(footprint) => Ok((changes, footprint)),
-                    Err(_) => Err(Reply::Memory),
-                },
-                Err(refusal) => Err(refusal.into()),
-            },
+            Some(action) => self.planned(action),
             None => Err(Reply::NothingToRedo),
         }
     }

@@ -1,9 +1,9 @@
 //! A run of calls.
-ghost use Rattle.std.specs.Prelude.{◌≡◌, [], IfOk};
+ghost use Rattle.std.specs.Prelude.{◌≡◌, [], IfOk, OnOk};
 ghost use Rattle.room_history.specs.Runs.{IsRun};
 
-use crate::call::Calls;
-use crate::reply::Replies;
+use crate::call::{Call, Calls};
+use crate::reply::{Replies, Reply};
 use crate::room::Room;
 use osm_elements::Memory;
 use std::alloc::Allocator;
@@ -21,10 +21,25 @@ pub fn run<A: Allocator + Copy>(
     ensures base { IfOk result (λ run. run.0.base ≡ []) }
 {
     let mut room = Room::open(alloc, limit);
-    let calls = calls.into_vec();
+    let replies = answer_all(alloc, &mut room, calls.into_vec())?;
+    Ok((room, Replies::from_vec(replies)))
+}
+
+// The replies of a new room to calls in turn.
+fn answer_all<A: Allocator + Copy>(
+    alloc: A,
+    room: &mut Room<A>,
+    calls: Vec<Call<A>, A>,
+) -> Result<Vec<Reply<A>, A>, Memory>
+    requires base { room.old.base ≡ [] }
+    requires journal { room.old.journal ≡ [] }
+    ensures run { IfOk result (λ replies. IsRun room.new.base room.old.limit [] calls.items replies.items room.new.journal) }
+    ensures limit { OnOk result (room.new.limit ≡ room.old.limit) }
+    ensures base { OnOk result (room.new.base ≡ []) }
+{
     let mut replies = Vec::with_capacity(alloc, calls.len())?;
     for call in calls {
         replies.push(room.take(call))?;
     }
-    Ok((room, Replies::from_vec(replies)))
+    Ok(replies)
 }

@@ -50,13 +50,9 @@ invariant_of-self-2 g c =
     c.in_ok-stand.ensures.ok.0
     (c.enter.ensures.recorded ∙ ap (λ rs. rs ++ c.args.changes ∷ []) c.make_room.ensures.recorded)
     (c.enter.ensures.origins ∙ ap (λ os. os ++ (c.len.result + 1) ∷ []) c.make_room.ensures.origins ∙ ap (λ n. room.origins.items ++ (n + 1) ∷ []) count)
-    (c.in_ok-stand.ensures.ok.1 ∙ ap (λ f. room.holders ++ (c.len.result + 1, f) ∷ []) c.in_ok-footprint.ensures ∙ ap (λ n. room.holders ++ (n + 1, footprint_of c.args.action c.args.changes) ∷ []) count)
+    (c.in_ok-stand.ensures.ok.1 ∙ ap (λ f. room.holders ++ (c.len.result + 1, f) ∷ []) (c.requires.footprint ∙ sym (ap (footprint_of c.args.action) c.requires.changes)) ∙ ap (λ n. room.holders ++ (n + 1, footprint_of c.args.action c.args.changes) ∷ []) count)
     (ap (λ (s : StacksState). s.deeds) c.did.ensures ∙ ap (λ ds. ds ++ Did c.args.author c.args.id (c.len.result + 1) ∷ []) c.make_room.ensures.deeds ∙ ap (λ n. room.stacks.deeds ++ Did c.args.author c.args.id (n + 1) ∷ []) count)
     (c.enter.ensures.entries ∙ ap (λ es. es ++ record { author = c.args.author; id = c.args.id; kind = Do c.args.action } ∷ []) c.make_room.ensures.entries)
-
-pub returns-in_err-footprint-clause-err : goal.returns-in_err-footprint-clause-err
-returns-in_err-footprint-clause-err g c =
-    on_err c.from_residual-in_err-footprint.result _ (ap (λ es. record { base = c.self.inside.base.value; limit = c.self.inside.limit; journal = es }) c.make_room.ensures.entries ∙ c.self.view_is)
 
 pub returns-in_err-stand-clause-err : goal.returns-in_err-stand-clause-err
 returns-in_err-stand-clause-err g c =

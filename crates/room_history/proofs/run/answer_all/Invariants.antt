@@ -1,12 +1,12 @@
 use Rattle.std.proofs.Common.{◌≡◌, ◌++◌, []}
 use Rattle.std.specs.Vec.Iter.{into_iter_items}
 use Rattle.room_history.specs.Runs.{IsRun}
-use Rattle.room_history.proofs.run.run.Given as goal
+use Rattle.room_history.proofs.run.answer_all.Given as goal
 
 abbrev pub invariant-loop-call : goal.invariant-loop-call
 invariant-loop-call g l = record {
-  all : l.yielded ++ into_iter_items l.call-iterator ≡ l.fn.calls;
+  all : l.yielded ++ into_iter_items l.call-iterator ≡ l.fn.calls.items;
   base : l.room.base ≡ [];
-  limit : l.room.limit ≡ l.fn.limit;
-  run : IsRun l.room.base l.fn.limit [] l.yielded l.replies.items l.room.journal;
+  limit : l.room.limit ≡ l.fn.room.limit;
+  run : IsRun l.room.base l.fn.room.limit [] l.yielded l.replies.items l.room.journal;
 }
