@@ -3,6 +3,7 @@
 
 mod changing;
 mod create;
+mod cut_short;
 mod delete;
 pub mod laws;
 pub mod limits;

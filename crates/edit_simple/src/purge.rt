@@ -1,7 +1,7 @@
 //! Plans of purges.
-ghost use Rattle.std.specs.Prelude.{◌≡◌, ◌++◌, [], ◌∷◌, true, not, map, count_by, IfOk, OnOk, Some};
+ghost use Rattle.std.specs.Prelude.{◌≡◌, ◌++◌, [], ◌∷◌, true, not, map, IfOk, OnOk, Some};
 ghost use Rattle.std.specs.List.{filter};
-ghost use Rattle.osm_elements.specs.Maps.{is_among, is_present, is_same, name_set};
+ghost use Rattle.osm_elements.specs.Maps.{is_among, is_present, name_set};
 ghost use Rattle.osm_elements.specs.Members.{member_pair};
 ghost use Rattle.osm_elements.specs.Nodes.{AreNodes};
 ghost use Rattle.osm_elements.specs.Rows.{row_at};
@@ -12,7 +12,7 @@ ghost use Rattle.edit_simple.specs.Parts.{nodes_of};
 ghost use Rattle.edit_simple.specs.Plans.{IsPlan};
 ghost use Rattle.edit_simple.specs.Purge.{without, falls_short, purge_checks, after_purge};
 
-use crate::limits::FEWEST_NODES;
+use crate::cut_short::is_cut_short;
 use crate::lookup::{is_present, is_same};
 use crate::refusal::Refusal;
 use osm_changes::change::Change;
@@ -74,21 +74,6 @@ fn falls_short<A: Allocator>(rows: &OsmMap<A>, name: &Name, purged: &Name) -> bo
         Some(Element::Way { nodes, .. }) => is_cut_short(nodes.names(), purged),
         _ => false,
     }
-}
-
-// Whether the purged name is taken from a list, and fewer than 2 names are left.
-fn is_cut_short(names: &[Name], purged: &Name) -> bool
-    ensures { result ≡ falls_short purged.now names.now }
-{
-    let left = count_others(names, purged);
-    left < names.len() && left < FEWEST_NODES
-}
-
-// How many names of a list are others than one.
-fn count_others(names: &[Name], one: &Name) -> usize
-    ensures { result ≡ count_by (λ n. not (is_same one.now n)) names.now }
-{
-    names.iter().filter(|name| !is_same(one, *name)).count()
 }
 
 // The names whose rows change, rising, each once: the purged one, its users, and the users of those that go.

@@ -7,5 +7,6 @@ mod kinds;
 pub mod laws;
 mod merge;
 pub mod plans;
+mod renaming;
 mod split;
 mod touched;

@@ -3,8 +3,6 @@ ghost use Rattle.std.specs.Prelude.{◌≡◌, ◌⊎◌, ◌++◌, true, map, N
 ghost use Rattle.std.specs.List.{find, list_all};
 ghost use Rattle.osm_elements.specs.Made.{is_node};
 ghost use Rattle.osm_elements.specs.Maps.{is_present, is_same, name_set};
-ghost use Rattle.osm_elements.specs.Members.{member_pair};
-ghost use Rattle.osm_elements.specs.Nodes.{AreNodes};
 ghost use Rattle.osm_elements.specs.Rows.{row_at};
 ghost use Rattle.osm_refs.specs.References.{users};
 ghost use Rattle.osm_changes.specs.Sound.{is_sound};
@@ -13,12 +11,12 @@ ghost use Rattle.edit_simple.specs.Checks.{first_that_holds};
 ghost use Rattle.edit_simple.specs.Inner.Passing.{passed};
 ghost use Rattle.edit_simple.specs.Plans.{IsPlan};
 ghost use Rattle.edit_topology.specs.BothTags.{both_tags};
-ghost use Rattle.edit_topology.specs.Inner.Merging.{is_either, replaced, subjects, name_checks, tag_checks, is_cut_short, merged_element, merged_row, merged_change, MayMerge};
+ghost use Rattle.edit_topology.specs.Inner.Merging.{is_either, subjects, name_checks, tag_checks, is_cut_short, merged_element, merged_row, merged_change, MayMerge};
 ghost use Rattle.edit_topology.specs.Merge.{merge_checks, after_merge};
-ghost use Rattle.edit_topology.specs.Renaming.{renamed, renamed_members};
 
 use crate::both_tags::{both_tags, conflict};
 use crate::kinds::is_node;
+use crate::renaming::{renamed_members, replaced};
 use crate::touched::touched;
 use edit_simple::lookup::is_same;
 use edit_simple::refusal::Refusal;
@@ -27,10 +25,7 @@ use osm_changes::changes::Changes;
 use osm_elements::Memory;
 use osm_elements::element::Element;
 use osm_elements::map::OsmMap;
-use osm_elements::member::Member;
-use osm_elements::members::Members;
 use osm_elements::name::Name;
-use osm_elements::nodes::Nodes;
 use osm_elements::tags::Tags;
 use std::alloc::Allocator;
 
@@ -236,60 +231,4 @@ fn merged_element<A: Allocator + Clone>(
             tags: tags.copy()?,
         }),
     }
-}
-
-// The nodes of a list with a name in the place of the other, once where it stands several times in a row.
-fn replaced<A: Allocator>(
-    alloc: A,
-    nodes: &[Name],
-    name: &Name,
-    other: &Name,
-) -> Result<Nodes<A>, Memory>
-    requires node { is_node name.now.kind ≡ true }
-    requires nodes { AreNodes nodes.now }
-    ensures { IfOk result (λ new. new ≡ replaced name.now other.now nodes.now) }
-{
-    let mut new = renamed_all(alloc, nodes, name, other)?;
-    new.dedup_by(|node, before| is_same(name, node) && is_same(name, before));
-    Ok(Nodes::from_vec(new))
-}
-
-// The names of a list with one in the place of the other.
-fn renamed_all<A: Allocator>(
-    alloc: A,
-    names: &[Name],
-    name: &Name,
-    other: &Name,
-) -> Result<Vec<Name, A>, Memory>
-    ensures { IfOk result (λ new. new.items ≡ map (renamed other.now name.now) names.now) }
-{
-    let new = names
-        .iter()
-        .map(|named| renamed(named, name, other))
-        .collect(alloc)?;
-    Ok(new)
-}
-
-// The name for the other, and any other as it is.
-fn renamed(named: &Name, name: &Name, other: &Name) -> Name
-    ensures { result ≡ renamed other.now name.now named.now }
-{
-    if is_same(other, named) { *name } else { *named }
-}
-
-// The members of a list with a name in the place of the other, in its roles.
-fn renamed_members<A: Allocator + Clone>(
-    alloc: A,
-    members: &[Member<A>],
-    name: &Name,
-    other: &Name,
-) -> Result<Members<A>, Memory>
-    ensures { IfOk result (λ new. new ≡ renamed_members other.now name.now (map member_pair members.now)) }
-{
-    let mut new = Members::empty(alloc);
-    for member in members {
-        let role = member.role.copy()?;
-        new.push(Member::new(renamed(&member.name, name, other), role))?;
-    }
-    Ok(new)
 }

@@ -1,7 +1,7 @@
 use Rattle.std.proofs.Common.{◌≡◌, map, take}
 use Rattle.osm_elements.specs.Members.{member_pair}
 use Rattle.edit_topology.specs.Renaming.{renamed_members}
-use Rattle.edit_topology.proofs.merge.renamed_members.Given as goal
+use Rattle.edit_topology.proofs.renaming.renamed_members.Given as goal
 
 abbrev pub invariant-loop-member : goal.invariant-loop-member
 invariant-loop-member g l = l.new ≡ renamed_members l.other l.name (map member_pair (take l.member-index l.members))

@@ -1,5 +1,5 @@
 use Rattle.edit_simple.proofs.PurgeLoops.{cut, not_cut}
-use Rattle.edit_simple.proofs.purge.is_cut_short.Goals as goal
+use Rattle.edit_simple.proofs.cut_short.is_cut_short.Goals as goal
 
 pub returns-then-left-names : goal.returns-then-left-names
 returns-then-left-names c = cut c.args.purged.now c.args.names.now c.count_others-left.result c.count_others-left.ensures c.if-left-names.true

@@ -6,7 +6,7 @@ use Rattle.osm_elements.specs.Maps.{is_same}
 use Rattle.osm_elements.specs.Nodes.{AreNodes}
 use Rattle.edit_topology.specs.Inner.Merging.{replaced}
 use Rattle.edit_topology.proofs.MergeLists.{replaced_nodes}
-use Rattle.edit_topology.proofs.merge.replaced.Goals as goal
+use Rattle.edit_topology.proofs.renaming.replaced.Goals as goal
 
 pub from_vec-requires : goal.from_vec-requires
 from_vec-requires g c =

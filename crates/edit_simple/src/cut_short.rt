@@ -1,0 +1,23 @@
+//! Lists of nodes that a purge cuts short.
+ghost use Rattle.std.specs.Prelude.{◌≡◌, not, count_by};
+ghost use Rattle.osm_elements.specs.Maps.{is_same};
+ghost use Rattle.edit_simple.specs.Purge.{falls_short};
+
+use crate::limits::FEWEST_NODES;
+use crate::lookup::is_same;
+use osm_elements::name::Name;
+
+/// Whether the purged name is taken from a list, and fewer than 2 names are left.
+pub fn is_cut_short(names: &[Name], purged: &Name) -> bool
+    ensures { result ≡ falls_short purged.now names.now }
+{
+    let left = count_others(names, purged);
+    left < names.len() && left < FEWEST_NODES
+}
+
+// How many names of a list are others than one.
+fn count_others(names: &[Name], one: &Name) -> usize
+    ensures { result ≡ count_by (λ n. not (is_same one.now n)) names.now }
+{
+    names.iter().filter(|name| !is_same(one, *name)).count()
+}

@@ -1,0 +1,71 @@
+//! Lists in which one name stands in the place of another.
+ghost use Rattle.std.specs.Prelude.{◌≡◌, true, map, IfOk};
+ghost use Rattle.osm_elements.specs.Made.{is_node};
+ghost use Rattle.osm_elements.specs.Members.{member_pair};
+ghost use Rattle.osm_elements.specs.Nodes.{AreNodes};
+ghost use Rattle.edit_topology.specs.Inner.Merging.{replaced};
+ghost use Rattle.edit_topology.specs.Renaming.{renamed, renamed_members};
+
+use edit_simple::lookup::is_same;
+use osm_elements::Memory;
+use osm_elements::member::Member;
+use osm_elements::members::Members;
+use osm_elements::name::Name;
+use osm_elements::nodes::Nodes;
+use std::alloc::Allocator;
+
+/// The nodes of a list with a name in the place of the other, once where it stands several times in a row.
+pub fn replaced<A: Allocator>(
+    alloc: A,
+    nodes: &[Name],
+    name: &Name,
+    other: &Name,
+) -> Result<Nodes<A>, Memory>
+    requires node { is_node name.now.kind ≡ true }
+    requires nodes { AreNodes nodes.now }
+    ensures { IfOk result (λ new. new ≡ replaced name.now other.now nodes.now) }
+{
+    let mut new = renamed_all(alloc, nodes, name, other)?;
+    new.dedup_by(|node, before| is_same(name, node) && is_same(name, before));
+    Ok(Nodes::from_vec(new))
+}
+
+// The names of a list with one in the place of the other.
+fn renamed_all<A: Allocator>(
+    alloc: A,
+    names: &[Name],
+    name: &Name,
+    other: &Name,
+) -> Result<Vec<Name, A>, Memory>
+    ensures { IfOk result (λ new. new.items ≡ map (renamed other.now name.now) names.now) }
+{
+    let new = names
+        .iter()
+        .map(|named| renamed(named, name, other))
+        .collect(alloc)?;
+    Ok(new)
+}
+
+// The name for the other, and any other as it is.
+fn renamed(named: &Name, name: &Name, other: &Name) -> Name
+    ensures { result ≡ renamed other.now name.now named.now }
+{
+    if is_same(other, named) { *name } else { *named }
+}
+
+/// The members of a list with a name in the place of the other, in its roles.
+pub fn renamed_members<A: Allocator + Clone>(
+    alloc: A,
+    members: &[Member<A>],
+    name: &Name,
+    other: &Name,
+) -> Result<Members<A>, Memory>
+    ensures { IfOk result (λ new. new ≡ renamed_members other.now name.now (map member_pair members.now)) }
+{
+    let mut new = Members::empty(alloc);
+    for member in members {
+        let role = member.role.copy()?;
+        new.push(Member::new(renamed(&member.name, name, other), role))?;
+    }
+    Ok(new)
+}
