@@ -2,8 +2,8 @@
 use Rattle.std.specs.Prelude.{◌≡◌, ◌⊎◌, ℕ, Bool, true, List, [], ◌++◌, Option, Result, codes}
 use Rattle.std.specs.Io.KnownBytes.{Appends}
 use Rattle.room_program.specs.declared.failed.Failed.{Failed}
-use Rattle.room_program.specs.declared.replay.ReplayFault.{ReplayFault}
-use Rattle.room_program.specs.declared.replay.ReplayFault.TheVariants.{Read, Write, Memory}
+use Rattle.room_program.specs.declared.fault.ReplayFault.{ReplayFault}
+use Rattle.room_program.specs.declared.fault.ReplayFault.TheVariants.{Read, Write, Memory}
 use Rattle.room_program.specs.Streams.{TookNone}
 
 -- the line that tells a fault

@@ -7,7 +7,8 @@ ghost use Rattle.room_program.specs.Streams.{Gets, GetsAtMost, TookNone, WritesA
 ghost use Rattle.room_program.specs.Words.{IsTaken, asks_for_help, faults, has_mistake, is_mistake, is_request};
 ghost use Rattle.room_program.specs.Words.{limit_asked, program_app};
 
-use crate::replay::{ReplayFault, put_all, replay};
+use crate::fault::ReplayFault;
+use crate::replay::{put_all, replay};
 use crate::sink::Sink;
 use crate::source::Source;
 use clap::error::ErrorKind;

@@ -5,8 +5,10 @@
 #![tactic(auto)]
 
 pub mod answers;
+mod blocks;
 pub mod command;
 pub mod failed;
+pub mod fault;
 pub mod io;
 pub mod laws;
 pub mod line;

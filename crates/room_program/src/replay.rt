@@ -1,47 +1,20 @@
 //! A room that is run from a stream of lines to a stream of replies.
-ghost use Rattle.std.specs.Prelude.{◌≡◌, ◌≢◌, ◌++◌, ◌⊎◌, ℕ, List, [], ◌∷◌, true, false, IfOk, OnOk, OnErr, Err, ◌<◌, length};
+ghost use Rattle.std.specs.Prelude.{◌≡◌, ◌≢◌, ◌++◌, ◌⊎◌, ℕ, List, true, false, OnOk, OnErr, Err, ◌<◌, length};
 ghost use Rattle.std.specs.Io.KnownBytes.{Appends};
 ghost use Rattle.room_program.specs.Lines.{IsLine};
-ghost use Rattle.room_program.specs.Scripts.{Loss, script_of};
+ghost use Rattle.room_program.specs.Scripts.{script_of};
 ghost use Rattle.room_program.specs.LineAnswers.{script};
 ghost use Rattle.room_program.specs.Runs.{AnswersFront, AnswersSome};
 ghost use Rattle.room_program.specs.Streams.{Gets, GetsAtMost, TookNone, WritesAll, WritesEnded, WritesFront};
 
 use crate::answers::Answers;
-use crate::lines::{LINE_FEED, push_line, split_line};
+use crate::blocks::{BLOCK, answer_lines};
+use crate::fault::ReplayFault;
+use crate::lines::LINE_FEED;
 use crate::sink::Sink;
 use crate::source::Source;
-use osm_elements::Memory;
 use room_history::room::Room;
-use std::alloc::{AllocError, Global};
-use thiserror::Error;
-
-/// How many bytes a read asks for.
-pub const BLOCK: usize = 65_536;
-
-/// What ends a replay before its time.
-#[derive(Clone, Copy, Debug, PartialEq, Eq, Error)]
-pub enum ReplayFault {
-    /// The reader failed, or the reads were used up.
-    #[error("read failed")]
-    Read,
-    /// The writer failed, or took nothing.
-    #[error("write failed")]
-    Write,
-    /// A growth was refused.
-    #[error("no memory")]
-    Memory,
-}
-
-impl From<AllocError> for ReplayFault {
-    ghost use Rattle.room_program.specs.declared.replay.ReplayFault.{ReplayFault};
-
-    ghost from_gives = { λ _ fault. fault ≡ ReplayFault.Memory };
-
-    fn from(_: AllocError) -> Self {
-        ReplayFault::Memory
-    }
-}
+use std::alloc::Global;
 
 // Writes all the bytes.
 pub(crate) fn put_all<W: Sink>(writer: &mut W, bytes: &[u8]) -> Result<(), ReplayFault>
@@ -61,61 +34,6 @@ pub(crate) fn put_all<W: Sink>(writer: &mut W, bytes: &[u8]) -> Result<(), Repla
         }
     }
     Ok(())
-}
-
-// Answers a line that began with the bytes that are held, and holds none.
-fn answer_line<A: Answers>(
-    alloc: Global,
-    answers: &mut A,
-    begun: &mut Vec<u8>,
-    line: &[u8],
-    replies: &mut Vec<u8>,
-) -> Result<(), Memory>
-    ensures ok { OnOk result ((loss : Loss) × (text : List ℕ) ×
-        (A.answered loss answers.old (begun.old.items ++ line.now) ≡ (text, answers.new))
-        × (replies.new.items ≡ replies.old.items ++ (text ++ 10 ∷ []))) }
-    ensures none_held { OnOk result (begun.new.items ≡ []) }
-    ensures err { OnErr result (replies.new.items ≡ replies.old.items) }
-{
-    let reply = if begun.is_empty() {
-        answers.answer(alloc, line)?
-    } else {
-        begun.extend_from_slice(line)?;
-        answers.answer(alloc, begun.as_slice())?
-    };
-    push_line(replies, reply.as_bytes())?;
-    begun.clear();
-    Ok(())
-}
-
-// Answers the lines that end in the block until their replies fill a block themselves, and gives what is left. Where
-// the lines come to their end first, what comes after the last is held, and nothing is left.
-fn answer_lines<'a, A: Answers>(
-    alloc: Global,
-    answers: &mut A,
-    begun: &mut Vec<u8>,
-    block: &'a [u8],
-    replies: &mut Vec<u8>,
-) -> Result<&'a [u8], Memory>
-    requires held { IsLine begun.old.items }
-    requires empty { replies.old.items ≡ [] }
-    ensures ok { IfOk result (λ rest. AnswersFront A.answered answers.old (begun.old.items ++ block.now)
-        replies.new.items (begun.new.items ++ rest.now) answers.new) }
-    ensures held { OnOk result (IsLine begun.new.items) }
-    ensures less { IfOk result (λ rest. (rest.now ≡ []) ⊎ (length rest.now < length block.now)) }
-    ensures some { AnswersSome A.answered answers.old (begun.old.items ++ block.now)
-        replies.new.items }
-{
-    let mut rest = block;
-    while replies.len() < BLOCK {
-        let Some((line, after)) = split_line(rest) else {
-            begun.extend_from_slice(rest)?;
-            return Ok(&[]);
-        };
-        answer_line(alloc, answers, begun, line, replies)?;
-        rest = after;
-    }
-    Ok(rest)
 }
 
 // Answers each line that ends in the block, writes the replies, and holds what comes after the last.

@@ -1,7 +1,7 @@
 -- An error's kind stands among those that the words can be answered by.
 use Rattle.std.proofs.Common.{Bool, true, false, true≢false, ap, ◌∙◌, arith, inr, refl, map}
-use Rattle.room_program.specs.declared.replay.ReplayFault.{ReplayFault}
-use Rattle.room_program.specs.declared.replay.ReplayFault.TheVariants.{Memory}
+use Rattle.room_program.specs.declared.fault.ReplayFault.{ReplayFault}
+use Rattle.room_program.specs.declared.fault.ReplayFault.TheVariants.{Memory}
 use Rattle.room_program.specs.Words.{faults, is_mistake, is_request}
 use Rattle.room_program.proofs.WordLemmas.{kind_among}
 use Rattle.room_program.proofs.command.command.Goals as goal

@@ -1,7 +1,7 @@
 use Rattle.std.proofs.Common.{◌≡◌, ◌≤◌, ◌<◌, ◌⊎◌, ◌++◌, [], length}
 use Rattle.room_program.specs.Lines.{IsLine}
 use Rattle.room_program.specs.Runs.{AnswersFront}
-use Rattle.room_program.proofs.replay.answer_lines.Given as goal
+use Rattle.room_program.proofs.blocks.answer_lines.Given as goal
 
 abbrev pub invariant-loop-alloc : goal.invariant-loop-alloc
 invariant-loop-alloc g l = record {

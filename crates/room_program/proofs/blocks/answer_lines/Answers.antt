@@ -2,7 +2,7 @@
 use Rattle.std.proofs.Common.{inr, arith}
 use Rattle.room_program.proofs.LineLemmas.{IsLine-append, after_shorter}
 use Rattle.room_program.proofs.RunLemmas.{front-next}
-use Rattle.room_program.proofs.replay.answer_lines.Goals as goal
+use Rattle.room_program.proofs.blocks.answer_lines.Goals as goal
 
 pub loop-alloc-preserved : goal.loop-alloc-preserved
 loop-alloc-preserved g c =
