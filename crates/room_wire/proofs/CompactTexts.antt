@@ -1,5 +1,5 @@
 -- The compact text of a tree whose numbers are in range and whose keys rise is read as that tree.
-use Rattle.std.proofs.Common.{◌≡◌, ◌≤◌, ◌<◌, ◌^◌, ◌++◌, ℕ, suc, ℤ, pos, negsuc, max, List, [], ◌∷◌, map, T, Option, Some, None, All, FitsSigned, option_map, codes, refl, sym, ap, ap₂, subst, append_assoc, append-nil, ◌∙◌, arith}
+use Rattle.std.proofs.Common.{◌≡◌, ◌≤◌, ◌<◌, ◌^◌, ◌++◌, ℕ, suc, ℤ, pos, negsuc, max, List, [], ◌∷◌, map, T, Some, All, FitsSigned, option_map, codes, refl, sym, ap, ap₂, subst, append_assoc, append-nil, ◌∙◌, arith}
 use Rattle.std.specs.declared.alloc.Global.{Global}
 use Rattle.std.specs.FinMap.Entries.{is_sorted}
 use Rattle.std.specs.Int.{w64}

@@ -1,14 +1,11 @@
 -- The text of a whole map, as it is written row by row. (RFC 8259)
-use Rattle.std.proofs.Common.{◌≡◌, ◌≤◌, ◌<◌, ◌^◌, ◌++◌, ℕ, zero, suc, List, [], ◌∷◌, length, map, drop, get_or, Bool, true, false, Some, All, codes, decimal, refl, sym, ap, subst, append_assoc, append-nil, ◌∙◌, arith}
-use Rattle.std.proofs.lemmas.List.{drop_more}
+use Rattle.std.proofs.Common.{◌≡◌, ◌<◌, ◌^◌, ◌++◌, ℕ, zero, suc, List, [], ◌∷◌, map, Bool, true, false, Some, codes, decimal, refl, sym, ap, append_assoc, ◌∙◌, arith}
 use Rattle.serde_json.specs.Read.{read}
 use Rattle.serde_json.specs.View.{items_of}
 use Rattle.serde_json.specs.Written.{comma_if, compact_text, items_text}
 use Rattle.serde_json.proofs.OnLiterals.{serde_json_on_literals}
 use Rattle.osm_elements.specs.declared.name.Name.{Name}
 use Rattle.osm_elements.specs.declared.element.Element.{Element}
-use Rattle.osm_elements.specs.declared.map.Row.{Row}
-use Rattle.osm_elements.specs.RowPairs.{row_pair}
 use Rattle.room_wire.specs.Inner.Readable.{AreReadable, IsReadable, rows_text}
 use Rattle.room_wire.specs.Trees.{element_tree, map_tree}
 use Rattle.room_wire.proofs.CompactTexts.{map_readable, reads_compact}

@@ -1,5 +1,5 @@
 -- Rows whose names rise are in order.
-use Rattle.std.proofs.Common.{◌≡◌, ◌&&◌, true, T, List, [], ◌∷◌, map, sym, refl, ap, ap₂, subst, ◌∙◌}
+use Rattle.std.proofs.Common.{◌≡◌, ◌&&◌, true, List, [], ◌∷◌, map, sym, refl, ap₂, ◌∙◌}
 use Rattle.std.specs.FinMap.Entries.{is_sorted, below_all}
 use Rattle.osm_elements.specs.declared.name.Name.{Name}
 use Rattle.osm_elements.specs.declared.map.Row.{Row}

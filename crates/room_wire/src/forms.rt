@@ -5,7 +5,7 @@ ghost use Rattle.std.specs.Result.{result_map_both};
 ghost use Rattle.room_wire.specs.News.{object_at};
 ghost use Rattle.serde_json.specs.View.{view, items_view};
 ghost use Rattle.room_wire.specs.Reading.{Gives, or_fault};
-ghost use Rattle.room_wire.specs.Spelling.{text_at, name_at, author_at, el_at, place_of, place_at, name_item, names_in, els_at, distance_at, lat_at, lon_at, node_of, nodes_in, nodes_at, member_with, member_in, member_of, members_in, members_at, text_of, seq_at, ordinal, fault_in};
+ghost use Rattle.room_wire.specs.Spelling.{text_at, name_at, author_at, el_at, place_of, place_at, name_item, names_in, els_at, distance_at, lat_at, lon_at, node_of, nodes_in, nodes_at, member_with, member_in, member_of, members_in, members_at, text_of, seq_at, fault_in};
 ghost use Rattle.osm_elements.specs.NameTexts.{name_with};
 ghost use Rattle.osm_elements.specs.declared.name.Kind.TheVariants as kind;
 ghost use Rattle.room_wire.specs.declared.bad.Fault.TheVariants.{BadField};
@@ -13,6 +13,7 @@ ghost use Rattle.room_wire.specs.declared.field.Field.TheVariants as field;
 
 use crate::bad::Fault;
 use crate::field::Field;
+use crate::numbers::ordinal;
 use osm_coords::{Lat, Lon};
 use osm_elements::fault::TextFault;
 use osm_elements::member::Member;
@@ -24,21 +25,6 @@ use osm_elements::text::Text;
 use room_stacks::author::Author;
 use serde_json::Value;
 use std::alloc::Global;
-
-// The greatest whole number that means the same to every reader of JSON.
-const GREATEST_NUMBER: u64 = 9_007_199_254_740_991;
-
-// A whole number in `1..=9007199254740991`.
-pub fn ordinal(value: &Value) -> Option<u64>
-    ensures { result ≡ ordinal (view value.now) }
-{
-    let number = value.as_u64()?;
-    if 1 <= number && number <= GREATEST_NUMBER {
-        Some(number)
-    } else {
-        None
-    }
-}
 
 // The text of a field, where the field is there and is a string.
 fn text_at(message: &Value, field: Field) -> Option<&str>

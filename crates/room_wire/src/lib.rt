@@ -1,8 +1,8 @@
 //! The messages to a room and its replies, as JSON texts (RFC 8259).
 //!
-//! [`read_request`] reads a message, [`reply_text`] writes the text of a reply, and [`map_text`] that of a reply with a whole map. [`welcome_text`] and [`news_text`] write
-//! what a client is told beside that, and [`read_welcome`] and [`read_news`] read it. What a text means, and which fault it
-//! has, is one definite answer for each text.
+//! [`read_request`] reads a message, [`reply_text`] writes the text of a reply, and [`map_text`] that of a reply with a whole
+//! map. [`welcome_text`] and [`news_text`] write what a client is told beside that, and [`read_welcome`] and [`read_news`]
+//! read it. What a text means, and which fault it has, is one definite answer for each text.
 #![tactic(auto)]
 
 pub mod answer;
@@ -15,6 +15,7 @@ pub mod json_text;
 pub mod laws;
 mod listed;
 mod news;
+mod numbers;
 mod read;
 mod tag_forms;
 pub mod welcome;

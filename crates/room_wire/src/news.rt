@@ -8,8 +8,9 @@ ghost use Rattle.room_wire.specs.Reading.{Gives, GivesUnder};
 
 use crate::bad::{Bad, Fault};
 use crate::field::Field;
-use crate::forms::{author_at, el_of, object_at, ordinal};
+use crate::forms::{author_at, el_of, object_at};
 use crate::listed::{Listed, rows_of};
+use crate::numbers::ordinal;
 use crate::read::parse;
 use osm_elements::map::Row;
 use osm_elements::name::Name;

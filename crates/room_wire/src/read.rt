@@ -9,10 +9,11 @@ ghost use Rattle.room_wire.specs.Spelling.{spells, under, id_at, body_at, body_b
 use crate::bad::{Bad, Fault};
 use crate::field::Field;
 use crate::forms::{
-    author_at, distance_of, el_of, els_of, lat_of, lon_of, members_of, name_at, nodes_of, ordinal,
-    place_at, seq_of,
+    author_at, distance_of, el_of, els_of, lat_of, lon_of, members_of, name_at, nodes_of, place_at,
+    seq_of,
 };
 use crate::incoming::{Body, Incoming};
+use crate::numbers::ordinal;
 use crate::tag_forms::{gifts_of, tags_of};
 use edit_actions::action::Action;
 use edit_actions::each_action;

@@ -4,19 +4,17 @@ ghost use Rattle.serde_json.specs.View.{view};
 ghost use Rattle.osm_elements.specs.Rows.{AreInOrder};
 ghost use Rattle.room_wire.specs.declared.bad.Fault.TheVariants.{Memory};
 ghost use Rattle.room_wire.specs.Reading.{Gives, GivesUnder};
-ghost use Rattle.room_wire.specs.Welcomes.{count_at, count_of, map_at, spells_welcome, told_at, welcomed};
+ghost use Rattle.room_wire.specs.Welcomes.{count_at, map_at, spells_welcome, told_at, welcomed};
 
 use crate::bad::{Bad, Fault};
 use crate::field::Field;
 use crate::forms::object_at;
 use crate::listed::rows_of;
+use crate::numbers::count_in;
 use crate::read::{id_of, parse};
 use osm_elements::map::{Row, Rows};
 use serde_json::Value;
 use std::alloc::Global;
-
-// The greatest number of an entry.
-const GREATEST_NUMBER: u64 = 9_007_199_254_740_991;
 
 /// What a hello is answered where its room is there: the room's map, and how many entries its journal has.
 #[derive(Debug, Drop)]
@@ -89,16 +87,4 @@ fn count_of(told: &Value) -> Result<u64, Fault>
     told.get(Field::Seq.as_str())
         .and_then(count_in)
         .ok_or(Fault::BadField(Field::Seq))
-}
-
-// A whole number in `0..=9007199254740991`.
-fn count_in(value: &Value) -> Option<u64>
-    ensures { result ≡ count_of (view value.now) }
-{
-    let number = value.as_u64()?;
-    if number <= GREATEST_NUMBER {
-        Some(number)
-    } else {
-        None
-    }
 }

@@ -1,0 +1,34 @@
+//! The numbers that messages tell.
+ghost use Rattle.std.specs.Prelude.{◌≡◌};
+ghost use Rattle.serde_json.specs.View.{view};
+ghost use Rattle.room_wire.specs.Spelling.{ordinal};
+ghost use Rattle.room_wire.specs.Welcomes.{count_of};
+
+use serde_json::Value;
+
+// The greatest whole number that means the same to every reader of JSON.
+const GREATEST_NUMBER: u64 = 9_007_199_254_740_991;
+
+// A whole number in `1..=9007199254740991`.
+pub fn ordinal(value: &Value) -> Option<u64>
+    ensures { result ≡ ordinal (view value.now) }
+{
+    let number = value.as_u64()?;
+    if 1 <= number && number <= GREATEST_NUMBER {
+        Some(number)
+    } else {
+        None
+    }
+}
+
+// A whole number in `0..=9007199254740991`.
+pub fn count_in(value: &Value) -> Option<u64>
+    ensures { result ≡ count_of (view value.now) }
+{
+    let count = value.as_u64()?;
+    if count <= GREATEST_NUMBER {
+        Some(count)
+    } else {
+        None
+    }
+}
