@@ -7,7 +7,7 @@ use Rattle.osm_elements.specs.Maps.{Rows}
 use Rattle.osm_changes.specs.Sound.{is_sound}
 use Rattle.room_history.specs.Headline.{Holds}
 use Rattle.room_history.specs.Journals.{standing}
-use Rattle.room_history.specs.LegalJournals.{IsJournal, opened}
+use Rattle.room_history.specs.LegalJournals.{IsJournal}
 use Rattle.room_history.specs.Replays.{past, mapof, replay}
 use Rattle.room_history.specs.Runs.{IsStep, IsRun}
 use Rattle.room_history.proofs.AtOnce.{is_undone_at_once}
@@ -48,7 +48,3 @@ module _ {A : Type 0} where
   run_more base limit j [] (s ∷ rs) k l c r run step holds = absurd run
   run_more base limit j (d ∷ cs) [] k l c r run step holds = absurd run
   run_more base limit j (d ∷ cs) (s ∷ rs) k l c r run step holds = (run.0, (run.1.0, run.1.1, run_more base limit run.1.0 cs rs k l c r run.1.2 step holds))
-
--- the empty room
-pub empty_holds : {A : Type 0} (base : Rows A) (limit : ℕ) → base ≡ [] → Holds {A = A} base limit []
-empty_holds base limit is = journal_holds base (ap is_sound is) limit [] opened

@@ -226,18 +226,18 @@ module _ {A : Type 0} where
             why None e = absurd (cc)
             why (Some p) e = ap (λ q. (q, j)) (cc)
 
-  -- a room with nothing in it
-  pub IsRoom-empty : (store : StoreState A) (recorded : List (List (Change A))) (firsts : List ℕ) (holders : Held) (done : List Deed) (base : Rows A) (limit : ℕ) (j : List (Entry A))
-      → store ≡ record { rows = []; applied = 0 } → recorded ≡ [] → firsts ≡ [] → holders ≡ [] → done ≡ [] → base ≡ [] → j ≡ [] → IsRoom store recorded firsts holders done base limit j
-  IsRoom-empty store recorded firsts holders done base limit j no_rows no_changes no_firsts no_holders no_deeds empty no_entries = record {
+  -- a room of a sound map, with an empty journal
+  pub IsRoom-opened : (store : StoreState A) (recorded : List (List (Change A))) (firsts : List ℕ) (holders : Held) (done : List Deed) (base : Rows A) (limit : ℕ) (j : List (Entry A))
+      → store.rows ≡ base → store.applied ≡ 0 → recorded ≡ [] → firsts ≡ [] → holders ≡ [] → done ≡ [] → is_sound base ≡ true → j ≡ [] → IsRoom store recorded firsts holders done base limit j
+  IsRoom-opened store recorded firsts holders done base limit j begins none_applied no_changes no_firsts no_holders no_deeds sound no_entries = record {
+    base_sound = sound;
     journal = subst (λ k. IsJournal base limit k) (sym no_entries) opened;
-    rows_are = ap (λ (s : StoreState A). s.rows) no_rows ∙ sym empty ∙ ap (mapof base) (sym no_entries);
-    count_is = ap (λ (s : StoreState A). s.applied) no_rows ∙ ap (applied base) (sym no_entries);
+    rows_are = begins ∙ ap (mapof base) (sym no_entries);
+    count_is = none_applied ∙ ap (applied base) (sym no_entries);
     recorded_are = no_changes ∙ ap (recorded_changes base) (sym no_entries);
     firsts_are = no_firsts ∙ ap origins (sym no_entries);
     holders_are = no_holders ∙ ap (λ k. held (past base k) k) (sym no_entries);
     deeds_are = no_deeds ∙ ap deeds (sym no_entries);
-    empty_base = empty;
   }
 
   -- what one more entry records
@@ -245,12 +245,9 @@ module _ {A : Type 0} where
   recorded-append base j e = ap (map (λ (r : Recorded A). r.changes)) (ap (λ (p : Past A). p.entries) (past-append base j e)) ∙ map-append (λ (r : Recorded A). r.changes) (past base j).entries (recorded_next (past base j) e.kind ∷ [])
 
   module _ (store : StoreState A) (recorded : List (List (Change A))) (firsts : List ℕ) (holders : Held) (done : List Deed) (base : Rows A) (limit : ℕ) (j : List (Entry A)) (r : IsRoom store recorded firsts holders done base limit j) where
-    base_sound : is_sound base ≡ true
-    base_sound = ap is_sound r.empty_base
-
     -- what holds of a room's journal
     room_led : IsLed base j
-    room_led = journal_led base base_sound limit j r.journal
+    room_led = journal_led base r.base_sound limit j r.journal
 
     -- the next number comes after those of all entries that stand
     pub stands_next : (n : ℕ) → n ≡ length j → IsNext holders (n + 1)
@@ -286,6 +283,7 @@ module _ {A : Type 0} where
       grown k l store' recorded' firsts' holders' done' cs legal is store_is recorded_is firsts_is holders_is deeds_is l_is =
           let e : Entry A = record { author = author; id = id; kind = k } in
           subst (λ l. IsRoom store' recorded' firsts' holders' done' base limit l) (sym l_is) (record {
+            base_sound = r.base_sound;
             journal = legal;
             rows_are = ap (λ (s : StoreState A). s.rows) store_is ∙ ap (λ m. changed m cs) r.rows_are ∙ ap (changed (mapof base j)) is ∙ sym (mapof-append base j e);
             count_is = ap (λ (s : StoreState A). s.applied) store_is ∙ ap (λ n. counted n cs) r.count_is ∙ ap (counted (applied base j)) is ∙ sym (applied-append base j e);
@@ -293,7 +291,6 @@ module _ {A : Type 0} where
             firsts_are = firsts_is ∙ ap (λ os. os ++ origin_next (origins j) k ∷ []) r.firsts_are ∙ sym (origins-append j e);
             holders_are = holders_is;
             deeds_are = deeds_is ∙ ap (λ ds. ds ++ deed_by (length j + 1) author id k ∷ []) r.deeds_are ∙ sym (deeds-append j e);
-            empty_base = r.empty_base;
           })
 
       -- where a new action is
@@ -348,7 +345,7 @@ module _ {A : Type 0} where
         there = found (past base j) j author s ok
 
         finds : Undone base j s (record { author = author; id = id; kind = Undo s })
-        finds = undone base j (record { author = author; id = id; kind = Undo s }) s base_sound room_led refl there.there there.free
+        finds = undone base j (record { author = author; id = id; kind = Undo s }) s r.base_sound room_led refl there.there there.free
 
         -- it stands among the author's deeds
         pub stands_there : (ds : List Deed) → ds ≡ done → stacks.is_standing ds author s ≡ true
@@ -372,7 +369,7 @@ module _ {A : Type 0} where
             ∙ ap (λ o. (taken_back o).changes) (sym finds.recorded)
 
         after_sound : is_sound (mapof base (with_entry j author id (Undo s))) ≡ true
-        after_sound = led_sound base (with_entry j author id (Undo s)) base_sound finds.led
+        after_sound = led_sound base (with_entry j author id (Undo s)) r.base_sound finds.led
 
         pub undo_from : ((m n : Rows A) → AreChanges (differences m n)) → ((m n : Rows A) → AreFrom m (differences m n)) → ((m : Rows A) (cs : List (Change A)) → AreInOrder m → AreChanges cs → AreFrom m cs → AreFrom (changed m cs) (inverse cs))
             → AreFrom store.rows (recorded_next (past base j) (Undo s)).changes

@@ -38,9 +38,9 @@ use std::alloc::Allocator;
 use std::marker::Model;
 use std::snapshot::Snapshot;
 
-/// A room: one map, and the journal of what its authors did to it. It is as good as its base map (for now
-/// the empty one), its limit and its journal, and contracts see it so. Beside each entry it keeps what that changed and the
-/// number of the entry that has its action, and of each entry that stands its footprint.
+/// A room: one map, and the journal of what its authors did to it. It is as good as its base map, which is sound, its limit
+/// and its journal, and contracts see it so. Beside each entry it keeps what that changed and the number of the entry that
+/// has its action, and of each entry that stands its footprint.
 #[derive(Drop)]
 #[derive_where(Debug)]
 pub struct Room<A: Allocator> {
@@ -117,7 +117,7 @@ impl<A: Allocator + Copy> Room<A> {
     }
 
     // What holds of every room. It does nothing.
-    fn holds(&self)
+    pub(crate) fn holds(&self)
         ensures { Holds self.now.base self.now.limit self.now.journal }
     {
         let _ = &self.entries;

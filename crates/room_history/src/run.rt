@@ -1,5 +1,5 @@
 //! A run of calls.
-ghost use Rattle.std.specs.Prelude.{◌≡◌, [], IfOk, OnOk};
+ghost use Rattle.std.specs.Prelude.{◌≡◌, [], IfOk};
 ghost use Rattle.room_history.specs.Runs.{IsRun};
 
 use crate::call::{Call, Calls};
@@ -25,18 +25,17 @@ pub fn run<A: Allocator + Copy>(
     Ok((room, Replies::from_vec(replies)))
 }
 
-// The replies of a new room to calls in turn.
+// The replies of a room to calls in turn.
 fn answer_all<A: Allocator + Copy>(
     alloc: A,
     room: &mut Room<A>,
     calls: Vec<Call<A>, A>,
 ) -> Result<Vec<Reply<A>, A>, Memory>
-    requires base { room.old.base ≡ [] }
-    requires journal { room.old.journal ≡ [] }
-    ensures run { IfOk result (λ replies. IsRun room.new.base room.old.limit [] calls.items replies.items room.new.journal) }
-    ensures limit { OnOk result (room.new.limit ≡ room.old.limit) }
-    ensures base { OnOk result (room.new.base ≡ []) }
+    ensures run { IfOk result (λ replies. IsRun room.old.base room.old.limit room.old.journal calls.items replies.items room.new.journal) }
+    ensures limit { room.new.limit ≡ room.old.limit }
+    ensures base { room.new.base ≡ room.old.base }
 {
+    room.holds();
     let mut replies = Vec::with_capacity(alloc, calls.len())?;
     for call in calls {
         replies.push(room.take(call))?;

@@ -1,6 +1,7 @@
 -- What a room holds beside its journal.
-use Rattle.std.specs.Prelude.{◌≡◌, ◌<◌, ℕ, List, [], None, length}
+use Rattle.std.specs.Prelude.{◌≡◌, ◌<◌, ℕ, true, List, None, length}
 use Rattle.osm_changes.specs.declared.change.Change.{Change}
+use Rattle.osm_changes.specs.Sound.{is_sound}
 use Rattle.osm_changes.specs.Stores.{StoreState}
 use Rattle.osm_elements.specs.Maps.{Rows}
 use Rattle.room_stacks.specs.declared.author.Author.{Author}
@@ -17,8 +18,9 @@ use Rattle.room_history.specs.Inner.Deeds.{deeds}
 use Rattle.room_history.specs.Inner.Origins.{origins}
 
 module _ {A : Type 0} where
-  -- the journal is one that calls lead to; the store, the recorded changes, where the actions are, the holders of what stands and the deeds are those of its entries; for now the base is the empty map
+  -- the base is sound, and the journal one that calls lead to; the store, the recorded changes, where the actions are, the holders of what stands and the deeds are those of its entries
   pub record IsRoom (store : StoreState A) (recorded : List (List (Change A))) (firsts : List ℕ) (holders : Held) (done : List Deed) (base : Rows A) (limit : ℕ) (j : List (Entry A)) : Type 0 where
+    pub base_sound : is_sound base ≡ true
     pub journal : IsJournal base limit j
     pub rows_are : store.rows ≡ mapof base j
     pub count_is : store.applied ≡ applied base j
@@ -26,7 +28,6 @@ module _ {A : Type 0} where
     pub firsts_are : firsts ≡ origins j
     pub holders_are : holders ≡ held (past base j) j
     pub deeds_are : done ≡ deeds j
-    pub empty_base : base ≡ []
 
   -- the id is unspent, and the journal is not full
   abbrev pub MayAppend : ℕ → List (Entry A) → Author → ℕ → Type 0

@@ -1,9 +1,7 @@
-use Rattle.std.proofs.Common.{ap}
-use Rattle.osm_changes.specs.Sound.{is_sound}
 use Rattle.room_history.proofs.Holding.{journal_holds}
 use Rattle.room_history.proofs.room.Room.holds.Goals as goal
 
 pub returns : goal.returns
 returns g c =
     let room = c.self.invariant in
-    rw (← c.self.view_is) (journal_holds c.self.inside.base.value (ap is_sound room.empty_base) c.self.inside.limit c.self.inside.entries.items room.journal)
+    rw (← c.self.view_is) (journal_holds c.self.inside.base.value room.base_sound c.self.inside.limit c.self.inside.entries.items room.journal)
