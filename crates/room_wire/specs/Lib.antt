@@ -1,4 +1,5 @@
 pub mod Answers
+pub mod Asked
 pub mod Examples
 pub mod Fields
 pub mod Inner

@@ -6,6 +6,7 @@
 #![tactic(auto)]
 
 pub mod answer;
+pub mod asked;
 pub mod bad;
 mod element;
 pub mod field;

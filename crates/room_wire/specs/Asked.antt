@@ -1,0 +1,50 @@
+-- What a message asks of its room, and what it is answered. (The messages are this project's.)
+use Rattle.std.specs.Prelude.{ℕ, List, Option, Some, None, Ok}
+use Rattle.std.specs.declared.alloc.Global.{Global}
+use Rattle.serde_json.specs.Written.{compact_text}
+use Rattle.osm_elements.specs.declared.name.Name.{Name}
+use Rattle.osm_elements.specs.declared.element.Element.{Element}
+use Rattle.room_stacks.specs.declared.author.Author.{Author}
+use Rattle.room_history.specs.declared.ask.RoomCall.{RoomCall}
+use Rattle.room_history.specs.declared.ask.RoomCall.TheVariants as calls
+use Rattle.room_history.specs.declared.ask.RoomReply.{RoomReply}
+use Rattle.room_history.specs.declared.ask.RoomReply.TheVariants as replies
+use Rattle.room_wire.specs.declared.answer.Answer.{Answer}
+use Rattle.room_wire.specs.declared.answer.Answer.TheVariants as answers
+use Rattle.room_wire.specs.declared.incoming.Body.{Body}
+use Rattle.room_wire.specs.declared.incoming.Body.TheVariants.{Hello, Change, Get, Map, Undos}
+use Rattle.room_wire.specs.Answers.{reply_answer, to_value}
+use Rattle.room_wire.specs.Trees.{tree_of}
+
+-- what the room is asked by a message of an author's, under its id: by a hello nothing
+abbrev pub asked : Author → ℕ → Body → Option (RoomCall Global)
+asked author id (Hello room name) = None
+asked author id (Change request) = Some (calls.Take (record { author = author; id = id; request = request }))
+asked author id (Get name) = Some (calls.Get name)
+asked author id Map = Some calls.Rows
+asked author id Undos = Some (calls.Undos author)
+
+-- the answer with the element of a name, or that there is none
+abbrev pub found_answer : Name → Option (Element Global) → Answer
+found_answer name None = answers.Absent name
+found_answer name (Some element) = answers.Is name (to_value element)
+
+-- the answer to what a room was asked, by what it replied: a call's outcome, the element, the rows under the number of the last entry, or both lists; else that there was no memory
+abbrev pub answer_to : RoomCall Global → RoomReply Global → Answer
+answer_to call (replies.Take reply) = reply_answer reply
+answer_to (calls.Get name) (replies.Get (Ok found)) = found_answer name found
+answer_to call (replies.Rows (Ok rows)) = answers.Map (to_value rows.1) rows.0
+answer_to call (replies.Undos (Ok lists)) = answers.Undos (to_value lists.undos) (to_value lists.redos)
+answer_to call reply = answers.Memory
+
+-- the text of an answer, under the id of its message
+abbrev pub text_of : ℕ → Answer → List ℕ
+text_of id answer = compact_text (tree_of id answer)
+
+-- the name whose element a room was asked for
+abbrev pub name_asked : RoomCall Global → Option Name
+name_asked (calls.Take call) = None
+name_asked (calls.Get name) = Some name
+name_asked calls.Rows = None
+name_asked (calls.Undos author) = None
+name_asked (calls.News from) = None

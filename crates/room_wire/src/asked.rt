@@ -1,0 +1,81 @@
+//! What a message asks of its room, and what it is answered.
+ghost use Rattle.std.specs.Prelude.{◌≡◌};
+ghost use Rattle.std.specs.Option.{option_copied};
+ghost use Rattle.std.specs.declared.alloc.Global.{Global};
+ghost use Rattle.room_history.specs.declared.ask.RoomCall.{RoomCall};
+ghost use Rattle.room_wire.specs.Asked.{answer_to, asked, found_answer, name_asked};
+ghost use Rattle.room_wire.specs.Trees.{AreToldAlike};
+
+use crate::answer::Answer;
+use crate::incoming::Body;
+use osm_elements::element::Element;
+use osm_elements::name::Name;
+use room_history::ask::{RoomCall, RoomReply};
+use room_history::call::Call;
+use room_stacks::author::Author;
+use std::alloc::Global;
+
+impl Body {
+    /// What the message of an author's under this id asks of its room, or none where it is a hello.
+    pub fn into_call(self, author: Author, id: u64) -> Option<RoomCall<Global>>
+        ensures { result ≡ asked author id self }
+    {
+        match self {
+            Body::Hello { .. } => None,
+            Body::Change(request) => Some(RoomCall::Take(Call {
+                author,
+                id,
+                request,
+            })),
+            Body::Get(name) => Some(RoomCall::Get(name)),
+            Body::Map => Some(RoomCall::Rows),
+            Body::Undos => Some(RoomCall::Undos(author)),
+        }
+    }
+}
+
+/// The name whose element a room is asked for, or none where it is asked for something else.
+pub fn name_asked(call: &RoomCall<Global>) -> Option<Name>
+    ensures { result ≡ name_asked call.now }
+{
+    match call {
+        RoomCall::Get(name) => Some(*name),
+        _ => None,
+    }
+}
+
+impl<'a> Answer<'a> {
+    /// The answer to who asked for the element of a name, where it was found or not.
+    pub fn found(name: Name, element: Option<&'a Element<Global>>) -> Answer<'a>
+        ensures { AreToldAlike result (found_answer name (option_copied element.entry)) }
+    {
+        match element {
+            Some(element) => Answer::Is { name, element },
+            None => Answer::Absent(name),
+        }
+    }
+
+    /// The answer to what a room was asked, by what it replied. Beside the reply it takes the name whose element was asked for,
+    /// if one was (see [`name_asked`]). Where the room had no memory, or replied in another form than it was asked, the answer
+    /// is `Memory`.
+    pub fn to(name: Option<Name>, reply: &'a RoomReply<Global>) -> Answer<'a>
+        ensures { (call : RoomCall Global) → name_asked call ≡ name → AreToldAlike result (answer_to call reply.now) }
+    {
+        match reply {
+            RoomReply::Take(reply) => Answer::from(reply),
+            RoomReply::Get(Ok(found)) => match name {
+                Some(name) => Answer::found(name, found.as_ref()),
+                None => Answer::Memory,
+            },
+            RoomReply::Rows(Ok((front, rows))) => Answer::Map {
+                rows,
+                front: *front,
+            },
+            RoomReply::Undos(Ok(lists)) => Answer::Undos {
+                undos: lists.undos.as_slice(),
+                redos: lists.redos.as_slice(),
+            },
+            _ => Answer::Memory,
+        }
+    }
+}
