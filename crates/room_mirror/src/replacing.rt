@@ -31,11 +31,18 @@ pub fn replace<A: Allocator + Copy>(
 {
     let copies = told.copy()?;
     let absent = absent_names(alloc, rows, told.as_slice())?;
-    let _ = rows.len();
+    keeps_order(rows);
     make_room(rows, alloc, &absent)?;
-    let _ = rows.len();
+    keeps_order(rows);
     replace_all(rows, copies.into_vec());
     Ok(())
+}
+
+// What holds of every map: its rows are in the order of their names. It does nothing.
+fn keeps_order<A: Allocator>(rows: &OsmMap<A>)
+    ensures { AreInOrder rows.now }
+{
+    let _ = rows.len();
 }
 
 // The names that are told and that the map has not.

@@ -9,7 +9,7 @@ use Rattle.room_mirror.proofs.Rooming.{absent_are, all_present}
 use Rattle.room_mirror.proofs.replacing.replace.Goals as goal
 
 pub make_room-requires-clause-order : goal.make_room-requires-clause-order
-make_room-requires-clause-order g c = c.len.ensures.in_order
+make_room-requires-clause-order g c = c.keeps_order.ensures
 
 pub make_room-requires-clause-absent : goal.make_room-requires-clause-absent
 make_room-requires-clause-absent g c =
@@ -18,7 +18,7 @@ make_room-requires-clause-absent g c =
     subst (AreAbsent m) (sym names) (absent_are m (told_names c.args.told.now))
 
 pub replace_all-requires-clause-order : goal.replace_all-requires-clause-order
-replace_all-requires-clause-order g c = c.len-2.ensures.in_order
+replace_all-requires-clause-order g c = c.keeps_order-2.ensures
 
 pub replace_all-requires-clause-rising : goal.replace_all-requires-clause-rising
 replace_all-requires-clause-rising g c = subst (λ rs. T (are_rising (told_names rs))) (sym (c.into_vec.ensures ∙ c.in_ok-copies.ensures)) c.requires
@@ -37,4 +37,4 @@ returns-clause-ok g c =
     let names = c.deref.ensures.value ∙ c.in_ok-absent.ensures ∙ ap (λ rs. absent_names m (told_names rs)) c.as_slice.ensures in
     let room = c.in_ok-make_room.ensures.ok ∙ ap (fold with_empty m) names in
     let copied = c.into_vec.ensures ∙ c.in_ok-copies.ensures in
-    c.replace_all.ensures ∙ (λ k. mirrored (room k) (copied k)) ∙ room_is_filled m c.args.told.now c.len.ensures.in_order
+    c.replace_all.ensures ∙ (λ k. mirrored (room k) (copied k)) ∙ room_is_filled m c.args.told.now c.keeps_order.ensures
