@@ -1,6 +1,6 @@
 pub mod Events
 pub mod Facts
 pub mod Inner
-pub mod Replies
+pub mod NewsTexts
 pub mod Rooms
 pub mod Running

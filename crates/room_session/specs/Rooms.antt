@@ -1,5 +1,5 @@
 -- What is known of rooms, and how a call and a look change it. (The rules of a room are this project's.)
-use Rattle.std.specs.Prelude.{◌≡◌, ◌++◌, ℕ, List, Option, Some, length}
+use Rattle.std.specs.Prelude.{◌≡◌, ◌≢◌, ◌≤◌, ◌+◌, ◌++◌, ℕ, List, [], ◌∷◌, Option, Some, length}
 use Rattle.std.specs.declared.alloc.Global.{Global}
 use Rattle.room_history.specs.declared.ask.RoomCall.{RoomCall}
 use Rattle.room_history.specs.declared.ask.RoomReply.{RoomReply}
@@ -7,12 +7,20 @@ use Rattle.room_history.specs.declared.entry.Entry.{Entry}
 use Rattle.room_history.specs.declared.turned.Opening.{Opening}
 use Rattle.room_history.specs.LegalJournals.{IsJournal}
 use Rattle.room_history.specs.Turns.{IsTurn}
+use Rattle.room_stacks.specs.declared.author.Author.{Author}
 
--- where the room of each name stands, what no call changes of the room that stands at a place, and the entries of it that were seen by now
+-- what is known of one room: what no call changes of it, the entries that were seen by now, those of them that calls through these rooms made, how long its journal was at each look and at the end of each turn, in order, and how many turns were taken
+pub record RoomKnown : Type 0 where
+  pub opening : Opening Global
+  pub seen : List (Entry Global)
+  pub mine : List (Entry Global)
+  pub looks : List ℕ
+  pub turns : ℕ
+
+-- where the room of each name stands, and what is known of the room that stands at a place
 pub record Known : Type 0 where
   pub place : List ℕ → Option ℕ
-  pub opening : ℕ → Opening Global
-  pub seen : ℕ → List (Entry Global)
+  pub at : ℕ → RoomKnown
 
 -- a room stands at the place
 abbrev pub IsRoom : Known → ℕ → Type 0
@@ -26,22 +34,64 @@ IsLegal opening journal = IsJournal opening.base opening.limit journal
 abbrev pub BeginsWith : {X : Type 0} → List X → List X → Type 0
 BeginsWith {X} list front = (rest : List X) × (list ≡ front ++ rest)
 
--- the same rooms are known, and of each room all that was seen, and perhaps more
+-- of a room all that was known is, and perhaps more
+pub record KeepsRoom (before after : RoomKnown) : Type 0 where
+  pub opening : after.opening ≡ before.opening
+  pub seen : BeginsWith after.seen before.seen
+  pub mine : BeginsWith after.mine before.mine
+  pub looks : BeginsWith after.looks before.looks
+  pub turns : before.turns ≤ after.turns
+
+-- the same rooms are known, and of each all that was known, and perhaps more
 pub record KeepsKnown (before after : Known) : Type 0 where
   pub place : after.place ≡ before.place
-  pub opening : after.opening ≡ before.opening
-  pub seen : (room : ℕ) → BeginsWith (after.seen room) (before.seen room)
+  pub at : (room : ℕ) → KeepsRoom (before.at room) (after.at room)
 
--- the call was answered after a legal journal, which begins with all that was seen of the room
-pub record Answers (before : Known) (room : ℕ) (call : RoomCall Global) (reply : RoomReply Global) (after : Known) : Type 0 where
+-- the call was answered in one turn, after a legal journal, which begins with all that was seen of the room
+pub record AnswersAt (before : RoomKnown) (call : RoomCall Global) (reply : RoomReply Global) (after : RoomKnown) : Type 0 where
   pub journal : List (Entry Global)
-  pub legal : IsLegal (before.opening room) journal
-  pub begins : BeginsWith journal (before.seen room)
-  pub turn : IsTurn (before.opening room) journal call reply (after.seen room)
-  pub keeps : KeepsKnown before after
+  pub legal : IsLegal before.opening journal
+  pub begins : BeginsWith journal before.seen
+  pub turn : IsTurn before.opening journal call reply after.seen
+  -- what the call added to that journal, and it alone, is one more of the entries that were made through these rooms
+  pub added : List (Entry Global)
+  pub grows : after.seen ≡ journal ++ added
+  pub mine : after.mine ≡ before.mine ++ added
+  pub looks : after.looks ≡ before.looks ++ length after.seen ∷ []
+  pub turns : after.turns ≡ before.turns + 1
+  pub opening : after.opening ≡ before.opening
 
--- what is then seen of the room is a legal journal, and this is how long it is
+-- the journal was looked at and is so long, and what is then seen of the room is all of it; no turn was taken
+pub record LooksAt (before : RoomKnown) (count : ℕ) (after : RoomKnown) : Type 0 where
+  pub legal : IsLegal before.opening after.seen
+  pub begins : BeginsWith after.seen before.seen
+  pub whole : count ≡ length after.seen
+  pub mine : after.mine ≡ before.mine
+  pub looks : after.looks ≡ before.looks ++ count ∷ []
+  pub turns : after.turns ≡ before.turns
+  pub opening : after.opening ≡ before.opening
+
+-- the places are the same, and every other room is as it was
+pub record LeavesOthers (before : Known) (room : ℕ) (after : Known) : Type 0 where
+  pub place : after.place ≡ before.place
+  pub others : (other : ℕ) → other ≢ room → after.at other ≡ before.at other
+
+-- the room was asked in one turn and gave this reply, and nothing else was asked
+pub record Answers (before : Known) (room : ℕ) (call : RoomCall Global) (reply : RoomReply Global) (after : Known) : Type 0 where
+  pub here : AnswersAt (before.at room) call reply (after.at room)
+  pub leaves : LeavesOthers before room after
+
+-- the room was looked at once, and nothing was asked
 pub record Looks (before : Known) (room : ℕ) (count : ℕ) (after : Known) : Type 0 where
-  pub legal : IsLegal (before.opening room) (after.seen room)
-  pub whole : count ≡ length (after.seen room)
-  pub keeps : KeepsKnown before after
+  pub here : LooksAt (before.at room) count (after.at room)
+  pub leaves : LeavesOthers before room after
+
+-- no entry was made through these rooms, or one at a room, by this author under this id
+abbrev pub MakesNone : Known → Known → Type 0
+MakesNone before after = (room : ℕ) → (after.at room).mine ≡ (before.at room).mine
+
+abbrev pub MakesOne : Known → ℕ → Author → ℕ → Known → Type 0
+MakesOne before room author id after =
+    (entry : Entry Global) × (entry.author ≡ author) × (entry.id ≡ id)
+    × ((after.at room).mine ≡ (before.at room).mine ++ entry ∷ [])
+    × ((other : ℕ) → other ≢ room → (after.at other).mine ≡ (before.at other).mine)

@@ -1,9 +1,14 @@
 //! How a session begins.
-ghost use Rattle.std.specs.Prelude.{◌≡◌, [], ◌∷◌, IfOk, Result};
-ghost use Rattle.room_session.specs.Events.{only, Begins, BeginsBy, Greets, Refuses, Welcomes};
-ghost use Rattle.room_session.specs.Replies.{text_of};
-ghost use Rattle.room_session.specs.Rooms.{KeepsKnown, IsRoom};
+ghost use Rattle.std.specs.Prelude.{◌≡◌, [], ◌∷◌, IfOk, MatchResult, OnErr, Result};
+ghost use Rattle.std.specs.declared.alloc.Global.{Global};
+ghost use Rattle.room_history.specs.declared.ask.RoomCall.TheVariants as calls;
+ghost use Rattle.room_history.specs.declared.ask.RoomReply.{RoomReply};
+ghost use Rattle.room_session.specs.declared.sent.Sent.{Sent};
+ghost use Rattle.room_session.specs.declared.session.State.{State};
+ghost use Rattle.room_session.specs.Events.{only, Begins, BeginsBy, EndsFirst, Greets, Refuses};
+ghost use Rattle.room_session.specs.Rooms.{Answers, KeepsKnown, IsRoom};
 ghost use Rattle.room_session.specs.Running.{IsRunOn};
+ghost use Rattle.room_wire.specs.Asked.{text_of};
 ghost use Rattle.room_wire.specs.declared.bad.Bad.{Bad};
 ghost use Rattle.room_wire.specs.declared.incoming.Incoming.{Incoming};
 ghost use Rattle.room_wire.specs.Reading.{GivesMessage};
@@ -29,8 +34,11 @@ pub(crate) fn greet<R: Rooms, W: Wait>(
     rooms: &mut R,
     text: &str,
 ) -> Result<Next, Memory>
-    ensures ok { IfOk result (λ next. (said : Result Incoming Bad) × GivesMessage said (spells text.now) × Begins (R.known rooms.old) (only next.texts) next.state (R.known rooms.new) said) }
+    ensures text { (said : Result Incoming Bad) × GivesMessage said (spells text.now) × MatchResult result
+        (λ next. Begins (R.known rooms.old) (only next.texts) next.state (R.known rooms.new) said)
+        (λ _. EndsFirst (R.known rooms.old) (R.known rooms.new) said) }
     ensures keeps { KeepsKnown (R.known rooms.old) (R.known rooms.new) }
+    ensures kept { R.kept rooms.new ≡ R.kept rooms.old }
     ensures runs { IfOk result (λ next. IsRunOn next.state (R.known rooms.new)) }
 {
     match read_request(alloc, text) {
@@ -46,8 +54,11 @@ fn begin<R: Rooms, W: Wait>(
     rooms: &mut R,
     message: Incoming,
 ) -> Result<Next, Memory>
-    ensures ok { IfOk result (λ next. BeginsBy (R.known rooms.old) (only next.texts) next.state (R.known rooms.new) message.id message.body) }
+    ensures message { MatchResult result
+        (λ next. BeginsBy (R.known rooms.old) (only next.texts) next.state (R.known rooms.new) message.id message.body)
+        (λ _. (due : Sent) × (next : State) × BeginsBy (R.known rooms.old) due next (R.known rooms.new) message.id message.body) }
     ensures keeps { KeepsKnown (R.known rooms.old) (R.known rooms.new) }
+    ensures kept { R.kept rooms.new ≡ R.kept rooms.old }
     ensures runs { IfOk result (λ next. IsRunOn next.state (R.known rooms.new)) }
 {
     let id = message.id;
@@ -73,7 +84,9 @@ fn welcome<R: Rooms, W: Wait>(
 ) -> Result<Next, Memory>
     requires { IsRoom (R.known rooms.old) room }
     ensures ok { IfOk result (λ next. Greets (R.known rooms.old) (only next.texts) next.state (R.known rooms.new) id author (Some room)) }
+    ensures err { OnErr result ((reply : RoomReply Global) × Answers (R.known rooms.old) room calls.Rows reply (R.known rooms.new)) }
     ensures keeps { KeepsKnown (R.known rooms.old) (R.known rooms.new) }
+    ensures kept { R.kept rooms.new ≡ R.kept rooms.old }
     ensures runs { IfOk result (λ next. IsRunOn next.state (R.known rooms.new)) }
 {
     match rooms.turn(rt, room, RoomCall::Rows) {

@@ -1,9 +1,9 @@
 //! News to a client.
-ghost use Rattle.std.specs.Prelude.{◌≡◌, ◌≤◌, ◌++◌, [], IfOk, OnOk, length};
-ghost use Rattle.room_session.specs.Events.{only, CatchesUp};
+ghost use Rattle.std.specs.Prelude.{◌≡◌, ◌≤◌, ◌++◌, [], IfOk, OnErr, OnOk, length};
+ghost use Rattle.room_session.specs.Events.{only, AsksForNews, CatchesUp};
 ghost use Rattle.room_session.specs.Inner.LastTold.{last_told};
 ghost use Rattle.room_session.specs.Inner.Telling.{Tells};
-ghost use Rattle.room_session.specs.Replies.{news_texts};
+ghost use Rattle.room_session.specs.NewsTexts.{news_texts};
 ghost use Rattle.room_session.specs.Rooms.{KeepsKnown, IsRoom};
 ghost use Rattle.room_session.specs.Running.{IsRunOn};
 
@@ -29,9 +29,11 @@ pub(crate) fn news_alone<R: Rooms, W: Wait>(
     told: u64,
 ) -> Result<Next, Memory>
     requires room { IsRoom (R.known rooms.old) room }
-    requires told { told ≤ length ((R.known rooms.old).seen room) }
+    requires told { told ≤ length ((R.known rooms.old).at room).seen }
     ensures ok { IfOk result (λ next. CatchesUp (R.known rooms.old) (only next.texts) next.state (R.known rooms.new) room author told []) }
+    ensures err { OnErr result (AsksForNews (R.known rooms.old) room told (R.known rooms.new)) }
     ensures keeps { KeepsKnown (R.known rooms.old) (R.known rooms.new) }
+    ensures kept { R.kept rooms.new ≡ R.kept rooms.old }
     ensures runs { IfOk result (λ next. IsRunOn next.state (R.known rooms.new)) }
 {
     catch_up(alloc, rt, rooms, room, author, told, Texts::empty(alloc))
@@ -48,9 +50,11 @@ pub(crate) fn catch_up<R: Rooms, W: Wait>(
     mut texts: Texts,
 ) -> Result<Next, Memory>
     requires room { IsRoom (R.known rooms.old) room }
-    requires told { told ≤ length ((R.known rooms.old).seen room) }
+    requires told { told ≤ length ((R.known rooms.old).at room).seen }
     ensures ok { IfOk result (λ next. CatchesUp (R.known rooms.old) (only next.texts) next.state (R.known rooms.new) room author told texts) }
+    ensures err { OnErr result (AsksForNews (R.known rooms.old) room told (R.known rooms.new)) }
     ensures keeps { KeepsKnown (R.known rooms.old) (R.known rooms.new) }
+    ensures kept { R.kept rooms.new ≡ R.kept rooms.old }
     ensures runs { IfOk result (λ next. IsRunOn next.state (R.known rooms.new)) }
 {
     let told = tell(alloc, rt, rooms, room, told, &mut texts)?;
@@ -68,9 +72,11 @@ fn tell<R: Rooms, W: Wait>(
     texts: &mut Texts,
 ) -> Result<u64, Memory>
     requires room { IsRoom (R.known rooms.old) room }
-    requires told { told ≤ length ((R.known rooms.old).seen room) }
+    requires told { told ≤ length ((R.known rooms.old).at room).seen }
     ensures ok { IfOk result (λ front. Tells (R.known rooms.old) room told texts.old texts.new front (R.known rooms.new)) }
+    ensures err { OnErr result (AsksForNews (R.known rooms.old) room told (R.known rooms.new)) }
     ensures keeps { KeepsKnown (R.known rooms.old) (R.known rooms.new) }
+    ensures kept { R.kept rooms.new ≡ R.kept rooms.old }
 {
     if rooms.front(room) <= told {
         return Ok(told);

@@ -1,9 +1,9 @@
 //! Replies in an open session.
-ghost use Rattle.std.specs.Prelude.{◌≡◌, ◌≤◌, IfOk, Result, length};
-ghost use Rattle.room_history.specs.declared.ask.RoomCall.TheVariants as calls;
-ghost use Rattle.room_session.specs.Events.{only, GoesOn, Replies, RepliesAsked, RepliesBody};
+ghost use Rattle.std.specs.Prelude.{◌≡◌, ◌≤◌, ℕ, List, IfOk, MatchResult, Result, length};
+ghost use Rattle.room_session.specs.Events.{only, BreaksOff, GoesOn, Replies, RepliesTo};
 ghost use Rattle.room_session.specs.Rooms.{KeepsKnown, IsRoom};
 ghost use Rattle.room_session.specs.Running.{IsRunOn};
+ghost use Rattle.room_wire.specs.Asked.{asked};
 ghost use Rattle.room_wire.specs.declared.bad.Bad.{Bad};
 ghost use Rattle.room_wire.specs.declared.incoming.Incoming.{Incoming};
 ghost use Rattle.room_wire.specs.Reading.{GivesMessage};
@@ -14,11 +14,9 @@ use crate::next::Next;
 use crate::rooms::Rooms;
 use crate::sent::Texts;
 use osm_elements::Memory;
-use osm_elements::name::Name;
-use room_history::ask::{RoomCall, RoomReply};
-use room_history::call::{Call, Request};
 use room_stacks::author::Author;
 use room_wire::answer::Answer;
+use room_wire::asked::name_asked;
 use room_wire::incoming::{Body, Incoming};
 use room_wire::json_text::Json;
 use room_wire::{read_request, reply_text};
@@ -36,9 +34,12 @@ pub(crate) fn reply_and_news<R: Rooms, W: Wait>(
     text: &str,
 ) -> Result<Next, Memory>
     requires room { IsRoom (R.known rooms.old) room }
-    requires told { told ≤ length ((R.known rooms.old).seen room) }
-    ensures ok { IfOk result (λ next. (said : Result Incoming Bad) × GivesMessage said (spells text.now) × GoesOn (R.known rooms.old) (only next.texts) next.state (R.known rooms.new) room author told said) }
+    requires told { told ≤ length ((R.known rooms.old).at room).seen }
+    ensures text { (said : Result Incoming Bad) × GivesMessage said (spells text.now) × MatchResult result
+        (λ next. GoesOn (R.known rooms.old) (only next.texts) next.state (R.known rooms.new) room author told said)
+        (λ _. BreaksOff (R.known rooms.old) (R.known rooms.new) room author told said) }
     ensures keeps { KeepsKnown (R.known rooms.old) (R.known rooms.new) }
+    ensures kept { R.kept rooms.new ≡ R.kept rooms.old }
     ensures runs { IfOk result (λ next. IsRunOn next.state (R.known rooms.new)) }
 {
     let reply = reply(alloc, rt, rooms, room, author, text)?;
@@ -47,7 +48,7 @@ pub(crate) fn reply_and_news<R: Rooms, W: Wait>(
     catch_up(alloc, rt, rooms, room, author, told, texts)
 }
 
-// The reply to a text.
+// The reply to a text. Where it cannot be made, the room was asked all the same.
 fn reply<R: Rooms, W: Wait>(
     alloc: Global,
     rt: &W,
@@ -57,8 +58,10 @@ fn reply<R: Rooms, W: Wait>(
     text: &str,
 ) -> Result<Json, Memory>
     requires { IsRoom (R.known rooms.old) room }
-    ensures ok { IfOk result (λ json. (said : Result Incoming Bad) × GivesMessage said (spells text.now) × Replies (R.known rooms.old) room author said json (R.known rooms.new)) }
+    ensures text { (said : Result Incoming Bad) × GivesMessage said (spells text.now) × (due : List ℕ)
+        × Replies (R.known rooms.old) room author said due (R.known rooms.new) × IfOk result (λ json. json ≡ due) }
     ensures keeps { KeepsKnown (R.known rooms.old) (R.known rooms.new) }
+    ensures kept { R.kept rooms.new ≡ R.kept rooms.old }
 {
     match read_request(alloc, text) {
         Ok(Incoming { id, body }) => reply_to(alloc, rt, rooms, room, author, id, body),
@@ -66,7 +69,7 @@ fn reply<R: Rooms, W: Wait>(
     }
 }
 
-// The reply to what a message asks for.
+// The reply to what a message asks for: what it asks of the room is asked in one turn.
 fn reply_to<R: Rooms, W: Wait>(
     alloc: Global,
     rt: &W,
@@ -77,102 +80,15 @@ fn reply_to<R: Rooms, W: Wait>(
     body: Body,
 ) -> Result<Json, Memory>
     requires { IsRoom (R.known rooms.old) room }
-    ensures ok { IfOk result (λ json. RepliesBody (R.known rooms.old) room author id body json (R.known rooms.new)) }
+    ensures body { (due : List ℕ) × RepliesTo (R.known rooms.old) room id (asked author id body) due (R.known rooms.new)
+        × IfOk result (λ json. json ≡ due) }
     ensures keeps { KeepsKnown (R.known rooms.old) (R.known rooms.new) }
+    ensures kept { R.kept rooms.new ≡ R.kept rooms.old }
 {
-    match body {
-        Body::Change(request) => change(alloc, rt, rooms, room, author, id, request),
-        Body::Get(name) => element(alloc, rt, rooms, room, id, name),
-        Body::Map => map(alloc, rt, rooms, room, id),
-        Body::Undos => undos(alloc, rt, rooms, room, author, id),
-        Body::Hello { .. } => reply_text(alloc, id, &Answer::HelloTwice),
-    }
-}
-
-fn change<R: Rooms, W: Wait>(
-    alloc: Global,
-    rt: &W,
-    rooms: &mut R,
-    room: usize,
-    author: Author,
-    id: u64,
-    request: Request<Global>,
-) -> Result<Json, Memory>
-    requires { IsRoom (R.known rooms.old) room }
-    ensures ok { IfOk result (λ json. RepliesAsked (R.known rooms.old) room id (calls.Take (record { author = author; id = id; request = request })) json (R.known rooms.new)) }
-    ensures keeps { KeepsKnown (R.known rooms.old) (R.known rooms.new) }
-{
-    let call = Call {
-        author,
-        id,
-        request,
+    let Some(call) = body.into_call(author, id) else {
+        return reply_text(alloc, id, &Answer::HelloTwice);
     };
-    match rooms.turn(rt, room, RoomCall::Take(call)) {
-        RoomReply::Take(reply) => reply_text(alloc, id, &Answer::from(&reply)),
-        _ => reply_text(alloc, id, &Answer::Memory),
-    }
-}
-
-fn element<R: Rooms, W: Wait>(
-    alloc: Global,
-    rt: &W,
-    rooms: &mut R,
-    room: usize,
-    id: u64,
-    name: Name,
-) -> Result<Json, Memory>
-    requires { IsRoom (R.known rooms.old) room }
-    ensures ok { IfOk result (λ json. RepliesAsked (R.known rooms.old) room id (calls.Get name) json (R.known rooms.new)) }
-    ensures keeps { KeepsKnown (R.known rooms.old) (R.known rooms.new) }
-{
-    match rooms.turn(rt, room, RoomCall::Get(name)) {
-        RoomReply::Get(Ok(Some(element))) => {
-            let element = &element;
-            reply_text(alloc, id, &Answer::Is { name, element })
-        }
-        RoomReply::Get(Ok(None)) => reply_text(alloc, id, &Answer::Absent(name)),
-        _ => reply_text(alloc, id, &Answer::Memory),
-    }
-}
-
-fn map<R: Rooms, W: Wait>(
-    alloc: Global,
-    rt: &W,
-    rooms: &mut R,
-    room: usize,
-    id: u64,
-) -> Result<Json, Memory>
-    requires { IsRoom (R.known rooms.old) room }
-    ensures ok { IfOk result (λ json. RepliesAsked (R.known rooms.old) room id calls.Rows json (R.known rooms.new)) }
-    ensures keeps { KeepsKnown (R.known rooms.old) (R.known rooms.new) }
-{
-    match rooms.turn(rt, room, RoomCall::Rows) {
-        RoomReply::Rows(Ok((front, rows))) => {
-            let rows = &rows;
-            reply_text(alloc, id, &Answer::Map { rows, front })
-        }
-        _ => reply_text(alloc, id, &Answer::Memory),
-    }
-}
-
-fn undos<R: Rooms, W: Wait>(
-    alloc: Global,
-    rt: &W,
-    rooms: &mut R,
-    room: usize,
-    author: Author,
-    id: u64,
-) -> Result<Json, Memory>
-    requires { IsRoom (R.known rooms.old) room }
-    ensures ok { IfOk result (λ json. RepliesAsked (R.known rooms.old) room id (calls.Undos author) json (R.known rooms.new)) }
-    ensures keeps { KeepsKnown (R.known rooms.old) (R.known rooms.new) }
-{
-    match rooms.turn(rt, room, RoomCall::Undos(author)) {
-        RoomReply::Undos(Ok(lists)) => {
-            let undos = lists.undos.as_slice();
-            let redos = lists.redos.as_slice();
-            reply_text(alloc, id, &Answer::Undos { undos, redos })
-        }
-        _ => reply_text(alloc, id, &Answer::Memory),
-    }
+    let name = name_asked(&call);
+    let reply = rooms.turn(rt, room, call);
+    reply_text(alloc, id, &Answer::to(name, &reply))
 }

@@ -11,6 +11,11 @@ pub trait Rooms {
     // what is known of them
     ghost known: { Self → Known };
 
+    // what no call changes of them beside where each name stands
+    ghost Kept: { Type 0 } = { Unit {0} };
+
+    ghost kept: { Self → Self.Kept };
+
     /// Where the room of this name stands, or none where there is no such room.
     fn find(&self, name: &str) -> Option<usize>
         ensures { result ≡ (known self.now).place name.now };
@@ -18,10 +23,12 @@ pub trait Rooms {
     /// Waits for a turn at a room and asks it.
     fn turn<W: Wait>(&mut self, rt: &W, room: usize, call: RoomCall<Global>) -> RoomReply<Global>
         requires { IsRoom (known self.old) room }
-        ensures { Answers (known self.old) room call result (known self.new) };
+        ensures answers { Answers (known self.old) room call result (known self.new) }
+        ensures kept { Self.kept self.new ≡ Self.kept self.old };
 
     /// How many entries a room has. It waits for nobody.
     fn front(&mut self, room: usize) -> u64
         requires { IsRoom (known self.old) room }
-        ensures { Looks (known self.old) room result (known self.new) };
+        ensures looks { Looks (known self.old) room result (known self.new) }
+        ensures kept { Self.kept self.new ≡ Self.kept self.old };
 }

@@ -1,9 +1,13 @@
 //! Sessions.
-ghost use Rattle.std.specs.Prelude.{◌≡◌, ◌≢◌, [], IfOk, OnOk, OnErr, MatchResult};
-ghost use Rattle.room_session.specs.Events.{only, closing, HearsText, WaitsOn};
+ghost use Rattle.std.specs.Prelude.{◌≡◌, ◌≢◌, [], IfOk, OnOk, OnErr, MatchResult, Result};
+ghost use Rattle.room_session.specs.Events.{only, closing, HearsText, Makes, WaitsOn};
 ghost use Rattle.room_session.specs.declared.session.State.TheVariants.{BeforeHello, Closed};
-ghost use Rattle.room_session.specs.Rooms.{KeepsKnown};
+ghost use Rattle.room_session.specs.Rooms.{KeepsKnown, MakesNone};
 ghost use Rattle.room_session.specs.Running.{IsRunOn};
+ghost use Rattle.room_wire.specs.declared.bad.Bad.{Bad};
+ghost use Rattle.room_wire.specs.declared.incoming.Incoming.{Incoming};
+ghost use Rattle.room_wire.specs.Reading.{GivesMessage};
+ghost use Rattle.room_wire.specs.Spelling.{spells};
 
 use crate::hello::greet;
 use crate::news::news_alone;
@@ -87,8 +91,11 @@ impl Session {
         requires { IsRunOn self.old (R.known rooms.old) }
         ensures ok { IfOk result (λ sent. HearsText (R.known rooms.old) sent self.new (R.known rooms.new) self.old text.now) }
         ensures err { OnErr result ((self.old ≡ Closed) × (self.new ≡ Closed) × (R.known rooms.new ≡ R.known rooms.old)) }
+        // Of entries it makes at most that of the change that it asks for, and no other.
+        ensures makes { (said : Result Incoming Bad) × GivesMessage said (spells text.now) × Makes (R.known rooms.old) self.old said (R.known rooms.new) }
         ensures keeps { KeepsKnown (R.known rooms.old) (R.known rooms.new) }
         ensures runs { IsRunOn self.new (R.known rooms.new) }
+        ensures kept { R.kept rooms.new ≡ R.kept rooms.old }
     {
         let next = match &self.state {
             State::BeforeHello => greet(alloc, rt, rooms, text),
@@ -111,8 +118,10 @@ impl Session {
         requires { IsRunOn self.old (R.known rooms.old) }
         ensures ok { IfOk result (λ sent. WaitsOn (R.known rooms.old) sent self.new (R.known rooms.new) self.old) }
         ensures err { OnErr result ((self.old ≡ Closed) × (self.new ≡ Closed) × (R.known rooms.new ≡ R.known rooms.old)) }
+        ensures makes { MakesNone (R.known rooms.old) (R.known rooms.new) }
         ensures keeps { KeepsKnown (R.known rooms.old) (R.known rooms.new) }
         ensures runs { IsRunOn self.new (R.known rooms.new) }
+        ensures kept { R.kept rooms.new ≡ R.kept rooms.old }
     {
         let next = match &self.state {
             State::BeforeHello => Ok(nothing(alloc)),

@@ -1,5 +1,5 @@
 use Rattle.std.proofs.Common.{◌≡◌, ◌++◌, take}
-use Rattle.room_session.specs.Replies.{news_texts}
+use Rattle.room_session.specs.NewsTexts.{news_texts}
 use Rattle.room_session.proofs.news.add.Given as goal
 
 abbrev pub invariant-loop-one : goal.invariant-loop-one

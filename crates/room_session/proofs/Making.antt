@@ -1,0 +1,194 @@
+-- The entries that events make.
+use Rattle.std.proofs.Common.{◌≡◌, ◌≢◌, ◌⊎◌, ◌++◌, ◌∙◌, ℕ, List, [], ◌∷◌, Option, Some, None, Result, Ok, Err, IfOk, OnErr, refl, sym, ap, subst, inl, inr, append-nil, arith}
+use Rattle.std.proofs.lemmas.Bool.{cases_eq}
+use Rattle.std.proofs.lemmas.List.{append_cancel_left}
+use Rattle.std.specs.declared.alloc.AllocError.{AllocError}
+use Rattle.std.specs.declared.alloc.Global.{Global}
+use Rattle.room_stacks.specs.declared.author.Author.{Author}
+use Rattle.room_history.specs.Answers.{answer, answered, call_refusal, meant}
+use Rattle.room_history.specs.Turns.{IsTurn}
+use Rattle.room_history.specs.declared.ask.RoomCall.{RoomCall}
+use Rattle.room_history.specs.declared.ask.RoomCall.TheVariants as calls
+use Rattle.room_history.specs.declared.ask.RoomReply.{RoomReply}
+use Rattle.room_history.specs.declared.call.Call.{Call}
+use Rattle.room_history.specs.declared.entry.Entry.{Entry}
+use Rattle.room_history.specs.declared.entry.EntryKind.{EntryKind}
+use Rattle.room_history.specs.declared.reply.Reply.{Reply}
+use Rattle.room_history.specs.declared.turned.Opening.{Opening}
+use Rattle.room_wire.specs.declared.bad.Bad.{Bad}
+use Rattle.room_wire.specs.declared.incoming.Body.{Body}
+use Rattle.room_wire.specs.declared.incoming.Body.TheVariants.{Hello, Change, Get, Map, Undos}
+use Rattle.room_wire.specs.declared.incoming.Incoming.{Incoming}
+use Rattle.room_wire.specs.Reading.{GivesMessage}
+use Rattle.room_wire.specs.Spelling.{spells}
+use Rattle.room_session.specs.declared.next.Next.{Next}
+use Rattle.room_session.specs.declared.sent.Sent.{Sent}
+use Rattle.room_session.specs.declared.session.State.{State}
+use Rattle.room_session.specs.declared.session.State.TheVariants.{BeforeHello, Open, Closed}
+use Rattle.room_session.specs.Events.{AsksForNews, Begins, BeginsBy, CatchesUp, FindsNoNews, Greets, HearsText, Makes, MakesBy, Replies}
+use Rattle.room_session.specs.Rooms.{Known, RoomKnown, Answers, Looks, MakesNone, MakesOne}
+
+-- ---- what one turn adds
+
+-- an entry of the author's under the id
+abbrev IsOf : Author → ℕ → Entry Global → Type 0
+IsOf author id entry = (entry.author ≡ author) × (entry.id ≡ id)
+
+-- the answer to a call leaves the journal, or adds one entry of its author's under its id
+answer_adds : (j : List (Entry Global)) (c : Call Global) (refused : Option (Reply Global)) (kind : Option (EntryKind Global))
+    → ((answered j c refused kind).1 ≡ j) ⊎ ((entry : Entry Global) × IsOf c.author c.id entry × ((answered j c refused kind).1 ≡ j ++ entry ∷ []))
+answer_adds j c (Some reply) kind = inl refl
+answer_adds j c None None = inl refl
+answer_adds j c None (Some kind) = inr (record { author = c.author; id = c.id; kind = kind }, (refl, refl), refl)
+
+abbrev journal_of : RoomReply Global × List (Entry Global) → List (Entry Global)
+journal_of step = step.1
+
+-- what was added to a journal that was left is nothing
+left_adds_none : (j added : List (Entry Global)) → j ++ added ≡ j → added ≡ []
+left_adds_none j added same = append_cancel_left j added [] (same ∙ sym (append-nil j))
+
+-- a query leaves the journal
+query_leaves : (opening : Opening Global) (j : List (Entry Global)) (call : RoomCall Global) (reply : RoomReply Global) (k : List (Entry Global)) → ((c : Call Global) → call ≢ calls.Take c) → IsTurn opening j call reply k → k ≡ j
+query_leaves opening j (calls.Take c) reply k query turn = absurd (query c refl)
+query_leaves opening j (calls.Get name) reply k query (made, inl is) = ap journal_of is
+query_leaves opening j (calls.Get name) reply k query (made, inr wants) = wants.1
+query_leaves opening j calls.Rows reply k query (made, inl is) = ap journal_of is
+query_leaves opening j calls.Rows reply k query (made, inr wants) = wants.1
+query_leaves opening j (calls.Undos author) reply k query (made, inl is) = ap journal_of is
+query_leaves opening j (calls.Undos author) reply k query (made, inr wants) = wants.1
+query_leaves opening j (calls.News from) reply k query (made, inl is) = ap journal_of is
+query_leaves opening j (calls.News from) reply k query (made, inr wants) = wants.1
+
+-- a call leaves it, or adds one entry
+call_adds : (opening : Opening Global) (j : List (Entry Global)) (c : Call Global) (reply : RoomReply Global) (k : List (Entry Global)) → IsTurn opening j (calls.Take c) reply k
+    → (k ≡ j) ⊎ ((entry : Entry Global) × IsOf c.author c.id entry × (k ≡ j ++ entry ∷ []))
+call_adds opening j c reply k (made, inr wants) = inl wants.1
+call_adds opening j c reply k (made, inl is) = by (answer_adds j c (call_refusal opening.base opening.limit j c) (meant j c.author c.request))
+  where
+    by : ((answer opening.base opening.limit j c).1 ≡ j) ⊎ ((entry : Entry Global) × IsOf c.author c.id entry × ((answer opening.base opening.limit j c).1 ≡ j ++ entry ∷ []))
+        → (k ≡ j) ⊎ ((entry : Entry Global) × IsOf c.author c.id entry × (k ≡ j ++ entry ∷ []))
+    by (inl same) = inl (ap journal_of is ∙ same)
+    by (inr one) = inr (one.0, one.1, ap journal_of is ∙ one.2)
+
+-- ---- what steps add to the entries that are made
+
+none_then : (before middle after : Known) → MakesNone before middle → MakesNone middle after → MakesNone before after
+none_then before middle after one two = λ room. two room ∙ one room
+
+nothing_made : (before after : Known) → after ≡ before → MakesNone before after
+nothing_made before after same = λ room. ap (λ (k : Known). (k.at room).mine) same
+
+others_same : (before after : Known) (room : ℕ) → (after.at room).mine ≡ (before.at room).mine → ((other : ℕ) → other ≢ room → after.at other ≡ before.at other) → MakesNone before after
+others_same before after room here others = λ other. one other (cases_eq other room)
+  where
+    one : (other : ℕ) → (other ≡ room) ⊎ (other ≢ room) → (after.at other).mine ≡ (before.at other).mine
+    one other (inl same) = subst (λ r. (after.at r).mine ≡ (before.at r).mine) (sym same) here
+    one other (inr apart) = ap (λ (k : RoomKnown). k.mine) (others other apart)
+
+looks_make_none : (before : Known) (room count : ℕ) (after : Known) → Looks before room count after → MakesNone before after
+looks_make_none before room count after looks = others_same before after room looks.here.mine looks.leaves.others
+
+query_makes_none : (before : Known) (room : ℕ) (call : RoomCall Global) (reply : RoomReply Global) (after : Known) → ((c : Call Global) → call ≢ calls.Take c) → Answers before room call reply after → MakesNone before after
+query_makes_none before room call reply after query answers =
+    let here = answers.here in
+    let stays = query_leaves (before.at room).opening here.journal call reply (after.at room).seen query here.turn in
+    let none = left_adds_none here.journal here.added (sym here.grows ∙ stays) in
+    others_same before after room (here.mine ∙ ap (λ added. (before.at room).mine ++ added) none ∙ append-nil (before.at room).mine) answers.leaves.others
+
+call_makes : (before : Known) (room : ℕ) (c : Call Global) (reply : RoomReply Global) (after : Known) → Answers before room (calls.Take c) reply after → MakesNone before after ⊎ MakesOne before room c.author c.id after
+call_makes before room c reply after answers = by (call_adds (before.at room).opening answers.here.journal c reply (after.at room).seen answers.here.turn)
+  where
+    by : ((after.at room).seen ≡ answers.here.journal) ⊎ ((entry : Entry Global) × IsOf c.author c.id entry × ((after.at room).seen ≡ answers.here.journal ++ entry ∷ [])) → MakesNone before after ⊎ MakesOne before room c.author c.id after
+    by (inl stays) =
+        let none = left_adds_none answers.here.journal answers.here.added (sym answers.here.grows ∙ stays) in
+        inl (others_same before after room (answers.here.mine ∙ ap (λ added. (before.at room).mine ++ added) none ∙ append-nil (before.at room).mine) answers.leaves.others)
+    by (inr one) =
+        let is = append_cancel_left answers.here.journal answers.here.added (one.0 ∷ []) (sym answers.here.grows ∙ one.2) in
+        inr (one.0, one.1.0, one.1.1, answers.here.mine ∙ ap (λ added. (before.at room).mine ++ added) is, λ other apart. ap (λ (k : RoomKnown). k.mine) (answers.leaves.others other apart))
+
+-- ---- what events add
+
+news_make_none : (before : Known) (room told : ℕ) (after : Known) → AsksForNews before room told after → MakesNone before after
+news_make_none before room told after asks =
+    let looked = asks.2 in
+    none_then before looked after (looks_make_none before room asks.0 looked asks.3)
+    (query_makes_none looked room (calls.News told) asks.4.0 after (λ c same. grind (arith, same)) asks.4.1)
+
+caught_up_makes_none : (before : Known) (room told : ℕ) (after : Known) → FindsNoNews before room told after ⊎ AsksForNews before room told after → MakesNone before after
+caught_up_makes_none before room told after (inl finds) = looks_make_none before room finds.0 after finds.2
+caught_up_makes_none before room told after (inr asks) = news_make_none before room told after asks
+
+-- what is made goes on to be what is made where then nothing is
+makes_by_then : (before middle after : Known) (room : ℕ) (author : Author) (id : ℕ) (body : Body) → MakesBy before room author id body middle → MakesNone middle after → MakesBy before room author id body after
+makes_by_then before middle after room author id (Change request) (inl none) later = inl (none_then before middle after none later)
+makes_by_then before middle after room author id (Change request) (inr one) later =
+    inr (one.0, one.1, one.2, later room ∙ one.3, λ other apart. later other ∙ one.4 other apart)
+makes_by_then before middle after room author id (Hello to name) none later = none_then before middle after none later
+makes_by_then before middle after room author id (Get name) none later = none_then before middle after none later
+makes_by_then before middle after room author id Map none later = none_then before middle after none later
+makes_by_then before middle after room author id Undos none later = none_then before middle after none later
+
+reply_makes : (before : Known) (room : ℕ) (author : Author) (id : ℕ) (body : Body) (text : List ℕ) (after : Known) → Replies before room author (Ok (record { id = id; body = body })) text after → MakesBy before room author id body after
+reply_makes before room author id (Change request) text after (reply, answers, is) = call_makes before room (record { author = author; id = id; request = request }) reply after answers
+reply_makes before room author id (Hello to name) text after (is, same) = nothing_made before after same
+reply_makes before room author id (Get name) text after (reply, answers, is) = query_makes_none before room (calls.Get name) reply after (λ c same. grind (arith, same)) answers
+reply_makes before room author id Map text after (reply, answers, is) = query_makes_none before room calls.Rows reply after (λ c same. grind (arith, same)) answers
+reply_makes before room author id Undos text after (reply, answers, is) = query_makes_none before room (calls.Undos author) reply after (λ c same. grind (arith, same)) answers
+
+text_makes : (before middle after : Known) (room : ℕ) (author : Author) (told : ℕ) (said : Result Incoming Bad) (text : List ℕ) → Replies before room author said text middle → MakesNone middle after → Makes before (Open room author told) said after
+text_makes before middle after room author told (Ok message) text replies later =
+    makes_by_then before middle after room author message.id message.body (reply_makes before room author message.id message.body text middle replies) later
+text_makes before middle after room author told (Err bad) text replies later = none_then before middle after (nothing_made before middle replies.1) later
+
+greeting_makes_none : (before : Known) (sent : Sent) (state : State) (after : Known) (id : ℕ) (author : Author) (place : Option ℕ) → Greets before sent state after id author place → MakesNone before after
+greeting_makes_none before sent state after id author None refuses = nothing_made before after refuses.1
+greeting_makes_none before sent state after id author (Some room) (reply, answers, goes) = query_makes_none before room calls.Rows reply after (λ c same. grind (arith, same)) answers
+
+begin_makes_none : (before : Known) (sent : Sent) (state : State) (after : Known) (id : ℕ) (body : Body) → BeginsBy before sent state after id body → MakesNone before after
+begin_makes_none before sent state after id (Hello room author) begins = greeting_makes_none before sent state after id author (before.place room) begins
+begin_makes_none before sent state after id (Change request) begins = nothing_made before after begins.1
+begin_makes_none before sent state after id (Get name) begins = nothing_made before after begins.1
+begin_makes_none before sent state after id Map begins = nothing_made before after begins.1
+begin_makes_none before sent state after id Undos begins = nothing_made before after begins.1
+
+first_makes_none : (before : Known) (sent : Sent) (state : State) (after : Known) (said : Result Incoming Bad) → Begins before sent state after said → MakesNone before after
+first_makes_none before sent state after (Ok message) begins = begin_makes_none before sent state after message.id message.body begins
+first_makes_none before sent state after (Err bad) begins = nothing_made before after begins.1
+
+abbrev MakesText : Known → State → List ℕ → Known → Type 0
+MakesText before old text after = (said : Result Incoming Bad) × GivesMessage said (spells text) × Makes before old said after
+
+-- a text makes no more than its own change's entry
+pub hearing_makes : (before : Known) (sent : Sent) (state : State) (after : Known) (old : State) (text : List ℕ) → HearsText before sent state after old text → MakesText before old text after
+hearing_makes before sent state after BeforeHello text (said, gives, inl begins) = (said, gives, first_makes_none before sent state after said begins)
+hearing_makes before sent state after BeforeHello text (said, gives, inr (up, (due, next, begins))) = (said, gives, first_makes_none before due next after said begins)
+hearing_makes before sent state after (Open room author told) text (said, gives, inl (reply, between, replies, catches)) =
+    (said, gives, text_makes before between after room author told said reply replies (caught_up_makes_none between room told after catches.0))
+hearing_makes before sent state after (Open room author told) text (said, gives, inr (up, (reply, between, replies, inl same))) =
+    (said, gives, text_makes before between after room author told said reply replies (nothing_made between after same))
+hearing_makes before sent state after (Open room author told) text (said, gives, inr (up, (reply, between, replies, inr asks))) =
+    (said, gives, text_makes before between after room author told said reply replies (news_make_none between room told after asks))
+hearing_makes before sent state after Closed text hears = absurd hears
+
+gives_itself : (said : Result Incoming Bad) → GivesMessage said said
+gives_itself (Ok message) = refl
+gives_itself (Err bad) = inr refl
+
+-- in a closed session nothing is made
+pub ended_makes : (before after : Known) (old : State) (text : List ℕ) → old ≡ Closed → after ≡ before → MakesText before old text after
+ended_makes before after old text closed same =
+    (spells text, gives_itself (spells text), subst (λ (s : State). Makes before s (spells text) after) (sym closed) (nothing_made before after same))
+
+-- nor where nothing came: where news were asked for, or could not be told
+pub wait_makes_none : (before after : Known) (sent : Next → Sent) (state : Next → State) (room : ℕ) (author : Author) (told : ℕ) (made : Result Next AllocError)
+    → IfOk made (λ n. CatchesUp before (sent n) (state n) after room author told []) → OnErr made (AsksForNews before room told after) → MakesNone before after
+wait_makes_none before after sent state room author told (Ok n) ok err = caught_up_makes_none before room told after ok.0
+wait_makes_none before after sent state room author told (Err e) ok err = news_make_none before room told after err
+
+-- the same, of what is known after it under another name
+pub makes_none_to : (before after made_after : Known) → after ≡ made_after → MakesNone before made_after → MakesNone before after
+makes_none_to before after made_after same none = subst (λ (k : Known). MakesNone before k) (sym same) none
+
+pub nothing_is_made : (known : Known) → MakesNone known known
+nothing_is_made known = λ room. refl
