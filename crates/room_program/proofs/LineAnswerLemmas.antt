@@ -15,11 +15,12 @@ use Rattle.room_wire.specs.declared.answer.Answer.TheVariants as answers
 use Rattle.room_wire.specs.Reading.{id_told, GivesMessage}
 use Rattle.room_wire.specs.Answers.{fault_answer}
 use Rattle.room_wire.specs.declared.bad.Bad.{Bad}
+use Rattle.osm_elements.specs.Maps.{Rows}
 use Rattle.room_history.specs.Rooms.{RoomState}
 use Rattle.room_stacks.specs.declared.author.Author.{Author}
 use Rattle.std.specs.declared.alloc.Global.{Global}
 use Rattle.room_wire.specs.Spelling.{spells}
-use Rattle.room_program.specs.LineAnswers.{split_space, said, spelled, text_of, body_answer, message_answer, line_answer, line_id, answered, script}
+use Rattle.room_program.specs.LineAnswers.{split_space, said, spelled, text_of, body_answer, message_answer, line_answer, line_id, answered, opened_on, script}
 use Rattle.room_program.specs.LineReplies.{IsReply}
 use Rattle.room_program.specs.Scripts.{Loss, Nothing, Answer_lost, Answer_and_id_lost, script_of}
 
@@ -100,10 +101,10 @@ pub reply-read : (room : RoomState Global) (author : Author) (incoming : Incomin
 reply-read room author incoming read text after e h = rw e h
 
 -- the script of a room that was opened
-pub script-opened : (limit : ℕ) (room : RoomState Global) → room ≡ record { base = []; limit = limit; journal = [] } → script_of answered room ≡ script limit
+pub script-opened : (base : Rows Global) (limit : ℕ) (room : RoomState Global) → room ≡ opened_on base limit → script_of answered room ≡ script base limit
 unfolding script
-script-opened limit room e = ap (script_of answered) e
+script-opened base limit room e = ap (script_of answered) e
 
-pub script-none : (limit : ℕ) → script limit [] [] ≡ []
+pub script-none : (base : Rows Global) (limit : ℕ) → script base limit [] [] ≡ []
 unfolding script
-script-none limit = refl
+script-none base limit = refl

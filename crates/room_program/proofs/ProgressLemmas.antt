@@ -4,10 +4,10 @@ use Rattle.std.specs.Io.KnownBytes.{Appends, Consumes, Keeps, IsAtEnd}
 use Rattle.room_program.specs.Lines.{lines, IsLine}
 use Rattle.room_program.specs.Scripts.{Loss, replies, script_of}
 use Rattle.room_program.specs.Runs.{AnswersFront, AnswersSome}
-use Rattle.room_program.specs.Streams.{WritesAll, WritesEnded, WritesFront}
+use Rattle.room_program.specs.Streams.{WritesAll, WritesEnded, WritesFront, with_bytes}
 use Rattle.room_program.proofs.LineLemmas.{lines-fed}
 use Rattle.room_program.proofs.RunLemmas.{front-none, front-extend, front-then, front-script, front-ended, front-fed}
-use Rattle.room_program.proofs.StreamLemmas.{Appends-none, Appends-then, Consumes-none, Consumes-then, Consumes-kept}
+use Rattle.room_program.proofs.StreamLemmas.{Appends-none, Appends-then, Consumes-before, Consumes-then, Consumes-kept}
 
 -- the bytes read so far, and the text written for the lines among them that ended
 pub record Progress {R : Type 0} (answer : Loss → R → List ℕ → List ℕ × R) (start now : R) (left left' taken taken' : Option (List ℕ)) (begun : List ℕ) : Type 0 where
@@ -17,13 +17,14 @@ pub record Progress {R : Type 0} (answer : Loss → R → List ℕ → List ℕ 
   pub written : Appends taken taken' text
   pub front : AnswersFront answer start read text begun now
 
-pub progress-none : {R : Type 0} (answer : Loss → R → List ℕ → List ℕ × R) (start : R) (left taken : Option (List ℕ)) → Progress answer start start left left taken taken []
-progress-none answer start left taken = record {
-  read = [];
+-- nothing was read after the bytes that are held, and nothing written
+pub progress-held : {R : Type 0} (answer : Loss → R → List ℕ → List ℕ × R) (start : R) (held : List ℕ) (left taken : Option (List ℕ)) → Progress answer start start (with_bytes held left) left taken taken held
+progress-held answer start held left taken = record {
+  read = held;
   text = [];
-  consumed = Consumes-none left;
+  consumed = Consumes-before held left;
   written = Appends-none taken;
-  front = front-none answer start [];
+  front = front-none answer start held;
 }
 
 regroup : (a b c d : List ℕ) → (a ++ (b ++ c)) ++ d ≡ (a ++ b) ++ (c ++ d)

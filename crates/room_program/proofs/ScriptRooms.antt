@@ -15,55 +15,55 @@ use Rattle.room_wire.specs.declared.incoming.Body.{Body}
 use Rattle.room_wire.specs.declared.incoming.Body.TheVariants.{Hello, Change, Get, Map, Undos}
 use Rattle.room_program.specs.Made.{is_made_body}
 use Rattle.room_wire.specs.Spelling.{spells}
-use Rattle.room_program.specs.LineAnswers.{said, spelled, body_answer, message_answer, line_answer, answered, opened_with}
+use Rattle.room_program.specs.LineAnswers.{said, spelled, body_answer, message_answer, line_answer, answered, opened_on}
 use Rattle.room_program.specs.Scripts.{Loss, Nothing, Answer_lost, Answer_and_id_lost, first_loss, later_losses, room_after}
 
--- the room began with the empty map and this limit, and calls lead to its journal
-pub record IsLegal (limit : ℕ) (room : RoomState Global) : Type 0 where
-  pub base : room.base ≡ []
+-- the room began with this map and this limit, and calls lead to its journal
+pub record IsLegal (base : Rows Global) (limit : ℕ) (room : RoomState Global) : Type 0 where
+  pub base_is : room.base ≡ base
   pub limit_is : room.limit ≡ limit
-  pub journal : IsJournal [] limit room.journal
+  pub journal : IsJournal base limit room.journal
 
 -- what a message says, if it says something, is as its types keep it
 abbrev pub IsMade : Result Incoming Bad → Type 0
 IsMade r = IfOk r (λ message. is_made_body message.body ≡ true)
 
-body_step : (limit : ℕ) (room : RoomState Global) (author : Author) (id : ℕ) (body : Body) → is_made_body body ≡ true → IsLegal limit room → IsLegal limit (body_answer room author id body).1
-body_step limit room author id (Change request) made h =
+body_step : (base : Rows Global) (limit : ℕ) (room : RoomState Global) (author : Author) (id : ℕ) (body : Body) → is_made_body body ≡ true → IsLegal base limit room → IsLegal base limit (body_answer room author id body).1
+body_step base limit room author id (Change request) made h =
     let c : Call Global = record { author = author; id = id; request = request } in
     record {
-      base = h.base;
+      base_is = h.base_is;
       limit_is = h.limit_is;
-      journal = subst (λ (b : Rows Global). IsJournal [] limit (answer b room.limit room.journal c).1) (sym h.base)
-          (subst (λ l. IsJournal [] limit (answer [] l room.journal c).1) (sym h.limit_is) (called room.journal c h.journal made));
+      journal = subst (λ (b : Rows Global). IsJournal base limit (answer b room.limit room.journal c).1) (sym h.base_is)
+          (subst (λ l. IsJournal base limit (answer base l room.journal c).1) (sym h.limit_is) (called room.journal c h.journal made));
     }
-body_step limit room author id (Get name) made h = record { base = h.base; limit_is = h.limit_is; journal = h.journal }
-body_step limit room author id Map made h = record { base = h.base; limit_is = h.limit_is; journal = h.journal }
-body_step limit room author id Undos made h = record { base = h.base; limit_is = h.limit_is; journal = h.journal }
-body_step limit room author id (Hello to name) made h = h
+body_step base limit room author id (Get name) made h = record { base_is = h.base_is; limit_is = h.limit_is; journal = h.journal }
+body_step base limit room author id Map made h = record { base_is = h.base_is; limit_is = h.limit_is; journal = h.journal }
+body_step base limit room author id Undos made h = record { base_is = h.base_is; limit_is = h.limit_is; journal = h.journal }
+body_step base limit room author id (Hello to name) made h = h
 
-message_step : (limit : ℕ) (room : RoomState Global) (author : Author) (r : Result Incoming Bad) → IsMade r → IsLegal limit room → IsLegal limit (message_answer room author r).1
-message_step limit room author (Ok message) made h = body_step limit room author message.id message.body made h
-message_step limit room author (Err bad) made h = h
+message_step : (base : Rows Global) (limit : ℕ) (room : RoomState Global) (author : Author) (r : Result Incoming Bad) → IsMade r → IsLegal base limit room → IsLegal base limit (message_answer room author r).1
+message_step base limit room author (Ok message) made h = body_step base limit room author message.id message.body made h
+message_step base limit room author (Err bad) made h = h
 
 made_choice : (b : Bool) (r : Result Incoming Bad) → IsMade r → IsMade (cond b r (Err (record { id = 0; fault = NotJson })))
 made_choice true r h = h
 made_choice false r h = tt
 
-module _ (made : (text : List ℕ) → IsMade (spells text)) (limit : ℕ) where
-  line_step : (room : RoomState Global) (line : Option (Author × List ℕ)) → IsLegal limit room → IsLegal limit (line_answer room line).1
+module _ (made : (text : List ℕ) → IsMade (spells text)) (base : Rows Global) (limit : ℕ) where
+  line_step : (room : RoomState Global) (line : Option (Author × List ℕ)) → IsLegal base limit room → IsLegal base limit (line_answer room line).1
   line_step room None h = h
-  line_step room (Some p) h = message_step limit room p.0 (spelled p.1) (made_choice (is_utf8 p.1) (spells p.1) (made p.1)) h
+  line_step room (Some p) h = message_step base limit room p.0 (spelled p.1) (made_choice (is_utf8 p.1) (spells p.1) (made p.1)) h
 
-  answered_step : (loss : Loss) (room : RoomState Global) (line : List ℕ) → IsLegal limit room → IsLegal limit (answered loss room line).1
+  answered_step : (loss : Loss) (room : RoomState Global) (line : List ℕ) → IsLegal base limit room → IsLegal base limit (answered loss room line).1
   unfolding answered
   answered_step Nothing room line h = line_step room (said line) h
   answered_step Answer_lost room line h = h
   answered_step Answer_and_id_lost room line h = h
 
-  stays_legal : (lines : List (List ℕ)) (lost : List Loss) (room : RoomState Global) → IsLegal limit room → IsLegal limit (room_after answered room lines lost)
+  stays_legal : (lines : List (List ℕ)) (lost : List Loss) (room : RoomState Global) → IsLegal base limit room → IsLegal base limit (room_after answered room lines lost)
   stays_legal [] lost room h = h
   stays_legal (line ∷ later) lost room h = stays_legal later (later_losses lost) (answered (first_loss lost) room line).1 (answered_step (first_loss lost) room line h)
 
-  pub script_is_legal : (lines : List (List ℕ)) (lost : List Loss) → IsLegal limit (room_after answered (opened_with limit) lines lost)
-  script_is_legal lines lost = stays_legal lines lost (opened_with limit) (record { base = refl; limit_is = refl; journal = opened })
+  pub script_is_legal : (lines : List (List ℕ)) (lost : List Loss) → IsLegal base limit (room_after answered (opened_on base limit) lines lost)
+  script_is_legal lines lost = stays_legal lines lost (opened_on base limit) (record { base_is = refl; limit_is = refl; journal = opened })

@@ -3,6 +3,7 @@ use Rattle.std.proofs.Common.{◌≡◌, ℕ, ◌-◌, List, [], ◌++◌, Optio
 use Rattle.std.proofs.lemmas.List.{take_rest, take-append-drop}
 use Rattle.std.proofs.Common.{Result, Ok, Err, OnErr}
 use Rattle.std.specs.Io.KnownBytes.{Appends, Consumes, Keeps}
+use Rattle.room_program.specs.Streams.{with_bytes}
 
 pub Appends-then : (old mid new : Option (List ℕ)) (xs ys : List ℕ) → Appends old mid xs → Appends mid new ys → Appends old new (xs ++ ys)
 Appends-then None mid new xs ys h k = tt
@@ -31,6 +32,16 @@ Appends-none (Some xs) = sym (append-nil xs)
 pub Consumes-none : (left : Option (List ℕ)) → Consumes left left []
 Consumes-none None = tt
 Consumes-none (Some xs) = refl
+
+-- what is put before the bytes that a reader has left is there to be read first
+pub Consumes-before : (bytes : List ℕ) (left : Option (List ℕ)) → Consumes (with_bytes bytes left) left bytes
+Consumes-before bytes None = tt
+Consumes-before bytes (Some xs) = refl
+
+-- nothing is put before them
+pub with_bytes-none : (bytes : List ℕ) (left : Option (List ℕ)) → bytes ≡ [] → with_bytes bytes left ≡ left
+with_bytes-none bytes None e = refl
+with_bytes-none bytes (Some xs) e = ap (λ bs. Some (bs ++ xs)) e
 
 pub Consumes-kept : (old mid new : Option (List ℕ)) (xs : List ℕ) → Consumes old mid xs → Keeps mid new → Consumes old new xs
 Consumes-kept None mid new xs h k = tt

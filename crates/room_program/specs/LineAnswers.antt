@@ -103,10 +103,10 @@ answered Nothing room line = line_answer room (said line)
 answered Answer_lost room line = (text_of (line_id (said line)) answers.Memory, room)
 answered Answer_and_id_lost room line = (text_of 0 answers.Memory, room)
 
--- a room with an empty map and journal
-abbrev pub opened_with : ℕ → RoomState Global
-opened_with limit = record { base = []; limit = limit; journal = [] }
+-- a room that begins with a map, and has an empty journal
+abbrev pub opened_on : Rows Global → ℕ → RoomState Global
+opened_on base limit = record { base = base; limit = limit; journal = [] }
 
--- what is written for a stream by a room that begins with an empty map: the reply to each line, and a line feed
-unfoldable pub script : ℕ → List ℕ → List Loss → List ℕ
-script limit = script_of answered (opened_with limit)
+-- what is written for a stream by a room that begins with this map: the reply to each line, and a line feed
+unfoldable pub script : Rows Global → ℕ → List ℕ → List Loss → List ℕ
+script base limit = script_of answered (opened_on base limit)

@@ -1,5 +1,6 @@
 -- What a run over a reader and a writer did to their bytes, where those are known.
 use Rattle.std.specs.Prelude.{◌≡◌, ◌≢◌, ◌⊎◌, ◌<◌, ℕ, suc, zero, List, [], ◌++◌, Option, Result, Ok}
+use Rattle.std.specs.Option.{option_map}
 use Rattle.std.specs.Io.KnownBytes.{Appends, Consumes, IsAtEnd}
 use Rattle.room_program.specs.declared.failed.Failed.{Failed}
 use Rattle.room_program.specs.Lines.{ended}
@@ -18,6 +19,10 @@ GetsAtMost {S} gets most before after =
 -- the last call of a writer took no byte of bytes that there were
 abbrev pub TookNone : {W : Type 0} → (W → List ℕ → Result ℕ Failed → W → Type 0) → W → Type 0
 TookNone {W} puts after = (before : W) × (rest : List ℕ) × (rest ≢ []) × puts before rest (Ok 0) after
+
+-- the bytes that a reader has left, with these put before them, where they are known
+abbrev pub with_bytes : List ℕ → Option (List ℕ) → Option (List ℕ)
+with_bytes bytes left = option_map (λ later. bytes ++ later) left
 
 -- the text that is written for the bytes of a stream
 module _ (script : List ℕ → List Loss → List ℕ) where

@@ -55,14 +55,14 @@ pub fn command<R: AllocGlobal, T: AsStr, S: Source, W: Sink, E: Sink>(
     // The words were taken, and the script of all the input was written, of a room with the limit that they ask
     // for. Or the words ask for help, and nothing was read, and one text written.
     ensures done { let texts = map T.text words.now in result ≡ 0 →
-        (IsTaken texts × WritesAll (script (limit_asked texts))
+        (IsTaken texts × WritesAll (script [] (limit_asked texts))
         (S.left input.old) (S.left input.new) (W.taken output.old) (W.taken output.new))
         ⊎ ((asks_for_help texts ≡ true) × (input.new ≡ input.old)
         × TakesOne W.taken W.has_failed W.puts output.old output.new) }
 
     // The words were taken, and a front of that script was written. Or nothing was read and nothing written.
     ensures failed { let texts = map T.text words.now in result ≡ 1 →
-        (IsTaken texts × WritesFront (script (limit_asked texts))
+        (IsTaken texts × WritesFront (script [] (limit_asked texts))
         (S.left input.old) (S.left input.new) (W.taken output.old) (W.taken output.new))
         ⊎ ((input.new ≡ input.old) × (output.new ≡ output.old)) }
 
@@ -101,9 +101,9 @@ fn run<S: Source, W: Sink, E: Sink>(
     requires output_works { W.has_failed output.old ≡ false }
     requires errors_work { E.has_failed errors.old ≡ false }
     ensures status { result ≤ 1 }
-    ensures done { result ≡ 0 → WritesAll (script limit)
+    ensures done { result ≡ 0 → WritesAll (script [] limit)
         (S.left input.old) (S.left input.new) (W.taken output.old) (W.taken output.new) }
-    ensures failed { result ≡ 1 → WritesFront (script limit)
+    ensures failed { result ≡ 1 → WritesFront (script [] limit)
         (S.left input.old) (S.left input.new) (W.taken output.old) (W.taken output.new) }
     ensures told { result ≡ 1 → (fault : ReplayFault)
         × Takes E.taken E.has_failed E.puts errors.old errors.new (fault_line fault)

@@ -1,9 +1,11 @@
 //! Laws of the definitions, each the contract of a function that does nothing.
-ghost use Rattle.std.specs.Prelude.{◌≡◌, ◌≤◌, ◌<◌, ◌+◌, ◌^◌, ℕ, List, [], IfOk, Ok, Some, is_some, true};
+ghost use Rattle.std.specs.Prelude.{◌≡◌, ◌≤◌, ◌<◌, ◌+◌, ◌^◌, ℕ, List, IfOk, Ok, Some, is_some, true};
 ghost use Rattle.std.specs.declared.alloc.Global.{Global};
+ghost use Rattle.osm_changes.specs.Sound.{is_sound};
+ghost use Rattle.osm_elements.specs.Maps.{Rows};
 ghost use Rattle.room_history.specs.Headline.{Holds};
 ghost use Rattle.room_history.specs.LegalJournals.{IsJournal};
-ghost use Rattle.room_program.specs.LineAnswers.{answered, opened_with};
+ghost use Rattle.room_program.specs.LineAnswers.{answered, opened_on};
 ghost use Rattle.room_program.specs.Made.{is_made_body};
 ghost use Rattle.room_wire.specs.Spelling.{spells};
 ghost use Rattle.room_program.specs.Scripts.{Loss, room_after};
@@ -52,13 +54,14 @@ pub fn what_is_spelled_is_made()
 {}
 
 /// After any lines of a script, whatever they say and whatever of their answers was lost, the journal of the room is one
-/// that calls lead to from the empty map, and so the theorem holds of it: the map is sound, and equals the standing
-/// actions replayed in order.
+/// that calls lead to from the map that the room began with. Where that map is sound the theorem holds of the journal: the
+/// map is sound, and equals the standing actions replayed in order.
 pub fn a_script_holds()
-    ensures journals { (limit : ℕ) (lines : List (List ℕ)) (lost : List Loss)
-        → IsJournal [] limit (room_after answered (opened_with limit) lines lost).journal }
-    ensures holds { (limit : ℕ) (lines : List (List ℕ)) (lost : List Loss)
-        → Holds [] limit (room_after answered (opened_with limit) lines lost).journal }
+    ensures journals { (base : Rows Global) (limit : ℕ) (lines : List (List ℕ)) (lost : List Loss)
+        → IsJournal base limit (room_after answered (opened_on base limit) lines lost).journal }
+    ensures holds { (base : Rows Global) (limit : ℕ) (lines : List (List ℕ)) (lost : List Loss)
+        → is_sound base ≡ true
+        → Holds base limit (room_after answered (opened_on base limit) lines lost).journal }
 {
     room_history::laws::journals_hold::<Global>();
 }

@@ -1,11 +1,12 @@
 //! A room that is run from a stream of lines to a stream of replies.
-ghost use Rattle.std.specs.Prelude.{◌≡◌, ◌≢◌, ◌++◌, ◌⊎◌, ℕ, List, true, false, OnOk, OnErr, Err, ◌<◌, length};
+ghost use Rattle.std.specs.Prelude.{◌≡◌, ◌≢◌, ◌++◌, ◌⊎◌, ℕ, List, [], true, false, OnOk, OnErr, Err, ◌<◌, length};
 ghost use Rattle.std.specs.Io.KnownBytes.{Appends};
 ghost use Rattle.room_program.specs.Lines.{IsLine};
 ghost use Rattle.room_program.specs.Scripts.{script_of};
 ghost use Rattle.room_program.specs.LineAnswers.{script};
 ghost use Rattle.room_program.specs.Runs.{AnswersFront, AnswersSome};
 ghost use Rattle.room_program.specs.Streams.{Gets, GetsAtMost, TookNone, WritesAll, WritesEnded, WritesFront};
+ghost use Rattle.room_program.specs.Streams.{with_bytes};
 
 use crate::answers::Answers;
 use crate::blocks::{BLOCK, answer_lines};
@@ -71,7 +72,8 @@ fn answer_block<A: Answers, W: Sink>(
     Ok(())
 }
 
-// Reads block after block, and answers the lines of each before it reads the next.
+// Reads block after block, and answers the lines of each before it reads the next. The first line begins with the bytes
+// that are held already, as if the reader gave them first.
 fn replay_blocks<A: Answers, S: Source, W: Sink>(
     alloc: Global,
     answers: &mut A,
@@ -79,18 +81,20 @@ fn replay_blocks<A: Answers, S: Source, W: Sink>(
     writer: &mut W,
     reads: u64,
     block: &mut [u8],
+    mut begun: Vec<u8>,
 ) -> Result<(), ReplayFault>
     requires reader_works { S.has_failed reader.old ≡ false }
     requires writer_works { W.has_failed writer.old ≡ false }
     requires room { 0 < length block.old }
+    requires held { IsLine begun.items }
     ensures ok { OnOk result (WritesAll (script_of A.answered answers.old)
-        (S.left reader.old) (S.left reader.new) (W.taken writer.old) (W.taken writer.new)) }
+        (with_bytes begun.items (S.left reader.old)) (S.left reader.new) (W.taken writer.old) (W.taken writer.new)) }
     ensures works { OnOk result ((S.has_failed reader.new ≡ false)
         × (W.has_failed writer.new ≡ false)) }
     ensures read { result ≡ Err ReplayFault.Read → WritesEnded (script_of A.answered answers.old)
-        (S.left reader.old) (S.left reader.new) (W.taken writer.old) (W.taken writer.new) }
+        (with_bytes begun.items (S.left reader.old)) (S.left reader.new) (W.taken writer.old) (W.taken writer.new) }
     ensures front { OnErr result (WritesFront (script_of A.answered answers.old)
-        (S.left reader.old) (S.left reader.new) (W.taken writer.old) (W.taken writer.new)) }
+        (with_bytes begun.items (S.left reader.old)) (S.left reader.new) (W.taken writer.old) (W.taken writer.new)) }
     ensures calls { GetsAtMost S.gets reads reader.old reader.new }
     ensures why_read { result ≡ Err ReplayFault.Read
         → (S.has_failed reader.new ≡ true) ⊎ Gets S.gets reads reader.old reader.new }
@@ -99,7 +103,6 @@ fn replay_blocks<A: Answers, S: Source, W: Sink>(
     ensures why_memory { result ≡ Err ReplayFault.Memory
         → (S.has_failed reader.new ≡ false) × (W.has_failed writer.new ≡ false) }
 {
-    let mut begun = Vec::new(alloc);
     for _ in 0..reads {
         let Ok(count) = reader.get(block) else {
             return Err(ReplayFault::Read);
@@ -138,16 +141,16 @@ pub fn replay<S: Source, W: Sink>(
     requires writer_works { W.has_failed writer.old ≡ false }
 
     // All was read, and its script was written.
-    ensures ok { OnOk result (WritesAll (script limit)
+    ensures ok { OnOk result (WritesAll (script [] limit)
         (S.left reader.old) (S.left reader.new) (W.taken writer.old) (W.taken writer.new)) }
     ensures works { OnOk result ((S.has_failed reader.new ≡ false)
         × (W.has_failed writer.new ≡ false)) }
 
     // On `Read` what was written is the script of the lines whose line feeds were read, and on any
     // fault a front of the script of what was read.
-    ensures read { result ≡ Err ReplayFault.Read → WritesEnded (script limit)
+    ensures read { result ≡ Err ReplayFault.Read → WritesEnded (script [] limit)
         (S.left reader.old) (S.left reader.new) (W.taken writer.old) (W.taken writer.new) }
-    ensures front { OnErr result (WritesFront (script limit)
+    ensures front { OnErr result (WritesFront (script [] limit)
         (S.left reader.old) (S.left reader.new) (W.taken writer.old) (W.taken writer.new)) }
 
     // At most so many reads were made, and none after one that gave the end.
@@ -163,5 +166,6 @@ pub fn replay<S: Source, W: Sink>(
 {
     let mut room = Room::open(alloc, limit);
     let mut block = vec![in alloc; 0u8; BLOCK]?;
-    replay_blocks(alloc, &mut room, reader, writer, reads, &mut block)
+    let begun = Vec::new(alloc);
+    replay_blocks(alloc, &mut room, reader, writer, reads, &mut block, begun)
 }

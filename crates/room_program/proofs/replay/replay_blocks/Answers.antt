@@ -6,7 +6,7 @@ use Rattle.room_program.specs.Streams.{Gets}
 use Rattle.room_program.proofs.StreamLemmas.{on_err, Keeps-from_none}
 use Rattle.room_program.proofs.LineLemmas.{nil-from_length}
 use Rattle.room_program.proofs.CallLemmas.{no_gets, next_gets, one_more, calls_made}
-use Rattle.room_program.proofs.ProgressLemmas.{progress-none, progress-block, progress-kept, progress-ended, progress-front, progress-all, progress-last, progress-stopped, progress-stopped_last}
+use Rattle.room_program.proofs.ProgressLemmas.{progress-held, progress-block, progress-kept, progress-ended, progress-front, progress-all, progress-last, progress-stopped, progress-stopped_last}
 use Rattle.room_program.proofs.replay.replay_blocks.Goals as goal
 
 -- what both clauses say of an answer
@@ -101,8 +101,8 @@ returns-clause-calls g c = calls_made g.S.Source.gets c.loop.counter _ _ _ (omeg
 
 pub loop-init : goal.loop-init
 loop-init g c = record {
-  progress = rw c.new-begun.ensures.items (progress-none g.A.Answers.answered c.args.answers.now (g.S.Source.left c.args.reader.now) (g.W.Sink.taken c.args.writer.now));
-  held = rw c.new-begun.ensures.items tt;
+  progress = progress-held g.A.Answers.answered c.args.answers.now c.args.begun.items (g.S.Source.left c.args.reader.now) (g.W.Sink.taken c.args.writer.now);
+  held = c.requires.held;
   reader_works = c.requires.reader_works;
   writer_works = c.requires.writer_works;
   gets = no_gets g.S.Source.gets c.args.reader.now;

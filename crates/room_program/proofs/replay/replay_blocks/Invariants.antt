@@ -1,12 +1,12 @@
 use Rattle.std.proofs.Common.{◌≡◌, false}
 use Rattle.room_program.specs.Lines.{IsLine}
-use Rattle.room_program.specs.Streams.{Gets}
+use Rattle.room_program.specs.Streams.{Gets, with_bytes}
 use Rattle.room_program.proofs.ProgressLemmas.{Progress}
 use Rattle.room_program.proofs.replay.replay_blocks.Given as goal
 
 abbrev pub invariant-loop : goal.invariant-loop
 invariant-loop g l = record {
-  progress : Progress g.A.Answers.answered l.initial.answers l.answers (g.S.Source.left l.initial.reader) (g.S.Source.left l.reader) (g.W.Sink.taken l.initial.writer) (g.W.Sink.taken l.writer) l.begun.items;
+  progress : Progress g.A.Answers.answered l.initial.answers l.answers (with_bytes l.fn.begun.items (g.S.Source.left l.initial.reader)) (g.S.Source.left l.reader) (g.W.Sink.taken l.initial.writer) (g.W.Sink.taken l.writer) l.begun.items;
   held : IsLine l.begun.items;
   reader_works : g.S.Source.has_failed l.reader ≡ false;
   writer_works : g.W.Sink.has_failed l.writer ≡ false;
