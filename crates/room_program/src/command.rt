@@ -3,7 +3,7 @@ ghost use Rattle.std.specs.Prelude.{◌≡◌, ◌≢◌, ◌≤◌, ◌⊎◌, 
 ghost use Rattle.clap.specs.Words.{HasKind, app_of, kind_of};
 ghost use Rattle.room_program.specs.LineAnswers.{script};
 ghost use Rattle.room_program.specs.Faults.{Takes, TakesOne, fault_line};
-ghost use Rattle.room_program.specs.Streams.{Gets, GetsAtMost, TookNone, WritesAll, WritesFront};
+ghost use Rattle.room_program.specs.Streams.{Gets, GetsAtMost, TookNone, WritesAll, WritesEnded, WritesFront};
 ghost use Rattle.room_program.specs.Words.{IsTaken, asks_for_help, faults, has_mistake, is_mistake, is_request};
 ghost use Rattle.room_program.specs.Words.{limit_asked, program_app};
 
@@ -66,10 +66,13 @@ pub fn command<R: AllocGlobal, T: AsStr, S: Source, W: Sink, E: Sink>(
         (S.left input.old) (S.left input.new) (W.taken output.old) (W.taken output.new))
         ⊎ ((input.new ≡ input.old) × (output.new ≡ output.old)) }
 
-    // A fault is told by its line, and it is one that there was. Nothing is told of a run that is done.
-    ensures told { result ≡ 1 → (fault : ReplayFault)
+    // A fault is told by its line, and it is one that there was. Where it is a failed read, the script of the lines whose
+    // line feeds were read was written. Nothing is told of a run that is done.
+    ensures told { let texts = map T.text words.now in result ≡ 1 → (fault : ReplayFault)
         × Takes E.taken E.has_failed E.puts errors.old errors.new (fault_line fault)
-        × (fault ≡ ReplayFault.Read → (S.has_failed input.new ≡ true) ⊎ Gets S.gets (2 ^ 40) input.old input.new)
+        × (fault ≡ ReplayFault.Read → IsTaken texts × WritesEnded (script [] (limit_asked texts))
+        (S.left input.old) (S.left input.new) (W.taken output.old) (W.taken output.new)
+        × ((S.has_failed input.new ≡ true) ⊎ Gets S.gets (2 ^ 40) input.old input.new))
         × (fault ≡ ReplayFault.Write → (W.has_failed output.new ≡ true) ⊎ TookNone W.puts output.new)
         × (fault ≡ ReplayFault.Memory → (S.has_failed input.new ≡ false) × (W.has_failed output.new ≡ false)) }
     ensures silent { result ≡ 0 → errors.new ≡ errors.old }
@@ -107,7 +110,9 @@ fn run<S: Source, W: Sink, E: Sink>(
         (S.left input.old) (S.left input.new) (W.taken output.old) (W.taken output.new) }
     ensures told { result ≡ 1 → (fault : ReplayFault)
         × Takes E.taken E.has_failed E.puts errors.old errors.new (fault_line fault)
-        × (fault ≡ ReplayFault.Read → (S.has_failed input.new ≡ true) ⊎ Gets S.gets (2 ^ 40) input.old input.new)
+        × (fault ≡ ReplayFault.Read → WritesEnded (script [] limit)
+        (S.left input.old) (S.left input.new) (W.taken output.old) (W.taken output.new)
+        × ((S.has_failed input.new ≡ true) ⊎ Gets S.gets (2 ^ 40) input.old input.new))
         × (fault ≡ ReplayFault.Write → (W.has_failed output.new ≡ true) ⊎ TookNone W.puts output.new)
         × (fault ≡ ReplayFault.Memory → (S.has_failed input.new ≡ false) × (W.has_failed output.new ≡ false)) }
     ensures silent { result ≡ 0 → errors.new ≡ errors.old }
