@@ -20,7 +20,8 @@ use Rattle.room_history.specs.Rooms.{RoomState}
 use Rattle.room_stacks.specs.declared.author.Author.{Author}
 use Rattle.std.specs.declared.alloc.Global.{Global}
 use Rattle.room_wire.specs.Spelling.{spells}
-use Rattle.room_program.specs.LineAnswers.{split_space, said, spelled, text_of, body_answer, message_answer, line_answer, line_id, answered, opened_on, script}
+use Rattle.room_wire.specs.Asked.{text_of}
+use Rattle.room_program.specs.LineAnswers.{split_space, said, spelled, body_answer, message_answer, line_answer, line_id, answered, opened_on, script}
 use Rattle.room_program.specs.LineReplies.{IsReply}
 use Rattle.room_program.specs.Scripts.{Loss, Nothing, Answer_lost, Answer_and_id_lost, script_of}
 

@@ -1,32 +1,23 @@
 -- What a line says, and what a room answers it.
-use Rattle.std.specs.Prelude.{◌==◌, ℕ, List, [], ◌∷◌, Option, Some, None, Result, Ok, Err, codes, if◌then◌else◌}
+use Rattle.std.specs.Prelude.{◌==◌, ℕ, List, [], ◌∷◌, Option, Some, None, Result, Ok, Err, if◌then◌else◌}
 use Rattle.std.specs.Option.{option_map, option_and_then}
 use Rattle.std.specs.Str.{is_utf8}
 use Rattle.std.specs.declared.alloc.Global.{Global}
-use Rattle.serde_json.specs.Data.{object, no_members, member}
-use Rattle.serde_json.specs.Written.{compact_text}
-use Rattle.osm_elements.specs.declared.name.Name.{Name}
-use Rattle.osm_elements.specs.declared.element.Element.{Element}
 use Rattle.room_stacks.specs.declared.author.Author.{Author}
 use Rattle.room_stacks.specs.Authors.{author_of}
 use Rattle.osm_elements.specs.Maps.{Rows}
 use Rattle.room_history.specs.Rooms.{RoomState}
 use Rattle.room_history.specs.Asking.{room_answer}
 use Rattle.room_history.specs.declared.ask.RoomCall.{RoomCall}
-use Rattle.room_history.specs.declared.ask.RoomCall.TheVariants as calls
-use Rattle.room_history.specs.declared.ask.RoomReply.{RoomReply}
-use Rattle.room_history.specs.declared.ask.RoomReply.TheVariants as replies
-use Rattle.room_wire.specs.declared.answer.Answer.{Answer}
 use Rattle.room_wire.specs.declared.answer.Answer.TheVariants as answers
 use Rattle.room_wire.specs.declared.bad.Bad.{Bad}
 use Rattle.room_wire.specs.declared.bad.Fault.TheVariants.{NotJson}
 use Rattle.room_wire.specs.declared.incoming.Incoming.{Incoming}
 use Rattle.room_wire.specs.declared.incoming.Body.{Body}
-use Rattle.room_wire.specs.declared.incoming.Body.TheVariants.{Hello, Change, Get, Map, Undos}
-use Rattle.room_wire.specs.Answers.{reply_answer, fault_answer}
+use Rattle.room_wire.specs.Answers.{fault_answer}
+use Rattle.room_wire.specs.Asked.{answer_to, asked, text_of}
 use Rattle.room_wire.specs.Reading.{id_told}
 use Rattle.room_wire.specs.Spelling.{spells}
-use Rattle.room_wire.specs.Trees.{tree_of, ok_tree, element_tree, rows_tree, numbers_tree, whole}
 use Rattle.room_program.specs.Scripts.{Loss, Nothing, Answer_lost, Answer_and_id_lost, script_of}
 
 -- the bytes before the first space (32) and those after it, if there is one
@@ -46,43 +37,16 @@ said line = option_and_then with_author (split_space line)
 abbrev pub spelled : List ℕ → Result Incoming Bad
 spelled bytes = if is_utf8 bytes then spells bytes else Err (record { id = 0; fault = NotJson })
 
-abbrev pub text_of : ℕ → Answer → List ℕ
-text_of id a = compact_text (tree_of id a)
-
--- the reply with an element, or with none of that name
-abbrev pub element_text : ℕ → Name → Option (Element Global) → List ℕ
-element_text id name None = text_of id (answers.Absent name)
-element_text id name (Some element) = compact_text (ok_tree id (object (member (codes "is") (element_tree name element) no_members)))
-
--- the reply with the whole map, and the number of the last entry
-abbrev pub map_text : ℕ → Rows Global → ℕ → List ℕ
-map_text id rows front = compact_text (ok_tree id (object (member (codes "map") (rows_tree rows) (member (codes "seq") (whole front) no_members))))
-
--- the reply with what an author may undo and redo
-abbrev pub undos_text : ℕ → List ℕ → List ℕ → List ℕ
-undos_text id undos redos = compact_text (ok_tree id (object (member (codes "redo") (numbers_tree redos) (member (codes "undos") (numbers_tree undos) no_members))))
-
--- the reply to a message, from what the room was asked and answered
-abbrev pub told : ℕ → RoomCall Global → RoomReply Global → List ℕ
-told id call (replies.Take reply) = text_of id (reply_answer reply)
-told id (calls.Get name) (replies.Get (Ok found)) = element_text id name found
-told id call (replies.Rows (Ok rows)) = map_text id rows.1 rows.0
-told id call (replies.Undos (Ok lists)) = undos_text id lists.undos lists.redos
-told id call reply = text_of id answers.Memory
-
--- the reply to a message that asks the room, and the room after it
-abbrev pub room_step : RoomState Global → ℕ → RoomCall Global → List ℕ × RoomState Global
-room_step room id call =
+-- what a message asks of the room, if it asks something, and else that it is a hello too many: here every author's session has begun. The reply, and the room after it
+abbrev pub asked_answer : RoomState Global → ℕ → Option (RoomCall Global) → List ℕ × RoomState Global
+asked_answer room id None = (text_of id answers.HelloTwice, room)
+asked_answer room id (Some call) =
     let step = room_answer room.base room.limit room.journal call in
-    (told id call step.0, record { base = room.base; limit = room.limit; journal = step.1 })
+    (text_of id (answer_to call step.0), record { base = room.base; limit = room.limit; journal = step.1 })
 
--- the reply to a message of an author's, and the room after it; here every author's session has begun
+-- the reply to a message of an author's, and the room after it
 abbrev pub body_answer : RoomState Global → Author → ℕ → Body → List ℕ × RoomState Global
-body_answer room author id (Change request) = room_step room id (calls.Take (record { author = author; id = id; request = request }))
-body_answer room author id (Get name) = room_step room id (calls.Get name)
-body_answer room author id Map = room_step room id calls.Rows
-body_answer room author id Undos = room_step room id (calls.Undos author)
-body_answer room author id (Hello to name) = (text_of id answers.HelloTwice, room)
+body_answer room author id body = asked_answer room id (asked author id body)
 
 abbrev pub message_answer : RoomState Global → Author → Result Incoming Bad → List ℕ × RoomState Global
 message_answer room author (Ok message) = body_answer room author message.id message.body

@@ -3,7 +3,7 @@ use Rattle.std.specs.Prelude.{◌≡◌, ◌⊎◌, ℕ, List}
 use Rattle.std.specs.declared.alloc.Global.{Global}
 use Rattle.room_history.specs.Rooms.{RoomState}
 use Rattle.room_wire.specs.declared.answer.Answer.TheVariants as answers
-use Rattle.room_program.specs.LineAnswers.{text_of}
+use Rattle.room_wire.specs.Asked.{text_of}
 
 -- the reply and the room after it are those by definition; or there was no memory, which is told under the id or under 0, and the room is as it was
 abbrev pub IsReply : List ℕ × RoomState Global → ℕ → RoomState Global → List ℕ → RoomState Global → Type 0

@@ -5,8 +5,11 @@ ghost use Rattle.osm_elements.specs.Rows.{row_at};
 ghost use Rattle.room_stacks.specs.Authors.{author_of};
 ghost use Rattle.room_history.specs.Journals.{undos, redos};
 ghost use Rattle.room_history.specs.Replays.{mapof};
+ghost use Rattle.room_wire.specs.declared.answer.Answer.TheVariants as answers;
+ghost use Rattle.room_wire.specs.Answers.{to_value};
+ghost use Rattle.room_wire.specs.Asked.{found_answer, text_of};
 ghost use Rattle.room_wire.specs.Reading.{GivesMessage, id_told};
-ghost use Rattle.room_program.specs.LineAnswers.{said, spelled, text_of, element_text, map_text, undos_text, body_answer, message_answer, answered};
+ghost use Rattle.room_program.specs.LineAnswers.{said, spelled, body_answer, message_answer, answered};
 ghost use Rattle.room_program.specs.LineReplies.{IsReply};
 
 use crate::answers::Answers;
@@ -128,25 +131,22 @@ fn answer_change(
 }
 
 fn answer_get(alloc: Global, room: &Room<Global>, id: u64, name: Name) -> Result<Json, Memory>
-    ensures { IfOk result (λ text. text ≡ element_text id name
-        (row_at (mapof room.now.base room.now.journal) name)) }
+    ensures { IfOk result (λ text. text ≡ text_of id (found_answer name
+        (row_at (mapof room.now.base room.now.journal) name))) }
 {
-    match room.get(&name) {
-        Some(element) => reply_text(alloc, id, &Answer::Is { name, element }),
-        None => reply_text(alloc, id, &Answer::Absent(name)),
-    }
+    reply_text(alloc, id, &Answer::found(name, room.get(&name)))
 }
 
 fn answer_map(alloc: Global, room: &Room<Global>, id: u64) -> Result<Json, Memory>
-    ensures { IfOk result (λ text. text ≡ map_text id
-        (mapof room.now.base room.now.journal) (length room.now.journal)) }
+    ensures { IfOk result (λ text. text ≡ text_of id (answers.Map
+        (to_value (mapof room.now.base room.now.journal)) (length room.now.journal))) }
 {
     map_text(alloc, id, room.map(), room.front())
 }
 
 fn answer_undos(alloc: Global, room: &Room<Global>, author: Author, id: u64) -> Result<Json, Memory>
-    ensures { IfOk result (λ text. text ≡ undos_text id
-        (undos room.now.journal author) (redos room.now.journal author)) }
+    ensures { IfOk result (λ text. text ≡ text_of id (answers.Undos
+        (to_value (undos room.now.journal author)) (to_value (redos room.now.journal author)))) }
 {
     let undos = room.undos(&author);
     let redos = room.redos(&author);

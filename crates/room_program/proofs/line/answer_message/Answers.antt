@@ -1,7 +1,7 @@
 -- What a message asks for, or its fault.
 use Rattle.std.proofs.Common.{ap, ◌∙◌}
 use Rattle.std.proofs.lemmas.Result.{IfOk-weaker}
-use Rattle.room_program.specs.LineAnswers.{text_of}
+use Rattle.room_wire.specs.Asked.{text_of}
 use Rattle.room_wire.specs.declared.answer.Answer.{Answer}
 use Rattle.room_program.proofs.LineAnswerLemmas.{reply-bad, reply-read}
 use Rattle.room_program.proofs.line.answer_message.Goals as goal
