@@ -30,7 +30,7 @@ pub fn run<R: Print + Wait>(
     let Some(paris) = Author::read("paris") else {
         return Err(io::ErrorKind::InvalidInput.into());
     };
-    let mut rooms = NamedRoom::open(alloc, paris, limit);
+    let mut rooms = NamedRoom::open(alloc, paris, limit)?;
     let mut anna = Session::new();
     let mut bob = Session::new();
     hear_lines(rt, alloc, &mut anna, &mut bob, &mut rooms, lines)

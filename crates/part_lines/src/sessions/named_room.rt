@@ -1,46 +1,52 @@
 //! One room, under a name.
-ghost use Rattle.std.specs.Prelude.{◌≡◌, []};
+ghost use Rattle.std.specs.Prelude.{◌≡◌, [], IfOk};
 ghost use Rattle.part_lines.specs.NamedRooms.{known_of};
+ghost use Rattle.room_session.specs.Rooms.{IsRoom, Answers, Looks};
 
+use osm_elements::Memory;
 use room_history::ask::{RoomCall, RoomReply};
+use room_history::laws::legal_histories_hold;
 use room_history::room::Room;
 use room_session::rooms::Rooms;
 use room_stacks::author::Author;
 use std::alloc::Global;
 use std::marker::Model;
 use std::sync::Wait;
-use turn_desk::Turned;
+use turn_desk::{Desk, Seat};
 
-/// A room under a name, which nobody else asks.
+/// A room under a name, at a desk with one seat.
 #[derive(Drop)]
 pub struct NamedRoom {
     name: Author,
-    room: Room<Global>,
+    desk: Desk<Room<Global>, Global>,
+    seat: Seat<Room<Global>>,
 }
 
 impl Model for NamedRoom {
     ghost use Rattle.part_lines.specs.NamedRooms.{RoomUnder};
-    ghost use Rattle.room_history.specs.LegalJournals.{IsJournal};
+    ghost use Rattle.turn_desk.specs.Desk.{IsAt};
 
     ghost Value = { RoomUnder };
 
-    ghost view = { λ r. record { name = r.name; room = r.room } };
+    ghost view = { λ r. record { name = r.name; desk = r.desk; seat = r.seat } };
 
-    ghost invariant = { λ r. IsJournal r.room.base r.room.limit r.room.journal };
+    ghost invariant = { λ r. IsAt r.desk r.seat };
 }
 
 impl NamedRoom {
-    /// A room with an empty map under this name, whose journal takes at most `limit` entries.
-    pub fn open(alloc: Global, name: Author, limit: u32) -> NamedRoom
-        ensures { result ≡ record { name = name; room = record { base = []; limit = limit; journal = [] } } }
+    /// A room with an empty map under this name, whose journal takes at most `limit` entries. The one refusal is want of memory.
+    pub fn open(alloc: Global, name: Author, limit: u32) -> Result<NamedRoom, Memory>
+        ensures { IfOk result (λ room. (room.name ≡ name) × (room.desk.fixed ≡ record { base = []; limit = limit })) }
     {
-        let room = Room::open(alloc, limit);
-        NamedRoom { name, room }
+        let (desk, seat) = Desk::open(alloc, Room::open(alloc, limit))?;
+        Ok(NamedRoom { name, desk, seat })
     }
 }
 
 impl Rooms for NamedRoom {
     ghost known = { known_of };
+
+    ghost kept = { λ _. tt };
 
     fn find(&self, name: &str) -> Option<usize> {
         if self.name.as_str() == name {
@@ -50,17 +56,13 @@ impl Rooms for NamedRoom {
         }
     }
 
-    fn turn<W: Wait>(
-        &mut self,
-        _rt: &W,
-        _room: usize,
-        call: RoomCall<Global>,
-    ) -> RoomReply<Global> {
-        Turned::turn(&mut self.room, call)
+    fn turn<W: Wait>(&mut self, rt: &W, _room: usize, call: RoomCall<Global>) -> RoomReply<Global> {
+        legal_histories_hold::<Global>();
+        self.desk.turn(rt, &mut self.seat, call)
     }
 
-    #[tactic(auto, using(room_session::specs::Facts::Running::keeps_all))]
     fn front(&mut self, _room: usize) -> u64 {
-        self.room.front()
+        legal_histories_hold::<Global>();
+        self.desk.front(&mut self.seat)
     }
 }
