@@ -5,7 +5,13 @@ use Rattle.room_program.specs.WordExamples.{taken, bad_limit, bad_word, help_ask
 
 pub taken_lem : taken
 unfolding taken clap_on_literals
-taken_lem = ((refl, refl), (refl, refl), (refl, refl), (refl, refl), (refl, refl))
+taken_lem = (
+  record { taken = refl; subcommand = refl; limit_is = refl },
+  record { taken = refl; subcommand = refl; limit_is = refl },
+  record { taken = refl; subcommand = refl; limit_is = refl },
+  record { taken = refl; subcommand = refl; limit_is = refl },
+  record { taken = refl; subcommand = refl; limit_is = refl },
+)
 
 pub bad_limit_lem : bad_limit
 unfolding bad_limit clap_on_literals

@@ -1,5 +1,5 @@
 -- What the program's words give: the limit that is read, and the kinds of error that stand in a list.
-use Rattle.std.proofs.Common.{◌≡◌, ◌∙◌, ◌||◌, ◌≤◌, refl, sym, ap, arith, true≢false, inl, inr, ℕ, Bool, true, false, List, [], ◌∷◌, Option, Some, None, codes, is_some}
+use Rattle.std.proofs.Common.{◌≡◌, ◌∙◌, ◌||◌, ◌≤◌, refl, sym, ap, arith, true≢false, inl, inr, ℕ, Bool, true, false, List, [], ◌∷◌, Option, Some, None, codes, cond, is_some}
 use Rattle.std.specs.Prelude.{⊤, Box, pos, Result, Ok, option_map, option_and_then, unwrap_or}
 use Rattle.std.specs.Box.{box_value}
 use Rattle.std.specs.List.{list_any}
@@ -8,7 +8,7 @@ use Rattle.std.specs.Str.{bytes_eq}
 use Rattle.std.specs.Str.Parse.{ParsesUnsigned}
 use Rattle.clap.specs.Lexer.{without_minus}
 use Rattle.clap.specs.Matches.{ReadsOne, one_text, subcommand_name_of}
-use Rattle.clap.specs.Simple.{subcommand_rows, subcommand_rows_of}
+use Rattle.clap.specs.Simple.{subcommand_of, subcommand_rows, subcommand_rows_of}
 use Rattle.clap.specs.Kinds.{HasKind, IsAmong, Kinds}
 use Rattle.clap.specs.ValueTests.{is_unsigned_in}
 use Rattle.clap.specs.Values.{kind_of}
@@ -25,7 +25,7 @@ use Rattle.std.proofs.lemmas.Slice.Eq.{bytes_eq-Decides}
 use Rattle.clap.proofs.CallerReads.{signed_reads}
 use Rattle.clap.proofs.ValueTestLemmas.{accepts-Accepts, Accepts-accepts}
 use Rattle.clap.proofs.WalkLemmas.{one_text-rows}
-use Rattle.room_program.specs.Words.{faults, limit_asked, limit_text, number_of, replay_rows}
+use Rattle.room_program.specs.Words.{faults, limit_asked, limit_text, number_of, program_app, replay_rows, subcommand_asked}
 use Rattle.room_program.proofs.LimitLemmas.{IsLimit, IsValue, asked_text}
 
 module _ (E : Type 0) (G : Text → Result ℕ E → Type 0) (only : (t : Text) (x : Result ℕ E) → G t x → ParsesUnsigned 32 10 t x) where
@@ -71,6 +71,18 @@ asked_told words taken = go (limit_text words) (asked_text words taken)
     go : (o : Option Text) → IsLimit o → is_some o ≡ true
     go None is = absurd is
     go (Some t) is = refl
+
+-- and ask for `replay`
+pub asked_replay : (words : List Text) → faults words ≡ [] → subcommand_asked words ≡ Some (codes "replay")
+asked_replay words taken = go (subcommand_of program_app words) (asked_text words taken)
+  where
+    go : (met : Option (Text × List Row)) → IsLimit (option_and_then (one_of (codes "limit")) (option_and_then replay_rows met)) → option_map (λ p. p.0) met ≡ Some (codes "replay")
+    go None is = absurd is
+    go (Some p) is = named (bytes_eq p.0 (codes "replay")) refl is
+      where
+        named : (b : Bool) → bytes_eq p.0 (codes "replay") ≡ b → IsLimit (option_and_then (one_of (codes "limit")) (cond b (Some p.1) None)) → Some p.0 ≡ Some (codes "replay")
+        named true e is = ap Some ((bytes_eq-Decides p.0 (codes "replay")).0 e)
+        named false e is = absurd is
 
 -- and so a number of a million at most
 pub asked_small : (words : List Text) → faults words ≡ [] → limit_asked words ≤ 1000000

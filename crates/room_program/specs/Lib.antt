@@ -9,5 +9,6 @@ pub mod Faults
 pub mod LineAnswers
 pub mod LineReplies
 pub mod Words
+pub mod Commands
 pub mod WordExamples
 pub mod Made

@@ -4,11 +4,12 @@ use Rattle.clap.specs.Words.{Kinds, Text}
 use Rattle.clap.specs.declared.error.kind.ErrorKind.TheVariants.{ArgumentConflict, DisplayHelp, DisplayVersion}
 use Rattle.clap.specs.declared.error.kind.ErrorKind.TheVariants.{InvalidSubcommand, InvalidValue}
 use Rattle.clap.specs.declared.error.kind.ErrorKind.TheVariants.{MissingSubcommand, UnknownArgument, ValueValidation}
-use Rattle.room_program.specs.Words.{faults, limit_asked}
+use Rattle.room_program.specs.Commands.{AsksForReplay}
+use Rattle.room_program.specs.Words.{faults}
 
--- the words after the name of the program are taken, and ask for the limit
+-- the words after the name of the program are taken, and ask for a replay with the limit
 abbrev pub AsksFor : ℕ → List Text → Type 0
-AsksFor limit words = let all = codes "maproom" ∷ words in (faults all ≡ []) × (limit_asked all ≡ limit)
+AsksFor limit words = AsksForReplay (codes "maproom" ∷ words) limit
 
 -- the words after the name of the program are answered by an error of one of these kinds
 abbrev pub FailsBy : Kinds → List Text → Type 0

@@ -2,7 +2,7 @@
 use Rattle.std.specs.Prelude.{◌≡◌, ℕ, Bool, true, false, List, [], ◌∷◌, Option, Some, None, pos, codes}
 use Rattle.std.specs.Prelude.{option_and_then, if◌then◌else◌}
 use Rattle.std.specs.List.{list_any}
-use Rattle.std.specs.Option.{option_map_or}
+use Rattle.std.specs.Option.{option_map, option_map_or}
 use Rattle.std.specs.Str.{bytes_eq}
 use Rattle.std.specs.Str.Parse.{digits_value, without_leading_plus}
 use Rattle.clap.specs.Words.{App, Kinds, Row, Rule, Text, fault_of, new_app, new_rule, one_of}
@@ -58,6 +58,10 @@ has_mistake words = list_any is_mistake (faults words)
 -- the values of the options of `replay`, where that is the subcommand
 abbrev pub replay_rows : Text × List Row → Option (List Row)
 replay_rows met = if bytes_eq met.0 (codes "replay") then Some met.1 else None
+
+-- the subcommand that the words name
+abbrev pub subcommand_asked : List Text → Option Text
+subcommand_asked words = option_map (λ met. met.0) (subcommand_of program_app words)
 
 -- the text of the limit, written or by default
 abbrev pub limit_text : List Text → Option Text

@@ -1,13 +1,11 @@
 //! The program's command line.
-ghost use Rattle.std.specs.Prelude.{◌≡◌, ◌≢◌, ◌≤◌, ◌⊎◌, ◌^◌, [], IfOk, MatchResult, false, map, true};
+ghost use Rattle.std.specs.Prelude.{◌≡◌, ◌⊎◌, ℕ, IfOk, MatchResult, false, map, true};
 ghost use Rattle.clap.specs.Words.{HasKind, app_of, kind_of};
-ghost use Rattle.room_program.specs.LineAnswers.{script};
+ghost use Rattle.room_program.specs.Commands.{AsksForReplay, Replays};
 ghost use Rattle.room_program.specs.Faults.{Takes, TakesOne, fault_line};
-ghost use Rattle.room_program.specs.Streams.{Gets, GetsAtMost, TookNone, WritesAll, WritesEnded, WritesFront};
-ghost use Rattle.room_program.specs.Words.{IsTaken, asks_for_help, faults, has_mistake, is_mistake, is_request};
-ghost use Rattle.room_program.specs.Words.{limit_asked, program_app};
+ghost use Rattle.room_program.specs.Words.{asks_for_help, faults, has_mistake, is_mistake, is_request, program_app};
 
-use crate::fault::ReplayFault;
+use crate::fault::{ProgramFault, ReplayFault};
 use crate::replay::{put_all, replay};
 use crate::sink::Sink;
 use crate::source::Source;
@@ -38,8 +36,8 @@ pub const REFUSED: u8 = 2;
 ///
 /// `replay` reads `input` to its end and writes the replies to `output` (status 0). A fault is told on `errors` by
 /// a line (status 1). Words that are refused are answered by a text on `errors` (status 2), and words that ask for
-/// help or for the version by a text on `output` (status 0). Texts other than replies are written as far as the
-/// streams take them.
+/// help or for the version by a text on `output` (status 0). Where there is no memory to read the words, a line on
+/// `errors` says so (status 1). Texts other than replies are written as far as the streams take them.
 pub fn command<R: AllocGlobal, T: AsStr, S: Source, W: Sink, E: Sink>(
     rt: &R,
     words: &[T],
@@ -50,40 +48,21 @@ pub fn command<R: AllocGlobal, T: AsStr, S: Source, W: Sink, E: Sink>(
     requires input_works { S.has_failed input.old ≡ false }
     requires output_works { W.has_failed output.old ≡ false }
     requires errors_work { E.has_failed errors.old ≡ false }
-    ensures status { result ≤ 2 }
 
-    // The words were taken, and the script of all the input was written, of a room with the limit that they ask
-    // for. Or the words ask for help, and nothing was read, and one text written.
-    ensures done { let texts = map T.text words.now in result ≡ 0 →
-        (IsTaken texts × WritesAll (script [] (limit_asked texts))
-        (S.left input.old) (S.left input.new) (W.taken output.old) (W.taken output.new))
-        ⊎ ((asks_for_help texts ≡ true) × (input.new ≡ input.old)
-        × TakesOne W.taken W.has_failed W.puts output.old output.new) }
-
-    // The words were taken, and a front of that script was written. Or nothing was read and nothing written.
-    ensures failed { let texts = map T.text words.now in result ≡ 1 →
-        (IsTaken texts × WritesFront (script [] (limit_asked texts))
-        (S.left input.old) (S.left input.new) (W.taken output.old) (W.taken output.new))
-        ⊎ ((input.new ≡ input.old) × (output.new ≡ output.old)) }
-
-    // A fault is told by its line, and it is one that there was. Where it is a failed read, the script of the lines whose
-    // line feeds were read was written. Nothing is told of a run that is done.
-    ensures told { let texts = map T.text words.now in result ≡ 1 → (fault : ReplayFault)
-        × Takes E.taken E.has_failed E.puts errors.old errors.new (fault_line fault)
-        × (fault ≡ ReplayFault.Read → IsTaken texts × WritesEnded (script [] (limit_asked texts))
-        (S.left input.old) (S.left input.new) (W.taken output.old) (W.taken output.new)
-        × ((S.has_failed input.new ≡ true) ⊎ Gets S.gets (2 ^ 40) input.old input.new))
-        × (fault ≡ ReplayFault.Write → (W.has_failed output.new ≡ true) ⊎ TookNone W.puts output.new)
-        × (fault ≡ ReplayFault.Memory → (S.has_failed input.new ≡ false) × (W.has_failed output.new ≡ false)) }
-    ensures silent { result ≡ 0 → errors.new ≡ errors.old }
-
-    // The words have a mistake, and nothing was read, nothing written to the output, and one text to the errors.
-    ensures refused { result ≡ 2 → (has_mistake (map T.text words.now) ≡ true)
-        × (input.new ≡ input.old) × (output.new ≡ output.old)
-        × TakesOne E.taken E.has_failed E.puts errors.old errors.new }
-
-    // At most 2^40 reads were made, and none after one that gave the end.
-    ensures calls { GetsAtMost S.gets (2 ^ 40) input.old input.new }
+    // One of these:
+    // - the words ask for a replay with a limit, which was run and ended with this status;
+    // - they can ask for a help or the version: nothing was read, and one text was written to the output alone;
+    // - they can have a mistake: nothing was read, and one text was written to the errors alone;
+    // - there was no memory to read them: this is told, nothing was read, and nothing written to the output.
+    ensures { let texts = map T.text words.now in
+        ((limit : ℕ) × AsksForReplay texts limit × Replays S.Source W.Sink E.Sink limit result
+        input.old input.new output.old output.new errors.old errors.new)
+        ⊎ ((asks_for_help texts ≡ true) × (result ≡ 0) × (input.new ≡ input.old)
+        × TakesOne W.Sink output.old output.new × (errors.new ≡ errors.old))
+        ⊎ ((has_mistake texts ≡ true) × (result ≡ 2) × (input.new ≡ input.old)
+        × (output.new ≡ output.old) × TakesOne E.Sink errors.old errors.new)
+        ⊎ ((result ≡ 1) × (input.new ≡ input.old) × (output.new ≡ output.old)
+        × Takes E.Sink errors.old errors.new (fault_line ProgramFault.Memory)) }
 {
     let alloc = rt.alloc();
     match limit_in(alloc, words) {
@@ -103,31 +82,19 @@ fn run<S: Source, W: Sink, E: Sink>(
     requires input_works { S.has_failed input.old ≡ false }
     requires output_works { W.has_failed output.old ≡ false }
     requires errors_work { E.has_failed errors.old ≡ false }
-    ensures status { result ≤ 1 }
-    ensures done { result ≡ 0 → WritesAll (script [] limit)
-        (S.left input.old) (S.left input.new) (W.taken output.old) (W.taken output.new) }
-    ensures failed { result ≡ 1 → WritesFront (script [] limit)
-        (S.left input.old) (S.left input.new) (W.taken output.old) (W.taken output.new) }
-    ensures told { result ≡ 1 → (fault : ReplayFault)
-        × Takes E.taken E.has_failed E.puts errors.old errors.new (fault_line fault)
-        × (fault ≡ ReplayFault.Read → WritesEnded (script [] limit)
-        (S.left input.old) (S.left input.new) (W.taken output.old) (W.taken output.new)
-        × ((S.has_failed input.new ≡ true) ⊎ Gets S.gets (2 ^ 40) input.old input.new))
-        × (fault ≡ ReplayFault.Write → (W.has_failed output.new ≡ true) ⊎ TookNone W.puts output.new)
-        × (fault ≡ ReplayFault.Memory → (S.has_failed input.new ≡ false) × (W.has_failed output.new ≡ false)) }
-    ensures silent { result ≡ 0 → errors.new ≡ errors.old }
-    ensures calls { GetsAtMost S.gets (2 ^ 40) input.old input.new }
+    ensures { Replays S.Source W.Sink E.Sink limit result
+        input.old input.new output.old output.new errors.old errors.new }
 {
     match replay(alloc, input, output, limit, MOST_READS) {
         Ok(()) => DONE,
-        Err(fault) => fail(errors, fault),
+        Err(fault) => fail(errors, ProgramFault::Replay(fault)),
     }
 }
 
 // The limit of the replay that the words ask for.
 fn limit_in<T: AsStr>(alloc: Global, words: &[T]) -> Result<u32, Error>
-    ensures { let texts = map T.text words.now in MatchResult result
-        (λ limit. IsTaken texts × (limit ≡ limit_asked texts)) (HasKind (faults texts)) }
+    ensures { let texts = map T.text words.now in
+        MatchResult result (AsksForReplay texts) (HasKind (faults texts)) }
 {
     let matches = command_line(alloc)?.try_get_matches_from(words)?;
     let limit = match matches.subcommand_matches("replay") {
@@ -176,10 +143,10 @@ and lives as long as its input.
 Such a line: anna {\"id\":1,\"do\":\"create\",\"el\":\"n1\",\"lat\":\"51.5\",\"lon\":\"-0.1\"}";
 
 // Tells a fault.
-fn fail<E: Sink>(errors: &mut E, fault: ReplayFault) -> u8
+fn fail<E: Sink>(errors: &mut E, fault: ProgramFault) -> u8
     requires { E.has_failed errors.old ≡ false }
     ensures failed { result ≡ 1 }
-    ensures told { Takes E.taken E.has_failed E.puts errors.old errors.new (fault_line fault) }
+    ensures told { Takes E.Sink errors.old errors.new (fault_line fault) }
 {
     tell(errors, line_of(fault).as_bytes());
     FAILED
@@ -188,19 +155,19 @@ fn fail<E: Sink>(errors: &mut E, fault: ReplayFault) -> u8
 // Writes a text as far as the stream takes it.
 fn tell<W: Sink>(stream: &mut W, text: &[u8])
     requires { W.has_failed stream.old ≡ false }
-    ensures { Takes W.taken W.has_failed W.puts stream.old stream.new text.now }
+    ensures { Takes W.Sink stream.old stream.new text.now }
 {
     let _ = put_all(stream, text);
 }
 
 // The line that tells a fault.
-fn line_of(fault: ReplayFault) -> &'static str
+fn line_of(fault: ProgramFault) -> &'static str
     ensures { result.now ≡ fault_line fault }
 {
     match fault {
-        ReplayFault::Read => "maproom: read failed\n",
-        ReplayFault::Write => "maproom: write failed\n",
-        ReplayFault::Memory => "maproom: no memory\n",
+        ProgramFault::Replay(ReplayFault::Read) => "maproom: read failed\n",
+        ProgramFault::Replay(ReplayFault::Write) => "maproom: write failed\n",
+        ProgramFault::Replay(ReplayFault::Memory) | ProgramFault::Memory => "maproom: no memory\n",
     }
 }
 
@@ -213,21 +180,18 @@ fn answer_error<W: Sink, E: Sink>(
 ) -> u8
     requires output_works { W.has_failed output.old ≡ false }
     requires errors_work { E.has_failed errors.old ≡ false }
-    ensures status { result ≤ 2 }
-    ensures quiet { result ≢ 0 → output.new ≡ output.old }
-    ensures shown { result ≡ 0 → (is_request (kind_of error.now) ≡ true)
-        × TakesOne W.taken W.has_failed W.puts output.old output.new }
-    ensures refused { result ≡ 2 → (is_mistake (kind_of error.now) ≡ true)
-        × TakesOne E.taken E.has_failed E.puts errors.old errors.new }
-    ensures told { result ≡ 1
-        → Takes E.taken E.has_failed E.puts errors.old errors.new (fault_line ReplayFault.Memory) }
-    ensures silent { result ≡ 0 → errors.new ≡ errors.old }
+    ensures { ((is_request (kind_of error.now) ≡ true) × (result ≡ 0)
+        × TakesOne W.Sink output.old output.new × (errors.new ≡ errors.old))
+        ⊎ ((is_mistake (kind_of error.now) ≡ true) × (result ≡ 2)
+        × (output.new ≡ output.old) × TakesOne E.Sink errors.old errors.new)
+        ⊎ ((result ≡ 1) × (output.new ≡ output.old)
+        × Takes E.Sink errors.old errors.new (fault_line ProgramFault.Memory)) }
 {
     if error.kind() == ErrorKind::OutOfMemory {
-        return fail(errors, ReplayFault::Memory);
+        return fail(errors, ProgramFault::Memory);
     }
     let Ok(text) = error.to_string(alloc) else {
-        return fail(errors, ReplayFault::Memory);
+        return fail(errors, ProgramFault::Memory);
     };
     if error.use_stderr() {
         tell(errors, text.as_bytes());

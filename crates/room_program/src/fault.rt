@@ -1,4 +1,4 @@
-//! What ends a replay.
+//! What ends a replay, and what ends the program.
 ghost use Rattle.std.specs.Prelude.{◌≡◌};
 
 use std::alloc::AllocError;
@@ -26,4 +26,15 @@ impl From<AllocError> for ReplayFault {
     fn from(_: AllocError) -> Self {
         ReplayFault::Memory
     }
+}
+
+/// What ends the program before its time.
+#[derive(Clone, Copy, Debug, PartialEq, Eq, Error)]
+pub enum ProgramFault {
+    /// A replay ended so.
+    #[error(transparent)]
+    Replay(ReplayFault),
+    /// There was no memory to read the words.
+    #[error("no memory")]
+    Memory,
 }

@@ -53,9 +53,9 @@ pub fn what_is_spelled_is_made()
     ensures { (text : List ℕ) → IfOk (spells text) (λ message. is_made_body message.body ≡ true) }
 {}
 
-/// After any lines of a script, whatever they say and whatever of their answers was lost, the journal of the room is one
-/// that calls lead to from the map that the room began with. Where that map is sound the theorem holds of the journal: the
-/// map is sound, and equals the standing actions replayed in order.
+/// After any lines of a script, whatever they say and whatever of their answers was lost, the journal of the room is
+/// one that calls lead to from the map that the room began with. Where that map is sound the theorem holds of the
+/// journal: the map is sound, and equals the standing actions replayed in order.
 pub fn a_script_holds()
     ensures journals { (base : Rows Global) (limit : ℕ) (lines : List (List ℕ)) (lost : List Loss)
         → IsJournal base limit (room_after answered (opened_on base limit) lines lost).journal }

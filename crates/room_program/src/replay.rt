@@ -124,8 +124,8 @@ fn replay_blocks<A: Answers, S: Source, W: Sink>(
 ///
 /// A line is an author's name, a space and a message; a line feed ends it, or the end of the stream. The stream is
 /// read in blocks, and the replies to the lines of a block are written before the next is read, or as soon as they fill
-/// a block themselves. After a read that gives the end no other is made. After a fault the lines that were answered stay answered, and what was written of their replies
-/// stays written.
+/// a block themselves. After a read that gives the end no other is made. After a fault the lines that were answered stay
+/// answered, and what was written of their replies stays written.
 ///
 /// - `Read`: the reader failed, or `reads` reads were used up.
 /// - `Write`: the writer failed, or took no byte of those that were left.

@@ -6,7 +6,7 @@ use Rattle.std.specs.Str.Parse.{ParsesUnsigned, ExplainsUnsignedError, HasUnsign
 use Rattle.clap.specs.Words.{Row, Text, is_simple, is_simple_and_free, app_of, fault_of, found_of, one_of, rows_of, subcommand_rows_of, subcommand_of}
 use Rattle.room_program.specs.Words.{IsTaken, number_of, program_app, replay_rows}
 use Rattle.room_program.proofs.LimitLemmas.{IsLimit, asked_text}
-use Rattle.room_program.proofs.WordLemmas.{limit_read, name_rows, replay_met, no_replay_met}
+use Rattle.room_program.proofs.WordLemmas.{asked_replay, limit_read, name_rows, replay_met, no_replay_met}
 use Rattle.room_program.proofs.command.limit_in.Goals as goal
 use Rattle.room_program.proofs.command.limit_in.Goals.{in-Some, in-None}
 
@@ -37,4 +37,8 @@ returns g c =
           let rows_are = no_replay_met (subcommand_rows_of found) (λ named. true≢false (sym (w.in-None.ensures.found.1 (name_rows found ∙ named)))) in
           ap (λ r. unwrap_or r 1000000) w.limit-is ∙ ap limit_from (sym rows_are)
     ] in
-    (taken, c.unwrap_or.ensures ∙ limit_is ∙ ap (λ met. limit_from (option_and_then replay_rows met)) met_is)
+    record {
+      taken = taken;
+      subcommand = asked_replay texts taken;
+      limit_is = c.unwrap_or.ensures ∙ limit_is ∙ ap (λ met. limit_from (option_and_then replay_rows met)) met_is;
+    }
