@@ -1,0 +1,6 @@
+mod Counting
+mod Crossing
+mod Meeting
+mod Opening
+mod Seating
+mod Splitting

@@ -1,0 +1,14 @@
+use Rattle.std.proofs.Common.{◌≡◌, ◌+◌, All, vec_items, length}
+use Rattle.std.specs.Vec.Iter.{into_iter_items}
+use Rattle.room_server.specs.Seats.{HaveMet, IsSet}
+use Rattle.room_server.specs.Tables.{AreAt}
+use Rattle.room_server.proofs.pool.serve_rooms.Given as goal
+
+-- the sets so far were met
+abbrev pub invariant-loop-others : goal.invariant-loop-others
+invariant-loop-others g l = record {
+  at : AreAt l.table l.seats.items;
+  met : HaveMet (length l.yielded) l.seats.items;
+  rest : All (λ set. IsSet l.table (vec_items set)) (into_iter_items l.others-iterator);
+  count : length l.yielded + length (into_iter_items l.others-iterator) ≡ l.fn.load.workers;
+}

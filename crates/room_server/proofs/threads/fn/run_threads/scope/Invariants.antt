@@ -1,0 +1,13 @@
+use Rattle.std.proofs.Common.{◌≡◌, ◌+◌, [], All, None, length, vec_items, vec_len}
+use Rattle.std.specs.Vec.Iter.{into_iter_items}
+use Rattle.room_server.specs.Seats.{IsSet}
+use Rattle.room_server.proofs.threads.fn.run_threads.scope.Given as goal
+
+-- a thread was started for each of the sets so far
+abbrev pub invariant-loop-seats : goal.invariant-loop-seats
+invariant-loop-seats g l = record {
+  rest : All (λ set. IsSet l.table (vec_items set)) (into_iter_items l.seats-iterator);
+  threads : All (λ thread. (thread.promise.table.now ≡ l.table) × All (λ seat. seat.met ≡ []) (vec_items thread.promise.lent.value)) (vec_items l.threads);
+  count : vec_len l.threads + length (into_iter_items l.seats-iterator) ≡ length (into_iter_items l.initial.seats-iterator);
+  no_fault : l.fault ≡ None;
+}

@@ -1,0 +1,35 @@
+use Rattle.std.proofs.Common.{◌≡◌, ◌+◌, ◌++◌, ◌∷◌, [], All, ap, arith, length, rules, subst, vec_items, vec_len}
+use Rattle.std.specs.Vec.Iter.{into_iter_items}
+use Rattle.std.proofs.lemmas.List.Elements.{All-rest, All-same, All-push}
+use Rattle.room_server.specs.Seats.{IsSet}
+use Rattle.room_server.specs.Tables.{AreAt}
+use Rattle.room_server.proofs.Counting.{head_of, if_none, still_set}
+use Rattle.room_server.proofs.threads.join_all.Goals as goal
+
+-- the set is lost, for want of memory
+pub loop-thread-preserved-then-is_err : goal.loop-thread-preserved-then-is_err
+loop-thread-preserved-then-is_err g c =
+    let i = c.loop-thread.invariant in
+    record {
+      rest = All-rest (λ thread. (thread.promise.table.now ≡ c.args.table.now) × All (λ seat. seat.met ≡ []) (vec_items thread.promise.lent.value)) c.in-Some.thread (into_iter_items c.next.new.self) (into_iter_items c.loop-thread.thread-iterator) c.in-Some.ensures.steps.0 i.rest;
+      sets = All-same (λ set. IsSet c.args.table.now (vec_items set)) (vec_items c.push.new.self) (vec_items c.loop-thread.sets) (search rules) i.sets;
+      none_lost = tt;
+    }
+
+-- the thread that is joined stood first among the rest, and what it gives back is the set that it was lent
+pub loop-thread-preserved : goal.loop-thread-preserved
+loop-thread-preserved g c =
+    let i = c.loop-thread.invariant in
+    let steps = c.in-Some.ensures.steps.0 in
+    let head = head_of (λ thread. (thread.promise.table.now ≡ c.args.table.now) × All (λ seat. seat.met ≡ []) (vec_items thread.promise.lent.value)) c.in-Some.thread (into_iter_items c.next.new.self) (into_iter_items c.loop-thread.thread-iterator) steps i.rest in
+    let set : IsSet c.args.table.now (vec_items c.join.result) = still_set c.args.table.now (vec_items c.in-Some.thread.promise.lent.value) (vec_items c.join.result)
+    (subst (λ t. AreAt t (vec_items c.join.result)) head.0 c.join.ensures.0) c.join.ensures.1 head.1 in
+    let items : vec_items c.push.new.self ≡ vec_items c.loop-thread.sets ++ c.join.result ∷ [] = search rules in
+    let long : vec_len c.push.new.self ≡ vec_len c.loop-thread.sets + 1 = search rules in
+    let fewer = ap length steps in
+    record {
+      rest = All-rest (λ thread. (thread.promise.table.now ≡ c.args.table.now) × All (λ seat. seat.met ≡ []) (vec_items thread.promise.lent.value)) c.in-Some.thread (into_iter_items c.next.new.self) (into_iter_items c.loop-thread.thread-iterator) steps i.rest;
+      sets = All-same (λ set. IsSet c.args.table.now (vec_items set)) (vec_items c.push.new.self) (vec_items c.loop-thread.sets ++ c.join.result ∷ []) items
+          (All-push (λ set. IsSet c.args.table.now (vec_items set)) (vec_items c.loop-thread.sets) c.join.result i.sets set);
+      none_lost = if_none c.loop-thread.fault (λ was. (was.0, let count = was.1 in omega (arith, long, fewer, count))) i.none_lost;
+    }

@@ -1,0 +1,8 @@
+use Rattle.std.specs.Prelude.{◌≡◌, map}
+use Rattle.room_session.specs.Rooms.{KeepsKnown}
+use Rattle.room_server.specs.Tables.{kept_of, known_of, known_through, mark}
+use Rattle.room_server.proofs.workers.worker.Given as goal
+
+-- the rooms are those of the table, through the seats that the worker was lent
+abbrev pub invariant-loop : goal.invariant-loop
+invariant-loop g l = (kept_of l.rooms ≡ (l.table, map mark l.fn.seats.items)) × KeepsKnown (known_through l.table l.fn.seats.items) (known_of l.rooms)

@@ -1,0 +1,21 @@
+-- What is told of the rooms of a table that is closed.
+use Rattle.std.specs.Prelude.{◌≡◌, ℕ, List, Some, length, slice_get}
+use Rattle.std.specs.declared.alloc.Global.{Global}
+use Rattle.room_history.specs.declared.entry.Entry.{Entry}
+use Rattle.room_history.specs.Turns.{IsTurn}
+use Rattle.room_server.specs.Tables.{DeskView, SeatView}
+use Rattle.turn_desk.specs.Desk.{HasKin}
+use Rattle.turn_desk.specs.History.{History, IsLegal, StartsWith}
+
+-- so many entries has a legal history of the desk, which begins with all that the seat has seen and has the entries of each of its kin
+pub record IsFront (desk : DeskView) (seat : SeatView) (front : ℕ) : Type 0 where
+  pub h : History (Entry Global)
+  pub legal : IsLegal IsTurn desk.fixed h
+  pub begins : StartsWith h seat.seen
+  pub kin : HasKin h seat
+  pub count : front ≡ length h
+
+-- a number for each desk, in order
+pub record AreFronts (desks : List DeskView) (seats : List SeatView) (fronts : List ℕ) : Type 0 where
+  pub as_many : length fronts ≡ length desks
+  pub each : (room : ℕ) (desk : DeskView) (seat : SeatView) (front : ℕ) → slice_get desks room ≡ Some desk → slice_get seats room ≡ Some seat → slice_get fronts room ≡ Some front → IsFront desk seat front

@@ -1,0 +1,5 @@
+pub mod Fronts
+pub mod Inner
+pub mod Openings
+pub mod Seats
+pub mod Tables

@@ -1,0 +1,41 @@
+-- How a table of rooms is opened. (The names of rooms are this project's.)
+use Rattle.std.specs.Prelude.{◌≡◌, ◌<◌, ℕ, List, [], Some, None, All, length, slice_get}
+use Rattle.std.specs.declared.alloc.Global.{Global}
+use Rattle.room_history.specs.declared.turned.Opening.{Opening}
+use Rattle.room_stacks.specs.Authors.{author_of}
+use Rattle.room_server.specs.declared.table.TableFault.{TableFault}
+use Rattle.room_server.specs.declared.table.TableFault.TheVariants.{BadName, Twice, Memory}
+use Rattle.room_server.specs.Tables.{AreAt, SeatView, TableView}
+use Rattle.turn_desk.specs.Desk.{IsFirst}
+
+-- at the position stands a text that is no name of a room
+abbrev pub IsBad : List (List ℕ) → ℕ → Type 0
+IsBad names position = (text : List ℕ) × (slice_get names position ≡ Some text) × (author_of text ≡ None)
+
+-- at the position stands a text that stands at an earlier one too
+abbrev pub IsAgain : List (List ℕ) → ℕ → Type 0
+IsAgain names position =
+    (text : List ℕ) × (earlier : ℕ) × (earlier < position) × (slice_get names position ≡ Some text) × (slice_get names earlier ≡ Some text)
+
+-- before the position there is neither
+abbrev pub AreFine : List (List ℕ) → ℕ → Type 0
+AreFine names end = (position : ℕ) → position < end → (IsBad names position → ⊥) × (IsAgain names position → ⊥)
+
+-- the fault of the first position that has one; memory may be wanting at any
+abbrev pub IsFirstFault : List (List ℕ) → TableFault → Type 0
+IsFirstFault names (BadName position) = IsBad names position × AreFine names position
+IsFirstFault names (Twice position) = IsAgain names position × AreFine names position
+IsFirstFault names Memory = Unit {0}
+
+-- a room with an empty map, whose journal takes so many entries
+abbrev pub empty_opening : ℕ → Opening Global
+empty_opening limit = record { base = []; limit = limit }
+
+-- the table has a room for each name, in order, and the seats are the first of their desks
+pub record Opens (names : List (List ℕ)) (limit : ℕ) (table : TableView) (seats : List SeatView) : Type 0 where
+  pub fine : AreFine names (length names)
+  pub names_are : table.names ≡ names
+  pub many : length table.desks ≡ length names
+  pub empty : All (λ desk. desk.fixed ≡ empty_opening limit) table.desks
+  pub at : AreAt table seats
+  pub first : All IsFirst seats

@@ -1,0 +1,28 @@
+-- How the seats of a table are split and met.
+use Rattle.std.specs.Prelude.{◌≡◌, ◌≤◌, ◌*◌, ◌+◌, ◌^◌, ℕ, List, [], All, Some, length, slice_get}
+use Rattle.room_history.specs.Turns.{IsTurn}
+use Rattle.room_server.specs.Tables.{AreAt, DeskView, SeatView, TableView}
+use Rattle.turn_desk.specs.Desk.{MeetsAt, SplitsInto}
+
+-- of each seat so many can be split off, one after another: a split gives a 64th of the parts away, and a desk has 2^64 - 1
+abbrev pub HavePartsFor : ℕ → List SeatView → Type 0
+HavePartsFor count seats = All (λ seat. (count * 2 ^ 58 ≤ seat.parts + 1) × (seat.parts + 1 ≤ 2 ^ 64)) seats
+
+-- each of the seats was split in two
+pub record AreSplit (seats kept new : List SeatView) : Type 0 where
+  pub as_many : length kept ≡ length seats
+  pub of_new : length new ≡ length seats
+  pub split : (room : ℕ) (seat one other : SeatView) → slice_get seats room ≡ Some seat → slice_get kept room ≡ Some one → slice_get new room ≡ Some other → SplitsInto seat one other
+
+-- into each of the seats at a table the other of the same desk was met
+pub record AreMet (table : TableView) (seats others seats' : List SeatView) : Type 0 where
+  pub as_many : length seats' ≡ length seats
+  pub met : (room : ℕ) (desk : DeskView) (seat other seat' : SeatView) → slice_get table.desks room ≡ Some desk → slice_get seats room ≡ Some seat → slice_get others room ≡ Some other → slice_get seats' room ≡ Some seat' → MeetsAt IsTurn desk.fixed seat other seat'
+
+-- a seat at each desk, none of which was met by another
+abbrev pub IsSet : TableView → List SeatView → Type 0
+IsSet table seats = AreAt table seats × All (λ seat. seat.met ≡ []) seats
+
+-- the first seats of the desks, which have met so many seats each
+abbrev pub HaveMet : ℕ → List SeatView → Type 0
+HaveMet count seats = All (λ seat. (seat.number ≡ 0) × (length seat.met ≡ count)) seats

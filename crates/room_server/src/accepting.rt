@@ -1,0 +1,42 @@
+//! The connections that a pool accepts.
+use crate::job::Job;
+use crossbeam_channel::Sender;
+use log::{Log, info};
+use std::alloc::Global;
+use std::io;
+use std::net::{TcpListener, TcpStream};
+use std::sync::Wait;
+use std::time::Duration;
+
+// How long a read waits until it is quiet, in milliseconds.
+const QUIET_MILLIS: u64 = 50;
+
+// How long a write waits for a client that does not read until it fails, in seconds.
+const DEAF_SECONDS: u64 = 30;
+
+/// Accepts so many times, and hands each connection on as a session, numbered from 1. An accept that fails is a session too: the
+/// log gets `session I end fault`.
+pub(crate) fn accept_all<R: Wait + Log>(
+    rt: &R,
+    listener: &TcpListener,
+    jobs: &Sender<Job<TcpStream>, Global>,
+    sessions: u32,
+) {
+    for session in 1..=u64::from(sessions) {
+        match accept(listener) {
+            Ok(stream) => {
+                let _ = jobs.send(rt, Job::Serve { session, stream });
+            }
+            Err(_) => info!(rt; "session {session} end fault"),
+        }
+    }
+}
+
+// Accepts a connection whose reads and writes end. That a write goes out at once is asked, and not needed.
+fn accept(listener: &TcpListener) -> io::Result<TcpStream> {
+    let (stream, _) = listener.accept()?;
+    stream.set_read_timeout(Some(Duration::from_millis(QUIET_MILLIS)))?;
+    stream.set_write_timeout(Some(Duration::from_secs(DEAF_SECONDS)))?;
+    let _ = stream.set_nodelay(true);
+    Ok(stream)
+}

@@ -1,0 +1,133 @@
+//! The threads of a pool.
+ghost use Rattle.std.specs.Prelude.{◌≡◌, [], All, IfNone, None, map, vec_len};
+ghost use Rattle.std.specs.Thread.{IsSync};
+ghost use Rattle.room_server.specs.Seats.{IsSet};
+ghost use Rattle.room_server.specs.Tables.{AreAt, mark};
+
+use crate::accepting::accept_all;
+use crate::job::Job;
+use crate::pool::{Load, PoolFault};
+use crate::seats::RoomSeat;
+use crate::table::RoomTable;
+use crate::workers::worker;
+use crossbeam_channel::{Receiver, Sender};
+use log::Log;
+use room_socket::Gate;
+use std::alloc::Global;
+use std::net::{TcpListener, TcpStream};
+use std::snapshot::Snapshot;
+use std::sync::Wait;
+use std::thread;
+use std::thread::{Promise, PromisedHandle, Threads};
+use std::time::Clock;
+
+/// What a worker's thread promises: it gives back the seats that it was lent.
+#[derive(Drop)]
+pub(crate) struct GivesBack<'t> {
+    table: &'t RoomTable,
+    lent: Snapshot<Vec<RoomSeat, Global>>,
+}
+
+impl<'t> Promise<Vec<RoomSeat, Global>> for GivesBack<'t> {
+    ghost use Rattle.std.specs.Prelude.{◌≡◌, map};
+    ghost use Rattle.room_server.specs.Tables.{AreAt, mark};
+
+    ghost kept_by = { λ p back. AreAt p.table.now back.items × (map mark back.items ≡ map mark p.lent.value.items) };
+}
+
+/// The thread of a worker.
+type WorkerThread<'t> = PromisedHandle<Vec<RoomSeat, Global>, GivesBack<'t>>;
+
+/// What came of the threads: the sets of seats that came back, and a fault, where not all sessions were handed out.
+#[derive(Drop)]
+pub(crate) struct Joined {
+    pub(crate) sets: Vec<Vec<RoomSeat, Global>, Global>,
+    pub(crate) fault: Option<PoolFault>,
+}
+
+/// Runs a worker for each set of seats, each in a thread of its own, hands them the connections that are accepted meanwhile, tells
+/// them to stop, and gives the sets of all that were started back. Where a thread is not started no connection is accepted.
+pub(crate) fn run_threads<R: Threads + Wait + Clock + Log + Sync, G: Gate + Sync>(
+    rt: &R,
+    alloc: Global,
+    gate: &G,
+    listener: &TcpListener,
+    table: &RoomTable,
+    sets: Vec<Vec<RoomSeat, Global>, Global>,
+    ends: (
+        Sender<Job<TcpStream>, Global>,
+        &Receiver<Job<TcpStream>, Global>,
+    ),
+    load: Load,
+) -> Joined
+    requires { All (λ set. IsSet table.now set.items) sets.items }
+    ensures sets { All (λ set. IsSet table.now set.items) result.sets.items }
+    // No set is lost, where there is no fault.
+    ensures all { IfNone result.fault (vec_len result.sets ≡ vec_len sets) }
+{
+    let (sender, jobs) = ends;
+    thread::scope(
+        thread::scope_env(),
+        rt,
+        move |scope| -> Joined
+            requires sync { IsSync R.row × IsSync G.row }
+            requires sets { All (λ set. IsSet table.now set.items) sets.items }
+            ensures sets { All (λ set. IsSet table.entry.now set.items) result.sets.items }
+            ensures all { IfNone result.fault (vec_len result.sets ≡ vec_len sets) }
+        {
+            let mut threads = Vec::new(alloc);
+            let mut fault = None;
+            for seats in sets {
+                let lent = Snapshot::of(&seats);
+                let promise = GivesBack { table, lent };
+                let work = move || -> Vec<RoomSeat, Global>
+                    requires { AreAt table.now seats.items }
+                    ensures at { AreAt table.entry.now result.items }
+                    ensures same { map mark result.items ≡ map mark seats.items }
+                { worker(rt, alloc, gate, table, seats, jobs, load.turns) };
+                // Room is made before the thread starts, so that each that is started is waited for.
+                if threads.reserve(1).is_err() {
+                    fault = Some(PoolFault::Memory);
+                    break;
+                }
+                match scope.spawn_with(promise, work) {
+                    Ok(thread) => threads.push_reserved(thread),
+                    Err(_) => {
+                        fault = Some(PoolFault::Worker);
+                        break;
+                    }
+                }
+            }
+            if fault.is_none() {
+                accept_all(rt, listener, &sender, load.sessions);
+            }
+            for _ in 0..threads.len() {
+                let _ = sender.send(rt, Job::Stop);
+            }
+            drop(sender);
+            join_all(rt, alloc, table, threads, fault)
+        },
+    )
+}
+
+// Waits for workers, and gives back the seats of each.
+fn join_all<R: Threads>(
+    rt: &R,
+    alloc: Global,
+    table: &RoomTable,
+    threads: Vec<WorkerThread<'_>, Global>,
+    fault: Option<PoolFault>,
+) -> Joined
+    requires { All (λ thread. (thread.promise.table.now ≡ table.now) × All (λ seat. seat.met ≡ []) thread.promise.lent.value.items) threads.items }
+    ensures sets { All (λ set. IsSet table.now set.items) result.sets.items }
+    ensures all { IfNone result.fault ((fault ≡ None) × (vec_len result.sets ≡ vec_len threads.entry)) }
+{
+    let mut sets = Vec::new(alloc);
+    let mut fault = fault;
+    for thread in threads {
+        if sets.push(thread.join(rt)).is_err() {
+            fault = Some(PoolFault::Memory);
+        }
+    }
+    Joined { sets, fault }
+}

@@ -1,0 +1,9 @@
+use Rattle.std.specs.Prelude.{◌≡◌, ◌≤◌, ◌-◌, length}
+use Rattle.room_socket.proofs.patient.PatientRead.read.Given as goal
+
+-- what was gathered lies in the buffer
+abbrev pub invariant-loop-count : goal.invariant-loop-count
+invariant-loop-count g l = (length l.buffer ≡ length l.fn.buffer) × (l.count ≤ length l.buffer)
+
+abbrev pub decreases-loop-count : goal.decreases-loop-count
+decreases-loop-count g l = length l.buffer - l.count

@@ -1,0 +1,35 @@
+-- What a session that is served over a stream makes of the rooms, event by event. (The rules of a session are this project's.)
+use Rattle.std.specs.Prelude.{◌≡◌, ◌≤◌, ℕ, List, [], ◌∷◌, Result, length}
+use Rattle.room_wire.specs.declared.bad.Bad.{Bad}
+use Rattle.room_wire.specs.declared.incoming.Incoming.{Incoming}
+use Rattle.room_wire.specs.Reading.{GivesMessage}
+use Rattle.room_wire.specs.Spelling.{spells}
+use Rattle.room_session.specs.declared.sent.Sent.{Sent}
+use Rattle.room_session.specs.declared.session.State.{State}
+use Rattle.room_session.specs.declared.session.State.TheVariants.{BeforeHello, Closed}
+use Rattle.room_session.specs.Events.{HearsText, Makes, WaitsOn}
+use Rattle.room_session.specs.Rooms.{Known, MakesNone}
+
+-- what comes to a session: a text, nothing for a while, or what it ends with
+pub data Event : Type 0 where
+  Text : List ℕ → Event
+  Quiet : Event
+  Last : Event
+
+-- what the event makes of the session and of the rooms: what the session's core makes of it
+abbrev pub Happens : Event → State → Known → State → Known → Type 0
+Happens (Text text) state before state' after =
+    ((sent : Sent) × HearsText before sent state' after state text)
+    × ((said : Result Incoming Bad) × GivesMessage said (spells text) × Makes before state said after)
+Happens Quiet state before state' after = ((sent : Sent) × WaitsOn before sent state' after state) × MakesNone before after
+Happens Last state before state' after = (state' ≡ Closed) × (after ≡ before)
+
+-- one event after another
+abbrev pub Follows : List Event → State → Known → State → Known → Type 0
+Follows [] state before state' after = (state' ≡ state) × (after ≡ before)
+Follows (event ∷ later) state before state' after =
+    (next : State) × (between : Known) × Happens event state before next between × Follows later next between state' after
+
+-- a session was served from before its hello on, by so many events at most
+abbrev pub Serves : ℕ → Known → Known → Type 0
+Serves turns before after = (events : List Event) × (length events ≤ turns) × ((state : State) × Follows events BeforeHello before state after)

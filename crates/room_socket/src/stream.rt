@@ -1,0 +1,155 @@
+//! A session over a stream.
+ghost use Rattle.std.specs.Prelude.{◌≡◌, ◌≤◌, ◌∷◌, [], List, length};
+ghost use Rattle.room_session.specs.Rooms.{KeepsKnown};
+ghost use Rattle.room_session.specs.Running.{IsRunOn};
+ghost use Rattle.room_socket.specs.Serving.{Serves, Follows, Event};
+
+use crate::closing::close;
+use crate::end::End;
+use crate::gate::Gate;
+use crate::hearing::{Heard, Socket, hear};
+use crate::passage::Passage;
+use crate::patient::Patient;
+use crate::sending::send;
+use room_session::rooms::Rooms;
+use room_session::sent::Sent;
+use room_session::session::{Ended, Session};
+use std::alloc::Global;
+use std::io::{Read, Write};
+use std::sync::Wait;
+use std::time::Clock;
+use tungstenite::{CloseCode, accept};
+
+/// Shakes hands with a client over a stream (RFC 6455, section 4.2), and runs the session of this number with it to its end.
+///
+/// Each text that comes is handed to the core of a session, and what this says goes out, a reply and its news in one write.
+/// Where nothing comes for as long as the stream's reads wait, the news go out. The session ends where the client closes the
+/// connection, which is answered; where it sends a message that is no text (a close with 1003 goes out); where there is no
+/// memory (1011); where the handshake, the stream or the protocol fails (nothing more goes out); and after `turns` reads of a
+/// message (1000). Before the first write at most `turns` quiet reads are passed over.
+///
+/// The stream's reads have to end: one that waits for ever keeps the session waiting. What no call of the rooms changes is the
+/// same afterwards.
+pub fn serve<S: Read + Write + Drop, R: Rooms, G: Gate, W: Wait + Clock>(
+    rt: &W,
+    alloc: Global,
+    stream: S,
+    rooms: &mut R,
+    gate: &G,
+    session: u64,
+    turns: u64,
+) -> End
+    // The rooms were asked what the core of one session asks for some texts and quiet waits, `turns` at most, and nothing else.
+    ensures serves { Serves turns (R.known rooms.old) (R.known rooms.new) }
+    ensures keeps { KeepsKnown (R.known rooms.old) (R.known rooms.new) }
+    ensures kept { R.kept rooms.new ≡ R.kept rooms.old }
+{
+    match accept(alloc, Patient::new(stream, turns)) {
+        Ok(mut socket) => {
+            let mut passage = Passage::new(gate, session);
+            run(rt, alloc, &mut socket, rooms, &mut passage, turns)
+        }
+        Err(_) => End::Fault,
+    }
+}
+
+// Runs a session over a socket to its end.
+fn run<S: Read + Write + Drop, R: Rooms, G: Gate, W: Wait + Clock>(
+    rt: &W,
+    alloc: Global,
+    socket: &mut Socket<S>,
+    rooms: &mut R,
+    passage: &mut Passage<'_, G>,
+    turns: u64,
+) -> End
+    ensures serves { Serves turns (R.known rooms.old) (R.known rooms.new) }
+    ensures keeps { KeepsKnown (R.known rooms.old) (R.known rooms.new) }
+    ensures kept { R.kept rooms.new ≡ R.kept rooms.old }
+{
+    let mut core = Session::new();
+    for _ in 0..turns {
+        let step = turn(rt, alloc, socket, rooms, passage, &mut core);
+        if let Some(end) = step {
+            return end;
+        }
+    }
+    close(socket, CloseCode::Normal);
+    End::Bound
+}
+
+// One turn: what comes is read, and what goes out for it is sent. An end, where it is the last.
+fn turn<S: Read + Write + Drop, R: Rooms, G: Gate, W: Wait + Clock>(
+    rt: &W,
+    alloc: Global,
+    socket: &mut Socket<S>,
+    rooms: &mut R,
+    passage: &mut Passage<'_, G>,
+    core: &mut Session,
+) -> Option<End>
+    requires { IsRunOn core.old (R.known rooms.old) }
+    ensures follows { (events : List Event) × (length events ≤ 1) × Follows events core.old (R.known rooms.old) core.new (R.known rooms.new) }
+    ensures keeps { KeepsKnown (R.known rooms.old) (R.known rooms.new) }
+    ensures runs { IsRunOn core.new (R.known rooms.new) }
+    ensures kept { R.kept rooms.new ≡ R.kept rooms.old }
+{
+    match hear(socket) {
+        Heard::Text(text) => {
+            passage.pass(rt);
+            let sent = take_text(rt, alloc, core, rooms, text.as_str());
+            let end = send(alloc, socket, sent);
+            passage.answered(rt);
+            end
+        }
+        Heard::Quiet => {
+            let sent = take_quiet(rt, alloc, core, rooms);
+            send(alloc, socket, sent)
+        }
+        Heard::Other => None,
+        Heard::Binary => {
+            let sent = core.on_binary(alloc);
+            send(alloc, socket, sent)
+        }
+        Heard::Close => {
+            let _ = core.on_close(alloc);
+            let _ = socket.flush();
+            Some(End::Left)
+        }
+        Heard::Fault => {
+            let _ = core.on_close(alloc);
+            Some(End::Fault)
+        }
+    }
+}
+
+// Hands a text to the core.
+fn take_text<R: Rooms, W: Wait>(
+    rt: &W,
+    alloc: Global,
+    core: &mut Session,
+    rooms: &mut R,
+    text: &str,
+) -> Result<Sent, Ended>
+    requires { IsRunOn core.old (R.known rooms.old) }
+    ensures follows { (event : Event) × Follows (event ∷ []) core.old (R.known rooms.old) core.new (R.known rooms.new) }
+    ensures keeps { KeepsKnown (R.known rooms.old) (R.known rooms.new) }
+    ensures runs { IsRunOn core.new (R.known rooms.new) }
+    ensures kept { R.kept rooms.new ≡ R.kept rooms.old }
+{
+    core.on_text(alloc, rt, rooms, text)
+}
+
+// Tells the core that nothing came for a while.
+fn take_quiet<R: Rooms, W: Wait>(
+    rt: &W,
+    alloc: Global,
+    core: &mut Session,
+    rooms: &mut R,
+) -> Result<Sent, Ended>
+    requires { IsRunOn core.old (R.known rooms.old) }
+    ensures follows { (event : Event) × Follows (event ∷ []) core.old (R.known rooms.old) core.new (R.known rooms.new) }
+    ensures keeps { KeepsKnown (R.known rooms.old) (R.known rooms.new) }
+    ensures runs { IsRunOn core.new (R.known rooms.new) }
+    ensures kept { R.kept rooms.new ≡ R.kept rooms.old }
+{
+    core.on_quiet(alloc, rt, rooms)
+}
