@@ -3,14 +3,18 @@
 //! `part_lines edits` plans and applies edits, `part_lines mirrors` keeps a mirror, and `part_lines sessions [LIMIT]` runs sessions with
 //! a room whose journal takes so many entries, or 1,000: each as the lines of standard input say, which the modules tell. `part_lines
 //! rooms [TURNS]` shows what rooms answer that are run or shared by turns; with a number it then measures how fast so many turns are
-//! taken.
+//! taken. `part_lines serve ADDR WORKERS SESSIONS TURNS [held]` is a server of one room, by so many workers and for so many
+//! sessions, each of which reads so many messages at most.
 #![tactic(auto)]
 
 mod edits;
 mod mirrors;
 mod rooms;
+mod serving;
 mod sessions;
 
+use crate::serving::Serving;
+use room_server::Load;
 use std::alloc::Global;
 use std::rt::{Clock, Env};
 use std::sync::Wait;
@@ -22,7 +26,9 @@ const LIMIT: u32 = 1_000;
 
 fn main(rt: HostRuntime) -> io::Result<()> {
     let Some(asked) = what_is_asked(&rt) else {
-        rt.eprintln("usage: part_lines edits | mirrors | sessions [LIMIT] | rooms [TURNS]")?;
+        rt.eprintln(
+            "usage: part_lines edits | mirrors | sessions [LIMIT] | rooms [TURNS] | serve ADDR WORKERS SESSIONS TURNS [held]",
+        )?;
         return Err(io::ErrorKind::InvalidInput.into());
     };
     let alloc = rt.alloc();
@@ -31,21 +37,37 @@ fn main(rt: HostRuntime) -> io::Result<()> {
         Asked::Mirrors => mirrors::run(&rt, alloc, rt.lines(alloc)),
         Asked::Sessions(limit) => sessions::run(&rt, alloc, rt.lines(alloc), limit),
         Asked::Rooms(turns) => show_rooms(&rt, alloc, turns),
+        Asked::Serve(asked) => serving::run(&rt, alloc, &asked),
     }
 }
 
 // What the command line asks for.
-#[derive(Clone, Copy)]
+#[derive(Drop)]
 enum Asked {
     Edits,
     Mirrors,
     Sessions(u32),
     Rooms(Option<u32>),
+    Serve(Serving),
 }
 
-fn what_is_asked<R: Env + Alloc>(rt: &R) -> Option<Asked> {
+fn what_is_asked<R: Env + AllocGlobal>(rt: &R) -> Option<Asked> {
     let mut words = env::args(rt).ok()?;
     let part = words.nth(1)?;
+    if part.as_str() == "serve" {
+        let addr = words.next()?;
+        let load = Load {
+            workers: words.next()?.parse().ok()?,
+            sessions: words.next()?.parse().ok()?,
+            turns: words.next()?.parse().ok()?,
+        };
+        let is_held = words.next().is_some();
+        return Some(Asked::Serve(Serving {
+            addr,
+            load,
+            is_held,
+        }));
+    }
     let number = match words.next() {
         Some(word) => Some(word.parse::<u32>().ok()?),
         None => None,

@@ -6,16 +6,14 @@
 //! connection is closed, and that the session is closed where it was before.
 
 ghost use Rattle.room_session.specs.Running.{IsRunOn};
-ghost use Rattle.part_lines.specs.NamedRooms.{known_of};
+ghost use Rattle.room_server.specs.Tables.{known_of};
 
 mod client;
 mod line;
-mod named_room;
 
 use crate::sessions::client::hear_line;
-use crate::sessions::named_room::NamedRoom;
+use room_server::{RoomTable, Seated};
 use room_session::session::Session;
-use room_stacks::author::Author;
 use std::alloc::Global;
 use std::io::{self, Lines, StdinLock};
 use std::sync::Wait;
@@ -27,10 +25,10 @@ pub fn run<R: Print + Wait>(
     lines: Lines<StdinLock<'_>, Global>,
     limit: u32,
 ) -> io::Result<()> {
-    let Some(paris) = Author::read("paris") else {
-        return Err(io::ErrorKind::InvalidInput.into());
+    let Ok((table, seats)) = RoomTable::open(alloc, &["paris"], limit) else {
+        return Err(io::ErrorKind::OutOfMemory.into());
     };
-    let mut rooms = NamedRoom::open(alloc, paris, limit)?;
+    let mut rooms = Seated::new(&table, seats);
     let mut anna = Session::new();
     let mut bob = Session::new();
     hear_lines(rt, alloc, &mut anna, &mut bob, &mut rooms, lines)
@@ -42,7 +40,7 @@ fn hear_lines<R: Print + Wait>(
     alloc: Global,
     anna: &mut Session,
     bob: &mut Session,
-    rooms: &mut NamedRoom,
+    rooms: &mut Seated<'_>,
     lines: Lines<StdinLock<'_>, Global>,
 ) -> io::Result<()>
     requires anna { IsRunOn anna.old (known_of rooms.old) }

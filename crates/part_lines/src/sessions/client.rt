@@ -1,10 +1,10 @@
 //! What comes from a client, and what goes out to it.
 ghost use Rattle.room_session.specs.Rooms.{KeepsKnown};
 ghost use Rattle.room_session.specs.Running.{IsRunOn};
-ghost use Rattle.part_lines.specs.NamedRooms.{known_of};
+ghost use Rattle.room_server.specs.Tables.{known_of};
 
 use crate::sessions::line::{Client, Event, read};
-use crate::sessions::named_room::NamedRoom;
+use room_server::Seated;
 use room_session::sent::Sent;
 use room_session::session::{Ended, Session};
 use std::alloc::Global;
@@ -18,7 +18,7 @@ pub fn hear_line<R: Print + Wait>(
     alloc: Global,
     anna: &mut Session,
     bob: &mut Session,
-    rooms: &mut NamedRoom,
+    rooms: &mut Seated<'_>,
     line: &str,
 ) -> io::Result<()>
     requires anna { IsRunOn anna.old (known_of rooms.old) }
@@ -38,7 +38,7 @@ fn hear<R: Print + Wait>(
     rt: &R,
     alloc: Global,
     session: &mut Session,
-    rooms: &mut NamedRoom,
+    rooms: &mut Seated<'_>,
     event: Event<'_>,
 ) -> io::Result<()>
     requires { IsRunOn session.old (known_of rooms.old) }
