@@ -20,18 +20,24 @@ def script(name):
 
 
 def read(path, begins):
-    """The words of the command line, the lines that go in, which begin with one of these, and what comes out for each."""
-    words, lines, blocks = [], [], []
+    """What a file tells: the words of the command line, the lines that go in, which begin with one of these, and what comes
+    out for each."""
     with open(path, encoding="utf-8") as file:
-        # (no splitlines: a line may hold characters at which it would cut)
-        for line in filter(lambda line: not line.startswith("#"), file.read().split("\n")[:-1]):
-            if line.startswith("limit "):
-                words = line.split()[1:]
-            elif line.startswith(begins):
-                lines.append(line)
-                blocks.append([])
-            else:
-                blocks[-1].append(line)
+        return taken_apart(file.read(), begins)
+
+
+def taken_apart(text, begins):
+    """The same of a text."""
+    words, lines, blocks = [], [], []
+    # (no splitlines: a line may hold characters at which it would cut)
+    for line in filter(lambda line: not line.startswith("#"), text.split("\n")[:-1]):
+        if line.startswith("limit "):
+            words = line.split()[1:]
+        elif line.startswith(begins):
+            lines.append(line)
+            blocks.append([])
+        else:
+            blocks[-1].append(line)
     return words, lines, blocks
 
 

@@ -1,12 +1,14 @@
+pub mod AskedLemmas
 pub mod BlockLemmas
 pub mod CallLemmas
-pub mod LimitLemmas
 pub mod LineAnswerLemmas
 pub mod LineLemmas
 pub mod NoteLemmas
+pub mod OptionLemmas
 pub mod ProgressLemmas
 pub mod RunLemmas
 pub mod ScriptRooms
+pub mod ServingLemmas
 pub mod SpelledMade
 pub mod StreamLemmas
 pub mod TreesInOrder

@@ -1,7 +1,7 @@
 -- The worked examples of words, by evaluation.
 use Rattle.std.proofs.Common.{refl}
 use Rattle.clap.proofs.OnLiterals.{clap_on_literals}
-use Rattle.room_program.specs.WordExamples.{taken, bad_limit, bad_word, help_asked, version_asked}
+use Rattle.room_program.specs.WordExamples.{taken, bad_limit, serve_taken, bad_serve, bad_word, help_asked, version_asked}
 
 pub taken_lem : taken
 unfolding taken clap_on_literals
@@ -16,6 +16,18 @@ taken_lem = (
 pub bad_limit_lem : bad_limit
 unfolding bad_limit clap_on_literals
 bad_limit_lem = (refl, refl, refl, refl, refl)
+
+pub serve_taken_lem : serve_taken
+unfolding serve_taken clap_on_literals
+serve_taken_lem = (
+  (refl, refl, refl, refl, refl, refl, refl),
+  (refl, refl, refl, refl, refl, refl, refl),
+  (refl, refl, refl, refl, refl, refl, refl),
+)
+
+pub bad_serve_lem : bad_serve
+unfolding bad_serve clap_on_literals
+bad_serve_lem = (refl, refl, refl, refl, refl, refl)
 
 pub bad_word_lem : bad_word
 unfolding bad_word clap_on_literals

@@ -1,6 +1,9 @@
 -- What the program's words ask for, and what a run that they ask for did to its streams. (This project's.)
-use Rattle.std.specs.Prelude.{◌≡◌, ◌≤◌, ◌⊎◌, ◌^◌, ℕ, true, false, List, [], Some, codes}
+use Rattle.std.specs.Prelude.{◌≡◌, ◌≤◌, ◌⊎◌, ◌^◌, ℕ, true, false, List, [], Some, codes, map}
 use Rattle.clap.specs.Words.{Text}
+use Rattle.room_program.specs.declared.asked.Asked.{Asked}
+use Rattle.room_program.specs.declared.asked.Asked.TheVariants as asked
+use Rattle.room_program.specs.declared.asked.ServeWords.{ServeWords}
 use Rattle.room_program.specs.declared.fault.ProgramFault.TheVariants.{Replay}
 use Rattle.room_program.specs.declared.fault.ReplayFault.{ReplayFault}
 use Rattle.room_program.specs.declared.fault.ReplayFault.TheVariants.{Read, Write, Memory}
@@ -9,13 +12,28 @@ use Rattle.room_program.specs.declared.source.Source as sources
 use Rattle.room_program.specs.Faults.{Takes, fault_line}
 use Rattle.room_program.specs.LineAnswers.{script}
 use Rattle.room_program.specs.Streams.{Gets, GetsAtMost, TookNone, WritesAll, WritesEnded, WritesFront}
-use Rattle.room_program.specs.Words.{IsTaken, limit_asked, subcommand_asked}
+use Rattle.room_program.specs.Words.{IsTaken, addr_asked, limit_asked, rooms_asked, sessions_asked, subcommand_asked, workers_asked}
 
 -- the words are taken, and ask for a replay with this limit
 pub record AsksForReplay (words : List Text) (limit : ℕ) : Type 0 where
   pub taken : IsTaken words
   pub subcommand : subcommand_asked words ≡ Some (codes "replay")
   pub limit_is : limit ≡ limit_asked words
+
+-- the words are taken, and ask to serve so
+pub record AsksForServe (words : List Text) (serve : ServeWords) : Type 0 where
+  pub taken : IsTaken words
+  pub subcommand : subcommand_asked words ≡ Some (codes "serve")
+  pub addr_is : serve.addr.now ≡ addr_asked words
+  pub workers_are : serve.workers ≡ workers_asked words
+  pub sessions_are : serve.sessions ≡ sessions_asked words
+  pub limit_is : serve.limit ≡ limit_asked words
+  pub rooms_are : map (λ room. room.now) serve.rooms.items ≡ rooms_asked words
+
+-- the words are taken, and ask for this
+abbrev pub IsAsked : List Text → Asked → Type 0
+IsAsked words (asked.Replay limit) = AsksForReplay words limit
+IsAsked words (asked.Serve serve) = AsksForServe words serve
 
 -- what is known of an input and of an output
 module _ {S W : Type 0} (source : sources.Ghosts S) (sink : sinks.Ghosts W) where

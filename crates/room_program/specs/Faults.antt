@@ -2,10 +2,14 @@
 use Rattle.std.specs.Prelude.{◌≡◌, ◌⊎◌, ℕ, true, List, [], ◌++◌, codes}
 use Rattle.std.specs.Io.KnownBytes.{Appends}
 use Rattle.room_program.specs.declared.fault.ProgramFault.{ProgramFault}
-use Rattle.room_program.specs.declared.fault.ProgramFault.TheVariants.{Replay, Memory}
+use Rattle.room_program.specs.declared.fault.ProgramFault.TheVariants.{Replay, Memory, Listen, Worker, TooManyRooms, BadName, Twice}
 use Rattle.room_program.specs.declared.fault.ReplayFault.TheVariants as faults
 use Rattle.room_program.specs.declared.sink.Sink.{Ghosts}
 use Rattle.room_program.specs.Streams.{TookNone}
+use Rattle.room_server.specs.declared.pool.PoolFault.{PoolFault}
+use Rattle.room_server.specs.declared.pool.PoolFault.TheVariants as pools
+use Rattle.room_server.specs.declared.table.TableFault.{TableFault}
+use Rattle.room_server.specs.declared.table.TableFault.TheVariants as tables
 
 -- the line that tells a fault
 abbrev pub fault_line : ProgramFault → List ℕ
@@ -13,6 +17,28 @@ fault_line (Replay faults.Read) = codes "maproom: read failed\n"
 fault_line (Replay faults.Write) = codes "maproom: write failed\n"
 fault_line (Replay faults.Memory) = codes "maproom: no memory\n"
 fault_line Memory = codes "maproom: no memory\n"
+fault_line Listen = codes "maproom: cannot listen\n"
+fault_line Worker = codes "maproom: cannot start a worker\n"
+fault_line TooManyRooms = codes "maproom: too many rooms\n"
+fault_line BadName = codes "maproom: bad room name\n"
+fault_line Twice = codes "maproom: room twice\n"
+
+-- the status that it ends the program with, which is 2 where the words are to blame
+abbrev pub fault_status : ProgramFault → ℕ
+fault_status TooManyRooms = 2
+fault_status BadName = 2
+fault_status Twice = 2
+fault_status _ = 1
+
+-- what a fault of the table of rooms, and one of the pool of workers, is to the program
+abbrev pub table_fault : TableFault → ProgramFault
+table_fault (tables.BadName position) = BadName
+table_fault (tables.Twice position) = Twice
+table_fault tables.Memory = Memory
+
+abbrev pub pool_fault : PoolFault → ProgramFault
+pool_fault pools.Worker = Worker
+pool_fault pools.Memory = Memory
 
 -- a writer took a text, or a front of it and then failed or took no more
 module _ {W : Type 0} (sink : Ghosts W) where

@@ -6,6 +6,8 @@ pub mod Scripts
 pub mod Runs
 pub mod Streams
 pub mod Faults
+pub mod Fronts
+pub mod Servings
 pub mod LineAnswers
 pub mod LineReplies
 pub mod Words

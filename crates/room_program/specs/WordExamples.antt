@@ -1,15 +1,22 @@
 -- What the worked examples of words say of the definitions.
-use Rattle.std.specs.Prelude.{◌≡◌, ℕ, List, [], ◌∷◌, codes}
+use Rattle.std.specs.Prelude.{◌≡◌, ℕ, List, [], ◌∷◌, Some, codes}
 use Rattle.clap.specs.Words.{Kinds, Text}
 use Rattle.clap.specs.declared.error.kind.ErrorKind.TheVariants.{ArgumentConflict, DisplayHelp, DisplayVersion}
 use Rattle.clap.specs.declared.error.kind.ErrorKind.TheVariants.{InvalidSubcommand, InvalidValue}
-use Rattle.clap.specs.declared.error.kind.ErrorKind.TheVariants.{MissingSubcommand, UnknownArgument, ValueValidation}
+use Rattle.clap.specs.declared.error.kind.ErrorKind.TheVariants.{MissingRequiredArgument, MissingSubcommand, UnknownArgument, ValueValidation}
 use Rattle.room_program.specs.Commands.{AsksForReplay}
-use Rattle.room_program.specs.Words.{faults}
+use Rattle.room_program.specs.Words.{IsTaken, addr_asked, faults, limit_asked, rooms_asked, sessions_asked, subcommand_asked, workers_asked}
 
 -- the words after the name of the program are taken, and ask for a replay with the limit
 abbrev pub AsksFor : ℕ → List Text → Type 0
 AsksFor limit words = AsksForReplay (codes "maproom" ∷ words) limit
+
+-- the words after `serve` are taken, and ask for this address, so many workers, sessions and entries, and these rooms
+abbrev pub AsksToServe : Text → ℕ → ℕ → ℕ → List Text → List Text → Type 0
+AsksToServe addr workers sessions limit rooms words =
+    let all = codes "maproom" ∷ codes "serve" ∷ words in
+    IsTaken all × (subcommand_asked all ≡ Some (codes "serve")) × (addr_asked all ≡ addr) × (workers_asked all ≡ workers)
+    × (sessions_asked all ≡ sessions) × (limit_asked all ≡ limit) × (rooms_asked all ≡ rooms)
 
 -- the words after the name of the program are answered by an error of one of these kinds
 abbrev pub FailsBy : Kinds → List Text → Type 0
@@ -32,6 +39,26 @@ bad_limit =
     × FailsBy (ValueValidation ∷ []) (codes "replay" ∷ codes "--limit=many" ∷ [])
     × FailsBy (InvalidValue ∷ []) (codes "replay" ∷ codes "--limit" ∷ [])
     × FailsBy (ArgumentConflict ∷ []) (codes "replay" ∷ codes "--limit=1" ∷ codes "--limit=1" ∷ [])
+
+-- rooms to serve, with and without a limit, and the options before, between and after the rooms
+unfoldable pub serve_taken : Type 0
+serve_taken =
+    AsksToServe (codes "127.0.0.1:9001") 8 1000 1000000 (codes "paris" ∷ codes "rome" ∷ [])
+    (codes "--addr" ∷ codes "127.0.0.1:9001" ∷ codes "--workers" ∷ codes "8" ∷ codes "--sessions" ∷ codes "1000" ∷ codes "paris" ∷ codes "rome" ∷ [])
+    × AsksToServe (codes "[::1]:80") 64 1000000 0 (codes "a" ∷ [])
+    (codes "a" ∷ codes "--limit=0" ∷ codes "--addr=[::1]:80" ∷ codes "--workers=64" ∷ codes "--sessions=1000000" ∷ [])
+    × AsksToServe [] 1 1 5 (codes "b" ∷ codes "--c" ∷ [])
+    (codes "--addr=" ∷ codes "--limit" ∷ codes "5" ∷ codes "--sessions" ∷ codes "1" ∷ codes "--workers" ∷ codes "+01" ∷ codes "--" ∷ codes "b" ∷ codes "--c" ∷ [])
+
+-- no room, an option that is missing, and numbers that are out of their ranges
+unfoldable pub bad_serve : Type 0
+bad_serve =
+    FailsBy (MissingRequiredArgument ∷ []) (codes "serve" ∷ codes "--addr=x" ∷ codes "--workers=1" ∷ codes "--sessions=1" ∷ [])
+    × FailsBy (MissingRequiredArgument ∷ []) (codes "serve" ∷ codes "--workers=1" ∷ codes "--sessions=1" ∷ codes "a" ∷ [])
+    × FailsBy (ValueValidation ∷ []) (codes "serve" ∷ codes "--addr=x" ∷ codes "--workers=0" ∷ codes "--sessions=1" ∷ codes "a" ∷ [])
+    × FailsBy (ValueValidation ∷ []) (codes "serve" ∷ codes "--addr=x" ∷ codes "--workers=65" ∷ codes "--sessions=1" ∷ codes "a" ∷ [])
+    × FailsBy (ValueValidation ∷ []) (codes "serve" ∷ codes "--addr=x" ∷ codes "--workers=1" ∷ codes "--sessions=1000001" ∷ codes "a" ∷ [])
+    × FailsBy (ValueValidation ∷ []) (codes "serve" ∷ codes "--limit=1000001" ∷ codes "a" ∷ [])
 
 -- no subcommand, another one, and a word too many
 unfoldable pub bad_word : Type 0

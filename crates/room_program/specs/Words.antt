@@ -1,32 +1,64 @@
 -- What the program's words can be, and what they ask for.
-use Rattle.std.specs.Prelude.{◌≡◌, ℕ, Bool, true, false, List, [], ◌∷◌, Option, Some, None, pos, codes}
-use Rattle.std.specs.Prelude.{option_and_then, if◌then◌else◌}
+use Rattle.std.specs.Prelude.{◌≡◌, ◌<◌, ◌^◌, ℕ, Bool, true, false, List, [], ◌∷◌, Option, Some, IfSome, pos, codes}
+use Rattle.std.specs.Prelude.{option_map, unwrap_or}
 use Rattle.std.specs.List.{list_any}
-use Rattle.std.specs.Option.{option_map, option_map_or}
-use Rattle.std.specs.Str.{bytes_eq}
-use Rattle.std.specs.Str.Parse.{digits_value, without_leading_plus}
-use Rattle.clap.specs.Words.{App, Kinds, Row, Rule, Text, fault_of, new_app, new_rule, one_of}
+use Rattle.std.specs.Option.{option_map_or}
+use Rattle.std.specs.Str.Parse.{IsNumeral, digits_value, without_leading_plus}
+use Rattle.clap.specs.Lexer.{usize_max}
+use Rattle.clap.specs.Words.{App, Kinds, Row, Rule, Text, all_of, fault_of, first_of, new_app, new_rule, one_of}
 use Rattle.clap.specs.Words.{subcommand_of, with_rule, with_subcommand}
+use Rattle.clap.specs.declared.builder.action.ArgAction.TheVariants.{Append}
 use Rattle.clap.specs.declared.builder.value_parser.ValueParser.TheVariants.{Signed}
 use Rattle.clap.specs.declared.error.kind.ErrorKind.{ErrorKind}
 use Rattle.clap.specs.declared.error.kind.ErrorKind.TheVariants.{DisplayHelp, DisplayVersion, OutOfMemory}
 
--- the option `--limit`, whose value is a number from 0 to 1000000, and 1000000 where the option is left out
+-- an option `--NAME` with one value
+abbrev pub value_option : Text → Rule
+value_option name = record (new_rule name) { long = Some name; value_names = 1 }
+
+-- an option `--NAME` whose value is a whole number from one to the other
+abbrev pub number_option : Text → ℕ → ℕ → Rule
+number_option name least most = record (value_option name) { parser = Some (Signed (pos least) (pos most)) }
+
+-- an option that may not be left out
+abbrev pub needed : Rule → Rule
+needed rule = record rule { required = true }
+
+-- `--limit`, a number from 0 to 1000000, and 1000000 where the option is left out
 abbrev pub limit_option : Rule
-limit_option = record (new_rule (codes "limit")) {
-  long = Some (codes "limit");
+limit_option = record (number_option (codes "limit") 0 1000000) { defaults = codes "1000000" ∷ [] }
+
+-- `--addr`, any text; `--workers`, a number from 1 to 64; and `--sessions`, one from 1 to 1000000
+abbrev pub addr_option : Rule
+addr_option = needed (value_option (codes "addr"))
+
+abbrev pub workers_option : Rule
+workers_option = needed (number_option (codes "workers") 1 64)
+
+abbrev pub sessions_option : Rule
+sessions_option = needed (number_option (codes "sessions") 1 1000000)
+
+-- the words that are no options: the names of rooms, of which there is one at least
+abbrev pub room_words : Rule
+room_words = record (new_rule (codes "rooms")) {
+  action = Some Append;
+  range = Some (record { start_inclusive = 1; end_inclusive = usize_max });
   value_names = 1;
-  parser = Some (Signed (pos 0) (pos 1000000));
-  defaults = codes "1000000" ∷ [];
+  required = true;
 }
 
--- the subcommand `replay`, with that option
+-- the subcommand `replay`, with its option
 abbrev pub replay_app : App
 replay_app = with_rule (new_app (codes "replay")) limit_option
 
--- the program, which wants its subcommand, and can tell its version
+-- the subcommand `serve`, with its options and the rooms
+abbrev pub serve_app : App
+serve_app = with_rule (with_rule (with_rule (with_rule (with_rule (new_app (codes "serve"))
+    addr_option) workers_option) sessions_option) limit_option) room_words
+
+-- the program, which wants one of its subcommands, and can tell its version
 abbrev pub program_app : App
-program_app = let app = with_subcommand (new_app (codes "maproom")) replay_app.top in
+program_app = let app = with_subcommand (with_subcommand (new_app (codes "maproom")) replay_app.top) serve_app.top in
     record app { top = record app.top { subcommand_required = true; has_version = true } }
 
 -- the kinds of error that the words can be answered by, and none where they are taken
@@ -55,23 +87,50 @@ asks_for_help words = list_any is_request (faults words)
 abbrev pub has_mistake : List Text → Bool
 has_mistake words = list_any is_mistake (faults words)
 
--- the values of the options of `replay`, where that is the subcommand
-abbrev pub replay_rows : Text × List Row → Option (List Row)
-replay_rows met = if bytes_eq met.0 (codes "replay") then Some met.1 else None
-
 -- the subcommand that the words name
 abbrev pub subcommand_asked : List Text → Option Text
 subcommand_asked words = option_map (λ met. met.0) (subcommand_of program_app words)
 
--- the text of the limit, written or by default
-abbrev pub limit_text : List Text → Option Text
-limit_text words = option_and_then (one_of (codes "limit"))
-    (option_and_then replay_rows (subcommand_of program_app words))
+-- what was found for the options of that subcommand, and nothing where there is none
+abbrev pub rows_asked : List Text → List Row
+rows_asked words = unwrap_or (option_map (λ met. met.1) (subcommand_of program_app words)) []
 
 -- the number that the digits of a text write
 abbrev pub number_of : Text → ℕ
 number_of text = digits_value 10 (without_leading_plus text)
 
--- the limit that the words ask for (taken words give it a text)
+-- the number that was found for an option, written or by default, and 0 where none was
+abbrev pub number_in : Text → List Row → ℕ
+number_in option rows = option_map_or number_of (one_of option rows) 0
+
+-- what was found for it, if anything was, is a number of 32 bits
+abbrev pub HasNumber : Text → List Row → Type 0
+HasNumber option rows = IfSome (one_of option rows) (λ text. IsNumeral 10 (without_leading_plus text) × (number_of text < 2 ^ 32))
+
+-- the address that was found, as it is written, and the empty text where none was
+abbrev pub addr_in : List Row → Text
+addr_in rows = unwrap_or (first_of (codes "addr") rows) []
+
+-- the rooms that were found, as they are written and in their order
+abbrev pub rooms_in : List Row → List Text
+rooms_in rows = unwrap_or (all_of (codes "rooms") rows) []
+
+-- the limit that the words ask for, of whichever subcommand (taken words give it a text)
+abbrev pub limit_text : List Text → Option Text
+limit_text words = one_of (codes "limit") (rows_asked words)
+
 abbrev pub limit_asked : List Text → ℕ
-limit_asked words = option_map_or number_of (limit_text words) 1000000
+limit_asked words = number_in (codes "limit") (rows_asked words)
+
+-- what the words of `serve` ask for
+abbrev pub workers_asked : List Text → ℕ
+workers_asked words = number_in (codes "workers") (rows_asked words)
+
+abbrev pub sessions_asked : List Text → ℕ
+sessions_asked words = number_in (codes "sessions") (rows_asked words)
+
+abbrev pub addr_asked : List Text → Text
+addr_asked words = addr_in (rows_asked words)
+
+abbrev pub rooms_asked : List Text → List Text
+rooms_asked words = rooms_in (rows_asked words)

@@ -1,5 +1,5 @@
 //! Laws of the definitions, each the contract of a function that does nothing.
-ghost use Rattle.std.specs.Prelude.{◌≡◌, ◌≤◌, ◌<◌, ◌+◌, ◌^◌, ℕ, List, IfOk, Ok, Some, is_some, true};
+ghost use Rattle.std.specs.Prelude.{◌≡◌, ◌≤◌, ◌<◌, ◌+◌, ◌^◌, ℕ, List, IfOk, Ok, Some, codes, is_some, true};
 ghost use Rattle.std.specs.declared.alloc.Global.{Global};
 ghost use Rattle.osm_changes.specs.Sound.{is_sound};
 ghost use Rattle.osm_elements.specs.Maps.{Rows};
@@ -12,8 +12,10 @@ ghost use Rattle.room_program.specs.Scripts.{Loss, room_after};
 ghost use Rattle.room_program.specs.declared.io.Io.{Io};
 ghost use Rattle.room_program.specs.Io.{calls_of};
 ghost use Rattle.room_program.specs.Streams.{Gets, TookNone};
-ghost use Rattle.room_program.specs.Words.{IsTaken, limit_asked, limit_text};
-ghost use Rattle.room_program.specs.WordExamples.{taken, bad_limit, bad_word, help_asked, version_asked};
+ghost use Rattle.room_program.specs.Words.{IsTaken, limit_asked, limit_text, subcommand_asked};
+ghost use Rattle.room_program.specs.Words.{sessions_asked, workers_asked};
+ghost use Rattle.room_program.specs.WordExamples.{taken, bad_limit, serve_taken, bad_serve, bad_word};
+ghost use Rattle.room_program.specs.WordExamples.{help_asked, version_asked};
 
 use crate::io::Io;
 use crate::sink::Sink;
@@ -25,15 +27,22 @@ use std::io::{Read, Write};
 pub fn words_are_as_worked()
     ensures taken { taken }
     ensures bad_limit { bad_limit }
+    ensures serve_taken { serve_taken }
+    ensures bad_serve { bad_serve }
     ensures bad_word { bad_word }
     ensures help_asked { help_asked }
     ensures version_asked { version_asked }
 {}
 
-/// Taken words give a limit, as it was written or by default, which is a million at most.
+/// Taken words give a limit, as it was written or by default, which is a million at most. Those that ask to serve
+/// give a number of workers from 1 to 64, and a number of sessions from 1 to a million.
 pub fn limits_are_in_range()
     ensures told { (words : List (List ℕ)) → IsTaken words → is_some (limit_text words) ≡ true }
     ensures small { (words : List (List ℕ)) → IsTaken words → limit_asked words ≤ 1000000 }
+    ensures workers { (words : List (List ℕ)) → IsTaken words → subcommand_asked words ≡ Some (codes "serve")
+        → (1 ≤ workers_asked words) × (workers_asked words ≤ 64) }
+    ensures sessions { (words : List (List ℕ)) → IsTaken words → subcommand_asked words ≡ Some (codes "serve")
+        → (1 ≤ sessions_asked words) × (sessions_asked words ≤ 1000000) }
 {}
 
 /// What the relations of streams say of the system's: that so many reads were made says that the stream below answered

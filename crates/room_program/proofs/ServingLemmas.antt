@@ -1,0 +1,126 @@
+-- What serving rooms comes to: the texts that were taken one after another, and the rooms' fronts.
+use Rattle.std.proofs.Common.{◌≡◌, ◌∙◌, ◌⊎◌, ◌≤◌, ◌<◌, refl, sym, ap, subst, inl, inr, arith, ℕ, zero, suc, true, List, [], ◌∷◌, ◌++◌, Some, length, append_assoc}
+use Rattle.std.specs.Prelude.{All, IfErr, IsErrAnd, Result, slice_get}
+use Rattle.std.proofs.lemmas.Result.{err_from_is_err_and}
+use Rattle.std.specs.List.{slice_index_or}
+use Rattle.std.specs.declared.alloc.Global.{Global}
+use Rattle.std.proofs.lemmas.List.{length-map}
+use Rattle.room_history.specs.declared.entry.Entry.{Entry}
+use Rattle.room_history.specs.declared.turned.Opening.{Opening}
+use Rattle.room_history.specs.LegalJournals.{IsJournal}
+use Rattle.room_history.specs.Turns.{IsTurn}
+use Rattle.room_program.specs.declared.fault.ProgramFault.{ProgramFault}
+use Rattle.room_program.specs.declared.fault.ProgramFault.TheVariants.{Replay, Memory, Listen, Worker, TooManyRooms, BadName, Twice}
+use Rattle.room_program.specs.declared.sink.Sink as sinks
+use Rattle.room_program.specs.Faults.{Takes, pool_fault, table_fault}
+use Rattle.room_program.specs.Servings.{CanBeServed, IsFrontOf, IsUnopened, StopsBy, listening}
+use Rattle.room_program.specs.Streams.{TookNone}
+use Rattle.room_program.proofs.StreamLemmas.{Appends-then}
+use Rattle.std.specs.Io.KnownBytes.{Appends}
+use Rattle.room_server.specs.declared.pool.PoolFault.{PoolFault}
+use Rattle.room_server.specs.declared.pool.PoolFault.TheVariants as pools
+use Rattle.room_server.specs.declared.table.TableFault.{TableFault}
+use Rattle.room_server.specs.declared.table.TableFault.TheVariants as tables
+use Rattle.room_server.specs.Fronts.{AreFronts, IsFront}
+use Rattle.room_server.specs.Openings.{IsFirstFault, Opens}
+use Rattle.room_server.specs.Tables.{AreAt, DeskView, SeatView, TableView}
+use Rattle.turn_desk.specs.History.{History, IsLegal, entries}
+
+module _ {W : Type 0} (sink : sinks.Ghosts W) where
+  -- a whole text, and then another as far as it goes
+  pub takes_then : (before between after : W) (text more : List ℕ) → Appends (sink.taken before) (sink.taken between) text → Takes sink between after more → Takes sink before after (text ++ more)
+  takes_then before between after text more whole takes = record {
+    front = text ++ takes.front;
+    rest = takes.rest;
+    text_is = ap (λ bs. text ++ bs) takes.text_is ∙ sym (append_assoc text takes.front takes.rest);
+    written = Appends-then (sink.taken before) (sink.taken between) (sink.taken after) text takes.front whole takes.written;
+    why = takes.why;
+  }
+
+  -- of a text that was not taken whole no more is taken
+  pub takes_no_more : (before after : W) (text more : List ℕ) → Takes sink before after text → (sink.has_failed after ≡ true) ⊎ TookNone sink.puts after → Takes sink before after (text ++ more)
+  takes_no_more before after text more takes why = record {
+    front = takes.front;
+    rest = takes.rest ++ more;
+    text_is = ap (λ bs. bs ++ more) takes.text_is ∙ append_assoc takes.front takes.rest more;
+    written = takes.written;
+    why = inr why;
+  }
+
+  -- the same of texts and states that are equal
+  pub told_then : (before between after end : W) (text told more lines : List ℕ) → told ≡ text → lines ≡ more → end ≡ after
+      → Appends (sink.taken before) (sink.taken between) told → Takes sink between after lines → Takes sink before end (text ++ more)
+  told_then before between after end text told more lines text_is more_is end_is whole takes =
+      subst (λ (w : W). Takes sink before w (text ++ more)) (sym end_is)
+      (takes_then before between after text more (subst (λ (bs : List ℕ). Appends (sink.taken before) (sink.taken between) bs) text_is whole) (subst (λ (bs : List ℕ). Takes sink between after bs) more_is takes))
+
+  pub told_no_more : (before after end : W) (text told more : List ℕ) → told ≡ text → end ≡ after
+      → Takes sink before after told → (sink.has_failed after ≡ true) ⊎ TookNone sink.puts after → Takes sink before end (text ++ more)
+  told_no_more before after end text told more text_is end_is takes why =
+      subst (λ (w : W). Takes sink before w (text ++ more)) (sym end_is)
+      (takes_no_more before after text more (subst (λ (bs : List ℕ). Takes sink before after bs) text_is takes) why)
+
+  -- rooms that are not opened are not served
+  pub unopened_stops : (rooms : List (List ℕ)) (output output' : W) (fault : ProgramFault) → output' ≡ output → IsUnopened rooms fault → StopsBy sink rooms output output' fault
+  unopened_stops rooms output output' Listen same is = absurd is
+  unopened_stops rooms output output' Worker same is = absurd is
+  unopened_stops rooms output output' Memory same is = (is, inl same)
+  unopened_stops rooms output output' TooManyRooms same is = (is, same)
+  unopened_stops rooms output output' BadName same is = (is, same)
+  unopened_stops rooms output output' Twice same is = (is, same)
+  unopened_stops rooms output output' (Replay fault) same is = absurd is
+
+  -- nor are they served to the end where the pool does not serve
+  pub pool_stops : (rooms : List (List ℕ)) (output output' : W) (fault : PoolFault) → CanBeServed rooms → Takes sink output output' listening → StopsBy sink rooms output output' (pool_fault fault)
+  pool_stops rooms output output' pools.Worker can takes = (can, takes)
+  pool_stops rooms output output' pools.Memory can takes = (can.0, inr takes)
+
+-- the first fault of the names is told
+pub first_fault : (rooms : List (List ℕ)) (fault : TableFault) → length rooms ≤ 64 → IsFirstFault rooms fault → IsUnopened rooms (table_fault fault)
+first_fault rooms (tables.BadName position) few is = (few, (position, is))
+first_fault rooms (tables.Twice position) few is = (few, (position, is))
+first_fault rooms tables.Memory few is = few
+
+-- a fault that was passed on
+pub passed_on : {T : Type 0} (P : ProgramFault → Type 0) (r : Result T ProgramFault) (fault : ProgramFault) → IsErrAnd r (λ y. y ≡ fault) → P fault → IfErr r P
+passed_on P r fault is p =
+    let told = err_from_is_err_and r is in
+    rw (told.1, told.2) p
+
+-- an element of a list stands at its place
+get_at : {X : Type 0} (xs : List X) (i : ℕ) (d : X) → i < length xs → slice_get xs i ≡ Some (slice_index_or xs i d)
+get_at [] i d below = absurd (omega (arith, below))
+get_at (x ∷ xs) zero d below = refl
+get_at (x ∷ xs) (suc i) d below = get_at xs i d (omega (arith, below))
+
+there_is : {X : Type 0} (xs : List X) (i : ℕ) → i < length xs → (x : X) × (slice_get xs i ≡ Some x)
+there_is [] i below = absurd (omega (arith, below))
+there_is (x ∷ xs) zero below = (x, refl)
+there_is (x ∷ xs) (suc i) below = there_is xs i (omega (arith, below))
+
+-- the fronts that a closed table tells are those of journals
+module _ (law : (opening : Opening Global) (h : History (Entry Global)) → IsLegal IsTurn opening h → IsJournal opening.base opening.limit (entries h)) where
+  front_of : (limit : ℕ) (desk : DeskView) (seat : SeatView) (front : ℕ) → desk.fixed ≡ record { base = []; limit = limit } → IsFront desk seat front → IsFrontOf limit front
+  front_of limit desk seat front fixed is = (
+    entries is.h,
+    subst (λ (o : Opening Global). IsJournal o.base o.limit (entries is.h)) fixed (law desk.fixed is.h is.legal),
+    is.count ∙ sym (length-map is.h (λ p. p.1)),
+  )
+
+  pub fronts_of : (rooms : List (List ℕ)) (limit : ℕ) (table : TableView) (first seats : List SeatView) (fronts : List ℕ) → Opens rooms limit table first → AreAt table seats
+      → AreFronts table.desks seats fronts → (length fronts ≡ length rooms) × All (IsFrontOf limit) fronts
+  fronts_of rooms limit table first seats fronts opens at are = (
+    are.as_many ∙ opens.many,
+    λ i d below.
+        let many = are.as_many in
+        let as_many = at.0 in
+        let desk = there_is table.desks i (omega (arith, below, many)) in
+        let seat = there_is seats i (omega (arith, below, many, as_many)) in
+        let fixed = opens.empty i desk.0 (omega (arith, below, many)) in
+        let here : desk.0 ≡ slice_index_or table.desks i desk.0 = some_is (sym desk.1 ∙ get_at table.desks i desk.0 (omega (arith, below, many))) in
+        front_of limit desk.0 seat.0 (slice_index_or fronts i d) (ap (λ (x : DeskView). x.fixed) here ∙ fixed)
+        (are.each i desk.0 seat.0 (slice_index_or fronts i d) desk.1 seat.1 (get_at fronts i d below)),
+  )
+    where
+      some_is : {x y : DeskView} → Some x ≡ Some y → x ≡ y
+      some_is e = cc

@@ -1,0 +1,15 @@
+use Rattle.std.proofs.Common.{rules, ap₂, ◌∙◌, ◌||◌, ◌≡◌, Bool, codes, false}
+use Rattle.std.proofs.lemmas.Result.{IfOk-weaker}
+use Rattle.clap.specs.Words.{app_of, new_app, with_rule}
+use Rattle.clap.specs.declared.builder.command.Command.TheViews.{out-Command as fields_of}
+use Rattle.room_program.proofs.words.replay_line.Goals as goal
+
+pub returns-clause-shape : goal.returns-clause-shape
+returns-clause-shape c =
+    let empty_is : app_of c.long_about.result ≡ new_app (codes "replay") = search rules in
+    IfOk-weaker c.arg.result _ _ (λ line added. added.shape c.limit_option.ensures.local ∙ ap₂ with_rule empty_is c.limit_option.ensures.rule) c.arg.ensures
+
+pub returns-clause-local : goal.returns-clause-local
+returns-clause-local c =
+    let empty_is : (fields_of c.long_about.result).has_globals ≡ false = search rules in
+    IfOk-weaker c.arg.result _ _ (λ line added. added.globals ∙ ap₂ (λ (a b : Bool). a || b) empty_is c.limit_option.ensures.local) c.arg.ensures

@@ -1,0 +1,28 @@
+//! What the program's words can ask for.
+
+/// What the words ask for.
+#[derive(Drop)]
+pub enum Asked<'a> {
+    /// To run a room from the lines of standard input.
+    Replay {
+        /// How many entries the room's journal takes at most.
+        limit: u32,
+    },
+    /// To serve rooms.
+    Serve(ServeWords<'a>),
+}
+
+/// What the words of `serve` say.
+#[derive(Drop)]
+pub struct ServeWords<'a> {
+    /// Where it is to listen, as it is written.
+    pub addr: &'a str,
+    /// How many sessions are served at the same time, from 1 to 64.
+    pub workers: u32,
+    /// How many connections are accepted, from 1 to 1000000.
+    pub sessions: u32,
+    /// How many entries the journal of each room takes at most.
+    pub limit: u32,
+    /// The names of the rooms, as they are written and in their order.
+    pub rooms: Vec<&'a str>,
+}

@@ -1,0 +1,218 @@
+//! The program's words, and what they ask for.
+ghost use Rattle.std.specs.Prelude.{◌≡◌, IfOk, MatchResult, false, map};
+ghost use Rattle.clap.specs.Words.{HasKind, app_of, found_of, rows_of, rule_of};
+ghost use Rattle.clap.specs.declared.builder.command.Command.TheViews.{out-Command as fields_of};
+ghost use Rattle.room_program.specs.Commands.{IsAsked};
+ghost use Rattle.room_program.specs.Words.{HasNumber, addr_in, faults, number_in, rooms_in};
+ghost use Rattle.room_program.specs.Words.{program_app, replay_app, serve_app};
+ghost use Rattle.room_program.specs.Words as words;
+
+use crate::asked::{Asked, ServeWords};
+use clap::{Arg, ArgAction, ArgMatches, Command, Error, value_parser};
+use std::alloc::{AllocError, Global};
+use std::convert::AsStr;
+
+/// The version of the program.
+pub const VERSION: &str = "0.1.0";
+
+/// The most entries that a room's journal can be given leave to take.
+pub const MOST_ENTRIES: u32 = 1_000_000;
+
+/// The most workers that can be asked for.
+pub const MOST_WORKERS: u32 = 64;
+
+/// The most sessions that can be asked for.
+pub const MOST_SESSIONS: u32 = 1_000_000;
+
+/// What the words ask for. The first word is the program's name.
+///
+/// The words are taken or refused as the command line below says: where they are refused, and where they ask for a
+/// help or the version, the error tells it. An error of the kind `OutOfMemory` says that there was no memory to read
+/// them.
+pub fn read_words<'a, T: AsStr>(alloc: Global, words: &'a [T]) -> Result<Asked<'a>, Error>
+    ensures { let texts = map T.text words.entry.now in
+        MatchResult result (IsAsked texts) (HasKind (faults texts)) }
+{
+    let matches = command_line(alloc)?.try_get_matches_from(words)?;
+    if let Some(options) = matches.subcommand_matches("serve") {
+        return Ok(Asked::Serve(ServeWords {
+            addr: addr(options),
+            workers: number(options, "workers"),
+            sessions: number(options, "sessions"),
+            limit: number(options, "limit"),
+            rooms: rooms(alloc, options)?,
+        }));
+    }
+    let Some(options) = matches.subcommand_matches("replay") else {
+        unreachable!()
+    };
+    Ok(Asked::Replay {
+        limit: number(options, "limit"),
+    })
+}
+
+// The number that was found for an option, and 0 where none was.
+fn number(options: &ArgMatches<'_>, id: &str) -> u32
+    requires { HasNumber id.now (rows_of (found_of options.now)) }
+    ensures { result ≡ number_in id.now (rows_of (found_of options.now)) }
+{
+    options.get_one::<u32>(id).unwrap_or(0)
+}
+
+// The address that was found, and the empty text where none was.
+fn addr<'a>(options: &ArgMatches<'a>) -> &'a str
+    ensures { result.now ≡ addr_in (rows_of (found_of options.now)) }
+{
+    options.get_str("addr").unwrap_or("")
+}
+
+// The names of rooms that were found, in their order.
+fn rooms<'a>(alloc: Global, options: &ArgMatches<'a>) -> Result<Vec<&'a str>, AllocError>
+    ensures { IfOk result (λ rooms. map (λ room. room.now) rooms.items ≡ rooms_in (rows_of (found_of options.now))) }
+{
+    match options.get_strs("rooms") {
+        Some(rooms) => Vec::from_slice(alloc, rooms),
+        None => Ok(Vec::new(alloc)),
+    }
+}
+
+// What the program's words can be.
+fn command_line<'a>(alloc: Global) -> Result<Command<'a>, AllocError>
+    ensures { IfOk result (λ line. app_of line ≡ program_app) }
+{
+    let replay = replay_line(alloc)?;
+    let serve = serve_line(alloc)?;
+    Command::new(alloc, "maproom")
+        .version(VERSION)
+        .about("A room in which several mappers edit one map of OpenStreetMap")
+        .long_about(PROGRAM_HELP)
+        .subcommand_required(true)
+        .subcommand(replay)?
+        .subcommand(serve)
+}
+
+// What the words after `replay` can be.
+fn replay_line<'a>(alloc: Global) -> Result<Command<'a>, AllocError>
+    ensures shape { IfOk result (λ line. app_of line ≡ replay_app) }
+    ensures local { IfOk result (λ line. (fields_of line).has_globals ≡ false) }
+{
+    Command::new(alloc, "replay")
+        .about("Runs a room from the lines of standard input")
+        .long_about(REPLAY_HELP)
+        .arg(limit_option(alloc))
+}
+
+// What the words after `serve` can be.
+fn serve_line<'a>(alloc: Global) -> Result<Command<'a>, AllocError>
+    ensures shape { IfOk result (λ line. app_of line ≡ serve_app) }
+    ensures local { IfOk result (λ line. (fields_of line).has_globals ≡ false) }
+{
+    Command::new(alloc, "serve")
+        .about("Serves rooms to clients over WebSockets")
+        .long_about(SERVE_HELP)
+        .arg(addr_option(alloc))?
+        .arg(workers_option(alloc))?
+        .arg(sessions_option(alloc))?
+        .arg(limit_option(alloc))?
+        .arg(room_words(alloc))
+}
+
+fn limit_option<'a>(alloc: Global) -> Arg<'a>
+    ensures rule { rule_of result ≡ words.limit_option }
+    ensures local { result.global ≡ false }
+{
+    Arg::new(alloc, "limit")
+        .long("limit")
+        .value_name("N")
+        .value_parser(value_parser!(u32).range(0..=i64::from(MOST_ENTRIES)))
+        .default_value("1000000")
+        .help("How many changes a room accepts, from 0 to 1000000")
+}
+
+fn addr_option<'a>(alloc: Global) -> Arg<'a>
+    ensures rule { rule_of result ≡ words.addr_option }
+    ensures local { result.global ≡ false }
+{
+    Arg::new(alloc, "addr")
+        .long("addr")
+        .value_name("ADDR")
+        .required(true)
+        .help("Where it listens: an IP address or the name of a host, a colon and a port")
+}
+
+fn workers_option<'a>(alloc: Global) -> Arg<'a>
+    ensures rule { rule_of result ≡ words.workers_option }
+    ensures local { result.global ≡ false }
+{
+    Arg::new(alloc, "workers")
+        .long("workers")
+        .value_name("N")
+        .value_parser(value_parser!(u32).range(1..=i64::from(MOST_WORKERS)))
+        .required(true)
+        .help("How many clients are served at the same time, from 1 to 64")
+}
+
+fn sessions_option<'a>(alloc: Global) -> Arg<'a>
+    ensures rule { rule_of result ≡ words.sessions_option }
+    ensures local { result.global ≡ false }
+{
+    Arg::new(alloc, "sessions")
+        .long("sessions")
+        .value_name("K")
+        .value_parser(value_parser!(u32).range(1..=i64::from(MOST_SESSIONS)))
+        .required(true)
+        .help("How many connections are accepted until it ends, from 1 to 1000000")
+}
+
+fn room_words<'a>(alloc: Global) -> Arg<'a>
+    ensures rule { rule_of result ≡ words.room_words }
+    ensures local { result.global ≡ false }
+{
+    Arg::new(alloc, "rooms")
+        .value_name("ROOM")
+        .action(ArgAction::Append)
+        .num_args(1..)
+        .required(true)
+        .help(
+            "The names of the rooms, at most 64: 1 to 32 characters of a-z, 0-9 and _, each name once",
+        )
+}
+
+const PROGRAM_HELP: &str = "\
+Maproom is a room in which several mappers edit one map of OpenStreetMap at the same time.
+Each change is one message of JSON, which the room answers by one line, and each mapper can take his own
+changes back.
+
+To run a room from a file of messages: maproom replay <FILE
+To serve rooms to clients: maproom serve --addr 127.0.0.1:9001 --workers 8 --sessions 1000 paris rome";
+
+const REPLAY_HELP: &str = "\
+Reads a line for each message from standard input, and writes a line for each reply to standard output.
+To replay a file, redirect it: maproom replay <FILE
+
+A line is the name of its author, a space, and the message as JSON. The room begins with an empty map,
+and lives as long as its input.
+
+Such a line: anna {\"id\":1,\"do\":\"create\",\"el\":\"n1\",\"lat\":\"51.5\",\"lon\":\"-0.1\"}";
+
+const SERVE_HELP: &str = "\
+Serves rooms to clients over WebSockets. A client names a room and its author in its first message, and is then
+told what the others change.
+To serve two rooms: maproom serve --addr 127.0.0.1:9001 --workers 8 --sessions 1000 paris rome
+
+A room begins with an empty map, and lives until the program ends. Once clients can connect, the line `listening` is
+printed; at the end, after the last session, a line for each room: its name, a space, and how many changes it
+accepted.
+
+A worker serves one session at a time. So as many clients are served at once as there are workers, and others wait
+until a session ends. Each connection is a session, numbered from 1, also one that fails at once.
+
+Standard error tells of each session, by its number I: `session I open`, and `session I end E`, where E is
+  left    the client closed the connection
+  binary  the client sent a message that is no text
+  memory  there was no memory
+  fault   the connection failed, or the client broke the protocol
+  bound   the client sent more messages than a session may have
+
+There is no TLS and no password: whoever can connect can change the maps, under any name. So let it listen on an
+address that only a proxy can reach which has both.";

@@ -1,0 +1,447 @@
+"""Checks of the server: what is said in sessions, text by text, and what the program prints, logs and refuses."""
+import functools
+import json
+import os
+import re
+import socket
+import subprocess
+import time
+
+import told
+from serving import free_port
+from talk import GONE, PATIENCE, SILENCE, be_closed, check, check_each, create, finish, given, hear, hello, leave, news
+from talk import node, ok, refused, serve_next, serving, talk, want, welcome
+from websocket import BINARY, Client, head_of_request, make_key
+
+# The page that tells the sessions of two clients.
+PAGE = f"{os.path.dirname(os.path.dirname(os.path.abspath(__file__)))}/docs/SERVER.md"
+
+
+@check
+def two_sessions():
+    """Each change is told to both clients, to the other one unasked, and an undo meets what the other did since."""
+    with serving(sessions=2) as server:
+        anna = server.client()
+        talk(anna, hello("anna"), welcome(0))
+        talk(anna, create(2), ok(2, '"seq":1'), news("anna", 1, node()))
+        bob = server.client()
+        talk(bob, hello("bob"), welcome(1, node()))
+        moved = node("51.5000001")
+        message = '{"id":2,"do":"move","els":["n-1"],"dlat":1,"dlon":0}'
+        talk(bob, message, ok(2, '"seq":2'), news("bob", 2, moved))
+        hear(anna, news("bob", 2, moved))
+        talk(anna, '{"id":3,"do":"undo"}', refused(3, '"at":"n-1","why":"conflict","with":2'))
+        talk(bob, '{"id":3,"do":"map"}', welcome(2, moved, number=3))
+        bob.send(BINARY, b"\x00")
+        be_closed(bob, 1003)
+        leave(anna)
+        finish(server, ["paris 2"], "left", "binary")
+
+
+@check
+def an_undo_is_told():
+    """The news of an undo have what was put back, those of a redo what was done again."""
+    with serving(sessions=2) as server:
+        anna, bob = server.client(), server.client()
+        talk(anna, hello("anna"), welcome(0))
+        talk(bob, hello("bob"), welcome(0))
+        talk(anna, create(2), ok(2, '"seq":1'), news("anna", 1, node()))
+        hear(bob, news("anna", 1, node()))
+        talk(anna, '{"id":3,"do":"undo"}', ok(3, '"seq":2,"undid":1'), news("anna", 2, GONE))
+        hear(bob, news("anna", 2, GONE))
+        talk(anna, '{"id":4,"do":"redo"}', ok(4, '"redid":1,"seq":3'), news("anna", 3, node()))
+        hear(bob, news("anna", 3, node()))
+        leave(bob)
+        leave(anna)
+        finish(server, ["paris 3"], "left", "left")
+
+
+@check
+def before_and_after_a_hello():
+    """Until a hello names a room that is there nothing is done or told. A second hello is refused."""
+    with serving(sessions=2) as server:
+        anna, bob = server.client(), server.client()
+        talk(bob, hello("bob"), welcome(0))
+        talk(anna, create(1), refused(1, '"why":"no_hello"'))
+        talk(anna, hello("anna", "rome"), refused(1, '"why":"no_room"'))
+        talk(anna, hello("Anna"), refused(1, '"field":"name","why":"bad_field"'))
+        talk(anna, "hello", refused(0, '"why":"not_json"'))
+        talk(bob, create(1), ok(1, '"seq":1'), news("bob", 1, node()))
+        want(anna.is_quiet(SILENCE), True)
+        talk(anna, hello("anna"), welcome(1, node()))
+        talk(anna, hello("anna"), refused(1, '"why":"hello_twice"'))
+        talk(anna, create(1, "n7"), ok(1, '"seq":2'), news("anna", 2, node(el="n7")))
+        hear(bob, news("anna", 2, node(el="n7")))
+        leave(anna)
+        leave(bob)
+        finish(server, ["paris 2"], "left", "left")
+
+
+@check
+def two_at_once():
+    """A session that stays silent does not keep a second from being served, and is then told what that one did."""
+    with serving(sessions=2) as server:
+        anna = server.client()
+        talk(anna, hello("anna"), welcome(0))
+        bob = server.client()
+        talk(bob, hello("bob"), welcome(0))
+        talk(bob, create(2), ok(2, '"seq":1'), news("bob", 1, node()))
+        hear(anna, news("bob", 1, node()))
+        leave(anna)
+        leave(bob)
+        finish(server, ["paris 1"], "left", "left")
+
+
+@check
+def a_session_waits_for_a_worker():
+    """Where each worker has a session the next one waits, and is served when one has ended."""
+    with serving(workers=1, sessions=2) as server:
+        anna = server.client()
+        talk(anna, hello("anna"), welcome(0))
+        bob, key = server.connect(), make_key()
+        bob.send_bytes(head_of_request(key))
+        want(bob.is_quiet(SILENCE), True)
+        talk(anna, create(2), ok(2, '"seq":1'), news("anna", 1, node()))
+        leave(anna)
+        bob.read_answer(key)
+        talk(bob, hello("bob"), welcome(1, node()))
+        leave(bob)
+        finish(server, ["paris 1"], "left", "left")
+
+
+@check
+def rooms_apart():
+    """Clients of two rooms know nothing of each other, not even under one name and one id."""
+    with serving("rome", "paris", sessions=2) as server:
+        anna, other = server.client(), server.client()
+        talk(anna, hello("anna", "paris"), welcome(0))
+        talk(other, hello("anna", "rome"), welcome(0))
+        talk(anna, create(2), ok(2, '"seq":1'), news("anna", 1, node()))
+        want(other.is_quiet(SILENCE), True)
+        talk(other, '{"id":3,"do":"map"}', welcome(0, number=3))
+        talk(other, create(2, "n7"), ok(2, '"seq":1'), news("anna", 1, node(el="n7")))
+        want(anna.is_quiet(SILENCE), True)
+        talk(anna, create(3, "n8"), ok(3, '"seq":2'), news("anna", 2, node(el="n8")))
+        talk(other, '{"id":3,"do":"map"}', welcome(1, node(el="n7"), number=3))
+        leave(anna)
+        leave(other)
+        finish(server, ["rome 1", "paris 2"], "left", "left")
+
+
+@check
+def one_name_twice():
+    """Two clients under one author's name share what can be undone and redone, and the ids that are spent."""
+    with serving(sessions=2) as server:
+        one, other = server.client(), server.client()
+        talk(one, hello("anna"), welcome(0))
+        talk(other, hello("anna"), welcome(0))
+        talk(one, create(2), ok(2, '"seq":1'), news("anna", 1, node()))
+        hear(other, news("anna", 1, node()))
+        talk(other, create(2, "n5"), refused(2, '"seq":1,"why":"repeat"'))
+        talk(other, '{"id":3,"do":"undos"}', ok(3, '"redo":[],"undos":[1]'))
+        talk(other, '{"id":3,"do":"undo"}', ok(3, '"seq":2,"undid":1'), news("anna", 2, GONE))
+        hear(one, news("anna", 2, GONE))
+        talk(one, '{"id":3,"do":"redo"}', refused(3, '"seq":2,"why":"repeat"'))
+        talk(one, '{"id":4,"do":"redo"}', ok(4, '"redid":1,"seq":3'), news("anna", 3, node()))
+        hear(other, news("anna", 3, node()))
+        leave(one)
+        leave(other)
+        finish(server, ["paris 3"], "left", "left")
+
+
+@check
+def sent_again():
+    """A change whose connection was reset is sent again in a new session under its id, and was done once."""
+    with serving(sessions=3) as server:
+        anna = server.client()
+        talk(anna, hello("anna"), welcome(0))
+        talk(anna, create(2), ok(2, '"seq":1'), news("anna", 1, node()))
+        anna.reset()
+        anna = server.client()
+        talk(anna, hello("anna"), welcome(1, node()))
+        talk(anna, create(2), refused(2, '"seq":1,"why":"repeat"'))
+        anna.reset()
+        serve_next(server, "anna", 1, node())
+        finish(server, ["paris 1"], "fault", "fault", "left")
+
+
+@check
+def sent_again_unanswered():
+    """So where the reset comes at any moment after the change was sent: done by now or not, it is never done twice."""
+    count = 24
+    with serving(sessions=2 * count + 1) as server:
+        for number in range(2, count + 2):
+            change, seq = json.loads(create(number, f"n{number}")), number - 1
+            anna = server.session("anna").send(change)
+            time.sleep(number % 8 * 0.002)
+            anna.client.reset()
+            anna = server.session("anna")
+            reply = anna.ask(change)
+            if "no" in reply:
+                want(reply, {"id": number, "no": {"seq": seq, "why": "repeat"}})
+            else:
+                want(reply, {"id": number, "ok": {"seq": seq}})
+            anna.follow(seq)
+            anna.leave()
+        last = server.session("anna")
+        want((last.seq, len(last.rows)), (count, count))
+        last.leave()
+        finish(server, [f"paris {count}"], *["fault", "left"] * count, "left")
+
+
+@check
+def a_full_room():
+    """A room that took as many entries as it may refuses each change, and is asked as ever."""
+    with serving(limit=1) as server:
+        anna = server.client()
+        talk(anna, hello("anna"), welcome(0))
+        talk(anna, create(2), ok(2, '"seq":1'), news("anna", 1, node()))
+        talk(anna, create(3, "n7"), refused(3, '"why":"full"'))
+        talk(anna, '{"id":3,"do":"undo"}', refused(3, '"why":"full"'))
+        talk(anna, create(2, "n7"), refused(2, '"seq":1,"why":"repeat"'))
+        talk(anna, '{"id":3,"do":"map"}', welcome(1, node(), number=3))
+        talk(anna, '{"id":3,"do":"undos"}', ok(3, '"redo":[],"undos":[1]'))
+        talk(anna, '{"id":3,"do":"get","el":"n-1"}', ok(3, f'"is":{node()}'))
+        leave(anna)
+        finish(server, ["paris 1"], "left")
+
+
+@check
+def a_room_that_takes_nothing():
+    """Where a room may take no entry it refuses the first change."""
+    with serving(limit=0) as server:
+        anna = server.client()
+        talk(anna, hello("anna"), welcome(0))
+        talk(anna, create(2), refused(2, '"why":"full"'))
+        talk(anna, '{"id":2,"do":"undo"}', refused(2, '"why":"full"'))
+        talk(anna, '{"id":2,"do":"map"}', welcome(0, number=2))
+        leave(anna)
+        finish(server, ["paris 0"], "left")
+
+
+class Told:
+    """A connection of a client of which a file tells: what it was told, and what it should have been told. When news
+    come to a client that says nothing is left open, so replies are compared in their order, and news in theirs."""
+
+    def __init__(self, server):
+        self.client = server.client()
+        self.is_open = True
+        self.found, self.wanted = ([], []), ([], [])
+
+    def hear(self, texts):
+        """Is told these texts."""
+        for text in texts:
+            self.wanted[is_news(text)].append(text)
+        while any(len(found) < len(wanted) for found, wanted in zip(self.found, self.wanted)):
+            text = self.client.text()
+            self.found[is_news(text)].append(text)
+        want(self.found, self.wanted)
+
+    def comes_to(self, event, texts):
+        """An event of the client, and what goes out to it."""
+        if texts == ["the session is closed"]:
+            want(self.is_open, False)
+        elif event == "close":
+            self.end()
+        elif event == "binary":
+            want(texts, ["close 1003"])
+            self.client.send(BINARY, b"\x00\xff")
+            be_closed(self.client, 1003)
+            self.is_open = False
+        else:
+            if event != "quiet":
+                self.client.say(event)
+            self.hear(texts)
+
+    def end(self):
+        """Closes, if that was not done. Before the answer may come news of which the file does not tell any more."""
+        if self.is_open:
+            self.client.close()
+            while not self.client.is_close_next():
+                want(is_news(self.client.text()), True)
+            want((self.client.closed(), self.client.rest()), (1000, b""))
+        self.is_open = False
+
+
+def is_news(text):
+    """Whether a text is news, and no reply."""
+    return text.startswith('{"news"')
+
+
+CLIENTS = ("anna ", "bob ")
+
+
+def sessions_of_page():
+    """The sessions that the page tells, in all its blocks of texts together."""
+    with open(PAGE, encoding="utf-8") as page:
+        return told.taken_apart("".join(re.findall(r"^```text\n(.*?)^```$", page.read(), re.M | re.S)), CLIENTS)
+
+
+def told_sessions(read):
+    """The sessions that a file tells, over sockets. The first event of a client connects it, whatever it is."""
+    words, lines, blocks = read()
+    events = [line.split(" ", 1) for line in lines]
+    first = {name: event for name, event in reversed(events)}
+    count = sum(event == "connect" for _, event in events) + sum(event != "connect" for event in first.values())
+    with serving(sessions=count, limit=words[-1] if words else None) as server:
+        clients = {}
+        for (name, event), texts in zip(events, blocks):
+            if event == "connect" and name in clients:
+                clients.pop(name).end()
+            if name not in clients:
+                clients[name] = Told(server)
+            if event != "connect":
+                clients[name].comes_to(event, texts)
+        for client in clients.values():
+            client.end()
+        status, _, ends = server.finish()
+        want((status, len(ends)), (0, count))
+
+
+@check
+def end_of_the_program():
+    """After its last session the program tells how far each room came, in the order of the words, and ends."""
+    with serving("rome", "paris", "a_b_9", workers=1, sessions=4) as server:
+        anna = server.client()
+        talk(anna, hello("anna", "paris"), welcome(0))
+        talk(anna, create(2), ok(2, '"seq":1'), news("anna", 1, node()))
+        leave(anna)
+        bob = server.client()
+        bob.send(BINARY)
+        be_closed(bob, 1003)
+        carl = server.client()
+        talk(carl, hello("carl", "paris"), welcome(1, node()))
+        talk(carl, '{"id":2,"do":"delete","el":"n-1"}', ok(2, '"seq":2'), news("carl", 2, GONE))
+        carl.reset()
+        dora = server.client()
+        talk(dora, hello("dora", "a_b_9"), welcome(0))
+        time.sleep(SILENCE)
+        want((server.process.poll(), server.told(server.output)), (None, "listening\n"))
+        leave(dora)
+        finish(server, ["rome 0", "paris 2", "a_b_9 0"], "left", "binary", "fault", "left")
+
+
+@check
+def a_full_disk():
+    """Where the disk takes nothing of what is printed, clients are served all the same."""
+    port, patience = free_port(), PATIENCE * given.slow
+    words = [given.program, "serve", "--addr", f"127.0.0.1:{port}", "--workers", "1", "--sessions", "1", "paris"]
+    with open("/dev/full", "wb") as full:
+        program = subprocess.Popen(words, stdin=subprocess.DEVNULL, stdout=full, stderr=subprocess.DEVNULL)
+    try:
+        with connected(port, time.monotonic() + patience) as client:
+            talk(client.shake_hands(), hello("anna"), welcome(0))
+            leave(client)
+        want(program.wait(patience), 0)
+    finally:
+        program.kill()
+        program.wait()
+
+
+def connected(port, deadline):
+    """A client of a server that may not listen yet."""
+    while True:
+        try:
+            return Client(port)
+        except ConnectionRefusedError:
+            if time.monotonic() > deadline:
+                raise
+            time.sleep(0.01)
+
+
+@check
+def as_many_as_there_may_be():
+    """As many rooms and workers as there may be, and the longest name of a room."""
+    rooms = [*(f"room_{number}" for number in range(63)), "a" * 32]
+    with serving(*rooms, workers=64, sessions=2) as server:
+        for room in rooms[62:]:
+            anna = server.client()
+            talk(anna, hello("anna", room), welcome(0))
+            talk(anna, create(2), ok(2, '"seq":1'), news("anna", 1, node()))
+            leave(anna)
+        finish(server, [f"{room} {int(room in rooms[62:])}" for room in rooms], "left", "left")
+
+
+def run(*words):
+    """What the program comes to over words, where it does not serve."""
+    streams = {"stdin": subprocess.DEVNULL, "stdout": subprocess.PIPE, "stderr": subprocess.PIPE}
+    ran = subprocess.run([given.program, *words], timeout=PATIENCE * given.slow, check=False, **streams)
+    return ran.returncode, ran.stdout.decode(), ran.stderr.decode()
+
+
+def serve(*rooms, addr="127.0.0.1:0"):
+    """What the program comes to where it is to serve these rooms at an address."""
+    return run("serve", "--addr", addr, "--workers", "1", "--sessions", "1", *rooms)
+
+
+BAD_NAME = (2, "", "maproom: bad room name\n")
+TWICE = (2, "", "maproom: room twice\n")
+TOO_MANY = (2, "", "maproom: too many rooms\n")
+CANNOT_LISTEN = (1, "", "maproom: cannot listen\n")
+
+
+@check
+def bad_rooms():
+    """The number of rooms is looked at first, then their names one after another, and then the address."""
+    want(serve("Paris"), BAD_NAME)
+    want(serve("paris", "paris"), TWICE)
+    want(serve(*(f"room{number}" for number in range(65))), TOO_MANY)
+    want(serve(*["Paris"] * 65), TOO_MANY)
+    for name in ("", "par is", "par-is", "pàris", "a" * 33):
+        want(serve("rome", name), BAD_NAME)
+    want(serve("paris", "Paris", "paris"), BAD_NAME)
+    want(serve("paris", "paris", "Paris"), TWICE)
+    want(serve("Paris", "Paris"), BAD_NAME)
+    want(serve("paris", "rome", "oslo", "rome"), TWICE)
+    want(serve("Paris", addr="nowhere"), BAD_NAME)
+    want(serve("paris", "paris", addr="nowhere"), TWICE)
+
+
+@check
+def bad_addresses():
+    """At what is no address, or has no port, nothing listens."""
+    hosts = ("nowhere", "127.0.0.1", "127.0.0.1:", "127.0.0.1:65536", "127.0.0.1:port", "127.0.0.256:47316", ":", "")
+    want({addr: serve("paris", addr=addr) for addr in hosts}, {addr: CANNOT_LISTEN for addr in hosts})
+
+
+@check
+def a_taken_port():
+    """Where another listens nothing else does; but the names of rooms are looked at before that."""
+    with socket.socket() as other:
+        other.bind(("127.0.0.1", 0))
+        other.listen()
+        taken = f"127.0.0.1:{other.getsockname()[1]}"
+        want(serve("paris", addr=taken), CANNOT_LISTEN)
+        want(serve("paris", "paris", addr=taken), TWICE)
+
+
+@check
+def refused_words():
+    """Numbers out of their range, and words that are none, twice there or missing: what reads the words says so."""
+    words = ["serve", "--addr", "127.0.0.1:0", "--workers", "1", "--sessions", "1", "paris"]
+    lines = [["serve"], words[:-1], [words[0], *words[3:]], [*words[:3], *words[5:]], [*words[:5], *words[7:]]]
+    lines += [[*words, "--limit"], [*words, "--port", "1"], [*words, "--workers", "2"]]
+    for option, values in {
+        "--workers": ("0", "65", "-1", "x", "1.0", "", "4294967297"),
+        "--sessions": ("0", "1000001", "-1", "1e3", "", "18446744073709551617"),
+    }.items():
+        at = words.index(option) + 1
+        lines += [[*words[:at], value, *words[at + 1 :]] for value in values]
+    lines += [[*words, "--limit", value] for value in ("1000001", "-1", "many", "4294967296")]
+    for line in lines:
+        status, printed, why = run(*line)
+        want((line, status, printed, bool(why)), (line, 2, "", True))
+
+
+@check
+def help_for_words():
+    """The help is printed, and names each option."""
+    status, printed, why = run("serve", "--help")
+    missing = [word for word in ("--addr", "--workers", "--sessions", "--limit", "ROOM") if word not in printed]
+    want((status, missing, why), (0, [], ""))
+
+
+check_each(told_sessions, {
+    "the page docs/SERVER.md": sessions_of_page,
+    **{path.rpartition("texts/")[2]: functools.partial(told.read, path, CLIENTS) for path in told.files_in("sessions")},
+})

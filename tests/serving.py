@@ -1,0 +1,225 @@
+"""A server that a script starts on a free port, with the clients that it connects to it; and what a client knows of
+its room's map by its session (docs/PROTOCOL.md)."""
+import contextlib
+import json
+import os
+import re
+import signal
+import socket
+import subprocess
+import sys
+import tempfile
+import time
+
+from websocket import Broken, Client, Late
+
+# A line of the log, of which only what stands behind the logger's own words is compared.
+LOG_LINE = re.compile(r"(?:.*\] )?session (\d+) (open|end (\w+))")
+
+# How often another port is tried, where somebody else took the one that was free.
+TRIES = 10
+
+
+def stop_when_told():
+    """Has a script that is told to stop end as by an exception, so that it ends what it started."""
+    signal.signal(signal.SIGTERM, lambda *_: sys.exit("stopped"))
+
+
+def free_port():
+    """A port on which nobody listens."""
+    with socket.socket() as probe:
+        probe.bind(("127.0.0.1", 0))
+        return probe.getsockname()[1]
+
+
+def ends_of(log):
+    """How each session ended, by its number: the log opens each before it ends it, and says no more of it."""
+    ends, opened = {}, set()
+    for line in log.splitlines():
+        told = LOG_LINE.fullmatch(line)
+        number = int(told[1]) if told else 0
+        if not told or number in ends or (told[3] is None) == (number in opened):
+            raise Broken(f"the log has the line {line!r}")
+        if told[3] is None:
+            opened.add(number)
+        else:
+            ends[number] = told[3]
+    if opened != set(ends):
+        raise Broken(f"the sessions {sorted(opened - set(ends))} have no end in the log")
+    return ends
+
+
+class Server:
+    """A server of some rooms for so many sessions. Whoever leaves its block closes its clients, and ends it."""
+
+    def __init__(self, program, *rooms, workers=2, sessions=1, limit=None, patience=20):
+        self.program, self.rooms = program, rooms or ("paris",)
+        self.workers, self.sessions, self.limit = workers, sessions, limit
+        self.patience = patience
+        self.port = self.process = None
+        self.kept = contextlib.ExitStack()
+
+    def words(self, addr):
+        """The command that serves at an address."""
+        words = ["serve", "--addr", addr, "--workers", str(self.workers), "--sessions", str(self.sessions)]
+        words += [] if self.limit is None else ["--limit", str(self.limit)]
+        return [self.program, *words, *self.rooms]
+
+    def __enter__(self):
+        try:
+            self.output = self.kept.enter_context(tempfile.TemporaryFile())
+            self.errors = self.kept.enter_context(tempfile.TemporaryFile())
+            for _ in range(TRIES):
+                if self.start():
+                    return self
+            raise Broken(f"no server was started: {self.told(self.errors)!r}")
+        except BaseException:
+            self.stop()
+            raise
+
+    def __exit__(self, *_):
+        self.stop()
+
+    def start(self):
+        """Starts the server on a free port and waits until it listens; or finds that the port was taken meanwhile."""
+        for file in (self.output, self.errors):
+            os.ftruncate(file.fileno(), 0)
+            os.lseek(file.fileno(), 0, os.SEEK_SET)
+        self.port = free_port()
+        streams = {"stdin": subprocess.DEVNULL, "stdout": self.output, "stderr": self.errors}
+        self.process = subprocess.Popen(self.words(f"127.0.0.1:{self.port}"), **streams)
+        deadline = time.monotonic() + self.patience
+        while "listening\n" not in self.told(self.output):
+            if self.process.poll() is not None:
+                return False
+            if time.monotonic() > deadline:
+                raise Late("the server does not listen")
+            time.sleep(0.002)
+        return True
+
+    def stop(self):
+        """Ends all that was begun."""
+        if self.process is not None:
+            self.process.kill()
+            self.process.wait()
+        self.kept.close()
+
+    @staticmethod
+    def told(file):
+        """All that was written to a file by now."""
+        return os.pread(file.fileno(), 1 << 24, 0).decode()
+
+    def connect(self, **how):
+        """A client that has connected and has sent nothing yet."""
+        return self.kept.enter_context(Client(self.port, **{"patience": self.patience, **how}))
+
+    def client(self, **how):
+        """A client that has shaken hands."""
+        return self.connect(**how).shake_hands()
+
+    def session(self, name, room=None, **how):
+        """A client that has said hello, as a session."""
+        return Session(self.client(**how), name, room or self.rooms[0])
+
+    def finish(self, seconds=None):
+        """Waits for the program's end. Gives its status, what it printed, and how each session ended by its number."""
+        try:
+            status = self.process.wait(self.patience if seconds is None else seconds)
+        except subprocess.TimeoutExpired as error:
+            raise Late(f"the program does not end, and told {self.told(self.errors)[-300:]!r}") from error
+        return status, self.told(self.output), ends_of(self.told(self.errors))
+
+
+class PartServer(Server):
+    """The same server as part_lines runs it: of one room, with a bound on what a session reads, and perhaps with a
+    gate, which holds the third message of session 1 back until the second one of session 2 was answered."""
+
+    def __init__(self, program, turns, is_held=False, **how):
+        super().__init__(program, **how)
+        self.turns, self.is_held = turns, is_held
+
+    def words(self, addr):
+        numbers = [str(number) for number in (self.workers, self.sessions, self.turns)]
+        return [self.program, "serve", addr, *numbers, *(["held"] if self.is_held else [])]
+
+
+def place_of(name):
+    """Where the name of an element stands in the order of names: by its kind, and then by its number."""
+    return "nwr".index(name[0]), int(name[1:])
+
+
+class Session:
+    """A client's session with a room: the map that it knows by its welcome and its news."""
+
+    def __init__(self, client, name, room):
+        """Says hello, under the id 1, and takes the welcome."""
+        self.client, self.name = client, name
+        self.authors = {}
+        reply = self.send({"id": 1, "do": "hello", "room": room, "name": name}).reply()
+        if list(reply) != ["id", "ok"] or reply["id"] != 1:
+            raise Broken(f"a hello is answered {reply}")
+        self.rows, self.seq = self.rows_of(reply["ok"]), reply["ok"]["seq"]
+
+    @staticmethod
+    def rows_of(told):
+        """The rows of a map that is told, by their names, which have to rise."""
+        names = [element["el"] for element in told["map"]]
+        if any(place_of(one) >= place_of(other) for one, other in zip(names, names[1:])):
+            raise Broken(f"the names of a map do not rise: {names}")
+        return {element["el"]: element for element in told["map"]}
+
+    def send(self, message):
+        """Sends a message and waits for nothing. Gives itself."""
+        self.client.say(json.dumps(message, separators=(",", ":")))
+        return self
+
+    def hear(self, seconds=None):
+        """Reads a text. News are taken, and nothing is given for them; else it is a reply, and is given."""
+        text = self.client.text(seconds)
+        told = json.loads(text)
+        if "news" not in told:
+            return told
+        self.take(told["news"])
+        return None
+
+    def take(self, news):
+        """Takes news, which have to be the next."""
+        if news["seq"] != self.seq + 1:
+            raise Broken(f"{self.name} is told the news {news['seq']} after {self.seq}")
+        for row in news["rows"]:
+            if row.get("gone"):
+                del self.rows[row["el"]]
+            else:
+                self.rows[row["el"]] = row
+        self.seq, self.authors[news["seq"]] = news["seq"], news["by"]
+
+    def reply(self, seconds=None):
+        """The next reply, with the news before it taken."""
+        while True:
+            told = self.hear(seconds)
+            if told is not None:
+                return told
+
+    def ask(self, message, seconds=None):
+        """Sends a message and waits for its reply, which is under its id."""
+        reply = self.send(message).reply(seconds)
+        if reply["id"] != message["id"]:
+            raise Broken(f"{message} is answered {reply}")
+        return reply
+
+    def follow(self, seq, seconds=None):
+        """Takes news until this one, which nothing else may come before."""
+        while self.seq < seq:
+            reply = self.hear(seconds)
+            if reply is not None:
+                raise Broken(f"{self.name} is told {reply} in the place of news")
+
+    def leave(self):
+        """Closes, and sees the answer and the end. Before them may come news."""
+        self.client.close()
+        while not self.client.is_close_next():
+            self.take(json.loads(self.client.text())["news"])
+        code, rest = self.client.closed(), self.client.rest()
+        if (code, rest) != (1000, b""):
+            raise Broken(f"a close with 1000 is answered with {code}, and then comes {rest!r}")
+        self.client.drop()

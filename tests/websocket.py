@@ -1,0 +1,286 @@
+"""A client of a WebSocket (RFC 6455) for tests. It frames whatever it is asked to, also what a client must not send,
+and refuses what a server must not.
+
+`Client(port)` connects, `shake_hands` sends the head of the request and looks at the answer, `send` sends a frame, and
+`read` gives the next that comes. What does not come in time is `Late`, what is against the protocol `Broken`, and
+after the end of the connection comes `Gone`.
+"""
+import base64
+import hashlib
+import os
+import socket
+import struct
+import time
+
+CONTINUATION, TEXT, BINARY, CLOSE, PING, PONG = 0, 1, 2, 8, 9, 10
+NAMES = {CONTINUATION: "continuation", TEXT: "text", BINARY: "binary", CLOSE: "close", PING: "ping", PONG: "pong"}
+
+# The longest payload of a control frame.
+MOST_OF_CONTROL = 125
+
+# What a server adds to the key of a request before it answers with the hash of both.
+SALT = b"258EAFA5-E914-47DA-95CA-C5AB0DC85B11"
+
+
+class Late(Exception):
+    """What was waited for did not come in time."""
+
+
+class Broken(Exception):
+    """What came is against the protocol, or another thing than was waited for."""
+
+
+class Gone(Exception):
+    """The connection is at its end, or was reset."""
+
+
+def make_key():
+    """A key for a request, of sixteen bytes that nobody can tell beforehand."""
+    return base64.b64encode(os.urandom(16)).decode()
+
+
+def answer_to(key):
+    """What a server answers to a key."""
+    return base64.b64encode(hashlib.sha1(key.encode() + SALT).digest()).decode()
+
+
+def head_of_request(key, **others):
+    """The head of a request. Other values of its lines are given by name, and None leaves a line out."""
+    first = others.pop("first", "GET / HTTP/1.1")
+    fields = {"host": "maproom.test", "upgrade": "websocket", "connection": "Upgrade"}
+    fields.update({"sec_websocket_key": key, "sec_websocket_version": "13"}, **others)
+    lines = [f"{name.replace('_', '-')}: {value}" for name, value in fields.items() if value is not None]
+    return "\r\n".join([first, *lines, "", ""]).encode()
+
+
+def check_answer(head, key):
+    """Refuses the head of an answer that does not open a WebSocket, or that chooses what was not offered."""
+    first, *lines = head.decode("latin-1").split("\r\n")
+    fields = {}
+    for line in lines:
+        name, _, value = line.partition(":")
+        if name.lower() in fields:
+            raise Broken(f"the answer has two lines {name}")
+        fields[name.lower()] = value.strip()
+    if first.split(" ")[:2] != ["HTTP/1.1", "101"]:
+        raise Broken(f"the answer begins {first!r}")
+    wanted = {"upgrade": "websocket", "connection": "upgrade"}
+    found = {name: fields.get(name, "").lower() for name in wanted}
+    if found != wanted or fields.get("sec-websocket-accept") != answer_to(key):
+        raise Broken(f"the answer has the lines {lines}")
+    chosen = {"sec-websocket-extensions", "sec-websocket-protocol"} & set(fields)
+    if chosen:
+        raise Broken(f"the answer chooses {chosen}, which was not offered")
+
+
+def masked(payload, mask):
+    """A payload under a mask, and of one that is under it the payload."""
+    stream = (mask * (len(payload) // len(mask) + 1))[: len(payload)]
+    return (int.from_bytes(payload, "big") ^ int.from_bytes(stream, "big")).to_bytes(len(payload), "big")
+
+
+def head_of_frame(opcode, length, last=True, reserved=0, mask=None):
+    """The bytes of a frame before its payload, of which only the length is asked."""
+    first, bit = last << 7 | reserved << 4 | opcode, (mask is not None) << 7
+    if length <= MOST_OF_CONTROL:
+        head = struct.pack("!BB", first, bit | length)
+    elif length < 1 << 16:
+        head = struct.pack("!BBH", first, bit | 126, length)
+    else:
+        head = struct.pack("!BBQ", first, bit | 127, length)
+    return head + (mask or b"")
+
+
+def frame(opcode, payload=b"", last=True, reserved=0, is_masked=True):
+    """The bytes of a frame, as a client sends it if nothing else is asked for."""
+    mask = os.urandom(4) if is_masked else None
+    head = head_of_frame(opcode, len(payload), last, reserved, mask)
+    return head + (masked(payload, mask) if is_masked else payload)
+
+
+def text_frame(text):
+    """The bytes of a text message in one frame."""
+    return frame(TEXT, text.encode())
+
+
+def close_payload(code, reason=b""):
+    """The payload of a close frame, which is empty where there is no code."""
+    return b"" if code is None else struct.pack("!H", code) + reason
+
+
+def code_of(payload):
+    """The code in the payload of a close frame, or none."""
+    return struct.unpack("!H", payload[:2])[0] if payload else None
+
+
+class Client:
+    """A connection to a server on this machine, with what came and was not yet read."""
+
+    def __init__(self, port, patience=20, buffer=None):
+        """Connects. What is waited for has to come within `patience` seconds. `buffer` bounds what waits unread."""
+        self.patience = patience
+        self.came = bytearray()
+        self.was_reset = False
+        self.socket = socket.socket(socket.AF_INET, socket.SOCK_STREAM)
+        try:
+            if buffer is not None:
+                self.socket.setsockopt(socket.SOL_SOCKET, socket.SO_RCVBUF, buffer)
+            self.socket.setsockopt(socket.IPPROTO_TCP, socket.TCP_NODELAY, 1)
+            self.socket.settimeout(patience)
+            self.socket.connect(("127.0.0.1", port))
+        except socket.timeout as error:
+            self.drop()
+            raise Late("the connection was not made in time") from error
+        except OSError:
+            self.drop()
+            raise
+
+    def __enter__(self):
+        return self
+
+    def __exit__(self, *_):
+        self.drop()
+
+    def drop(self):
+        """Closes the connection without a word."""
+        self.socket.close()
+
+    def reset(self):
+        """Has the system reset the connection, as where a program is killed with something unread."""
+        self.socket.setsockopt(socket.SOL_SOCKET, socket.SO_LINGER, struct.pack("ii", 1, 0))
+        self.socket.close()
+
+    def end(self):
+        """Sends the end of the stream. What comes can still be read."""
+        self.socket.shutdown(socket.SHUT_WR)
+
+    def send_bytes(self, data):
+        """Sends bytes as they are."""
+        self.socket.settimeout(self.patience)
+        try:
+            self.socket.sendall(data)
+        except socket.timeout as error:
+            raise Late("what was sent was not taken in time") from error
+        except ConnectionError as error:
+            raise Gone(f"the connection was lost in sending: {error}") from error
+
+    def send_pieces(self, data, size, pause):
+        """Sends bytes in pieces of this size, and waits so many seconds after each."""
+        for start in range(0, len(data), size):
+            self.send_bytes(data[start : start + size])
+            time.sleep(pause)
+
+    def send(self, opcode, payload=b"", **how):
+        """Sends a frame."""
+        self.send_bytes(frame(opcode, payload, **how))
+
+    def say(self, text):
+        """Sends a text message."""
+        self.send_bytes(text_frame(text))
+
+    def close(self, code=1000, reason=b""):
+        """Sends a close frame, without a code where that is None."""
+        self.send(CLOSE, close_payload(code, reason))
+
+    def deadline(self, seconds=None):
+        """When what is waited for is late."""
+        return time.monotonic() + (self.patience if seconds is None else seconds)
+
+    def wait(self, deadline):
+        """Waits for more to come, and keeps it. What is there already is never late."""
+        self.socket.settimeout(max(0.001, deadline - time.monotonic()))
+        try:
+            more = self.socket.recv(1 << 18)
+        except socket.timeout as error:
+            raise Late(f"nothing more came in time behind {bytes(self.came[:100])!r}") from error
+        except ConnectionError as error:
+            self.was_reset = True
+            raise Gone(f"the connection was lost behind {bytes(self.came[:100])!r}: {error}") from error
+        if not more:
+            raise Gone(f"the connection ended behind {bytes(self.came[:100])!r}")
+        self.came += more
+
+    def wait_for(self, count, deadline):
+        """Waits until so many bytes are there."""
+        while len(self.came) < count:
+            self.wait(deadline)
+
+    def take(self, count):
+        """Takes so many bytes of what came."""
+        taken = bytes(self.came[:count])
+        del self.came[:count]
+        return taken
+
+    def read_answer(self, key, seconds=None):
+        """Reads the head of the answer to a request with this key, and looks at it."""
+        deadline = self.deadline(seconds)
+        while b"\r\n\r\n" not in self.came:
+            self.wait(deadline)
+        check_answer(self.take(self.came.index(b"\r\n\r\n") + 4)[:-4], key)
+
+    def shake_hands(self, size=None, pause=0.0, **others):
+        """Sends the head of a request, in pieces where a size is given, and reads the answer. Gives itself."""
+        key = make_key()
+        head = head_of_request(key, **others)
+        self.send_pieces(head, size or len(head), pause)
+        self.read_answer(key)
+        return self
+
+    def read(self, seconds=None):
+        """The next frame, its opcode and its payload. A frame that is not all there in time stays where it is."""
+        deadline = self.deadline(seconds)
+        self.wait_for(2, deadline)
+        first, length, start = self.came[0], self.came[1], 2
+        opcode = first & 15
+        if first & 0xF0 != 0x80 or length & 0x80 or opcode not in NAMES or opcode == CONTINUATION:
+            raise Broken(f"a frame begins {bytes(self.came[:2])!r}: it is no whole message without a mask")
+        if length > MOST_OF_CONTROL:
+            start = {126: 4, 127: 10}[length]
+            self.wait_for(start, deadline)
+            length = int.from_bytes(self.came[2:start], "big")
+            if opcode >= CLOSE or len(head_of_frame(opcode, length)) != start:
+                raise Broken(f"a frame has the head {bytes(self.came[:start])!r}: too long a length for it")
+        self.wait_for(start + length, deadline)
+        return opcode, self.take(start + length)[start:]
+
+    def read_kind(self, wanted, seconds=None):
+        """The payload of the next frame, which has to be of this opcode."""
+        opcode, payload = self.read(seconds)
+        if opcode != wanted:
+            raise Broken(f"a {NAMES[opcode]} came in the place of a {NAMES[wanted]}: {payload[:200]!r}")
+        return payload
+
+    def text(self, seconds=None):
+        """The next frame's text."""
+        return self.read_kind(TEXT, seconds).decode()
+
+    def closed(self, seconds=None):
+        """The code of the next frame, a close; or none, where it has none."""
+        payload = self.read_kind(CLOSE, seconds)
+        if len(payload) == 1:
+            raise Broken("a close has half a code")
+        payload[2:].decode()
+        return code_of(payload)
+
+    def is_close_next(self, seconds=None):
+        """Whether the next frame is a close, which is not read yet."""
+        self.wait_for(1, self.deadline(seconds))
+        return self.came[0] & 15 == CLOSE
+
+    def rest(self, seconds=None):
+        """All that comes before the end of the connection, be it an end or a reset."""
+        deadline = self.deadline(seconds)
+        try:
+            while time.monotonic() < deadline:
+                self.wait(deadline)
+        except Gone:
+            return self.take(len(self.came))
+        raise Late("the connection does not end")
+
+    def is_quiet(self, seconds):
+        """Whether nothing comes for so many seconds, and what came before has been read."""
+        try:
+            self.wait_for(1, self.deadline(seconds))
+        except Late:
+            return True
+        return False
