@@ -35,6 +35,17 @@ def check_each(function, cases):
     CHECKS.update((what, functools.partial(function, case)) for what, case in cases.items())
 
 
+def passes(name, check):
+    """Whether a check passes, which is told."""
+    try:
+        check()
+    except Exception as fault:  # whatever goes wrong is this check's
+        print(f"{name} FAILED: {type(fault).__name__}: {str(fault)[:2000]}", flush=True)
+        return False
+    print(name, "ok", flush=True)
+    return True
+
+
 def serving(*rooms, **how):
     """A server of some rooms, or of `paris`."""
     return Server(given.program, *rooms, **{"patience": PATIENCE * given.slow, **how})

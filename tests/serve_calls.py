@@ -1,0 +1,237 @@
+"""Checks of the server in which one call of the system fails: of a session's reads and writes each in turn, and of those by which the
+program listens, accepts and starts its workers."""
+import collections
+import errno
+import functools
+import itertools
+
+from faulty import WHOLE, failing, finish
+from talk import GONE, check, check_each, create, hello, leave, news, node, ok, refused, serve_next, serving, talk, want, welcome
+from websocket import BINARY, CLOSE, PING, PONG, TEXT, Gone, close_payload, frame, head_of_request, make_key, text_frame
+
+# What a client sends, what comes for it, and how many entries the room has once it was heard.
+Step = collections.namedtuple("Step", "sent wanted seq")
+
+KEY = make_key()
+
+
+def said(*texts):
+    """The bytes of texts, as a server sends them."""
+    return b"".join(frame(TEXT, text.encode(), is_masked=False) for text in texts)
+
+
+def closing(code, is_masked):
+    """The bytes of a close."""
+    return frame(CLOSE, close_payload(code), is_masked=is_masked)
+
+
+# What is said in a session, behind the handshake and before its end. Its rows by the number of entries.
+STORY = [
+    Step(text_frame(hello("anna")), said(welcome(0)), 0),
+    Step(frame(PING, b"ping"), frame(PONG, b"ping", is_masked=False), 0),
+    Step(text_frame(create(2)), said(ok(2, '"seq":1'), news("anna", 1, node())), 1),
+    Step(text_frame('{"id":3,"do":"undo"}'), said(ok(3, '"seq":2,"undid":1'), news("anna", 2, GONE)), 2),
+]
+ROWS = {0: (), 1: (node(),), 2: ()}
+
+# The ways in which a session ends: what is sent last, and where the server closes what answers it.
+ENDINGS = {
+    "left": [Step(closing(1000, True), closing(1000, False), 2)],
+    "binary": [Step(frame(BINARY, b"\x00"), closing(1003, False), 2), Step(closing(1003, True), b"", 2)],
+}
+
+
+@functools.lru_cache(maxsize=None)
+def handshake():
+    """The first step: the head of a request, and the answer, which is asked of a server in which nothing fails."""
+    with serving(workers=1, sessions=1) as server:
+        client = server.connect()
+        client.send_bytes(head_of_request(KEY))
+        while not client.came.endswith(b"\r\n\r\n"):
+            client.wait(client.deadline())
+        return Step(head_of_request(KEY), bytes(client.came), 0)
+
+
+def play(client, story):
+    """Plays a story as far as it goes. Gives how many steps were answered, and what else came before the end."""
+    for place, step in enumerate(story):
+        try:
+            client.send_bytes(step.sent)
+            client.wait_for(len(step.wanted), client.deadline())
+        except Gone:
+            return place, client.rest()
+        want(client.take(len(step.wanted)), step.wanted)
+    return len(story), client.rest()
+
+
+# Calls of a session that fail, each in turn: a kind, an error, how much moves at a time, and how the session else ends.
+Fault = collections.namedtuple("Fault", "call why piece ending")
+
+
+def is_passed_over(fault, place):
+    """Whether a call that fails so, when so many steps were answered, is only made again: a read in which nothing comes, and one that a
+    signal interrupts, as a write behind the handshake."""
+    if fault.call == "read":
+        return fault.why in (errno.EINTR, errno.EAGAIN)
+    return fault.why == errno.EINTR and place > 0
+
+
+def end_of(fault, place):
+    """How a session ends in which so many steps were answered before the fault: as ever where the close was going out."""
+    close = 1 + len(STORY)
+    is_closing = place > close or (place == close and fault.call == "write")
+    return fault.ending if is_closing or is_passed_over(fault, place) else "fault"
+
+
+def serve_after(server, seq):
+    """The next session finds what was accepted, and is told so where it sends a change again. Gives the entries then."""
+    client = server.client()
+    talk(client, hello("anna"), welcome(seq, *ROWS[seq]))
+    if seq:
+        talk(client, create(2), refused(2, '"seq":1,"why":"repeat"'))
+    else:
+        talk(client, create(2), ok(2, '"seq":1'), news("anna", 1, node()))
+    leave(client)
+    return max(seq, 1)
+
+
+def fail_in_session(fault, number):
+    """Fails a call. Where it is one of the first session, this ends, and the next one is served at the same worker. Else it is the
+    first one of the next session, in which nothing comes. Gives whether it was one of the first session."""
+    story = [handshake(), *STORY, *ENDINGS[fault.ending]]
+    with failing(fault.call, number, fault.why, fault.piece, sessions=2) as server:
+        place, rest = play(server.connect(), story)
+        is_first = server.has_failed()
+        if not is_first or is_passed_over(fault, place):
+            want((place > 1 + len(STORY), rest), (True, b""))
+        want(place == len(story) or story[place].wanted.startswith(rest), True)
+        if is_first or is_passed_over(fault, 0):
+            heard = story[: place + (fault.call == "write")]
+            front = serve_after(server, heard[-1].seq if heard else 0)
+            finish(server, front, end_of(fault, place), "left")
+        else:
+            want(play(server.connect(), story), (0, b""))
+            finish(server, 2, fault.ending, "fault")
+        return is_first
+
+
+def each_call(fault):
+    """Each call of a session fails in turn."""
+    for number in itertools.count(1):
+        if not fail_in_session(fault, number):
+            want(number > len(STORY), True)
+            break
+
+
+ERRORS = {"read": (errno.ECONNRESET, errno.EINTR, errno.EAGAIN), "write": (errno.EPIPE, errno.EAGAIN, errno.EINTR)}
+# A few bytes, so that most of what goes either way is cut.
+PIECE = 15
+FAULTS = [
+    Fault(call, why, piece, ending)
+    for call, errors in ERRORS.items()
+    for why, piece, ending in itertools.product(errors, (WHOLE, PIECE), ENDINGS)
+]
+
+
+def name_of(fault):
+    """What a fault is called."""
+    pieces = "" if fault.piece == WHOLE else " in pieces"
+    return f"each {fault.call}{pieces} fails by {errno.errorcode[fault.why]}, {fault.ending}"
+
+
+check_each(each_call, {name_of(fault): fault for fault in FAULTS})
+
+
+@check
+def news_that_cannot_be_sent():
+    """The session of a silent client ends where its news cannot be sent. That of the other one goes on."""
+    with failing("write", 3, errno.EPIPE, session=1, workers=2, sessions=3) as server:
+        anna, bob = server.client(), server.client()
+        for client, name in ((anna, "anna"), (bob, "bob")):
+            talk(client, hello(name), welcome(0))
+        talk(bob, create(2), ok(2, '"seq":1'), news("bob", 1, node()))
+        want(anna.rest(), b"")
+        talk(bob, '{"id":3,"do":"map"}', welcome(1, node(), number=3))
+        leave(bob)
+        serve_next(server, "zoe", 1, node())
+        finish(server, 1, "fault", "left", "left")
+
+
+@check
+def handshakes_that_fail():
+    """Three in a row, by their heads and by the answer that cannot be sent. Then the same worker serves, and stops."""
+    with failing("write", 1, sessions=4) as server:
+        for head in (b"hello\r\n\r\n", b"GET / HTTP/1.1\r\n\r\n", head_of_request(KEY)):
+            client = server.connect()
+            client.send_bytes(head)
+            want(client.rest(), b"")
+        finish(server, serve_after(server, 0), "fault", "fault", "fault", "left")
+
+
+@check
+def accepts_that_fail():
+    """An accept that fails is a session that ends as a fault, and the connection is left for the next one."""
+    for number, why in itertools.product((1, 2, 3), (errno.ECONNABORTED, errno.EMFILE)):
+        with failing("accept", number, why, sessions=3) as server:
+            for _ in range(2):
+                serve_next(server)
+            finish(server, 0, *[None if session == number else "left" for session in (1, 2, 3)])
+
+
+@check
+def an_accept_that_is_interrupted():
+    """It is made again, and is no session."""
+    with failing("accept", 1, errno.EINTR, sessions=2) as server:
+        serve_next(server)
+        want(server.has_failed(), True)
+        serve_next(server)
+        finish(server, 0, "left", "left")
+
+
+@check
+def all_accepts_that_fail():
+    """Where no accept succeeds the program ends with the last one."""
+    with failing("accept", 1, sessions=1) as server:
+        finish(server, 0, None)
+
+
+def time_limit(option):
+    """A connection whose reads or writes would not end is not accepted, and ends. The others are served."""
+    for number in (1, 2, 3):
+        with failing(option, number, errno.ENOPROTOOPT, sessions=3) as server:
+            for session in (1, 2, 3):
+                if session == number:
+                    want(server.connect().rest(), b"")
+                else:
+                    serve_next(server)
+            finish(server, 0, *[None if session == number else "left" for session in (1, 2, 3)])
+
+
+check_each(time_limit, {f"a connection without its {option}": option for option in ("read_time", "write_time")})
+
+
+@check
+def no_delay_that_fails():
+    """That a write goes out at once is asked for, and not needed."""
+    with failing("no_delay", 1, sessions=1) as server:
+        front = serve_after(server, 0)
+        want(server.has_failed(), True)
+        finish(server, front, "left")
+
+
+@check
+def workers_that_do_not_start():
+    """Where the thread of one is not started nobody is served, those that were started stop, and the program ends."""
+    for number in (1, 2, 3):
+        with failing("thread", number, errno.EAGAIN, workers=3) as server:
+            want(server.end(), (1, "listening\n", {}, ["maproom: cannot start a worker\n"]))
+    with failing("thread", 4, workers=3) as server:
+        finish(server, serve_after(server, 0), "left")
+
+
+@check
+def addresses_that_are_refused():
+    """A program that cannot listen says so, before it prints anything."""
+    for call, why in (("bind", errno.EACCES), ("bind", errno.EADDRINUSE), ("listen", errno.EADDRINUSE), ("reuse", errno.ENOMEM)):
+        with failing(call, 1, why) as server:
+            want(server.end(), (1, "", {}, ["maproom: cannot listen\n"]))
