@@ -84,7 +84,7 @@ def end_of(fault, place):
 
 
 def serve_after(server, seq):
-    """The next session finds what was accepted, and is told so where it sends a change again. Gives the entries then."""
+    """The client after it finds what was accepted, and is told so where it sends a change again. Gives the entries then."""
     client = server.client()
     talk(client, hello("anna"), welcome(seq, *ROWS[seq]))
     if seq:
@@ -96,8 +96,8 @@ def serve_after(server, seq):
 
 
 def fail_in_session(fault, number):
-    """Fails a call. Where it is one of the first session, this ends, and the next one is served at the same worker. Else it is the
-    first one of the next session, in which nothing comes. Gives whether it was one of the first session."""
+    """Fails a call. Where it is one of the first client's connection, this ends, and the second client is served at the same worker.
+    Else it is the first one of the second connection, in which nothing comes. Gives whether it was one of the first."""
     story = [handshake(), *STORY, *ENDINGS[fault.ending]]
     with failing(fault.call, number, fault.why, fault.piece, sessions=2) as server:
         place, rest = play(server.connect(), story)

@@ -131,7 +131,7 @@ def refuse(growth, sessions, told):
 
 def each_growth(sessions):
     """Each growth of a run of so many sessions is refused in turn, until a run has none that is refused. Each of what may come of it has
-    come of some; and where there was a next session, each change was told to be a repeat in some of them."""
+    come of some; and where a second client came, each change was told to be a repeat in some of them."""
     outcomes, repeated = collections.Counter(), set()
     for growth in itertools.count(1):
         told = Told()
