@@ -31,15 +31,20 @@ module _ {A : Type 0} where
   abbrev pub is_missing : Rows A → Name → Name → Bool
   is_missing m x e = not (is_same x e) && is_absent m e
 
-  -- the kinds are one, the name is new, the list has its length, and what is named is there
+  -- the list has its length, and what is named is there
+  abbrev pub list_checks : Rows A → Name → Element A → List (Option (Refusal A))
+  list_checks m x v =
+      then_some (is_too_short v) (TooFew x)
+      ∷ then_some (is_too_long v) (TooMany x)
+      ∷ the_least Absent (filter (is_missing m x) (references v))
+      ∷ []
+
+  -- the kinds are one, the name is new, and the list can be so
   abbrev pub create_checks : Rows A → Name → Element A → List (Option (Refusal A))
   create_checks m x v =
       then_some (not (is_kind (kind_of v) x.kind)) (WrongKind x)
       ∷ then_some (is_present m x) (Present x)
-      ∷ then_some (is_too_short v) (TooFew x)
-      ∷ then_some (is_too_long v) (TooMany x)
-      ∷ the_least Absent (filter (is_missing m x) (references v))
-      ∷ []
+      ∷ list_checks m x v
 
   -- row x is v
   abbrev pub after_create : Rows A → Name → Element A → Rows A

@@ -7,6 +7,7 @@ mod cut_short;
 mod delete;
 pub mod laws;
 pub mod limits;
+pub mod lists;
 pub mod lookup;
 mod moving;
 pub mod plans;

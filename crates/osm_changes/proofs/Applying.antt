@@ -1,17 +1,17 @@
 -- Changes applied one by one lead to the map after them.
-use Rattle.std.proofs.Common.{◌≡◌, ◌||◌, ◌&&◌, ◌<◌, ◌+◌, ℕ, zero, suc, Bool, true, false, not, T, List, [], ◌∷◌, ◌++◌, Option, Some, None, is_some, is_none, length, get_or, take, drop, map, All, refl, sym, ap, subst, ◌∙◌, cond, arith}
+use Rattle.std.proofs.Common.{◌≡◌, ◌||◌, ◌&&◌, ◌<◌, ◌+◌, ℕ, zero, suc, Bool, true, false, not, T, List, [], ◌∷◌, ◌++◌, Option, Some, None, is_some, is_none, length, get_or, take, drop, map, refl, sym, ap, subst, ◌∙◌, cond, arith}
 use Rattle.std.specs.List.{filter, fold}
 use Rattle.std.proofs.lemmas.List.{get_or-drop, get_or-map}
 use Rattle.osm_elements.specs.declared.name.Name.{Name}
 use Rattle.osm_elements.specs.declared.element.Element.{Element}
-use Rattle.osm_elements.specs.Rows.{AreInOrder, row_at, put_row, without_row}
-use Rattle.osm_elements.specs.Facts.Rows.{same_names, is_eq-name_cmp_itself, row_at-put_row, AreInOrder-put_row, AreInOrder-without_row}
+use Rattle.osm_elements.specs.Rows.{AreInOrder, row_at, without_row}
+use Rattle.osm_elements.specs.Facts.Rows.{same_names, row_at-put_row, AreInOrder-put_row, AreInOrder-without_row}
 use Rattle.osm_elements.specs.Maps.{Rows, is_same, is_among}
 use Rattle.osm_changes.specs.declared.change.Change.{Change}
 use Rattle.osm_changes.specs.Changes.{changed, changed_names, are_rising, AreFrom}
-use Rattle.osm_changes.specs.Inner.Applying.{is_new, is_new_name, rewritten, with_new, without_new, replaced, AreThere}
+use Rattle.osm_changes.specs.Inner.Applying.{is_new, rewritten, with_new, without_new, replaced, AreThere}
 use Rattle.osm_changes.specs.Facts.Changing.{AreInOrder-changed}
-use Rattle.osm_changes.proofs.Between.{Between, at_start, at_end, back_at_start, told_otherwise, one_put, one_out, one_kept, one_back, after_out}
+use Rattle.osm_changes.proofs.Between.{Between, at_start, at_end, back_at_start, told_otherwise, one_put, one_out, one_back, after_out}
 use Rattle.osm_changes.proofs.Found.{kept, reached, earlier, cut_at}
 
 or_assoc : (a b c : Bool) → (a || (b || c)) ≡ ((b || a) || c)

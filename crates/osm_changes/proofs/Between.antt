@@ -1,9 +1,7 @@
 -- A map on its way from one to another, name by name.
-use Rattle.std.proofs.Common.{◌≡◌, ◌≢◌, ◌&&◌, ◌||◌, Bool, true, false, not, Option, Some, None, refl, sym, ap, ◌∙◌, cond}
-use Rattle.std.specs.Ordering.{is_eq}
+use Rattle.std.proofs.Common.{◌≡◌, ◌&&◌, ◌||◌, Bool, true, false, not, Option, Some, None, refl, sym, ap, ◌∙◌, cond}
 use Rattle.osm_elements.specs.declared.name.Name.{Name}
 use Rattle.osm_elements.specs.declared.element.Element.{Element}
-use Rattle.osm_elements.specs.NameOrder.{name_cmp}
 use Rattle.osm_elements.specs.Rows.{AreInOrder, row_at, put_row, without_row}
 use Rattle.osm_elements.specs.Facts.Rows.{same_names, same_rows, row_at-put_row, row_at-without_row, AreInOrder-put_row, AreInOrder-without_row}
 use Rattle.osm_elements.specs.Facts.Dropped.{same_either_way}

@@ -3,4 +3,5 @@ pub mod Between
 pub mod Found
 pub mod NotesTaken
 pub mod Restoring
+pub mod RowsNoted
 pub mod Turning

@@ -1,11 +1,10 @@
 -- Changes taken back restore the map that they are from.
-use Rattle.std.proofs.Common.{◌≡◌, ◌≢◌, ◌||◌, ◌<◌, ◌+◌, ℕ, zero, suc, Bool, true, false, not, T, List, [], ◌∷◌, ◌++◌, Option, length, get_or, map, All, refl, sym, ap, subst, ◌∙◌, arith, cond}
+use Rattle.std.proofs.Common.{◌≡◌, ◌≢◌, ◌||◌, ◌<◌, ℕ, zero, suc, Bool, true, false, not, T, List, [], ◌∷◌, ◌++◌, length, get_or, map, refl, sym, ap, subst, ◌∙◌, arith, cond}
 use Rattle.std.specs.List.{filter}
 use Rattle.std.specs.FinMap.Entries.{is_sorted}
 use Rattle.std.proofs.lemmas.List.{map-append}
 use Rattle.std.proofs.lemmas.List.Elements.{All-map}
 use Rattle.osm_elements.specs.declared.name.Name.{Name}
-use Rattle.osm_elements.specs.declared.element.Element.{Element}
 use Rattle.osm_elements.specs.Rows.{AreInOrder, row_at}
 use Rattle.osm_elements.specs.Facts.Rows.{same_names, same_rows}
 use Rattle.osm_elements.specs.Maps.{Rows, is_same, is_among, name_set, names_of}

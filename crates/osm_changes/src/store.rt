@@ -12,7 +12,7 @@ ghost use Rattle.osm_changes.specs.Inner.Stores.{users_of, notes_of};
 use crate::apply::{put_new, replace, replacements};
 use crate::change::Change;
 use crate::changes::Changes;
-use crate::noting::{note, ready};
+use crate::noting::{note, ready, users_of};
 use osm_elements::Memory;
 use osm_elements::element::Element;
 use osm_elements::map::OsmMap;
@@ -57,6 +57,23 @@ impl<A: Allocator> Store<A> {
             users: Users::new(alloc),
             applied: 0,
         }
+    }
+
+    /// A store of a sound map, to which no change was applied. It costs the map's references, times a logarithm, and copies
+    /// no element. The one refusal is want of memory.
+    pub fn from_map(alloc: A, map: OsmMap<A>) -> Result<Store<A>, Memory>
+    where
+        A: Copy,
+        requires { is_sound map ≡ true }
+        ensures { IfOk result (λ s. s ≡ record { rows = map; applied = 0 }) }
+    {
+        let users = users_of(alloc, &map)?;
+        let applied = 0;
+        Ok(Store {
+            map,
+            users,
+            applied,
+        })
     }
 
     /// The map, which is sound.

@@ -1,5 +1,5 @@
 //! A map of elements by their names.
-ghost use Rattle.std.specs.Prelude.{◌≡◌, ◌↔◌, [], length, map, IfOk, IfErr, IfSome, IsTrue, None};
+ghost use Rattle.std.specs.Prelude.{◌≡◌, ◌↔◌, [], length, map, IfOk, IfErr, IfSome, OnOk, OnErr, IsTrue, None};
 ghost use Rattle.std.specs.Option.{option_copied};
 ghost use Rattle.std.specs.Slice.Iter.{iter_rest};
 
@@ -124,6 +124,34 @@ impl<A: Allocator> OsmMap<A> {
     {
         OsmMap {
             elements: BTreeMap::new(alloc),
+        }
+    }
+
+    /// The map of these rows, whose names rise, as those of [`OsmMap::rows`] do. The one refusal is want of memory. It
+    /// takes time for each row logarithmic in their number, and copies no element.
+    pub fn from_rows(alloc: A, rows: Rows<A>) -> Result<OsmMap<A>, Memory>
+    where
+        A: Clone,
+        requires { AreInOrder rows }
+        ensures { IfOk result (λ m. m ≡ rows) }
+    {
+        let mut map = OsmMap::new(alloc);
+        for row in rows.into_vec() {
+            map.put_next(row)?;
+        }
+        Ok(map)
+    }
+
+    // Puts a row. After a refusal, which is want of memory, the map is as it was.
+    fn put_next(&mut self, row: Row<A>) -> Result<(), Memory>
+    where
+        A: Clone,
+        ensures ok { OnOk result (self.new ≡ put_row self.old row.name row.element) }
+        ensures err { OnErr result (self.new ≡ self.old) }
+    {
+        match self.put(row.name, row.element) {
+            Ok(_) => Ok(()),
+            Err((_, memory)) => Err(memory),
         }
     }
 

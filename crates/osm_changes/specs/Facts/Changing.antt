@@ -3,8 +3,8 @@ use Rattle.std.proofs.Common.{◌≡◌, ◌||◌, Bool, true, false, not, List,
 use Rattle.osm_elements.specs.declared.name.Name.{Name}
 use Rattle.osm_elements.specs.declared.element.Element.{Element}
 use Rattle.osm_elements.specs.Rows.{AreInOrder, row_at}
-use Rattle.osm_elements.specs.Facts.Rows.{same_names, is_eq-name_cmp_itself, row_at_is_find, row_at-put_row, AreInOrder-put_row, same_rows}
-use Rattle.osm_elements.specs.Maps.{Rows, is_same, is_among, is_present, name_set, names_of, rows_but}
+use Rattle.osm_elements.specs.Facts.Rows.{same_names, row_at-put_row, AreInOrder-put_row, same_rows}
+use Rattle.osm_elements.specs.Maps.{Rows, is_same, is_among, is_present, name_set, names_of}
 use Rattle.osm_changes.specs.declared.change.Change.{Change}
 use Rattle.osm_changes.specs.SameRows.{is_same_row}
 use Rattle.osm_changes.specs.Changes.{differing, differences, inverse, with_row, changed}

@@ -1,5 +1,5 @@
 -- What the tests of equality tell.
-use Rattle.std.proofs.Common.{◌≡◌, ◌&&◌, Bool, true, false, ℕ, ℤ, List, [], ◌∷◌, Option, Some, None, refl, sym, ap}
+use Rattle.std.proofs.Common.{◌≡◌, ◌&&◌, Bool, true, ℕ, ℤ, List, [], ◌∷◌, Option, Some, None, refl, sym, ap}
 use Rattle.std.specs.Ordering.{int_eq, int_cmp}
 use Rattle.std.specs.Cmp.Lexicographic.{pointwise, same_text}
 use Rattle.std.specs.FinMap.{int_cmp-IsAntisymmetric}

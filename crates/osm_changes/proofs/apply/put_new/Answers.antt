@@ -1,4 +1,4 @@
-use Rattle.std.proofs.Common.{◌≡◌, ◌∙◌, ap, take}
+use Rattle.std.proofs.Common.{◌∙◌, ap, take}
 use Rattle.std.specs.List.{fold}
 use Rattle.osm_changes.specs.Inner.Applying.{without_new}
 use Rattle.osm_changes.proofs.Applying.{taken_out_again}

@@ -1,5 +1,4 @@
-use Rattle.std.proofs.Common.{◌≡◌, ◌∙◌, ap, sym, subst, is_some, true, get_or}
-use Rattle.osm_elements.specs.Rows.{row_at}
+use Rattle.std.proofs.Common.{◌∙◌, ap, sym}
 use Rattle.osm_changes.specs.Inner.Applying.{replacement}
 use Rattle.osm_changes.proofs.Applying.{copy_at, there_at}
 use Rattle.osm_changes.proofs.apply.replace.Goals as goal

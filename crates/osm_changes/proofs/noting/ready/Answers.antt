@@ -1,4 +1,4 @@
-use Rattle.std.proofs.Common.{◌≡◌, ◌∙◌, ap, sym, take, get_or}
+use Rattle.std.proofs.Common.{◌∙◌, ap, sym, take}
 use Rattle.osm_elements.specs.Maps.{name_set}
 use Rattle.osm_elements.specs.Rows.{row_at}
 use Rattle.osm_changes.specs.Changes.{changed}

@@ -1,4 +1,4 @@
-use Rattle.std.proofs.Common.{◌≡◌, ◌++◌, take, drop, map}
+use Rattle.std.proofs.Common.{◌≡◌, ◌++◌, take, drop}
 use Rattle.osm_changes.specs.Changes.{inverse}
 use Rattle.osm_changes.proofs.changes.Changes.inverse.Given as goal
 

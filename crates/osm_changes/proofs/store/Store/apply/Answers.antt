@@ -1,13 +1,13 @@
-use Rattle.std.proofs.Common.{◌≡◌, ◌∙◌, [], refl, ap, sym, subst, length, true, T, List}
+use Rattle.std.proofs.Common.{◌≡◌, ◌∙◌, [], refl, ap, sym, subst, true, T, List}
 use Rattle.std.specs.List.{fold}
 use Rattle.osm_elements.specs.Maps.{Rows}
 use Rattle.osm_elements.specs.Rows.{AreInOrder}
 use Rattle.osm_refs.specs.Tables.{UsersState, noted, table_of}
 use Rattle.osm_changes.specs.declared.change.Change.{Change}
-use Rattle.osm_changes.specs.Changes.{AreChanges, AreFrom, changed, changed_names, are_rising}
+use Rattle.osm_changes.specs.Changes.{AreFrom, changed, changed_names, are_rising}
 use Rattle.osm_changes.specs.Sound.{is_sound}
 use Rattle.osm_changes.specs.Inner.Applying.{AreThere, with_new, replaced}
-use Rattle.osm_changes.specs.Inner.Stores.{IsStore, notes_of, users_of}
+use Rattle.osm_changes.specs.Inner.Stores.{notes_of, users_of}
 use Rattle.osm_changes.specs.Facts.SoundRows.{sound_in_order}
 use Rattle.osm_changes.proofs.Applying.{order-with_new, are_there, leads_to_changed}
 use Rattle.osm_changes.proofs.NotesTaken.{noted_is}

@@ -3,7 +3,7 @@ use Rattle.std.specs.List.{filter}
 use Rattle.osm_elements.specs.Maps.{least}
 use Rattle.edit_simple.specs.Create.{is_missing}
 use Rattle.edit_simple.proofs.MemberNames.{names_of_pairs}
-use Rattle.edit_simple.proofs.create.least_missing_reference.Goals as goal
+use Rattle.edit_simple.proofs.lists.least_missing_reference.Goals as goal
 
 pub returns-in-Relation : goal.returns-in-Relation
 returns-in-Relation g c =

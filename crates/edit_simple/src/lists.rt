@@ -1,0 +1,73 @@
+//! What the list of an element may be: its length, and what it names.
+ghost use Rattle.std.specs.Prelude.{◌≡◌};
+ghost use Rattle.std.specs.List.{filter};
+ghost use Rattle.osm_elements.specs.Maps.{least};
+ghost use Rattle.osm_refs.specs.References.{references};
+ghost use Rattle.edit_simple.specs.Checks.{first_that_holds};
+ghost use Rattle.edit_simple.specs.Create.{is_too_short, is_too_long, is_missing, list_checks};
+
+use crate::limits::{FEWEST_NODES, MOST_MEMBERS, MOST_NODES};
+use crate::lookup::{least_missing, least_missing_member};
+use crate::refusal::Refusal;
+use osm_elements::element::Element;
+use osm_elements::map::OsmMap;
+use osm_elements::name::Name;
+use std::alloc::Allocator;
+
+/// Why an element cannot stand under a name beside the rows of a map, if it cannot: `TooFew` for a way of fewer than 2 nodes,
+/// then `TooMany` for one of more than 2,000 or a relation of more than 32,000 members, then `Absent` with the least name that
+/// it refers to, other than its own, which the map doesn't have. It takes no memory, and a look-up for each reference.
+pub fn list_fault<A: Allocator>(
+    rows: &OsmMap<A>,
+    name: &Name,
+    element: &Element<A>,
+) -> Option<Refusal<A>>
+    ensures { result ≡ first_that_holds (list_checks rows.now name.now element.now) }
+{
+    if is_too_short(element) {
+        return Some(Refusal::TooFew(*name));
+    }
+    if is_too_long(element) {
+        return Some(Refusal::TooMany(*name));
+    }
+    match least_missing_reference(rows, name, element) {
+        Some(absent) => Some(Refusal::Absent(absent)),
+        None => None,
+    }
+}
+
+// Whether it is a way of fewer than 2 nodes.
+fn is_too_short<A: Allocator>(element: &Element<A>) -> bool
+    ensures { result ≡ is_too_short element.now }
+{
+    match element {
+        Element::Way { nodes, .. } => nodes.len() < FEWEST_NODES,
+        _ => false,
+    }
+}
+
+// Whether it is a way of more than 2,000 nodes or a relation of more than 32,000 members.
+fn is_too_long<A: Allocator>(element: &Element<A>) -> bool
+    ensures { result ≡ is_too_long element.now }
+{
+    match element {
+        Element::Node { .. } => false,
+        Element::Way { nodes, .. } => nodes.len() > MOST_NODES,
+        Element::Relation { members, .. } => members.len() > MOST_MEMBERS,
+    }
+}
+
+// The least of the names that the element refers to, other than the new one, that the map doesn't have.
+fn least_missing_reference<A: Allocator>(
+    rows: &OsmMap<A>,
+    name: &Name,
+    element: &Element<A>,
+) -> Option<Name>
+    ensures { result ≡ least (filter (is_missing rows.now name.now) (references element.now)) }
+{
+    match element {
+        Element::Node { .. } => None,
+        Element::Way { nodes, .. } => least_missing(rows, name, nodes.names()),
+        Element::Relation { members, .. } => least_missing_member(rows, name, members.as_slice()),
+    }
+}
