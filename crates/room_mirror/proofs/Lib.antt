@@ -1,5 +1,4 @@
 pub mod Following
-pub mod MadeMaps
 pub mod Refusing
 pub mod ReplacedRows
 pub mod Rising

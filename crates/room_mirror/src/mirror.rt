@@ -1,13 +1,13 @@
 //! The mirror.
-ghost use Rattle.std.specs.Prelude.{◌≡◌, ◌+◌, IfOk, IfErr, OnOk, OnErr, None, nat_eq};
-ghost use Rattle.osm_elements.specs.Rows.{AreInOrder, put_row};
+ghost use Rattle.std.specs.Prelude.{◌≡◌, ◌+◌, IfOk, IfErr, OnOk, None, nat_eq};
+ghost use Rattle.osm_elements.specs.Rows.{AreInOrder};
 ghost use Rattle.room_mirror.specs.Mirrors.{due_after};
 
 use crate::fault::MirrorFault;
 use crate::fitting::fits;
 use crate::replacing::replace;
 use osm_elements::Memory;
-use osm_elements::map::{OsmMap, Row, Rows};
+use osm_elements::map::{OsmMap, Rows};
 use room_history::news::News;
 use room_wire::welcome::Welcome;
 use std::alloc::{Allocator, Global};
@@ -42,7 +42,7 @@ impl<A: Allocator + Copy> Mirror<A> {
         requires { AreInOrder rows }
         ensures { IfOk result (λ m. m ≡ record { seq = seq; rows = rows }) }
     {
-        let map = map_of(alloc, rows)?;
+        let map = OsmMap::from_rows(alloc, rows)?;
         Ok(Mirror { alloc, seq, map })
     }
 
@@ -124,27 +124,4 @@ fn due_after(seq: u64) -> u64
     ensures { result ≡ due_after seq }
 {
     seq.saturating_add(1)
-}
-
-// A map of rows whose names rise. The one refusal is want of memory.
-fn map_of<A: Allocator + Copy>(alloc: A, rows: Rows<A>) -> Result<OsmMap<A>, Memory>
-    requires { AreInOrder rows }
-    ensures { IfOk result (λ m. m ≡ rows) }
-{
-    let mut map = OsmMap::new(alloc);
-    for row in rows.into_vec() {
-        put(&mut map, row)?;
-    }
-    Ok(map)
-}
-
-// Puts a row. After a refusal, which is want of memory, the map is as it was.
-fn put<A: Allocator + Copy>(map: &mut OsmMap<A>, row: Row<A>) -> Result<(), Memory>
-    ensures ok { OnOk result (map.new ≡ put_row map.old row.name row.element) }
-    ensures err { OnErr result (map.new ≡ map.old) }
-{
-    match map.put(row.name, row.element) {
-        Ok(_) => Ok(()),
-        Err((_, memory)) => Err(memory),
-    }
 }
