@@ -29,8 +29,8 @@ def library(name):
 class Faulty(Server):
     """A server for a run in an environment in which something fails. It may end before it listens."""
 
-    def __init__(self, environment, **how):
-        super().__init__(given.program, **{"patience": PATIENCE * given.slow, "workers": 1, **how})
+    def __init__(self, environment, rooms=(), **how):
+        super().__init__(given.program, *rooms, **{"patience": PATIENCE * given.slow, "workers": 1, **how})
         self.environment = environment
 
     def words(self, addr):

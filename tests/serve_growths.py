@@ -15,15 +15,26 @@ MEMORY = '"why":"memory"'
 # What comes of a growth that is refused, beside a session's end by `memory` or `fault`.
 BEGINNING, ANSWERED, DONE, END = "before all sessions", "answered", "done without", "after all sessions"
 
-# What each session says, the same again and again: under its ids nothing is done twice. The rows by the number of entries.
+# What each session says, the same again and again: under its ids nothing is done twice. The rows by the number of entries, before
+# those of the map that the room began with.
 MESSAGES = {1: hello("anna"), 2: create(2), 3: '{"id":3,"do":"map"}', 4: '{"id":4,"do":"undo"}'}
 ROWS = {0: (), 1: (node(),), 2: ()}
 
+# A run: how many sessions, which rooms, the first of which they are with, and the rows of the map that these begin with, if any.
+Run = collections.namedtuple("Run", "sessions rooms rows", defaults=(("paris",), None))
 
-def answer(number, seq):
+# A map with an element of each kind.
+BASE_ROWS = (
+    node(el="n1", tags='{"name":"Café"}'),
+    '{"el":"w1","nodes":[1,1],"tags":{}}',
+    '{"el":"r1","members":[["w1","outer"],["r1",""]],"tags":{}}',
+)
+
+
+def answer(run, number, seq):
     """What a room with so many entries answers to a message, and how many it has then."""
     if number in (1, 3):
-        return [welcome(seq, *ROWS[seq], number=number)], seq
+        return [welcome(seq, *ROWS[seq], *(run.rows or ()), number=number)], seq
     if number == 2 and seq == 0:
         return [ok(2, '"seq":1'), news("anna", 1, node())], 1
     if number == 4 and seq == 1:
@@ -49,8 +60,8 @@ class Told:
     """What a room told by now in the sessions of a run: how many entries it has, each number that is possible; how often it told want of
     memory; and which message was told to be a repeat that had no answer before but a close."""
 
-    def __init__(self):
-        self.seqs = {0}
+    def __init__(self, run):
+        self.run, self.seqs = run, {0}
         self.memory = self.asked = self.closed = 0
         self.repeated = None
 
@@ -61,7 +72,7 @@ class Told:
             self.memory, self.seqs = self.memory + 1, before
             want(self.memory, 1)
             text = self.first_text(client, number)
-        found = [told for told in (answer(number, seq) for seq in before) if told[0][0] == text]
+        found = [told for told in (answer(self.run, number, seq) for seq in before) if told[0][0] == text]
         if len(found) != 1:
             raise Broken(f"the message {number} is answered {text!r} by a room with {before} entries")
         texts, after = found[0]
@@ -74,7 +85,7 @@ class Told:
     def first_text(self, client, number):
         """Sends a message, and gives the first text that comes for it. Where the session ends before that the message may have been heard.
         Where it is closed it was: there was memory for all but the text of its answer."""
-        self.asked, afterwards = number, {answer(number, seq)[1] for seq in self.seqs}
+        self.asked, afterwards = number, {answer(self.run, number, seq)[1] for seq in self.seqs}
         self.seqs = self.seqs | afterwards
         client.say(MESSAGES[number])
         try:
@@ -108,7 +119,9 @@ def outcome(server, told, seen):
     """Sees that the program ended as it may where a growth was refused in it, and gives what came of that."""
     found = server.end()
     served = {number: logged(end) for number, end in enumerate(seen, 1)}
-    if found in [(0, f"listening\nparis {seq}\n", served, []) for seq in told.seqs]:
+    first, *others = told.run.rooms
+    idle = "".join(f"{room} 0\n" for room in others)
+    if found in [(0, f"listening\n{first} {seq}\n{idle}", served, []) for seq in told.seqs]:
         came = [end for end in seen if end != "left"] + [ANSWERED] * told.memory
         want(len(came) <= 1, True)
         return came[0] if came else DONE
@@ -120,29 +133,35 @@ def outcome(server, told, seen):
     return END
 
 
-def refuse(growth, sessions, told):
-    """Refuses a growth in a run of so many sessions. Gives what came of it, or nothing where there was no such growth."""
-    with Faulty(refusing(library("refusing"), growth), sessions=sessions) as server:
+def refuse(growth, told):
+    """Refuses a growth in a run. Gives what came of it, or nothing where there was no such growth."""
+    sessions, rooms, rows = told.run
+    base = None if rows is None else welcome(7, *rows) + "\n"
+    with Faulty(refusing(library("refusing"), growth), rooms, sessions=sessions, base=base) as server:
         has_begun = server.told(server.output) == "listening\n"
         seen = [told.play(server) for _ in range(sessions)] if has_begun else []
         what = outcome(server, told, seen)
         return what if server.has_failed() else None
 
 
-def each_growth(sessions):
-    """Each growth of a run of so many sessions is refused in turn, until a run has none that is refused. Each of what may come of it has
-    come of some; and where a second client came, each change was told to be a repeat in some of them."""
+def each_growth(run):
+    """Each growth of a run is refused in turn, until a run has none that is refused. Each of what may come of it has come of some; and
+    where a second client came, each change was told to be a repeat in some of them."""
     outcomes, repeated = collections.Counter(), set()
     for growth in itertools.count(1):
-        told = Told()
-        what = refuse(growth, sessions, told)
+        told = Told(run)
+        what = refuse(growth, told)
         if what is None:
             break
         outcomes[what] += 1
         repeated.add(told.repeated)
     print(f"{growth - 1} growths were refused: {', '.join(f'{count} {what}' for what, count in outcomes.items())}")
     want(set(outcomes) - {DONE}, {BEGINNING, ANSWERED, "memory", "fault", END})
-    want(repeated, {None} if sessions == 1 else {None, 2, 4})
+    want(repeated, {None} if run.sessions == 1 else {None, 2, 4})
 
 
-check_each(each_growth, {"each growth, one session": 1, "each growth, two sessions": 2})
+check_each(each_growth, {
+    "each growth, one session": Run(1),
+    "each growth, two sessions": Run(2),
+    "each growth, two rooms on a base": Run(1, ("paris", "rome"), BASE_ROWS),
+})

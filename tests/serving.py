@@ -50,11 +50,12 @@ def ends_of(log):
 
 
 class Server:
-    """A server of some rooms for so many sessions. Whoever leaves its block closes its clients, and ends it."""
+    """A server of some rooms for so many sessions, which begin with the map of a text if there is one. Whoever leaves its block closes
+    its clients, and ends it."""
 
-    def __init__(self, program, *rooms, workers=2, sessions=1, limit=None, patience=20):
+    def __init__(self, program, *rooms, workers=2, sessions=1, limit=None, base=None, patience=20):
         self.program, self.rooms = program, rooms or ("paris",)
-        self.workers, self.sessions, self.limit = workers, sessions, limit
+        self.workers, self.sessions, self.limit, self.base = workers, sessions, limit, base
         self.patience = patience
         self.port = self.process = None
         self.kept = contextlib.ExitStack()
@@ -63,12 +64,16 @@ class Server:
         """The command that serves at an address."""
         words = ["serve", "--addr", addr, "--workers", str(self.workers), "--sessions", str(self.sessions)]
         words += [] if self.limit is None else ["--limit", str(self.limit)]
+        words += [] if self.base is None else ["--base"]
         return [self.program, *words, *self.rooms]
 
     def __enter__(self):
         try:
             self.output = self.kept.enter_context(tempfile.TemporaryFile())
             self.errors = self.kept.enter_context(tempfile.TemporaryFile())
+            self.input = self.kept.enter_context(tempfile.TemporaryFile())
+            self.input.write((self.base or "").encode())
+            self.input.flush()
             for _ in range(TRIES):
                 if self.start():
                     return self
@@ -85,8 +90,9 @@ class Server:
         for file in (self.output, self.errors):
             os.ftruncate(file.fileno(), 0)
             os.lseek(file.fileno(), 0, os.SEEK_SET)
+        os.lseek(self.input.fileno(), 0, os.SEEK_SET)
         self.port = free_port()
-        streams = {"stdin": subprocess.DEVNULL, "stdout": self.output, "stderr": self.errors}
+        streams = {"stdin": self.input, "stdout": self.output, "stderr": self.errors}
         self.process = subprocess.Popen(self.words(f"127.0.0.1:{self.port}"), **streams)
         deadline = time.monotonic() + self.patience
         while "listening\n" not in self.told(self.output):

@@ -1,5 +1,6 @@
 //! Rooms that are run, and rooms that are shared by turns: what is answered, and how fast.
 
+mod bases;
 mod calls;
 mod rates;
 mod runs;

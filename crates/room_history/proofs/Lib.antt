@@ -1,6 +1,7 @@
 pub mod Appending
 pub mod Asking
 pub mod AtOnce
+pub mod Basing
 pub mod BinarySearching
 pub mod Blocking
 pub mod Chains

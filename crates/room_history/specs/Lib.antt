@@ -1,6 +1,7 @@
 pub mod Answers
 pub mod Applied
 pub mod Asking
+pub mod Bases
 pub mod Blockers
 pub mod Examples
 pub mod Headline

@@ -1,5 +1,11 @@
 //! Laws of the definitions, each the contract of a function that does nothing.
-ghost use Rattle.std.specs.Prelude.{◌≡◌, ◌++◌, ℕ, true, List, [], ◌∷◌};
+ghost use Rattle.std.specs.Prelude.{◌≡◌, ◌++◌, ℕ, true, false, List, [], ◌∷◌};
+ghost use Rattle.edit_simple.specs.declared.refusal.Refusal.{Refusal};
+ghost use Rattle.osm_elements.specs.declared.name.Name.{Name};
+ghost use Rattle.osm_elements.specs.Rows.{AreInOrder};
+ghost use Rattle.room_history.specs.declared.base.BaseFault.{BaseFault};
+ghost use Rattle.room_history.specs.declared.base.BaseFault.TheVariants.{Memory as OutOfMemory};
+ghost use Rattle.room_history.specs.Bases.{IsBaseFault, IsFirstUnsound, are_of_kinds};
 ghost use Rattle.room_history.specs.declared.entry.Entry.{Entry};
 ghost use Rattle.room_history.specs.declared.turned.Opening.{Opening};
 ghost use Rattle.osm_changes.specs.Changes.{AreChanges, AreFrom};
@@ -26,6 +32,20 @@ pub fn journals_hold<A: Allocator>()
 pub fn legal_histories_hold<A: Allocator>()
     ensures journal { (opening : Opening A) (h : History (Entry A)) → IsLegal IsTurn opening h → IsJournal opening.base opening.limit (entries h) }
     ensures holds { (opening : Opening A) (h : History (Entry A)) → is_sound opening.base ≡ true → IsLegal IsTurn opening h → Holds opening.base opening.limit (entries h) }
+{}
+
+/// A room can begin with every sound map, as the map of a room is: the names of its rows rise, each element is of its name's
+/// kind, and all that can refuse it is want of memory.
+pub fn a_sound_map_can_be_a_base<A: Allocator>()
+    ensures order { (m : Rows A) → is_sound m ≡ true → AreInOrder m }
+    ensures kinds { (m : Rows A) → is_sound m ≡ true → are_of_kinds m ≡ true }
+    ensures memory { (m : Rows A) (fault : BaseFault A) → is_sound m ≡ true → IsBaseFault m fault → fault ≡ OutOfMemory }
+{}
+
+/// A map of which a first row is told that is not sound is not sound, and there is one such row and one reason.
+pub fn an_unsound_map_has_one_fault<A: Allocator>()
+    ensures unsound { (m : Rows A) (x : Name) (why : Refusal A) → IsFirstUnsound m x why → is_sound m ≡ false }
+    ensures one { (m : Rows A) (x y : Name) (why other : Refusal A) → IsFirstUnsound m x why → IsFirstUnsound m y other → (x ≡ y) × (why ≡ other) }
 {}
 
 /// Each entry is counted by what it changed: an action by its changes, an undo by those that it takes back.

@@ -2,6 +2,7 @@
 #![tactic(auto)]
 
 pub mod ask;
+pub mod base;
 pub mod call;
 mod effects;
 pub mod entry;

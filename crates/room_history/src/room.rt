@@ -12,6 +12,7 @@ ghost use Rattle.edit_footprint.specs.Holding.{IsNext};
 ghost use Rattle.room_history.specs.Journals.{numbered};
 
 use crate::ask::{RoomCall, RoomReply, Undoable};
+use crate::base::{BaseFault, first_unsound};
 use crate::call::{Call, Request};
 use crate::effects::{enter, make_room, stand, taken_back};
 use crate::entry::{Entry, EntryKind};
@@ -82,13 +83,41 @@ impl<A: Allocator + Copy> Room<A> {
     ghost use Rattle.room_history.specs.News.{news};
     ghost use Rattle.room_history.specs.Runs.{IsStep};
     ghost use Rattle.room_history.specs.Asking.{IsAnswered};
+    ghost use Rattle.room_history.specs.Bases.{IsBaseFault, are_of_kinds};
     ghost use Rattle.osm_elements.specs.Rows.{row_at};
 
-    /// A room with an empty map, whose journal takes at most `limit` entries.
+    /// A room with an empty map, whose journal takes at most `limit` entries. It takes no memory.
     pub fn open(alloc: A, limit: u32) -> Room<A>
         ensures { result ≡ record { base = []; limit = limit; journal = [] } }
     {
-        let store = Store::new(alloc);
+        Room::begin(alloc, Store::new(alloc), limit)
+    }
+
+    /// A room with the map of these rows, whose journal takes at most `limit` entries. The names have to rise, and each element
+    /// to be of its name's kind, as in every welcome that was read.
+    ///
+    /// It refuses a map that is not sound, with the least name whose row is not and what is wrong with that, and it refuses for
+    /// want of memory. It copies no element, and costs a look-up for each row and each reference.
+    pub fn open_on(alloc: A, rows: Rows<A>, limit: u32) -> Result<Room<A>, BaseFault<A>>
+        requires order { AreInOrder rows }
+        requires kinds { are_of_kinds rows ≡ true }
+        ensures ok { IfOk result (λ room. room ≡ record { base = rows; limit = limit; journal = [] }) }
+        ensures sound { OnOk result (is_sound rows ≡ true) }
+        ensures err { IfErr result (λ fault. IsBaseFault rows fault) }
+    {
+        let map = OsmMap::from_rows(alloc, rows)?;
+        if let Some((name, why)) = first_unsound(&map) {
+            return Err(BaseFault::Unsound { name, why });
+        }
+        let store = Store::from_map(alloc, map)?;
+        Ok(Room::begin(alloc, store, limit))
+    }
+
+    // A room that begins with the map of a store.
+    fn begin(alloc: A, store: Store<A>, limit: u32) -> Room<A>
+        requires { store.applied ≡ 0 }
+        ensures { result ≡ record { base = store.rows; limit = limit; journal = [] } }
+    {
         Room {
             base: Snapshot::of(store.map()),
             limit,
@@ -453,7 +482,9 @@ impl<A: Allocator + Copy> Room<A> {
 
     /// The rows of the map, in name order. It copies them; the one refusal is want of memory.
     pub fn map_rows(&self) -> Result<Rows<A>, Memory>
-        ensures { IfOk result (λ rows. rows ≡ mapof self.now.base self.now.journal) }
+        ensures rows { IfOk result (λ rows. rows ≡ mapof self.now.base self.now.journal) }
+        // Another room can begin with them.
+        ensures sound { IfOk result (λ rows. is_sound rows ≡ true) }
     {
         self.store.map().rows(*self.entries.allocator())
     }

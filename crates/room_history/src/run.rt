@@ -1,11 +1,15 @@
 //! A run of calls.
-ghost use Rattle.std.specs.Prelude.{◌≡◌, [], IfOk};
-ghost use Rattle.room_history.specs.Runs.{IsRun};
+ghost use Rattle.std.specs.Prelude.{◌≡◌, [], IfOk, IfErr, true};
+ghost use Rattle.osm_elements.specs.Rows.{AreInOrder};
+ghost use Rattle.room_history.specs.Bases.{IsBaseFault, are_of_kinds};
+ghost use Rattle.room_history.specs.Runs.{Answers, IsRun};
 
+use crate::base::BaseFault;
 use crate::call::{Call, Calls};
 use crate::reply::{Replies, Reply};
 use crate::room::Room;
 use osm_elements::Memory;
+use osm_elements::map::Rows;
 use std::alloc::Allocator;
 
 /// Opens a room with an empty map, whose journal takes at most `limit` entries, and answers the calls in turn:
@@ -16,11 +20,37 @@ pub fn run<A: Allocator + Copy>(
     limit: u32,
     calls: Calls<A>,
 ) -> Result<(Room<A>, Replies<A>), Memory>
-    ensures run { IfOk result (λ run. IsRun run.0.base limit [] calls run.1 run.0.journal) }
-    ensures limit { IfOk result (λ run. run.0.limit ≡ limit) }
-    ensures base { IfOk result (λ run. run.0.base ≡ []) }
+    ensures { IfOk result (λ run. Answers [] limit calls run.0 run.1) }
 {
-    let mut room = Room::open(alloc, limit);
+    answered(alloc, Room::open(alloc, limit), calls)
+}
+
+/// As [`run`], with a room that begins with the map of these rows. What [`Room::open_on`] asks of the rows is asked here, and
+/// what it refuses is refused.
+pub fn run_on<A: Allocator + Copy>(
+    alloc: A,
+    rows: Rows<A>,
+    limit: u32,
+    calls: Calls<A>,
+) -> Result<(Room<A>, Replies<A>), BaseFault<A>>
+    requires order { AreInOrder rows }
+    requires kinds { are_of_kinds rows ≡ true }
+    ensures ok { IfOk result (λ run. Answers rows limit calls run.0 run.1) }
+    ensures err { IfErr result (λ fault. IsBaseFault rows fault) }
+{
+    let room = Room::open_on(alloc, rows, limit)?;
+    Ok(answered(alloc, room, calls)?)
+}
+
+// A room that was just opened, after the calls, and its replies.
+fn answered<A: Allocator + Copy>(
+    alloc: A,
+    mut room: Room<A>,
+    calls: Calls<A>,
+) -> Result<(Room<A>, Replies<A>), Memory>
+    requires { room.journal ≡ [] }
+    ensures { IfOk result (λ run. Answers room.base room.limit calls run.0 run.1) }
+{
     let replies = answer_all(alloc, &mut room, calls.into_vec())?;
     Ok((room, Replies::from_vec(replies)))
 }

@@ -1,11 +1,14 @@
 pub mod AskedLemmas
 pub mod BlockLemmas
 pub mod CallLemmas
+pub mod CommandLemmas
+pub mod FirstLineLemmas
 pub mod LineAnswerLemmas
 pub mod LineLemmas
 pub mod NoteLemmas
 pub mod OptionLemmas
 pub mod ProgressLemmas
+pub mod ReplayLemmas
 pub mod RunLemmas
 pub mod ScriptRooms
 pub mod ServingLemmas

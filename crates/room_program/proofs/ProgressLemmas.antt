@@ -7,7 +7,7 @@ use Rattle.room_program.specs.Runs.{AnswersFront, AnswersSome}
 use Rattle.room_program.specs.Streams.{WritesAll, WritesEnded, WritesFront, with_bytes}
 use Rattle.room_program.proofs.LineLemmas.{lines-fed}
 use Rattle.room_program.proofs.RunLemmas.{front-none, front-extend, front-then, front-script, front-ended, front-fed}
-use Rattle.room_program.proofs.StreamLemmas.{Appends-none, Appends-then, Consumes-before, Consumes-then, Consumes-kept}
+use Rattle.room_program.proofs.StreamLemmas.{Appends-none, Appends-then, Consumes-before, Consumes-then, Consumes-kept, with_bytes-none}
 
 -- the bytes read so far, and the text written for the lines among them that ended
 pub record Progress {R : Type 0} (answer : Loss → R → List ℕ → List ℕ × R) (start now : R) (left left' taken taken' : Option (List ℕ)) (begun : List ℕ) : Type 0 where
@@ -26,6 +26,11 @@ progress-held answer start held left taken = record {
   written = Appends-none taken;
   front = front-none answer start held;
 }
+
+-- nothing was read yet, and no line has begun
+pub progress-none : {R : Type 0} (answer : Loss → R → List ℕ → List ℕ × R) (start : R) (begun : List ℕ) (left taken : Option (List ℕ)) → begun ≡ [] → Progress answer start start left left taken taken begun
+progress-none answer start begun left taken none =
+    subst (λ (l : Option (List ℕ)). Progress answer start start l left taken taken begun) (with_bytes-none begun left none) (progress-held answer start begun left taken)
 
 regroup : (a b c d : List ℕ) → (a ++ (b ++ c)) ++ d ≡ (a ++ b) ++ (c ++ d)
 regroup a b c d = simp append_assoc

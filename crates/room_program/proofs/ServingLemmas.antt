@@ -1,10 +1,16 @@
 -- What serving rooms comes to: the texts that were taken one after another, and the rooms' fronts.
-use Rattle.std.proofs.Common.{◌≡◌, ◌∙◌, ◌⊎◌, ◌≤◌, ◌<◌, refl, sym, ap, subst, inl, inr, arith, ℕ, zero, suc, true, List, [], ◌∷◌, ◌++◌, Some, length, append_assoc}
-use Rattle.std.specs.Prelude.{All, IfErr, IsErrAnd, Result, slice_get}
-use Rattle.std.proofs.lemmas.Result.{err_from_is_err_and}
+use Rattle.std.proofs.Common.{◌≡◌, ◌∙◌, ◌⊎◌, ◌≤◌, ◌<◌, refl, sym, ap, subst, inl, inr, arith, ℕ, zero, suc, Bool, true, false, List, [], ◌∷◌, ◌++◌, Some, length, append_assoc}
+use Rattle.std.specs.Prelude.{All, slice_get}
 use Rattle.std.specs.List.{slice_index_or}
 use Rattle.std.specs.declared.alloc.Global.{Global}
 use Rattle.std.proofs.lemmas.List.{length-map}
+use Rattle.edit_simple.specs.declared.refusal.Refusal.{Refusal}
+use Rattle.osm_elements.specs.declared.name.Name.{Name}
+use Rattle.osm_elements.specs.Maps.{Rows}
+use Rattle.osm_elements.specs.Rows.{row_at}
+use Rattle.room_history.specs.Bases.{IsBaseFault, IsFirstUnsound}
+use Rattle.room_history.specs.declared.base.BaseFault.{BaseFault}
+use Rattle.room_history.specs.declared.base.BaseFault.TheVariants as bases
 use Rattle.room_history.specs.declared.entry.Entry.{Entry}
 use Rattle.room_history.specs.declared.turned.Opening.{Opening}
 use Rattle.room_history.specs.LegalJournals.{IsJournal}
@@ -12,7 +18,9 @@ use Rattle.room_history.specs.Turns.{IsTurn}
 use Rattle.room_program.specs.declared.fault.ProgramFault.{ProgramFault}
 use Rattle.room_program.specs.declared.fault.ProgramFault.TheVariants.{Replay, Memory, Listen, Worker, TooManyRooms, BadName, Twice}
 use Rattle.room_program.specs.declared.sink.Sink as sinks
-use Rattle.room_program.specs.Faults.{Takes, pool_fault, table_fault}
+use Rattle.room_program.specs.declared.source.Source as sources
+use Rattle.room_program.specs.Faults.{Takes, opening_fault, pool_fault, table_fault}
+use Rattle.room_program.specs.Bases.{BeginsOn}
 use Rattle.room_program.specs.Servings.{CanBeServed, IsFrontOf, IsUnopened, StopsBy, listening}
 use Rattle.room_program.specs.Streams.{TookNone}
 use Rattle.room_program.proofs.StreamLemmas.{Appends-then}
@@ -22,7 +30,7 @@ use Rattle.room_server.specs.declared.pool.PoolFault.TheVariants as pools
 use Rattle.room_server.specs.declared.table.TableFault.{TableFault}
 use Rattle.room_server.specs.declared.table.TableFault.TheVariants as tables
 use Rattle.room_server.specs.Fronts.{AreFronts, IsFront}
-use Rattle.room_server.specs.Openings.{IsFirstFault, Opens}
+use Rattle.room_server.specs.Openings.{IsNameFault, Opens, opening}
 use Rattle.room_server.specs.Tables.{AreAt, DeskView, SeatView, TableView}
 use Rattle.turn_desk.specs.History.{History, IsLegal, entries}
 
@@ -60,32 +68,40 @@ module _ {W : Type 0} (sink : sinks.Ghosts W) where
       subst (λ (w : W). Takes sink before w (text ++ more)) (sym end_is)
       (takes_no_more before after text more (subst (λ (bs : List ℕ). Takes sink before after bs) text_is takes) why)
 
+module _ {S W : Type 0} (source : sources.Ghosts S) (sink : sinks.Ghosts W) (on_base : Bool) (rooms : List (List ℕ)) (input input' : S) (output output' : W) where
   -- rooms that are not opened are not served
-  pub unopened_stops : (rooms : List (List ℕ)) (output output' : W) (fault : ProgramFault) → output' ≡ output → IsUnopened rooms fault → StopsBy sink rooms output output' fault
-  unopened_stops rooms output output' Listen same is = absurd is
-  unopened_stops rooms output output' Worker same is = absurd is
-  unopened_stops rooms output output' Memory same is = (is, inl same)
-  unopened_stops rooms output output' TooManyRooms same is = (is, same)
-  unopened_stops rooms output output' BadName same is = (is, same)
-  unopened_stops rooms output output' Twice same is = (is, same)
-  unopened_stops rooms output output' (Replay fault) same is = absurd is
+  pub unopened_stops : (fault : ProgramFault) → output' ≡ output → IsUnopened source on_base rooms input input' fault → StopsBy source sink on_base rooms input input' output output' fault
+  unopened_stops Listen same is = absurd is
+  unopened_stops Worker same is = absurd is
+  unopened_stops Memory same is = (is, inl same)
+  unopened_stops TooManyRooms same is = (is, same)
+  unopened_stops BadName same is = (is, same)
+  unopened_stops Twice same is = (is, same)
+  unopened_stops (Replay fault) same is = (is, same)
 
   -- nor are they served to the end where the pool does not serve
-  pub pool_stops : (rooms : List (List ℕ)) (output output' : W) (fault : PoolFault) → CanBeServed rooms → Takes sink output output' listening → StopsBy sink rooms output output' (pool_fault fault)
-  pool_stops rooms output output' pools.Worker can takes = (can, takes)
-  pool_stops rooms output output' pools.Memory can takes = (can.0, inr takes)
+  pub pool_stops : (fault : PoolFault) → CanBeServed rooms → Takes sink output output' listening → StopsBy source sink on_base rooms input input' output output' (pool_fault fault)
+  pool_stops pools.Worker can takes = (can, takes)
+  pool_stops pools.Memory can takes = (can.0, inr takes)
 
--- the first fault of the names is told
-pub first_fault : (rooms : List (List ℕ)) (fault : TableFault) → length rooms ≤ 64 → IsFirstFault rooms fault → IsUnopened rooms (table_fault fault)
-first_fault rooms (tables.BadName position) few is = (few, (position, is))
-first_fault rooms (tables.Twice position) few is = (few, (position, is))
-first_fault rooms tables.Memory few is = few
+module _ {S : Type 0} (source : sources.Ghosts S) (rooms : List (List ℕ)) (input input' : S) where
+  -- the first fault of the names is told
+  pub names_unopened : (on_base : Bool) (fault : TableFault) → length rooms ≤ 64 → input' ≡ input → IsNameFault rooms fault → IsUnopened source on_base rooms input input' (table_fault fault)
+  names_unopened on_base (tables.BadName position) few same is = (few, (position, is), same)
+  names_unopened on_base (tables.Twice position) few same is = (few, (position, is), same)
+  names_unopened on_base (tables.Unsound x why) few same is = absurd is
+  names_unopened on_base tables.Memory few same is = few
 
--- a fault that was passed on
-pub passed_on : {T : Type 0} (P : ProgramFault → Type 0) (r : Result T ProgramFault) (fault : ProgramFault) → IsErrAnd r (λ y. y ≡ fault) → P fault → IfErr r P
-passed_on P r fault is p =
-    let told = err_from_is_err_and r is in
-    rw (told.1, told.2) p
+  -- and then that of the map; the empty one has none
+  nothing_unsound : (base : Rows Global) (x : Name) (why : Refusal Global) → base ≡ [] → IsFirstUnsound base x why → ⊥
+  nothing_unsound base x why none is = let there : row_at {A = Global} [] x ≡ Some is.element = ap (λ m. row_at m x) (sym none) ∙ is.there in absurd (cc)
+
+  pub base_unopened : (on_base : Bool) (base : Rows Global) (fault : BaseFault Global) → CanBeServed rooms → source.has_failed input' ≡ false → BeginsOn source on_base input base → IsBaseFault base fault
+      → IsUnopened source on_base rooms input input' (opening_fault fault)
+  base_unopened true base (bases.Unsound x why) can works begins is = (can, refl, (works, (base, begins, is)))
+  base_unopened true base bases.Memory can works begins is = can.0
+  base_unopened false base (bases.Unsound x why) can works begins is = absurd (nothing_unsound base x why begins is)
+  base_unopened false base bases.Memory can works begins is = can.0
 
 -- an element of a list stands at its place
 get_at : {X : Type 0} (xs : List X) (i : ℕ) (d : X) → i < length xs → slice_get xs i ≡ Some (slice_index_or xs i d)
@@ -99,26 +115,26 @@ there_is (x ∷ xs) zero below = (x, refl)
 there_is (x ∷ xs) (suc i) below = there_is xs i (omega (arith, below))
 
 -- the fronts that a closed table tells are those of journals
-module _ (law : (opening : Opening Global) (h : History (Entry Global)) → IsLegal IsTurn opening h → IsJournal opening.base opening.limit (entries h)) where
-  front_of : (limit : ℕ) (desk : DeskView) (seat : SeatView) (front : ℕ) → desk.fixed ≡ record { base = []; limit = limit } → IsFront desk seat front → IsFrontOf limit front
-  front_of limit desk seat front fixed is = (
+module _ (law : (opened : Opening Global) (h : History (Entry Global)) → IsLegal IsTurn opened h → IsJournal opened.base opened.limit (entries h)) where
+  front_of : (base : Rows Global) (limit : ℕ) (desk : DeskView) (seat : SeatView) (front : ℕ) → desk.fixed ≡ opening base limit → IsFront desk seat front → IsFrontOf base limit front
+  front_of base limit desk seat front fixed is = (
     entries is.h,
     subst (λ (o : Opening Global). IsJournal o.base o.limit (entries is.h)) fixed (law desk.fixed is.h is.legal),
     is.count ∙ sym (length-map is.h (λ p. p.1)),
   )
 
-  pub fronts_of : (rooms : List (List ℕ)) (limit : ℕ) (table : TableView) (first seats : List SeatView) (fronts : List ℕ) → Opens rooms limit table first → AreAt table seats
-      → AreFronts table.desks seats fronts → (length fronts ≡ length rooms) × All (IsFrontOf limit) fronts
-  fronts_of rooms limit table first seats fronts opens at are = (
+  pub fronts_of : (rooms : List (List ℕ)) (base : Rows Global) (limit : ℕ) (table : TableView) (first seats : List SeatView) (fronts : List ℕ) → Opens rooms base limit table first → AreAt table seats
+      → AreFronts table.desks seats fronts → (length fronts ≡ length rooms) × All (IsFrontOf base limit) fronts
+  fronts_of rooms base limit table first seats fronts opens at are = (
     are.as_many ∙ opens.many,
     λ i d below.
         let many = are.as_many in
         let as_many = at.0 in
         let desk = there_is table.desks i (omega (arith, below, many)) in
         let seat = there_is seats i (omega (arith, below, many, as_many)) in
-        let fixed = opens.empty i desk.0 (omega (arith, below, many)) in
+        let fixed = opens.opened i desk.0 (omega (arith, below, many)) in
         let here : desk.0 ≡ slice_index_or table.desks i desk.0 = some_is (sym desk.1 ∙ get_at table.desks i desk.0 (omega (arith, below, many))) in
-        front_of limit desk.0 seat.0 (slice_index_or fronts i d) (ap (λ (x : DeskView). x.fixed) here ∙ fixed)
+        front_of base limit desk.0 seat.0 (slice_index_or fronts i d) (ap (λ (x : DeskView). x.fixed) here ∙ fixed)
         (are.each i desk.0 seat.0 (slice_index_or fronts i d) desk.1 seat.1 (get_at fronts i d below)),
   )
     where

@@ -1,7 +1,8 @@
 -- Bytes that a writer takes and a reader gives, one part after another.
 use Rattle.std.proofs.Common.{◌≡◌, ℕ, ◌-◌, List, [], ◌++◌, Option, Some, None, length, take, drop, refl, sym, ap, ◌∙◌, append_assoc, append-nil}
 use Rattle.std.proofs.lemmas.List.{take_rest, take-append-drop}
-use Rattle.std.proofs.Common.{Result, Ok, Err, OnErr}
+use Rattle.std.proofs.Common.{Result, Ok, Err, OnErr, OnOk, IfErr, subst}
+use Rattle.std.specs.Prelude.{IsErrAnd}
 use Rattle.std.specs.Io.KnownBytes.{Appends, Consumes, Keeps}
 use Rattle.room_program.specs.Streams.{with_bytes}
 
@@ -52,6 +53,15 @@ Consumes-kept (Some a) (Some b) (Some c) xs h k = h ∙ ap (λ bs. xs ++ bs) (sy
 pub on_err : {T E P : Type 0} (r : Result T E) → P → OnErr r P
 on_err (Ok x) p = tt
 on_err (Err e) p = p
+
+pub on_ok : {T E P : Type 0} (r : Result T E) → P → OnOk r P
+on_ok (Ok x) p = p
+on_ok (Err e) p = tt
+
+-- a fault that was passed on
+pub passed_on : {T E : Type 0} (P : E → Type 0) (r : Result T E) (fault : E) → IsErrAnd r (λ y. y ≡ fault) → P fault → IfErr r P
+passed_on P (Ok x) fault is p = absurd is
+passed_on P (Err e) fault is p = subst P (sym is) p
 
 -- a read of no byte
 pub Keeps-from_none : (old new : Option (List ℕ)) (n : ℕ) (buffer : List ℕ) → n ≡ 0 → Consumes old new (take n buffer) → Keeps old new

@@ -6,23 +6,25 @@ use Rattle.room_program.specs.WordExamples.{taken, bad_limit, serve_taken, bad_s
 pub taken_lem : taken
 unfolding taken clap_on_literals
 taken_lem = (
-  record { taken = refl; subcommand = refl; limit_is = refl },
-  record { taken = refl; subcommand = refl; limit_is = refl },
-  record { taken = refl; subcommand = refl; limit_is = refl },
-  record { taken = refl; subcommand = refl; limit_is = refl },
-  record { taken = refl; subcommand = refl; limit_is = refl },
+  record { taken = refl; subcommand = refl; limit_is = refl; base_is = refl },
+  record { taken = refl; subcommand = refl; limit_is = refl; base_is = refl },
+  record { taken = refl; subcommand = refl; limit_is = refl; base_is = refl },
+  record { taken = refl; subcommand = refl; limit_is = refl; base_is = refl },
+  record { taken = refl; subcommand = refl; limit_is = refl; base_is = refl },
+  record { taken = refl; subcommand = refl; limit_is = refl; base_is = refl },
+  record { taken = refl; subcommand = refl; limit_is = refl; base_is = refl },
 )
 
 pub bad_limit_lem : bad_limit
 unfolding bad_limit clap_on_literals
-bad_limit_lem = (refl, refl, refl, refl, refl)
+bad_limit_lem = (refl, refl, refl, refl, refl, refl, refl)
 
 pub serve_taken_lem : serve_taken
 unfolding serve_taken clap_on_literals
 serve_taken_lem = (
-  (refl, refl, refl, refl, refl, refl, refl),
-  (refl, refl, refl, refl, refl, refl, refl),
-  (refl, refl, refl, refl, refl, refl, refl),
+  (refl, refl, refl, refl, refl, refl, refl, refl),
+  (refl, refl, refl, refl, refl, refl, refl, refl),
+  (refl, refl, refl, refl, refl, refl, refl, refl),
 )
 
 pub bad_serve_lem : bad_serve

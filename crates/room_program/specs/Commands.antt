@@ -1,24 +1,29 @@
 -- What the program's words ask for, and what a run that they ask for did to its streams. (This project's.)
-use Rattle.std.specs.Prelude.{◌≡◌, ◌≤◌, ◌⊎◌, ◌^◌, ℕ, true, false, List, [], Some, codes, map}
+use Rattle.std.specs.Prelude.{◌≡◌, ◌≤◌, ◌⊎◌, ◌^◌, ℕ, Bool, true, false, List, [], Option, Some, codes, map}
+use Rattle.std.specs.declared.alloc.Global.{Global}
 use Rattle.clap.specs.Words.{Text}
+use Rattle.osm_changes.specs.Sound.{is_sound}
+use Rattle.osm_elements.specs.Maps.{Rows}
 use Rattle.room_program.specs.declared.asked.Asked.{Asked}
 use Rattle.room_program.specs.declared.asked.Asked.TheVariants as asked
 use Rattle.room_program.specs.declared.asked.ServeWords.{ServeWords}
 use Rattle.room_program.specs.declared.fault.ProgramFault.TheVariants.{Replay}
 use Rattle.room_program.specs.declared.fault.ReplayFault.{ReplayFault}
-use Rattle.room_program.specs.declared.fault.ReplayFault.TheVariants.{Read, Write, Memory}
 use Rattle.room_program.specs.declared.sink.Sink as sinks
 use Rattle.room_program.specs.declared.source.Source as sources
+use Rattle.room_program.specs.Bases.{IsNoBase, IsTold, behind}
 use Rattle.room_program.specs.Faults.{Takes, fault_line}
 use Rattle.room_program.specs.LineAnswers.{script}
-use Rattle.room_program.specs.Streams.{Gets, GetsAtMost, TookNone, WritesAll, WritesEnded, WritesFront}
-use Rattle.room_program.specs.Words.{IsTaken, addr_asked, limit_asked, rooms_asked, sessions_asked, subcommand_asked, workers_asked}
+use Rattle.room_program.specs.Replays.{EndsBy}
+use Rattle.room_program.specs.Streams.{GetsAtMost, WritesAll, WritesFront}
+use Rattle.room_program.specs.Words.{IsTaken, addr_asked, base_asked, limit_asked, rooms_asked, sessions_asked, subcommand_asked, workers_asked}
 
--- the words are taken, and ask for a replay with this limit
-pub record AsksForReplay (words : List Text) (limit : ℕ) : Type 0 where
+-- the words are taken, and ask for a replay with this limit, on a base or not
+pub record AsksForReplay (words : List Text) (limit : ℕ) (base : Bool) : Type 0 where
   pub taken : IsTaken words
   pub subcommand : subcommand_asked words ≡ Some (codes "replay")
   pub limit_is : limit ≡ limit_asked words
+  pub base_is : base ≡ base_asked words
 
 -- the words are taken, and ask to serve so
 pub record AsksForServe (words : List Text) (serve : ServeWords) : Type 0 where
@@ -28,31 +33,41 @@ pub record AsksForServe (words : List Text) (serve : ServeWords) : Type 0 where
   pub workers_are : serve.workers ≡ workers_asked words
   pub sessions_are : serve.sessions ≡ sessions_asked words
   pub limit_is : serve.limit ≡ limit_asked words
+  pub base_is : serve.base ≡ base_asked words
   pub rooms_are : map (λ room. room.now) serve.rooms.items ≡ rooms_asked words
 
 -- the words are taken, and ask for this
 abbrev pub IsAsked : List Text → Asked → Type 0
-IsAsked words (asked.Replay limit) = AsksForReplay words limit
+IsAsked words (asked.Replay limit base) = AsksForReplay words limit base
 IsAsked words (asked.Serve serve) = AsksForServe words serve
 
--- what is known of an input and of an output
-module _ {S W : Type 0} (source : sources.Ghosts S) (sink : sinks.Ghosts W) where
-  -- how it stands where a replay with this limit ends by a fault; where a read failed, the script of the lines whose line feeds were read was written
-  abbrev pub EndsBy : ℕ → S → S → W → W → ReplayFault → Type 0
-  EndsBy limit input input' output output' Read =
-      WritesEnded (script [] limit) (source.left input) (source.left input') (sink.taken output) (sink.taken output')
-      × ((source.has_failed input' ≡ true) ⊎ Gets source.gets (2 ^ 40) input input')
-  EndsBy limit input input' output output' Write = (sink.has_failed output' ≡ true) ⊎ TookNone sink.puts output'
-  EndsBy limit input input' output output' Memory = (source.has_failed input' ≡ false) × (sink.has_failed output' ≡ false)
-
-  -- a replay with this limit was run on these streams, the last of them for its errors, and ended with this status
-  pub record Replays {E : Type 0} (errors_sink : sinks.Ghosts E) (limit status : ℕ) (input input' : S) (output output' : W) (errors errors' : E) : Type 0 where
+-- what is known of an input, of an output, and of a stream for errors
+module _ {S W E : Type 0} (source : sources.Ghosts S) (sink : sinks.Ghosts W) (errors_sink : sinks.Ghosts E) where
+  -- a room with this limit that began with a map was run on what the input had left, and it ended with this status
+  pub record Ran (base : Rows Global) (left : Option (List ℕ)) (limit status : ℕ) (input input' : S) (output output' : W) (errors errors' : E) : Type 0 where
     pub range : status ≤ 1
-    -- done: the script of all the input was written, and nothing is told
-    pub done : status ≡ 0 → WritesAll (script [] limit) (source.left input) (source.left input') (sink.taken output) (sink.taken output')
+    -- done: the script of all that was left was written, and nothing is told
+    pub done : status ≡ 0 → WritesAll (script base limit) left (source.left input') (sink.taken output) (sink.taken output')
     pub silent : status ≡ 0 → errors' ≡ errors
     -- failed: a front of the script was written, and the fault is told by its line
-    pub failed : status ≡ 1 → WritesFront (script [] limit) (source.left input) (source.left input') (sink.taken output) (sink.taken output')
-    pub told : status ≡ 1 → (fault : ReplayFault) × Takes errors_sink errors errors' (fault_line (Replay fault)) × EndsBy limit input input' output output' fault
+    pub failed : status ≡ 1 → WritesFront (script base limit) left (source.left input') (sink.taken output) (sink.taken output')
+    pub told : status ≡ 1 → (fault : ReplayFault) × Takes errors_sink errors errors' (fault_line (Replay fault))
+        × EndsBy source sink (script base limit) left (2 ^ 40) input input' output output' fault
+
+  -- no room was opened: nothing was written to the output, and why is told by its line
+  pub record RanNothing (status : ℕ) (input input' : S) (output output' : W) (errors errors' : E) : Type 0 where
+    pub failed : status ≡ 1
+    pub unwritten : output' ≡ output
+    pub told : (fault : ReplayFault) × Takes errors_sink errors errors' (fault_line (Replay fault)) × IsNoBase source (2 ^ 40) input input' fault
+
+  -- a replay: of all lines by a room with an empty map, or where a base is asked for of all but the first by one with the map that the first tells
+  abbrev pub RanBy : Bool → ℕ → ℕ → S → S → W → W → E → E → Type 0
+  RanBy false limit status input input' output output' errors errors' = Ran [] (source.left input) limit status input input' output output' errors errors'
+  RanBy true limit status input input' output output' errors errors' =
+      ((base : Rows Global) × IsTold source input base × (is_sound base ≡ true) × Ran base (behind (source.left input)) limit status input input' output output' errors errors')
+      ⊎ RanNothing status input input' output output' errors errors'
+
+  pub record Replays (base : Bool) (limit status : ℕ) (input input' : S) (output output' : W) (errors errors' : E) : Type 0 where
+    pub ran : RanBy base limit status input input' output output' errors errors'
     -- at most 2^40 reads were made, and none after one that gave the end
     pub calls : GetsAtMost source.gets (2 ^ 40) input input'

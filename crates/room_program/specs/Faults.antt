@@ -1,9 +1,17 @@
 -- How a fault is told. (This project's.)
-use Rattle.std.specs.Prelude.{◌≡◌, ◌⊎◌, ℕ, true, List, [], ◌++◌, codes}
+use Rattle.std.specs.Prelude.{◌≡◌, ◌⊎◌, ℕ, Bool, true, false, List, [], ◌∷◌, ◌++◌, codes}
+use Rattle.std.specs.declared.alloc.Global.{Global}
 use Rattle.std.specs.Io.KnownBytes.{Appends}
+use Rattle.osm_elements.specs.declared.name.Name.{Name}
+use Rattle.osm_elements.specs.NameTexts.{name_text}
+use Rattle.room_history.specs.declared.base.BaseFault.{BaseFault}
+use Rattle.room_history.specs.declared.base.BaseFault.TheVariants as bases
 use Rattle.room_program.specs.declared.fault.ProgramFault.{ProgramFault}
 use Rattle.room_program.specs.declared.fault.ProgramFault.TheVariants.{Replay, Memory, Listen, Worker, TooManyRooms, BadName, Twice}
+use Rattle.room_program.specs.declared.fault.ReplayFault.{ReplayFault}
 use Rattle.room_program.specs.declared.fault.ReplayFault.TheVariants as faults
+use Rattle.room_program.specs.declared.fault.StreamFault.{StreamFault}
+use Rattle.room_program.specs.declared.fault.StreamFault.TheVariants as streams
 use Rattle.room_program.specs.declared.sink.Sink.{Ghosts}
 use Rattle.room_program.specs.Streams.{TookNone}
 use Rattle.room_server.specs.declared.pool.PoolFault.{PoolFault}
@@ -11,11 +19,22 @@ use Rattle.room_server.specs.declared.pool.PoolFault.TheVariants as pools
 use Rattle.room_server.specs.declared.table.TableFault.{TableFault}
 use Rattle.room_server.specs.declared.table.TableFault.TheVariants as tables
 
+-- the line that tells the name whose row is not sound
+abbrev pub unsound_line : Name → List ℕ
+unsound_line x = codes "maproom: unsound base " ++ name_text x ++ 10 ∷ []
+
+-- a fault that is told with it
+abbrev pub names_row : ProgramFault → Bool
+names_row (Replay (faults.Unsound x why)) = true
+names_row _ = false
+
 -- the line that tells a fault
 abbrev pub fault_line : ProgramFault → List ℕ
 fault_line (Replay faults.Read) = codes "maproom: read failed\n"
 fault_line (Replay faults.Write) = codes "maproom: write failed\n"
 fault_line (Replay faults.Memory) = codes "maproom: no memory\n"
+fault_line (Replay (faults.BadBase bad)) = codes "maproom: bad base\n"
+fault_line (Replay (faults.Unsound x why)) = unsound_line x
 fault_line Memory = codes "maproom: no memory\n"
 fault_line Listen = codes "maproom: cannot listen\n"
 fault_line Worker = codes "maproom: cannot start a worker\n"
@@ -30,10 +49,25 @@ fault_status BadName = 2
 fault_status Twice = 2
 fault_status _ = 1
 
--- what a fault of the table of rooms, and one of the pool of workers, is to the program
+-- what a fault of a run over streams, and one of the map that a room was to begin with, is to a replay
+abbrev pub stream_fault : StreamFault → ReplayFault
+stream_fault streams.Read = faults.Read
+stream_fault streams.Write = faults.Write
+stream_fault streams.Memory = faults.Memory
+
+abbrev pub base_fault : BaseFault Global → ReplayFault
+base_fault (bases.Unsound x why) = faults.Unsound x why
+base_fault bases.Memory = faults.Memory
+
+-- what that one is to the program, and a fault of the table of rooms and one of the pool of workers
+abbrev pub opening_fault : BaseFault Global → ProgramFault
+opening_fault (bases.Unsound x why) = Replay (faults.Unsound x why)
+opening_fault bases.Memory = Memory
+
 abbrev pub table_fault : TableFault → ProgramFault
 table_fault (tables.BadName position) = BadName
 table_fault (tables.Twice position) = Twice
+table_fault (tables.Unsound x why) = Replay (faults.Unsound x why)
 table_fault tables.Memory = Memory
 
 abbrev pub pool_fault : PoolFault → ProgramFault

@@ -1,56 +1,71 @@
 -- What came of serving rooms. (This project's.)
-use Rattle.std.specs.Prelude.{◌≡◌, ◌≤◌, ◌<◌, ◌⊎◌, ℕ, List, [], All, length, ◌++◌, codes}
+use Rattle.std.specs.Prelude.{◌≡◌, ◌≤◌, ◌<◌, ◌⊎◌, ◌^◌, ℕ, Bool, true, false, List, All, length, ◌++◌, codes}
 use Rattle.std.specs.declared.alloc.Global.{Global}
 use Rattle.clap.specs.Words.{Text}
+use Rattle.osm_changes.specs.Sound.{is_sound}
+use Rattle.osm_elements.specs.Maps.{Rows}
 use Rattle.room_history.specs.declared.entry.Entry.{Entry}
 use Rattle.room_history.specs.LegalJournals.{IsJournal}
 use Rattle.room_program.specs.declared.fault.ProgramFault.{ProgramFault}
-use Rattle.room_program.specs.declared.fault.ProgramFault.TheVariants.{Memory, Listen, Worker, TooManyRooms, BadName, Twice}
+use Rattle.room_program.specs.declared.fault.ProgramFault.TheVariants.{Replay, Memory, Listen, Worker, TooManyRooms, BadName, Twice}
 use Rattle.room_program.specs.declared.sink.Sink as sinks
+use Rattle.room_program.specs.declared.source.Source as sources
+use Rattle.room_program.specs.Bases.{BeginsOn, IsNoBase}
 use Rattle.room_program.specs.Faults.{Takes, fault_line, fault_status}
 use Rattle.room_program.specs.Fronts.{front_lines}
 use Rattle.room_server.specs.declared.table.TableFault.TheVariants as tables
-use Rattle.room_server.specs.Openings.{AreFine, IsFirstFault}
+use Rattle.room_program.specs.Streams.{GetsAtMost}
+use Rattle.room_server.specs.Openings.{AreFine, IsNameFault}
 
 -- the rooms can be served: they are not too many, and each has a name of its own
 abbrev pub CanBeServed : List Text → Type 0
 CanBeServed rooms = (length rooms ≤ 64) × AreFine rooms (length rooms)
 
--- why they are not opened
-abbrev pub IsUnopened : List Text → ProgramFault → Type 0
-IsUnopened rooms TooManyRooms = 64 < length rooms
-IsUnopened rooms BadName = (length rooms ≤ 64) × ((position : ℕ) × IsFirstFault rooms (tables.BadName position))
-IsUnopened rooms Twice = (length rooms ≤ 64) × ((position : ℕ) × IsFirstFault rooms (tables.Twice position))
-IsUnopened rooms Memory = length rooms ≤ 64
-IsUnopened rooms _ = ⊥
-
--- so many entries has a journal that calls lead to from an empty map, with this limit
-abbrev pub IsFrontOf : ℕ → ℕ → Type 0
-IsFrontOf limit front = (journal : List (Entry Global)) × IsJournal [] limit journal × (front ≡ length journal)
+-- so many entries has a journal that calls lead to from this map, with this limit
+abbrev pub IsFrontOf : Rows Global → ℕ → ℕ → Type 0
+IsFrontOf base limit front = (journal : List (Entry Global)) × IsJournal base limit journal × (front ≡ length journal)
 
 -- the line that tells that clients can connect
 abbrev pub listening : Text
 listening = codes "listening\n"
 
+-- what is known of an input, and whether it tells a base
+module _ {S : Type 0} (source : sources.Ghosts S) (on_base : Bool) where
+  -- why the rooms are not opened
+  abbrev pub IsUnopened : List Text → S → S → ProgramFault → Type 0
+  IsUnopened rooms input input' TooManyRooms = (64 < length rooms) × (input' ≡ input)
+  IsUnopened rooms input input' BadName = (length rooms ≤ 64) × ((position : ℕ) × IsNameFault rooms (tables.BadName position)) × (input' ≡ input)
+  IsUnopened rooms input input' Twice = (length rooms ≤ 64) × ((position : ℕ) × IsNameFault rooms (tables.Twice position)) × (input' ≡ input)
+  IsUnopened rooms input input' (Replay fault) = CanBeServed rooms × (on_base ≡ true) × IsNoBase source (2 ^ 40) input input' fault
+  IsUnopened rooms input input' Memory = length rooms ≤ 64
+  IsUnopened rooms input input' _ = ⊥
+
 -- what is known of an output
 module _ {W : Type 0} (sink : sinks.Ghosts W) where
-  -- the rooms were served to the end: the output took the line, and then for each room a line that tells how many entries its journal has
-  pub record ServesAll (rooms : List Text) (limit : ℕ) (output output' : W) : Type 0 where
+  -- the rooms were served to the end, each from this map on: the output took the line, and then for each room a line that tells how many entries its journal has
+  pub record ServesAll (rooms : List Text) (base : Rows Global) (limit : ℕ) (output output' : W) : Type 0 where
     pub can : CanBeServed rooms
+    pub sound : is_sound base ≡ true
     pub fronts : List ℕ
     pub as_many : length fronts ≡ length rooms
-    pub each : All (IsFrontOf limit) fronts
+    pub each : All (IsFrontOf base limit) fronts
     pub written : Takes sink output output' (listening ++ front_lines rooms fronts)
 
+-- what is known of both
+module _ {S W : Type 0} (source : sources.Ghosts S) (sink : sinks.Ghosts W) (on_base : Bool) where
   -- a fault ended it: before the line was written, or after
-  abbrev pub StopsBy : List Text → W → W → ProgramFault → Type 0
-  StopsBy rooms output output' Listen = CanBeServed rooms × (output' ≡ output)
-  StopsBy rooms output output' Worker = CanBeServed rooms × Takes sink output output' listening
-  StopsBy rooms output output' Memory = (length rooms ≤ 64) × ((output' ≡ output) ⊎ Takes sink output output' listening)
-  StopsBy rooms output output' fault = IsUnopened rooms fault × (output' ≡ output)
+  abbrev pub StopsBy : List Text → S → S → W → W → ProgramFault → Type 0
+  StopsBy rooms input input' output output' Listen = CanBeServed rooms × (output' ≡ output)
+  StopsBy rooms input input' output output' Worker = CanBeServed rooms × Takes sink output output' listening
+  StopsBy rooms input input' output output' Memory = (length rooms ≤ 64) × ((output' ≡ output) ⊎ Takes sink output output' listening)
+  StopsBy rooms input input' output output' fault = IsUnopened source on_base rooms input input' fault × (output' ≡ output)
 
   -- rooms were served with this limit, and it ended with this status; a fault is told by its line
-  pub record Serves {E : Type 0} (errors_sink : sinks.Ghosts E) (rooms : List Text) (limit status : ℕ) (output output' : W) (errors errors' : E) : Type 0 where
+  pub record Serves {E : Type 0} (errors_sink : sinks.Ghosts E) (rooms : List Text) (limit status : ℕ) (input input' : S) (output output' : W) (errors errors' : E) : Type 0 where
     pub range : status ≤ 2
-    pub done : status ≡ 0 → ServesAll rooms limit output output' × (errors' ≡ errors)
-    pub failed : 0 < status → (fault : ProgramFault) × (status ≡ fault_status fault) × Takes errors_sink errors errors' (fault_line fault) × StopsBy rooms output output' fault
+    pub done : status ≡ 0 → ((base : Rows Global) × BeginsOn source on_base input base × ServesAll sink rooms base limit output output') × (errors' ≡ errors)
+    pub failed : 0 < status → (fault : ProgramFault) × (status ≡ fault_status fault) × Takes errors_sink errors errors' (fault_line fault)
+        × StopsBy rooms input input' output output' fault
+    -- nothing was read but for a base, and then at most 2^40 times and never after the end
+    pub unread : on_base ≡ false → input' ≡ input
+    pub calls : GetsAtMost source.gets (2 ^ 40) input input'

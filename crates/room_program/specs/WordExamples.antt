@@ -1,37 +1,39 @@
 -- What the worked examples of words say of the definitions.
-use Rattle.std.specs.Prelude.{◌≡◌, ℕ, List, [], ◌∷◌, Some, codes}
+use Rattle.std.specs.Prelude.{◌≡◌, ℕ, Bool, true, false, List, [], ◌∷◌, Some, codes}
 use Rattle.clap.specs.Words.{Kinds, Text}
 use Rattle.clap.specs.declared.error.kind.ErrorKind.TheVariants.{ArgumentConflict, DisplayHelp, DisplayVersion}
 use Rattle.clap.specs.declared.error.kind.ErrorKind.TheVariants.{InvalidSubcommand, InvalidValue}
-use Rattle.clap.specs.declared.error.kind.ErrorKind.TheVariants.{MissingRequiredArgument, MissingSubcommand, UnknownArgument, ValueValidation}
+use Rattle.clap.specs.declared.error.kind.ErrorKind.TheVariants.{MissingRequiredArgument, MissingSubcommand, TooManyValues, UnknownArgument, ValueValidation}
 use Rattle.room_program.specs.Commands.{AsksForReplay}
-use Rattle.room_program.specs.Words.{IsTaken, addr_asked, faults, limit_asked, rooms_asked, sessions_asked, subcommand_asked, workers_asked}
+use Rattle.room_program.specs.Words.{IsTaken, addr_asked, base_asked, faults, limit_asked, rooms_asked, sessions_asked, subcommand_asked, workers_asked}
 
--- the words after the name of the program are taken, and ask for a replay with the limit
-abbrev pub AsksFor : ℕ → List Text → Type 0
-AsksFor limit words = AsksForReplay (codes "maproom" ∷ words) limit
+-- the words after the name of the program are taken, and ask for a replay with the limit, on a base or not
+abbrev pub AsksFor : ℕ → Bool → List Text → Type 0
+AsksFor limit base words = AsksForReplay (codes "maproom" ∷ words) limit base
 
--- the words after `serve` are taken, and ask for this address, so many workers, sessions and entries, and these rooms
-abbrev pub AsksToServe : Text → ℕ → ℕ → ℕ → List Text → List Text → Type 0
-AsksToServe addr workers sessions limit rooms words =
+-- the words after `serve` are taken, and ask for this address, so many workers, sessions and entries, a base or none, and these rooms
+abbrev pub AsksToServe : Text → ℕ → ℕ → ℕ → Bool → List Text → List Text → Type 0
+AsksToServe addr workers sessions limit base rooms words =
     let all = codes "maproom" ∷ codes "serve" ∷ words in
     IsTaken all × (subcommand_asked all ≡ Some (codes "serve")) × (addr_asked all ≡ addr) × (workers_asked all ≡ workers)
-    × (sessions_asked all ≡ sessions) × (limit_asked all ≡ limit) × (rooms_asked all ≡ rooms)
+    × (sessions_asked all ≡ sessions) × (limit_asked all ≡ limit) × (base_asked all ≡ base) × (rooms_asked all ≡ rooms)
 
 -- the words after the name of the program are answered by an error of one of these kinds
 abbrev pub FailsBy : Kinds → List Text → Type 0
 FailsBy kinds words = faults (codes "maproom" ∷ words) ≡ kinds
 
--- a replay, with no limit and with a limit in each of its spellings
+-- a replay, with no limit and with a limit in each of its spellings, and on a base
 unfoldable pub taken : Type 0
 taken =
-    AsksFor 1000000 (codes "replay" ∷ [])
-    × AsksFor 1 (codes "replay" ∷ codes "--limit" ∷ codes "1" ∷ [])
-    × AsksFor 0 (codes "replay" ∷ codes "--limit=0" ∷ [])
-    × AsksFor 1000000 (codes "replay" ∷ codes "--limit=1000000" ∷ [])
-    × AsksFor 7 (codes "replay" ∷ codes "--limit=+007" ∷ [])
+    AsksFor 1000000 false (codes "replay" ∷ [])
+    × AsksFor 1 false (codes "replay" ∷ codes "--limit" ∷ codes "1" ∷ [])
+    × AsksFor 0 false (codes "replay" ∷ codes "--limit=0" ∷ [])
+    × AsksFor 1000000 false (codes "replay" ∷ codes "--limit=1000000" ∷ [])
+    × AsksFor 7 false (codes "replay" ∷ codes "--limit=+007" ∷ [])
+    × AsksFor 1000000 true (codes "replay" ∷ codes "--base" ∷ [])
+    × AsksFor 7 true (codes "replay" ∷ codes "--base" ∷ codes "--limit=7" ∷ [])
 
--- a limit that is too large, is no number, is missing or is told twice
+-- a limit that is too large, is no number, is missing or is told twice, and a base with a value or told twice
 unfoldable pub bad_limit : Type 0
 bad_limit =
     FailsBy (ValueValidation ∷ []) (codes "replay" ∷ codes "--limit" ∷ codes "1000001" ∷ [])
@@ -39,15 +41,17 @@ bad_limit =
     × FailsBy (ValueValidation ∷ []) (codes "replay" ∷ codes "--limit=many" ∷ [])
     × FailsBy (InvalidValue ∷ []) (codes "replay" ∷ codes "--limit" ∷ [])
     × FailsBy (ArgumentConflict ∷ []) (codes "replay" ∷ codes "--limit=1" ∷ codes "--limit=1" ∷ [])
+    × FailsBy (TooManyValues ∷ []) (codes "replay" ∷ codes "--base=x" ∷ [])
+    × FailsBy (ArgumentConflict ∷ []) (codes "replay" ∷ codes "--base" ∷ codes "--base" ∷ [])
 
 -- rooms to serve, with and without a limit, and the options before, between and after the rooms
 unfoldable pub serve_taken : Type 0
 serve_taken =
-    AsksToServe (codes "127.0.0.1:9001") 8 1000 1000000 (codes "paris" ∷ codes "rome" ∷ [])
+    AsksToServe (codes "127.0.0.1:9001") 8 1000 1000000 false (codes "paris" ∷ codes "rome" ∷ [])
     (codes "--addr" ∷ codes "127.0.0.1:9001" ∷ codes "--workers" ∷ codes "8" ∷ codes "--sessions" ∷ codes "1000" ∷ codes "paris" ∷ codes "rome" ∷ [])
-    × AsksToServe (codes "[::1]:80") 64 1000000 0 (codes "a" ∷ [])
-    (codes "a" ∷ codes "--limit=0" ∷ codes "--addr=[::1]:80" ∷ codes "--workers=64" ∷ codes "--sessions=1000000" ∷ [])
-    × AsksToServe [] 1 1 5 (codes "b" ∷ codes "--c" ∷ [])
+    × AsksToServe (codes "[::1]:80") 64 1000000 0 true (codes "a" ∷ [])
+    (codes "a" ∷ codes "--base" ∷ codes "--limit=0" ∷ codes "--addr=[::1]:80" ∷ codes "--workers=64" ∷ codes "--sessions=1000000" ∷ [])
+    × AsksToServe [] 1 1 5 false (codes "b" ∷ codes "--c" ∷ [])
     (codes "--addr=" ∷ codes "--limit" ∷ codes "5" ∷ codes "--sessions" ∷ codes "1" ∷ codes "--workers" ∷ codes "+01" ∷ codes "--" ∷ codes "b" ∷ codes "--c" ∷ [])
 
 -- no room, an option that is missing, and numbers that are out of their ranges

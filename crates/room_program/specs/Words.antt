@@ -3,11 +3,12 @@ use Rattle.std.specs.Prelude.{◌≡◌, ◌<◌, ◌^◌, ℕ, Bool, true, fals
 use Rattle.std.specs.Prelude.{option_map, unwrap_or}
 use Rattle.std.specs.List.{list_any}
 use Rattle.std.specs.Option.{option_map_or}
+use Rattle.std.specs.Str.{bytes_eq}
 use Rattle.std.specs.Str.Parse.{IsNumeral, digits_value, without_leading_plus}
 use Rattle.clap.specs.Lexer.{usize_max}
 use Rattle.clap.specs.Words.{App, Kinds, Row, Rule, Text, all_of, fault_of, first_of, new_app, new_rule, one_of}
 use Rattle.clap.specs.Words.{subcommand_of, with_rule, with_subcommand}
-use Rattle.clap.specs.declared.builder.action.ArgAction.TheVariants.{Append}
+use Rattle.clap.specs.declared.builder.action.ArgAction.TheVariants.{Append, SetTrue}
 use Rattle.clap.specs.declared.builder.value_parser.ValueParser.TheVariants.{Signed}
 use Rattle.clap.specs.declared.error.kind.ErrorKind.{ErrorKind}
 use Rattle.clap.specs.declared.error.kind.ErrorKind.TheVariants.{DisplayHelp, DisplayVersion, OutOfMemory}
@@ -28,6 +29,10 @@ needed rule = record rule { required = true }
 abbrev pub limit_option : Rule
 limit_option = record (number_option (codes "limit") 0 1000000) { defaults = codes "1000000" ∷ [] }
 
+-- `--base`, without a value
+abbrev pub base_option : Rule
+base_option = record (new_rule (codes "base")) { long = Some (codes "base"); action = Some SetTrue }
+
 -- `--addr`, any text; `--workers`, a number from 1 to 64; and `--sessions`, one from 1 to 1000000
 abbrev pub addr_option : Rule
 addr_option = needed (value_option (codes "addr"))
@@ -47,14 +52,14 @@ room_words = record (new_rule (codes "rooms")) {
   required = true;
 }
 
--- the subcommand `replay`, with its option
+-- the subcommand `replay`, with its options
 abbrev pub replay_app : App
-replay_app = with_rule (new_app (codes "replay")) limit_option
+replay_app = with_rule (with_rule (new_app (codes "replay")) limit_option) base_option
 
 -- the subcommand `serve`, with its options and the rooms
 abbrev pub serve_app : App
-serve_app = with_rule (with_rule (with_rule (with_rule (with_rule (new_app (codes "serve"))
-    addr_option) workers_option) sessions_option) limit_option) room_words
+serve_app = with_rule (with_rule (with_rule (with_rule (with_rule (with_rule (new_app (codes "serve"))
+    addr_option) workers_option) sessions_option) limit_option) base_option) room_words
 
 -- the program, which wants one of its subcommands, and can tell its version
 abbrev pub program_app : App
@@ -111,6 +116,10 @@ HasNumber option rows = IfSome (one_of option rows) (λ text. IsNumeral 10 (with
 abbrev pub addr_in : List Row → Text
 addr_in rows = unwrap_or (first_of (codes "addr") rows) []
 
+-- the option for a base was found
+abbrev pub base_in : List Row → Bool
+base_in rows = bytes_eq (unwrap_or (first_of (codes "base") rows) []) (codes "true")
+
 -- the rooms that were found, as they are written and in their order
 abbrev pub rooms_in : List Row → List Text
 rooms_in rows = unwrap_or (all_of (codes "rooms") rows) []
@@ -121,6 +130,10 @@ limit_text words = one_of (codes "limit") (rows_asked words)
 
 abbrev pub limit_asked : List Text → ℕ
 limit_asked words = number_in (codes "limit") (rows_asked words)
+
+-- whether they ask for a base
+abbrev pub base_asked : List Text → Bool
+base_asked words = base_in (rows_asked words)
 
 -- what the words of `serve` ask for
 abbrev pub workers_asked : List Text → ℕ

@@ -7,6 +7,8 @@ pub enum Asked<'a> {
     Replay {
         /// How many entries the room's journal takes at most.
         limit: u32,
+        /// Whether the first line tells the map that the room begins with.
+        base: bool,
     },
     /// To serve rooms.
     Serve(ServeWords<'a>),
@@ -23,6 +25,8 @@ pub struct ServeWords<'a> {
     pub sessions: u32,
     /// How many entries the journal of each room takes at most.
     pub limit: u32,
+    /// Whether the first line of standard input tells the map that the rooms begin with.
+    pub base: bool,
     /// The names of the rooms, as they are written and in their order.
     pub rooms: Vec<&'a str>,
 }

@@ -1,32 +1,31 @@
 //! The program's command line.
-ghost use Rattle.std.specs.Prelude.{◌≡◌, ◌≤◌, ◌⊎◌, ℕ, false, map, true};
+ghost use Rattle.std.specs.Prelude.{◌≡◌, ◌≤◌, ◌⊎◌, ℕ, Bool, false, map, true};
 ghost use Rattle.clap.specs.Words.{kind_of};
 ghost use Rattle.room_program.specs.Commands.{AsksForReplay, AsksForServe, Replays};
-ghost use Rattle.room_program.specs.Faults.{Takes, TakesOne, fault_line, fault_status};
+ghost use Rattle.room_program.specs.Faults.{Takes, TakesOne, fault_line, fault_status, names_row, unsound_line};
 ghost use Rattle.room_program.specs.Servings.{Serves};
 ghost use Rattle.room_program.specs.declared.asked.ServeWords.{ServeWords};
 ghost use Rattle.room_program.specs.Words.{asks_for_help, has_mistake, is_mistake, is_request};
 
 use crate::asked::{Asked, ServeWords};
 use crate::fault::{ProgramFault, ReplayFault};
-use crate::replay::replay;
+use crate::lines::LINE_FEED;
+use crate::replay::{replay, replay_on};
 use crate::serve::serve;
 use crate::sink::Sink;
-use crate::source::Source;
+use crate::source::{MOST_READS, Source};
 use crate::tell::tell;
 use crate::words::read_words;
 use clap::Error;
 use clap::error::ErrorKind;
 use log::Log;
+use osm_elements::name::{NAME_LENGTH, Name};
 use std::alloc::Global;
 use std::convert::AsStr;
 use std::net::{Net, TcpListener, TcpStream};
 use std::sync::Wait;
 use std::thread::Threads;
 use std::time::Clock;
-
-/// How often a replay reads at most.
-pub const MOST_READS: u64 = 1 << 40;
 
 /// The status of a run that came to the end of its input or served all its sessions, or that showed a help or the
 /// version.
@@ -72,11 +71,11 @@ where
     // - they can have a mistake: nothing was read, and one text was written to the errors alone;
     // - there was no memory to read them: this is told, nothing was read, and nothing written to the output.
     ensures { let texts = map T.text words.now in
-        ((limit : ℕ) × AsksForReplay texts limit × Replays S.Source W.Sink E.Sink limit result
+        ((limit : ℕ) × (base : Bool) × AsksForReplay texts limit base
+        × Replays S.Source W.Sink E.Sink base limit result input.old input.new output.old output.new errors.old errors.new)
+        ⊎ ((asked : ServeWords) × AsksForServe texts asked
+        × Serves S.Source W.Sink asked.base E.Sink (map (λ room. room.now) asked.rooms.items) asked.limit result
         input.old input.new output.old output.new errors.old errors.new)
-        ⊎ ((asked : ServeWords) × AsksForServe texts asked × (input.new ≡ input.old)
-        × Serves W.Sink E.Sink (map (λ room. room.now) asked.rooms.items) asked.limit result
-        output.old output.new errors.old errors.new)
         ⊎ ((asks_for_help texts ≡ true) × (result ≡ 0) × (input.new ≡ input.old)
         × TakesOne W.Sink output.old output.new × (errors.new ≡ errors.old))
         ⊎ ((has_mistake texts ≡ true) × (result ≡ 2) × (input.new ≡ input.old)
@@ -86,8 +85,8 @@ where
 {
     let alloc = rt.alloc();
     match read_words(alloc, words) {
-        Ok(Asked::Replay { limit }) => run(alloc, limit, input, output, errors),
-        Ok(Asked::Serve(asked)) => run_server(rt, alloc, &asked, output, errors),
+        Ok(Asked::Replay { limit, base }) => run(alloc, limit, base, input, output, errors),
+        Ok(Asked::Serve(asked)) => run_server(rt, alloc, &asked, input, output, errors),
         Err(error) => answer_error(alloc, &error, output, errors),
     }
 }
@@ -96,6 +95,7 @@ where
 fn run<S: Source, W: Sink, E: Sink>(
     alloc: Global,
     limit: u32,
+    base: bool,
     input: &mut S,
     output: &mut W,
     errors: &mut E,
@@ -103,55 +103,84 @@ fn run<S: Source, W: Sink, E: Sink>(
     requires input_works { S.has_failed input.old ≡ false }
     requires output_works { W.has_failed output.old ≡ false }
     requires errors_work { E.has_failed errors.old ≡ false }
-    ensures { Replays S.Source W.Sink E.Sink limit result
+    ensures { Replays S.Source W.Sink E.Sink base limit result
         input.old input.new output.old output.new errors.old errors.new }
 {
-    match replay(alloc, input, output, limit, MOST_READS) {
+    let ran = if base {
+        replay_on(alloc, input, output, limit, MOST_READS)
+    } else {
+        replay(alloc, input, output, limit, MOST_READS)
+    };
+    match ran {
         Ok(()) => DONE,
-        Err(fault) => fail(errors, ProgramFault::Replay(fault)),
+        Err(fault) => fail(errors, &ProgramFault::Replay(fault)),
     }
 }
 
 // Serves rooms, and tells a fault.
-fn run_server<R, W: Sink, E: Sink>(
+fn run_server<R, S: Source, W: Sink, E: Sink>(
     rt: &R,
     alloc: Global,
     asked: &ServeWords<'_>,
+    input: &mut S,
     output: &mut W,
     errors: &mut E,
 ) -> u8
 where
     R: Net<Listener = TcpListener, Stream = TcpStream> + Threads + Wait + Clock + Log + Sync,
     requires workers { asked.now.workers ≤ 64 }
+    requires input_works { S.has_failed input.old ≡ false }
     requires output_works { W.has_failed output.old ≡ false }
     requires errors_work { E.has_failed errors.old ≡ false }
-    ensures { Serves W.Sink E.Sink (map (λ room. room.now) asked.now.rooms.items) asked.now.limit result
-        output.old output.new errors.old errors.new }
+    ensures { Serves S.Source W.Sink asked.now.base E.Sink (map (λ room. room.now) asked.now.rooms.items) asked.now.limit result
+        input.old input.new output.old output.new errors.old errors.new }
 {
-    match serve(rt, alloc, asked, output) {
+    match serve(rt, alloc, asked, input, output) {
         Ok(()) => DONE,
-        Err(fault) => fail(errors, fault),
+        Err(fault) => fail(errors, &fault),
     }
 }
 
 // Tells a fault.
-fn fail<E: Sink>(errors: &mut E, fault: ProgramFault) -> u8
+fn fail<E: Sink>(errors: &mut E, fault: &ProgramFault) -> u8
     requires { E.has_failed errors.old ≡ false }
-    ensures failed { result ≡ fault_status fault }
-    ensures told { Takes E.Sink errors.old errors.new (fault_line fault) }
+    ensures failed { result ≡ fault_status fault.now }
+    ensures told { Takes E.Sink errors.old errors.new (fault_line fault.now) }
 {
-    tell(errors, line_of(fault).as_bytes());
+    match fault {
+        ProgramFault::Replay(ReplayFault::Unsound { name, .. }) => tell_unsound(errors, name),
+        other => {
+            tell(errors, line_of(other).as_bytes());
+        }
+    }
     status_of(fault)
 }
 
-// The line that tells a fault.
-fn line_of(fault: ProgramFault) -> &'static str
-    ensures { result.now ≡ fault_line fault }
+// Tells the name whose row is not sound, on one line.
+fn tell_unsound<E: Sink>(errors: &mut E, name: &Name)
+    requires { E.has_failed errors.old ≡ false }
+    ensures { Takes E.Sink errors.old errors.new (unsound_line name.now) }
+{
+    let mut text = [0; NAME_LENGTH];
+    let length = name.write(&mut text);
+    if tell(errors, UNSOUND.as_bytes()) && tell(errors, &text[..length]) {
+        tell(errors, &[LINE_FEED]);
+    }
+}
+
+// What stands on that line before the name.
+const UNSOUND: &str = "maproom: unsound base ";
+
+// The line that tells a fault which names nothing.
+fn line_of(fault: &ProgramFault) -> &'static str
+    ensures { names_row fault.now ≡ false → result.now ≡ fault_line fault.now }
 {
     match fault {
         ProgramFault::Replay(ReplayFault::Read) => "maproom: read failed\n",
         ProgramFault::Replay(ReplayFault::Write) => "maproom: write failed\n",
         ProgramFault::Replay(ReplayFault::Memory) | ProgramFault::Memory => "maproom: no memory\n",
+        ProgramFault::Replay(ReplayFault::BadBase(_)) => "maproom: bad base\n",
+        ProgramFault::Replay(ReplayFault::Unsound { .. }) => "maproom: unsound base\n",
         ProgramFault::Listen => "maproom: cannot listen\n",
         ProgramFault::Worker => "maproom: cannot start a worker\n",
         ProgramFault::TooManyRooms => "maproom: too many rooms\n",
@@ -161,8 +190,8 @@ fn line_of(fault: ProgramFault) -> &'static str
 }
 
 // The status that a fault ends the program with.
-fn status_of(fault: ProgramFault) -> u8
-    ensures { result ≡ fault_status fault }
+fn status_of(fault: &ProgramFault) -> u8
+    ensures { result ≡ fault_status fault.now }
 {
     match fault {
         ProgramFault::TooManyRooms | ProgramFault::BadName | ProgramFault::Twice => REFUSED,
@@ -187,10 +216,10 @@ fn answer_error<W: Sink, E: Sink>(
         × Takes E.Sink errors.old errors.new (fault_line ProgramFault.Memory)) }
 {
     if error.kind() == ErrorKind::OutOfMemory {
-        return fail(errors, ProgramFault::Memory);
+        return fail(errors, &ProgramFault::Memory);
     }
     let Ok(text) = error.to_string(alloc) else {
-        return fail(errors, ProgramFault::Memory);
+        return fail(errors, &ProgramFault::Memory);
     };
     if error.use_stderr() {
         tell(errors, text.as_bytes());

@@ -1,12 +1,40 @@
 //! What ends a replay, and what ends the program.
 ghost use Rattle.std.specs.Prelude.{◌≡◌};
 
+use edit_simple::refusal::Refusal;
+use osm_elements::name::Name;
+use room_history::base::BaseFault;
 use room_server::{PoolFault, TableFault};
-use std::alloc::AllocError;
+use room_wire::bad::Bad;
+use std::alloc::{AllocError, Global};
 use thiserror::Error;
 
-/// What ends a replay before its time.
+/// What ends a run over streams before its time.
 #[derive(Clone, Copy, Debug, PartialEq, Eq, Error)]
+pub enum StreamFault {
+    /// The reader failed, or the reads were used up.
+    #[error("read failed")]
+    Read,
+    /// The writer failed, or took nothing.
+    #[error("write failed")]
+    Write,
+    /// A growth was refused.
+    #[error("no memory")]
+    Memory,
+}
+
+impl From<AllocError> for StreamFault {
+    ghost use Rattle.room_program.specs.declared.fault.StreamFault.{StreamFault};
+
+    ghost from_gives = { λ _ fault. fault ≡ StreamFault.Memory };
+
+    fn from(_: AllocError) -> Self {
+        StreamFault::Memory
+    }
+}
+
+/// What ends a replay before its time.
+#[derive(Debug, Drop, Error)]
 pub enum ReplayFault {
     /// The reader failed, or the reads were used up.
     #[error("read failed")]
@@ -17,6 +45,31 @@ pub enum ReplayFault {
     /// A growth was refused.
     #[error("no memory")]
     Memory,
+    /// The first line was to tell the map that the room begins with, and is no welcome: what is wrong with it.
+    #[error("bad base")]
+    BadBase(Bad),
+    /// The map that the first line tells is not sound.
+    #[error("unsound base")]
+    Unsound {
+        /// The least name whose row is not.
+        name: Name,
+        /// What is wrong with that row, as [`BaseFault`] tells it.
+        why: Refusal<Global>,
+    },
+}
+
+impl From<StreamFault> for ReplayFault {
+    ghost use Rattle.room_program.specs.Faults.{stream_fault};
+
+    ghost from_gives = { λ stream fault. fault ≡ stream_fault stream };
+
+    fn from(fault: StreamFault) -> Self {
+        match fault {
+            StreamFault::Read => ReplayFault::Read,
+            StreamFault::Write => ReplayFault::Write,
+            StreamFault::Memory => ReplayFault::Memory,
+        }
+    }
 }
 
 impl From<AllocError> for ReplayFault {
@@ -29,10 +82,23 @@ impl From<AllocError> for ReplayFault {
     }
 }
 
+impl From<BaseFault<Global>> for ReplayFault {
+    ghost use Rattle.room_program.specs.Faults.{base_fault};
+
+    ghost from_gives = { λ base fault. fault ≡ base_fault base };
+
+    fn from(fault: BaseFault<Global>) -> Self {
+        match fault {
+            BaseFault::Unsound { name, why } => ReplayFault::Unsound { name, why },
+            BaseFault::Memory => ReplayFault::Memory,
+        }
+    }
+}
+
 /// What ends the program before its time.
-#[derive(Clone, Copy, Debug, PartialEq, Eq, Error)]
+#[derive(Debug, Drop, Error)]
 pub enum ProgramFault {
-    /// A replay ended so.
+    /// A replay, or the reading of the map that rooms begin with, ended so.
     #[error(transparent)]
     Replay(ReplayFault),
     /// There was no memory to read the words, or to serve rooms.
@@ -65,6 +131,31 @@ impl From<AllocError> for ProgramFault {
     }
 }
 
+impl From<ReplayFault> for ProgramFault {
+    ghost use Rattle.room_program.specs.declared.fault.ProgramFault.{ProgramFault};
+
+    ghost from_gives = { λ replay fault. fault ≡ ProgramFault.Replay replay };
+
+    fn from(fault: ReplayFault) -> Self {
+        ProgramFault::Replay(fault)
+    }
+}
+
+impl From<BaseFault<Global>> for ProgramFault {
+    ghost use Rattle.room_program.specs.Faults.{opening_fault};
+
+    ghost from_gives = { λ base fault. fault ≡ opening_fault base };
+
+    fn from(fault: BaseFault<Global>) -> Self {
+        match fault {
+            BaseFault::Unsound { name, why } => {
+                ProgramFault::Replay(ReplayFault::Unsound { name, why })
+            }
+            BaseFault::Memory => ProgramFault::Memory,
+        }
+    }
+}
+
 impl From<TableFault> for ProgramFault {
     ghost use Rattle.room_program.specs.Faults.{table_fault};
 
@@ -74,6 +165,9 @@ impl From<TableFault> for ProgramFault {
         match fault {
             TableFault::BadName(_) => ProgramFault::BadName,
             TableFault::Twice(_) => ProgramFault::Twice,
+            TableFault::Unsound { name, why } => {
+                ProgramFault::Replay(ReplayFault::Unsound { name, why })
+            }
             TableFault::Memory => ProgramFault::Memory,
         }
     }

@@ -7,6 +7,7 @@
 
 pub mod answers;
 pub mod asked;
+pub mod base;
 mod blocks;
 pub mod command;
 pub mod failed;

@@ -1,7 +1,12 @@
 //! A room that is run from a stream of lines to a stream of replies.
 ghost use Rattle.std.specs.Prelude.{◌≡◌, ◌≢◌, ◌++◌, ◌⊎◌, ℕ, List, [], true, false, OnOk, OnErr, Err, ◌<◌, length};
 ghost use Rattle.std.specs.Io.KnownBytes.{Appends};
+ghost use Rattle.std.specs.declared.alloc.Global.{Global};
+ghost use Rattle.osm_changes.specs.Sound.{is_sound};
+ghost use Rattle.osm_elements.specs.Maps.{Rows};
+ghost use Rattle.room_program.specs.Bases.{IsNoBase, IsTold, behind};
 ghost use Rattle.room_program.specs.Lines.{IsLine};
+ghost use Rattle.room_program.specs.Replays.{HasRun};
 ghost use Rattle.room_program.specs.Scripts.{script_of};
 ghost use Rattle.room_program.specs.LineAnswers.{script};
 ghost use Rattle.room_program.specs.Runs.{AnswersFront, AnswersSome};
@@ -9,8 +14,9 @@ ghost use Rattle.room_program.specs.Streams.{Gets, GetsAtMost, TookNone, WritesA
 ghost use Rattle.room_program.specs.Streams.{with_bytes};
 
 use crate::answers::Answers;
+use crate::base::{FirstLine, read_first_line, rows_of};
 use crate::blocks::{BLOCK, answer_lines};
-use crate::fault::ReplayFault;
+use crate::fault::{ReplayFault, StreamFault};
 use crate::lines::LINE_FEED;
 use crate::sink::Sink;
 use crate::source::Source;
@@ -18,20 +24,20 @@ use room_history::room::Room;
 use std::alloc::Global;
 
 // Writes all the bytes.
-pub(crate) fn put_all<W: Sink>(writer: &mut W, bytes: &[u8]) -> Result<(), ReplayFault>
+pub(crate) fn put_all<W: Sink>(writer: &mut W, bytes: &[u8]) -> Result<(), StreamFault>
     requires { W.has_failed writer.old ≡ false }
     ensures ok { OnOk result (Appends (W.taken writer.old) (W.taken writer.new) bytes.now) }
     ensures works { OnOk result (W.has_failed writer.new ≡ false) }
     ensures front { OnErr result ((front rest : List ℕ) × (bytes.now ≡ front ++ rest)
         × Appends (W.taken writer.old) (W.taken writer.new) front) }
-    ensures fault { OnErr result (result ≡ Err ReplayFault.Write) }
+    ensures fault { OnErr result (result ≡ Err StreamFault.Write) }
     ensures why { OnErr result ((W.has_failed writer.new ≡ true) ⊎ TookNone W.puts writer.new) }
 {
     let mut rest = bytes;
     while !rest.is_empty() {
         match writer.put(rest) {
             Ok(count) if count > 0 => rest = &rest[count..],
-            _ => return Err(ReplayFault::Write),
+            _ => return Err(StreamFault::Write),
         }
     }
     Ok(())
@@ -44,7 +50,7 @@ fn answer_block<A: Answers, W: Sink>(
     writer: &mut W,
     begun: &mut Vec<u8>,
     block: &[u8],
-) -> Result<(), ReplayFault>
+) -> Result<(), StreamFault>
     requires works { W.has_failed writer.old ≡ false }
     requires held { IsLine begun.old.items }
     ensures ok { OnOk result ((text : List ℕ)
@@ -56,10 +62,10 @@ fn answer_block<A: Answers, W: Sink>(
     ensures front { OnErr result ((written : List ℕ) × (unwritten : List ℕ)
         × AnswersSome A.answered answers.old (begun.old.items ++ block.now) (written ++ unwritten)
         × Appends (W.taken writer.old) (W.taken writer.new) written) }
-    ensures not_read { result ≢ Err ReplayFault.Read }
-    ensures write { result ≡ Err ReplayFault.Write
+    ensures not_read { result ≢ Err StreamFault.Read }
+    ensures write { result ≡ Err StreamFault.Write
         → (W.has_failed writer.new ≡ true) ⊎ TookNone W.puts writer.new }
-    ensures memory { result ≡ Err ReplayFault.Memory → W.has_failed writer.new ≡ false }
+    ensures memory { result ≡ Err StreamFault.Memory → W.has_failed writer.new ≡ false }
 {
     let mut replies = Vec::new(alloc);
     let mut rest = block;
@@ -72,7 +78,7 @@ fn answer_block<A: Answers, W: Sink>(
     Ok(())
 }
 
-// Reads block after block, and answers the lines of each before it reads the next. The first line begins with the bytes
+// Reads block after block, and answers the lines of each before it reads the next. The first lines are those of the bytes
 // that are held already, as if the reader gave them first.
 fn replay_blocks<A: Answers, S: Source, W: Sink>(
     alloc: Global,
@@ -81,31 +87,32 @@ fn replay_blocks<A: Answers, S: Source, W: Sink>(
     writer: &mut W,
     reads: u64,
     block: &mut [u8],
-    mut begun: Vec<u8>,
-) -> Result<(), ReplayFault>
+    held: &[u8],
+) -> Result<(), StreamFault>
     requires reader_works { S.has_failed reader.old ≡ false }
     requires writer_works { W.has_failed writer.old ≡ false }
     requires room { 0 < length block.old }
-    requires held { IsLine begun.items }
     ensures ok { OnOk result (WritesAll (script_of A.answered answers.old)
-        (with_bytes begun.items (S.left reader.old)) (S.left reader.new) (W.taken writer.old) (W.taken writer.new)) }
+        (with_bytes held.now (S.left reader.old)) (S.left reader.new) (W.taken writer.old) (W.taken writer.new)) }
     ensures works { OnOk result ((S.has_failed reader.new ≡ false)
         × (W.has_failed writer.new ≡ false)) }
-    ensures read { result ≡ Err ReplayFault.Read → WritesEnded (script_of A.answered answers.old)
-        (with_bytes begun.items (S.left reader.old)) (S.left reader.new) (W.taken writer.old) (W.taken writer.new) }
+    ensures read { result ≡ Err StreamFault.Read → WritesEnded (script_of A.answered answers.old)
+        (with_bytes held.now (S.left reader.old)) (S.left reader.new) (W.taken writer.old) (W.taken writer.new) }
     ensures front { OnErr result (WritesFront (script_of A.answered answers.old)
-        (with_bytes begun.items (S.left reader.old)) (S.left reader.new) (W.taken writer.old) (W.taken writer.new)) }
+        (with_bytes held.now (S.left reader.old)) (S.left reader.new) (W.taken writer.old) (W.taken writer.new)) }
     ensures calls { GetsAtMost S.gets reads reader.old reader.new }
-    ensures why_read { result ≡ Err ReplayFault.Read
+    ensures why_read { result ≡ Err StreamFault.Read
         → (S.has_failed reader.new ≡ true) ⊎ Gets S.gets reads reader.old reader.new }
-    ensures why_write { result ≡ Err ReplayFault.Write
+    ensures why_write { result ≡ Err StreamFault.Write
         → (W.has_failed writer.new ≡ true) ⊎ TookNone W.puts writer.new }
-    ensures why_memory { result ≡ Err ReplayFault.Memory
+    ensures why_memory { result ≡ Err StreamFault.Memory
         → (S.has_failed reader.new ≡ false) × (W.has_failed writer.new ≡ false) }
 {
+    let mut begun = Vec::new(alloc);
+    answer_block(alloc, answers, writer, &mut begun, held)?;
     for _ in 0..reads {
         let Ok(count) = reader.get(block) else {
-            return Err(ReplayFault::Read);
+            return Err(StreamFault::Read);
         };
         if count > 0 {
             answer_block(alloc, answers, writer, &mut begun, &block[..count])?;
@@ -116,7 +123,7 @@ fn replay_blocks<A: Answers, S: Source, W: Sink>(
             return answer_block(alloc, answers, writer, &mut begun, &[LINE_FEED]);
         }
     }
-    Err(ReplayFault::Read)
+    Err(StreamFault::Read)
 }
 
 /// Runs a room with an empty map, whose journal takes at most `limit` entries, over the lines of a stream, and
@@ -139,33 +146,59 @@ pub fn replay<S: Source, W: Sink>(
 ) -> Result<(), ReplayFault>
     requires reader_works { S.has_failed reader.old ≡ false }
     requires writer_works { W.has_failed writer.old ≡ false }
-
-    // All was read, and its script was written.
-    ensures ok { OnOk result (WritesAll (script [] limit)
-        (S.left reader.old) (S.left reader.new) (W.taken writer.old) (W.taken writer.new)) }
-    ensures works { OnOk result ((S.has_failed reader.new ≡ false)
-        × (W.has_failed writer.new ≡ false)) }
-
-    // On `Read` what was written is the script of the lines whose line feeds were read, and on any
-    // fault a front of the script of what was read.
-    ensures read { result ≡ Err ReplayFault.Read → WritesEnded (script [] limit)
-        (S.left reader.old) (S.left reader.new) (W.taken writer.old) (W.taken writer.new) }
-    ensures front { OnErr result (WritesFront (script [] limit)
-        (S.left reader.old) (S.left reader.new) (W.taken writer.old) (W.taken writer.new)) }
-
+    // All was read and its script was written; or a front of it, and why it ended.
+    ensures ran { HasRun S.Source W.Sink (script [] limit) (S.left reader.old) reads
+        reader.old reader.new writer.old writer.new result }
     // At most so many reads were made, and none after one that gave the end.
     ensures calls { GetsAtMost S.gets reads reader.old reader.new }
-
-    // When each fault comes.
-    ensures why_read { result ≡ Err ReplayFault.Read
-        → (S.has_failed reader.new ≡ true) ⊎ Gets S.gets reads reader.old reader.new }
-    ensures why_write { result ≡ Err ReplayFault.Write
-        → (W.has_failed writer.new ≡ true) ⊎ TookNone W.puts writer.new }
-    ensures why_memory { result ≡ Err ReplayFault.Memory
-        → (S.has_failed reader.new ≡ false) × (W.has_failed writer.new ≡ false) }
 {
     let mut room = Room::open(alloc, limit);
     let mut block = vec![in alloc; 0u8; BLOCK]?;
-    let begun = Vec::new(alloc);
-    replay_blocks(alloc, &mut room, reader, writer, reads, &mut block, begun)
+    replay_blocks(alloc, &mut room, reader, writer, reads, &mut block, &[])?;
+    Ok(())
+}
+
+/// Runs a room over the lines of a stream but the first, as [`replay`] does. The first line tells the map that the room begins
+/// with, as [`read_base`] reads it, and gets no reply. Nothing is written before the room is opened.
+///
+/// - `Read`, `Write` and `Memory`: as `replay` and `read_base` tell them.
+/// - `BadBase`: the first line is no welcome.
+/// - `Unsound`: the map that it tells is not sound.
+pub fn replay_on<S: Source, W: Sink>(
+    alloc: Global,
+    reader: &mut S,
+    writer: &mut W,
+    limit: u32,
+    reads: u64,
+) -> Result<(), ReplayFault>
+    requires reader_works { S.has_failed reader.old ≡ false }
+    requires writer_works { W.has_failed writer.old ≡ false }
+    // The first line told a sound map, and all that stands behind it was run on a room that began with it; or there is no such
+    // room, and nothing was written.
+    ensures ran { ((base : Rows Global) × IsTold S.Source reader.old base × (is_sound base ≡ true)
+        × HasRun S.Source W.Sink (script base limit) (behind (S.left reader.old)) reads
+        reader.old reader.new writer.old writer.new result)
+        ⊎ ((fault : ReplayFault) × (result ≡ Err fault) × (writer.new ≡ writer.old)
+        × IsNoBase S.Source reads reader.old reader.new fault) }
+    // At most so many reads were made, and none after one that gave the end.
+    ensures calls { GetsAtMost S.gets reads reader.old reader.new }
+{
+    let mut block = vec![in alloc; 0u8; BLOCK]?;
+    let first = read_first_line(alloc, reader, reads, &mut block)?;
+    let FirstLine { line, later } = first;
+    let rows = rows_of(alloc, line)?;
+    let mut room = Room::open_on(alloc, rows, limit)?;
+    let Some(later) = later else {
+        return Ok(());
+    };
+    replay_blocks(
+        alloc,
+        &mut room,
+        reader,
+        writer,
+        later.reads,
+        &mut block,
+        &later.held,
+    )?;
+    Ok(())
 }

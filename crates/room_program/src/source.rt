@@ -5,6 +5,9 @@ ghost use Rattle.room_program.specs.declared.failed.Failed.{Failed};
 
 use crate::failed::Failed;
 
+/// How often the program reads its input at most.
+pub const MOST_READS: u64 = 1 << 40;
+
 /// A stream of bytes to read.
 pub trait Source {
     /// The bytes that it has left, where they are known.

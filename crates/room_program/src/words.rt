@@ -3,7 +3,7 @@ ghost use Rattle.std.specs.Prelude.{◌≡◌, IfOk, MatchResult, false, map};
 ghost use Rattle.clap.specs.Words.{HasKind, app_of, found_of, rows_of, rule_of};
 ghost use Rattle.clap.specs.declared.builder.command.Command.TheViews.{out-Command as fields_of};
 ghost use Rattle.room_program.specs.Commands.{IsAsked};
-ghost use Rattle.room_program.specs.Words.{HasNumber, addr_in, faults, number_in, rooms_in};
+ghost use Rattle.room_program.specs.Words.{HasNumber, addr_in, base_in, faults, number_in, rooms_in};
 ghost use Rattle.room_program.specs.Words.{program_app, replay_app, serve_app};
 ghost use Rattle.room_program.specs.Words as words;
 
@@ -40,6 +40,7 @@ pub fn read_words<'a, T: AsStr>(alloc: Global, words: &'a [T]) -> Result<Asked<'
             workers: number(options, "workers"),
             sessions: number(options, "sessions"),
             limit: number(options, "limit"),
+            base: base(options),
             rooms: rooms(alloc, options)?,
         }));
     }
@@ -48,6 +49,7 @@ pub fn read_words<'a, T: AsStr>(alloc: Global, words: &'a [T]) -> Result<Asked<'
     };
     Ok(Asked::Replay {
         limit: number(options, "limit"),
+        base: base(options),
     })
 }
 
@@ -64,6 +66,13 @@ fn addr<'a>(options: &ArgMatches<'a>) -> &'a str
     ensures { result.now ≡ addr_in (rows_of (found_of options.now)) }
 {
     options.get_str("addr").unwrap_or("")
+}
+
+// Whether the option for a base was found.
+fn base(options: &ArgMatches<'_>) -> bool
+    ensures { result ≡ base_in (rows_of (found_of options.now)) }
+{
+    options.get_str("base").unwrap_or("") == "true"
 }
 
 // The names of rooms that were found, in their order.
@@ -99,7 +108,8 @@ fn replay_line<'a>(alloc: Global) -> Result<Command<'a>, AllocError>
     Command::new(alloc, "replay")
         .about("Runs a room from the lines of standard input")
         .long_about(REPLAY_HELP)
-        .arg(limit_option(alloc))
+        .arg(limit_option(alloc))?
+        .arg(base_option(alloc))
 }
 
 // What the words after `serve` can be.
@@ -114,6 +124,7 @@ fn serve_line<'a>(alloc: Global) -> Result<Command<'a>, AllocError>
         .arg(workers_option(alloc))?
         .arg(sessions_option(alloc))?
         .arg(limit_option(alloc))?
+        .arg(base_option(alloc))?
         .arg(room_words(alloc))
 }
 
@@ -127,6 +138,16 @@ fn limit_option<'a>(alloc: Global) -> Arg<'a>
         .value_parser(value_parser!(u32).range(0..=i64::from(MOST_ENTRIES)))
         .default_value("1000000")
         .help("How many changes a room accepts, from 0 to 1000000")
+}
+
+fn base_option<'a>(alloc: Global) -> Arg<'a>
+    ensures rule { rule_of result ≡ words.base_option }
+    ensures local { result.global ≡ false }
+{
+    Arg::new(alloc, "base")
+        .long("base")
+        .action(ArgAction::SetTrue)
+        .help("Begin with the map that the first line of standard input is: a reply to `map`")
 }
 
 fn addr_option<'a>(alloc: Global) -> Arg<'a>
@@ -193,6 +214,9 @@ To replay a file, redirect it: maproom replay <FILE
 A line is the name of its author, a space, and the message as JSON. The room begins with an empty map,
 and lives as long as its input.
 
+With --base the room begins with the map that the first line is, which gets no reply: a line that the
+message `map` was answered, by this room or another. So a room can go on where one ended.
+
 Such a line: anna {\"id\":1,\"do\":\"create\",\"el\":\"n1\",\"lat\":\"51.5\",\"lon\":\"-0.1\"}";
 
 const SERVE_HELP: &str = "\
@@ -200,7 +224,8 @@ Serves rooms to clients over WebSockets. A client names a room and its author in
 told what the others change.
 To serve two rooms: maproom serve --addr 127.0.0.1:9001 --workers 8 --sessions 1000 paris rome
 
-A room begins with an empty map, and lives until the program ends. Once clients can connect, the line `listening` is
+A room begins with an empty map, and lives until the program ends. With --base each begins with the map that the first
+line of standard input is: a line that the message `map` was answered. Once clients can connect, the line `listening` is
 printed; at the end, after the last session, a line for each room: its name, a space, and how many changes it
 accepted.
 

@@ -7,16 +7,24 @@ use Rattle.std.specs.Option.{option_map}
 use Rattle.std.specs.List.{slice_index_or}
 use Rattle.edit_topology.specs.Facts.BothTags.{same_text_itself}
 use Rattle.osm_changes.specs.Facts.SameElements.{same_texts}
+use Rattle.std.specs.declared.alloc.Global.{Global}
+use Rattle.osm_elements.specs.Maps.{Rows}
+use Rattle.room_history.specs.Bases.{IsBaseFault}
+use Rattle.room_history.specs.declared.base.BaseFault.{BaseFault}
+use Rattle.room_history.specs.declared.base.BaseFault.TheVariants as bases
 use Rattle.room_stacks.specs.Authors.{author_of, is_author}
 use Rattle.room_stacks.specs.SameAuthors.{is_same_author}
-use Rattle.turn_desk.specs.Desk.{IsAt}
+use Rattle.turn_desk.specs.Desk.{IsAt, IsFirst}
 use Rattle.room_server.specs.declared.table.TableFault.{TableFault}
-use Rattle.room_server.specs.declared.table.TableFault.TheVariants.{BadName, Twice, Memory}
+use Rattle.room_server.specs.declared.table.TableFault.TheVariants.{BadName, Twice, Unsound, Memory}
 use Rattle.room_server.specs.Inner.NewNames.{IsRefused, contains_name}
-use Rattle.room_server.specs.Openings.{AreFine, IsAgain, IsBad, IsFirstFault}
-use Rattle.room_server.specs.Tables.{DeskView, SeatView, TableView}
+use Rattle.room_server.specs.Openings.{AreFine, IsAgain, IsBad, IsFirstFault, IsNameFault, opening}
+use Rattle.room_server.specs.Inner.Opened.{AreOpened}
+use Rattle.room_server.specs.Tables.{DeskView, SeatView, TableView, base_fault}
+use Rattle.std.proofs.lemmas.List.Elements.{All-same, All-push}
+use Rattle.room_server.proofs.Counting.{all_none}
 use Rattle.room_server.proofs.Seating.{some_is}
-use Rattle.room_server.proofs.Splitting.{AtFirst, get_more, length_more}
+use Rattle.room_server.proofs.Splitting.{AtFirst, at_none, get_more, length_more}
 
 -- ---- lists
 
@@ -101,12 +109,25 @@ is_again texts position text at e =
     (text, found.0, there.0, at, there.1)
 
 -- the text at a position is refused, after those before it
-pub first_fault : (texts : List (List ℕ)) (position : ℕ) (text : List ℕ) (fault : TableFault) → slice_get texts position ≡ Some text → AreFine texts position → IsRefused (take position texts) text position fault → IsFirstFault texts fault
+pub first_fault : (texts : List (List ℕ)) (position : ℕ) (text : List ℕ) (fault : TableFault) → slice_get texts position ≡ Some text → AreFine texts position → IsRefused (take position texts) text position fault → IsNameFault texts fault
 first_fault texts position text (BadName at) here fine refused =
     (subst (λ p. IsBad texts p) (sym refused.0) (text, here, refused.1), subst (λ p. AreFine texts p) (sym refused.0) fine)
 first_fault texts position text (Twice at) here fine refused =
     (subst (λ p. IsAgain texts p) (sym refused.0) (is_again texts position text here refused.2), subst (λ p. AreFine texts p) (sym refused.0) fine)
+first_fault texts position text (Unsound x why) here fine refused = absurd refused
 first_fault texts position text Memory here fine refused = absurd refused
+
+-- a fault of the names is one of the table
+pub names_first : (texts : List (List ℕ)) (base : Rows Global) (fault : TableFault) → IsNameFault texts fault → IsFirstFault texts base fault
+names_first texts base (BadName position) is = is
+names_first texts base (Twice position) is = is
+names_first texts base (Unsound x why) is = absurd is
+names_first texts base Memory is = is
+
+-- and so is one of the map, where the names are fine
+pub base_then : (texts : List (List ℕ)) (base : Rows Global) (fault : BaseFault Global) → AreFine texts (length texts) → IsBaseFault base fault → IsFirstFault texts base (base_fault fault)
+base_then texts base (bases.Unsound x why) fine is = (fine, is)
+base_then texts base bases.Memory fine is = tt
 
 -- ---- desks with their first seats
 
@@ -126,3 +147,39 @@ module _ (desks : List DeskView) (seats : List SeatView) (desk : DeskView) (seat
     let long = length_more seats seat in let had = at.0 in omega (arith, long, had),
     λ room q s q_at s_at. last at.1 room q s (get_more desks desk room q q_at) (get_more seats seat room s s_at),
   )
+
+none_at : {X : Type 0} (i : ℕ) (x : X) → slice_get [] i ≡ Some x → ⊥
+none_at i x e = absurd (grind (arith, e))
+
+-- no room yet, and one more
+pub none_opened : (base : Rows Global) (limit : ℕ) (desks : List DeskView) (seats : List SeatView) → desks ≡ [] → seats ≡ [] → AreOpened base limit 0 desks seats
+none_opened base limit desks seats no_desks no_seats = record {
+  many = ap length no_desks;
+  as_many = ap length no_seats;
+  opened = all_none (λ desk. desk.fixed ≡ opening base limit) desks no_desks;
+  at = λ room desk seat at had. absurd (none_at room seat (ap (λ (ss : List SeatView). slice_get ss room) (sym no_seats) ∙ had));
+  first = all_none IsFirst seats no_seats;
+}
+
+pub one_opened : (base : Rows Global) (limit count : ℕ) (desks desks' : List DeskView) (seats seats' : List SeatView) (desk : DeskView) (seat : SeatView)
+    → desks' ≡ desks ++ desk ∷ [] → seats' ≡ seats ++ seat ∷ [] → desk.fixed ≡ opening base limit → IsAt desk seat → IsFirst seat
+    → AreOpened base limit count desks seats → AreOpened base limit (count + 1) desks' seats'
+one_opened base limit count desks desks' seats seats' desk seat desks_are seats_are fixed is own so_far =
+    let long = length_more desks desk in
+    let desks_long = ap length desks_are in
+    let many = so_far.many in
+    let grown = at_grown desks seats desk seat (so_far.as_many ∙ sym so_far.many) is count (so_far.as_many, so_far.at) in
+    let first = subst (λ ss. AtFirst (of_desks (desks ++ desk ∷ [])) (count + 1) ss) (sym seats_are) grown in
+    let at = subst (λ ds. AtFirst (of_desks ds) (count + 1) seats') (sym desks_are) first in
+    record {
+      many = omega (arith, long, desks_long, many);
+      as_many = at.0;
+      opened = All-same (λ d. d.fixed ≡ opening base limit) desks' (desks ++ desk ∷ []) desks_are (All-push (λ d. d.fixed ≡ opening base limit) desks desk so_far.opened fixed);
+      at = at.1;
+      first = All-same IsFirst seats' (seats ++ seat ∷ []) seats_are (All-push IsFirst seats seat so_far.first own);
+    }
+
+-- the same of lists that are equal
+pub same_opened : (base : Rows Global) (limit count : ℕ) (desks desks' : List DeskView) (seats seats' : List SeatView) → desks' ≡ desks → seats' ≡ seats → AreOpened base limit count desks seats → AreOpened base limit count desks' seats'
+same_opened base limit count desks desks' seats seats' desks_are seats_are so_far =
+    subst (λ ds. AreOpened base limit count ds seats') (sym desks_are) (subst (λ ss. AreOpened base limit count desks ss) (sym seats_are) so_far)

@@ -1,1 +1,2 @@
 pub mod NewNames
+pub mod Opened

@@ -1,10 +1,13 @@
 -- How a table of rooms is opened. (The names of rooms are this project's.)
-use Rattle.std.specs.Prelude.{◌≡◌, ◌<◌, ℕ, List, [], Some, None, All, length, slice_get}
+use Rattle.std.specs.Prelude.{◌≡◌, ◌<◌, ℕ, List, Some, None, All, length, slice_get, true}
 use Rattle.std.specs.declared.alloc.Global.{Global}
+use Rattle.osm_changes.specs.Sound.{is_sound}
+use Rattle.osm_elements.specs.Maps.{Rows}
 use Rattle.room_history.specs.declared.turned.Opening.{Opening}
+use Rattle.room_history.specs.Bases.{IsFirstUnsound}
 use Rattle.room_stacks.specs.Authors.{author_of}
 use Rattle.room_server.specs.declared.table.TableFault.{TableFault}
-use Rattle.room_server.specs.declared.table.TableFault.TheVariants.{BadName, Twice, Memory}
+use Rattle.room_server.specs.declared.table.TableFault.TheVariants.{BadName, Twice, Unsound, Memory}
 use Rattle.room_server.specs.Tables.{AreAt, SeatView, TableView}
 use Rattle.turn_desk.specs.Desk.{IsFirst}
 
@@ -22,20 +25,26 @@ abbrev pub AreFine : List (List ℕ) → ℕ → Type 0
 AreFine names end = (position : ℕ) → position < end → (IsBad names position → ⊥) × (IsAgain names position → ⊥)
 
 -- the fault of the first position that has one; memory may be wanting at any
-abbrev pub IsFirstFault : List (List ℕ) → TableFault → Type 0
-IsFirstFault names (BadName position) = IsBad names position × AreFine names position
-IsFirstFault names (Twice position) = IsAgain names position × AreFine names position
-IsFirstFault names Memory = Unit {0}
+abbrev pub IsNameFault : List (List ℕ) → TableFault → Type 0
+IsNameFault names (BadName position) = IsBad names position × AreFine names position
+IsNameFault names (Twice position) = IsAgain names position × AreFine names position
+IsNameFault names (Unsound x why) = ⊥
+IsNameFault names Memory = Unit {0}
 
--- a room with an empty map, whose journal takes so many entries
-abbrev pub empty_opening : ℕ → Opening Global
-empty_opening limit = record { base = []; limit = limit }
+-- that of the names, or where each is fine that of the map with which the rooms were to begin
+abbrev pub IsFirstFault : List (List ℕ) → Rows Global → TableFault → Type 0
+IsFirstFault names base (Unsound x why) = AreFine names (length names) × IsFirstUnsound base x why
+IsFirstFault names base fault = IsNameFault names fault
 
--- the table has a room for each name, in order, and the seats are the first of their desks
-pub record Opens (names : List (List ℕ)) (limit : ℕ) (table : TableView) (seats : List SeatView) : Type 0 where
-  pub fine : AreFine names (length names)
+-- a room that begins with this map, and whose journal takes so many entries
+abbrev pub opening : Rows Global → ℕ → Opening Global
+opening base limit = record { base = base; limit = limit }
+
+-- the map is sound, the table has a room with it for each name, in order, and the seats are the first of their desks
+pub record Opens (names : List (List ℕ)) (base : Rows Global) (limit : ℕ) (table : TableView) (seats : List SeatView) : Type 0 where
+  pub sound : is_sound base ≡ true
   pub names_are : table.names ≡ names
   pub many : length table.desks ≡ length names
-  pub empty : All (λ desk. desk.fixed ≡ empty_opening limit) table.desks
+  pub opened : All (λ desk. desk.fixed ≡ opening base limit) table.desks
   pub at : AreAt table seats
   pub first : All IsFirst seats

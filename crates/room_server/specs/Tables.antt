@@ -4,12 +4,16 @@ use Rattle.std.specs.declared.alloc.Global.{Global}
 use Rattle.atomic_table.specs.Seated.{TableId}
 use Rattle.room_history.specs.declared.ask.RoomCall.{RoomCall}
 use Rattle.room_history.specs.declared.ask.RoomReply.{RoomReply}
+use Rattle.room_history.specs.declared.base.BaseFault.{BaseFault}
+use Rattle.room_history.specs.declared.base.BaseFault.TheVariants as bases
 use Rattle.room_history.specs.declared.entry.Entry.{Entry}
 use Rattle.room_history.specs.declared.turned.Opening.{Opening}
 use Rattle.room_history.specs.Turns.{IsTurn}
 use Rattle.room_session.specs.Rooms.{Known, RoomKnown}
 use Rattle.room_stacks.specs.Authors.{author_of}
 use Rattle.room_stacks.specs.SameAuthors.{is_same_author}
+use Rattle.room_server.specs.declared.table.TableFault.{TableFault}
+use Rattle.room_server.specs.declared.table.TableFault.TheVariants.{Unsound, Memory}
 use Rattle.turn_desk.specs.Desk.{DeskId, Sitting, IsAt, IsSameSeat, TurnsAt, LooksAt}
 use Rattle.turn_desk.specs.History.{entries}
 
@@ -96,3 +100,8 @@ pub record LooksThere (desk : DeskView) (room count : ℕ) (seats seats' : List 
   pub at : IsAt desk after
   pub same : IsSameSeat before after
   pub look : LooksAt IsTurn desk.fixed before count after
+
+-- what a fault of the map with which rooms were to begin is to the table
+abbrev pub base_fault : BaseFault Global → TableFault
+base_fault (bases.Unsound x why) = Unsound x why
+base_fault bases.Memory = Memory

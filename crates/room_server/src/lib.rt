@@ -8,6 +8,7 @@
 mod accepting;
 mod fronts;
 mod job;
+mod names;
 mod pool;
 mod seated;
 mod seats;
@@ -18,6 +19,7 @@ mod workers;
 
 pub use fronts::close_all;
 pub use job::Job;
+pub use names::RoomNames;
 pub use pool::{Load, PoolFault, serve_rooms};
 pub use seated::Seated;
 pub use seats::RoomSeat;

@@ -1,14 +1,21 @@
 //! The table of rooms.
-ghost use Rattle.std.specs.Prelude.{◌≡◌, ◌<◌, ◌++◌, ◌∷◌, [], Some, false, length, slice_get, map, IfOk, IfErr, MatchResult, OnOk};
+ghost use Rattle.std.specs.Prelude.{◌≡◌, ◌<◌, ◌++◌, ◌∷◌, [], Some, true, length, slice_get, map, IfOk, IfErr, OnOk};
+ghost use Rattle.osm_elements.specs.Rows.{AreInOrder};
+ghost use Rattle.room_history.specs.Bases.{IsBaseFault, are_of_kinds};
 ghost use Rattle.room_stacks.specs.Authors.{author_of};
-ghost use Rattle.room_server.specs.Inner.NewNames.{IsRefused, contains_name};
-ghost use Rattle.room_server.specs.Openings.{IsFirstFault, Opens, empty_opening};
+ghost use Rattle.room_server.specs.Inner.Opened.{AreOpened};
+ghost use Rattle.room_server.specs.Openings.{AreFine, IsFirstFault, Opens, opening};
 ghost use Rattle.room_server.specs.Tables.{DeskView, SeatView, place_by};
 ghost use Rattle.turn_desk.specs.Desk.{IsAt, IsFirst};
 
+use crate::names::RoomNames;
 use crate::seats::RoomSeat;
+use edit_simple::refusal::Refusal;
 use indexmap::IndexSet;
 use osm_elements::Memory;
+use osm_elements::map::Rows;
+use osm_elements::name::Name;
+use room_history::base::BaseFault;
 use room_history::room::Room;
 use room_stacks::author::Author;
 use std::alloc::Global;
@@ -20,7 +27,7 @@ use turn_desk::Desk;
 pub type RoomDesk = Desk<Room<Global>, Global>;
 
 /// Why a table is not opened.
-#[derive(Clone, Copy, Debug, PartialEq, Eq, Error)]
+#[derive(Debug, Drop, Error)]
 pub enum TableFault {
     /// The name at this position, counted from 0, is no name of a room.
     #[error("bad room name")]
@@ -28,6 +35,14 @@ pub enum TableFault {
     /// An earlier position has the name at this position too.
     #[error("room twice")]
     Twice(usize),
+    /// The map with which the rooms were to begin is not sound.
+    #[error("unsound base")]
+    Unsound {
+        /// The least name whose row is not.
+        name: Name,
+        /// What is wrong with that row, as [`BaseFault`] tells it.
+        why: Refusal<Global>,
+    },
     /// There was no memory.
     #[error("no memory")]
     Memory,
@@ -40,6 +55,19 @@ impl From<Memory> for TableFault {
 
     fn from(_: Memory) -> TableFault {
         TableFault::Memory
+    }
+}
+
+impl From<BaseFault<Global>> for TableFault {
+    ghost use Rattle.room_server.specs.Tables.{base_fault};
+
+    ghost from_gives = { λ base fault. fault ≡ base_fault base };
+
+    fn from(fault: BaseFault<Global>) -> TableFault {
+        match fault {
+            BaseFault::Unsound { name, why } => TableFault::Unsound { name, why },
+            BaseFault::Memory => TableFault::Memory,
+        }
     }
 }
 
@@ -63,31 +91,62 @@ impl Model for RoomTable {
 }
 
 impl RoomTable {
-    /// Opens a room for each name, with an empty map and a journal that takes at most `limit` entries, and gives the table with
-    /// the first seat of each desk, in the order of the names. No name gives an empty table.
-    ///
-    /// Refused are, by the first position that has one of these: a text that is no name of a room (1 to 32 characters of `a-z`,
-    /// `0-9` and `_`), and a name that an earlier position has; and want of memory. Then no room is made.
+    /// As [`RoomTable::open_on`], with rooms that begin with an empty map.
     pub fn open(
         alloc: Global,
         names: &[&str],
         limit: u32,
     ) -> Result<(RoomTable, Vec<RoomSeat, Global>), TableFault>
-        ensures ok { IfOk result (λ r. Opens (map (λ name. name.now) names.now) limit r.0 r.1.items) }
-        ensures err { IfErr result (λ fault. IsFirstFault (map (λ name. name.now) names.now) fault) }
+        ensures ok { IfOk result (λ r. Opens (map (λ name. name.now) names.now) [] limit r.0 r.1.items) }
+        ensures fine { let texts = map (λ name. name.now) names.now in OnOk result (AreFine texts (length texts)) }
+        ensures err { IfErr result (λ fault. IsFirstFault (map (λ name. name.now) names.now) [] fault) }
     {
-        let mut taken = IndexSet::new(alloc);
-        let mut desks = Vec::new(alloc);
-        let mut seats = Vec::new(alloc);
-        for position in 0..names.len() {
-            let name = new_name(&taken, names[position], position)?;
-            seat_room(alloc, limit, name, &mut taken, &mut desks, &mut seats)?;
+        RoomTable::open_on(alloc, names, Rows::from_vec(Vec::new(alloc)), limit)
+    }
+
+    /// Opens a room for each name, with the map of these rows and a journal that takes at most `limit` entries, and gives the
+    /// table with the first seat of each desk, in the order of the names. No name gives an empty table. What
+    /// [`Room::open_on`] asks of the rows is asked here. Each room but the last has copies of them.
+    ///
+    /// Refused are what [`RoomNames::read`] refuses of the names, then a map that is not sound; and want of memory. Then no
+    /// room is made.
+    pub fn open_on(
+        alloc: Global,
+        names: &[&str],
+        rows: Rows<Global>,
+        limit: u32,
+    ) -> Result<(RoomTable, Vec<RoomSeat, Global>), TableFault>
+        requires order { AreInOrder rows }
+        requires kinds { are_of_kinds rows ≡ true }
+        ensures ok { IfOk result (λ r. Opens (map (λ name. name.now) names.now) rows limit r.0 r.1.items) }
+        ensures fine { let texts = map (λ name. name.now) names.now in OnOk result (AreFine texts (length texts)) }
+        ensures err { IfErr result (λ fault. IsFirstFault (map (λ name. name.now) names.now) rows fault) }
+    {
+        let names = RoomNames::read(alloc, names)?;
+        let opened = RoomTable::begin(alloc, names, rows, limit)?;
+        Ok(opened)
+    }
+
+    /// As [`RoomTable::open_on`], under names that were read before.
+    pub fn begin(
+        alloc: Global,
+        names: RoomNames,
+        rows: Rows<Global>,
+        limit: u32,
+    ) -> Result<(RoomTable, Vec<RoomSeat, Global>), BaseFault<Global>>
+        requires order { AreInOrder rows }
+        requires kinds { are_of_kinds rows ≡ true }
+        ensures ok { IfOk result (λ r. Opens names rows limit r.0 r.1.items) }
+        ensures err { IfErr result (λ fault. IsBaseFault rows fault) }
+    {
+        let count = names.len();
+        let (mut desks, mut seats) = open_copies(alloc, &rows, limit, count.saturating_sub(1))?;
+        let last = Room::open_on(alloc, rows, limit)?;
+        if count > 0 {
+            seat_room(alloc, last, &mut desks, &mut seats)?;
         }
-        let table = RoomTable {
-            names: taken,
-            desks,
-        };
-        Ok((table, seats))
+        let RoomNames { names } = names;
+        Ok((RoomTable { names, desks }, seats))
     }
 
     /// At which position the room of this name stands, or none where there is no such room.
@@ -122,37 +181,39 @@ impl RoomTable {
     }
 }
 
-// The name at a position, where it is one that no earlier position has.
-fn new_name(taken: &IndexSet<Author>, text: &str, position: usize) -> Result<Author, TableFault>
-    ensures { MatchResult result
-        (λ name. (author_of text.now ≡ Some name) × (contains_name taken.now.keys name ≡ false))
-        (λ fault. IsRefused taken.now.keys text.now position fault) }
+// Opens rooms on copies of the rows, each at a desk, and gives the desks with their first seats.
+fn open_copies(
+    alloc: Global,
+    rows: &Rows<Global>,
+    limit: u32,
+    count: usize,
+) -> Result<(Vec<RoomDesk, Global>, Vec<RoomSeat, Global>), BaseFault<Global>>
+    requires order { AreInOrder rows.now }
+    requires kinds { are_of_kinds rows.now ≡ true }
+    ensures ok { IfOk result (λ r. AreOpened rows.now limit count r.0.items r.1.items) }
+    ensures err { IfErr result (λ fault. IsBaseFault rows.now fault) }
 {
-    let Some(name) = Author::read(text) else {
-        return Err(TableFault::BadName(position));
-    };
-    if taken.contains(&name) {
-        return Err(TableFault::Twice(position));
+    let mut desks = Vec::new(alloc);
+    let mut seats = Vec::new(alloc);
+    for _ in 0..count {
+        let room = Room::open_on(alloc, rows.copy()?, limit)?;
+        seat_room(alloc, room, &mut desks, &mut seats)?;
     }
-    Ok(name)
+    Ok((desks, seats))
 }
 
-// Opens a room under a name that is not taken, at the end. The one refusal is want of memory.
+// Opens a desk over a room that was just opened, at the end. The one refusal is want of memory.
 fn seat_room(
     alloc: Global,
-    limit: u32,
-    name: Author,
-    taken: &mut IndexSet<Author>,
+    room: Room<Global>,
     desks: &mut Vec<RoomDesk, Global>,
     seats: &mut Vec<RoomSeat, Global>,
 ) -> Result<(), Memory>
-    requires { contains_name taken.old.keys name ≡ false }
-    ensures names { OnOk result (taken.new.keys ≡ taken.old.keys ++ name ∷ []) }
-    ensures desk { OnOk result ((desk : DeskView) × (seat : SeatView) × (desks.new.items ≡ desks.old.items ++ desk ∷ [])
-        × (seats.new.items ≡ seats.old.items ++ seat ∷ []) × (desk.fixed ≡ empty_opening limit) × IsAt desk seat × IsFirst seat) }
+    requires { room.journal ≡ [] }
+    ensures { OnOk result ((desk : DeskView) × (seat : SeatView) × (desks.new.items ≡ desks.old.items ++ desk ∷ [])
+        × (seats.new.items ≡ seats.old.items ++ seat ∷ []) × (desk.fixed ≡ opening room.base room.limit) × IsAt desk seat × IsFirst seat) }
 {
-    let (desk, seat) = Desk::open(alloc, Room::open(alloc, limit))?;
-    taken.insert(name)?;
+    let (desk, seat) = Desk::open(alloc, room)?;
     desks.push(desk)?;
     seats.push(seat)?;
     Ok(())

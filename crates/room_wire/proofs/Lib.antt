@@ -17,6 +17,7 @@ pub mod Prefixes
 pub mod ReadBackProofs
 pub mod Rising
 pub mod RowsInOrder
+pub mod RowsOfKinds
 pub mod Shallow
 pub mod TagMembers
 pub mod WellFormedProofs

@@ -1,7 +1,8 @@
 //! The welcome to a hello.
-ghost use Rattle.std.specs.Prelude.{◌≡◌, ◌<◌, length, IfErr, IfOk};
+ghost use Rattle.std.specs.Prelude.{◌≡◌, ◌<◌, length, true, IfErr, IfOk};
 ghost use Rattle.serde_json.specs.View.{view};
 ghost use Rattle.osm_elements.specs.Rows.{AreInOrder};
+ghost use Rattle.room_history.specs.Bases.{are_of_kinds};
 ghost use Rattle.room_wire.specs.declared.bad.Fault.TheVariants.{Memory};
 ghost use Rattle.room_wire.specs.Reading.{Gives, GivesUnder};
 ghost use Rattle.room_wire.specs.Welcomes.{count_at, map_at, spells_welcome, told_at, welcomed};
@@ -40,8 +41,9 @@ pub struct Welcome {
 pub fn read_welcome(alloc: Global, text: &str) -> Result<Welcome, Bad>
     ensures exact { GivesUnder (λ w. w.id) result (spells_welcome text.now) }
     ensures memory { IfErr result (λ bad. bad.fault ≡ Memory → 0 < length text.now) }
-    // A mirror can be made of them.
+    // A mirror can be made of them, and a room can begin with them.
     ensures in_order { IfOk result (λ w. AreInOrder w.rows) }
+    ensures kinds { IfOk result (λ w. are_of_kinds w.rows ≡ true) }
 {
     let reply = parse(alloc, text).map_err(Bad::unread)?;
     let id = id_of(&reply).map_err(Bad::unread)?;
@@ -52,6 +54,7 @@ pub fn read_welcome(alloc: Global, text: &str) -> Result<Welcome, Bad>
 fn welcomed(alloc: Global, id: u64, reply: &Value) -> Result<Welcome, Bad>
     ensures exact { GivesUnder (λ w. w.id) result (welcomed id (told_at (view reply.now))) }
     ensures in_order { IfOk result (λ w. AreInOrder w.rows) }
+    ensures kinds { IfOk result (λ w. are_of_kinds w.rows ≡ true) }
 {
     match told_of(alloc, reply) {
         Ok((rows, seq)) => Ok(Welcome { id, seq, rows }),

@@ -1,4 +1,5 @@
 //! Rooms that are run.
+use crate::rooms::bases;
 use crate::rooms::calls::{author, call, create, node};
 use edit_actions::action::Action;
 use osm_elements::Memory;
@@ -9,6 +10,7 @@ use room_history::room::Room;
 use room_history::run::run;
 use std::alloc::Global;
 use std::io;
+use std::sync::Wait;
 
 // How many calls the first run has.
 const CALLS: usize = 9;
@@ -18,16 +20,18 @@ const MANY: u32 = 3000;
 
 const LIMIT: u32 = 2999;
 
-/// Shows what runs are answered: a redo at once and then a redo that cannot be, and thousands of calls.
-pub fn show<R: Print>(rt: &R, alloc: Global) -> io::Result<()> {
+/// Shows what runs are answered: a redo at once and then a redo that cannot be, what rooms are answered that begin with the
+/// map of that room, and thousands of calls.
+pub fn show<R: Print + Wait>(rt: &R, alloc: Global) -> io::Result<()> {
     show_each(rt, alloc)?;
     show_many(rt, alloc)
 }
 
-// Shows each reply to a few calls, and the room then.
-fn show_each<R: Print>(rt: &R, alloc: Global) -> io::Result<()> {
+// Shows each reply to a few calls, and the room then; and rooms that begin with its map.
+fn show_each<R: Print + Wait>(rt: &R, alloc: Global) -> io::Result<()> {
     let (room, replies) = ran(alloc, 9, calls(alloc)?)?;
-    show_replies(rt, &room, &replies)
+    show_replies(rt, &room, &replies)?;
+    bases::show(rt, alloc, &room)
 }
 
 // Shows how many replies to many calls are right, and the room then.
@@ -45,7 +49,8 @@ fn ran(
     run(alloc, limit, calls)
 }
 
-fn show_replies<R: Print>(
+/// Prints each reply, and then the room.
+pub fn show_replies<R: Print>(
     rt: &R,
     room: &Room<Global>,
     replies: &Replies<Global>,

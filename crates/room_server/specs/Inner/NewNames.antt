@@ -4,7 +4,7 @@ use Rattle.std.specs.List.{list_any}
 use Rattle.room_stacks.specs.Authors.{author_of}
 use Rattle.room_stacks.specs.SameAuthors.{is_same_author}
 use Rattle.room_server.specs.declared.table.TableFault.{TableFault}
-use Rattle.room_server.specs.declared.table.TableFault.TheVariants.{BadName, Twice, Memory}
+use Rattle.room_server.specs.declared.table.TableFault.TheVariants.{BadName, Twice, Unsound, Memory}
 
 -- one of the names is this one
 abbrev pub contains_name : List (List ℕ) → List ℕ → Bool
@@ -14,4 +14,5 @@ contains_name names name = list_any (is_same_author name) names
 abbrev pub IsRefused : List (List ℕ) → List ℕ → ℕ → TableFault → Type 0
 IsRefused names text position (BadName at) = (at ≡ position) × (author_of text ≡ None)
 IsRefused names text position (Twice at) = (at ≡ position) × (author_of text ≡ Some text) × (contains_name names text ≡ true)
+IsRefused names text position (Unsound x why) = ⊥
 IsRefused names text position Memory = ⊥

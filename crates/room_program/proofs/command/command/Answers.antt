@@ -13,7 +13,7 @@ run_server-requires-clause-workers g c κs lives =
 pub returns-in-Ok-Serve : goal.returns-in-Ok-Serve
 returns-in-Ok-Serve g c =
     let asked = rw c.in-Ok-Serve.field-0-is at c.in-Ok-Serve.ensures in
-    inr (inl (c.in-Ok-Serve.asked, asked, refl, c.run_server.ensures))
+    inr (inl (c.in-Ok-Serve.asked, asked, c.run_server.ensures))
 
 pub returns-in-Err : goal.returns-in-Err
 returns-in-Err g c =

@@ -1,36 +1,37 @@
 -- The room is opened with an empty map.
-use Rattle.std.proofs.Common.{[], inl, refl}
-use Rattle.room_program.proofs.LineAnswerLemmas.{script-opened, script-none}
-use Rattle.room_program.proofs.StreamLemmas.{on_err, Appends-none, Consumes-none, with_bytes-none}
+use Rattle.std.proofs.Common.{[], Err, ap, inl, refl}
+use Rattle.room_program.specs.LineAnswers.{script}
+use Rattle.room_program.proofs.LineAnswerLemmas.{script-none, script-opened}
+use Rattle.room_program.proofs.ReplayLemmas.{ended_by, ended_run, unstarted}
+use Rattle.room_program.proofs.StreamLemmas.{with_bytes-none}
 use Rattle.room_program.proofs.replay.replay.Goals as goal
 
-pub returns-in_err-block-clause-front : goal.returns-in_err-block-clause-front
-returns-in_err-block-clause-front g c =
-    on_err c.from_residual.result (record {
-      read = [];
-      lost = [];
-      written_bytes = [];
-      unwritten = [];
-      consumed = Consumes-none (g.S.Source.left c.args.reader.now);
-      script_is = script-none [] c.args.limit;
-      written = Appends-none (g.W.Sink.taken c.args.writer.now);
-    })
-
--- what is written is said of the room that was opened, over the bytes of the reader alone
-pub returns-clause-ok : goal.returns-clause-ok
-returns-clause-ok g c =
-    rw (script-opened [] c.args.limit c.open-room.result c.open-room.ensures, with_bytes-none c.new-begun.result.items (g.S.Source.left c.args.reader.now) c.new-begun.ensures.items)
-    at c.replay_blocks.ensures.ok
-
-pub returns-clause-read : goal.returns-clause-read
-returns-clause-read g c e =
-    rw (script-opened [] c.args.limit c.open-room.result c.open-room.ensures, with_bytes-none c.new-begun.result.items (g.S.Source.left c.args.reader.now) c.new-begun.ensures.items)
-    at (c.replay_blocks.ensures.read e)
-
-pub returns-clause-front : goal.returns-clause-front
-returns-clause-front g c =
-    rw (script-opened [] c.args.limit c.open-room.result c.open-room.ensures, with_bytes-none c.new-begun.result.items (g.S.Source.left c.args.reader.now) c.new-begun.ensures.items)
-    at c.replay_blocks.ensures.front
+pub returns-in_err-block-clause-ran : goal.returns-in_err-block-clause-ran
+returns-in_err-block-clause-ran g c =
+    unstarted g.S.Source g.W.Sink (script [] c.args.limit) c.args.reads c.args.reader.now c.args.writer.now c.from_residual.result c.from_residual.ensures.1 (script-none [] c.args.limit) c.requires.reader_works
+    c.requires.writer_works
 
 pub returns-in_err-block-clause-calls : goal.returns-in_err-block-clause-calls
 returns-in_err-block-clause-calls g c = inl refl
+
+-- what is written is said of the room that was opened, over the bytes of the reader alone
+pub returns-in_err-replay_blocks-clause-ran : goal.returns-in_err-replay_blocks-clause-ran
+returns-in_err-replay_blocks-clause-ran g c =
+    let said = c.in_err-replay_blocks.ensures in
+    let fault = c.in_err-replay_blocks.field-0.0 in
+    let left = g.S.Source.left c.args.reader.now in
+    let reader = c.replay_blocks.new.reader in
+    let writer = c.replay_blocks.new.writer in
+    let opened = script-opened [] c.args.limit c.open-room.result c.open-room.ensures in
+    let alone = with_bytes-none [] left refl in
+    ended_run g.S.Source g.W.Sink (script [] c.args.limit) left c.args.reads c.args.reader.now reader c.args.writer.now writer c.from_residual-in_err-replay_blocks.result fault
+    c.from_residual-in_err-replay_blocks.ensures.1
+    (ended_by g.S.Source g.W.Sink (script [] c.args.limit) left c.args.reads c.args.reader.now reader c.args.writer.now writer fault (rw (opened, alone) at said.front)
+    (λ is. rw (opened, alone) at (said.read (ap Err is))) (λ is. said.why_read (ap Err is)) (λ is. said.why_write (ap Err is)) (λ is. said.why_memory (ap Err is)))
+
+pub returns-clause-ran : goal.returns-clause-ran
+returns-clause-ran g c =
+    let said = c.in_ok-replay_blocks.ensures in
+    let opened = script-opened [] c.args.limit c.open-room.result c.open-room.ensures in
+    let alone = with_bytes-none [] (g.S.Source.left c.args.reader.now) refl in
+    (rw (opened, alone) at said.ok, said.works.0, said.works.1)

@@ -1,7 +1,7 @@
 -- What clap's contract says of the matches, at the words.
 use Rattle.std.proofs.Common.{◌∙◌, ap, inl, inr, refl, sym, subst, true≢false, map, codes, is_some}
 use Rattle.clap.specs.Words.{app_of, found_of, rows_of}
-use Rattle.room_program.specs.Words.{HasNumber, addr_in, number_in, rooms_in}
+use Rattle.room_program.specs.Words.{HasNumber, addr_in, base_in, number_in, rooms_in}
 use Rattle.room_program.proofs.AskedLemmas.{asked_one, limit_number, sessions_number, workers_number}
 use Rattle.room_program.proofs.WordLemmas.{found, name_asked, words_taken}
 use Rattle.room_program.proofs.words.read_words.Goals as goal
@@ -36,6 +36,7 @@ returns-in-Some g c =
       workers_are = c.number.ensures ∙ ap (number_in (codes "workers")) rows;
       sessions_are = c.number-in-Some.ensures ∙ ap (number_in (codes "sessions")) rows;
       limit_is = c.number-in-Some-2.ensures ∙ ap (number_in (codes "limit")) rows;
+      base_is = c.base.ensures ∙ ap base_in rows;
       rooms_are = c.in_ok-rooms.ensures ∙ ap rooms_in rows;
     }
 
@@ -60,4 +61,9 @@ pub returns : goal.returns
 returns g c =
     let it = found (app_of c.in_ok-command_line.field-0) (map g.T.AsStr.text c.args.words.now) c.in_ok-matches.matches c.in_ok-command_line.ensures (codes "replay") (rows_of (found_of c.in-Some-subcommand_matches.options.now))
     c.in_ok-matches.ensures.kinds c.in_ok-matches.ensures.matches (c.in-Some-subcommand_matches.ensures.found.0 refl) c.in-Some-subcommand_matches.ensures.rows in
-    record { taken = it.taken; subcommand = it.named; limit_is = c.number-2.ensures ∙ ap (number_in (codes "limit")) (sym it.rows_are) }
+    record {
+      taken = it.taken;
+      subcommand = it.named;
+      limit_is = c.number-2.ensures ∙ ap (number_in (codes "limit")) (sym it.rows_are);
+      base_is = c.base-2.ensures ∙ ap base_in (sym it.rows_are);
+    }

@@ -12,7 +12,8 @@ returns-clause-shape c =
     let workers_is = c.in_ok-arg-2.ensures.shape c.workers_option.ensures.local ∙ ap₂ with_rule addr_is c.workers_option.ensures.rule in
     let sessions_is = c.in_ok-arg-3.ensures.shape c.sessions_option.ensures.local ∙ ap₂ with_rule workers_is c.sessions_option.ensures.rule in
     let limit_is = c.in_ok-arg-4.ensures.shape c.limit_option.ensures.local ∙ ap₂ with_rule sessions_is c.limit_option.ensures.rule in
-    IfOk-weaker c.arg-5.result _ _ (λ line added. added.shape c.room_words.ensures.local ∙ ap₂ with_rule limit_is c.room_words.ensures.rule) c.arg-5.ensures
+    let base_is = c.in_ok-arg-5.ensures.shape c.base_option.ensures.local ∙ ap₂ with_rule limit_is c.base_option.ensures.rule in
+    IfOk-weaker c.arg-6.result _ _ (λ line added. added.shape c.room_words.ensures.local ∙ ap₂ with_rule base_is c.room_words.ensures.rule) c.arg-6.ensures
 
 pub returns-clause-local : goal.returns-clause-local
 returns-clause-local c =
@@ -22,4 +23,5 @@ returns-clause-local c =
     let workers_is = c.in_ok-arg-2.ensures.globals ∙ ap₂ either addr_is c.workers_option.ensures.local in
     let sessions_is = c.in_ok-arg-3.ensures.globals ∙ ap₂ either workers_is c.sessions_option.ensures.local in
     let limit_is = c.in_ok-arg-4.ensures.globals ∙ ap₂ either sessions_is c.limit_option.ensures.local in
-    IfOk-weaker c.arg-5.result _ _ (λ line added. added.globals ∙ ap₂ either limit_is c.room_words.ensures.local) c.arg-5.ensures
+    let base_is = c.in_ok-arg-5.ensures.globals ∙ ap₂ either limit_is c.base_option.ensures.local in
+    IfOk-weaker c.arg-6.result _ _ (λ line added. added.globals ∙ ap₂ either base_is c.room_words.ensures.local) c.arg-6.ensures

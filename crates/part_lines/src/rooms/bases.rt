@@ -1,0 +1,69 @@
+//! Rooms that begin with the map of another.
+ghost use Rattle.std.specs.Prelude.{◌≡◌, true};
+ghost use Rattle.osm_changes.specs.Sound.{is_sound};
+
+use crate::rooms::calls::{author, call, create};
+use crate::rooms::runs::show_replies;
+use osm_elements::map::Rows;
+use room_history::base::BaseFault;
+use room_history::call::{Call, Calls, Request};
+use room_history::laws::a_sound_map_can_be_a_base;
+use room_history::room::Room;
+use room_history::run::run_on;
+use room_server::{RoomTable, TableFault, close_all};
+use std::alloc::Global;
+use std::io::{self, ErrorKind};
+use std::sync::Wait;
+
+/// Shows what is answered by a room that begins with the map of this one, and how many entries two rooms of a table have that
+/// begin with it.
+pub fn show<R: Print + Wait>(rt: &R, alloc: Global, room: &Room<Global>) -> io::Result<()> {
+    show_run(rt, alloc, room.map_rows()?)?;
+    show_table(rt, alloc, room.map_rows()?)
+}
+
+// A run: nothing can be taken back, a node of the base cannot be created, and another can.
+fn show_run<R: Print>(rt: &R, alloc: Global, rows: Rows<Global>) -> io::Result<()>
+    requires { is_sound rows ≡ true }
+{
+    a_sound_map_can_be_a_base::<Global>();
+    let calls = calls(alloc)?;
+    match run_on(alloc, rows, 9, calls) {
+        Ok((room, replies)) => show_replies(rt, &room, &replies),
+        Err(BaseFault::Unsound { .. }) => Err(ErrorKind::InvalidData.into()),
+        Err(BaseFault::Memory) => Err(ErrorKind::OutOfMemory.into()),
+    }
+}
+
+// A table of two rooms, which are closed at once.
+fn show_table<R: Print + Wait>(rt: &R, alloc: Global, rows: Rows<Global>) -> io::Result<()>
+    requires { is_sound rows ≡ true }
+{
+    a_sound_map_can_be_a_base::<Global>();
+    match RoomTable::open_on(alloc, &["paris", "rome"], rows, 9) {
+        Ok((table, seats)) => {
+            let fronts = close_all(rt, alloc, table, seats)?;
+            println!(rt; "rooms {}", fronts.len())
+        }
+        Err(TableFault::Memory) => Err(ErrorKind::OutOfMemory.into()),
+        Err(_) => Err(ErrorKind::InvalidData.into()),
+    }
+}
+
+fn calls(alloc: Global) -> io::Result<Calls<Global>> {
+    let mut calls = Vec::new(alloc);
+    for place in 0..3 {
+        calls.push(call_at(alloc, place)?)?;
+    }
+    Ok(Calls::from_vec(calls))
+}
+
+// The call of a place: Anna takes back what she did not do, creates node -6, which the base has, and node -7.
+fn call_at(alloc: Global, place: usize) -> io::Result<Call<Global>> {
+    let anna = author("anna")?;
+    Ok(match place {
+        0 => call(anna, 1, Request::Undo(None)),
+        1 => create(alloc, anna, 1, -6)?,
+        _ => create(alloc, anna, 1, -7)?,
+    })
+}

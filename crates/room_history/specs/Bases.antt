@@ -1,0 +1,34 @@
+-- Which maps a room can begin with. (OpenStreetMap API v0.6: nothing absent is named. The limits and the order of the checks are this project's.)
+use Rattle.std.specs.Prelude.{◌≡◌, Bool, true, false, Some}
+use Rattle.std.specs.List.{list_all}
+use Rattle.std.specs.Ordering.{is_lt}
+use Rattle.osm_elements.specs.declared.name.Name.{Name}
+use Rattle.osm_elements.specs.declared.element.Element.{Element}
+use Rattle.osm_elements.specs.Elements.{kind_of}
+use Rattle.osm_elements.specs.NameOrder.{name_cmp}
+use Rattle.osm_elements.specs.Maps.{Rows, is_kind}
+use Rattle.osm_elements.specs.Rows.{row_at}
+use Rattle.osm_changes.specs.Sound.{is_sound_row}
+use Rattle.edit_simple.specs.declared.refusal.Refusal.{Refusal}
+use Rattle.edit_simple.specs.Checks.{first_that_holds}
+use Rattle.edit_simple.specs.Create.{list_checks}
+use Rattle.room_history.specs.declared.base.BaseFault.{BaseFault}
+use Rattle.room_history.specs.declared.base.BaseFault.TheVariants.{Unsound, Memory}
+
+module _ {A : Type 0} where
+  -- each element is of its name's kind
+  abbrev pub are_of_kinds : Rows A → Bool
+  are_of_kinds m = list_all (λ r. is_kind (kind_of r.1) r.0.kind) m
+
+  -- of all rows that are not sound this name has the first; and why it is not: the first that holds of a create's checks of its length and of what it names, where a name is there if the map has it
+  pub record IsFirstUnsound (m : Rows A) (x : Name) (why : Refusal A) : Type 0 where
+    pub element : Element A
+    pub there : row_at m x ≡ Some element
+    pub unsound : is_sound_row m x element ≡ false
+    pub reason : first_that_holds (list_checks m x element) ≡ Some why
+    pub first : (y : Name) (v : Element A) → row_at m y ≡ Some v → is_lt (name_cmp y x) ≡ true → is_sound_row m y v ≡ true
+
+  -- why no room begins with a map; memory may be wanting for any
+  abbrev pub IsBaseFault : Rows A → BaseFault A → Type 0
+  IsBaseFault m (Unsound x why) = IsFirstUnsound m x why
+  IsBaseFault m Memory = Unit {0}

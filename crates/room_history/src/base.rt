@@ -1,0 +1,65 @@
+//! The map that a room begins with.
+ghost use Rattle.std.specs.Prelude.{◌≡◌, IfSome, None, true};
+ghost use Rattle.osm_elements.specs.Made.{is_made};
+ghost use Rattle.osm_changes.specs.Sound.{is_sound};
+ghost use Rattle.edit_simple.specs.Checks.{first_that_holds};
+ghost use Rattle.edit_simple.specs.Create.{list_checks};
+ghost use Rattle.room_history.specs.declared.base.BaseFault.TheVariants.{Memory as OutOfMemory};
+ghost use Rattle.room_history.specs.Bases.{IsFirstUnsound, are_of_kinds};
+
+use edit_simple::lists::list_fault;
+use edit_simple::refusal::Refusal;
+use osm_elements::Memory;
+use osm_elements::element::Element;
+use osm_elements::map::OsmMap;
+use osm_elements::name::Name;
+use std::alloc::Allocator;
+
+/// Why no room begins with a map.
+#[derive(Drop)]
+#[derive_where(Debug)]
+pub enum BaseFault<A: Allocator> {
+    /// The map is not sound.
+    Unsound {
+        /// The least name whose row is not.
+        name: Name,
+        /// What is wrong with that row, the first of these: `TooFew` for a way of fewer than 2 nodes, `TooMany` for one of more
+        /// than 2,000 and for a relation of more than 32,000 members, `Absent` with the least name that it refers to and that
+        /// the map does not have.
+        why: Refusal<A>,
+    },
+    /// A growth was refused: there was no memory for it.
+    Memory,
+}
+
+impl<A: Allocator> From<Memory> for BaseFault<A> {
+    ghost from_gives = { λ _ fault. fault ≡ OutOfMemory };
+
+    fn from(_refused: Memory) -> BaseFault<A> {
+        BaseFault::Memory
+    }
+}
+
+/// The least name of a map whose row is not sound, and why; none where the map is sound. It takes no memory. It goes over the
+/// rows once, and costs a look-up for each reference.
+pub(crate) fn first_unsound<A: Allocator>(map: &OsmMap<A>) -> Option<(Name, Refusal<A>)>
+    requires { are_of_kinds map.now ≡ true }
+    ensures none { result ≡ None → is_sound map.now ≡ true }
+    ensures some { IfSome result (λ fault. IsFirstUnsound map.now fault.0 fault.1) }
+{
+    for (name, element) in map.iter() {
+        if let Some(why) = row_fault(map, name, element) {
+            return Some((*name, why));
+        }
+    }
+    None
+}
+
+// Why the row of a name is not sound, where its element is of the name's kind.
+fn row_fault<A: Allocator>(map: &OsmMap<A>, name: &Name, element: &Element<A>) -> Option<Refusal<A>>
+    ensures fault { result ≡ first_that_holds (list_checks map.now name.now element.now) }
+    ensures made { is_made element.now ≡ true }
+{
+    let _kind = element.kind();
+    list_fault(map, name, element)
+}

@@ -1,0 +1,2 @@
+-- Relations that only inner functions and proofs use.
+pub mod FirstLines

@@ -1,0 +1,96 @@
+-- The elements of a welcome are of their names' kinds.
+use Rattle.std.proofs.Common.{◌≡◌, ℕ, Bool, true, false, cond, List, ◌∷◌, Option, Some, None, IfSome, Result, Ok, Err, IfOk, map, option_map, option_and_then, refl, subst}
+use Rattle.std.specs.declared.alloc.Global.{Global}
+use Rattle.std.specs.Result.{result_ok}
+use Rattle.serde_json.specs.Data.{Data, Items, no_items, item}
+use Rattle.serde_json.specs.Find.{get, as_array}
+use Rattle.osm_elements.specs.declared.name.Kind.{Kind}
+use Rattle.osm_elements.specs.declared.name.Kind.TheVariants as kinds
+use Rattle.osm_elements.specs.declared.map.Row.{Row}
+use Rattle.osm_elements.specs.Elements.{kind_of}
+use Rattle.osm_elements.specs.Facts.Tests.{both_true}
+use Rattle.osm_elements.specs.Maps.{Rows, is_kind}
+use Rattle.osm_elements.specs.RowPairs.{row_pair}
+use Rattle.osm_changes.specs.Changes.{are_rising}
+use Rattle.room_history.specs.Bases.{are_of_kinds}
+use Rattle.room_wire.specs.declared.bad.Fault.{Fault}
+use Rattle.room_wire.specs.declared.bad.Fault.TheVariants.{BadField}
+use Rattle.room_wire.specs.declared.field.Field.TheVariants as fields
+use Rattle.room_wire.specs.Fields.{field_text}
+use Rattle.room_wire.specs.Lists.{rising, row_at, rows_at, rows_in}
+use Rattle.room_wire.specs.News.{object_at}
+use Rattle.room_wire.specs.Reading.{◌>>=◌, or_fault}
+use Rattle.room_wire.specs.Spelling.{el_at, element_at, items_in, lat_at, lon_at, members_at, nodes_at, tags_at}
+use Rattle.room_wire.specs.Welcomes.{count_at, map_at, told_at}
+
+-- what holds of a step's value
+ok_then : {X Y : Type 0} (Q : X → Type 0) (P : Y → Type 0) (r : Result X Fault) (f : X → Result Y Fault) → IfOk r Q → ((x : X) → Q x → IfOk (f x) P) → IfOk (r >>= f) P
+ok_then Q P (Ok x) f h g = g x h
+ok_then Q P (Err e) f h g = tt
+
+ok_any : {X Y : Type 0} (P : Y → Type 0) (r : Result X Fault) (f : X → Result Y Fault) → ((x : X) → IfOk (f x) P) → IfOk (r >>= f) P
+ok_any P (Ok x) f g = g x
+ok_any P (Err e) f g = tt
+
+ok_or : {X : Type 0} (P : X → Type 0) (fault : Fault) (o : Option X) → IfSome o P → IfOk (or_fault fault o) P
+ok_or P fault None h = tt
+ok_or P fault (Some x) h = h
+
+if_then : {X Y : Type 0} (Q : X → Type 0) (P : Y → Type 0) (o : Option X) (f : X → Option Y) → IfSome o Q → ((x : X) → Q x → IfSome (f x) P) → IfSome (option_and_then f o) P
+if_then Q P None f h g = tt
+if_then Q P (Some x) f h g = g x h
+
+if_any : {X Y : Type 0} (P : Y → Type 0) (o : Option X) (f : X → Option Y) → ((x : X) → IfSome (f x) P) → IfSome (option_and_then f o) P
+if_any P None f g = tt
+if_any P (Some x) f g = g x
+
+if_told : {X : Type 0} (P : X → Type 0) (r : Result X Fault) → IfOk r P → IfSome (result_ok r) P
+if_told P (Ok x) h = h
+if_told P (Err e) h = tt
+
+-- an element is of the kind by which it is read
+element_kind : (k : Kind) (d : Data) → IfOk (element_at k d) (λ v. is_kind (kind_of v) k ≡ true)
+element_kind kinds.Node d = ok_any _ (lat_at d) _ (λ lat. ok_any _ (lon_at d) _ (λ lon. ok_any _ (tags_at d) _ (λ tags. refl)))
+element_kind kinds.Way d = ok_any _ (nodes_at d) _ (λ nodes. ok_any _ (tags_at d) _ (λ tags. refl))
+element_kind kinds.Relation d = ok_any _ (members_at d) _ (λ members. ok_any _ (tags_at d) _ (λ tags. refl))
+
+-- a row's element is of its name's kind
+abbrev IsOfKind : Row Global → Type 0
+IsOfKind r = is_kind (kind_of r.element) r.name.kind ≡ true
+
+row_kind : (d : Data) → IfOk (row_at d) IsOfKind
+row_kind d = ok_any _ (el_at d) _ (λ name. ok_then (λ v. is_kind (kind_of v) name.kind ≡ true) _ (element_at name.kind d) _ (element_kind name.kind d) (λ v h. h))
+
+abbrev AreOfKinds : List (Row Global) → Type 0
+AreOfKinds rows = are_of_kinds (map row_pair rows) ≡ true
+
+one_more : (r : Row Global) (rows : Option (List (Row Global))) → IsOfKind r → IfSome rows AreOfKinds → IfSome (option_map (λ rs. r ∷ rs) rows) AreOfKinds
+one_more r None h all = tt
+one_more r (Some rs) h all = both_true (is_kind (kind_of r.element) r.name.kind) (are_of_kinds (map row_pair rs)) h all
+
+items_kinds : (ds : Items) → IfSome (items_in (λ d. result_ok (row_at d)) ds) AreOfKinds
+items_kinds no_items = refl
+items_kinds (item d ds) =
+    if_then IsOfKind _ (result_ok (row_at d)) _ (if_told IsOfKind (row_at d) (row_kind d)) (λ r h. one_more r (items_in (λ e. result_ok (row_at e)) ds) h (items_kinds ds))
+
+rising_kinds : (rows : List (Row Global)) → AreOfKinds rows → IfSome (rising row_at (λ r. r.name) rows) AreOfKinds
+rising_kinds rows h = by (are_rising (map (λ r. r.name) rows))
+  where
+    by : (b : Bool) → IfSome (cond b (Some rows) None) AreOfKinds
+    by true = h
+    by false = tt
+
+map_kinds : (d : Data) → IfOk (map_at d) (λ rows. are_of_kinds rows ≡ true)
+map_kinds d =
+    ok_then AreOfKinds _ (rows_at row_at (λ r. r.name) fields.Map d) _
+    (ok_or AreOfKinds (BadField fields.Map) (option_and_then (rising row_at (λ r. r.name)) (option_and_then (rows_in row_at (λ r. r.name)) (option_and_then as_array (get (field_text fields.Map) d))))
+    (if_then AreOfKinds AreOfKinds (option_and_then (rows_in row_at (λ r. r.name)) (option_and_then as_array (get (field_text fields.Map) d))) (rising row_at (λ r. r.name))
+    (if_any AreOfKinds (option_and_then as_array (get (field_text fields.Map) d)) (rows_in row_at (λ r. r.name)) items_kinds) rising_kinds))
+    (λ rows h. h)
+
+told_kinds : (d : Data) → IfOk (told_at d) (λ told. are_of_kinds told.0 ≡ true)
+told_kinds d = ok_any _ (object_at fields.Ok d) _ (λ ok. ok_then (λ rows. are_of_kinds rows ≡ true) _ (map_at ok) _ (map_kinds ok) (λ rows h. ok_any _ (count_at ok) _ (λ seq. h)))
+
+-- and so are those that were told
+pub kinds_told : (d : Data) (rows : Rows Global) (seq : ℕ) → told_at d ≡ Ok (rows, seq) → are_of_kinds rows ≡ true
+kinds_told d rows seq is = subst (λ r. IfOk r (λ told. are_of_kinds told.0 ≡ true)) is (told_kinds d)
