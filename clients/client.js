@@ -3,63 +3,131 @@
 //
 // Usage: client.js ROOM NAME [CHANGE..], each CHANGE a message without its id, as {"do":"undo"}.
 //
-// It reads what the room sends from standard input, a text a line, and an empty line where the session was closed. It prints
-// what it sends, and an empty line where it leaves a session; at the end of input the elements of its mirror.
+// It reads what the room sends from standard input, a text a line, and an empty line where the session was closed.
+// It prints what it sends, and an empty line where it leaves a session; at the end of input the elements of its
+// mirror. What it does with the texts is the class Client, which knows of no streams: socket_client.js has it speak
+// over WebSockets.
 "use strict";
-const { createInterface } = require("node:readline");
-const [room, name, ...changes] = process.argv.slice(2);
-// an id is spent by an accepted change, so each has one of its own
-const waiting = changes.map((change, place) => ({ id: place + 2, ...JSON.parse(change) }));
-let elements, seq, unanswered;
 
-function send(message) {
-  unanswered = message.id;
-  console.log(JSON.stringify(message));
-}
+// News that are not the next: only a new session, with its welcome, tells what was missed.
+class Missed extends Error {}
 
-// Begins a session. A change that was not answered is sent again, under its id.
-function begin() {
-  elements = new Map();
-  send({ id: 1, do: "hello", room, name });
-}
-
-function sendNext() {
-  if (waiting.length > 0) send(waiting[0]);
-}
-
-function takeNews(news) {
-  if (news.seq !== seq + 1) {
-    // a gap: only a new welcome tells what was missed
-    console.log();
-    return begin();
-  }
-  for (const row of news.rows) {
-    if (row.gone) elements.delete(row.el);
-    else elements.set(row.el, row);
-  }
-  seq = news.seq;
-}
-
-function takeWelcome(told, text) {
-  if (told.no) throw new Error(`the room refused the hello: ${text}`);
-  for (const element of told.ok.map) elements.set(element.el, element);
-  seq = told.ok.seq;
-  sendNext();
-}
-
-function take(text) {
-  const told = text === "" ? null : JSON.parse(text);
-  if (told === null) begin();
-  else if (told.news) takeNews(told.news);
-  else if (told.id === 1) takeWelcome(told, text);
-  else if (told.id === unanswered) {
-    // an answer, or a refusal; "repeat" says that the change was accepted before
-    waiting.shift();
-    sendNext();
+// A refusal: `no` is what the room said of it, as {"why":"conflict","at":"n-1","with":2}.
+class Refused extends Error {
+  constructor(no) {
+    super(JSON.stringify(no));
+    this.no = no;
   }
 }
 
-begin();
-createInterface({ input: process.stdin })
-  .on("line", (line) => take(line.trim()))
-  .on("close", () => elements.forEach((element) => console.log(JSON.stringify(element))));
+// What a client knows of a room: `elements`, the mirror, by name; `seq`, the number of the last entry that is in it, or
+// null before the welcome; and `authors`, of the entries that it was told of. Each call gives the texts to send.
+class Client {
+  constructor(room, name, firstId = 2) {
+    Object.assign(this, { room, name, nextId: firstId });
+    Object.assign(this, { elements: new Map(), seq: null, authors: new Map() });
+    this.lastSeq = 0; // the last number that was told, also in an earlier session
+    this.waiting = []; // what was not answered; the first of it was sent, or will be after the welcome
+  }
+
+  // Begins a session. A message that was not answered is sent again after the welcome, under its id.
+  begin() {
+    this.elements = new Map();
+    this.seq = null;
+    return [JSON.stringify({ id: 1, do: "hello", room: this.room, name: this.name })];
+  }
+
+  // Asks the room, once all that was asked before is answered. `answered` is told {"ok": ..} or {"no": ..}.
+  ask(message, answered = () => {}) {
+    const id = this.nextId++; // an accepted change spends its id, so each has one of its own
+    this.waiting.push({ id, text: JSON.stringify({ id, ...message }), answered, timesSent: 0 });
+    return this.seq !== null && this.waiting.length === 1 ? this.firstWaiting() : [];
+  }
+
+  // The message that waits longest, if there is one.
+  firstWaiting() {
+    if (this.waiting.length === 0) return [];
+    this.waiting[0].timesSent += 1;
+    return [this.waiting[0].text];
+  }
+
+  // Takes a text of the room's. Throws Missed where a new session has to begin, and Refused where the hello was
+  // refused.
+  take(text) {
+    const told = JSON.parse(text);
+    if (told.news) return this.takeNews(told.news);
+    if (this.seq === null) return this.takeWelcome(told);
+    return told.id === this.waiting[0]?.id ? this.takeAnswer(told, this.waiting.shift()) : [];
+  }
+
+  // Takes the answer to what was asked.
+  takeAnswer(told, asked) {
+    // what is said to be a repeat was accepted, and the session ended before that was told
+    if (asked.timesSent > 1 && told.no?.why === "repeat") told = { ok: { seq: told.no.seq } };
+    asked.answered(told);
+    return this.firstWaiting();
+  }
+
+  // Takes the answer to the hello.
+  takeWelcome(told) {
+    if (told.no) throw new Refused(told.no);
+    for (const element of told.ok.map) this.elements.set(element.el, element);
+    this.seq = told.ok.seq;
+    if (this.seq < this.lastSeq) this.startAnew();
+    this.lastSeq = this.seq;
+    return this.firstWaiting();
+  }
+
+  // The server was started anew. What was asked of it was meant for another map, and is not asked again.
+  startAnew() {
+    this.authors.clear();
+    for (const asked of this.waiting.splice(0)) asked.answered({ no: { why: "restarted" } });
+  }
+
+  // Takes what an entry changed.
+  takeNews(news) {
+    if (news.seq !== this.seq + 1) throw new Missed();
+    for (const row of news.rows) {
+      if (row.gone) this.elements.delete(row.el);
+      else this.elements.set(row.el, row);
+    }
+    this.seq = this.lastSeq = news.seq;
+    this.authors.set(news.seq, news.by);
+    return [];
+  }
+
+  // What a refusal says.
+  inWords(no) {
+    if (no.why === "conflict") {
+      const author = this.authors.get(no.with);
+      return `entry ${no.with}${author ? ` of ${author}` : ""} also touched ${no.at}: it has to be undone first`;
+    }
+    if (no.why === "in_use") return `${no.by} refers to ${no.el}`;
+    if (no.why === "restarted") return "the server was started anew before it answered";
+    const rest = Object.keys(no).filter((key) => key !== "why").sort();
+    return ["why", ...rest].map((key) => no[key]).join(" ");
+  }
+}
+
+module.exports = { Client, Missed, Refused };
+
+function main() {
+  const client = new Client(...process.argv.slice(2, 4));
+  for (const change of process.argv.slice(4)) client.ask(JSON.parse(change));
+  const print = (texts) => texts.forEach((text) => console.log(text));
+  const take = (text) => {
+    try {
+      return text === "" ? client.begin() : client.take(text);
+    } catch (error) {
+      if (error instanceof Missed) return ["", ...client.begin()];
+      throw error;
+    }
+  };
+  print(client.begin());
+  require("node:readline")
+    .createInterface({ input: process.stdin })
+    .on("line", (line) => print(take(line.trim())))
+    .on("close", () => client.elements.forEach((element) => console.log(JSON.stringify(element))));
+}
+
+if (require.main === module) main();

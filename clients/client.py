@@ -3,63 +3,145 @@
 
 Usage: client.py ROOM NAME [CHANGE..], each CHANGE a message without its id, as {"do":"undo"}.
 
-It reads what the room sends from standard input, a text a line, and an empty line where the session was closed. It prints
-what it sends, and an empty line where it leaves a session; at the end of input the elements of its mirror.
+It reads what the room sends from standard input, a text a line, and an empty line where the session was closed. It
+prints what it sends, and an empty line where it leaves a session; at the end of input the elements of its mirror. What
+it does with the texts is the class Client, which knows of no streams: socket_client.py has it speak over WebSockets.
 """
+import collections
 import json
 import sys
+from types import SimpleNamespace
+
+
+class Missed(Exception):
+    """News that are not the next: only a new session, with its welcome, tells what was missed."""
+
+
+class Refused(Exception):
+    """A refusal: `no` is what the room said of it, as {"why": "conflict", "at": "n-1", "with": 2}."""
+
+    def __init__(self, no):
+        super().__init__(json.dumps(no))
+        self.no = no
+
+
+def compact(value):
+    """A value as JSON, as the room writes it."""
+    return json.dumps(value, ensure_ascii=False, separators=(",", ":"))
 
 
 class Client:
-    def __init__(self, room, name, changes):
-        self.hello = {"do": "hello", "room": room, "name": name}
-        self.changes = list(enumerate(changes, 2))  # an id is spent by an accepted change, so each has one of its own
-        self.begin()
+    """What a client knows of a room: `elements`, the mirror, by name; `seq`, the number of the last entry that is
+    in it, or None before the welcome; and `authors`, of the entries that it was told of. Each call gives the texts
+    to send."""
+
+    def __init__(self, room, name, first_id=2):
+        self.room, self.name, self.next_id = room, name, first_id
+        self.elements, self.seq, self.authors = {}, None, {}
+        self.last_seq = 0  # the last number that was told, also in an earlier session
+        # what was not answered; the first of it was sent, or will be after the welcome
+        self.waiting = collections.deque()
 
     def begin(self):
-        """Begins a session. A change that was not answered is sent again, under its id."""
-        self.elements, self.seq, self.unanswered = {}, None, None
-        self.send({"id": 1, **self.hello})
+        """Begins a session. A message that was not answered is sent again after the welcome, under its id."""
+        self.elements, self.seq = {}, None
+        return [compact({"id": 1, "do": "hello", "room": self.room, "name": self.name})]
 
-    def send(self, message):
-        self.unanswered = message["id"]
-        print(json.dumps(message, separators=(",", ":")))
+    def ask(self, message, answered=lambda told: None):
+        """Asks the room, once all that was asked before is answered. `answered` is told {"ok": ..} or {"no": ..}."""
+        text = compact({"id": self.next_id, **message})
+        self.waiting.append(SimpleNamespace(id=self.next_id, text=text, answered=answered, times_sent=0))
+        self.next_id += 1  # an accepted change spends its id, so each has one of its own
+        return self.first_waiting() if self.seq is not None and len(self.waiting) == 1 else []
+
+    def first_waiting(self):
+        """The message that waits longest, if there is one."""
+        if not self.waiting:
+            return []
+        self.waiting[0].times_sent += 1
+        return [self.waiting[0].text]
 
     def take(self, text):
-        """Takes a text of the room's; an empty one says that the session was closed."""
-        told = json.loads(text) if text else None
-        if told is None:
-            self.begin()
-        elif "news" in told:
-            self.take_news(told["news"])
-        elif told["id"] == 1:
-            if "no" in told:
-                sys.exit(f"the room refused the hello: {text}")
-            self.elements = {element["el"]: element for element in told["ok"]["map"]}
-            self.seq = told["ok"]["seq"]
-            self.next_change()
-        elif told["id"] == self.unanswered:
-            # an answer, or a refusal; "repeat" says that the change was accepted before
-            self.changes.pop(0)
-            self.next_change()
+        """Takes a text of the room's. Raises Missed where a new session has to begin, and Refused where the hello
+        was."""
+        told = json.loads(text)
+        if "news" in told:
+            return self.take_news(told["news"])
+        if self.seq is None:
+            return self.take_welcome(told)
+        if self.waiting and told["id"] == self.waiting[0].id:
+            return self.take_answer(told, self.waiting.popleft())
+        return []
+
+    def take_answer(self, told, asked):
+        """Takes the answer to what was asked."""
+        no = told.get("no", {})
+        # what is said to be a repeat was accepted, and the session ended before that was told
+        if asked.times_sent > 1 and no.get("why") == "repeat":
+            told = {"ok": {"seq": no["seq"]}}
+        asked.answered(told)
+        return self.first_waiting()
+
+    def take_welcome(self, told):
+        """Takes the answer to the hello."""
+        if "no" in told:
+            raise Refused(told["no"])
+        self.elements = {element["el"]: element for element in told["ok"]["map"]}
+        self.seq = told["ok"]["seq"]
+        if self.seq < self.last_seq:
+            self.start_anew()
+        self.last_seq = self.seq
+        return self.first_waiting()
+
+    def start_anew(self):
+        """The server was started anew. What was asked of it was meant for another map, and is not asked again."""
+        self.authors = {}
+        waiting, self.waiting = self.waiting, collections.deque()
+        for asked in waiting:
+            asked.answered({"no": {"why": "restarted"}})
 
     def take_news(self, news):
-        if news["seq"] != self.seq + 1:  # a gap: only a new welcome tells what was missed
-            print()
-            return self.begin()
+        """Takes what an entry changed."""
+        if news["seq"] != self.seq + 1:
+            raise Missed
         for row in news["rows"]:
             self.elements[row["el"]] = row
             if row.get("gone"):
                 del self.elements[row["el"]]
-        self.seq = news["seq"]
+        self.seq = self.last_seq = news["seq"]
+        self.authors[self.seq] = news["by"]
+        return []
 
-    def next_change(self):
-        if self.changes:
-            self.send({"id": self.changes[0][0], **self.changes[0][1]})
+    def in_words(self, no):
+        """What a refusal says."""
+        if no["why"] == "conflict":
+            author = self.authors.get(no["with"])
+            entry = f"entry {no['with']} of {author}" if author else f"entry {no['with']}"
+            return f"{entry} also touched {no['at']}: it has to be undone first"
+        if no["why"] == "in_use":
+            return f"{no['by']} refers to {no['el']}"
+        if no["why"] == "restarted":
+            return "the server was started anew before it answered"
+        return " ".join(str(no[key]) for key in ("why", *sorted(set(no) - {"why"})))
 
 
-client = Client(sys.argv[1], sys.argv[2], [json.loads(change) for change in sys.argv[3:]])
-for line in sys.stdin:
-    client.take(line.strip())
-for element in client.elements.values():
-    print(json.dumps(element, separators=(",", ":")))
+def main():
+    client = Client(*sys.argv[1:3])
+    for change in sys.argv[3:]:
+        client.ask(json.loads(change))
+    print(*client.begin(), sep="\n")
+    for line in sys.stdin:
+        try:
+            texts = client.take(line) if line.strip() else client.begin()
+        except Missed:
+            texts = ["", *client.begin()]
+        except Refused as refusal:
+            sys.exit(f"the room refused the hello: {refusal}")
+        for text in texts:
+            print(text)
+    for element in client.elements.values():
+        print(compact(element))
+
+
+if __name__ == "__main__":
+    main()
