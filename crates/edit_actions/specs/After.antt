@@ -14,8 +14,9 @@ use Rattle.edit_simple.specs.Reverse.{after_reverse}
 use Rattle.edit_topology.specs.Join.{after_join}
 use Rattle.edit_topology.specs.Merge.{after_merge}
 use Rattle.edit_topology.specs.Split.{after_split}
+use Rattle.edit_topology.specs.Unglue.{after_unglue}
 use Rattle.edit_actions.specs.declared.action.Action.{Action}
-use Rattle.edit_actions.specs.declared.action.Action.TheVariants.{Create, Retag, Move, Reverse, Nodes, Members, Delete, Purge, Split, Join, Merge}
+use Rattle.edit_actions.specs.declared.action.Action.TheVariants.{Create, Retag, Move, Reverse, Nodes, Members, Delete, Purge, Split, Join, Merge, Unglue}
 
 module _ {A : Type 0} where
   abbrev pub after : Rows A → Action A → Rows A
@@ -30,6 +31,7 @@ module _ {A : Type 0} where
   after m (Split w i v) = after_split m w i v
   after m (Join w v) = after_join m w v
   after m (Merge k g) = after_merge m k g
+  after m (Unglue w i v) = after_unglue m w i v
 
   -- the changes of an action
   abbrev pub changes : Rows A → Action A → List (Change A)

@@ -4,7 +4,7 @@ use Rattle.osm_elements.specs.Made.{are_nodes, is_made}
 use Rattle.osm_elements.specs.Members.{are_members}
 use Rattle.edit_simple.specs.Tagging.{are_gifts}
 use Rattle.edit_actions.specs.declared.action.Action.{Action}
-use Rattle.edit_actions.specs.declared.action.Action.TheVariants.{Create, Retag, Move, Reverse, Nodes, Members, Delete, Purge, Split, Join, Merge}
+use Rattle.edit_actions.specs.declared.action.Action.TheVariants.{Create, Retag, Move, Reverse, Nodes, Members, Delete, Purge, Split, Join, Merge, Unglue}
 
 -- an action's own values are as their types keep them
 abbrev pub is_made_action : {A : Type 0} → Action A → Bool
@@ -19,3 +19,4 @@ is_made_action (Purge x) = true
 is_made_action (Split w i v) = true
 is_made_action (Join w v) = true
 is_made_action (Merge k g) = true
+is_made_action (Unglue w i v) = true

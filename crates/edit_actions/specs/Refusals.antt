@@ -14,8 +14,9 @@ use Rattle.edit_simple.specs.Reverse.{reverse_checks}
 use Rattle.edit_topology.specs.Join.{join_checks}
 use Rattle.edit_topology.specs.Merge.{merge_checks}
 use Rattle.edit_topology.specs.Split.{split_checks}
+use Rattle.edit_topology.specs.Unglue.{unglue_checks}
 use Rattle.edit_actions.specs.declared.action.Action.{Action}
-use Rattle.edit_actions.specs.declared.action.Action.TheVariants.{Create, Retag, Move, Reverse, Nodes, Members, Delete, Purge, Split, Join, Merge}
+use Rattle.edit_actions.specs.declared.action.Action.TheVariants.{Create, Retag, Move, Reverse, Nodes, Members, Delete, Purge, Split, Join, Merge, Unglue}
 
 module _ {A : Type 0} where
   abbrev pub checks : Rows A → Action A → List (Option (Refusal A))
@@ -30,6 +31,7 @@ module _ {A : Type 0} where
   checks m (Split w i v) = split_checks m w i v
   checks m (Join w v) = join_checks m w v
   checks m (Merge k g) = merge_checks m k g
+  checks m (Unglue w i v) = unglue_checks m w i v
 
   -- the refusal of an action on a map, or none: it is accepted
   abbrev pub refusal : Rows A → Action A → Option (Refusal A)

@@ -15,9 +15,9 @@ use std::alloc::{AllocError, Allocator};
 macro_rules! copied {
     (($action:expr) $($variant:ident $word:literal { $($field:ident: $how:ident from $source:ident $(by $name:ident)?),* } by $plan:ident;)*) => {
         match $action {
-            $(Action::$variant { $($field),* } => Action::$variant {
+            $(Action::$variant { $($field),* } => Ok(Action::$variant {
                 $($field: $field.clone()?),*
-            },)*
+            }),)*
         }
     };
 }
@@ -101,13 +101,22 @@ pub enum Action<A: Allocator> {
         /// The name of the other, which goes.
         other: Name,
     },
+    /// Unglues a way from a node: gives it a node of its own in that place.
+    Unglue {
+        /// The name of the way.
+        name: Name,
+        /// The position among its nodes, counted from 0, at which it is unglued.
+        place: u32,
+        /// The name of the new node.
+        into: Name,
+    },
 }
 
 impl<A: Allocator + Clone> Clone for Action<A> {
     ghost is_clone = { λ a b. b ≡ a };
 
     fn clone(&self) -> Result<Action<A>, AllocError> {
-        Ok(each_action!(copied(self)))
+        each_action!(copied(self))
     }
 }
 

@@ -21,6 +21,7 @@ macro_rules! each_action {
             Split "split" { name: lent from el, place: number from at, into: lent from into } by plan_split;
             Join "join" { name: lent from el, other: lent from with } by plan_join;
             Merge "merge" { name: lent from el, other: lent from with } by plan_merge;
+            Unglue "unglue" { name: lent from el, place: number from at, into: lent from into } by plan_unglue;
         }
     };
 }

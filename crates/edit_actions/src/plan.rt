@@ -15,7 +15,7 @@ use edit_simple::plans::{
     plan_reverse,
 };
 use edit_simple::refusal::Refusal;
-use edit_topology::plans::{plan_join, plan_merge, plan_split};
+use edit_topology::plans::{plan_join, plan_merge, plan_split, plan_unglue};
 use osm_changes::changes::Changes;
 use osm_changes::laws::differences_are_changes;
 use osm_changes::store::Store;

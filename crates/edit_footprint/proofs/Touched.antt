@@ -38,8 +38,9 @@ module _ {A : Type 0} where
       ∙ ap (λ b. is_among (begun_or_ceased c) q || b) (among_all_begun_or_ceased cs q)
       ∙ sym (is_among-append q (begun_or_ceased c) (flat_map begun_or_ceased cs))
 
-  -- what is collected has the names of the footprint
-  pub collected_is_touched : (names : List Name) (cs : List (Change A)) → name_set (names ++ all_begun_or_ceased cs) ≡ name_set (names ++ flat_map begun_or_ceased cs)
-  collected_is_touched names cs =
-      same_set (names ++ all_begun_or_ceased cs) (names ++ flat_map begun_or_ceased cs)
-      (λ q. is_among-append q names (all_begun_or_ceased cs) ∙ ap (λ b. is_among names q || b) (among_all_begun_or_ceased cs q) ∙ sym (is_among-append q names (flat_map begun_or_ceased cs)))
+  -- what is collected between others has the names of the footprint
+  pub collected_is_touched : (names more : List Name) (cs : List (Change A)) → name_set (names ++ all_begun_or_ceased cs ++ more) ≡ name_set (names ++ flat_map begun_or_ceased cs ++ more)
+  collected_is_touched names more cs = same_set (names ++ all_begun_or_ceased cs ++ more) (names ++ flat_map begun_or_ceased cs ++ more) (λ q. among (all_begun_or_ceased cs) q ∙ ap (λ b. (is_among names q || b) || is_among more q) (among_all_begun_or_ceased cs q) ∙ sym (among (flat_map begun_or_ceased cs) q))
+    where
+      among : (l : List Name) (q : Name) → is_among (names ++ l ++ more) q ≡ ((is_among names q || is_among l q) || is_among more q)
+      among l q = is_among-append q (names ++ l) more ∙ ap (λ b. b || is_among more q) (is_among-append q names l)

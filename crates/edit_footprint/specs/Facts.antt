@@ -16,3 +16,4 @@ pub mod OneRow
 pub mod Purging
 pub mod Splitting
 pub mod Subjects
+pub mod Ungluing

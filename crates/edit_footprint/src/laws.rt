@@ -8,7 +8,7 @@ ghost use Rattle.edit_actions.specs.MadeActions.{is_made_action};
 ghost use Rattle.edit_actions.specs.Refusals.{refusal};
 ghost use Rattle.edit_footprint.specs.Agreement.{Agree};
 ghost use Rattle.edit_footprint.specs.Commutation.{ChangePlaces};
-ghost use Rattle.edit_footprint.specs.Examples.{ceased, split, purged};
+ghost use Rattle.edit_footprint.specs.Examples.{ceased, split, purged, unglued};
 ghost use Rattle.edit_footprint.specs.Footprints.{footprint, meets};
 ghost use Rattle.edit_footprint.specs.Locality.{LeavesTheRest, AcceptedAlike};
 
@@ -38,4 +38,5 @@ pub fn examples_are_as_worked()
     ensures ceased { ceased }
     ensures split { split }
     ensures purged { purged }
+    ensures unglued { unglued }
 {}

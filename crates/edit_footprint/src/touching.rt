@@ -1,15 +1,19 @@
 //! What an action touches.
-ghost use Rattle.std.specs.Prelude.{◌≡◌, ◌++◌, IfOk, OnOk};
+ghost use Rattle.std.specs.Prelude.{◌≡◌, ◌++◌, find, IfOk, OnOk};
+ghost use Rattle.std.specs.List.{slice_get};
+ghost use Rattle.std.specs.Option.{option_copied, option_to_list};
 ghost use Rattle.osm_elements.specs.Maps;
-ghost use Rattle.osm_elements.specs.Maps.{name_set};
+ghost use Rattle.osm_elements.specs.Maps.{is_same, name_set};
 ghost use Rattle.osm_refs.specs.References.{row_references};
 ghost use Rattle.osm_refs.specs.Inner.Rising.{IsRising};
 ghost use Rattle.osm_changes.specs.Changes.{changed_names};
-ghost use Rattle.edit_footprint.specs.Footprints.{subjects, footprint_of, names_but};
+ghost use Rattle.edit_simple.specs.Parts.{nodes_of};
+ghost use Rattle.edit_footprint.specs.Footprints.{subjects, footprint_of, names_but, row_before, unglued_from};
 ghost use Rattle.edit_footprint.specs.Inner.Touching.{begun_or_ceased_once, all_begun_or_ceased};
 
 use crate::footprint::Footprint;
 use edit_actions::action::Action;
+use edit_simple::lookup::is_same;
 use osm_changes::change::Change;
 use osm_changes::changes::Changes;
 use osm_elements::Memory;
@@ -20,7 +24,8 @@ use osm_refs::refs::refs_of;
 use std::alloc::Allocator;
 
 /// The footprint of an action with its changes, or `Memory`: the names that the action is about, those that it changes,
-/// and what their rows begin or cease to name. It takes time `n log n` for changes that name `n` elements.
+/// what their rows begin or cease to name, and the node that it unglues a way from. It takes time `n log n` for changes that
+/// name `n` elements.
 pub fn footprint<A: Allocator + Clone>(
     alloc: A,
     action: &Action<A>,
@@ -31,6 +36,7 @@ pub fn footprint<A: Allocator + Clone>(
     let mut names = subjects(alloc.clone()?, action)?;
     push_changed(&mut names, changes.rows())?;
     push_all_begun_or_ceased(&alloc, &mut names, changes.rows())?;
+    push_unglued_from(&mut names, action, changes.rows())?;
     Ok(Footprint::of(names))
 }
 
@@ -40,7 +46,9 @@ fn subjects<A: Allocator>(alloc: A, action: &Action<A>) -> Result<Vec<Name, A>, 
 {
     match action {
         Action::Move { names, .. } => Ok(Vec::from_slice(alloc, names.as_slice())?),
-        Action::Split { name, into, .. } => Ok(vec![in alloc; *name, *into]?),
+        Action::Split { name, into, .. } | Action::Unglue { name, into, .. } => {
+            Ok(vec![in alloc; *name, *into]?)
+        }
         Action::Join { name, other } | Action::Merge { name, other } => {
             Ok(vec![in alloc; *name, *other]?)
         }
@@ -125,4 +133,55 @@ fn is_among(names: &[Name], name: &Name) -> bool
     ensures { result ≡ Maps.is_among names.now name.now }
 {
     names.binary_search(name).is_ok()
+}
+
+// Puts the node that an action unglues a way from behind other names, if it does that.
+fn push_unglued_from<A: Allocator>(
+    names: &mut Vec<Name, A>,
+    action: &Action<A>,
+    rows: &[Change<A>],
+) -> Result<(), Memory>
+    ensures { OnOk result (names.new.items ≡ names.old.items ++ option_to_list (unglued_from action.now rows.now)) }
+{
+    if let Some(node) = unglued_from(action, rows) {
+        names.push(node)?;
+    }
+    Ok(())
+}
+
+// The node that an action unglues a way from.
+fn unglued_from<A: Allocator>(action: &Action<A>, rows: &[Change<A>]) -> Option<Name>
+    ensures { result ≡ unglued_from action.now rows.now }
+{
+    match action {
+        Action::Unglue { name, place, .. } => node_before(rows, name, *place),
+        _ => None,
+    }
+}
+
+// The node that stood at a place of a way before changes.
+fn node_before<A: Allocator>(rows: &[Change<A>], way: &Name, place: u32) -> Option<Name>
+    ensures { result ≡ slice_get (nodes_of (row_before rows.now way.now)) place }
+{
+    match row_before(rows, way) {
+        Some(Element::Way { nodes, .. }) => nodes.names().get(place as usize).copied(),
+        _ => None,
+    }
+}
+
+// The row that a name had before changes, none where they don't tell it.
+fn row_before<'c, A: Allocator>(rows: &'c [Change<A>], name: &Name) -> Option<&'c Element<A>>
+    ensures { option_copied result ≡ row_before rows.now name.now }
+{
+    match change_of(rows, name) {
+        Some(change) => change.before.as_ref(),
+        None => None,
+    }
+}
+
+// The change of a name, if there is one.
+fn change_of<'c, A: Allocator>(rows: &'c [Change<A>], name: &Name) -> Option<&'c Change<A>>
+    ensures { option_copied result ≡ find (λ c. is_same name.now c.name) rows.now }
+{
+    rows.iter().find(|change| is_same(name, &change.name))
 }

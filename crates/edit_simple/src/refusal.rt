@@ -19,7 +19,7 @@ pub enum Refusal<A: Allocator> {
     WrongKind(Name),
     /// The action wants two elements, and this name is given for both.
     Same(Name),
-    /// A way is to be split where it has no two parts.
+    /// A way is to be split where it has no two parts, or unglued where it has no node.
     BadPosition,
     /// Two ways are to be joined, and the first does not end where the second begins.
     NotEndToEnd,

@@ -7,3 +7,4 @@ pub mod MergeLists
 pub mod MergePlans
 pub mod SplitLoops
 pub mod SplitPlans
+pub mod UngluePlans

@@ -1,7 +1,8 @@
 -- What was worked out by hand of the definitions.
-use Rattle.std.specs.Prelude.{◌≡◌, ℕ, List, [], ◌∷◌, Option, Some, None, replicate}
+use Rattle.std.specs.Prelude.{◌≡◌, ℕ, List, [], ◌∷◌, Option, Some, None, pos, replicate}
 use Rattle.osm_elements.specs.declared.name.Name.{Name}
 use Rattle.osm_elements.specs.declared.element.Element.{Element}
+use Rattle.osm_elements.specs.declared.element.Element.TheVariants.{Node}
 use Rattle.osm_elements.specs.Maps.{Rows}
 use Rattle.osm_elements.specs.Rows.{row_at, put_row}
 use Rattle.edit_simple.specs.declared.refusal.Refusal.{Refusal}
@@ -9,8 +10,9 @@ use Rattle.edit_simple.specs.declared.refusal.Refusal.TheVariants.{Absent, Prese
 use Rattle.edit_simple.specs.Scenes.{Any, n-1, n-2, n-3, n-7, n-8, w1, w2, w3, w5, r1, r9, node_at, way_of, relation_of, outer, start, refused}
 use Rattle.edit_topology.specs.Join.{join_checks, after_join}
 use Rattle.edit_topology.specs.Merge.{merge_checks, after_merge}
-use Rattle.edit_topology.specs.Scenes.{a1, a2, b1, b2, c1, thousand_tags, tagged_node, tagged_way, beside, ring, thrice, with_many, with_long, ways_tagged, nodes_tagged}
+use Rattle.edit_topology.specs.Scenes.{a1, a2, b1, b2, c1, thousand_tags, tagged_node, tagged_way, beside, ring, thrice, with_many, with_long, ways_tagged, nodes_tagged, there_and_back}
 use Rattle.edit_topology.specs.Split.{split_checks, after_split}
+use Rattle.edit_topology.specs.Unglue.{unglue_checks, after_unglue}
 
 -- a closed way of three nodes, at each position and past the last
 unfoldable pub closed_way_split : Type 0
@@ -160,3 +162,59 @@ merge_refusals =
     × (refused (merge_checks (beside (n-3 ∷ n-3 ∷ [])) n-1 n-3) ≡ Some (TooFew w3))
     × (refused (merge_checks (beside (n-1 ∷ n-3 ∷ n-1 ∷ [])) n-1 n-3) ≡ Some (TooFew w3))
     × (refused (merge_checks (put_row (nodes_tagged (a1 ∷ []) (a2 ∷ [])) w3 (way_of (n-3 ∷ n-1 ∷ []))) n-1 n-3) ≡ Some (TooFew w3))
+
+-- the whole map after an unglue: the new node lies where the old one does, and nothing else changes than the way
+unfoldable pub map_unglued : Type 0
+map_unglued =
+    (refused (unglue_checks start w1 1 n-7) ≡ None)
+    × (after_unglue start w1 1 n-7
+    ≡ (n-7, node_at 2)
+    ∷ (n-3, node_at 3)
+    ∷ (n-2, node_at 2)
+    ∷ (n-1, node_at 1)
+    ∷ (w1, way_of (n-1 ∷ n-7 ∷ []))
+    ∷ (w2, way_of (n-1 ∷ n-3 ∷ n-2 ∷ []))
+    ∷ (r1, relation_of ((n-1, []) ∷ (w2, outer) ∷ (w1, outer) ∷ (w2, outer) ∷ []))
+    ∷ [])
+
+-- a closed way at both of its ends, where the other end stays, and past the last; a merge takes it back
+unfoldable pub closed_way_unglued : Type 0
+closed_way_unglued =
+    (refused (unglue_checks ring w3 0 n-7) ≡ None)
+    × (row_at (after_unglue ring w3 0 n-7) w3 ≡ Some (tagged_way (n-7 ∷ n-2 ∷ n-3 ∷ n-1 ∷ []) (a1 ∷ [])))
+    × (refused (unglue_checks ring w3 3 n-7) ≡ None)
+    × (row_at (after_unglue ring w3 3 n-7) w3 ≡ Some (tagged_way (n-1 ∷ n-2 ∷ n-3 ∷ n-7 ∷ []) (a1 ∷ [])))
+    × (refused (unglue_checks ring w3 4 n-7) ≡ Some BadPosition)
+    × (refused (merge_checks (after_unglue ring w3 3 n-7) n-1 n-7) ≡ None)
+    × (after_merge (after_unglue ring w3 3 n-7) n-1 n-7 ≡ ring)
+
+-- the refusal of an unglue of a third way at a position, that way after it, and the new node
+abbrev pub ungluing : List Name → ℕ → Option (Refusal Any) × Option (Element Any) × Option (Element Any)
+ungluing nodes i = (refused (unglue_checks (beside nodes) w3 i n-7), row_at (after_unglue (beside nodes) w3 i n-7) w3, row_at (after_unglue (beside nodes) w3 i n-7) n-7)
+
+-- of a node that the way names twice, also side by side, one reference becomes the new node
+unfoldable pub doubles_unglued : Type 0
+doubles_unglued =
+    (ungluing (n-1 ∷ n-2 ∷ n-1 ∷ n-3 ∷ []) 2 ≡ (None, Some (way_of (n-1 ∷ n-2 ∷ n-7 ∷ n-3 ∷ [])), Some (node_at 1)))
+    × (ungluing (n-1 ∷ n-1 ∷ []) 0 ≡ (None, Some (way_of (n-7 ∷ n-1 ∷ [])), Some (node_at 1)))
+    × (ungluing (n-1 ∷ n-1 ∷ []) 1 ≡ (None, Some (way_of (n-1 ∷ n-7 ∷ [])), Some (node_at 1)))
+
+-- the new node has the tags of the old one, which keeps them, and lies where that does now
+unfoldable pub node_copied : Type 0
+node_copied =
+    (row_at (after_unglue (nodes_tagged (a1 ∷ b2 ∷ []) []) w2 0 n-7) n-7 ≡ Some (tagged_node 1 (a1 ∷ b2 ∷ [])))
+    × (row_at (after_unglue (nodes_tagged (a1 ∷ b2 ∷ []) []) w2 0 n-7) n-1 ≡ Some (tagged_node 1 (a1 ∷ b2 ∷ [])))
+    × (refused (unglue_checks there_and_back w3 3 n-7) ≡ Some BadPosition)
+    × (refused (unglue_checks there_and_back w3 2 n-7) ≡ None)
+    × (row_at (after_unglue there_and_back w3 2 n-7) n-7 ≡ Some (Node (pos 10000010) (pos 10000000) []))
+    × (row_at (after_unglue there_and_back w3 2 n-7) w3 ≡ Some (way_of (n-1 ∷ n-2 ∷ n-7 ∷ [])))
+
+-- each refusal of an unglue, in their order
+unfoldable pub unglue_refusals : Type 0
+unglue_refusals =
+    (refused (unglue_checks start n-1 9 w5) ≡ Some (WrongKind n-1))
+    × (refused (unglue_checks start r1 9 n-1) ≡ Some (WrongKind r1))
+    × (refused (unglue_checks start w5 9 w1) ≡ Some (WrongKind w1))
+    × (refused (unglue_checks start w5 9 n-1) ≡ Some (Absent w5))
+    × (refused (unglue_checks start w1 9 n-1) ≡ Some (Present n-1))
+    × (refused (unglue_checks start w1 2 n-7) ≡ Some BadPosition)

@@ -12,3 +12,4 @@ pub mod SplitJoined
 pub mod Splitting
 pub mod Staying
 pub mod TagValues
+pub mod Ungluing

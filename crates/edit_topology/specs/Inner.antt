@@ -2,3 +2,4 @@
 pub mod Joining
 pub mod Merging
 pub mod Splitting
+pub mod Ungluing

@@ -7,3 +7,4 @@ pub mod Merge
 pub mod Renaming
 pub mod Scenes
 pub mod Split
+pub mod Unglue

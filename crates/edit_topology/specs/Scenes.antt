@@ -62,3 +62,7 @@ ways_tagged tags others = put_row (put_row start w3 (tagged_way (n-1 ∷ n-2 ∷
 -- the start with these tags on n-1 and n-3
 abbrev pub nodes_tagged : Pairs → Pairs → Rows Any
 nodes_tagged tags others = put_row (put_row start n-1 (tagged_node 1 tags)) n-3 (tagged_node 3 others)
+
+-- the start with n-1 ten ten-millionths of a degree further north, and a way from it to n-2 and back
+abbrev pub there_and_back : Rows Any
+there_and_back = put_row (beside (n-1 ∷ n-2 ∷ n-1 ∷ [])) n-1 (Node (pos 10000010) (pos 10000000) [])

@@ -10,15 +10,16 @@ ghost use Rattle.osm_refs.specs.References.{row_references};
 ghost use Rattle.osm_changes.specs.Sound.{is_sound};
 ghost use Rattle.edit_simple.specs.Checks.{first_that_holds};
 ghost use Rattle.edit_topology.specs.BothTags.{both_tags, conflict, HasTwo};
-ghost use Rattle.edit_topology.specs.Examples.{closed_way_split, members_split, split_refusals, ends_joined, members_joined, tags_joined, join_refusals, neighbours_merged, doubles_merged, members_merged, tags_merged, merge_refusals};
+ghost use Rattle.edit_topology.specs.Examples.{closed_way_split, members_split, split_refusals, ends_joined, members_joined, tags_joined, join_refusals, neighbours_merged, doubles_merged, members_merged, tags_merged, merge_refusals, map_unglued, closed_way_unglued, doubles_unglued, node_copied, unglue_refusals};
 ghost use Rattle.edit_topology.specs.Join.{join_checks, after_join};
 ghost use Rattle.edit_topology.specs.Merge.{merge_checks, after_merge};
 ghost use Rattle.edit_topology.specs.Split.{split_checks, after_split};
+ghost use Rattle.edit_topology.specs.Unglue.{unglue_checks, after_unglue};
 
 use std::alloc::Allocator;
 
 /// An accepted action keeps a sound map sound, and changes it.
-#[tactic(auto, using(crate::specs::Facts::Splitting::split_accepted, crate::specs::Facts::Joining::join_accepted, crate::specs::Facts::Merging::merge_accepted,))]
+#[tactic(auto, using(crate::specs::Facts::Splitting::split_accepted, crate::specs::Facts::Joining::join_accepted, crate::specs::Facts::Merging::merge_accepted, crate::specs::Facts::Ungluing::unglue_accepted,))]
 pub fn accepted_keeps_sound<A: Allocator>()
     ensures split { (m : Rows A) (w : Name) (i : ℕ) (v : Name) → is_sound m ≡ true → first_that_holds (split_checks m w i v) ≡ None
         → (is_sound (after_split m w i v) ≡ true) × (after_split m w i v ≢ m) }
@@ -26,11 +27,13 @@ pub fn accepted_keeps_sound<A: Allocator>()
         → (is_sound (after_join m w v) ≡ true) × (after_join m w v ≢ m) }
     ensures merge { (m : Rows A) (k g : Name) → is_sound m ≡ true → first_that_holds (merge_checks m k g) ≡ None
         → (is_sound (after_merge m k g) ≡ true) × (after_merge m k g ≢ m) }
+    ensures unglue { (m : Rows A) (w : Name) (i : ℕ) (v : Name) → is_sound m ≡ true → first_that_holds (unglue_checks m w i v) ≡ None
+        → (is_sound (after_unglue m w i v) ≡ true) × (after_unglue m w i v ≢ m) }
 {}
 
 /// Every row stays as it is but those of the action's subjects, and of the elements that name w, v or g: the way that is
-/// split, the way that is joined to another, the node that is merged into another.
-#[tactic(auto, using(crate::specs::Facts::Staying::split_leaves, crate::specs::Facts::Staying::join_leaves, crate::specs::Facts::Staying::merge_leaves,))]
+/// split, the way that is joined to another, the node that is merged into another. An unglue changes its subjects' alone.
+#[tactic(auto, using(crate::specs::Facts::Staying::split_leaves, crate::specs::Facts::Staying::join_leaves, crate::specs::Facts::Staying::merge_leaves, crate::specs::Facts::Staying::unglue_leaves,))]
 pub fn the_rest_stays<A: Allocator>()
     ensures split { (m : Rows A) (w : Name) (i : ℕ) (v y : Name) → is_same y w ≡ false → is_same y v ≡ false → is_among (row_references (row_at m y)) w ≡ false
         → row_at (after_split m w i v) y ≡ row_at m y }
@@ -38,6 +41,8 @@ pub fn the_rest_stays<A: Allocator>()
         → row_at (after_join m w v) y ≡ row_at m y }
     ensures merge { (m : Rows A) (k g y : Name) → is_same y k ≡ false → is_same y g ≡ false → is_among (row_references (row_at m y)) g ≡ false
         → row_at (after_merge m k g) y ≡ row_at m y }
+    ensures unglue { (m : Rows A) (w : Name) (i : ℕ) (v y : Name) → is_same y w ≡ false → is_same y v ≡ false
+        → row_at (after_unglue m w i v) y ≡ row_at m y }
 {}
 
 /// On a sound map every row that names w, v or g changes, where the action is accepted. So of the rows that are not its
@@ -85,4 +90,9 @@ pub fn examples_are_as_worked()
     ensures members_merged { members_merged }
     ensures tags_merged { tags_merged }
     ensures merge_refusals { merge_refusals }
+    ensures map_unglued { map_unglued }
+    ensures closed_way_unglued { closed_way_unglued }
+    ensures doubles_unglued { doubles_unglued }
+    ensures node_copied { node_copied }
+    ensures unglue_refusals { unglue_refusals }
 {}

@@ -1,4 +1,4 @@
-//! The actions that change how elements meet: split, join and merge.
+//! The actions that change how elements meet: split, join, merge and unglue.
 #![tactic(auto)]
 
 mod both_tags;
@@ -10,3 +10,4 @@ pub mod plans;
 mod renaming;
 mod split;
 mod touched;
+mod unglue;

@@ -2,13 +2,15 @@
 //!
 //! A plan answers the changes that lead to the map after the action, the first of the action's checks that holds, or
 //! `Memory` in place of any answer. It leaves the store alone. It looks at its subjects and at the users of one of them,
-//! which all change, and at no other element; that costs what these hold, times a logarithm.
+//! which all change, or at the node that a way is unglued from, and at no other element; that costs what these hold, times a
+//! logarithm.
 ghost use Rattle.edit_simple.specs.Plans.{IsPlan};
 ghost use Rattle.edit_topology.specs.Join.{join_checks, after_join};
 ghost use Rattle.edit_topology.specs.Merge.{merge_checks, after_merge};
 ghost use Rattle.edit_topology.specs.Split.{split_checks, after_split};
+ghost use Rattle.edit_topology.specs.Unglue.{unglue_checks, after_unglue};
 
-use crate::{join, merge, split};
+use crate::{join, merge, split, unglue};
 use edit_simple::refusal::Refusal;
 use osm_changes::changes::Changes;
 use osm_changes::store::Store;
@@ -73,4 +75,21 @@ pub fn plan_merge<A: Allocator + Clone>(
     ensures { IsPlan store.now.rows (merge_checks store.now.rows name.now other.now) (after_merge store.now.rows name.now other.now) result }
 {
     merge::plan(alloc, store.map(), store.users().of(other), name, other)
+}
+
+/// Plans to unglue a way from the node at one of its positions, counted from 0: there the way gets a new node, which lies
+/// where that node does, and has its tags. The node stays, and whatever else names it goes on naming it, also the way at
+/// another position. It refuses `WrongKind` where the one name is no way's, and then where the new one is no node's,
+/// `Absent` where the way is not there, `Present` where the new node is, and `BadPosition` where the position lies beyond
+/// the last. (Editors' practice; which names and positions are refused is this project's.)
+pub fn plan_unglue<A: Allocator + Clone>(
+    alloc: A,
+    store: &Store<A>,
+    name: &Name,
+    place: u32,
+    into: &Name,
+) -> Result<Changes<A>, Refusal<A>>
+    ensures { IsPlan store.now.rows (unglue_checks store.now.rows name.now place into.now) (after_unglue store.now.rows name.now place into.now) result }
+{
+    unglue::plan(alloc, store.map(), name, place, into)
 }

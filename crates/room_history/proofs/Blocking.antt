@@ -1,6 +1,6 @@
 -- The blocker in plain words.
-use Rattle.std.proofs.Common.{◌≡◌, ◌+◌, ◌≤◌, ◌||◌, ◌++◌, ℕ, Bool, true, false, T, List, [], ◌∷◌, Option, Some, None, length, nat_eq, nat_lt, refl, sym, ap, subst, ◌∙◌, cond, arith}
-use Rattle.std.specs.List.{filter, find, flat_map}
+use Rattle.std.proofs.Common.{◌≡◌, ◌+◌, ◌≤◌, ◌||◌, ℕ, Bool, true, false, T, List, [], ◌∷◌, Option, Some, None, length, nat_eq, nat_lt, refl, sym, ap, subst, ◌∙◌, cond, arith}
+use Rattle.std.specs.List.{filter, find}
 use Rattle.std.specs.Option.{option_map, option_or}
 use Rattle.std.specs.Ordering.{is_eq, is_lt, ordering_reverse}
 use Rattle.std.specs.FinMap.Entries.{below_all}
@@ -12,11 +12,10 @@ use Rattle.osm_elements.specs.Maps.{Rows, is_same, is_among}
 use Rattle.osm_elements.specs.Facts.Entries.{first, second}
 use Rattle.osm_elements.specs.Facts.Names.{name_cmp_total}
 use Rattle.osm_elements.specs.Facts.Rows.{same_names}
-use Rattle.osm_changes.specs.Changes.{changed_names}
-use Rattle.osm_refs.specs.Facts.RisingNames.{IsRising-name_set}
 use Rattle.osm_refs.specs.Inner.Rising.{IsRising, bare_rows}
 use Rattle.edit_simple.specs.Facts.Lists.{is_among_own}
-use Rattle.edit_footprint.specs.Footprints.{meets, subjects, begun_or_ceased}
+use Rattle.edit_footprint.specs.Footprints.{meets}
+use Rattle.edit_footprint.specs.Facts.Footprints.{IsRising-footprint_of}
 use Rattle.edit_footprint.specs.Holding.{first_meeting}
 use Rattle.room_history.specs.declared.entry.Entry.{Entry}
 use Rattle.room_history.specs.Blockers.{footprint_of_recorded, recorded_footprint, blocker}
@@ -156,7 +155,7 @@ module _ {A : Type 0} (base : Rows A) (j : List (Entry A)) (s : ℕ) (stands : i
   rising : IsLed base j → IsRising (footprint_at s)
   rising led =
       let w = one_of (past base j).entries s (standing j) led.works led.recorded stands in
-      subst IsRising (ap footprint_of_recorded (sym w.1)) (IsRising-name_set (subjects w.0.action ++ changed_names w.0.changes ++ flat_map begun_or_ceased w.0.changes))
+      subst IsRising (ap footprint_of_recorded (sym w.1)) (IsRising-footprint_of w.0.action w.0.changes)
 
   -- a blocker blocks, none before it does, and by no lesser name
   pub record IsFirst (b : ℕ) (e : Name) : Type 0 where

@@ -3,7 +3,7 @@ use Rattle.std.proofs.Common.{refl}
 use Rattle.std.specs.Str.{chars}
 use Rattle.osm_elements.specs.NameOrder.{name_cmp}
 use Rattle.osm_elements.specs.Texts.{is_long}
-use Rattle.room_history.specs.Examples.{first_run, range_ends, limit_one, limit_zero, strangers, in_use, taken_back_way, refusals_in_turn, relations_in_turn, redo_at_once, redo_refused, redo_order, redo_again}
+use Rattle.room_history.specs.Examples.{first_run, range_ends, limit_one, limit_zero, strangers, in_use, taken_back_way, refusals_in_turn, relations_in_turn, redo_at_once, redo_refused, redo_order, redo_again, unglued_node}
 
 pub first_run_lem : first_run
 unfolding first_run name_cmp
@@ -56,3 +56,7 @@ redo_order_lem = (refl, refl, refl, refl, refl)
 pub redo_again_lem : redo_again
 unfolding redo_again name_cmp
 redo_again_lem = (refl, refl, refl, refl)
+
+pub unglued_node_lem : unglued_node
+unfolding unglued_node name_cmp
+unglued_node_lem = (refl, refl, refl, refl)

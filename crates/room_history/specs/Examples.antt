@@ -1,6 +1,6 @@
 -- What the worked examples say of the definitions.
 use Rattle.std.specs.Prelude.{◌≡◌, ◌++◌, ℕ, [], ◌∷◌, Some, None, true, pos, negsuc, replicate}
-use Rattle.edit_actions.specs.declared.action.Action.TheVariants.{Create, Delete}
+use Rattle.edit_actions.specs.declared.action.Action.TheVariants.{Create, Move, Delete, Unglue}
 use Rattle.edit_simple.specs.declared.refusal.Refusal.TheVariants.{Absent, Present, WrongKind, TooFew, TooMany, InUse}
 use Rattle.room_history.specs.declared.reply.Reply.TheVariants.{Done, Undid, Redid, Repeat, Full, NothingToUndo, NothingToRedo, NoSuch, NotYours, NotStanding, Conflict, Refused}
 use Rattle.osm_changes.specs.Sound.{is_sound}
@@ -237,3 +237,19 @@ redo_again =
     × (redos_left ample calls anna ≡ (3 ∷ []))
     × (map_after ample (calls ++ later) ≡ ((n2, node_at (pos 1) (pos 1)) ∷ []))
     × (redos_left ample (calls ++ later) anna ≡ []))
+
+-- a move of the node that a way was unglued from stays while the unglue stands, though the way names that node still
+unfoldable pub unglued_node : Type 0
+unglued_node =
+    (let calls =
+    does anna 1 (Create n1 (node_at (pos 0) (pos 0)))
+    ∷ does anna 2 (Create w1 (way_of (n1 ∷ n1 ∷ [])))
+    ∷ does bob 1 (Move (n1 ∷ []) (pos 5) (pos 0))
+    ∷ does anna 3 (Unglue w1 1 n2)
+    ∷ undoes bob 2 None
+    ∷ [] in
+    let later = undoes anna 4 None ∷ undoes bob 2 None ∷ [] in
+    (replies ample (calls ++ later) ≡ (Done 1 ∷ Done 2 ∷ Done 3 ∷ Done 4 ∷ Conflict 4 n1 ∷ Undid 5 4 ∷ Undid 6 3 ∷ []))
+    × (map_after ample calls ≡ ((n1, node_at (pos 5) (pos 0)) ∷ (n2, node_at (pos 5) (pos 0)) ∷ (w1, way_of (n1 ∷ n2 ∷ [])) ∷ []))
+    × (held_after ample calls ≡ ((1, n1 ∷ []) ∷ (2, n1 ∷ w1 ∷ []) ∷ (3, n1 ∷ []) ∷ (4, n1 ∷ n2 ∷ w1 ∷ []) ∷ []))
+    × (map_after ample (calls ++ later) ≡ ((n1, node_at (pos 0) (pos 0)) ∷ (w1, way_of (n1 ∷ n1 ∷ [])) ∷ [])))

@@ -18,7 +18,7 @@ ghost use Rattle.room_history.specs.Turns.{IsTurn};
 ghost use Rattle.turn_desk.specs.History.{History, entries, IsLegal};
 ghost use Rattle.osm_elements.specs.Maps.{Rows};
 ghost use Rattle.osm_changes.specs.Sound.{is_sound};
-ghost use Rattle.room_history.specs.Examples.{first_run, range_ends, limit_one, limit_zero, strangers, in_use, taken_back_way, refusals_in_turn, relations_in_turn, redo_at_once, redo_refused, redo_order, redo_again};
+ghost use Rattle.room_history.specs.Examples.{first_run, range_ends, limit_one, limit_zero, strangers, in_use, taken_back_way, refusals_in_turn, relations_in_turn, redo_at_once, redo_refused, redo_order, redo_again, unglued_node};
 
 use osm_changes::laws::{an_inverse_restores, differences_are_changes};
 use std::alloc::Allocator;
@@ -80,4 +80,5 @@ pub fn replies_are_as_worked()
     ensures redo_refused { redo_refused }
     ensures redo_order { redo_order }
     ensures redo_again { redo_again }
+    ensures unglued_node { unglued_node }
 {}

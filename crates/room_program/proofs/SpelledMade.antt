@@ -33,7 +33,7 @@ use Rattle.room_wire.specs.declared.incoming.Body.{Body}
 use Rattle.room_wire.specs.Fields.{field_text}
 use Rattle.room_program.specs.Made.{is_made_body}
 use Rattle.room_wire.specs.Reading.{◌>>=◌, or_fault}
-use Rattle.room_wire.specs.Spelling.{text_at, text_of, key_of, value_of, given_of, entry_of, entries_in, entries_of, tags_of, tags_from, tags_at, gifts_of, gifts_at, items_in, node_of, nodes_in, nodes_at, member_in, member_of, members_in, members_at, lat_at, lon_at, el_at, els_at, distance_at, seq_at, element_at, create_at, retag_at, move_at, relist_way_at, relist_relation_at, split_at, join_at, merge_at, name_at, place_at, author_at, hello_at, action_by, body_by, body_at, word_at, id_at, message_by, message_of, under, spells}
+use Rattle.room_wire.specs.Spelling.{text_at, text_of, key_of, value_of, given_of, entry_of, entries_in, entries_of, tags_of, tags_from, tags_at, gifts_of, gifts_at, items_in, node_of, nodes_in, nodes_at, member_in, member_of, members_in, members_at, lat_at, lon_at, el_at, els_at, distance_at, seq_at, element_at, create_at, retag_at, move_at, relist_way_at, relist_relation_at, split_at, join_at, merge_at, unglue_at, name_at, place_at, author_at, hello_at, action_by, body_by, body_at, word_at, id_at, message_by, message_of, under, spells}
 use Rattle.room_program.proofs.TreesInOrder.{pairs_of, IsInOrder, if_map, if_then, if_more, if_any, get_in_order, read_in_order}
 
 both : (a b : Bool) → a ≡ true → b ≡ true → (a && b) ≡ true
@@ -318,7 +318,7 @@ relist_relation_made : (d : Data) → IfOk (relist_relation_at d) IsMadeAction
 unfolding IsMadeAction AreMembersOf
 relist_relation_made d = ok_each IsMadeAction (el_at d) _ (λ name. ok_then AreMembersOf IsMadeAction (members_at d) _ (member_list_made d) (λ list are. are))
 
--- of the fields of a split, a join or a merge nothing has to be known
+-- of the fields of a split, a join, a merge or an unglue nothing has to be known
 split_made : (d : Data) → IfOk (split_at d) IsMadeAction
 unfolding IsMadeAction
 split_made d = ok_each IsMadeAction (el_at d) _ (λ name. ok_each IsMadeAction (place_at d) _ (λ place. ok_each IsMadeAction (name_at Into d) _ (λ into. refl)))
@@ -330,6 +330,10 @@ join_made d = ok_each IsMadeAction (el_at d) _ (λ name. ok_each IsMadeAction (n
 merge_made : (d : Data) → IfOk (merge_at d) IsMadeAction
 unfolding IsMadeAction
 merge_made d = ok_each IsMadeAction (el_at d) _ (λ name. ok_each IsMadeAction (name_at With d) _ (λ other. refl))
+
+unglue_made : (d : Data) → IfOk (unglue_at d) IsMadeAction
+unfolding IsMadeAction
+unglue_made d = ok_each IsMadeAction (el_at d) _ (λ name. ok_each IsMadeAction (place_at d) _ (λ place. ok_each IsMadeAction (name_at Into d) _ (λ into. refl)))
 
 action_made : (word : List ℕ) (d : Data) → IsInOrder d → IfOk (action_by word d) IsMadeAction
 unfolding IsMadeAction
@@ -344,7 +348,8 @@ action_made word d h =
     (ok_if IsMadeAction (bytes_eq word (codes "purge")) _ _ (ok_each IsMadeAction (el_at d) _ (λ name. refl))
     (ok_if IsMadeAction (bytes_eq word (codes "split")) _ _ (split_made d)
     (ok_if IsMadeAction (bytes_eq word (codes "join")) _ _ (join_made d)
-    (ok_if IsMadeAction (bytes_eq word (codes "merge")) _ _ (merge_made d) tt))))))))))
+    (ok_if IsMadeAction (bytes_eq word (codes "merge")) _ _ (merge_made d)
+    (ok_if IsMadeAction (bytes_eq word (codes "unglue")) _ _ (unglue_made d) tt)))))))))))
 
 IsMadeBody : Body → Type 0
 IsMadeBody body = is_made_body body ≡ true

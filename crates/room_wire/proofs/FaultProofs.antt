@@ -27,7 +27,7 @@ use Rattle.room_wire.specs.declared.incoming.Incoming.{Incoming}
 use Rattle.room_wire.specs.declared.incoming.Body.{Body}
 use Rattle.room_wire.specs.declared.incoming.Body.TheVariants as bodies
 use Rattle.room_wire.specs.Reading.{◌>>=◌, or_fault}
-use Rattle.room_wire.specs.Spelling.{author_at, body_by, create_at, retag_at, move_at, relist_way_at, relist_relation_at, split_at, join_at, merge_at, name_at, place_at, distance_at, gifts_at, el_at, els_at, element_at, lat_at, lon_at, message_by, message_of, members_at, nodes_at, ordinal, seq_at, seq_from, spells, tags_at, tags_from, under}
+use Rattle.room_wire.specs.Spelling.{author_at, body_by, create_at, retag_at, move_at, relist_way_at, relist_relation_at, split_at, join_at, merge_at, unglue_at, name_at, place_at, distance_at, gifts_at, el_at, els_at, element_at, lat_at, lon_at, message_by, message_of, members_at, nodes_at, ordinal, seq_at, seq_from, spells, tags_at, tags_from, under}
 use Rattle.room_wire.specs.Trees.{whole}
 use Rattle.room_wire.specs.WellFormed.{AreGood, HasWord, IsFirstBad, IsNumber, MessageId, Slot, element_slots, slot, slots}
 use Rattle.room_wire.specs.Words.{Word, word_text}
@@ -100,6 +100,11 @@ split_tells d =
     step El (el_at d) _ _ (only_field El _) (λ name e. step At (place_at d) _ _ (only_field At _)
     (λ place e. step Into (name_at Into d) (λ into. let splits : Action Global = actions.Split name place into in Ok splits) [] (only_field Into _) (λ into e. tt)))
 
+unglue_tells : (d : Data) → Tells (unglue_at d) (slots words.Unglue d)
+unglue_tells d =
+    step El (el_at d) _ _ (only_field El _) (λ name e. step At (place_at d) _ _ (only_field At _)
+    (λ place e. step Into (name_at Into d) (λ into. let unglues : Action Global = actions.Unglue name place into in Ok unglues) [] (only_field Into _) (λ into e. tt)))
+
 body_tells : (word : Word) (d : Data) → Tells (body_by (word_text word) d) (slots word d)
 body_tells words.Create d =
     done_tells (create_at d) (slots words.Create d)
@@ -114,6 +119,7 @@ body_tells words.Purge d = done_tells _ (slots words.Purge d) (name_tells (λ na
 body_tells words.Split d = done_tells (split_at d) (slots words.Split d) (split_tells d)
 body_tells words.Join d = done_tells (join_at d) (slots words.Join d) (pair_tells With (name_at With d) (λ name other. actions.Join name other) d (only_field With _))
 body_tells words.Merge d = done_tells (merge_at d) (slots words.Merge d) (pair_tells With (name_at With d) (λ name other. actions.Merge name other) d (only_field With _))
+body_tells words.Unglue d = done_tells (unglue_at d) (slots words.Unglue d) (unglue_tells d)
 body_tells words.Undo d = step Seq (seq_at d) (λ seq. Ok (bodies.Change (requests.Undo seq))) [] (only_seq (get (codes "seq") d)) (λ seq e. tt)
 body_tells words.Get d = step El (el_at d) (λ name. Ok (bodies.Get name)) [] (only_field El _) (λ name e. tt)
 body_tells words.Map d = tt
@@ -212,7 +218,7 @@ other_word w word other = go (bytes_eq w (word_text word)) refl
 unknown_word : (w : List ℕ) (d : Data) → ((word : Word) → w ≡ word_text word → ⊥) → body_by w d ≡ Err UnknownDo
 unknown_word w d other =
     let no : (word : Word) → bytes_eq w (word_text word) ≡ false = λ word. other_word w word (other word) in
-    rw (no words.Hello, no words.Undo, no words.Redo, no words.Undos, no words.Get, no words.Map, no words.Create, no words.Retag, no words.Move, no words.Reverse, no words.Nodes, no words.Members, no words.Delete, no words.Purge, no words.Split, no words.Join, no words.Merge) refl
+    rw (no words.Hello, no words.Undo, no words.Redo, no words.Undos, no words.Get, no words.Map, no words.Create, no words.Retag, no words.Move, no words.Reverse, no words.Nodes, no words.Members, no words.Delete, no words.Purge, no words.Split, no words.Join, no words.Merge, no words.Unglue) refl
 
 unknown_body : (d : Data) (o : Option Data) → ((word : Word) → o ≡ Some (string (word_text word)) → ⊥) → (or_fault UnknownDo (option_and_then as_str o) >>= λ w. body_by w d) ≡ Err UnknownDo
 unknown_body d None other = refl

@@ -16,7 +16,7 @@ use Rattle.room_wire.specs.declared.field.Field.{Field}
 use Rattle.room_wire.specs.declared.field.Field.TheVariants.{El, Els, Lat, Lon, Nodes, Members, Tags, Dlat, Dlon, At, Into, With, Seq}
 use Rattle.room_wire.specs.declared.field.Field.TheVariants as fields
 use Rattle.room_wire.specs.Reading.{◌>>=◌, or_fault}
-use Rattle.room_wire.specs.Spelling.{spells, ordinal, word_at, message_of, message_by, under, id_at, body_at, body_by, action_by, create_at, retag_at, move_at, relist_way_at, relist_relation_at, split_at, join_at, merge_at, element_at, name_at, place_at, el_at, els_at, distance_at, lat_at, lon_at, nodes_at, members_at, tags_at, tags_from, gifts_at, seq_at, seq_from, author_at, hello_at}
+use Rattle.room_wire.specs.Spelling.{spells, ordinal, word_at, message_of, message_by, under, id_at, body_at, body_by, action_by, create_at, retag_at, move_at, relist_way_at, relist_relation_at, split_at, join_at, merge_at, unglue_at, element_at, name_at, place_at, el_at, els_at, distance_at, lat_at, lon_at, nodes_at, members_at, tags_at, tags_from, gifts_at, seq_at, seq_from, author_at, hello_at}
 
 Fine : {X : Type 0} → Result X Fault → Type 0
 Fine r = IfErr r (λ f. f ≢ Memory)
@@ -99,6 +99,11 @@ join_is_fine d = fine_then (el_at d) _ (el_is_fine d) (λ name. fine_then (name_
 merge_is_fine : (d : Data) → Fine (merge_at d)
 merge_is_fine d = fine_then (el_at d) _ (el_is_fine d) (λ name. fine_then (name_at With d) _ (name_is_fine With d) (λ other. fine_ok _))
 
+unglue_is_fine : (d : Data) → Fine (unglue_at d)
+unglue_is_fine d =
+    fine_then (el_at d) _ (el_is_fine d) (λ name. fine_then (place_at d) _ (fine_or (BadField At) _ (λ e. cc))
+    (λ place. fine_then (name_at Into d) _ (name_is_fine Into d) (λ into. fine_ok _)))
+
 action_is_fine : (word : List ℕ) (d : Data) → Fine (action_by word d)
 action_is_fine word d =
     fine_if (bytes_eq word (codes "create")) _ _ (create_is_fine d)
@@ -111,7 +116,8 @@ action_is_fine word d =
     (fine_if (bytes_eq word (codes "purge")) _ _ (fine_then (el_at d) _ (el_is_fine d) (λ name. fine_ok _))
     (fine_if (bytes_eq word (codes "split")) _ _ (split_is_fine d)
     (fine_if (bytes_eq word (codes "join")) _ _ (join_is_fine d)
-    (fine_if (bytes_eq word (codes "merge")) _ _ (merge_is_fine d) (err_is_fine UnknownDo _ refl (λ e. cc))))))))))))
+    (fine_if (bytes_eq word (codes "merge")) _ _ (merge_is_fine d)
+    (fine_if (bytes_eq word (codes "unglue")) _ _ (unglue_is_fine d) (err_is_fine UnknownDo _ refl (λ e. cc)))))))))))))
 
 author_is_fine : (field : Field) (d : Data) → Fine (author_at field d)
 author_is_fine field d = fine_or (BadField field) _ (λ e. cc)

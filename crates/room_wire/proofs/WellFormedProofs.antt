@@ -151,6 +151,9 @@ asked d (bodies.Change (requests.Do (actions.Join name other))) (word, named, ha
     word_read d words.Join word ∙ ap doing (two {C = Action Global} (λ x y. actions.Join x y) (el_at d) (name_at With d) name other (el_read d name named) (name_read d With other has))
 asked d (bodies.Change (requests.Do (actions.Merge name other))) (word, named, has) =
     word_read d words.Merge word ∙ ap doing (two {C = Action Global} (λ x y. actions.Merge x y) (el_at d) (name_at With d) name other (el_read d name named) (name_read d With other has))
+asked d (bodies.Change (requests.Do (actions.Unglue name place into))) (word, named, has, new) =
+    word_read d words.Unglue word ∙ ap doing (three {D = Action Global} (λ x y z. actions.Unglue x y z) (el_at d) (place_at d) (name_at Into d) name place into
+    (el_read d name named) (place_read d place has) (name_read d Into into new))
 asked d (bodies.Change (requests.Undo seq)) (word, has) =
     word_read d words.Undo word ∙ ap (λ r. r >>= λ seq. Ok (bodies.Change (requests.Undo seq))) (seq_read d seq has)
 asked d (bodies.Change requests.Redo) word = word_read d words.Redo word

@@ -204,6 +204,9 @@ join_at d = el_at d >>= λ name. name_at With d >>= λ other. Ok (actions.Join n
 abbrev pub merge_at : Data → Result (Action Global) Fault
 merge_at d = el_at d >>= λ name. name_at With d >>= λ other. Ok (actions.Merge name other)
 
+abbrev pub unglue_at : Data → Result (Action Global) Fault
+unglue_at d = el_at d >>= λ name. place_at d >>= λ place. name_at Into d >>= λ into. Ok (actions.Unglue name place into)
+
 -- the action that the word asks for
 abbrev pub action_by : List ℕ → Data → Result (Action Global) Fault
 action_by word d =
@@ -218,7 +221,8 @@ action_by word d =
     else (if bytes_eq word (codes "split") then split_at d
     else (if bytes_eq word (codes "join") then join_at d
     else (if bytes_eq word (codes "merge") then merge_at d
-    else Err UnknownDo))))))))))
+    else (if bytes_eq word (codes "unglue") then unglue_at d
+    else Err UnknownDo)))))))))))
 
 -- whom a hello asks for
 abbrev pub hello_at : Data → Result Body Fault

@@ -13,6 +13,7 @@ pub data Word : Type 0 where
   Split : Word
   Join : Word
   Merge : Word
+  Unglue : Word
   Undo : Word
   Redo : Word
   Undos : Word
@@ -32,6 +33,7 @@ word_text Purge = codes "purge"
 word_text Split = codes "split"
 word_text Join = codes "join"
 word_text Merge = codes "merge"
+word_text Unglue = codes "unglue"
 word_text Undo = codes "undo"
 word_text Redo = codes "redo"
 word_text Undos = codes "undos"

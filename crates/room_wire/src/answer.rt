@@ -77,7 +77,7 @@ pub enum Answer<'a> {
     },
     /// Two elements that are to be one have different values at this key.
     TagConflict(&'a Text<Global>),
-    /// A way is to be split where it has no two parts.
+    /// A way is to be split where it has no two parts, or unglued where it has no node.
     BadPosition,
     /// Two ways are to be joined, and the first does not end where the second begins.
     NotEndToEnd,

@@ -23,9 +23,9 @@ pub enum Field {
     Dlat,
     /// How far to the east.
     Dlon,
-    /// The position at which a way is split.
+    /// The position at which a way is split or unglued.
     At,
-    /// The name of the way that a split makes.
+    /// The name of the way that a split makes, or of the node that an unglue does.
     Into,
     /// The name of the element that a join or a merge takes in.
     With,

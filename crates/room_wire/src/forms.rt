@@ -58,7 +58,7 @@ pub fn author_at(message: &Value, field: Field) -> Result<Author, Fault>
         .ok_or(Fault::BadField(field))
 }
 
-// The position at which a way is split.
+// The position at which a way is split or unglued.
 pub fn place_at(message: &Value) -> Result<u32, Fault>
     ensures { result ≡ place_at (view message.now) }
 {

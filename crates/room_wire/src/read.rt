@@ -65,7 +65,7 @@ macro_rules! field {
 /// | `nodes` | `el`, `nodes` |
 /// | `members` | `el`, `members` |
 /// | `reverse`, `delete`, `purge`, `get` | `el` |
-/// | `split` | `el`, `at`, `into` |
+/// | `split`, `unglue` | `el`, `at`, `into` |
 /// | `join`, `merge` | `el`, `with` |
 /// | `undo` | `seq`, which may be missing |
 /// | `redo`, `undos`, `map` | none |

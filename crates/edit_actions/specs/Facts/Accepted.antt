@@ -25,8 +25,9 @@ use Rattle.edit_simple.specs.Facts.Retagging.{retag_accepted}
 use Rattle.edit_topology.specs.Facts.Joining.{join_row, join_accepted}
 use Rattle.edit_topology.specs.Facts.Merging.{merge_row, merge_accepted}
 use Rattle.edit_topology.specs.Facts.Splitting.{split_row, split_off, split_accepted}
+use Rattle.edit_topology.specs.Facts.Ungluing.{AreInOrder-after_unglue, unglue_accepted}
 use Rattle.edit_actions.specs.declared.action.Action.{Action}
-use Rattle.edit_actions.specs.declared.action.Action.TheVariants.{Create, Retag, Move, Reverse, Nodes, Members, Delete, Purge, Split, Join, Merge}
+use Rattle.edit_actions.specs.declared.action.Action.TheVariants.{Create, Retag, Move, Reverse, Nodes, Members, Delete, Purge, Split, Join, Merge, Unglue}
 use Rattle.edit_actions.specs.After.{after, changes}
 use Rattle.edit_actions.specs.MadeActions.{is_made_action}
 use Rattle.edit_actions.specs.Refusals.{refusal}
@@ -45,6 +46,7 @@ module _ {A : Type 0} where
   accepted_keeps_sound m (Split w i v) sound made ok = split_accepted m w i v sound ok
   accepted_keeps_sound m (Join w v) sound made ok = join_accepted m w v sound ok
   accepted_keeps_sound m (Merge k g) sound made ok = merge_accepted m k g sound ok
+  accepted_keeps_sound m (Unglue w i v) sound made ok = unglue_accepted m w i v sound ok
 
   -- the map after has its names in order, whether or not the action is accepted
   pub AreInOrder-after : (m : Rows A) (a : Action A) → AreInOrder m → AreInOrder (after m a)
@@ -60,6 +62,7 @@ module _ {A : Type 0} where
   AreInOrder-after m (Split w i v) h = AreInOrder-put_row (each_row (split_row w i v) m) v (split_off m w i) (AreInOrder-each_row (split_row w i v) m h)
   AreInOrder-after m (Join w v) h = AreInOrder-each_row (join_row m w v) (rows_but v m) (AreInOrder-rows_but m v h)
   AreInOrder-after m (Merge k g) h = AreInOrder-each_row (merge_row m k g) (rows_but g m) (AreInOrder-rows_but m g h)
+  AreInOrder-after m (Unglue w i v) h = AreInOrder-after_unglue m w i v h
 
   -- the changes lead to the map after
   pub changes_lead : (m : Rows A) (a : Action A) → is_sound m ≡ true → is_made_action a ≡ true → refusal m a ≡ None → changed m (changes m a) ≡ after m a

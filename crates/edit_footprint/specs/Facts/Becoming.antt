@@ -17,8 +17,10 @@ use Rattle.edit_topology.specs.Facts.EachBut.{row_at-each_but}
 use Rattle.edit_topology.specs.Facts.Joining.{join_row}
 use Rattle.edit_topology.specs.Facts.Merging.{merge_row}
 use Rattle.edit_topology.specs.Facts.Splitting.{split_row, split_off, row_at-after_split}
+use Rattle.edit_topology.specs.Facts.Ungluing.{unglue_row, row_at-after_unglue}
+use Rattle.edit_topology.specs.Unglue.{row_standing}
 use Rattle.edit_actions.specs.declared.action.Action.{Action}
-use Rattle.edit_actions.specs.declared.action.Action.TheVariants.{Create, Retag, Move, Reverse, Nodes, Members, Delete, Purge, Split, Join, Merge}
+use Rattle.edit_actions.specs.declared.action.Action.TheVariants.{Create, Retag, Move, Reverse, Nodes, Members, Delete, Purge, Split, Join, Merge, Unglue}
 use Rattle.edit_actions.specs.After.{after}
 
 module _ {A : Type 0} where
@@ -35,6 +37,7 @@ module _ {A : Type 0} where
   becomes m (Split w i v) y o = cond (is_same y v) (Some (split_off m w i)) (option_map (split_row w i v y) o)
   becomes m (Join w v) y o = option_map (join_row m w v y) (cond (is_same y v) None o)
   becomes m (Merge k g) y o = option_map (merge_row m k g y) (cond (is_same y g) None o)
+  becomes m (Unglue w i v) y o = cond (is_same y v) (row_standing m w i) (option_map (unglue_row w i v y) o)
 
   pub row_at-after : (m : Rows A) (a : Action A) (y : Name) → row_at (after m a) y ≡ becomes m a y (row_at m y)
   row_at-after m (Create x v) y = row_at-put_row m x v y
@@ -48,3 +51,4 @@ module _ {A : Type 0} where
   row_at-after m (Split w i v) y = row_at-after_split m w i v y
   row_at-after m (Join w v) y = row_at-each_but m v (join_row m w v) y
   row_at-after m (Merge k g) y = row_at-each_but m g (merge_row m k g) y
+  row_at-after m (Unglue w i v) y = row_at-after_unglue m w i v y

@@ -1,19 +1,21 @@
--- What is used of a footprint, whatever the action: its subjects are inside, a row outside is kept, and a name outside is named by the same rows.
+-- What is used of a footprint, whatever the action: it rises, its subjects are inside and the node that it unglues a way from, a row outside is kept, and a name outside is named by the same rows.
 use Rattle.std.proofs.Common.{◌≡◌, ◌&&◌, ◌||◌, Bool, true, false, not, List, [], ◌∷◌, ◌++◌, map, refl, sym, ap, ◌∙◌}
 use Rattle.std.proofs.lemmas.Bool.{or_parts, true_from_ne_false}
 use Rattle.std.specs.List.{flat_map}
+use Rattle.std.specs.Option.{option_to_list}
 use Rattle.osm_elements.specs.declared.name.Name.{Name}
 use Rattle.osm_elements.specs.Maps.{Rows, is_same, is_among}
 use Rattle.osm_elements.specs.Rows.{row_at}
 use Rattle.osm_elements.specs.Facts.Among.{is_among-name_set, is_among-append}
 use Rattle.osm_elements.specs.Facts.Rows.{same_names}
 use Rattle.osm_refs.specs.References.{row_references}
-use Rattle.osm_refs.specs.Facts.RisingNames.{is_among-passing}
+use Rattle.osm_refs.specs.Facts.RisingNames.{is_among-passing, IsRising-name_set}
+use Rattle.osm_refs.specs.Inner.Rising.{IsRising}
 use Rattle.osm_changes.specs.declared.change.Change.{Change}
 use Rattle.osm_changes.specs.Changes.{differing, changed_names}
 use Rattle.edit_actions.specs.declared.action.Action.{Action}
 use Rattle.edit_actions.specs.After.{after, changes}
-use Rattle.edit_footprint.specs.Footprints.{names_but, subjects, begun_or_ceased, footprint}
+use Rattle.edit_footprint.specs.Footprints.{names_but, subjects, begun_or_ceased, unglued_from, footprint_of, footprint}
 use Rattle.edit_footprint.specs.Facts.Differences.{change_at, names-differences, not_differing}
 
 -- tests of which neither passes without the other
@@ -46,32 +48,49 @@ module _ {A : Type 0} where
       by true s j rest = ap (λ q. is_among (begun_or_ceased (change_at m n q)) e) (same_names y z s) ∙ parts.0
       by false s j rest = rest j
 
+  -- a footprint rises
+  pub IsRising-footprint_of : (a : Action A) (cs : List (Change A)) → IsRising (footprint_of a cs)
+  IsRising-footprint_of a cs = IsRising-name_set (subjects a ++ changed_names cs ++ flat_map begun_or_ceased cs ++ option_to_list (unglued_from a cs))
+
   module _ (m : Rows A) (a : Action A) where
-    -- a name is in the footprint where it is in one of its three parts
-    parts : (e : Name) → is_among (footprint m a) e ≡ ((is_among (subjects a) e || is_among (differing m (after m a)) e) || is_among (flat_map begun_or_ceased (changes m a)) e)
+    -- the node that a way is unglued from, if the action does that
+    abbrev pub from : List Name
+    from = option_to_list (unglued_from a (changes m a))
+
+    -- a name is in the footprint where it is in one of its four parts
+    parts : (e : Name) → is_among (footprint m a) e
+        ≡ (((is_among (subjects a) e || is_among (differing m (after m a)) e) || is_among (flat_map begun_or_ceased (changes m a)) e) || is_among from e)
     parts e =
-        is_among-name_set e (subjects a ++ changed_names (changes m a) ++ flat_map begun_or_ceased (changes m a))
-        ∙ is_among-append e (subjects a ++ changed_names (changes m a)) (flat_map begun_or_ceased (changes m a))
+        is_among-name_set e (subjects a ++ changed_names (changes m a) ++ flat_map begun_or_ceased (changes m a) ++ from)
+        ∙ is_among-append e (subjects a ++ changed_names (changes m a) ++ flat_map begun_or_ceased (changes m a)) from
+        ∙ ap (λ b. b || is_among from e)
+        (is_among-append e (subjects a ++ changed_names (changes m a)) (flat_map begun_or_ceased (changes m a))
         ∙ ap (λ b. b || is_among (flat_map begun_or_ceased (changes m a)) e)
-        (is_among-append e (subjects a) (changed_names (changes m a)) ∙ ap (λ l. is_among (subjects a) e || is_among l e) (names-differences m (after m a)))
+        (is_among-append e (subjects a) (changed_names (changes m a)) ∙ ap (λ l. is_among (subjects a) e || is_among l e) (names-differences m (after m a))))
 
     -- and outside where it is in none
     outside : (e : Name) → is_among (footprint m a) e ≡ false
-        → ((is_among (subjects a) e ≡ false) × (is_among (differing m (after m a)) e ≡ false)) × (is_among (flat_map begun_or_ceased (changes m a)) e ≡ false)
-    outside e out = let two = or_parts _ _ (sym (parts e) ∙ out) in (or_parts _ _ two.0, two.1)
+        → (((is_among (subjects a) e ≡ false) × (is_among (differing m (after m a)) e ≡ false)) × (is_among (flat_map begun_or_ceased (changes m a)) e ≡ false)) × (is_among from e ≡ false)
+    outside e out =
+        let fourth = or_parts _ _ (sym (parts e) ∙ out) in
+        let third = or_parts _ _ fourth.0 in
+        ((or_parts _ _ third.0, third.1), fourth.1)
 
     pub no_subject : (e : Name) → is_among (footprint m a) e ≡ false → is_among (subjects a) e ≡ false
-    no_subject e out = (outside e out).0.0
+    no_subject e out = (outside e out).0.0.0
 
     pub subjects_inside : (e : Name) → is_among (subjects a) e ≡ true → is_among (footprint m a) e ≡ true
     subjects_inside e own = true_from_ne_false (is_among (footprint m a) e) (λ out. cc (sym own ∙ no_subject e out))
 
+    pub from_inside : (e : Name) → is_among from e ≡ true → is_among (footprint m a) e ≡ true
+    from_inside e own = true_from_ne_false (is_among (footprint m a) e) (λ out. cc (sym own ∙ (outside e out).1))
+
     pub rows_outside : (y : Name) → is_among (footprint m a) y ≡ false → row_at (after m a) y ≡ row_at m y
-    rows_outside y out = sym (not_differing m (after m a) y (outside y out).0.1)
+    rows_outside y out = sym (not_differing m (after m a) y (outside y out).0.0.1)
 
     pub namers_outside : (e : Name) → is_among (footprint m a) e ≡ false → (y : Name) → is_among (row_references (row_at (after m a) y)) e ≡ is_among (row_references (row_at m y)) e
     namers_outside e out y = by (is_among (differing m (after m a)) y) refl
       where
         by : (b : Bool) → is_among (differing m (after m a)) y ≡ b → is_among (row_references (row_at (after m a) y)) e ≡ is_among (row_references (row_at m y)) e
-        by true i = not_begun_or_ceased (change_at m (after m a) y) e (none_at m (after m a) e (differing m (after m a)) (outside e out).1 y i)
+        by true i = not_begun_or_ceased (change_at m (after m a) y) e (none_at m (after m a) e (differing m (after m a)) (outside e out).0.1 y i)
         by false i = ap (λ o. is_among (row_references o) e) (sym (not_differing m (after m a) y i))

@@ -3,7 +3,7 @@ use Rattle.std.proofs.Common.{◌≡◌, true, None}
 use Rattle.osm_elements.specs.Maps.{Rows}
 use Rattle.osm_changes.specs.Sound.{is_sound}
 use Rattle.edit_actions.specs.declared.action.Action.{Action}
-use Rattle.edit_actions.specs.declared.action.Action.TheVariants.{Create, Retag, Move, Reverse, Nodes, Members, Delete, Purge, Split, Join, Merge}
+use Rattle.edit_actions.specs.declared.action.Action.TheVariants.{Create, Retag, Move, Reverse, Nodes, Members, Delete, Purge, Split, Join, Merge, Unglue}
 use Rattle.edit_actions.specs.Refusals.{refusal}
 use Rattle.edit_footprint.specs.Agreement.{Agree}
 use Rattle.edit_footprint.specs.Footprints.{footprint}
@@ -15,6 +15,7 @@ use Rattle.edit_footprint.specs.Facts.Moving.{move_local}
 use Rattle.edit_footprint.specs.Facts.OneRow.{create_local, retag_local, reverse_local, nodes_local, members_local, delete_local}
 use Rattle.edit_footprint.specs.Facts.Purging.{purge_local}
 use Rattle.edit_footprint.specs.Facts.Splitting.{split_local}
+use Rattle.edit_footprint.specs.Facts.Ungluing.{unglue_local}
 
 module _ {A : Type 0} where
   each_local : (a : Action A) → IsLocal a
@@ -29,6 +30,7 @@ module _ {A : Type 0} where
   each_local (Split w i v) = split_local w i v
   each_local (Join w v) = join_local w v
   each_local (Merge k g) = merge_local k g
+  each_local (Unglue w i v) = unglue_local w i v
 
   pub locality : (m n : Rows A) (a : Action A) → is_sound m ≡ true → is_sound n ≡ true → refusal m a ≡ None → Agree m n (footprint m a) → AcceptedAlike m n a
   locality m n a = each_local a m n

@@ -1,4 +1,4 @@
--- The rows that an accepted split, join or merge changes beside those of its subjects.
+-- The rows that an accepted split, join or merge changes beside those of its subjects, and the way that an unglue changes.
 use Rattle.std.proofs.Common.{◌≡◌, ◌≢◌, ◌+◌, ◌++◌, ℕ, Bool, true, false, ◌||◌, List, [], ◌∷◌, Option, Some, None, is_some, take, map, refl, sym, ap, ◌∙◌, cond}
 use Rattle.std.specs.Option.{option_map}
 use Rattle.osm_elements.specs.declared.name.Name.{Name}
@@ -18,11 +18,13 @@ use Rattle.edit_simple.specs.Facts.Rewriting.{fine}
 use Rattle.edit_topology.specs.Join.{join_checks, after_join}
 use Rattle.edit_topology.specs.Merge.{merge_checks, after_merge}
 use Rattle.edit_topology.specs.Split.{split_members, split_checks, after_split}
+use Rattle.edit_topology.specs.Unglue.{unglue_checks, after_unglue}
 use Rattle.edit_topology.specs.Facts.EachBut.{each_but_gone}
 use Rattle.edit_topology.specs.Facts.Fitting.{way_fits}
 use Rattle.edit_topology.specs.Facts.Joining.{join_row, join_accepted}
 use Rattle.edit_topology.specs.Facts.Merging.{merge_row, merge_accepted}
 use Rattle.edit_topology.specs.Facts.Splitting.{Splits, splits, split_row, split_off, row_at-after_split}
+use Rattle.edit_topology.specs.Facts.Ungluing.{Unglues, unglues, not_new, way_after, new_among}
 
 -- where w is a member, v is one after the split
 split_names : (w v : Name) (members : List (Name × List ℕ)) → is_among (map (λ r. r.0) members) w ≡ true → is_among (map (λ r. r.0) (split_members w v members)) v ≡ true
@@ -86,3 +88,12 @@ module _ {A : Type 0} where
   pub merge_changes : (m : Rows A) (k g y : Name) → is_sound m ≡ true → first_that_holds (merge_checks m k g) ≡ None → is_among (row_references (row_at m y)) g ≡ true → row_at (after_merge m k g) y ≢ row_at m y
   merge_changes m k g y sound ok named e =
       apart_rows g (row_at m y) (row_at (after_merge m k g) y) named (nothing_names (after_merge m k g) g y (merge_accepted m k g sound ok).0 (each_but_gone m g (merge_row m k g))) (sym e)
+
+  pub unglue_changes : (m : Rows A) (w : Name) (i : ℕ) (v : Name) → is_sound m ≡ true → first_that_holds (unglue_checks m w i v) ≡ None → row_at (after_unglue m w i v) w ≢ row_at m w
+  unglue_changes m w i v sound ok = apart_rows v (row_at (after_unglue m w i v) w) (row_at m w) new (nothing_names m v w sound s.fresh)
+    where
+      s : Unglues m w i v
+      s = unglues m w i v sound ok
+
+      new : is_among (row_references (row_at (after_unglue m w i v) w)) v ≡ true
+      new = ap (λ o. is_among (row_references o) v) (way_after m w i v (not_new m w i v s) (Way s.nodes s.tags) s.row) ∙ new_among s.nodes i v s.inside

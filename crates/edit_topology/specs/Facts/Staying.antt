@@ -1,5 +1,5 @@
--- The rows that a split, a join or a merge leaves as they are.
-use Rattle.std.proofs.Common.{◌≡◌, ◌+◌, ◌++◌, ℕ, false, List, [], ◌∷◌, Option, Some, None, take, map, refl, ap, ◌∙◌, cond}
+-- The rows that a split, a join, a merge or an unglue leaves as they are.
+use Rattle.std.proofs.Common.{◌≡◌, ◌+◌, ◌++◌, ℕ, false, List, [], ◌∷◌, Option, Some, None, take, map, set, refl, ap, ◌∙◌, cond}
 use Rattle.std.specs.Option.{option_map}
 use Rattle.osm_elements.specs.declared.name.Name.{Name}
 use Rattle.osm_elements.specs.declared.element.Element.{Element}
@@ -19,6 +19,8 @@ use Rattle.edit_topology.specs.Facts.Lists.{or_first, or_second}
 use Rattle.edit_topology.specs.Facts.Merging.{united, merge_row}
 use Rattle.edit_topology.specs.Facts.Renaming.{renamed_members_same}
 use Rattle.edit_topology.specs.Facts.Splitting.{split_row, split_off, row_at-after_split}
+use Rattle.edit_topology.specs.Facts.Ungluing.{unglue_row, row_at-after_unglue}
+use Rattle.edit_topology.specs.Unglue.{row_standing, after_unglue}
 
 -- ---- lists that don't have the name
 
@@ -77,3 +79,11 @@ module _ {A : Type 0} where
       same (Node lat lon tags) h = refl
       same (Way nodes tags) h = ap (λ l. Way l tags) (merged_nodes_same k g nodes h)
       same (Relation members tags) h = ap (λ l. Relation l tags) (renamed_members_same g k members h)
+
+  pub unglue_leaves : (m : Rows A) (w : Name) (i : ℕ) (v y : Name) → is_same y w ≡ false → is_same y v ≡ false → row_at (after_unglue m w i v) y ≡ row_at m y
+  unglue_leaves m w i v y not_w not_v =
+      row_at-after_unglue m w i v y ∙ ap (λ b. cond b (row_standing m w i) (option_map (unglue_row w i v y) (row_at m y))) not_v ∙ same (row_at m y)
+    where
+      same : (o : Option (Element A)) → option_map (unglue_row w i v y) o ≡ o
+      same None = refl
+      same (Some u) = ap (λ b. Some (cond b (with_nodes (λ list. set list i v) u) u)) (same_either_way w y ∙ not_w)

@@ -33,7 +33,7 @@ fn coordinate(value: i64) -> Result<i32, Unread> {
     i32::try_from(value).map_err(|_| Unread::NoEdit)
 }
 
-/// The action that a text writes. A move is written `move 7,-8 n1 w1`, a split `split w1 1 w2`.
+/// The action that a text writes. A move is written `move 7,-8 n1 w1`, a split `split w1 1 w2`, an unglue `unglue w1 1 n2`.
 pub fn action(alloc: Global, text: &str) -> Result<Action<Global>, Unread> {
     let (word, rest) = text.split_once(' ').ok_or(Unread::NoEdit)?;
     if word == "move" {
@@ -81,14 +81,26 @@ fn named_action(
             name,
             other: crate::edits::parts::name(rest)?,
         }),
+        "unglue" => unglue(name, rest),
         _ => Err(Unread::NoEdit),
     }
 }
 
 // The split of a way at a position into another, which some words write.
 fn split(name: Name, words: &str) -> Result<Action<Global>, Unread> {
-    let (place, into) = words.split_once(' ').ok_or(Unread::NoEdit)?;
-    let place = place.parse::<u32>().map_err(|_| Unread::NoEdit)?;
-    let into = crate::edits::parts::name(into)?;
+    let (place, into) = place_and_name(words)?;
     Ok(Action::Split { name, place, into })
+}
+
+// The unglue of a way at a position into a new node, which some words write.
+fn unglue(name: Name, words: &str) -> Result<Action<Global>, Unread> {
+    let (place, into) = place_and_name(words)?;
+    Ok(Action::Unglue { name, place, into })
+}
+
+// A position and a name, which some words write.
+fn place_and_name(words: &str) -> Result<(u32, Name), Unread> {
+    let (place, name) = words.split_once(' ').ok_or(Unread::NoEdit)?;
+    let place = place.parse::<u32>().map_err(|_| Unread::NoEdit)?;
+    Ok((place, crate::edits::parts::name(name)?))
 }

@@ -31,3 +31,6 @@ returns-in-Join g c = plan_of c.args.store.now.rows c.args.action.now _ c.plan_j
 
 pub returns-in-Merge : goal.returns-in-Merge
 returns-in-Merge g c = plan_of c.args.store.now.rows c.args.action.now _ c.plan_merge.result c.in-Merge.is c.plan_merge.ensures
+
+pub returns-in-Unglue : goal.returns-in-Unglue
+returns-in-Unglue g c = plan_of c.args.store.now.rows c.args.action.now _ c.plan_unglue.result c.in-Unglue.is c.plan_unglue.ensures

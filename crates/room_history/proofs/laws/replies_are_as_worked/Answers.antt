@@ -1,4 +1,4 @@
-use Rattle.room_history.proofs.ExampleProofs.{first_run_lem, range_ends_lem, limit_one_lem, limit_zero_lem, strangers_lem, in_use_lem, taken_back_way_lem, refusals_in_turn_lem, relations_in_turn_lem, redo_at_once_lem, redo_refused_lem, redo_order_lem, redo_again_lem}
+use Rattle.room_history.proofs.ExampleProofs.{first_run_lem, range_ends_lem, limit_one_lem, limit_zero_lem, strangers_lem, in_use_lem, taken_back_way_lem, refusals_in_turn_lem, relations_in_turn_lem, redo_at_once_lem, redo_refused_lem, redo_order_lem, redo_again_lem, unglued_node_lem}
 use Rattle.room_history.proofs.laws.replies_are_as_worked.Goals as goal
 
 pub returns-clause-first_run : goal.returns-clause-first_run
@@ -39,3 +39,6 @@ returns-clause-redo_order c = redo_order_lem
 
 pub returns-clause-redo_again : goal.returns-clause-redo_again
 returns-clause-redo_again c = redo_again_lem
+
+pub returns-clause-unglued_node : goal.returns-clause-unglued_node
+returns-clause-unglued_node c = unglued_node_lem

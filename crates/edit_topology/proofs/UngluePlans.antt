@@ -1,0 +1,150 @@
+-- Plans of unglues: which rows change, and what they become.
+use Rattle.std.proofs.Common.{◌≡◌, ◌≢◌, ◌++◌, ℕ, Bool, true, false, not, ◌||◌, ◌&&◌, ◌<◌, T, All, List, [], ◌∷◌, Option, Some, None, Ok, is_some, zero, suc, length, map, nat_lt, refl, sym, ap, subst, ◌∙◌, arith}
+use Rattle.std.proofs.lemmas.Bool.Decides.{nat_tests}
+use Rattle.std.proofs.lemmas.Option.{slice_get_within}
+use Rattle.std.specs.Bool.{then_some}
+use Rattle.std.specs.List.{slice_get}
+use Rattle.std.specs.Option.{option_and_then}
+use Rattle.std.specs.Ordering.{is_lt, nat_cmp, int_cmp, ordering_then}
+use Rattle.osm_elements.specs.declared.name.Name.{Name}
+use Rattle.osm_elements.specs.declared.name.Kind.TheVariants as kinds
+use Rattle.osm_elements.specs.declared.element.Element.{Element}
+use Rattle.osm_elements.specs.declared.element.Element.TheVariants.{Node, Way, Relation}
+use Rattle.osm_elements.specs.Made.{is_node}
+use Rattle.osm_elements.specs.Maps.{Rows, is_same, is_among}
+use Rattle.osm_elements.specs.NameOrder.{name_cmp}
+use Rattle.osm_elements.specs.Names.{kind_rank}
+use Rattle.osm_elements.specs.Rows.{row_at}
+use Rattle.osm_elements.specs.Facts.Rows.{same_names}
+use Rattle.osm_refs.specs.Inner.Rising.{IsRising}
+use Rattle.osm_changes.specs.declared.change.Change.{Change}
+use Rattle.osm_changes.specs.Changes.{differences, AreChanges}
+use Rattle.osm_changes.specs.SameRows.{is_same_row}
+use Rattle.osm_changes.specs.Sound.{is_sound}
+use Rattle.osm_changes.specs.Facts.Differing.{same_row}
+use Rattle.edit_simple.specs.declared.refusal.Refusal.TheVariants.{BadPosition}
+use Rattle.edit_simple.specs.Checks.{first_that_holds}
+use Rattle.edit_simple.specs.Parts.{nodes_of}
+use Rattle.edit_simple.specs.Plans.{IsPlan}
+use Rattle.edit_simple.specs.Facts.Differences.{differing_are, apart_rows}
+use Rattle.edit_simple.specs.Facts.Kinds.{told_node, told_way}
+use Rattle.edit_topology.specs.Inner.Ungluing.{name_checks, node_of_way, unglued}
+use Rattle.edit_topology.specs.Unglue.{unglue_checks, after_unglue}
+use Rattle.edit_topology.specs.Facts.Changing.{unglue_changes}
+use Rattle.edit_topology.specs.Facts.Staying.{unglue_leaves}
+use Rattle.edit_topology.specs.Facts.Ungluing.{Unglues, unglues, standing, not_new, new_row, way_after}
+
+-- a node's name comes before a way's
+node_first : (v w : Name) → v.kind ≡ kinds.Node → w.kind ≡ kinds.Way → is_lt (name_cmp v w) ≡ true
+unfolding name_cmp
+node_first v w p q = λ i. is_lt (ordering_then (nat_cmp (kind_rank (p i)) (kind_rank (q i))) (int_cmp v.id w.id))
+
+-- ---- checks in a row
+
+-- where none of the first holds, those that follow decide
+rest_decides : {X : Type 0} (first rest : List (Option X)) → first_that_holds first ≡ None → first_that_holds (first ++ rest) ≡ first_that_holds rest
+rest_decides [] rest e = refl
+rest_decides (None ∷ first) rest e = rest_decides first rest e
+rest_decides (Some x ∷ first) rest e = absurd (cc)
+
+less_test : (i n : ℕ) → i < n → nat_lt i n ≡ true
+less_test i n l = grind (arith, nat_tests)
+
+module _ {A : Type 0} where
+  -- the change of the way goes behind that of the new node
+  pub second_fits : (v w : Name) (node unglued way copy : Element A) → is_lt (name_cmp v w) ≡ true → unglued ≢ way → (front : List (Change A)) → front ≡ record { name = v; before = None; after = Some node } ∷ []
+      → copy ≡ way → AreChanges (front ++ record { name = w; before = Some copy; after = Some unglued } ∷ [])
+  second_fits v w node unglued way copy lt other front is same =
+      subst (λ cs. AreChanges (cs ++ record { name = w; before = Some copy; after = Some unglued } ∷ [])) (sym is) (record { rising = subst (λ b. T ((b && true) && true)) (sym lt) tt; differ = each })
+    where
+      inside : Some unglued ≡ Some copy → unglued ≡ copy
+      inside e = cc
+
+      each : All (λ (c : Change A). c.after ≢ c.before) (record { name = v; before = None; after = Some node } ∷ record { name = w; before = Some copy; after = Some unglued } ∷ [])
+      each zero d l = λ e. cc
+      each (suc zero) d l = λ e. other (inside e ∙ same)
+      each (suc (suc i)) d l = absurd (omega (arith, l))
+
+  no_row : (o : Option (Element A)) → is_some o ≡ false → o ≡ None
+  no_row None e = refl
+  no_row (Some u) e = absurd (cc)
+
+  module _ (m : Rows A) (w : Name) (i : ℕ) (v : Name) (way : Element A) (sound : is_sound m ≡ true) (named : first_that_holds (name_checks m w v) ≡ None) (row : row_at m w ≡ Some way) where
+    abbrev n : Rows A
+    n = after_unglue m w i v
+
+    -- ---- the last check
+
+    position : first_that_holds (unglue_checks m w i v) ≡ first_that_holds (then_some (not (nat_lt i (length (nodes_of (Some way))))) BadPosition ∷ [])
+    position =
+        rest_decides (name_checks m w v) (then_some (not (nat_lt i (length (nodes_of (row_at m w))))) BadPosition ∷ []) named
+        ∙ ap (λ o. first_that_holds (then_some (not (nat_lt i (length (nodes_of o)))) BadPosition ∷ [])) row
+
+    -- where no node is found, the position lies beyond
+    beyond : (u : Element A) → row_at m w ≡ Some u → None ≡ node_of_way m u i → nat_lt i (length (nodes_of (Some u))) ≡ false
+    beyond (Node lat lon tags) is none = grind (arith, nat_tests)
+    beyond (Way nodes tags) is none = by (nat_lt i (length nodes)) refl
+      where
+        by : (b : Bool) → nat_lt i (length nodes) ≡ b → b ≡ false
+        by true e = let s = standing m w nodes tags i sound is e in absurd (cc (none ∙ ap (option_and_then (row_at m)) s.at ∙ s.row))
+        by false e = refl
+    beyond (Relation members tags) is none = grind (arith, nat_tests)
+
+    pub no_position : None ≡ node_of_way m way i → Some BadPosition ≡ first_that_holds (unglue_checks m w i v)
+    no_position none = sym (position ∙ ap (λ b. first_that_holds (then_some (not b) BadPosition ∷ [])) (beyond way row none))
+
+    -- and where one is, it does not
+    pub within : (node : Element A) → Some node ≡ node_of_way m way i → i < length (nodes_of (Some way))
+    within node found = by (slice_get (nodes_of (Some way)) i) refl found
+      where
+        by : (o : Option Name) → slice_get (nodes_of (Some way)) i ≡ o → Some node ≡ option_and_then (row_at m) o → i < length (nodes_of (Some way))
+        by None e f = absurd (cc)
+        by (Some x) e f = slice_get_within (nodes_of (Some way)) i x e
+
+    -- ---- an accepted unglue
+
+    module _ (node : Element A) (found : Some node ≡ node_of_way m way i) where
+      accepted : first_that_holds (unglue_checks m w i v) ≡ None
+      accepted = position ∙ ap (λ b. first_that_holds (then_some (not b) BadPosition ∷ [])) (less_test i (length (nodes_of (Some way))) (within node found))
+
+      s : Unglues m w i v
+      s = unglues m w i v sound accepted
+
+      pub new_is_node : is_node v.kind ≡ true
+      new_is_node = s.node_v
+
+      pub in_order : is_lt (name_cmp v w) ≡ true
+      in_order = node_first v w (told_node v.kind s.node_v) (told_way w.kind s.way_w)
+
+      fresh : row_at m v ≡ None
+      fresh = no_row (row_at m v) s.fresh
+
+      new_node : row_at n v ≡ Some node
+      new_node = new_row m w i v ∙ ap (λ o. option_and_then (row_at m) (slice_get (nodes_of o) i)) row ∙ sym found
+
+      way_becomes : row_at n w ≡ Some (unglued i v way)
+      way_becomes = way_after m w i v (not_new m w i v s) way row
+
+      pub another_way : unglued i v way ≢ way
+      another_way e = unglue_changes m w i v sound accepted (way_becomes ∙ ap Some e ∙ sym row)
+
+      -- v and w have other rows, and no other name has
+      these_differ : (y : Name) → is_among (v ∷ w ∷ []) y ≡ not (is_same_row (row_at m y) (row_at n y))
+      these_differ y = by (is_same y v) refl (is_same y w) refl
+        where
+          by : (b : Bool) → is_same y v ≡ b → (c : Bool) → is_same y w ≡ c → (b || (c || false)) ≡ not (is_same_row (row_at m y) (row_at n y))
+          by true e c f = sym (ap (λ z. not (is_same_row (row_at m z) (row_at n z))) (same_names y v e) ∙ ap not (apart_rows (row_at m v) (row_at n v) (λ j. cc (sym new_node ∙ j ∙ fresh))))
+          by false e true f = sym (ap (λ z. not (is_same_row (row_at m z) (row_at n z))) (same_names y w f) ∙ ap not (apart_rows (row_at m w) (row_at n w) (unglue_changes m w i v sound accepted)))
+          by false e false f = sym (ap (λ o. not (is_same_row (row_at m y) o)) (unglue_leaves m w i v y f e) ∙ ap not (same_row (row_at m y)))
+
+      changes_are : record { name = v; before = None; after = Some node } ∷ record { name = w; before = Some way; after = Some (unglued i v way) } ∷ [] ≡ differences m n
+      changes_are =
+          (λ j. record { name = v; before = sym fresh j; after = sym new_node j } ∷ record { name = w; before = sym row j; after = sym way_becomes j } ∷ [])
+          ∙ ap (map (λ y. record { name = y; before = row_at m y; after = row_at n y })) (differing_are m n (v ∷ w ∷ []) rising these_differ)
+        where
+          rising : IsRising (v ∷ w ∷ [])
+          rising = subst (λ b. T ((b && true) && true)) (sym in_order) tt
+
+      pub unglue_planned : (after : Element A) → after ≡ unglued i v way → (cs : List (Change A))
+          → cs ≡ record { name = v; before = None; after = Some node } ∷ record { name = w; before = Some way; after = Some after } ∷ [] → IsPlan m (unglue_checks m w i v) n (Ok cs)
+      unglue_planned after is cs e = (accepted, e ∙ ap (λ u. record { name = v; before = None; after = Some node } ∷ record { name = w; before = Some way; after = Some u } ∷ []) is ∙ changes_are)

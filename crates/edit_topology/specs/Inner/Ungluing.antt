@@ -1,0 +1,32 @@
+-- An unglue, part by part.
+use Rattle.std.specs.Prelude.{ℕ, not, List, [], ◌∷◌, Option, Some, set}
+use Rattle.std.specs.Bool.{then_some}
+use Rattle.std.specs.List.{slice_get}
+use Rattle.std.specs.Option.{option_and_then}
+use Rattle.osm_elements.specs.declared.name.Name.{Name}
+use Rattle.osm_elements.specs.declared.element.Element.{Element}
+use Rattle.osm_elements.specs.Made.{is_node}
+use Rattle.osm_elements.specs.Maps.{Rows, is_present, is_absent}
+use Rattle.osm_elements.specs.Rows.{row_at}
+use Rattle.edit_simple.specs.declared.refusal.Refusal.{Refusal}
+use Rattle.edit_simple.specs.declared.refusal.Refusal.TheVariants.{Absent, Present, WrongKind}
+use Rattle.edit_simple.specs.Kinds.{is_way}
+use Rattle.edit_simple.specs.Parts.{nodes_of, with_nodes}
+
+module _ {A : Type 0} where
+  -- what is asked of the names, before the position
+  abbrev pub name_checks : Rows A → Name → Name → List (Option (Refusal A))
+  name_checks m w v =
+      then_some (not (is_way w.kind)) (WrongKind w)
+      ∷ then_some (not (is_node v.kind)) (WrongKind v)
+      ∷ then_some (is_absent m w) (Absent w)
+      ∷ then_some (is_present m v) (Present v)
+      ∷ []
+
+  -- the row of the node at a position of a way
+  abbrev pub node_of_way : Rows A → Element A → ℕ → Option (Element A)
+  node_of_way m way i = option_and_then (row_at m) (slice_get (nodes_of (Some way)) i)
+
+  -- the way with v at the position
+  abbrev pub unglued : ℕ → Name → Element A → Element A
+  unglued i v way = with_nodes (λ list. set list i v) way

@@ -1,0 +1,34 @@
+-- To unglue a way from a node: in its place the way gets a node of its own. (Editors' practice: the new node lies where the old one does, and has its tags. Which positions and names are refused, and in which order, is this project's.)
+use Rattle.std.specs.Prelude.{ℕ, not, List, [], ◌∷◌, Option, length, nat_lt, set}
+use Rattle.std.specs.Bool.{then_some}
+use Rattle.std.specs.List.{slice_get}
+use Rattle.std.specs.Option.{option_and_then}
+use Rattle.osm_elements.specs.declared.name.Name.{Name}
+use Rattle.osm_elements.specs.declared.element.Element.{Element}
+use Rattle.osm_elements.specs.Made.{is_node}
+use Rattle.osm_elements.specs.Maps.{Rows, is_present, is_absent}
+use Rattle.osm_elements.specs.Rows.{row_at}
+use Rattle.osm_changes.specs.Changes.{with_row}
+use Rattle.edit_simple.specs.declared.refusal.Refusal.{Refusal}
+use Rattle.edit_simple.specs.declared.refusal.Refusal.TheVariants.{Absent, Present, WrongKind, BadPosition}
+use Rattle.edit_simple.specs.Kinds.{is_way}
+use Rattle.edit_simple.specs.Parts.{nodes_of, with_nodes, each_row, at_name}
+
+module _ {A : Type 0} where
+  -- the row of the node that stands at a position of w's list, counted from 0
+  abbrev pub row_standing : Rows A → Name → ℕ → Option (Element A)
+  row_standing m w i = option_and_then (row_at m) (slice_get (nodes_of (row_at m w)) i)
+
+  -- w is a way's name and v a node's, w is there and v is new, and the position is one of w's list
+  abbrev pub unglue_checks : Rows A → Name → ℕ → Name → List (Option (Refusal A))
+  unglue_checks m w i v =
+      then_some (not (is_way w.kind)) (WrongKind w)
+      ∷ then_some (not (is_node v.kind)) (WrongKind v)
+      ∷ then_some (is_absent m w) (Absent w)
+      ∷ then_some (is_present m v) (Present v)
+      ∷ then_some (not (nat_lt i (length (nodes_of (row_at m w))))) BadPosition
+      ∷ []
+
+  -- v stands at the position of w's list, and has the row of the node that stood there; the rest of the list stays
+  abbrev pub after_unglue : Rows A → Name → ℕ → Name → Rows A
+  after_unglue m w i v = with_row (each_row (at_name w (with_nodes (λ list. set list i v))) m) v (row_standing m w i)
