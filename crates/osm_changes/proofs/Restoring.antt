@@ -1,40 +1,21 @@
 -- Changes taken back restore the map that they are from.
-use Rattle.std.proofs.Common.{◌≡◌, ◌≢◌, ◌||◌, ◌<◌, ℕ, zero, suc, Bool, true, false, not, T, List, [], ◌∷◌, ◌++◌, length, get_or, map, refl, sym, ap, subst, ◌∙◌, arith, cond}
-use Rattle.std.specs.List.{filter}
-use Rattle.std.specs.FinMap.Entries.{is_sorted}
+use Rattle.std.proofs.Common.{◌≡◌, ◌≢◌, ◌||◌, suc, Bool, true, false, not, T, List, [], ◌∷◌, ◌++◌, refl, sym, ap, subst, ◌∙◌, arith}
 use Rattle.std.proofs.lemmas.List.{map-append}
 use Rattle.std.proofs.lemmas.List.Elements.{All-map}
 use Rattle.osm_elements.specs.declared.name.Name.{Name}
 use Rattle.osm_elements.specs.Rows.{AreInOrder, row_at}
 use Rattle.osm_elements.specs.Facts.Rows.{same_names, same_rows}
+use Rattle.osm_elements.specs.Facts.Tests.{first_true}
 use Rattle.osm_elements.specs.Maps.{Rows, is_same, is_among, name_set, names_of}
-use Rattle.osm_elements.specs.NameOrder.{name_cmp}
-use Rattle.osm_refs.specs.Facts.RisingNames.{IsRising-filter, IsRising-name_set}
-use Rattle.osm_refs.specs.Inner.Rising.{bare_rows}
+use Rattle.osm_refs.specs.Facts.RisingNames.{IsRising-filter, IsRising-name_set, is_among-passing}
 use Rattle.osm_changes.specs.declared.change.Change.{Change}
 use Rattle.osm_changes.specs.SameRows.{is_same_row}
 use Rattle.osm_changes.specs.Changes.{changed, changed_names, taken_back, inverse, are_rising, AreChanges, AreFrom, differing, differences}
 use Rattle.osm_changes.specs.Facts.Changing.{AreInOrder-changed}
 use Rattle.osm_changes.specs.Facts.Differing.{same_row}
+use Rattle.osm_changes.specs.Facts.RowChanges.{AreChanges-rows_changes, AreFrom-rows_changes}
 use Rattle.osm_changes.proofs.Found.{kept, reached, reached_at}
 use Rattle.osm_changes.proofs.Turning.{AreChanges-inverse}
-
-bare_is : (names : List Name) → map (λ x. (x, tt {0})) names ≡ bare_rows names
-bare_is [] = refl
-bare_is (x ∷ xs) = ap (λ rest. (x, tt) ∷ rest) (bare_is xs)
-
-rising_filter : (p : Name → Bool) (names : List Name) → T (are_rising (filter p (name_set names)))
-rising_filter p names = subst (λ rows. T (is_sorted name_cmp rows)) (sym (bare_is (filter p (name_set names)))) (IsRising-filter p (name_set names) (IsRising-name_set names))
-
--- what a filter leaves passes it
-passed : (p : Name → Bool) (names : List Name) (k : ℕ) (d : Name) → k < length (filter p names) → p (get_or (filter p names) k d) ≡ true
-passed p [] k d l = absurd (omega (arith, l))
-passed p (x ∷ xs) k d l = by (p x) refl k l (passed p xs)
-  where
-    by : (b : Bool) → p x ≡ b → (k : ℕ) → k < length (cond b (x ∷ filter p xs) (filter p xs)) → ((k : ℕ) (d : Name) → k < length (filter p xs) → p (get_or (filter p xs) k d) ≡ true) → p (get_or (cond b (x ∷ filter p xs) (filter p xs)) k d) ≡ true
-    by true e zero l go = e
-    by true e (suc k) l go = go k d (omega (arith, l))
-    by false e k l go = go k d l
 
 module _ {A : Type 0} where
   -- a change of a name, with the changes before and behind it
@@ -85,22 +66,19 @@ module _ {A : Type 0} where
           ∙ ap (row_at m) s.is
       by y false e = kept (inverse cs) n y (ap (λ names. is_among names y) (names_back cs) ∙ e) ∙ kept cs m y e
 
-  -- the changes between two maps
-  abbrev between_at : Rows A → Rows A → Name → Change A
-  between_at m n x = record { name = x; before = row_at m x; after = row_at n x }
-
   pub differences_from : (m n : Rows A) → AreFrom m (differences m n)
-  differences_from m n = All-map (λ (c : Change A). c.before ≡ row_at m c.name) (between_at m n) (differing m n) (λ k d l. refl)
-
-  names_between : (m n : Rows A) (names : List Name) → changed_names (map (between_at m n) names) ≡ names
-  names_between m n [] = refl
-  names_between m n (x ∷ xs) = ap (λ rest. x ∷ rest) (names_between m n xs)
+  differences_from m n = AreFrom-rows_changes m (row_at n) (differing m n)
 
   differ_at : (m n : Rows A) (x : Name) → not (is_same_row (row_at m x) (row_at n x)) ≡ true → row_at n x ≢ row_at m x
   differ_at m n x h e = absurd (cc (sym h ∙ ap (λ o. not (is_same_row (row_at m x) o)) e ∙ ap not (same_row (row_at m x))))
 
   pub differences_changes : (m n : Rows A) → AreChanges (differences m n)
-  differences_changes m n = record {
-    rising = subst (λ names. T (are_rising names)) (sym (names_between m n (differing m n))) (rising_filter (λ x. not (is_same_row (row_at m x) (row_at n x))) (names_of m ++ names_of n));
-    differ = All-map (λ (c : Change A). c.after ≢ c.before) (between_at m n) (differing m n) (λ k d l. differ_at m n (get_or (differing m n) k d) (passed (λ x. not (is_same_row (row_at m x) (row_at n x))) (name_set (names_of m ++ names_of n)) k d l));
-  }
+  differences_changes m n =
+      AreChanges-rows_changes m (row_at n) (differing m n) (IsRising-filter p names (IsRising-name_set (names_of m ++ names_of n)))
+      (λ x i. differ_at m n x (first_true (p x) (is_among names x) (sym (is_among-passing p names x) ∙ i)))
+    where
+      p : Name → Bool
+      p x = not (is_same_row (row_at m x) (row_at n x))
+
+      names : List Name
+      names = name_set (names_of m ++ names_of n)

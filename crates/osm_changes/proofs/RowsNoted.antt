@@ -9,7 +9,7 @@ use Rattle.osm_elements.specs.Facts.MadeMaps.{put_all, AreInOrder-put_all, not_y
 use Rattle.osm_refs.specs.References.{references, row_references}
 use Rattle.osm_refs.specs.Tables.{UsersState, references_at, referring, table_of}
 use Rattle.osm_refs.specs.Facts.MapTables.{table_of-put_row, references_at-table_of}
-use Rattle.osm_changes.specs.Inner.Stores.{users_of}
+use Rattle.osm_changes.specs.Stores.{users_of}
 
 module _ {A : Type 0} where
   -- a name that comes after others in order refers to nothing yet

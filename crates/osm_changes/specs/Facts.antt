@@ -1,5 +1,6 @@
 -- What is proved of the definitions beside this folder, for the proofs here and in the crates above. No contract cites these.
 pub mod Changing
 pub mod Differing
+pub mod RowChanges
 pub mod SameElements
 pub mod SoundRows

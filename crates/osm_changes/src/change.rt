@@ -19,7 +19,7 @@ pub struct Change<A: Allocator> {
 
 impl<A: Allocator> Change<A> {
     // Takes the change back: exchanges the elements before and after.
-    pub(crate) fn turn(&mut self)
+    pub(crate) fn take_back(&mut self)
         ensures { self.new ≡ taken_back self.old }
     {
         swap(&mut self.before, &mut self.after);

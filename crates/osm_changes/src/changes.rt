@@ -1,9 +1,11 @@
 //! Lists of changes.
-ghost use Rattle.std.specs.Prelude.{◌≡◌, ◌↔◌, [], ◌∷◌, ◌++◌, OnOk, OnErr, IfOk, length, IsTrue};
-ghost use Rattle.osm_changes.specs.Changes.{inverse, AreChanges};
+ghost use Rattle.std.specs.Prelude.{◌≡◌, ◌↔◌, [], ◌++◌, OnOk, OnErr, IfOk, length, IsTrue};
+ghost use Rattle.osm_changes.specs.Changes.{row_changes, inverse, AreChanges};
 
 use crate::change::Change;
 use osm_elements::Memory;
+use osm_elements::element::Element;
+use osm_elements::name::Name;
 use std::alloc::{AllocError, Allocator};
 use std::marker::Model;
 
@@ -61,14 +63,23 @@ impl<A: Allocator> Changes<A> {
         &self.rows
     }
 
-    /// Puts a change at the end, of a name that comes after all others, which it changes. It refuses with `Memory`,
-    /// and leaves the changes as they were.
-    pub fn push(&mut self, change: Change<A>) -> Result<(), Memory>
-        requires { AreChanges (self.old ++ change ∷ []) }
-        ensures ok { OnOk result (self.new ≡ self.old ++ change ∷ []) }
+    /// Puts the changes of a name at the end, from its element before, or none, to another after, or none. The name
+    /// comes after all others. It refuses with `Memory`, and leaves the changes as they were.
+    pub fn push_row(
+        &mut self,
+        name: Name,
+        before: Option<Element<A>>,
+        after: Option<Element<A>>,
+    ) -> Result<(), Memory>
+        requires { AreChanges (self.old ++ row_changes name before after) }
+        ensures ok { OnOk result (self.new ≡ self.old ++ row_changes name before after) }
         ensures err { OnErr result (self.new ≡ self.old) }
     {
-        self.rows.push(change)?;
+        self.rows.push(Change {
+            name,
+            before,
+            after,
+        })?;
         Ok(())
     }
 
@@ -78,7 +89,7 @@ impl<A: Allocator> Changes<A> {
     {
         let Changes { mut rows } = self;
         for change in rows.iter_mut() {
-            change.turn();
+            change.take_back();
         }
         Changes { rows }
     }

@@ -6,4 +6,5 @@ pub mod change;
 pub mod changes;
 pub mod laws;
 mod noting;
+pub mod same;
 pub mod store;

@@ -5,7 +5,8 @@ ghost use Rattle.osm_elements.specs.Rows.{AreInOrder};
 ghost use Rattle.osm_refs.specs.References.{references};
 ghost use Rattle.osm_refs.specs.Tables.{table_of, noted, references_at, referring};
 ghost use Rattle.osm_changes.specs.Changes.{changed_names, are_rising, AreFrom};
-ghost use Rattle.osm_changes.specs.Inner.Stores.{users_of, notes_of};
+ghost use Rattle.osm_changes.specs.Inner.Stores.{notes_of};
+ghost use Rattle.osm_changes.specs.Stores.{users_of};
 
 use crate::change::Change;
 use osm_elements::Memory;

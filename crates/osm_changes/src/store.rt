@@ -5,9 +5,9 @@ ghost use Rattle.osm_elements.specs.Rows.{AreInOrder};
 ghost use Rattle.osm_refs.specs.Tables.{table_of};
 ghost use Rattle.osm_changes.specs.Changes.{changed, changed_names, are_rising, AreFrom};
 ghost use Rattle.osm_changes.specs.Sound.{is_sound};
-ghost use Rattle.osm_changes.specs.Stores.{applied_to};
+ghost use Rattle.osm_changes.specs.Stores.{applied_to, users_of};
 ghost use Rattle.osm_changes.specs.Inner.Applying.{replacement, with_new};
-ghost use Rattle.osm_changes.specs.Inner.Stores.{users_of, notes_of};
+ghost use Rattle.osm_changes.specs.Inner.Stores.{notes_of};
 
 use crate::apply::{put_new, replace, replacements};
 use crate::change::Change;

@@ -1,8 +1,8 @@
 pub mod Buffers
-pub mod Examples
+pub mod ExampleProofs
+pub mod KeyedPlaces
+pub mod KeyedSearch
 pub mod Letters
 pub mod MadeElements
 pub mod MapRows
 pub mod ShortRoles
-pub mod TagPlaces
-pub mod TagSearch

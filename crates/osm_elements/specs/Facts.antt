@@ -2,6 +2,7 @@
 pub mod Among
 pub mod Dropped
 pub mod Entries
+pub mod KeyedRows
 pub mod MadeMaps
 pub mod NameOrder
 pub mod NameTexts

@@ -1,5 +1,8 @@
 pub mod Elements
+pub mod Examples
 pub mod Facts
+pub mod KeyedRows
+pub mod KeyedValues
 pub mod Made
 pub mod Maps
 pub mod Members
@@ -10,5 +13,6 @@ pub mod Nodes
 pub mod Refused
 pub mod RowPairs
 pub mod Rows
+pub mod Scenes
 pub mod TagRows
 pub mod Texts

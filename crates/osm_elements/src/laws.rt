@@ -1,13 +1,15 @@
-//! Laws of names, tags and maps, each the contract of a function that does nothing.
+//! Laws of names, texts, tags and maps, each the contract of a function that does nothing.
 ghost use Rattle.std.specs.Prelude.{◌≡◌, ◌≢◌, ◌↔◌, List, ℕ, Some, None, FitsSigned};
 ghost use Rattle.std.specs.Int.{w64};
 ghost use Rattle.std.specs.Cmp.{IsTotalOrder};
 ghost use Rattle.std.specs.FinMap.{IsAntisymmetric};
 ghost use Rattle.osm_elements.specs.declared.element.Element.{Element};
 ghost use Rattle.osm_elements.specs.declared.name.Name.{Name};
+ghost use Rattle.osm_elements.specs.Examples.{names_read, names_ordered, texts_limited, tags_made, tags_counted, tags_changed, tags_refused, rows_changed, elements_made};
 ghost use Rattle.osm_elements.specs.NameOrder.{name_cmp};
 ghost use Rattle.osm_elements.specs.NameTexts.{name_of, name_text};
 ghost use Rattle.osm_elements.specs.Rows.{row_at, put_row, without_row, AreInOrder};
+ghost use Rattle.osm_elements.specs.Scenes.{Any};
 
 use std::alloc::Allocator;
 
@@ -46,4 +48,17 @@ pub fn a_map_is_what_its_names_have<A: Allocator>()
 pub fn putting_and_taking_out_undo_each_other<A: Allocator>()
     ensures put { (m : List (Name × Element A)) (x : Name) (v : Element A) → AreInOrder m → row_at m x ≡ None → without_row (put_row m x v) x ≡ m }
     ensures taken { (m : List (Name × Element A)) (x : Name) (v : Element A) → AreInOrder m → row_at m x ≡ Some v → put_row (without_row m x) x v ≡ m }
+{}
+
+/// What the definitions say of the worked examples is what was worked out by hand.
+pub fn examples_are_as_worked()
+    ensures names_read { names_read }
+    ensures names_ordered { names_ordered }
+    ensures texts_limited { texts_limited }
+    ensures tags_made { tags_made }
+    ensures tags_counted { tags_counted }
+    ensures tags_changed { tags_changed }
+    ensures tags_refused { tags_refused }
+    ensures rows_changed { (e f : Element Any) → rows_changed e f }
+    ensures elements_made { elements_made }
 {}

@@ -6,6 +6,8 @@
 
 pub mod element;
 pub mod fault;
+pub mod keyed;
+pub mod keyed_value;
 pub mod laws;
 pub mod map;
 pub mod member;

@@ -1,5 +1,6 @@
 //! Lists of names.
 ghost use Rattle.std.specs.Prelude.{◌≡◌, ◌↔◌, [], ◌∷◌, ◌++◌, OnOk, OnErr, IfOk, length, IsTrue};
+ghost use Rattle.osm_elements.specs.Maps.{is_same};
 
 use crate::Memory;
 use crate::name::Name;
@@ -95,4 +96,11 @@ impl<A: Allocator + Clone> Clone for Names<A> {
         let names = self.names.clone()?;
         Ok(Names { names })
     }
+}
+
+/// Whether two names are the same.
+pub fn is_same(one: &Name, other: &Name) -> bool
+    ensures { result ≡ is_same one.now other.now }
+{
+    one == other
 }

@@ -2,7 +2,7 @@
 ghost use Rattle.std.specs.Prelude.{◌≡◌, false, MatchResult, IfOk};
 ghost use Rattle.osm_elements.specs.Refused.{refuses};
 ghost use Rattle.osm_elements.specs.declared.fault.TextFault.{TextFault};
-ghost use Rattle.osm_elements.specs.Texts.{is_long, text_refusal};
+ghost use Rattle.osm_elements.specs.Texts.{is_long, text_refusal, is_same_text};
 
 use crate::Memory;
 use crate::fault::TextFault;
@@ -74,6 +74,13 @@ impl<A: Allocator + Clone> Clone for Text<A> {
         let inside = self.inside.clone()?;
         Ok(Text { inside })
     }
+}
+
+/// Whether two texts are the same.
+pub fn is_same_text<A: Allocator>(one: &Text<A>, other: &Text<A>) -> bool
+    ensures { result ≡ is_same_text one.now other.now }
+{
+    one.as_str() == other.as_str()
 }
 
 // Whether a text has more than 255 characters.

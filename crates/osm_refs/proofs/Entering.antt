@@ -1,64 +1,54 @@
 -- What the lists of users say after a note was entered, and how notes are kept.
-use Rattle.std.proofs.Common.{◌≡◌, ◌+◌, ◌&&◌, ◌||◌, Bool, true, false, not, cond, T, List, [], ◌∷◌, ◌++◌, map, Some, unwrap_or, refl, sym, ap, subst, ◌∙◌, arith}
+use Rattle.std.proofs.Common.{◌≡◌, ◌+◌, ◌&&◌, ◌||◌, Result, Ok, Err, OnErr, Bool, true, false, not, cond, T, List, [], ◌∷◌, ◌++◌, map, refl, sym, ap, subst, ◌∙◌, arith}
 use Rattle.std.proofs.lemmas.List.{map-append}
-use Rattle.std.specs.FinMap.Entries.{find, is_sorted, below_all}
+use Rattle.std.specs.FinMap.Entries.{is_sorted}
 use Rattle.osm_elements.specs.declared.name.Name.{Name}
 use Rattle.osm_elements.specs.NameOrder.{name_cmp}
-use Rattle.osm_elements.specs.Facts.Entries.{both, first, second}
 use Rattle.osm_elements.specs.Facts.Rows.{same_names}
 use Rattle.osm_elements.specs.Maps.{is_same, is_among}
 use Rattle.osm_refs.specs.declared.note.KeptNote.{KeptNote}
 use Rattle.osm_refs.specs.Tables.{Table, Note, UsersState, references_at, referring, noted, users_in}
 use Rattle.osm_refs.specs.Facts.RisingNames.{same_rising, is_among-passing}
-use Rattle.osm_refs.specs.Inner.Rising.{IsRising}
+use Rattle.osm_refs.specs.Rising.{IsRising}
 use Rattle.osm_refs.specs.Facts.Tables.{IsTable, same_tables, references_at-referring, IsTable-referring}
-use Rattle.osm_refs.specs.Inner.Lists.{Lists, AreLists, users_of, users_at, SameUsers, SameAwaited, AwaitsMore, AwaitsLess, Gains, Loses, AreAwaited}
 use Rattle.osm_refs.specs.Inner.Notes.{IsNote, AreApt, AreKept, brought, note_pair, names_but}
 use Rattle.osm_refs.specs.Inner.Turned.{user_table, references_of}
+use Rattle.rising_lists.specs.Lists.{Lists, AreLists, values_at, awaited_at, SameValues, SameAwaited, AwaitsMore, AwaitsLess, Gains, Loses, AreAwaited}
+use Rattle.rising_lists.specs.Facts.Tables.{listed-as_table, is_sorted-as_table}
 use Rattle.osm_refs.proofs.Turning.{IsRising-users_in, among_users_in, references_at-turned, IsTable-turned, users_in-turned}
 
-below_table : (x : Name) (lists : Lists) → T (below_all name_cmp x lists) → T (below_all name_cmp x (user_table lists))
-below_table x [] h = tt
-below_table x (r ∷ lists) h = both _ _ (first _ _ h) (below_table x lists (second _ _ h))
+references_at-user_table : (lists : Lists Name Name) (e : Name) → references_at (user_table lists) e ≡ values_at name_cmp lists e
+references_at-user_table = listed-as_table name_cmp
 
-is_sorted-user_table : (lists : Lists) → T (is_sorted name_cmp lists) → T (is_sorted name_cmp (user_table lists))
-is_sorted-user_table [] h = tt
-is_sorted-user_table (r ∷ lists) h = both _ _ (below_table r.0 lists (first _ _ h)) (is_sorted-user_table lists (second _ _ h))
-
-references_at-user_table : (lists : Lists) (e : Name) → references_at (user_table lists) e ≡ users_at lists e
-references_at-user_table [] e = refl
-references_at-user_table (r ∷ lists) e = by (is_same e r.0) (references_at-user_table lists e)
-  where
-    by : (b : Bool) → references_at (user_table lists) e ≡ users_at lists e → unwrap_or (cond b (Some r.1.users) (find name_cmp e (user_table lists))) [] ≡ users_of (cond b (Some r.1) (find name_cmp e lists))
-    by true i = refl
-    by false i = i
+is_sorted-user_table : (lists : Lists Name Name) → T (is_sorted name_cmp lists) → T (is_sorted name_cmp (user_table lists))
+is_sorted-user_table = is_sorted-as_table name_cmp
 
 -- the users of a name are those that the references tell
-pub users_in-references_of : (lists : Lists) (e : Name) → AreLists lists → users_in (references_of lists) e ≡ users_at lists e
+pub users_in-references_of : (lists : Lists Name Name) (e : Name) → AreLists name_cmp name_cmp lists → users_in (references_of lists) e ≡ values_at name_cmp lists e
 users_in-references_of lists e h =
     users_in-turned (user_table lists) e (is_sorted-user_table lists h.in_order) (subst IsRising (sym (references_at-user_table lists e)) (h.rising e)) ∙ references_at-user_table lists e
 
-IsRising-references : (lists : Lists) (q : Name) → AreLists lists → IsRising (references_at (references_of lists) q)
+IsRising-references : (lists : Lists Name Name) (q : Name) → AreLists name_cmp name_cmp lists → IsRising (references_at (references_of lists) q)
 IsRising-references lists q h = subst IsRising (sym (references_at-turned (user_table lists) q)) (IsRising-users_in (user_table lists) q (is_sorted-user_table lists h.in_order))
 
-among_references : (lists : Lists) (q e : Name) → AreLists lists → is_among (references_at (references_of lists) q) e ≡ is_among (users_at lists e) q
+among_references : (lists : Lists Name Name) (q e : Name) → AreLists name_cmp name_cmp lists → is_among (references_at (references_of lists) q) e ≡ is_among (values_at name_cmp lists e) q
 among_references lists q e h =
     ap (λ names. is_among names e) (references_at-turned (user_table lists) q) ∙ among_users_in (user_table lists) q e (is_sorted-user_table lists h.in_order)
     ∙ ap (λ names. is_among names q) (references_at-user_table lists e)
 
 -- a table with rising rows that tells the same users is the one that the lists say
-references_are : (lists : Lists) (t : Table) → AreLists lists → IsTable t → ((q : Name) → IsRising (references_at t q)) → ((q e : Name) → is_among (users_at lists e) q ≡ is_among (references_at t q) e) → references_of lists ≡ t
+references_are : (lists : Lists Name Name) (t : Table) → AreLists name_cmp name_cmp lists → IsTable t → ((q : Name) → IsRising (references_at t q)) → ((q e : Name) → is_among (values_at name_cmp lists e) q ≡ is_among (references_at t q) e) → references_of lists ≡ t
 references_are lists t h table rises is =
     same_tables (references_of lists) t (IsTable-turned (user_table lists)) table
     (λ q. same_rising (references_at (references_of lists) q) (references_at t q) (IsRising-references lists q h) (rises q) (λ e. among_references lists q e h ∙ is q e))
 
-pub same_references : (before after : Lists) → AreLists before → AreLists after → SameUsers before after → references_of after ≡ references_of before
+pub same_references : (before after : Lists Name Name) → AreLists name_cmp name_cmp before → AreLists name_cmp name_cmp after → SameValues name_cmp before after → references_of after ≡ references_of before
 same_references before after h k same =
     references_are after (references_of before) k (IsTable-turned (user_table before)) (λ q. IsRising-references before q h)
     (λ q e. ap (λ names. is_among names q) (same e) ∙ sym (among_references before q e h))
 
-module _ {A : Type 0} (n : KeptNote A) (before middle after : Lists) (h : AreLists before) (k : AreLists after) where
-  pub entered : IsRising n.after → IsNote n n.name (references_at (references_of before) n.name) n.after → Gains before middle n.gained n.name → Loses middle after n.lost n.name
+module _ {A : Type 0} (n : KeptNote A) (before middle after : Lists Name Name) (h : AreLists name_cmp name_cmp before) (k : AreLists name_cmp name_cmp after) where
+  pub entered : IsRising n.after → IsNote n n.name (references_at (references_of before) n.name) n.after → Gains name_cmp name_cmp before middle n.gained n.name → Loses name_cmp name_cmp middle after n.lost n.name
       → references_of after ≡ referring (references_of before) n.name n.after
   entered rises note gains loses =
       references_are after (referring (references_of before) n.name n.after) k (IsTable-referring (references_of before) n.name n.after (IsTable-turned (user_table before)))
@@ -83,32 +73,36 @@ module _ {A : Type 0} (n : KeptNote A) (before middle after : Lists) (h : AreLis
       new false false = refl
 
       by : (q e : Name) (b : Bool) → is_same q n.name ≡ b
-          → (not (is_among n.lost e && b) && ((is_among n.gained e && b) || is_among (users_at before e) q)) ≡ is_among (cond b n.after (references_at (references_of before) q)) e
-      by q e false f = kept (is_among n.lost e) (is_among n.gained e) (is_among (users_at before e) q) ∙ sym (among_references before q e h)
+          → (not (is_among n.lost e && b) && ((is_among n.gained e && b) || is_among (values_at name_cmp before e) q)) ≡ is_among (cond b n.after (references_at (references_of before) q)) e
+      by q e false f = kept (is_among n.lost e) (is_among n.gained e) (is_among (values_at name_cmp before e) q) ∙ sym (among_references before q e h)
       by q e true f =
           let old = references_at (references_of before) n.name in
           let lost : is_among n.lost e ≡ (not (is_among n.after e) && is_among old e) = ap (λ names. is_among names e) note.lost_are ∙ is_among-passing (λ x. not (is_among n.after x)) old e in
           let gained : is_among n.gained e ≡ (not (is_among old e) && is_among n.after e) = ap (λ names. is_among names e) note.gained_are ∙ is_among-passing (λ x. not (is_among old x)) n.after e in
-          let was : is_among (users_at before e) q ≡ is_among old e = sym (among_references before q e h) ∙ ap (λ z. is_among (references_at (references_of before) z) e) (same_names q n.name f) in
-          ap (λ b. not (b && true) && ((is_among n.gained e && true) || is_among (users_at before e) q)) lost
-          ∙ ap (λ b. not ((not (is_among n.after e) && is_among old e) && true) && ((b && true) || is_among (users_at before e) q)) gained
+          let was : is_among (values_at name_cmp before e) q ≡ is_among old e = sym (among_references before q e h) ∙ ap (λ z. is_among (references_at (references_of before) z) e) (same_names q n.name f) in
+          ap (λ b. not (b && true) && ((is_among n.gained e && true) || is_among (values_at name_cmp before e) q)) lost
+          ∙ ap (λ b. not ((not (is_among n.after e) && is_among old e) && true) && ((b && true) || is_among (values_at name_cmp before e) q)) gained
           ∙ ap (λ b. not ((not (is_among n.after e) && is_among old e) && true) && (((not (is_among old e) && is_among n.after e) && true) || b)) was
           ∙ new (is_among n.after e) (is_among old e)
 
-  pub AreKept-entered : (notes : List (KeptNote A)) → AreKept before (n ∷ notes) → Gains before middle n.gained n.name → AwaitsLess before middle n.gained → Loses middle after n.lost n.name → SameAwaited middle after → AreKept after notes
+  pub AreKept-entered : (notes : List (KeptNote A)) → AreKept before (n ∷ notes) → Gains name_cmp name_cmp before middle n.gained n.name → AwaitsLess name_cmp before middle n.gained → Loses name_cmp name_cmp middle after n.lost n.name → SameAwaited name_cmp middle after → AreKept after notes
   AreKept-entered notes kept gains less loses same = record {
     awaited = λ q. omega (arith, kept.awaited q, less q, same q);
     apt = subst (λ (t : Table). AreApt t notes) (sym (entered kept.apt.0 kept.apt.1 gains loses)) kept.apt.2;
   }
 
+pub OnErr-always : {X E P : Type 0} (r : Result X E) → P → OnErr r P
+OnErr-always (Ok x) p = tt
+OnErr-always (Err e) p = p
+
 parts : {X : Type 0} (x y : X) (xs ys : List X) → x ∷ xs ≡ y ∷ ys → (x ≡ y) × (xs ≡ ys)
 parts x y xs ys e = (cc, cc)
 
 module _ {A : Type 0} where
-  pub AreAwaited-first : (lists : Lists) (n : KeptNote A) (notes : List (KeptNote A)) → AreKept lists (n ∷ notes) → AreAwaited lists n.gained
-  AreAwaited-first lists n notes kept q = omega (arith, kept.awaited q)
+  pub AreAwaited-brought : (lists : Lists Name Name) (n : KeptNote A) (notes : List (KeptNote A)) → ((q : Name) → awaited_at name_cmp lists q ≡ brought (n ∷ notes) q) → AreAwaited name_cmp lists n.gained
+  AreAwaited-brought lists n notes awaited q = omega (arith, awaited q)
 
-  pub AreKept-same : (before after : Lists) (notes : List (KeptNote A)) → AreLists before → AreLists after → SameUsers before after → SameAwaited before after → AreKept before notes → AreKept after notes
+  pub AreKept-same : (before after : Lists Name Name) (notes : List (KeptNote A)) → AreLists name_cmp name_cmp before → AreLists name_cmp name_cmp after → SameValues name_cmp before after → SameAwaited name_cmp before after → AreKept before notes → AreKept after notes
   AreKept-same before after notes h k users awaited kept = record {
     awaited = λ q. awaited q ∙ kept.awaited q;
     apt = subst (λ (t : Table). AreApt t notes) (sym (same_references before after h k users)) kept.apt;
@@ -122,7 +116,7 @@ module _ {A : Type 0} where
   AreApt-push t [] n h rises note = (rises, note, tt)
   AreApt-push t (m ∷ notes) n h rises note = (h.0, h.1, AreApt-push (referring t m.name m.after) notes n h.2 rises note)
 
-  pub AreKept-push : (before after : Lists) (notes : List (KeptNote A)) (n : KeptNote A) → AreLists before → AreLists after → SameUsers before after → AwaitsMore before after n.gained
+  pub AreKept-push : (before after : Lists Name Name) (notes : List (KeptNote A)) (n : KeptNote A) → AreLists name_cmp name_cmp before → AreLists name_cmp name_cmp after → SameValues name_cmp before after → AwaitsMore name_cmp before after n.gained
       → IsRising n.after → IsNote n n.name (references_at (noted (references_of before) (map note_pair notes)) n.name) n.after → AreKept before notes → AreKept after (notes ++ n ∷ [])
   AreKept-push before after notes n h k users more rises note kept = record {
     awaited = λ q. let e = brought-append notes (n ∷ []) q in omega (arith, kept.awaited q, more q, e);
@@ -130,7 +124,7 @@ module _ {A : Type 0} where
   }
 
   -- the state after the first note was entered
-  pub state_entered : (before after : Lists) (items rest : List (KeptNote A)) (n : KeptNote A) (state : UsersState) → ◌≡◌ {A = UsersState} (record { references = references_of before; waiting = map note_pair items }) state → items ≡ n ∷ rest
+  pub state_entered : (before after : Lists Name Name) (items rest : List (KeptNote A)) (n : KeptNote A) (state : UsersState) → ◌≡◌ {A = UsersState} (record { references = references_of before; waiting = map note_pair items }) state → items ≡ n ∷ rest
       → references_of after ≡ referring (references_of before) n.name n.after → (m : Note) (others : List Note) → state.waiting ≡ m ∷ others
       → ◌≡◌ {A = UsersState} (record { references = references_of after; waiting = map note_pair rest }) (record { references = referring state.references m.0 m.1; waiting = others })
   state_entered before after items rest n state view split enters m others is =
@@ -150,7 +144,7 @@ module _ {A : Type 0} where
       }
 
   -- the state with one note more
-  pub state_ready : (before after : Lists) (items more : List (KeptNote A)) (n : KeptNote A) (name : Name) (old new : List Name) (state : UsersState) → ◌≡◌ {A = UsersState} (record { references = references_of before; waiting = map note_pair items }) state
+  pub state_ready : (before after : Lists Name Name) (items more : List (KeptNote A)) (n : KeptNote A) (name : Name) (old new : List Name) (state : UsersState) → ◌≡◌ {A = UsersState} (record { references = references_of before; waiting = map note_pair items }) state
       → references_of after ≡ references_of before → more ≡ items ++ n ∷ [] → IsNote n name old new
       → ◌≡◌ {A = UsersState} (record { references = references_of after; waiting = map note_pair more }) (record { references = state.references; waiting = state.waiting ++ (name, new) ∷ [] })
   state_ready before after items more n name old new state view same pushed note =

@@ -1,6 +1,3 @@
 pub mod Entering
-pub mod ListRows
-pub mod ListSteps
-pub mod NameSets
-pub mod Searching
+pub mod MemberNames
 pub mod Turning

@@ -1,5 +1,5 @@
 -- A table read the other way round.
-use Rattle.std.proofs.Common.{◌≡◌, ◌||◌, Bool, true, false, cond, T, List, [], ◌∷◌, map, Some, unwrap_or, refl, sym, ap, ◌∙◌}
+use Rattle.std.proofs.Common.{◌≡◌, ◌||◌, Bool, true, false, not, cond, T, List, [], ◌∷◌, map, Some, unwrap_or, refl, sym, ap, ◌∙◌}
 use Rattle.std.specs.List.{filter, flat_map, list_all}
 use Rattle.std.specs.FinMap.Entries.{find, is_sorted, below_all}
 use Rattle.osm_elements.specs.declared.name.Name.{Name}
@@ -8,9 +8,12 @@ use Rattle.osm_elements.specs.Facts.Entries.{both, first, second, find_below}
 use Rattle.osm_elements.specs.Facts.Rows.{same_names, is_eq-name_cmp_itself}
 use Rattle.osm_elements.specs.Facts.Among.{is_among-name_set, is_among-append}
 use Rattle.osm_elements.specs.Maps.{is_same, is_among, name_set}
-use Rattle.osm_refs.specs.Tables.{Table, references_at, users_in, has_names}
+use Rattle.osm_refs.specs.Tables.{Table, references_at, users_in}
 use Rattle.osm_refs.specs.Facts.RisingNames.{IsRising-name_set, same_rising}
-use Rattle.osm_refs.specs.Inner.Rising.{IsRising, bare_rows}
+use Rattle.osm_refs.specs.Rising.{IsRising}
+use Rattle.rising_lists.specs.Rising.{bare_rows}
+use Rattle.rising_lists.specs.Lists.{has_none}
+use Rattle.rising_lists.specs.Facts.Sorted.{is_sorted-filter}
 use Rattle.osm_refs.specs.Facts.Tables.{IsTable}
 use Rattle.osm_refs.specs.Inner.Turned.{turned}
 
@@ -23,24 +26,8 @@ module _ {X : Type 0} where
   IsRising-names [] h = tt
   IsRising-names (r ∷ rows) h = both _ _ (below_names r.0 rows (first _ _ h)) (IsRising-names rows (second _ _ h))
 
-  below_filter : (p : Name × X → Bool) (x : Name) (rows : List (Name × X)) → T (below_all name_cmp x rows) → T (below_all name_cmp x (filter p rows))
-  below_filter p x [] h = tt
-  below_filter p x (r ∷ rows) h = by (p r) (below_filter p x rows (second _ _ h))
-    where
-      by : (b : Bool) → T (below_all name_cmp x (filter p rows)) → T (below_all name_cmp x (cond b (r ∷ filter p rows) (filter p rows)))
-      by true i = both _ _ (first _ _ h) i
-      by false i = i
-
-  is_sorted-filter : (p : Name × X → Bool) (rows : List (Name × X)) → T (is_sorted name_cmp rows) → T (is_sorted name_cmp (filter p rows))
-  is_sorted-filter p [] h = tt
-  is_sorted-filter p (r ∷ rows) h = by (p r) (is_sorted-filter p rows (second _ _ h))
-    where
-      by : (b : Bool) → T (is_sorted name_cmp (filter p rows)) → T (is_sorted name_cmp (cond b (r ∷ filter p rows) (filter p rows)))
-      by true i = both _ _ (below_filter p r.0 rows (first _ _ h)) i
-      by false i = i
-
 pub IsRising-users_in : (t : Table) (e : Name) → T (is_sorted name_cmp t) → IsRising (users_in t e)
-IsRising-users_in t e h = IsRising-names (filter (λ r. is_among r.1 e) t) (is_sorted-filter (λ r. is_among r.1 e) t h)
+IsRising-users_in t e h = IsRising-names (filter (λ r. is_among r.1 e) t) (is_sorted-filter name_cmp (λ r. is_among r.1 e) t h)
 
 -- a name is among the users of another just where that one is among its references
 pub among_users_in : (t : Table) (e q : Name) → T (is_sorted name_cmp t) → is_among (users_in t e) q ≡ is_among (references_at t q) e
@@ -77,11 +64,11 @@ none_used (r ∷ t) x e = by (is_among r.1 x) (sym (is_among-append x r.1 (used 
     by true f i = absurd (cc)
     by false f i = i f
 
-some_used : (t : Table) (x : Name) → is_among (used t) x ≡ true → T (has_names (users_in t x))
+some_used : (t : Table) (x : Name) → is_among (used t) x ≡ true → T (not (has_none (users_in t x)))
 some_used [] x e = absurd (cc)
 some_used (r ∷ t) x e = by (is_among r.1 x) (sym (is_among-append x r.1 (used t)) ∙ e) (some_used t x)
   where
-    by : (b : Bool) → (b || is_among (used t) x) ≡ true → (is_among (used t) x ≡ true → T (has_names (users_in t x))) → T (has_names (map (λ s. s.0) (cond b (r ∷ filter (λ s. is_among s.1 x) t) (filter (λ s. is_among s.1 x) t))))
+    by : (b : Bool) → (b || is_among (used t) x) ≡ true → (is_among (used t) x ≡ true → T (not (has_none (users_in t x)))) → T (not (has_none (map (λ s. s.0) (cond b (r ∷ filter (λ s. is_among s.1 x) t) (filter (λ s. is_among s.1 x) t)))))
     by true f i = tt
     by false f i = i f
 
@@ -104,7 +91,7 @@ or_true : (b : Bool) → (b || true) ≡ true
 or_true true = refl
 or_true false = refl
 
-all_have : (f : Name → List Name) (names : List Name) → ((y : Name) → is_among names y ≡ true → T (has_names (f y))) → T (list_all {X = Name × List Name} (λ r. has_names r.1) (map (λ y. (y, f y)) names))
+all_have : (f : Name → List Name) (names : List Name) → ((y : Name) → is_among names y ≡ true → T (not (has_none (f y)))) → T (list_all {X = Name × List Name} (λ r. not (has_none r.1)) (map (λ y. (y, f y)) names))
 all_have f [] h = tt
 all_have f (y ∷ ys) h =
     both _ _ (h y (ap (λ b. b || is_among ys y) (is_eq-name_cmp_itself y))) (all_have f ys (λ z e. h z (ap (λ b. is_same z y || b) e ∙ or_true (is_same z y))))

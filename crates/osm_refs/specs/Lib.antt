@@ -1,4 +1,5 @@
 pub mod Facts
 pub mod Inner
 pub mod References
+pub mod Rising
 pub mod Tables

@@ -4,6 +4,4 @@
 pub mod laws;
 mod note;
 pub mod refs;
-mod user_list;
-mod user_lists;
 pub mod users;

@@ -4,7 +4,7 @@ ghost use Rattle.std.specs.Option.{option_copied};
 ghost use Rattle.osm_elements.specs.Maps;
 ghost use Rattle.osm_elements.specs.Maps.{name_set};
 ghost use Rattle.osm_refs.specs.References.{row_references};
-ghost use Rattle.osm_refs.specs.Inner.Rising.{IsRising};
+ghost use Rattle.osm_refs.specs.Rising.{IsRising};
 ghost use Rattle.osm_refs.specs.Inner.Notes;
 
 use crate::refs::refs_of;

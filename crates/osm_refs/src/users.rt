@@ -7,10 +7,10 @@ ghost use Rattle.osm_refs.specs.References.{row_references};
 ghost use Rattle.osm_refs.specs.Tables.{Note, users_in, references_at, referring, noted};
 
 use crate::note::KeptNote;
-use crate::user_lists::UserLists;
 use osm_elements::Memory;
 use osm_elements::element::Element;
 use osm_elements::name::Name;
+use rising_lists::lists::RisingLists;
 use std::alloc::{AllocError, Allocator};
 use std::collections::VecDeque;
 use std::marker::Model;
@@ -21,7 +21,7 @@ use std::marker::Model;
 #[derive(Drop)]
 #[derive_where(Debug)]
 pub struct Users<A: Allocator> {
-    lists: UserLists<A>,
+    lists: RisingLists<Name, Name, A>,
     waiting: VecDeque<KeptNote<A>, A>,
 }
 
@@ -48,7 +48,7 @@ impl<A: Allocator> Users<A> {
         ensures { result ≡ record { references = []; waiting = [] } }
     {
         Users {
-            lists: UserLists::new(alloc),
+            lists: RisingLists::new(alloc),
             waiting: VecDeque::new(alloc),
         }
     }
@@ -128,7 +128,7 @@ impl<A: Allocator + Clone> Clone for Users<A> {
     ghost is_clone = { λ a b. b ≡ a };
 
     fn clone(&self) -> Result<Users<A>, AllocError> {
-        let lists = self.lists.clone()?;
+        let lists = self.lists.copy()?;
         let waiting = self.waiting.clone()?;
         Ok(Users { lists, waiting })
     }

@@ -1,5 +1,5 @@
 -- The changes between two maps lead from the one to the other, and taken back to the one again.
-use Rattle.std.proofs.Common.{◌≡◌, ◌||◌, Bool, true, false, not, List, [], ◌∷◌, ◌++◌, Option, Some, None, is_some, map, refl, sym, ap, ◌∙◌, cond}
+use Rattle.std.proofs.Common.{◌≡◌, ◌||◌, Bool, true, false, not, List, [], ◌∷◌, ◌++◌, Option, Some, None, is_some, refl, sym, ap, ◌∙◌, cond}
 use Rattle.osm_elements.specs.declared.name.Name.{Name}
 use Rattle.osm_elements.specs.declared.element.Element.{Element}
 use Rattle.osm_elements.specs.Rows.{AreInOrder, row_at}
@@ -7,9 +7,10 @@ use Rattle.osm_elements.specs.Facts.Rows.{same_names, row_at-put_row, AreInOrder
 use Rattle.osm_elements.specs.Maps.{Rows, is_same, is_among, is_present, name_set, names_of}
 use Rattle.osm_changes.specs.declared.change.Change.{Change}
 use Rattle.osm_changes.specs.SameRows.{is_same_row}
-use Rattle.osm_changes.specs.Changes.{differing, differences, inverse, with_row, changed}
+use Rattle.osm_changes.specs.Changes.{differing, rows_changes, differences, inverse, with_row, changed}
 use Rattle.osm_elements.specs.Facts.Dropped.{row_at-rows_but, AreInOrder-rows_but}
 use Rattle.osm_elements.specs.Facts.Among.{is_among-name_set, is_among-append, is_among-filter, is_among-names_of}
+use Rattle.osm_changes.specs.Facts.RowChanges.{changed-rows_changes, inverse-rows_changes}
 use Rattle.osm_changes.specs.Facts.SameElements.{told_same_row}
 
 module _ {A : Type 0} where
@@ -25,18 +26,10 @@ module _ {A : Type 0} where
   AreInOrder-changed [] m h = h
   AreInOrder-changed (c ∷ cs) m h = AreInOrder-changed cs (with_row m c.name c.after) (AreInOrder-with_row m c.name c.after h)
 
-  -- the changes at some names, to the rows of a map
-  abbrev to_rows : Rows A → Rows A → List Name → List (Change A)
-  to_rows from target names = map (λ x. record { name = x; before = row_at from x; after = row_at target x }) names
-
-  inverse-to_rows : (from target : Rows A) (names : List Name) → inverse (to_rows from target names) ≡ to_rows target from names
-  inverse-to_rows from target [] = refl
-  inverse-to_rows from target (y ∷ ys) = ap (λ cs. record { name = y; before = row_at target y; after = row_at from y } ∷ cs) (inverse-to_rows from target ys)
-
-  row_at-changed : (from target : Rows A) (x : Name) (names : List Name) (m : Rows A) → row_at (changed m (to_rows from target names)) x ≡ cond (is_among names x) (row_at target x) (row_at m x)
+  row_at-changed : (from target : Rows A) (x : Name) (names : List Name) (m : Rows A) → row_at (changed m (rows_changes from (row_at target) names)) x ≡ cond (is_among names x) (row_at target x) (row_at m x)
   row_at-changed from target x [] m = refl
   row_at-changed from target x (y ∷ ys) m =
-      row_at-changed from target x ys (with_row m y (row_at target y))
+      ap (λ n. row_at n x) (changed-rows_changes m from (row_at target) y ys) ∙ row_at-changed from target x ys (with_row m y (row_at target y))
       ∙ ap (λ o. cond (is_among ys x) (row_at target x) o) (row_at-with_row m y (row_at target y) x) ∙ by (is_same x y) refl (is_among ys x)
     where
       by : (s : Bool) → is_same x y ≡ s → (a : Bool) → cond a (row_at target x) (cond s (row_at target y) (row_at m x)) ≡ cond (s || a) (row_at target x) (row_at m x)
@@ -74,6 +67,6 @@ module _ {A : Type 0} where
 
   pub changed-inverse : (m n : Rows A) → AreInOrder m → AreInOrder n → changed n (inverse (differences m n)) ≡ m
   changed-inverse m n g h =
-      ap (changed n) (inverse-to_rows m n (differing m n))
-      ∙ same_rows (changed n (to_rows n m (differing m n))) m (AreInOrder-changed (to_rows n m (differing m n)) n h) g
+      ap (changed n) (inverse-rows_changes m n (differing m n))
+      ∙ same_rows (changed n (rows_changes n (row_at m) (differing m n))) m (AreInOrder-changed (rows_changes n (row_at m) (differing m n)) n h) g
       (λ x. row_at-changed n m x (differing m n) n ∙ chosen (is_among (differing m n) x) (row_at m x) (row_at n x) (λ e. sym (unlisted m n x e)))

@@ -1,5 +1,6 @@
 -- What a create and a delete change: the one name.
 use Rattle.std.proofs.Common.{◌≡◌, ◌&&◌, ◌||◌, Bool, true, false, not, T, ℕ, ℤ, List, [], ◌∷◌, ◌++◌, Option, Some, None, is_some, map, refl, sym, ap, subst, ◌∙◌, cond, arith, nat_eq}
+use Rattle.std.proofs.lemmas.List.{append-nil}
 use Rattle.std.specs.List.{filter, fold}
 use Rattle.std.specs.Ordering.{is_eq, int_eq, match_ordering}
 use Rattle.std.specs.Cmp.{tied_itself, int_cmp_total}
@@ -19,7 +20,7 @@ use Rattle.osm_elements.specs.Facts.Rows.{same_names, is_eq-name_cmp_itself, row
 use Rattle.osm_elements.specs.Maps.{Rows, is_same, is_among, with_name, name_set, names_of, is_present, rows_but}
 use Rattle.osm_elements.specs.Texts.{is_same_text}
 use Rattle.osm_changes.specs.SameRows.{are_same_names, are_same_members, are_same_tags, is_same_element, is_same_row}
-use Rattle.osm_changes.specs.Changes.{differences}
+use Rattle.osm_changes.specs.Changes.{row_changes, rows_changes, differences}
 use Rattle.osm_elements.specs.Facts.Among.{is_among-name_set, is_among-append, is_among-names_of}
 use Rattle.osm_elements.specs.Facts.Dropped.{row_at-rows_but}
 use Rattle.osm_elements.specs.Facts.Tests.{both_true}
@@ -110,16 +111,17 @@ module _ {A : Type 0} where
   same_row (Some v) = same_element v
 
   -- two maps that differ at one name alone
-  one_change : (m n : Rows A) (x : Name) → ((q : Name) → not (is_same_row (row_at m q) (row_at n q)) ≡ is_same q x) → (is_present m x || is_present n x) ≡ true → differences m n ≡ record { name = x; before = row_at m x; after = row_at n x } ∷ []
+  one_change : (m n : Rows A) (x : Name) → ((q : Name) → not (is_same_row (row_at m q) (row_at n q)) ≡ is_same q x) → (is_present m x || is_present n x) ≡ true → differences m n ≡ row_changes x (row_at m x) (row_at n x)
   one_change m n x tells is =
-      ap (map (λ y. record { name = y; before = row_at m y; after = row_at n y })) (only_name (λ q. not (is_same_row (row_at m q) (row_at n q))) x (names_of m ++ names_of n) tells
+      ap (rows_changes m (row_at n)) (only_name (λ q. not (is_same_row (row_at m q) (row_at n q))) x (names_of m ++ names_of n) tells
       (is_among-name_set x (names_of m ++ names_of n) ∙ is_among-append x (names_of m) (names_of n) ∙ ap (λ b. b || is_among (names_of n) x) (is_among-names_of m x) ∙ ap (λ b. is_present m x || b) (is_among-names_of n x) ∙ is))
+      ∙ append-nil (row_changes x (row_at m x) (row_at n x))
 
   -- a create changes its name from nothing
-  pub created : (m : Rows A) (x : Name) (v : Element A) → row_at m x ≡ None → differences m (put_row m x v) ≡ record { name = x; before = None; after = Some v } ∷ []
+  pub created : (m : Rows A) (x : Name) (v : Element A) → row_at m x ≡ None → differences m (put_row m x v) ≡ row_changes x None (Some v)
   created m x v absent =
       one_change m (put_row m x v) x tells (ap (λ o. is_present m x || is_some o) now ∙ ap (λ o. is_some o || true) absent)
-      ∙ ap (λ o. record { name = x; before = o; after = row_at (put_row m x v) x } ∷ []) absent ∙ ap (λ o. record { name = x; before = None; after = o } ∷ []) now
+      ∙ ap (λ o. row_changes x o (row_at (put_row m x v) x)) absent ∙ ap (row_changes x None) now
     where
       now : row_at (put_row m x v) x ≡ Some v
       now = row_at-put_row m x v x ∙ ap (λ b. cond b (Some v) (row_at m x)) (is_eq-name_cmp_itself x)
@@ -132,10 +134,10 @@ module _ {A : Type 0} where
       tells q = ap (λ o. not (is_same_row (row_at m q) o)) (row_at-put_row m x v q) ∙ by q (is_same q x) refl
 
   -- a delete changes its name to nothing
-  pub deleted : (m : Rows A) (x : Name) (v : Element A) → row_at m x ≡ Some v → differences m (rows_but x m) ≡ record { name = x; before = Some v; after = None } ∷ []
+  pub deleted : (m : Rows A) (x : Name) (v : Element A) → row_at m x ≡ Some v → differences m (rows_but x m) ≡ row_changes x (Some v) None
   deleted m x v is =
       one_change m (rows_but x m) x tells (ap (λ o. is_some o || is_present (rows_but x m) x) is)
-      ∙ ap (λ o. record { name = x; before = o; after = row_at (rows_but x m) x } ∷ []) is ∙ ap (λ o. record { name = x; before = Some v; after = o } ∷ []) now
+      ∙ ap (λ o. row_changes x o (row_at (rows_but x m) x)) is ∙ ap (row_changes x (Some v)) now
     where
       now : row_at (rows_but x m) x ≡ None
       now = row_at-rows_but m x x ∙ ap (λ b. cond b None (row_at m x)) (is_eq-name_cmp_itself x)

@@ -1,16 +1,13 @@
 -- What a store holds.
-use Rattle.std.specs.Prelude.{◌≡◌, true, List, [], map}
+use Rattle.std.specs.Prelude.{◌≡◌, true, List, map}
 use Rattle.osm_elements.specs.Maps.{Rows, name_set}
 use Rattle.osm_refs.specs.References.{row_references}
-use Rattle.osm_refs.specs.Tables.{UsersState, Note, table_of}
+use Rattle.osm_refs.specs.Tables.{UsersState, Note}
 use Rattle.osm_changes.specs.declared.change.Change.{Change}
 use Rattle.osm_changes.specs.Sound.{is_sound}
+use Rattle.osm_changes.specs.Stores.{users_of}
 
 module _ {A : Type 0} where
-  -- the users of a map, where nothing waits
-  abbrev pub users_of : Rows A → UsersState
-  users_of m = record { references = table_of m; waiting = [] }
-
   -- what is noted of changes: each name with what it refers to afterwards
   abbrev pub notes_of : List (Change A) → List Note
   notes_of cs = map (λ (c : Change A). (c.name, name_set (row_references c.after))) cs

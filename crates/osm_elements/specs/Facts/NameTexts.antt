@@ -35,10 +35,6 @@ pub mag_fits : (id : ℤ) → FitsSigned w64 id → mag id < 2 ^ 63
 mag_fits (pos n) f = f.sfits
 mag_fits (negsuc n) f = f.sfits
 
-pub fits-is_id : (id : ℤ) → is_id id ≡ true → FitsSigned w64 id
-fits-is_id (pos n) t = record { sfits = grind (arith, nat_tests) }
-fits-is_id (negsuc n) t = record { sfits = grind (arith, nat_tests) }
-
 -- the digits of a number begin with no sign, and give the number back
 first_digit : (n : ℕ) → n < 2 ^ 64 → 48 ≤ get_or (decimal n) 0 0
 first_digit zero h = subst (λ l. 48 ≤ get_or l 0 0) (sym (decimal_digit 0 (omega arith))) (omega arith)

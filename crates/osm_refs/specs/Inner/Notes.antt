@@ -2,12 +2,13 @@
 use Rattle.std.specs.Prelude.{◌≡◌, ◌+◌, ℕ, not, List, [], ◌∷◌}
 use Rattle.std.specs.List.{filter}
 use Rattle.osm_elements.specs.declared.name.Name.{Name}
+use Rattle.osm_elements.specs.NameOrder.{name_cmp}
 use Rattle.osm_elements.specs.Maps.{is_among}
 use Rattle.osm_refs.specs.declared.note.KeptNote.{KeptNote}
 use Rattle.osm_refs.specs.Tables.{Table, Note, references_at, referring}
-use Rattle.osm_refs.specs.Inner.Rising.{IsRising}
-use Rattle.osm_refs.specs.Inner.Lists.{Lists, awaited_at, times}
+use Rattle.osm_refs.specs.Rising.{IsRising}
 use Rattle.osm_refs.specs.Inner.Turned.{references_of}
+use Rattle.rising_lists.specs.Lists.{Lists, awaited_at, times}
 
 -- the names that are not among others
 abbrev pub names_but : List Name → List Name → List Name
@@ -32,9 +33,9 @@ module _ {A : Type 0} where
   -- how many users of a name the notes bring
   abbrev pub brought : List (KeptNote A) → Name → ℕ
   brought [] q = 0
-  brought (n ∷ notes) q = times n.gained q + brought notes q
+  brought (n ∷ notes) q = times name_cmp n.gained q + brought notes q
 
   -- room is kept for just the users that the notes bring, and the notes fit what the lists say
-  pub record AreKept (lists : Lists) (notes : List (KeptNote A)) : Type 0 where
-    pub awaited : (q : Name) → awaited_at lists q ≡ brought notes q
+  pub record AreKept (lists : Lists Name Name) (notes : List (KeptNote A)) : Type 0 where
+    pub awaited : (q : Name) → awaited_at name_cmp lists q ≡ brought notes q
     pub apt : AreApt (references_of lists) notes

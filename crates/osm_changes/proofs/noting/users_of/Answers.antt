@@ -5,7 +5,7 @@ use Rattle.osm_elements.specs.declared.name.Name.{Name}
 use Rattle.osm_elements.specs.Rows.{AreInOrder}
 use Rattle.osm_elements.specs.Facts.MadeMaps.{put_all, put_all_is}
 use Rattle.osm_refs.specs.Tables.{UsersState, references_at}
-use Rattle.osm_changes.specs.Inner.Stores.{users_of}
+use Rattle.osm_changes.specs.Stores.{users_of}
 use Rattle.osm_changes.proofs.RowsNoted.{refers_to_nothing, users_with_row}
 use Rattle.osm_changes.proofs.noting.users_of.Goals as goal
 

@@ -1,6 +1,6 @@
 use Rattle.std.proofs.Common.{◌≡◌, [], ◌++◌, map}
 use Rattle.osm_elements.specs.Facts.MadeMaps.{put_all}
-use Rattle.osm_changes.specs.Inner.Stores.{users_of}
+use Rattle.osm_changes.specs.Stores.{users_of}
 use Rattle.osm_changes.proofs.noting.users_of.Given as goal
 
 abbrev pub invariant-loop-name : goal.invariant-loop-name

@@ -1,5 +1,5 @@
 use Rattle.std.proofs.Common.{rules}
-use Rattle.osm_refs.proofs.NameSets.{names_of_members}
+use Rattle.osm_refs.proofs.MemberNames.{names_of_members}
 use Rattle.osm_refs.proofs.refs.named.Goals as goal
 
 pub returns-in-Relation-clause-names : goal.returns-in-Relation-clause-names

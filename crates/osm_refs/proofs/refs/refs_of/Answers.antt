@@ -2,7 +2,7 @@ use Rattle.std.proofs.Common.{ap, ◌∙◌}
 use Rattle.osm_elements.specs.Maps.{name_set}
 use Rattle.osm_elements.specs.Facts.NameOrder.{name_cmp_is}
 use Rattle.osm_elements.specs.Facts.SameNames.{name_eq_is}
-use Rattle.osm_refs.proofs.NameSets.{sorted_is_name_set}
+use Rattle.osm_refs.specs.Facts.NameSets.{sorted_is_name_set}
 use Rattle.osm_refs.proofs.refs.refs_of.Goals as goal
 
 pub returns-clause-set : goal.returns-clause-set

@@ -9,7 +9,7 @@ loop-change-preserved g c =
     let same : length c.deref_mut-change-items.result.now ≡ length c.args.self = ap length (c.deref_mut-change-items.ensures.value ∙ c.self.view_is) in
     let test = c.loop-change-test.true in
     let below : c.loop-change.change-index < length c.args.self = omega (arith, test, same) in
-    rw (c.turn.ensures) (turned_one_more c.args.self c.loop-change.change-items c.loop-change.change-index _ below c.loop-change.invariant)
+    rw (c.take_back.ensures) (turned_one_more c.args.self c.loop-change.change-items c.loop-change.change-index _ below c.loop-change.invariant)
 
 pub invariant_of-result : goal.invariant_of-result
 invariant_of-result g c =

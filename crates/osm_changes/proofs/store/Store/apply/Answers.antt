@@ -7,7 +7,8 @@ use Rattle.osm_changes.specs.declared.change.Change.{Change}
 use Rattle.osm_changes.specs.Changes.{AreFrom, changed, changed_names, are_rising}
 use Rattle.osm_changes.specs.Sound.{is_sound}
 use Rattle.osm_changes.specs.Inner.Applying.{AreThere, with_new, replaced}
-use Rattle.osm_changes.specs.Inner.Stores.{notes_of, users_of}
+use Rattle.osm_changes.specs.Inner.Stores.{notes_of}
+use Rattle.osm_changes.specs.Stores.{users_of}
 use Rattle.osm_changes.specs.Facts.SoundRows.{sound_in_order}
 use Rattle.osm_changes.proofs.Applying.{order-with_new, are_there, leads_to_changed}
 use Rattle.osm_changes.proofs.NotesTaken.{noted_is}

@@ -1,4 +1,3 @@
-use Rattle.std.proofs.Common.{rules}
 use Rattle.osm_elements.proofs.ShortRoles.{short_roles}
 use Rattle.osm_elements.proofs.members.Members.as_slice.Goals as goal
 

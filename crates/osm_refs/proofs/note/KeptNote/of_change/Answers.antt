@@ -2,7 +2,7 @@ use Rattle.std.proofs.Common.{sym, subst, ◌∙◌}
 use Rattle.std.specs.Option.{option_copied}
 use Rattle.osm_refs.specs.References.{row_references}
 use Rattle.osm_refs.specs.Facts.RisingNames.{IsRising-name_set}
-use Rattle.osm_refs.specs.Inner.Rising.{IsRising}
+use Rattle.osm_refs.specs.Rising.{IsRising}
 use Rattle.osm_refs.proofs.note.KeptNote.of_change.Goals as goal
 
 pub names_but-requires : goal.names_but-requires

@@ -1,0 +1,4 @@
+pub mod Facts
+pub mod Lists
+pub mod Rising
+pub mod Tables
