@@ -1,11 +1,11 @@
 //! Laws of the actions, each the contract of a function that does nothing.
-ghost use Rattle.std.specs.Prelude.{◌≡◌, ◌≢◌, true, [], ◌∷◌, Some, None};
+ghost use Rattle.std.specs.Prelude.{◌≡◌, ◌≢◌, true, Some, None};
 ghost use Rattle.osm_elements.specs.declared.element.Element.{Element};
 ghost use Rattle.osm_elements.specs.declared.name.Name.{Name};
 ghost use Rattle.osm_elements.specs.Rows.{row_at};
 ghost use Rattle.edit_actions.specs.declared.action.Action.TheVariants.{Create, Delete};
 ghost use Rattle.osm_elements.specs.Maps.{Rows};
-ghost use Rattle.osm_changes.specs.Changes.{changed};
+ghost use Rattle.osm_changes.specs.Changes.{row_changes, changed};
 ghost use Rattle.osm_changes.specs.Sound.{is_sound};
 ghost use Rattle.edit_actions.specs.declared.action.Action.{Action};
 ghost use Rattle.edit_actions.specs.After.{after, changes};
@@ -30,7 +30,7 @@ pub fn accepted_changes_lead_there<A: Allocator>()
 /// An accepted create changes its name from nothing to the element, and a delete of what is there its name to nothing.
 pub fn one_name_is_changed<A: Allocator>()
     ensures create { (m : Rows A) (x : Name) (v : Element A) → row_at m x ≡ None
-        → changes m (Create x v) ≡ record { name = x; before = None; after = Some v } ∷ [] }
+        → changes m (Create x v) ≡ row_changes x None (Some v) }
     ensures delete { (m : Rows A) (x : Name) (v : Element A) → row_at m x ≡ Some v
-        → changes m (Delete x) ≡ record { name = x; before = Some v; after = None } ∷ [] }
+        → changes m (Delete x) ≡ row_changes x (Some v) None }
 {}

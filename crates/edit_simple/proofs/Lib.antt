@@ -1,7 +1,4 @@
-pub mod Alike
 mod ExampleProofs
-pub mod GivenPlaces
-pub mod GivenSearch
 pub mod MemberNames
 pub mod MoveLoops
 pub mod MovePlans

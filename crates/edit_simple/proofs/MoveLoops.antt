@@ -1,5 +1,5 @@
 -- Moves of nodes one by one.
-use Rattle.std.proofs.Common.{◌≡◌, ◌≢◌, ◌⊎◌, ◌<◌, ◌+◌, ◌+ℤ◌, ℕ, ℤ, pos, zero, suc, Bool, true, false, not, ◌&&◌, T, List, [], ◌∷◌, ◌++◌, Option, Some, None, Result, Ok, Err, inl, inr, is_some, neg_ℤ, int_le, length, map, take, drop, get_or, refl, sym, ap, subst, ◌∙◌, cond, arith}
+use Rattle.std.proofs.Common.{◌≡◌, ◌≢◌, ◌⊎◌, ◌<◌, ◌+◌, ◌+ℤ◌, ℕ, ℤ, pos, zero, suc, Bool, true, false, not, ◌&&◌, T, List, [], ◌∷◌, ◌++◌, Option, Some, None, Result, Ok, Err, inl, inr, is_some, neg_ℤ, int_le, length, take, drop, get_or, refl, sym, ap, subst, ◌∙◌, cond, arith}
 use Rattle.std.proofs.lemmas.List.{take_more, take-append-drop}
 use Rattle.std.proofs.lemmas.List.Elements.{filter-append}
 use Rattle.std.specs.List.{list_all}
@@ -20,17 +20,17 @@ use Rattle.osm_elements.specs.TagRows.{Pairs}
 use Rattle.osm_elements.specs.Facts.Entries.{first, second}
 use Rattle.osm_elements.specs.Facts.Tests.{first_true, second_true}
 use Rattle.osm_refs.specs.Facts.RisingNames.{IsRising-filter}
-use Rattle.osm_refs.specs.Inner.Rising.{IsRising, bare_rows}
+use Rattle.osm_refs.specs.Rising.{IsRising}
+use Rattle.rising_lists.specs.Rising.{bare_rows}
 use Rattle.osm_changes.specs.declared.change.Change.{Change}
-use Rattle.osm_changes.specs.Changes.{AreChanges}
+use Rattle.osm_changes.specs.Changes.{row_changes, rows_changes, AreChanges}
 use Rattle.edit_simple.specs.declared.refusal.Refusal.{Refusal}
 use Rattle.edit_simple.specs.declared.refusal.Refusal.TheVariants.{OutOfRange, Memory}
-use Rattle.edit_simple.specs.Inner.Moving.{row_leaves, moved_change}
+use Rattle.edit_simple.specs.Inner.Moving.{row_leaves, moved_row}
 use Rattle.edit_simple.specs.Inner.Moves.{is_node_row, MayMove, leaving}
 use Rattle.edit_simple.specs.Move.{moved_by}
-use Rattle.edit_simple.specs.Facts.Lists.{all_listed}
+use Rattle.edit_simple.specs.Facts.Lists.{all_listed, drop_at}
 use Rattle.edit_simple.specs.Facts.Moving.{elsewhere}
-use Rattle.edit_simple.proofs.Alike.{here}
 use Rattle.edit_simple.specs.Facts.ChangesInTurn.{one_fits}
 use Rattle.edit_simple.specs.Facts.FirstUsers.{min_below}
 use Rattle.edit_simple.specs.Facts.LeastNames.{min_assoc}
@@ -68,11 +68,12 @@ module _ {A : Type 0} (m : Rows A) (dlat dlon : ℤ) where
   moved_apart (Some (Way nodes tags)) far h = absurd (cc)
   moved_apart (Some (Relation members tags)) far h = absurd (cc)
 
-  -- one more change
+  -- the changes of one more
   module _ (xs : List Name) (i : ℕ) (x : Name) (l : i < length xs) (is : x ≡ get_or xs i x) where
-    pub push_fits : (cs : List (Change A)) (c : Change A) → MayMove m xs dlat dlon → cs ≡ map (moved_change m dlat dlon) (take i xs) → c ≡ moved_change m dlat dlon x → AreChanges (cs ++ c ∷ [])
-    push_fits cs c h e f =
-        one_fits (moved_change m dlat dlon) (λ y. refl) xs i x l is h.rising (λ y k. moved_apart (row_at m y) h.distance (all_listed (λ z. is_node_row (row_at m z)) xs y h.there k)) cs c e f
+    pub push_fits : (cs : List (Change A)) (o p : Option (Element A)) → MayMove m xs dlat dlon → cs ≡ rows_changes m (moved_row m dlat dlon) (take i xs) → o ≡ row_at m x → p ≡ moved_row m dlat dlon x
+        → AreChanges (cs ++ row_changes x o p)
+    push_fits cs o p h e f g =
+        one_fits m (moved_row m dlat dlon) xs i x l is h.rising (λ y k. moved_apart (row_at m y) h.distance (all_listed (λ z. is_node_row (row_at m z)) xs y h.there k)) cs o p e f g
 
     pub none_more : leaving m dlat dlon (take i xs) ≡ [] → row_leaves dlat dlon (row_at m x) ≡ false → leaving m dlat dlon (take (i + 1) xs) ≡ []
     none_more none stays =
@@ -87,7 +88,7 @@ module _ {A : Type 0} (m : Rows A) (dlat dlon : ℤ) where
 
         split : leaving m dlat dlon xs ≡ x ∷ rest
         split =
-            ap (leaving m dlat dlon) (sym (take-append-drop i xs) ∙ ap (λ r. take i xs ++ r) (here (λ (y : Name). y) (λ p q. true) xs xs xs i x l is))
+            ap (leaving m dlat dlon) (sym (take-append-drop i xs) ∙ ap (λ r. take i xs ++ r) (drop_at xs i x l is))
             ∙ filter-append (λ y. row_leaves dlat dlon (row_at m y)) (take i xs) (x ∷ drop (i + 1) xs)
             ∙ (λ j. none j ++ cond (leaves j) (x ∷ rest) rest)
 
@@ -102,16 +103,17 @@ module _ {A : Type 0} (m : Rows A) (dlat dlon : ℤ) where
   -- a node that is moved
   pub node_moved : (x : Name) (v : Element A) (lat lon new_lat new_lon : ℤ) (tags copied : Pairs) (before : Element A) → Some v ≡ row_at m x → v ≡ Node lat lon tags
       → Some new_lat ≡ latitude (lat +ℤ dlat) → Some new_lon ≡ longitude (lon +ℤ dlon) → copied ≡ tags → before ≡ v
-      → (row_leaves dlat dlon (row_at m x) ≡ false) × (record { name = x; before = Some before; after = Some (Node new_lat new_lon copied) } ≡ moved_change m dlat dlon x)
+      → (row_leaves dlat dlon (row_at m x) ≡ false) × (Some before ≡ row_at m x) × (Some (Node new_lat new_lon copied) ≡ moved_row m dlat dlon x)
   node_moved x v lat lon new_lat new_lon tags copied before there is lat_is lon_is copy same = (
     ap (row_leaves dlat dlon) row ∙ (λ i. not (is_some (sym lat_is i) && is_some (sym lon_is i))),
-    λ i. record { name = x; before = (ap Some same ∙ there) i; after = moved i },
+    ap Some same ∙ there,
+    moved,
   )
     where
       row : row_at m x ≡ Some (Node lat lon tags)
       row = sym there ∙ ap Some is
 
-      moved : Some (Node new_lat new_lon copied) ≡ option_map (moved_by dlat dlon) (row_at m x)
+      moved : Some (Node new_lat new_lon copied) ≡ moved_row m dlat dlon x
       moved = (λ i. Some (Node (told_within 900000000 (lat +ℤ dlat) new_lat lat_is i) (told_within 1800000000 (lon +ℤ dlon) new_lon lon_is i) (copy i))) ∙ ap (option_map (moved_by dlat dlon)) (sym row)
 
   -- the refusal of one node, told of all

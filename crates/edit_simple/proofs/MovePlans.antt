@@ -1,5 +1,5 @@
 -- Plans of moves.
-use Rattle.std.proofs.Common.{◌≡◌, ◌+ℤ◌, ℤ, pos, Bool, true, false, not, ◌&&◌, ◌||◌, List, [], ◌∷◌, Option, Some, None, Result, Ok, Err, inl, inr, is_some, length, map, nat_eq, arith, refl, sym, ap, ◌∙◌, cond}
+use Rattle.std.proofs.Common.{◌≡◌, ◌+ℤ◌, ℤ, pos, Bool, true, false, not, ◌&&◌, ◌||◌, List, [], ◌∷◌, Option, Some, None, Result, Ok, Err, inl, inr, is_some, length, nat_eq, arith, refl, sym, ap, ◌∙◌, cond}
 use Rattle.std.proofs.Math.IntN.{+ℤ_idr}
 use Rattle.std.proofs.lemmas.Bool.Decides.{nat_tests}
 use Rattle.std.specs.Bool.{then_some}
@@ -21,7 +21,7 @@ use Rattle.osm_elements.specs.Facts.Rows.{same, same_names}
 use Rattle.osm_elements.specs.Facts.Tests.{first_true, second_true}
 use Rattle.osm_refs.specs.Facts.RisingNames.{same_rising, IsRising-filter, IsRising-name_set, is_among-passing}
 use Rattle.osm_changes.specs.declared.change.Change.{Change}
-use Rattle.osm_changes.specs.Changes.{differences}
+use Rattle.osm_changes.specs.Changes.{rows_changes, differences}
 use Rattle.osm_changes.specs.SameRows.{is_same_row}
 use Rattle.osm_changes.specs.Sound.{is_sound}
 use Rattle.osm_changes.specs.Facts.Differing.{same_row}
@@ -29,21 +29,20 @@ use Rattle.osm_changes.specs.Facts.SoundRows.{sound_in_order}
 use Rattle.edit_simple.specs.declared.refusal.Refusal.{Refusal}
 use Rattle.edit_simple.specs.declared.refusal.Refusal.TheVariants.{Absent, WrongKind, OutOfRange, Nothing}
 use Rattle.edit_simple.specs.Checks.{first_that_holds, the_least}
-use Rattle.edit_simple.specs.Inner.Moving.{moved_with, all_moved, row_leaves, moved_change}
+use Rattle.edit_simple.specs.Inner.Moving.{moved_with, all_moved, row_leaves, moved_row}
 use Rattle.edit_simple.specs.Inner.Moves.{is_node_row, MayMove, leaving, IsMoved}
 use Rattle.edit_simple.specs.Kinds.{is_relation}
-use Rattle.edit_simple.specs.Move.{is_moved, moved_by, is_out_of_range, left_range, move_checks, after_move}
-use Rattle.edit_simple.specs.Parts.{nodes_of}
+use Rattle.edit_simple.specs.Move.{is_moved, moved_by, is_out_of_range, left_range, move_checks, after_move, moves}
+use Rattle.edit_simple.specs.Contents.{nodes_of}
 use Rattle.edit_simple.specs.Plans.{IsPlan}
-use Rattle.edit_simple.specs.Facts.Differences.{differing_are, apart_rows}
+use Rattle.edit_simple.specs.Facts.Differences.{rows_differing, apart_rows}
 use Rattle.edit_simple.specs.Facts.EachRow.{row_at-each_row}
 use Rattle.edit_simple.specs.Facts.Kinds.{sound_kind, node_there}
 use Rattle.edit_simple.specs.Facts.Lists.{is_among_own, all_listed, all_from}
-use Rattle.edit_simple.specs.Facts.Moving.{moves}
 use Rattle.edit_simple.specs.Facts.Relisting.{all_present}
 use Rattle.edit_simple.specs.Facts.Rewriting.{fine}
 use Rattle.edit_simple.proofs.MoveLoops.{moved_apart}
-use Rattle.edit_simple.specs.Facts.PassingRows.{map_same, passes_at, among_rows, rising_names}
+use Rattle.edit_simple.specs.Facts.PassingRows.{passes_at, among_rows, rising_names}
 
 apart : (a s t u v : Bool) → (a && ((s || u) || (t || v))) ≡ ((a && (s || t)) || (a && (u || v)))
 apart false s t u v = refl
@@ -172,12 +171,10 @@ module _ {A : Type 0} (m : Rows A) (sound : is_sound m ≡ true) where
               (λ f. moved_apart m dlat dlon (row_at m y) far (node_row y (among_set y ∙ e)) (sym (row_after y true e) ∙ f))))
           by false e = sym (ap (λ o. not (is_same_row (row_at m y) o)) (row_after y false e ∙ kept (row_at m y)) ∙ ap not (same_row (row_at m y)))
 
-      changes_are : map (moved_change m dlat dlon) (name_set (all_moved m list)) ≡ differences m (after_move m list dlat dlon)
+      changes_are : rows_changes m (moved_row m dlat dlon) (name_set (all_moved m list)) ≡ differences m (after_move m list dlat dlon)
       changes_are =
-          map_same (moved_change m dlat dlon) (λ y. record { name = y; before = row_at m y; after = row_at (after_move m list dlat dlon) y }) (name_set (all_moved m list))
-          (λ y i. ap (λ o. record { name = y; before = row_at m y; after = o }) (sym (row_after y true (sym (among_set y) ∙ i))))
-          ∙ ap (map (λ y. record { name = y; before = row_at m y; after = row_at (after_move m list dlat dlon) y }))
-          (differing_are m (after_move m list dlat dlon) (name_set (all_moved m list)) (IsRising-name_set (all_moved m list)) set_differs)
+          rows_differing m (after_move m list dlat dlon) (moved_row m dlat dlon) (name_set (all_moved m list)) (IsRising-name_set (all_moved m list)) set_differs
+          (λ y i. sym (row_after y true (sym (among_set y) ∙ i)))
 
       pub move_planned : None ≡ least (filter (λ e. is_relation e.kind) list) → None ≡ least (filter (is_absent m) list) → nat_eq (length list) 0 ≡ false
           → (r : Result (List (Change A)) (Refusal A)) → IsMoved m (name_set (all_moved m list)) dlat dlon r → IsPlan m (move_checks m list dlat dlon) (after_move m list dlat dlon) r

@@ -8,6 +8,7 @@ use Rattle.osm_elements.specs.Maps.{Rows, is_present}
 use Rattle.osm_elements.specs.Rows.{row_at}
 use Rattle.osm_refs.specs.References.{users}
 use Rattle.osm_changes.specs.declared.change.Change.{Change}
+use Rattle.osm_changes.specs.Changes.{row_changes}
 use Rattle.osm_changes.specs.Sound.{is_sound}
 use Rattle.osm_changes.specs.Facts.SoundRows.{sound_in_order}
 use Rattle.osm_changes.specs.Facts.Differing.{created, deleted}
@@ -17,7 +18,7 @@ use Rattle.edit_simple.specs.Checks.{first_that_holds, the_least}
 use Rattle.edit_simple.specs.Create.{create_checks, after_create}
 use Rattle.edit_simple.specs.Delete.{delete_checks, after_delete}
 use Rattle.edit_simple.specs.Plans.{IsPlan}
-use Rattle.edit_simple.specs.Inner.Passing.{passed}
+use Rattle.edit_simple.specs.Passing.{passed}
 use Rattle.edit_simple.specs.Facts.Checked.{nones, not_so}
 use Rattle.edit_simple.specs.Facts.FirstUsers.{first_user_is_least}
 
@@ -31,16 +32,16 @@ module _ {A : Type 0} where
   not_there (Some v) e = absurd (cc)
 
   pub create_planned : (m : Rows A) (x : Name) (v w : Element A) (u : Unit {0}) (cs : List (Change A)) → Ok u ≡ passed (first_that_holds (create_checks m x v))
-      → w ≡ v → cs ≡ record { name = x; before = None; after = Some w } ∷ [] → IsPlan m (create_checks m x v) (after_create m x v) (Ok cs)
+      → w ≡ v → cs ≡ row_changes x None (Some w) → IsPlan m (create_checks m x v) (after_create m x v) (Ok cs)
   create_planned m x v w u cs ok e is =
       let none = passed_ok u (first_that_holds (create_checks m x v)) ok in
       let absent = not_there (row_at m x) (not_so {X = Refusal A} (is_present m x) (Present x) (nones (create_checks m x v) none).1.0) in
-      (none, is ∙ ap (λ z. record { name = x; before = None; after = Some z } ∷ []) e ∙ sym (created m x v absent))
+      (none, is ∙ ap (λ z. row_changes x None (Some z)) e ∙ sym (created m x v absent))
 
   pub delete_planned : (m : Rows A) (x : Name) (v w : Element A) (cs : List (Change A)) → row_at m x ≡ Some v → users m x ≡ []
-      → w ≡ v → cs ≡ record { name = x; before = Some w; after = None } ∷ [] → IsPlan m (delete_checks m x) (after_delete m x) (Ok cs)
+      → w ≡ v → cs ≡ row_changes x (Some w) None → IsPlan m (delete_checks m x) (after_delete m x) (Ok cs)
   delete_planned m x v w cs there unused e is =
-      (ap (λ o. first_that_holds (then_some (not (is_some o)) (Absent x) ∷ the_least (InUse x) (users m x) ∷ [])) there ∙ ap (λ l. first_that_holds (the_least {A = A} (InUse x) l ∷ [])) unused, is ∙ ap (λ z. record { name = x; before = Some z; after = None } ∷ []) e ∙ sym (deleted m x v there))
+      (ap (λ o. first_that_holds (then_some (not (is_some o)) (Absent x) ∷ the_least (InUse x) (users m x) ∷ [])) there ∙ ap (λ l. first_that_holds (the_least {A = A} (InUse x) l ∷ [])) unused, is ∙ ap (λ z. row_changes x (Some z) None) e ∙ sym (deleted m x v there))
 
   pub delete_in_use : (m : Rows A) (x : Name) (v : Element A) (user : Name) → is_sound m ≡ true → row_at m x ≡ Some v → slice_get (users m x) 0 ≡ Some user → IsPlan m (delete_checks m x) (after_delete m x) (Err (InUse x user))
   delete_in_use m x v user sound there first =

@@ -10,7 +10,7 @@ use Rattle.osm_elements.specs.NameOrder.{name_cmp}
 use Rattle.osm_elements.specs.Maps.{Rows, is_same, is_among, with_name, name_set}
 use Rattle.osm_elements.specs.Rows.{row_at}
 use Rattle.edit_simple.specs.Inner.Purging.{all_gone}
-use Rattle.edit_simple.specs.Parts.{nodes_of}
+use Rattle.edit_simple.specs.Contents.{nodes_of}
 use Rattle.edit_simple.specs.Purge.{without, falls_short}
 use Rattle.edit_simple.specs.Facts.Purging.{shorter}
 use Rattle.edit_simple.specs.Facts.LeastNames.{filter_more}

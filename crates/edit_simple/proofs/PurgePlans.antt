@@ -17,23 +17,23 @@ use Rattle.osm_refs.specs.Tables.{UsersState, users_in, table_of}
 use Rattle.osm_refs.specs.Facts.MapTables.{users_in-table_of}
 use Rattle.osm_refs.specs.Facts.RisingNames.{IsRising-name_set, is_among-passing}
 use Rattle.osm_changes.specs.declared.change.Change.{Change}
-use Rattle.osm_changes.specs.Changes.{differences}
-use Rattle.osm_changes.specs.Inner.Stores.{users_of}
+use Rattle.osm_changes.specs.Changes.{rows_changes, differences}
+use Rattle.osm_changes.specs.Stores.{users_of}
 use Rattle.osm_changes.specs.SameRows.{is_same_row}
 use Rattle.osm_changes.specs.Sound.{is_sound}
 use Rattle.osm_changes.specs.Facts.Differing.{same_row}
 use Rattle.osm_changes.specs.Facts.SoundRows.{sound_in_order}
 use Rattle.edit_simple.specs.declared.refusal.Refusal.TheVariants.{Absent}
 use Rattle.edit_simple.specs.Checks.{first_that_holds}
-use Rattle.edit_simple.specs.Inner.Purging.{all_gone, all_reached, row_left, purged_change, MayPurge}
-use Rattle.edit_simple.specs.Parts.{nodes_of, with_nodes, with_members}
+use Rattle.edit_simple.specs.Inner.Purging.{all_gone, all_reached, purged_row, MayPurge}
+use Rattle.edit_simple.specs.Contents.{nodes_of, with_nodes, with_members}
 use Rattle.edit_simple.specs.Plans.{IsPlan}
 use Rattle.edit_simple.specs.Purge.{without, falls_short, goes, what_is_left, purge_checks, after_purge}
-use Rattle.edit_simple.specs.Facts.Differences.{differing_are, apart_rows}
+use Rattle.edit_simple.specs.Facts.Differences.{rows_differing, apart_rows}
 use Rattle.edit_simple.specs.Facts.Lists.{or_left, or_right, is_among_own, all_from}
 use Rattle.edit_simple.specs.Facts.Purging.{row_at-after_purge, x_goes, is_gone, purge_sound, without_none}
 use Rattle.edit_simple.specs.Facts.Rewriting.{fine}
-use Rattle.edit_simple.specs.Facts.PassingRows.{map_same, passes_at, among_rows}
+use Rattle.edit_simple.specs.Facts.PassingRows.{passes_at, among_rows}
 
 -- ---- lists of lists
 
@@ -107,7 +107,7 @@ module _ {A : Type 0} (m : Rows A) (x : Name) (sound : is_sound m ≡ true) wher
       by true h = short_is_user e h
       by false h = refl
 
-  row_is : (y : Name) → row_left gone x y (row_at m y) ≡ row_at (after_purge m x) y
+  row_is : (y : Name) → purged_row m gone x y ≡ row_at (after_purge m x) y
   row_is y =
       (λ i. cond (gone_is y i) None (option_map (λ v. with_nodes (without x) (with_members (filter (λ r. not (gone_is r.0 i))) v)) (row_at m y))) ∙ sym (row_at-after_purge m x y)
 
@@ -218,11 +218,8 @@ module _ {A : Type 0} (m : Rows A) (x : Name) (sound : is_sound m ≡ true) wher
       apart = λ y i e. becomes_other y (sym (is_among-name_set y reached) ∙ i) (sym (row_is y) ∙ e);
     }
 
-    changes_are : map (purged_change m gone x) (name_set reached) ≡ differences m (after_purge m x)
-    changes_are =
-        map_same (purged_change m gone x) (λ y. record { name = y; before = row_at m y; after = row_at (after_purge m x) y }) (name_set reached)
-        (λ y i. ap (λ o. record { name = y; before = row_at m y; after = o }) (row_is y))
-        ∙ ap (map (λ y. record { name = y; before = row_at m y; after = row_at (after_purge m x) y })) (differing_are m (after_purge m x) (name_set reached) (IsRising-name_set reached) set_differs)
+    changes_are : rows_changes m (purged_row m gone x) (name_set reached) ≡ differences m (after_purge m x)
+    changes_are = rows_differing m (after_purge m x) (purged_row m gone x) (name_set reached) (IsRising-name_set reached) set_differs (λ y i. row_is y)
 
     -- ---- the plan, with the names as they are found
 
@@ -237,6 +234,6 @@ module _ {A : Type 0} (m : Rows A) (x : Name) (sound : is_sound m ≡ true) wher
       pub found_may : MayPurge m keys x names
       found_may = subst (λ k. MayPurge m k x names) (sym keys_gone) (subst (λ l. MayPurge m gone x l) (sym names_reached) may_purge)
 
-      pub purge_planned : (cs : List (Change A)) → cs ≡ map (purged_change m keys x) names → IsPlan m (purge_checks m x) (after_purge m x) (Ok cs)
+      pub purge_planned : (cs : List (Change A)) → cs ≡ rows_changes m (purged_row m keys x) names → IsPlan m (purge_checks m x) (after_purge m x) (Ok cs)
       purge_planned cs is =
-          (ap (λ b. first_that_holds (then_some (not b) (Absent x) ∷ [])) here, is ∙ (λ i. map (purged_change m (keys_gone i) x) (names_reached i)) ∙ changes_are)
+          (ap (λ b. first_that_holds (then_some (not b) (Absent x) ∷ [])) here, is ∙ (λ i. rows_changes m (purged_row m (keys_gone i) x) (names_reached i)) ∙ changes_are)

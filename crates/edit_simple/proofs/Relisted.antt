@@ -12,7 +12,7 @@ use Rattle.osm_elements.specs.Rows.{row_at}
 use Rattle.osm_elements.specs.TagRows.{Pairs}
 use Rattle.osm_elements.specs.Facts.Rows.{same_names}
 use Rattle.osm_changes.specs.declared.change.Change.{Change}
-use Rattle.osm_changes.specs.Changes.{differences}
+use Rattle.osm_changes.specs.Changes.{row_changes, differences}
 use Rattle.osm_changes.specs.SameRows.{are_same_names, are_same_members}
 use Rattle.osm_changes.specs.Sound.{is_sound, most_nodes, most_members}
 use Rattle.edit_simple.specs.declared.refusal.Refusal.{Refusal}
@@ -22,7 +22,7 @@ use Rattle.edit_simple.specs.Create.{is_missing}
 use Rattle.edit_simple.specs.Kinds.{is_way, is_relation}
 use Rattle.edit_simple.specs.Members.{members_checks, after_members}
 use Rattle.edit_simple.specs.Nodes.{nodes_checks, after_nodes}
-use Rattle.edit_simple.specs.Parts.{nodes_of, members_of, with_nodes, with_members}
+use Rattle.edit_simple.specs.Contents.{nodes_of, members_of, with_nodes, with_members}
 use Rattle.edit_simple.specs.Plans.{IsPlan}
 use Rattle.edit_simple.specs.Reverse.{reverse_checks, after_reverse}
 use Rattle.edit_simple.specs.Facts.Differences.{one_rewritten}
@@ -40,11 +40,11 @@ module _ {A : Type 0} where
   -- what a change of one list answers
   abbrev pub Changed : Name → Bool → Element A → Element A → Result (List (Change A)) (Refusal A) → Type 0
   Changed x same v w r =
-      MatchResult r (λ cs. (same ≡ false) × (cs ≡ record { name = x; before = Some v; after = Some w } ∷ [])) (λ e. ((same ≡ true) × (e ≡ Nothing)) ⊎ (e ≡ Memory))
+      MatchResult r (λ cs. (same ≡ false) × (cs ≡ row_changes x (Some v) (Some w))) (λ e. ((same ≡ true) × (e ≡ Nothing)) ⊎ (e ≡ Memory))
 
   -- a plan where only the last check is left, that the list is another
   pub changed_planned : (m n : Rows A) (checks : List (Option (Refusal A))) (x : Name) (same : Bool) (v w : Element A)
-      → first_that_holds checks ≡ first_that_holds (then_some same Nothing ∷ []) → (same ≡ false → record { name = x; before = Some v; after = Some w } ∷ [] ≡ differences m n)
+      → first_that_holds checks ≡ first_that_holds (then_some same Nothing ∷ []) → (same ≡ false → row_changes x (Some v) (Some w) ≡ differences m n)
       → (r : Result (List (Change A)) (Refusal A)) → Changed x same v w r → IsPlan m checks n r
   changed_planned m n checks x same v w left differs (Ok cs) h = (left ∙ ap (λ b. first_that_holds (then_some b Nothing ∷ [])) h.0, h.1 ∙ differs h.0)
   changed_planned m n checks x same v w left differs (Err e) (inl h) = inl (left ∙ ap (λ b. first_that_holds (then_some b Nothing ∷ [])) h.0 ∙ ap Some (sym h.1))
@@ -91,9 +91,9 @@ module _ {A : Type 0} where
           (λ i. first_that_holds (then_some (not (way i)) (WrongKind w) ∷ then_some (not (is_some (is i))) (Absent w) ∷ then_some (are_same_names (nodes_of (is i)) (reverse (nodes_of (is i)))) Nothing ∷ []))
           ∙ ap (λ l. first_that_holds (then_some (are_same_names nodes l) Nothing ∷ [])) (sym e)
 
-      differs : are_same_names nodes turned ≡ false → record { name = w; before = Some (Way nodes tags); after = Some (Way turned tags) } ∷ [] ≡ differences m (after_reverse m w)
+      differs : are_same_names nodes turned ≡ false → row_changes w (Some (Way nodes tags)) (Some (Way turned tags)) ≡ differences m (after_reverse m w)
       differs other =
-          ap (λ l. record { name = w; before = Some (Way nodes tags); after = Some (Way l tags) } ∷ []) e
+          ap (λ l. row_changes w (Some (Way nodes tags)) (Some (Way l tags))) e
           ∙ one_rewritten m w (with_nodes reverse) (Way nodes tags) is (nodes_apart nodes (reverse nodes) tags tags (ap (are_same_names nodes) (sym e) ∙ other))
 
   -- ---- nodes
@@ -120,9 +120,9 @@ module _ {A : Type 0} where
       changed_planned m (after_nodes m w list) (nodes_checks m w list) w (are_same_names nodes others) (Way nodes tags) (Way others tags)
       (nodes_left m w list nodes tags way is few many None none ∙ ap (λ l. first_that_holds (then_some (are_same_names nodes l) Nothing ∷ [])) (sym e)) differs r h
     where
-      differs : are_same_names nodes others ≡ false → record { name = w; before = Some (Way nodes tags); after = Some (Way others tags) } ∷ [] ≡ differences m (after_nodes m w list)
+      differs : are_same_names nodes others ≡ false → row_changes w (Some (Way nodes tags)) (Some (Way others tags)) ≡ differences m (after_nodes m w list)
       differs other =
-          ap (λ l. record { name = w; before = Some (Way nodes tags); after = Some (Way l tags) } ∷ []) e
+          ap (λ l. row_changes w (Some (Way nodes tags)) (Some (Way l tags))) e
           ∙ one_rewritten m w (with_nodes (λ _. list)) (Way nodes tags) is (nodes_apart nodes list tags tags (ap (are_same_names nodes) (sym e) ∙ other))
 
   -- ---- members

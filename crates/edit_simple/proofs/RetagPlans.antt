@@ -1,12 +1,11 @@
 -- Plans of retags.
-use Rattle.std.proofs.Common.{◌≡◌, ◌≢◌, ◌⊎◌, ◌≤◌, ◌<◌, ◌+◌, ℕ, zero, suc, Bool, true, false, not, ◌&&◌, T, List, [], ◌∷◌, ◌++◌, Option, Some, None, Result, Ok, Err, IfErr, inl, inr, is_some, length, map, take, drop, get_or, nat_eq, nat_lt, nat_le, refl, sym, ap, subst, ◌∙◌, arith}
+use Rattle.std.proofs.Common.{◌≡◌, ◌≢◌, ◌⊎◌, ◌≤◌, ◌<◌, ◌+◌, ℕ, true, false, not, T, List, [], ◌∷◌, ◌++◌, Option, Some, None, Ok, inl, inr, is_some, length, map, take, drop, get_or, nat_lt, refl, sym, ap, subst, ◌∙◌, arith}
 use Rattle.std.proofs.lemmas.Bool.Decides.{nat_tests}
 use Rattle.std.proofs.lemmas.List.{map-append, take-append-drop}
 use Rattle.std.proofs.lemmas.List.Sums.{fold-append}
 use Rattle.std.specs.Bool.{then_some}
-use Rattle.std.specs.Result.{IsErrAnd}
-use Rattle.std.specs.List.{list_all}
 use Rattle.std.specs.FinMap.Entries.{is_sorted}
+use Rattle.osm_elements.specs.declared.keyed.Keyed.{Keyed}
 use Rattle.osm_elements.specs.declared.fault.TextFault.{TextFault}
 use Rattle.osm_elements.specs.declared.fault.TextFault.TheVariants as faults
 use Rattle.osm_elements.specs.declared.name.Name.{Name}
@@ -15,96 +14,69 @@ use Rattle.osm_elements.specs.declared.element.Element.TheVariants as elements
 use Rattle.osm_elements.specs.Elements.{tags_of}
 use Rattle.osm_elements.specs.Maps.{Rows}
 use Rattle.osm_elements.specs.Rows.{row_at}
-use Rattle.osm_elements.specs.TagRows.{Pairs, text_cmp, is_tag, AreTagRows, value_at}
-use Rattle.osm_elements.specs.Texts.{is_long}
-use Rattle.osm_elements.specs.Facts.Entries.{first, second}
+use Rattle.osm_elements.specs.KeyedRows.{text_cmp, value_at}
+use Rattle.osm_elements.specs.TagRows.{Pairs, AreTagRows}
+use Rattle.osm_elements.specs.KeyedValues.{is_short, is_none_or}
+use Rattle.osm_elements.specs.Facts.KeyedRows.{sorted_rows, not_over_1000}
 use Rattle.osm_changes.specs.declared.change.Change.{Change}
+use Rattle.osm_changes.specs.Changes.{row_changes}
 use Rattle.osm_changes.specs.SameRows.{are_same_tags}
-use Rattle.osm_changes.specs.Facts.SoundRows.{is_true}
 use Rattle.edit_simple.specs.declared.refusal.Refusal.TheVariants.{Absent, TooMany, Nothing}
-use Rattle.edit_simple.specs.declared.retag.Given.{Given}
 use Rattle.edit_simple.specs.Checks.{first_that_holds}
-use Rattle.edit_simple.specs.GivenPairs.{given_pair}
-use Rattle.edit_simple.specs.Parts.{row_tags, with_tags}
+use Rattle.edit_simple.specs.Contents.{row_tags, with_tags}
 use Rattle.edit_simple.specs.Plans.{IsPlan}
 use Rattle.edit_simple.specs.Retag.{retag_checks, after_retag}
-use Rattle.edit_simple.specs.Tagging.{Gifts, AreGifts, is_gift, is_short_value, retagged, most_tags}
-use Rattle.edit_simple.specs.Inner.Retagging.{all_lost, all_got, got}
+use Rattle.edit_simple.specs.Tagging.{GivenTags, AreGiven, given_pair, retagged, most_tags}
+use Rattle.edit_simple.specs.Inner.Retagging.{all_removed, all_valued, valued}
 use Rattle.edit_simple.specs.Facts.Differences.{one_rewritten}
+use Rattle.edit_simple.specs.Facts.Lists.{drop_at}
 use Rattle.edit_simple.specs.Facts.Retagging.{tags_of-with_tags, same_tags_itself}
-use Rattle.edit_simple.proofs.Alike.{here}
-use Rattle.edit_simple.proofs.GivenPlaces.{sorted_gifts, each_gift}
-use Rattle.edit_simple.proofs.Retagged.{two_goes, sorted-all_got, too_many_in_the_end}
-
-some_key : (key : List ℕ) (value : Option (List ℕ)) → T (is_gift (key, value)) → nat_eq (length key) 0 ≡ false
-some_key key value h = by (nat_eq (length key) 0) (first (not (nat_eq (length key) 0)) (not (is_long key) && is_short_value value) h)
-  where
-    by : (b : Bool) → T (not b) → b ≡ false
-    by true t = absurd t
-    by false t = refl
+use Rattle.edit_simple.proofs.Retagged.{two_goes, sorted-all_valued, too_many_in_the_end}
 
 module _ {A : Type 0} where
-  key_at : (rows : List (Given A)) → T (list_all is_gift (map given_pair rows)) → (i : ℕ) (x : Given A) → i < length rows → x ≡ get_or rows i x → nat_eq (length x.key) 0 ≡ false
-  key_at [] h i x l is = absurd (omega (arith, l))
-  key_at (r ∷ rows) h zero x l is = ap (λ (z : Given A). nat_eq (length z.key) 0) is ∙ some_key r.key r.value (first (is_gift (given_pair r)) (list_all is_gift (map given_pair rows)) h)
-  key_at (r ∷ rows) h (suc i) x l is = key_at rows (second (is_gift (given_pair r)) (list_all is_gift (map given_pair rows)) h) i x (omega (arith, l)) is
-
-  -- each key of a retag has a character
-  pub given_key : (rows : List (Given A)) → AreGifts (map given_pair rows) → (i : ℕ) (x : Given A) → i < length rows → x ≡ get_or rows i x → nat_eq (length x.key) 0 ≡ false
-  given_key rows h = key_at rows (each_gift (map given_pair rows) h)
-
   -- where a new key finds a thousand tags, there are more in the end
-  pub too_many_given : (rows : List (Given A)) (t u : Pairs) (i : ℕ) (x : Given A) → T (is_sorted text_cmp t) → i < length rows → x ≡ get_or rows i x → u ≡ all_got t (map given_pair (take i rows))
-      → is_some x.value ≡ true → is_some (value_at u x.key) ≡ false → 1000 ≤ length u → 1000 < length (all_got t (map given_pair rows))
+  pub too_many_given : (rows : List (Keyed (Option (List ℕ)) A)) (t u : Pairs) (i : ℕ) (x : Keyed (Option (List ℕ)) A) → T (is_sorted text_cmp t) → i < length rows → x ≡ get_or rows i x → u ≡ all_valued t (map given_pair (take i rows))
+      → is_some x.value ≡ true → is_some (value_at u x.key) ≡ false → 1000 ≤ length u → 1000 < length (all_valued t (map given_pair rows))
   too_many_given rows t u i x sorted l is inv some new full =
       subst (λ n. 1000 < length n) (sym split) (by x.value some)
     where
-      rest : Gifts
+      rest : GivenTags
       rest = map given_pair (drop (i + 1) rows)
 
-      split : all_got t (map given_pair rows) ≡ all_got (got u x.key x.value) rest
+      split : all_valued t (map given_pair rows) ≡ all_valued (valued u x.key x.value) rest
       split =
-          ap (λ l. all_got t (map given_pair l)) (sym (take-append-drop i rows) ∙ ap (λ l. take i rows ++ l) (here given_pair (λ p q. true) rows rows rows i x l is))
-          ∙ ap (all_got t) (map-append given_pair (take i rows) (x ∷ drop (i + 1) rows))
-          ∙ fold-append (λ v g. got v g.0 g.1) t (map given_pair (take i rows)) (given_pair x ∷ rest)
-          ∙ ap (λ v. all_got (got v x.key x.value) rest) (sym inv)
+          ap (λ l. all_valued t (map given_pair l)) (sym (take-append-drop i rows) ∙ ap (λ l. take i rows ++ l) (drop_at rows i x l is))
+          ∙ ap (all_valued t) (map-append given_pair (take i rows) (x ∷ drop (i + 1) rows))
+          ∙ fold-append (λ v g. valued v g.0 g.1) t (map given_pair (take i rows)) (given_pair x ∷ rest)
+          ∙ ap (λ v. all_valued (valued v x.key x.value) rest) (sym inv)
 
       sorted_u : T (is_sorted text_cmp u)
-      sorted_u = subst (λ v. T (is_sorted text_cmp v)) (sym inv) (sorted-all_got (map given_pair (take i rows)) t sorted)
+      sorted_u = subst (λ v. T (is_sorted text_cmp v)) (sym inv) (sorted-all_valued (map given_pair (take i rows)) t sorted)
 
-      by : (o : Option (List ℕ)) → is_some o ≡ true → 1000 < length (all_got (got u x.key o) rest)
+      by : (o : Option (List ℕ)) → is_some o ≡ true → 1000 < length (all_valued (valued u x.key o) rest)
       by None s = absurd (cc)
       by (Some value) s = too_many_in_the_end x.key value rest u sorted_u new full
 
   -- the fault of one key, told of all
-  pub fault_told : (rows : List (Given A)) (t u : Pairs) (i : ℕ) (x : Given A) (f : TextFault) → T (is_sorted text_cmp t) → i < length rows → x ≡ get_or rows i x → u ≡ all_got t (map given_pair (take i rows))
+  pub fault_told : (rows : List (Keyed (Option (List ℕ)) A)) (t u : Pairs) (i : ℕ) (x : Keyed (Option (List ℕ)) A) (f : TextFault) → T (is_sorted text_cmp t) → i < length rows → x ≡ get_or rows i x → u ≡ all_valued t (map given_pair (take i rows))
       → ((f ≡ faults.Memory) ⊎ ((f ≡ faults.TooManyTags) × (is_some x.value ≡ true) × (is_some (value_at u x.key) ≡ false) × (1000 ≤ length u)))
-      → ((f ≡ faults.TooManyTags) × (1000 < length (all_got t (map given_pair rows)))) ⊎ (f ≡ faults.Memory)
+      → ((f ≡ faults.TooManyTags) × (1000 < length (all_valued t (map given_pair rows)))) ⊎ (f ≡ faults.Memory)
   fault_told rows t u i x f sorted l is inv (inl h) = inr h
   fault_told rows t u i x f sorted l is inv (inr h) = inl (h.0, too_many_given rows t u i x sorted l is inv h.1 h.2 h.3)
 
-pub err_same : {X E : Type 0} (Q : E → Type 0) (r : Result X E) (e : E) → IsErrAnd r (λ x. x ≡ e) → Q e → IfErr r Q
-err_same Q (Ok x) e h q = tt
-err_same Q (Err x) e h q = subst Q (sym h) q
-
 -- what the two goes make
-module _ (t copied less new : Pairs) (g g2 g4 : Gifts) (copy : copied ≡ t) (same2 : g2 ≡ g) (same4 : g4 ≡ g) (lost : less ≡ all_lost copied g2) (tags : AreTagRows t) (gifts : AreGifts g) where
-  made : all_got less g4 ≡ retagged t g
-  made = (λ i. all_got (lost i) (same4 i)) ∙ (λ i. all_got (all_lost (copy i) (same2 i)) g) ∙ two_goes g t (sorted_gifts g gifts) (first (is_sorted text_cmp t) (nat_le (length t) 1000 && list_all is_tag t) tags)
+module _ (t copied less new : Pairs) (g g2 g4 : GivenTags) (copy : copied ≡ t) (same2 : g2 ≡ g) (same4 : g4 ≡ g) (removed : less ≡ all_removed copied g2) (tags : AreTagRows t) (given : AreGiven g) where
+  made : all_valued less g4 ≡ retagged t g
+  made = (λ i. all_valued (removed i) (same4 i)) ∙ (λ i. all_valued (all_removed (copy i) (same2 i)) g) ∙ two_goes g t (sorted_rows (is_none_or is_short) g given) (sorted_rows is_short t tags)
 
-  not_over : (rows : Pairs) → AreTagRows rows → nat_lt most_tags (length rows) ≡ false
-  not_over rows h =
-      let few = is_true (nat_le (length rows) 1000) (first (nat_le (length rows) 1000) (list_all is_tag rows) (second (is_sorted text_cmp rows) (nat_le (length rows) 1000 && list_all is_tag rows) h)) in
-      grind (arith, nat_tests)
-
-  pub retagged_well : new ≡ all_got less g4 → AreTagRows new → (nat_lt most_tags (length (retagged t g)) ≡ false) × (new ≡ retagged t g)
-  retagged_well is sound = (ap (λ l. nat_lt most_tags (length l)) (sym (is ∙ made)) ∙ not_over new sound, is ∙ made)
+  pub retagged_well : new ≡ all_valued less g4 → AreTagRows new → (nat_lt most_tags (length (retagged t g)) ≡ false) × (new ≡ retagged t g)
+  retagged_well is sound = (ap (λ l. nat_lt most_tags (length l)) (sym (is ∙ made)) ∙ not_over_1000 is_short new sound, is ∙ made)
 
   over : (n : ℕ) → 1000 < n → nat_lt most_tags n ≡ true
   over n h = grind (arith, nat_tests)
 
-  pub retagged_over : (f : TextFault) → f ≡ faults.TooManyTags → (((f ≡ faults.TooManyTags) × (1000 < length (all_got less g4))) ⊎ (f ≡ faults.Memory)) → nat_lt most_tags (length (retagged t g)) ≡ true
-  retagged_over f is (inl h) = ap (λ l. nat_lt most_tags (length l)) (sym made) ∙ over (length (all_got less g4)) h.1
+  pub retagged_over : (f : TextFault) → f ≡ faults.TooManyTags → (((f ≡ faults.TooManyTags) × (1000 < length (all_valued less g4))) ⊎ (f ≡ faults.Memory)) → nat_lt most_tags (length (retagged t g)) ≡ true
+  retagged_over f is (inl h) = ap (λ l. nat_lt most_tags (length l)) (sym made) ∙ over (length (all_valued less g4)) h.1
   retagged_over f is (inr e) = absurd (cc (sym is ∙ e))
 
 module _ {A : Type 0} where
@@ -119,14 +91,14 @@ module _ {A : Type 0} where
   with_same f tags (elements.Way nodes t) e = ap (λ l. elements.Way nodes l) e
   with_same f tags (elements.Relation members t) e = ap (λ l. elements.Relation members l) e
 
-  pub retag_planned : (m : Rows A) (x : Name) (given : Gifts) (v before after : Element A) (own tags : Pairs) (cs : List (Change A)) → row_at m x ≡ Some v → own ≡ tags_of v
+  pub retag_planned : (m : Rows A) (x : Name) (given : GivenTags) (v before after : Element A) (own tags : Pairs) (cs : List (Change A)) → row_at m x ≡ Some v → own ≡ tags_of v
       → nat_lt most_tags (length (retagged own given)) ≡ false → tags ≡ retagged own given → false ≡ are_same_tags own tags → before ≡ v → after ≡ with_tags (λ _. tags) v
-      → cs ≡ record { name = x; before = Some before; after = Some after } ∷ [] → IsPlan m (retag_checks m x given) (after_retag m x given) (Ok cs)
+      → cs ≡ row_changes x (Some before) (Some after) → IsPlan m (retag_checks m x given) (after_retag m x given) (Ok cs)
   retag_planned m x given v before after own tags cs is o few made other b a changes = (
     (λ i. first_that_holds (then_some (not (is_some (is i))) (Absent x) ∷ then_some (nat_lt most_tags (length (retagged (row_tags (is i)) given))) (TooMany x) ∷ then_some (are_same_tags (row_tags (is i)) (retagged (row_tags (is i)) given)) Nothing ∷ []))
         ∙ (λ i. first_that_holds (then_some (nat_lt most_tags (length (retagged (sym o i) given))) (TooMany x) ∷ then_some (are_same_tags (sym o i) (retagged (sym o i) given)) Nothing ∷ []))
         ∙ (λ i. first_that_holds (then_some (few i) (TooMany x) ∷ then_some (((ap (are_same_tags own) (sym made)) ∙ sym other) i) Nothing ∷ [])),
-    changes ∙ (λ i. record { name = x; before = Some (b i); after = Some (turned i) } ∷ []) ∙ one_rewritten m x (with_tags f) v is apart,
+    changes ∙ (λ i. row_changes x (Some (b i)) (Some (turned i))) ∙ one_rewritten m x (with_tags f) v is apart,
   )
     where
       f : Pairs → Pairs

@@ -1,18 +1,20 @@
 -- What the worked examples say of the definitions.
-use Rattle.std.specs.Prelude.{◌≡◌, [], ◌∷◌, Some, None, pos, negsuc}
-use Rattle.osm_elements.specs.declared.element.Element.TheVariants.{Node}
+use Rattle.std.specs.Prelude.{◌≡◌, ◌++◌, [], ◌∷◌, Some, None, pos, negsuc, replicate}
+use Rattle.osm_elements.specs.declared.element.Element.TheVariants.{Node, Way}
 use Rattle.osm_elements.specs.Maps.{Rows}
-use Rattle.osm_elements.specs.Rows.{row_at}
-use Rattle.edit_simple.specs.declared.refusal.Refusal.TheVariants.{Absent, Present, WrongKind, OutOfRange, TooFew, InUse, Nothing}
+use Rattle.osm_elements.specs.Rows.{row_at, put_row}
+use Rattle.osm_elements.specs.Scenes.{thousand_tags}
+use Rattle.osm_elements.specs.TagRows.{Pairs}
+use Rattle.edit_simple.specs.declared.refusal.Refusal.TheVariants.{Absent, Present, WrongKind, OutOfRange, TooFew, TooMany, InUse, Nothing}
 use Rattle.edit_simple.specs.Create.{create_checks, after_create}
 use Rattle.edit_simple.specs.Delete.{delete_checks, after_delete}
-use Rattle.edit_simple.specs.Members.{members_checks}
+use Rattle.edit_simple.specs.Members.{members_checks, after_members}
 use Rattle.edit_simple.specs.Move.{move_checks, after_move}
-use Rattle.edit_simple.specs.Nodes.{nodes_checks}
+use Rattle.edit_simple.specs.Nodes.{nodes_checks, after_nodes}
 use Rattle.edit_simple.specs.Purge.{purge_checks, after_purge}
-use Rattle.edit_simple.specs.Retag.{retag_checks}
+use Rattle.edit_simple.specs.Retag.{retag_checks, after_retag}
 use Rattle.edit_simple.specs.Reverse.{reverse_checks, after_reverse}
-use Rattle.edit_simple.specs.Scenes.{Any, n-1, n-2, n-3, n-7, n-8, n5, w1, w2, w3, w5, r1, r9, node_at, way_of, relation_of, outer, x, start, refused}
+use Rattle.edit_simple.specs.Scenes.{Any, n-1, n-2, n-3, n-7, n-8, n5, w1, w2, w3, w5, r1, r9, node_at, way_of, relation_of, outer, x, start, start_with, refused}
 
 -- what is in use is not deleted, and the least user is named
 unfoldable pub in_use : Type 0
@@ -21,7 +23,8 @@ in_use =
     × (refused (delete_checks start w1) ≡ Some (InUse w1 r1))
     × (refused (delete_checks start w3) ≡ Some (Absent w3))
     × (refused (delete_checks start r1) ≡ None)
-    × (row_at (after_delete start r1) r1 ≡ None)
+    × (after_delete start r1
+    ≡ (n-3, node_at 3) ∷ (n-2, node_at 2) ∷ (n-1, node_at 1) ∷ (w1, way_of (n-1 ∷ n-2 ∷ [])) ∷ (w2, way_of (n-1 ∷ n-3 ∷ n-2 ∷ [])) ∷ [])
 
 -- the start after a relation that is its own member was made
 abbrev pub with_itself : Rows Any
@@ -47,13 +50,50 @@ nothing =
     × (refused (nodes_checks with_return w3 (n-1 ∷ n-2 ∷ n-1 ∷ [])) ≡ Some Nothing)
     × (refused (members_checks with_itself r9 ((r9, []) ∷ [])) ≡ Some Nothing)
 
--- a way is turned round, and a node is moved once, however often it is named
-unfoldable pub rewritten : Type 0
-rewritten =
+-- a way comes, and its row stands behind those of the lesser names
+unfoldable pub created : Type 0
+created =
+    (refused (create_checks start w3 (way_of (n-1 ∷ n-2 ∷ n-1 ∷ []))) ≡ None)
+    × (after_create start w3 (way_of (n-1 ∷ n-2 ∷ n-1 ∷ []))
+    ≡ (n-3, node_at 3) ∷ (n-2, node_at 2) ∷ (n-1, node_at 1) ∷ (w1, way_of (n-1 ∷ n-2 ∷ [])) ∷ (w2, way_of (n-1 ∷ n-3 ∷ n-2 ∷ []))
+    ∷ (w3, way_of (n-1 ∷ n-2 ∷ n-1 ∷ [])) ∷ (r1, relation_of ((n-1, []) ∷ (w2, outer) ∷ (w1, outer) ∷ (w2, outer) ∷ [])) ∷ [])
+    × (refused (create_checks start n5 (node_at 5)) ≡ None)
+
+-- the start with these tags on w1
+abbrev pub tagged : Pairs → Rows Any
+tagged tags = start_with (Way (n-1 ∷ n-2 ∷ []) tags) (way_of (n-1 ∷ n-3 ∷ n-2 ∷ [])) ((n-1, []) ∷ (w2, outer) ∷ (w1, outer) ∷ (w2, outer) ∷ [])
+
+-- keys get their values in the order of their bytes, new ones or others, and a key with none loses its tag, where it has one
+unfoldable pub retagged : Type 0
+retagged =
+    (refused (retag_checks start w1 ((outer, Some x) ∷ (x, Some []) ∷ [])) ≡ None)
+    × (after_retag start w1 ((outer, Some x) ∷ (x, Some []) ∷ []) ≡ tagged ((outer, x) ∷ (x, []) ∷ []))
+    × (refused (retag_checks (tagged ((outer, x) ∷ (x, []) ∷ [])) w1 ((outer, None) ∷ (x, Some outer) ∷ [])) ≡ None)
+    × (after_retag (tagged ((outer, x) ∷ (x, []) ∷ [])) w1 ((outer, None) ∷ (x, Some outer) ∷ []) ≡ tagged ((x, outer) ∷ []))
+    × (after_retag (tagged ((x, outer) ∷ [])) w1 ((outer, Some []) ∷ []) ≡ tagged ((outer, []) ∷ (x, outer) ∷ []))
+    × (after_retag (tagged ((x, outer) ∷ [])) w1 ((outer, None) ∷ []) ≡ tagged ((x, outer) ∷ []))
+
+-- what is listed and the nodes of listed ways are moved once, however often they are named; where way w2 is not listed, n-3 stays
+unfoldable pub moved : Type 0
+moved =
+    (refused (move_checks start (w2 ∷ n-1 ∷ []) (negsuc 9999999) (pos 5)) ≡ None)
+    × (after_move start (w2 ∷ n-1 ∷ []) (negsuc 9999999) (pos 5)
+    ≡ (n-3, Node (pos 20000000) (pos 30000005) []) ∷ (n-2, Node (pos 10000000) (pos 20000005) []) ∷ (n-1, Node (pos 0) (pos 10000005) [])
+    ∷ (w1, way_of (n-1 ∷ n-2 ∷ [])) ∷ (w2, way_of (n-1 ∷ n-3 ∷ n-2 ∷ [])) ∷ (r1, relation_of ((n-1, []) ∷ (w2, outer) ∷ (w1, outer) ∷ (w2, outer) ∷ [])) ∷ [])
+    × (row_at (after_move start (w1 ∷ []) (pos 1) (pos 0)) n-3 ≡ Some (node_at 3))
+    × (row_at (after_move start (w1 ∷ []) (pos 1) (pos 0)) n-2 ≡ Some (Node (pos 20000001) (pos 20000000) []))
+
+-- a way is turned round, or gets other nodes, and a relation other members, itself among them, or none
+unfoldable pub relisted : Type 0
+relisted =
     (refused (reverse_checks start w2) ≡ None)
-    × (row_at (after_reverse start w2) w2 ≡ Some (way_of (n-2 ∷ n-3 ∷ n-1 ∷ [])))
-    × (refused (move_checks start (w2 ∷ n-1 ∷ []) (negsuc 9999999) (pos 5)) ≡ None)
-    × (row_at (after_move start (w2 ∷ n-1 ∷ []) (negsuc 9999999) (pos 5)) n-1 ≡ Some (Node (pos 0) (pos 10000005) []))
+    × (after_reverse start w2 ≡ start_with (way_of (n-1 ∷ n-2 ∷ [])) (way_of (n-2 ∷ n-3 ∷ n-1 ∷ [])) ((n-1, []) ∷ (w2, outer) ∷ (w1, outer) ∷ (w2, outer) ∷ []))
+    × (refused (nodes_checks start w2 (n-3 ∷ n-1 ∷ n-3 ∷ [])) ≡ None)
+    × (after_nodes start w2 (n-3 ∷ n-1 ∷ n-3 ∷ []) ≡ start_with (way_of (n-1 ∷ n-2 ∷ [])) (way_of (n-3 ∷ n-1 ∷ n-3 ∷ [])) ((n-1, []) ∷ (w2, outer) ∷ (w1, outer) ∷ (w2, outer) ∷ []))
+    × (refused (members_checks start r1 ((r1, x) ∷ (n-2, []) ∷ [])) ≡ None)
+    × (after_members start r1 ((r1, x) ∷ (n-2, []) ∷ []) ≡ start_with (way_of (n-1 ∷ n-2 ∷ [])) (way_of (n-1 ∷ n-3 ∷ n-2 ∷ [])) ((r1, x) ∷ (n-2, []) ∷ []))
+    × (refused (members_checks start r1 []) ≡ None)
+    × (row_at (after_members start r1 []) r1 ≡ Some (relation_of []))
 
 -- the way that goes there and back, twice in a relation
 abbrev pub with_return_twice : Rows Any
@@ -78,14 +118,61 @@ purged =
     × (row_at (after_purge (after_create start r9 (relation_of ((w2, x) ∷ []))) w2) r9 ≡ Some (relation_of []))
     × (refused (purge_checks start w3) ≡ Some (Absent w3))
 
--- refusals of names, kinds, lengths and ranges
-unfoldable pub refusals : Type 0
-refusals =
-    (refused (reverse_checks start n5) ≡ Some (WrongKind n5))
-    × (refused (move_checks start (n-1 ∷ []) (pos 900000000) (pos 0)) ≡ Some (OutOfRange n-1))
-    × (refused (create_checks start w5 (way_of (n-7 ∷ n-8 ∷ []))) ≡ Some (Absent n-8))
-    × (refused (create_checks start w5 (way_of (n-1 ∷ []))) ≡ Some (TooFew w5))
+-- a create is refused for its kind, then where the name is there, then for its length, and then by the least that is absent
+unfoldable pub create_refusals : Type 0
+create_refusals =
+    (refused (create_checks start n-1 (way_of [])) ≡ Some (WrongKind n-1))
     × (refused (create_checks start n-1 (node_at 1)) ≡ Some (Present n-1))
-    × (refused (create_checks start n-1 (way_of [])) ≡ Some (WrongKind n-1))
-    × (refused (nodes_checks start r1 (n-1 ∷ n-2 ∷ [])) ≡ Some (WrongKind r1))
-    × (refused (members_checks start w1 []) ≡ Some (WrongKind w1))
+    × (refused (create_checks start w1 (way_of [])) ≡ Some (Present w1))
+    × (refused (create_checks start w5 (way_of [])) ≡ Some (TooFew w5))
+    × (refused (create_checks start w5 (way_of (n-7 ∷ []))) ≡ Some (TooFew w5))
+    × (refused (create_checks start w5 (way_of (replicate 2000 n-1))) ≡ None)
+    × (refused (create_checks start w5 (way_of (replicate 2001 n-7))) ≡ Some (TooMany w5))
+    × (refused (create_checks start r9 (relation_of (replicate 32000 (n-1, x)))) ≡ None)
+    × (refused (create_checks start r9 (relation_of (replicate 32001 (n-7, x)))) ≡ Some (TooMany r9))
+    × (refused (create_checks start w5 (way_of (n-7 ∷ n-8 ∷ n-7 ∷ []))) ≡ Some (Absent n-8))
+    × (refused (create_checks start r9 (relation_of ((r9, []) ∷ (w5, x) ∷ (w3, x) ∷ []))) ≡ Some (Absent w3))
+
+-- the start with a node at five degrees that has these tags
+abbrev pub with_tags_on : Pairs → Rows Any
+with_tags_on tags = put_row start n5 (Node (pos 50000000) (pos 50000000) tags)
+
+-- a retag is refused where its element is absent, then where there would be more than a thousand tags, however many there were
+unfoldable pub retag_refusals : Type 0
+retag_refusals =
+    (refused (retag_checks start w3 ((x, Some x) ∷ [])) ≡ Some (Absent w3))
+    × (refused (retag_checks (with_tags_on thousand_tags) n5 ((x, Some x) ∷ [])) ≡ Some (TooMany n5))
+    × (refused (retag_checks (with_tags_on thousand_tags) n5 ((48 ∷ 48 ∷ [], None) ∷ (x, Some x) ∷ [])) ≡ None)
+    × (refused (retag_checks (with_tags_on thousand_tags) n5 ((48 ∷ 48 ∷ [], Some x) ∷ [])) ≡ None)
+    × (refused (retag_checks (with_tags_on (thousand_tags ++ (x, []) ∷ [])) n5 ((48 ∷ 48 ∷ [], Some x) ∷ [])) ≡ Some (TooMany n5))
+
+-- a move is refused by the least relation, then by the least that is absent, and then by the least node that would leave the range
+unfoldable pub move_refusals : Type 0
+move_refusals =
+    (refused (move_checks start (w3 ∷ r9 ∷ n-1 ∷ r1 ∷ []) (pos 0) (pos 0)) ≡ Some (WrongKind r1))
+    × (refused (move_checks start (w3 ∷ n-7 ∷ n-1 ∷ []) (pos 900000000) (pos 0)) ≡ Some (Absent n-7))
+    × (refused (move_checks start (n-1 ∷ n-2 ∷ []) (pos 900000000) (pos 0)) ≡ Some (OutOfRange n-2))
+    × (refused (move_checks start (n-1 ∷ []) (pos 890000001) (pos 0)) ≡ Some (OutOfRange n-1))
+    × (refused (move_checks start (n-1 ∷ []) (pos 890000000) (pos 0)) ≡ None)
+    × (refused (move_checks start (w1 ∷ []) (pos 0) (pos 1780000001)) ≡ Some (OutOfRange n-2))
+    × (refused (move_checks start (w1 ∷ []) (pos 0) (pos 1780000000)) ≡ None)
+    × (refused (move_checks start (n-1 ∷ []) (pos 0) (negsuc 1810000000)) ≡ Some (OutOfRange n-1))
+    × (refused (move_checks start (n-1 ∷ []) (pos 0) (negsuc 1809999999)) ≡ None)
+
+-- a reverse, nodes or members are refused for the kind, then where the element is absent, then for the length, and then by the
+-- least that is absent
+unfoldable pub relist_refusals : Type 0
+relist_refusals =
+    (refused (reverse_checks start n5) ≡ Some (WrongKind n5))
+    × (refused (reverse_checks start w5) ≡ Some (Absent w5))
+    × (refused (nodes_checks start r9 []) ≡ Some (WrongKind r9))
+    × (refused (nodes_checks start w5 []) ≡ Some (Absent w5))
+    × (refused (nodes_checks start w1 (n-7 ∷ [])) ≡ Some (TooFew w1))
+    × (refused (nodes_checks start w1 (replicate 2000 n-1)) ≡ None)
+    × (refused (nodes_checks start w1 (replicate 2001 n-7)) ≡ Some (TooMany w1))
+    × (refused (nodes_checks start w1 (n-7 ∷ n-1 ∷ n-8 ∷ [])) ≡ Some (Absent n-8))
+    × (refused (members_checks start w5 []) ≡ Some (WrongKind w5))
+    × (refused (members_checks start r9 []) ≡ Some (Absent r9))
+    × (refused (members_checks start r1 (replicate 32000 (n-1, x))) ≡ None)
+    × (refused (members_checks start r1 (replicate 32001 (n-7, x))) ≡ Some (TooMany r1))
+    × (refused (members_checks start r1 ((r9, x) ∷ (w5, x) ∷ (w3, x) ∷ (n-1, x) ∷ [])) ≡ Some (Absent w3))

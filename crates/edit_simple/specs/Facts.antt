@@ -10,9 +10,9 @@ pub mod Kinds
 pub mod LeastNames
 pub mod Lists
 pub mod Moving
-pub mod NameSets
 pub mod PassingRows
 pub mod Purging
 pub mod Relisting
 pub mod Retagging
 pub mod Rewriting
+pub mod SameMaps

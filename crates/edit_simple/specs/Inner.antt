@@ -2,7 +2,5 @@
 pub mod Least
 pub mod Moves
 pub mod Moving
-pub mod Passing
-pub mod Places
 pub mod Purging
 pub mod Retagging

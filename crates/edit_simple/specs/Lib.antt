@@ -1,15 +1,15 @@
 pub mod Checks
+pub mod Contents
 pub mod Create
 pub mod Delete
 pub mod Examples
 pub mod Facts
-pub mod GivenPairs
 pub mod Inner
 pub mod Kinds
 pub mod Members
 pub mod Move
 pub mod Nodes
-pub mod Parts
+pub mod Passing
 pub mod Plans
 pub mod Purge
 pub mod Retag

@@ -11,7 +11,7 @@ use Rattle.edit_simple.specs.declared.refusal.Refusal.{Refusal}
 use Rattle.edit_simple.specs.declared.refusal.Refusal.TheVariants.{Absent, WrongKind, TooMany, Nothing}
 use Rattle.edit_simple.specs.Checks.{the_least}
 use Rattle.edit_simple.specs.Kinds.{is_relation}
-use Rattle.edit_simple.specs.Parts.{members_of, with_members, each_row, at_name}
+use Rattle.edit_simple.specs.Contents.{members_of, with_members, each_row, at_name}
 
 module _ {A : Type 0} where
   -- it is a relation, it is there, the list has at most 32,000 entries, which are there, and it is another than before

@@ -15,7 +15,7 @@ use Rattle.edit_simple.specs.declared.refusal.Refusal.{Refusal}
 use Rattle.edit_simple.specs.declared.refusal.Refusal.TheVariants.{Absent, WrongKind, OutOfRange, Nothing}
 use Rattle.edit_simple.specs.Checks.{the_least}
 use Rattle.edit_simple.specs.Kinds.{is_relation}
-use Rattle.edit_simple.specs.Parts.{nodes_of, each_row}
+use Rattle.edit_simple.specs.Contents.{nodes_of, each_row}
 
 module _ {A : Type 0} where
   -- a node that is listed, or is a node of a listed way
@@ -45,6 +45,10 @@ module _ {A : Type 0} where
       ∷ then_some (nat_eq (length list) 0 || (int_eq dlat (pos 0) && int_eq dlon (pos 0))) Nothing
       ∷ []
 
+  -- what a row becomes: a node that is moved lies elsewhere
+  abbrev pub moves : Rows A → List Name → ℤ → ℤ → Name → Element A → Element A
+  moves m list dlat dlon y v = if is_moved m list y then moved_by dlat dlon v else v
+
   -- each listed node, and each node of each listed way, is moved once, however often it is named
   abbrev pub after_move : Rows A → List Name → ℤ → ℤ → Rows A
-  after_move m list dlat dlon = each_row (λ n v. if is_moved m list n then moved_by dlat dlon v else v) m
+  after_move m list dlat dlon = each_row (moves m list dlat dlon) m

@@ -11,7 +11,7 @@ use Rattle.edit_simple.specs.declared.refusal.Refusal.{Refusal}
 use Rattle.edit_simple.specs.declared.refusal.Refusal.TheVariants.{Absent, WrongKind, TooFew, TooMany, Nothing}
 use Rattle.edit_simple.specs.Checks.{the_least}
 use Rattle.edit_simple.specs.Kinds.{is_way}
-use Rattle.edit_simple.specs.Parts.{nodes_of, with_nodes, each_row, at_name}
+use Rattle.edit_simple.specs.Contents.{nodes_of, with_nodes, each_row, at_name}
 
 module _ {A : Type 0} where
   -- it is a way, it is there, the list has 2 to 2,000 entries, which are there, and it is another than before

@@ -8,7 +8,7 @@ use Rattle.osm_elements.specs.Maps.{Rows, is_same, is_among, is_absent}
 use Rattle.osm_elements.specs.Rows.{row_at}
 use Rattle.edit_simple.specs.declared.refusal.Refusal.{Refusal}
 use Rattle.edit_simple.specs.declared.refusal.Refusal.TheVariants.{Absent}
-use Rattle.edit_simple.specs.Parts.{nodes_of, with_nodes, with_members, each_row}
+use Rattle.edit_simple.specs.Contents.{nodes_of, with_nodes, with_members, each_row}
 
 -- a list without x
 abbrev pub without : Name → List Name → List Name

@@ -7,12 +7,12 @@ use Rattle.osm_elements.specs.Rows.{row_at}
 use Rattle.osm_changes.specs.SameRows.{are_same_tags}
 use Rattle.edit_simple.specs.declared.refusal.Refusal.{Refusal}
 use Rattle.edit_simple.specs.declared.refusal.Refusal.TheVariants.{Absent, TooMany, Nothing}
-use Rattle.edit_simple.specs.Parts.{row_tags, with_tags, each_row, at_name}
-use Rattle.edit_simple.specs.Tagging.{Gifts, retagged, most_tags}
+use Rattle.edit_simple.specs.Contents.{row_tags, with_tags, each_row, at_name}
+use Rattle.edit_simple.specs.Tagging.{GivenTags, retagged, most_tags}
 
 module _ {A : Type 0} where
   -- the element is there, it has at most a thousand tags afterwards, and they are others than before
-  abbrev pub retag_checks : Rows A → Name → Gifts → List (Option (Refusal A))
+  abbrev pub retag_checks : Rows A → Name → GivenTags → List (Option (Refusal A))
   retag_checks m x given =
       then_some (is_absent m x) (Absent x)
       ∷ then_some (nat_lt most_tags (length (retagged (row_tags (row_at m x)) given))) (TooMany x)
@@ -20,5 +20,5 @@ module _ {A : Type 0} where
       ∷ []
 
   -- each key of what is given has its value in x, or is removed where it has none
-  abbrev pub after_retag : Rows A → Name → Gifts → Rows A
+  abbrev pub after_retag : Rows A → Name → GivenTags → Rows A
   after_retag m x given = each_row (at_name x (with_tags (λ tags. retagged tags given))) m

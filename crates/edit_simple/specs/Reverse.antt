@@ -8,7 +8,7 @@ use Rattle.osm_changes.specs.SameRows.{are_same_names}
 use Rattle.edit_simple.specs.declared.refusal.Refusal.{Refusal}
 use Rattle.edit_simple.specs.declared.refusal.Refusal.TheVariants.{Absent, WrongKind, Nothing}
 use Rattle.edit_simple.specs.Kinds.{is_way}
-use Rattle.edit_simple.specs.Parts.{nodes_of, with_nodes, each_row, at_name}
+use Rattle.edit_simple.specs.Contents.{nodes_of, with_nodes, each_row, at_name}
 
 module _ {A : Type 0} where
   -- it is a way, it is there, and its list doesn't read the same backwards

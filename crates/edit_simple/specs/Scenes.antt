@@ -66,16 +66,13 @@ outer = 111 ∷ 117 ∷ 116 ∷ 101 ∷ 114 ∷ []
 abbrev pub x : List ℕ
 x = 120 ∷ []
 
--- the start: three nodes, two ways and a relation, in the order of their names
+-- three nodes, two ways and a relation, in the order of their names: w1 as this, w2 as this, and r1 of these members
+abbrev pub start_with : Element Any → Element Any → List (Name × List ℕ) → Rows Any
+start_with first second members = (n-3, node_at 3) ∷ (n-2, node_at 2) ∷ (n-1, node_at 1) ∷ (w1, first) ∷ (w2, second) ∷ (r1, relation_of members) ∷ []
+
+-- the start
 abbrev pub start : Rows Any
-start =
-    (n-3, node_at 3)
-    ∷ (n-2, node_at 2)
-    ∷ (n-1, node_at 1)
-    ∷ (w1, way_of (n-1 ∷ n-2 ∷ []))
-    ∷ (w2, way_of (n-1 ∷ n-3 ∷ n-2 ∷ []))
-    ∷ (r1, relation_of ((n-1, []) ∷ (w2, outer) ∷ (w1, outer) ∷ (w2, outer) ∷ []))
-    ∷ []
+start = start_with (way_of (n-1 ∷ n-2 ∷ [])) (way_of (n-1 ∷ n-3 ∷ n-2 ∷ [])) ((n-1, []) ∷ (w2, outer) ∷ (w1, outer) ∷ (w2, outer) ∷ [])
 
 -- the first of an action's checks that holds
 abbrev pub refused : List (Option (Refusal Any)) → Option (Refusal Any)

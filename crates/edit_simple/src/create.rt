@@ -4,7 +4,7 @@ ghost use Rattle.osm_elements.specs.Elements.{kind_of};
 ghost use Rattle.osm_elements.specs.Maps.{is_kind};
 ghost use Rattle.edit_simple.specs.Checks.{first_that_holds};
 ghost use Rattle.edit_simple.specs.Create.{create_checks, after_create};
-ghost use Rattle.edit_simple.specs.Inner.Passing.{passed};
+ghost use Rattle.edit_simple.specs.Passing.{passed};
 ghost use Rattle.edit_simple.specs.Plans.{IsPlan};
 
 use crate::changing::one_change;

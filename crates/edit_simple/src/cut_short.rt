@@ -4,8 +4,8 @@ ghost use Rattle.osm_elements.specs.Maps.{is_same};
 ghost use Rattle.edit_simple.specs.Purge.{falls_short};
 
 use crate::limits::FEWEST_NODES;
-use crate::lookup::is_same;
 use osm_elements::name::Name;
+use osm_elements::names::is_same;
 
 /// Whether the purged name is taken from a list, and fewer than 2 names are left.
 pub fn is_cut_short(names: &[Name], purged: &Name) -> bool

@@ -1,22 +1,23 @@
 //! Laws of the actions, each the contract of a function that does nothing.
-ghost use Rattle.std.specs.Prelude.{◌≡◌, ◌≢◌, ℕ, ℤ, true, List, None};
+ghost use Rattle.std.specs.Prelude.{◌≡◌, ◌≢◌, ℕ, ℤ, true, List, Some, None};
 ghost use Rattle.osm_elements.specs.declared.name.Name.{Name};
 ghost use Rattle.osm_elements.specs.declared.element.Element.{Element};
 ghost use Rattle.osm_elements.specs.Made.{are_nodes, is_made};
 ghost use Rattle.osm_elements.specs.Maps.{Rows};
 ghost use Rattle.osm_elements.specs.Members.{are_members};
 ghost use Rattle.osm_changes.specs.Sound.{is_sound};
+ghost use Rattle.edit_simple.specs.declared.refusal.Refusal.TheVariants.{Nothing};
 ghost use Rattle.edit_simple.specs.Checks.{first_that_holds};
 ghost use Rattle.edit_simple.specs.Create.{create_checks, after_create};
 ghost use Rattle.edit_simple.specs.Delete.{delete_checks, after_delete};
-ghost use Rattle.edit_simple.specs.Examples.{in_use, own_member, nothing, rewritten, purged, refusals};
+ghost use Rattle.edit_simple.specs.Examples.{in_use, own_member, nothing, created, retagged, moved, relisted, purged, create_refusals, retag_refusals, move_refusals, relist_refusals};
 ghost use Rattle.edit_simple.specs.Members.{members_checks, after_members};
 ghost use Rattle.edit_simple.specs.Move.{move_checks, after_move};
 ghost use Rattle.edit_simple.specs.Nodes.{nodes_checks, after_nodes};
 ghost use Rattle.edit_simple.specs.Purge.{purge_checks, after_purge};
 ghost use Rattle.edit_simple.specs.Retag.{retag_checks, after_retag};
 ghost use Rattle.edit_simple.specs.Reverse.{reverse_checks, after_reverse};
-ghost use Rattle.edit_simple.specs.Tagging.{Gifts, are_gifts};
+ghost use Rattle.edit_simple.specs.Tagging.{GivenTags, are_given};
 
 use std::alloc::Allocator;
 
@@ -25,7 +26,7 @@ use std::alloc::Allocator;
 pub fn accepted_keeps_sound<A: Allocator>()
     ensures create { (m : Rows A) (x : Name) (v : Element A) → is_sound m ≡ true → is_made v ≡ true → first_that_holds (create_checks m x v) ≡ None
         → (is_sound (after_create m x v) ≡ true) × (after_create m x v ≢ m) }
-    ensures retag { (m : Rows A) (x : Name) (given : Gifts) → is_sound m ≡ true → are_gifts given ≡ true → first_that_holds (retag_checks m x given) ≡ None
+    ensures retag { (m : Rows A) (x : Name) (given : GivenTags) → is_sound m ≡ true → are_given given ≡ true → first_that_holds (retag_checks m x given) ≡ None
         → (is_sound (after_retag m x given) ≡ true) × (after_retag m x given ≢ m) }
     ensures move_by { (m : Rows A) (list : List Name) (dlat dlon : ℤ) → is_sound m ≡ true → first_that_holds (move_checks m list dlat dlon) ≡ None
         → (is_sound (after_move m list dlat dlon) ≡ true) × (after_move m list dlat dlon ≢ m) }
@@ -41,12 +42,33 @@ pub fn accepted_keeps_sound<A: Allocator>()
         → (is_sound (after_purge m x) ≡ true) × (after_purge m x ≢ m) }
 {}
 
+/// Where the first check that holds is that an action would change nothing, the map after it would be the one before.
+#[tactic(auto, using(crate::specs::Facts::SameMaps::retag_nothing, crate::specs::Facts::SameMaps::move_nothing, crate::specs::Facts::SameMaps::reverse_nothing, crate::specs::Facts::SameMaps::nodes_nothing, crate::specs::Facts::SameMaps::members_nothing,))]
+pub fn nothing_is_the_same_map<A: Allocator>()
+    ensures retag { (m : Rows A) (x : Name) (given : GivenTags) → is_sound m ≡ true → first_that_holds (retag_checks m x given) ≡ Some Nothing
+        → after_retag m x given ≡ m }
+    ensures move_by { (m : Rows A) (list : List Name) (dlat dlon : ℤ) → first_that_holds (move_checks m list dlat dlon) ≡ Some Nothing
+        → after_move m list dlat dlon ≡ m }
+    ensures reverse { (m : Rows A) (w : Name) → is_sound m ≡ true → first_that_holds (reverse_checks m w) ≡ Some Nothing
+        → after_reverse m w ≡ m }
+    ensures nodes { (m : Rows A) (w : Name) (list : List Name) → is_sound m ≡ true → first_that_holds (nodes_checks m w list) ≡ Some Nothing
+        → after_nodes m w list ≡ m }
+    ensures members { (m : Rows A) (r : Name) (list : List (Name × List ℕ)) → is_sound m ≡ true → first_that_holds (members_checks m r list) ≡ Some Nothing
+        → after_members m r list ≡ m }
+{}
+
 /// What the definitions say of the worked examples is what was worked out by hand.
-pub fn refusals_are_as_worked()
+pub fn examples_are_as_worked()
     ensures in_use { in_use }
     ensures own_member { own_member }
     ensures nothing { nothing }
-    ensures rewritten { rewritten }
+    ensures created { created }
+    ensures retagged { retagged }
+    ensures moved { moved }
+    ensures relisted { relisted }
     ensures purged { purged }
-    ensures refusals { refusals }
+    ensures create_refusals { create_refusals }
+    ensures retag_refusals { retag_refusals }
+    ensures move_refusals { move_refusals }
+    ensures relist_refusals { relist_refusals }
 {}

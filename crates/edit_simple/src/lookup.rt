@@ -1,15 +1,14 @@
 //! What plans look up in a map.
 ghost use Rattle.std.specs.Prelude.{◌≡◌, map};
 ghost use Rattle.std.specs.List.{filter};
-ghost use Rattle.osm_elements.specs.Maps.{is_same, is_present, least};
-ghost use Rattle.osm_elements.specs.Texts.{is_same_text};
+ghost use Rattle.osm_elements.specs.Maps.{is_present, least};
 ghost use Rattle.edit_simple.specs.Create.{is_missing};
 ghost use Rattle.edit_simple.specs.Inner.Least.{lesser_of};
 
 use osm_elements::map::OsmMap;
 use osm_elements::member::Member;
 use osm_elements::name::Name;
-use osm_elements::text::Text;
+use osm_elements::names::is_same;
 use std::alloc::Allocator;
 
 /// Whether the map has the name.
@@ -56,13 +55,6 @@ fn is_missing<A: Allocator>(rows: &OsmMap<A>, new: &Name, name: &Name) -> bool
     !is_same(new, name) && !is_present(rows, name)
 }
 
-/// Whether two names are the same.
-pub fn is_same(one: &Name, other: &Name) -> bool
-    ensures { result ≡ is_same one.now other.now }
-{
-    one == other
-}
-
 /// The lesser of two names, if there are two.
 pub fn lesser(least: Option<Name>, name: Name) -> Name
     ensures { result ≡ lesser_of least name }
@@ -71,11 +63,4 @@ pub fn lesser(least: Option<Name>, name: Name) -> Name
         Some(other) => other.min(name),
         None => name,
     }
-}
-
-/// Whether two texts are the same.
-pub fn is_same_text<A: Allocator>(one: &Text<A>, other: &Text<A>) -> bool
-    ensures { result ≡ is_same_text one.now other.now }
-{
-    one.as_str() == other.as_str()
 }

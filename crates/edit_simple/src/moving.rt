@@ -1,25 +1,25 @@
 //! Plans of moves.
-ghost use Rattle.std.specs.Prelude.{◌≡◌, ◌⊎◌, ◌&&◌, ◌||◌, ◌++◌, pos, true, false, length, nat_eq, IfOk, OnOk, MatchResult};
+ghost use Rattle.std.specs.Prelude.{◌≡◌, ◌⊎◌, ◌&&◌, ◌||◌, ◌++◌, pos, true, false, Some, length, nat_eq, IfOk, OnOk, MatchResult};
 ghost use Rattle.std.specs.List.{filter};
 ghost use Rattle.std.specs.Ordering.{int_eq};
 ghost use Rattle.osm_elements.specs.Maps.{is_absent, least, name_set};
 ghost use Rattle.osm_elements.specs.Rows.{row_at};
 ghost use Rattle.osm_changes.specs.Sound.{is_sound};
 ghost use Rattle.edit_simple.specs.declared.refusal.Refusal.TheVariants.{OutOfRange as OutsideRange, Memory as OutOfMemory};
-ghost use Rattle.edit_simple.specs.Inner.Moving.{moved_with, all_moved, row_leaves, moved_change};
+ghost use Rattle.edit_simple.specs.Inner.Moving.{moved_with, all_moved, row_leaves, moved_row};
 ghost use Rattle.edit_simple.specs.Inner.Moves.{IsMoved, MayMove, is_node_row};
 ghost use Rattle.edit_simple.specs.Kinds.{is_relation};
 ghost use Rattle.edit_simple.specs.Move.{move_checks, after_move};
 ghost use Rattle.edit_simple.specs.Plans.{IsPlan};
 
+use crate::kinds::is_relation;
 use crate::lookup::{is_present, lesser};
 use crate::refusal::Refusal;
-use osm_changes::change::Change;
 use osm_changes::changes::Changes;
 use osm_elements::Memory;
 use osm_elements::element::Element;
 use osm_elements::map::OsmMap;
-use osm_elements::name::{Kind, Name};
+use osm_elements::name::Name;
 use std::alloc::Allocator;
 
 /// Plans to move nodes and the nodes of ways.
@@ -64,13 +64,6 @@ fn least_relation(names: &[Name]) -> Option<Name>
         }
     }
     least
-}
-
-// Whether the name is a relation's.
-fn is_relation(name: &Name) -> bool
-    ensures { result ≡ is_relation name.now.kind }
-{
-    matches!(name.kind(), Kind::Relation)
 }
 
 // The least of the names that the map doesn't have.
@@ -140,22 +133,24 @@ fn move_all<A: Allocator + Clone>(
 {
     let mut changes = Changes::empty(alloc);
     for name in moved {
-        let change = moved_node(rows, name, dlat, dlon)?;
-        changes.push(change)?;
+        let (before, after) = moved_node(rows, name, dlat, dlon)?;
+        changes.push_row(*name, Some(before), Some(after))?;
     }
     Ok(changes)
 }
 
-// The change of a node that is moved, or the refusal to leave the range.
+// The element of a node before it is moved and after, or the refusal to leave the range.
 fn moved_node<A: Allocator + Clone>(
     rows: &OsmMap<A>,
     name: &Name,
     dlat: i64,
     dlon: i64,
-) -> Result<Change<A>, Refusal<A>>
+) -> Result<(Element<A>, Element<A>), Refusal<A>>
     requires { is_node_row (row_at rows.now name.now) ≡ true }
     ensures { MatchResult result
-        (λ c. (row_leaves dlat dlon (row_at rows.now name.now) ≡ false) × (c ≡ moved_change rows.now dlat dlon name.now))
+        (λ node. (row_leaves dlat dlon (row_at rows.now name.now) ≡ false)
+        × (Some node.0 ≡ row_at rows.now name.now)
+        × (Some node.1 ≡ moved_row rows.now dlat dlon name.now))
         (λ r. ((row_leaves dlat dlon (row_at rows.now name.now) ≡ true) × (r ≡ OutsideRange name.now)) ⊎ (r ≡ OutOfMemory)) }
 {
     let Some(element) = rows.get(name) else {
@@ -173,9 +168,5 @@ fn moved_node<A: Allocator + Clone>(
         tags: tags.copy()?,
     };
     let before = element.copy()?;
-    Ok(Change {
-        name: *name,
-        before: Some(before),
-        after: Some(after),
-    })
+    Ok((before, after))
 }

@@ -14,7 +14,7 @@ ghost use Rattle.edit_simple.specs.Reverse.{reverse_checks, after_reverse};
 
 use crate::refusal::Refusal;
 use crate::retag::Retag;
-use crate::{create, delete, moving, purge, relist, retagging};
+use crate::{create, delete, members, moving, nodes, purge, retagging, reverse};
 use osm_changes::changes::Changes;
 use osm_changes::store::Store;
 use osm_elements::element::Element;
@@ -79,7 +79,7 @@ pub fn plan_reverse<A: Allocator + Clone>(
 ) -> Result<Changes<A>, Refusal<A>>
     ensures { IsPlan store.now.rows (reverse_checks store.now.rows name.now) (after_reverse store.now.rows name.now) result }
 {
-    relist::plan_reverse(alloc, store.map(), name)
+    reverse::plan(alloc, store.map(), name)
 }
 
 /// Plans to give a way other nodes. It refuses `WrongKind` where the name is no way's, `Absent` where it is not there,
@@ -93,7 +93,7 @@ pub fn plan_nodes<A: Allocator + Clone>(
 ) -> Result<Changes<A>, Refusal<A>>
     ensures { IsPlan store.now.rows (nodes_checks store.now.rows name.now list.now) (after_nodes store.now.rows name.now list.now) result }
 {
-    relist::plan_nodes(alloc, store.map(), name, list)
+    nodes::plan(alloc, store.map(), name, list)
 }
 
 /// Plans to give a relation other members. It refuses `WrongKind` where the name is no relation's, `Absent` where it is
@@ -107,7 +107,7 @@ pub fn plan_members<A: Allocator + Clone>(
 ) -> Result<Changes<A>, Refusal<A>>
     ensures { IsPlan store.now.rows (members_checks store.now.rows name.now list.now) (after_members store.now.rows name.now list.now) result }
 {
-    relist::plan_members(alloc, store.map(), name, list)
+    members::plan(alloc, store.map(), name, list)
 }
 
 /// Plans to take an element away. It refuses `Absent` where the name is not there, and `InUse` where an element refers

@@ -5,17 +5,17 @@ ghost use Rattle.osm_elements.specs.Maps.{is_among, is_present, name_set};
 ghost use Rattle.osm_elements.specs.Members.{member_pair};
 ghost use Rattle.osm_elements.specs.Nodes.{AreNodes};
 ghost use Rattle.osm_elements.specs.Rows.{row_at};
-ghost use Rattle.osm_changes.specs.Inner.Stores.{users_of};
+ghost use Rattle.osm_changes.specs.Changes.{rows_changes};
+ghost use Rattle.osm_changes.specs.Stores.{users_of};
 ghost use Rattle.osm_changes.specs.Sound.{is_sound};
-ghost use Rattle.edit_simple.specs.Inner.Purging.{reached_with, all_reached, all_gone, left_of, row_left, purged_change, MayPurge};
-ghost use Rattle.edit_simple.specs.Parts.{nodes_of};
+ghost use Rattle.edit_simple.specs.Inner.Purging.{reached_with, all_reached, all_gone, left_of, row_left, purged_row, MayPurge};
+ghost use Rattle.edit_simple.specs.Contents.{nodes_of};
 ghost use Rattle.edit_simple.specs.Plans.{IsPlan};
 ghost use Rattle.edit_simple.specs.Purge.{without, falls_short, purge_checks, after_purge};
 
 use crate::cut_short::is_cut_short;
-use crate::lookup::{is_present, is_same};
+use crate::lookup::is_present;
 use crate::refusal::Refusal;
-use osm_changes::change::Change;
 use osm_changes::changes::Changes;
 use osm_elements::Memory;
 use osm_elements::element::Element;
@@ -23,6 +23,7 @@ use osm_elements::map::OsmMap;
 use osm_elements::member::Member;
 use osm_elements::members::Members;
 use osm_elements::name::Name;
+use osm_elements::names::is_same;
 use osm_elements::nodes::Nodes;
 use osm_refs::users::Users;
 use std::alloc::Allocator;
@@ -140,37 +141,35 @@ fn change_all<A: Allocator + Clone>(
     reached: &[Name],
 ) -> Result<Changes<A>, Memory>
     requires { MayPurge rows.now gone.now.keys purged.now reached.now }
-    ensures { IfOk result (λ cs. cs ≡ map (purged_change rows.now gone.now.keys purged.now) reached.now) }
+    ensures { IfOk result (λ cs.
+        cs ≡ rows_changes rows.now (purged_row rows.now gone.now.keys purged.now) reached.now) }
 {
     let mut changes = Changes::empty(alloc.clone()?);
     for name in reached {
-        let change = purged_change(&alloc, rows, gone, purged, name)?;
-        changes.push(change)?;
+        let (before, after) = rows_of(&alloc, rows, gone, purged, name)?;
+        changes.push_row(*name, Some(before), after)?;
     }
     Ok(changes)
 }
 
-// The change of a name that is reached.
-fn purged_change<A: Allocator + Clone>(
+// The element of a name that is reached before the purge, and what it becomes: none where the name goes.
+fn rows_of<A: Allocator + Clone>(
     alloc: &A,
     rows: &OsmMap<A>,
     gone: &BTreeSet<Name, A>,
     purged: &Name,
     name: &Name,
-) -> Result<Change<A>, Memory>
+) -> Result<(Element<A>, Option<Element<A>>), Memory>
     requires { is_present rows.now name.now ≡ true }
-    ensures { IfOk result (λ c. c ≡ purged_change rows.now gone.now.keys purged.now name.now) }
+    ensures { IfOk result (λ row. (Some row.0 ≡ row_at rows.now name.now)
+        × (row.1 ≡ purged_row rows.now gone.now.keys purged.now name.now)) }
 {
     let Some(element) = rows.get(name) else {
         unreachable!()
     };
     let before = element.copy()?;
     let after = row_left(alloc, gone, purged, name, element)?;
-    Ok(Change {
-        name: *name,
-        before: Some(before),
-        after,
-    })
+    Ok((before, after))
 }
 
 // What a name's element becomes: none where the name goes.

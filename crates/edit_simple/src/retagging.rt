@@ -1,30 +1,28 @@
 //! Plans that give an element other tags.
-ghost use Rattle.std.specs.Prelude.{◌≡◌, ◌⊎◌, ◌<◌, ◌≤◌, ◌&&◌, true, false, T, map, length, nat_lt, nat_eq, is_some, MatchResult, IfOk, OnOk, IfErr};
+ghost use Rattle.std.specs.Prelude.{◌≡◌, ◌⊎◌, ◌<◌, ◌≤◌, true, false, T, map, length, nat_lt, nat_eq, is_some, MatchResult, IfOk, OnOk, IfErr};
 ghost use Rattle.std.specs.FinMap.Entries.{is_sorted};
-ghost use Rattle.osm_elements.specs.TagRows.{text_cmp, tag_pair, value_at};
-ghost use Rattle.osm_elements.specs.Texts.{is_same_text};
+ghost use Rattle.osm_elements.specs.KeyedRows.{text_cmp, value_at};
 ghost use Rattle.osm_elements.specs.declared.fault.TextFault.TheVariants as faults;
 ghost use Rattle.osm_changes.specs.SameRows.{are_same_tags};
 ghost use Rattle.osm_changes.specs.Sound.{is_sound};
 ghost use Rattle.edit_simple.specs.declared.refusal.Refusal.TheVariants.{TooMany, Memory as OutOfMemory};
-ghost use Rattle.edit_simple.specs.GivenPairs.{given_pair};
-ghost use Rattle.edit_simple.specs.Inner.Retagging.{all_lost, all_got, got};
-ghost use Rattle.edit_simple.specs.Parts.{with_tags};
+ghost use Rattle.edit_simple.specs.Inner.Retagging.{all_removed, all_valued, valued};
+ghost use Rattle.edit_simple.specs.Contents.{with_tags};
 ghost use Rattle.edit_simple.specs.Plans.{IsPlan};
 ghost use Rattle.edit_simple.specs.Retag.{retag_checks, after_retag};
-ghost use Rattle.edit_simple.specs.Tagging.{AreGifts, retagged, most_tags};
+ghost use Rattle.edit_simple.specs.Tagging.{AreGiven, given_pair, retagged, most_tags};
 
 use crate::changing::one_change;
-use crate::lookup::is_same_text;
 use crate::refusal::Refusal;
 use crate::retag::{Given, Retag};
 use osm_changes::changes::Changes;
+use osm_changes::same::are_same_tags;
 use osm_elements::Memory;
 use osm_elements::element::Element;
 use osm_elements::fault::TextFault;
 use osm_elements::map::OsmMap;
 use osm_elements::name::Name;
-use osm_elements::tags::{Tag, Tags};
+use osm_elements::tags::Tags;
 use std::alloc::Allocator;
 
 /// Plans to give an element other tags.
@@ -49,7 +47,7 @@ pub fn plan<A: Allocator + Clone>(
     Ok(one_change(alloc, name, Some(before), Some(after))?)
 }
 
-// The tags after each key got its value or lost it, or the refusal of more than 1,000.
+// The tags after each key valued its value or removed it, or the refusal of more than 1,000.
 fn retagged<A: Allocator + Clone>(
     name: &Name,
     tags: &Tags<A>,
@@ -61,9 +59,9 @@ fn retagged<A: Allocator + Clone>(
 {
     let _ = tags.rows();
     let mut new = tags.copy()?;
-    lose(&mut new, given.rows());
+    remove_tags(&mut new, given.rows());
     let _ = new.rows();
-    match get(&mut new, given.rows()) {
+    match put_values(&mut new, given.rows()) {
         Ok(()) => {
             let _ = new.rows();
             Ok(new)
@@ -74,8 +72,8 @@ fn retagged<A: Allocator + Clone>(
 }
 
 // Takes the tags away whose keys have no value.
-fn lose<A: Allocator>(tags: &mut Tags<A>, given: &[Given<A>])
-    ensures { tags.new ≡ all_lost tags.old (map given_pair given.now) }
+fn remove_tags<A: Allocator>(tags: &mut Tags<A>, given: &[Given<A>])
+    ensures { tags.new ≡ all_removed tags.old (map given_pair given.now) }
 {
     for row in given {
         if row.value.is_none() {
@@ -85,22 +83,22 @@ fn lose<A: Allocator>(tags: &mut Tags<A>, given: &[Given<A>])
 }
 
 // Gives the keys that have a value that value. After a refusal the tags are of no use.
-fn get<A: Allocator + Clone>(tags: &mut Tags<A>, given: &[Given<A>]) -> Result<(), TextFault>
+fn put_values<A: Allocator + Clone>(tags: &mut Tags<A>, given: &[Given<A>]) -> Result<(), TextFault>
     requires sorted { T (is_sorted text_cmp tags.old) }
-    requires given { AreGifts (map given_pair given.now) }
-    ensures ok { OnOk result (tags.new ≡ all_got tags.old (map given_pair given.now)) }
-    ensures err { IfErr result (λ e. ((e ≡ faults.TooManyTags) × (1000 < length (all_got tags.old (map given_pair given.now)))) ⊎ (e ≡ faults.Memory)) }
+    requires given { AreGiven (map given_pair given.now) }
+    ensures ok { OnOk result (tags.new ≡ all_valued tags.old (map given_pair given.now)) }
+    ensures err { IfErr result (λ e. ((e ≡ faults.TooManyTags) × (1000 < length (all_valued tags.old (map given_pair given.now)))) ⊎ (e ≡ faults.Memory)) }
 {
     for row in given {
-        get_one(tags, row)?;
+        put_value(tags, row)?;
     }
     Ok(())
 }
 
 // Gives a key its value, where it has one.
-fn get_one<A: Allocator + Clone>(tags: &mut Tags<A>, row: &Given<A>) -> Result<(), TextFault>
+fn put_value<A: Allocator + Clone>(tags: &mut Tags<A>, row: &Given<A>) -> Result<(), TextFault>
     requires key { nat_eq (length row.now.key) 0 ≡ false }
-    ensures ok { OnOk result (tags.new ≡ got tags.old row.now.key row.now.value) }
+    ensures ok { OnOk result (tags.new ≡ valued tags.old row.now.key row.now.value) }
     ensures err { IfErr result (λ e. (e ≡ faults.Memory) ⊎ ((e ≡ faults.TooManyTags) × (is_some row.now.value ≡ true) × (is_some (value_at tags.old row.now.key) ≡ false) × (1000 ≤ length tags.old))) }
 {
     let Some(value) = &row.value else {
@@ -131,31 +129,4 @@ fn with_tags<A: Allocator + Clone>(
             Ok(Element::Relation { members, tags })
         }
     }
-}
-
-// Whether two lists of tags are the same.
-fn are_same_tags<A: Allocator>(one: &Tags<A>, other: &Tags<A>) -> bool
-    ensures { result ≡ are_same_tags one.now other.now }
-{
-    one.len() == other.len() && begin_alike(one.rows(), other.rows())
-}
-
-// Whether the tags of the first list, as many as the second has, are those of the second.
-fn begin_alike<A: Allocator>(one: &[Tag<A>], other: &[Tag<A>]) -> bool
-    requires { length one.now ≡ length other.now }
-    ensures { result ≡ are_same_tags (map tag_pair one.now) (map tag_pair other.now) }
-{
-    for (place, tag) in one.iter().enumerate() {
-        if !is_same_tag(tag, &other[place]) {
-            return false;
-        }
-    }
-    true
-}
-
-// Whether two tags have the same key and the same value.
-fn is_same_tag<A: Allocator>(one: &Tag<A>, other: &Tag<A>) -> bool
-    ensures { result ≡ (is_same_text one.now.key other.now.key && is_same_text one.now.value other.now.value) }
-{
-    is_same_text(&one.key, &other.key) && is_same_text(&one.value, &other.value)
 }

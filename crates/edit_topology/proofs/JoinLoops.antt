@@ -1,6 +1,6 @@
 -- The lists of a join, and the names that it touches one by one.
-use Rattle.std.proofs.Common.{◌≡◌, ◌<◌, ◌+◌, ◌-◌, ◌++◌, ◌||◌, ℕ, zero, suc, Bool, true, false, T, List, [], ◌∷◌, Option, Some, None, length, map, take, drop, get_or, slice_get, All, Bor, refl, sym, ap, subst, ◌∙◌, cond, arith}
-use Rattle.std.proofs.lemmas.List.{map-append, take_more}
+use Rattle.std.proofs.Common.{◌≡◌, ◌<◌, ◌+◌, ◌-◌, ◌++◌, ◌||◌, ℕ, zero, suc, Bool, true, false, T, List, [], ◌∷◌, Option, Some, None, length, take, drop, get_or, slice_get, All, Bor, refl, sym, ap, subst, ◌∙◌, cond, arith}
+use Rattle.std.proofs.lemmas.List.{take_more}
 use Rattle.std.proofs.lemmas.List.Elements.{All-append, All-drop, All-take}
 use Rattle.std.specs.List.{last_or}
 use Rattle.std.specs.Option.{option_copied, option_eq, option_map}
@@ -19,10 +19,11 @@ use Rattle.osm_elements.specs.Facts.Among.{is_among-append}
 use Rattle.osm_elements.specs.Facts.Dropped.{same_either_way}
 use Rattle.osm_elements.specs.Facts.Entries.{first, second}
 use Rattle.osm_elements.specs.Facts.Rows.{same_names}
-use Rattle.osm_refs.specs.Inner.Rising.{IsRising, bare_rows}
-use Rattle.edit_simple.specs.Parts.{with_members}
+use Rattle.osm_refs.specs.Rising.{IsRising}
+use Rattle.rising_lists.specs.Rising.{bare_rows}
+use Rattle.edit_simple.specs.Contents.{with_members}
 use Rattle.edit_simple.specs.Facts.Lists.{first_false, second_false}
-use Rattle.edit_topology.specs.Inner.Joining.{joined_change}
+use Rattle.edit_topology.specs.Inner.Joining.{row_joined}
 use Rattle.edit_topology.specs.Join.{meet_end_to_end, joined_members}
 
 -- ---- the last of a list
@@ -52,12 +53,7 @@ nodes_of_both one other both n h g is =
     subst (λ l. All (λ x. x.kind ≡ Node) l) (sym is)
     (All-append (λ x. x.kind ≡ Node) one (take n (drop 1 other)) h (All-take (λ x. x.kind ≡ Node) n (drop 1 other) (All-drop (λ x. x.kind ≡ Node) 1 other g)))
 
--- ---- the names that are touched
-
--- one item more of a mapped list
-pub one_more : {X Y : Type 0} (f : X → Y) (xs : List X) (i : ℕ) (x : X) → i < length xs → x ≡ get_or xs i x → (ys more : List Y) (y : Y) → ys ≡ map f (take i xs) → y ≡ f x → more ≡ ys ++ y ∷ [] → more ≡ map f (take (i + 1) xs)
-one_more f xs i x h is ys more y before new then =
-    then ∙ (λ j. before j ++ new j ∷ []) ∙ sym (map-append f (take i xs) (x ∷ [])) ∙ ap (λ z. map f (take i xs ++ z ∷ [])) is ∙ ap (map f) (sym (take_more xs i x h))
+-- ---- the names whose rows change
 
 -- a name below all of a list is not one of its places
 below_other : (x : Name) (xs : List Name) (i : ℕ) (y : Name) → T (below_all name_cmp x (bare_rows xs)) → i < length xs → y ≡ get_or xs i y → is_same x y ≡ false
@@ -80,13 +76,12 @@ not_before (x ∷ xs) (suc i) y h l is =
 
 module _ {A : Type 0} (m : Rows A) (w v : Name) (way : Element A) (names : List Name) (i : ℕ) (y : Name) (h : i < length names) (is : y ≡ get_or names i y) where
   -- the way is still at hand where its name is met
-  pub same_change : IsRising names → (joined : Option (Element A)) → (is_among (take i names) w ≡ false → joined ≡ Some way) → joined_change m w v joined y ≡ joined_change m w v (Some way) y
-  same_change rising joined hand = by (is_same y w) refl
+  pub same_row : IsRising names → (joined : Option (Element A)) → (is_among (take i names) w ≡ false → joined ≡ Some way) → row_joined m w v joined y ≡ row_joined m w v (Some way) y
+  same_row rising joined hand = by (is_same y w) refl
     where
-      by : (b : Bool) → is_same y w ≡ b → joined_change m w v joined y ≡ joined_change m w v (Some way) y
-      by true e = ap (λ o. joined_change m w v o y) (hand (ap (is_among (take i names)) (sym (same_names y w e)) ∙ not_before names i y rising h is))
-      by false e =
-          ap (λ b. record { name = y; before = row_at m y; after = cond b joined (rest) }) e ∙ sym (ap (λ b. record { name = y; before = row_at m y; after = cond b (Some way) (rest) }) e)
+      by : (b : Bool) → is_same y w ≡ b → row_joined m w v joined y ≡ row_joined m w v (Some way) y
+      by true e = ap (λ o. row_joined m w v o y) (hand (ap (is_among (take i names)) (sym (same_names y w e)) ∙ not_before names i y rising h is))
+      by false e = ap (λ b. cond b joined rest) e ∙ sym (ap (λ b. cond b (Some way) rest) e)
         where
           rest : Option (Element A)
           rest = cond (is_same y v) None (option_map (with_members (joined_members w v)) (row_at m y))

@@ -1,5 +1,5 @@
 -- Plans of joins: which rows change, and what they become.
-use Rattle.std.proofs.Common.{◌≡◌, ◌≢◌, ◌≤◌, ◌+◌, Bool, true, false, not, ◌||◌, List, ◌∷◌, Option, Some, None, Ok, is_some, length, map, drop, nat_le, refl, sym, ap, subst, ◌∙◌, cond, arith, length-append}
+use Rattle.std.proofs.Common.{◌≡◌, ◌≢◌, ◌≤◌, ◌+◌, Bool, true, false, not, ◌||◌, List, ◌∷◌, Option, Some, None, Ok, is_some, length, drop, nat_le, refl, sym, ap, subst, ◌∙◌, cond, arith, length-append}
 use Rattle.std.proofs.lemmas.Bool.Decides.{nat_tests}
 use Rattle.std.proofs.lemmas.List.{length-drop}
 use Rattle.std.specs.Option.{option_map}
@@ -16,25 +16,25 @@ use Rattle.osm_elements.specs.Facts.Tests.{first_true}
 use Rattle.osm_refs.specs.References.{refers_to, row_references, users}
 use Rattle.osm_refs.specs.Facts.RisingNames.{IsRising-name_set}
 use Rattle.osm_changes.specs.declared.change.Change.{Change}
-use Rattle.osm_changes.specs.Changes.{differences}
+use Rattle.osm_changes.specs.Changes.{rows_changes, differences}
 use Rattle.osm_changes.specs.SameRows.{is_same_row}
 use Rattle.osm_changes.specs.Sound.{is_sound}
 use Rattle.osm_changes.specs.Facts.Differing.{same_row}
 use Rattle.osm_changes.specs.Facts.SoundRows.{sound_in_order}
 use Rattle.edit_simple.specs.Checks.{first_that_holds}
-use Rattle.edit_simple.specs.Parts.{nodes_of, row_tags, with_members}
+use Rattle.edit_simple.specs.Contents.{nodes_of, row_tags, with_members}
 use Rattle.edit_simple.specs.Plans.{IsPlan}
-use Rattle.edit_simple.specs.Facts.Differences.{differing_are, apart_rows}
+use Rattle.edit_simple.specs.Facts.Differences.{rows_differing, apart_rows}
 use Rattle.edit_simple.specs.Facts.Kinds.{way_there}
 use Rattle.edit_simple.specs.Facts.Lists.{all_from}
-use Rattle.edit_simple.specs.Facts.PassingRows.{map_same, passes_at, among_rows}
+use Rattle.edit_simple.specs.Facts.PassingRows.{passes_at, among_rows}
 use Rattle.edit_simple.specs.Facts.Rewriting.{fine}
 use Rattle.edit_topology.specs.BothTags.{both_tags}
-use Rattle.edit_topology.specs.Inner.Joining.{way_of_both, row_joined, joined_change, MayJoin}
-use Rattle.edit_topology.specs.Join.{end_to_end, joined_members, join_checks, after_join}
+use Rattle.edit_topology.specs.Inner.Joining.{way_of_both, row_joined, MayJoin}
+use Rattle.edit_topology.specs.Join.{end_to_end, joined_members, join_checks, after_join, lengthened, join_row}
 use Rattle.edit_topology.specs.Facts.Changing.{join_changes}
 use Rattle.edit_topology.specs.Facts.EachBut.{row_at-each_but}
-use Rattle.edit_topology.specs.Facts.Joining.{Joins, joins, lengthened, join_row}
+use Rattle.edit_topology.specs.Facts.Joining.{Joins, joins}
 use Rattle.edit_topology.specs.Facts.Lists.{or_first, or_second}
 use Rattle.edit_topology.specs.Facts.Staying.{join_leaves}
 
@@ -103,12 +103,12 @@ module _ {A : Type 0} (m : Rows A) (w v : Name) (sound : is_sound m ≡ true) (o
           left (row_at m y) (same_either_way w y ∙ e)
           ∙ sym (row_at-each_but m v (join_row m w v) y ∙ ap (λ b. option_map (join_row m w v y) (cond b None (row_at m y))) f)
 
-  -- ---- what is touched
+  -- ---- whose rows change
 
-  abbrev touched : List Name
-  touched = w ∷ v ∷ users m v
+  abbrev changing : List Name
+  changing = w ∷ v ∷ users m v
 
-  which : (X : Type 0) → (y : Name) → is_among touched y ≡ true → (is_same y w ≡ true → X) → (is_same y v ≡ true → X) → (is_among (users m v) y ≡ true → X) → X
+  which : (X : Type 0) → (y : Name) → is_among changing y ≡ true → (is_same y w ≡ true → X) → (is_same y v ≡ true → X) → (is_among (users m v) y ≡ true → X) → X
   which X y i f g h = by (is_same y w) refl (is_same y v) refl i
     where
       by : (s : Bool) → is_same y w ≡ s → (t : Bool) → is_same y v ≡ t → (s || (t || is_among (users m v) y)) ≡ true → X
@@ -116,11 +116,11 @@ module _ {A : Type 0} (m : Rows A) (w v : Name) (sound : is_sound m ≡ true) (o
       by false e true d k = g d
       by false e false d k = h k
 
-  touched_there : (y : Name) → is_among touched y ≡ true → is_present m y ≡ true
-  touched_there y i =
+  changing_there : (y : Name) → is_among changing y ≡ true → is_present m y ≡ true
+  changing_there y i =
       which (is_present m y ≡ true) y i (λ e. ap (is_present m) (same_names y w e) ∙ j.here_w) (λ e. ap (is_present m) (same_names y v e) ∙ j.here_v) (user_there y)
 
-  stays : (y : Name) → is_among touched y ≡ false → row_at n y ≡ row_at m y
+  stays : (y : Name) → is_among changing y ≡ false → row_at n y ≡ row_at m y
   stays y out =
       let rest : (is_same y v || is_among (users m v) y) ≡ false = or_second (is_same y w) (is_same y v || is_among (users m v) y) out in
       join_leaves m w v y (or_first (is_same y w) (is_same y v || is_among (users m v) y) out) (or_first (is_same y v) (is_among (users m v) y) rest)
@@ -136,41 +136,38 @@ module _ {A : Type 0} (m : Rows A) (w v : Name) (sound : is_sound m ≡ true) (o
       nodes =
           (λ i. end_to_end (nodes_of (sym own_row.2 i)) (nodes_of (sym j.row i))) ∙ ap nodes_of (sym after_w ∙ same ∙ own_row.2)
 
-  becomes_other : (y : Name) → is_among touched y ≡ true → row_at n y ≢ row_at m y
+  becomes_other : (y : Name) → is_among changing y ≡ true → row_at n y ≢ row_at m y
   becomes_other y i =
       which (row_at n y ≢ row_at m y) y i
       (λ e same. w_changes (ap (row_at n) (sym (same_names y w e)) ∙ same ∙ ap (row_at m) (same_names y w e)))
       (λ e same. cc (sym j.here_v ∙ ap is_some (ap (row_at m) (sym (same_names y v e)) ∙ sym same ∙ ap (row_at n) (same_names y v e) ∙ after_v)))
       (λ uses. join_changes m w v y sound ok (sym (user_refers y) ∙ uses))
 
-  set_differs : (y : Name) → is_among (name_set touched) y ≡ not (is_same_row (row_at m y) (row_at n y))
-  set_differs y = is_among-name_set y touched ∙ by (is_among touched y) refl
+  set_differs : (y : Name) → is_among (name_set changing) y ≡ not (is_same_row (row_at m y) (row_at n y))
+  set_differs y = is_among-name_set y changing ∙ by (is_among changing y) refl
     where
-      by : (b : Bool) → is_among touched y ≡ b → b ≡ not (is_same_row (row_at m y) (row_at n y))
+      by : (b : Bool) → is_among changing y ≡ b → b ≡ not (is_same_row (row_at m y) (row_at n y))
       by true e = sym (ap not (apart_rows (row_at m y) (row_at n y) (becomes_other y e)))
       by false e = sym (ap (λ o. not (is_same_row (row_at m y) o)) (stays y e) ∙ ap not (same_row (row_at m y)))
 
-  may_join : MayJoin m w v (way_of_both m w v) (name_set touched)
+  may_join : MayJoin m w v (way_of_both m w v) (name_set changing)
   may_join = record {
-    rising = IsRising-name_set touched;
-    there = all_from (is_present m) (name_set touched) (λ y i. touched_there y (sym (is_among-name_set y touched) ∙ i));
-    apart = λ y i e. becomes_other y (sym (is_among-name_set y touched) ∙ i) (sym (row_is y) ∙ e);
+    rising = IsRising-name_set changing;
+    there = all_from (is_present m) (name_set changing) (λ y i. changing_there y (sym (is_among-name_set y changing) ∙ i));
+    apart = λ y i e. becomes_other y (sym (is_among-name_set y changing) ∙ i) (sym (row_is y) ∙ e);
   }
 
-  changes_are : map (joined_change m w v (Some (way_of_both m w v))) (name_set touched) ≡ differences m n
-  changes_are =
-      map_same (joined_change m w v (Some (way_of_both m w v))) (λ y. record { name = y; before = row_at m y; after = row_at n y }) (name_set touched)
-      (λ y i. ap (λ o. record { name = y; before = row_at m y; after = o }) (row_is y))
-      ∙ ap (map (λ y. record { name = y; before = row_at m y; after = row_at n y })) (differing_are m n (name_set touched) (IsRising-name_set touched) set_differs)
+  changes_are : rows_changes m (row_joined m w v (Some (way_of_both m w v))) (name_set changing) ≡ differences m n
+  changes_are = rows_differing m n (row_joined m w v (Some (way_of_both m w v))) (name_set changing) (IsRising-name_set changing) set_differs (λ y i. row_is y)
 
   -- ---- the plan, with the way and the names as they are found
 
   module _ (joined : Element A) (is_way_of : joined ≡ way_of_both m w v) (its names : List Name) (its_are : its ≡ users m v) (names_are : names ≡ name_set (w ∷ v ∷ its)) where
-    names_touched : names ≡ name_set touched
-    names_touched = names_are ∙ ap (λ l. name_set (w ∷ v ∷ l)) its_are
+    names_changing : names ≡ name_set changing
+    names_changing = names_are ∙ ap (λ l. name_set (w ∷ v ∷ l)) its_are
 
     pub found_may : MayJoin m w v joined names
-    found_may = subst (λ (u : Element A). MayJoin m w v u names) (sym is_way_of) (subst (λ l. MayJoin m w v (way_of_both m w v) l) (sym names_touched) may_join)
+    found_may = subst (λ (u : Element A). MayJoin m w v u names) (sym is_way_of) (subst (λ l. MayJoin m w v (way_of_both m w v) l) (sym names_changing) may_join)
 
-    pub join_planned : (cs : List (Change A)) → cs ≡ map (joined_change m w v (Some joined)) names → IsPlan m (join_checks m w v) (after_join m w v) (Ok cs)
-    join_planned cs is = (ok, is ∙ (λ i. map (joined_change m w v (Some (is_way_of i))) (names_touched i)) ∙ changes_are)
+    pub join_planned : (cs : List (Change A)) → cs ≡ rows_changes m (row_joined m w v (Some joined)) names → IsPlan m (join_checks m w v) (after_join m w v) (Ok cs)
+    join_planned cs is = (ok, is ∙ (λ i. rows_changes m (row_joined m w v (Some (is_way_of i))) (names_changing i)) ∙ changes_are)

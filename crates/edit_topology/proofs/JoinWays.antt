@@ -1,27 +1,16 @@
 -- What a sound map has at the name of a way.
-use Rattle.std.proofs.Common.{◌≡◌, ◌≢◌, ◌≤◌, true, ◌&&◌, List, Some, is_some, length, nat_le, sym, ap, ◌∙◌, arith}
+use Rattle.std.proofs.Common.{◌≡◌, ◌≤◌, true, ◌&&◌, List, Some, length, nat_le, arith}
 use Rattle.std.proofs.lemmas.Bool.Decides.{nat_tests}
 use Rattle.osm_elements.specs.declared.name.Name.{Name}
-use Rattle.osm_elements.specs.declared.element.Element.{Element}
 use Rattle.osm_elements.specs.declared.element.Element.TheVariants.{Way}
 use Rattle.osm_elements.specs.Maps.{Rows}
 use Rattle.osm_elements.specs.Rows.{row_at}
 use Rattle.osm_elements.specs.TagRows.{Pairs}
 use Rattle.osm_elements.specs.Facts.Tests.{first_true, second_true}
 use Rattle.osm_changes.specs.Sound.{is_sound, most_nodes}
-use Rattle.edit_simple.specs.Kinds.{is_way}
-use Rattle.edit_simple.specs.Facts.Kinds.{way_there}
 use Rattle.edit_simple.specs.Facts.Rewriting.{fine}
 
 module _ {A : Type 0} where
-  pub way_or_none : (m : Rows A) (w : Name) (v : Element A) → is_sound m ≡ true → is_way w.kind ≡ true → Some v ≡ row_at m w → ((nodes : List Name) (tags : Pairs) → v ≢ Way nodes tags) → ⊥
-  way_or_none m w v sound way is apart =
-      let there = way_there m w sound way (ap is_some (sym is)) in
-      apart there.0 there.1 (inside v (Way there.0 there.1) (is ∙ there.2))
-    where
-      inside : (x y : Element A) → Some x ≡ Some y → x ≡ y
-      inside x y e = cc
-
   module _ (m : Rows A) (w : Name) (nodes : List Name) (tags : Pairs) (sound : is_sound m ≡ true) (is : row_at m w ≡ Some (Way nodes tags)) where
     lengthy : (nat_le 2 (length nodes) && nat_le (length nodes) most_nodes) ≡ true
     lengthy = (fine m sound w (Way nodes tags) is).lengthy

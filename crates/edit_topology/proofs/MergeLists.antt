@@ -15,7 +15,8 @@ use Rattle.osm_elements.specs.declared.name.Kind.TheVariants.{Node}
 use Rattle.osm_elements.specs.Made.{is_node}
 use Rattle.osm_elements.specs.Maps.{is_same, is_among}
 use Rattle.osm_elements.specs.Nodes.{AreNodes}
-use Rattle.osm_elements.specs.TagRows.{Pairs, text_cmp, value_at}
+use Rattle.osm_elements.specs.KeyedRows.{text_cmp, value_at}
+use Rattle.osm_elements.specs.TagRows.{Pairs}
 use Rattle.osm_elements.specs.Texts.{is_same_text}
 use Rattle.osm_elements.specs.Facts.Entries.{first, second}
 use Rattle.osm_elements.specs.Facts.Rows.{is_eq-name_cmp_itself}

@@ -1,5 +1,5 @@
 -- Plans of merges: which check holds first, which rows change, and what they become.
-use Rattle.std.proofs.Common.{◌≡◌, ◌≢◌, ◌⊎◌, ℕ, ℤ, Bool, true, false, not, ◌&&◌, ◌||◌, T, List, [], ◌∷◌, ◌++◌, Option, Some, None, Result, Ok, Err, inl, inr, is_some, length, map, nat_lt, slice_get, refl, sym, ap, subst, ◌∙◌, cond, arith}
+use Rattle.std.proofs.Common.{◌≡◌, ◌≢◌, ◌⊎◌, ℕ, ℤ, Bool, true, false, not, ◌&&◌, ◌||◌, T, List, [], ◌∷◌, ◌++◌, Option, Some, None, Result, Ok, Err, inl, inr, is_some, length, nat_lt, slice_get, refl, sym, ap, subst, ◌∙◌, cond, arith}
 use Rattle.std.proofs.lemmas.Bool.Decides.{nat_tests}
 use Rattle.std.specs.Bool.{then_some}
 use Rattle.std.specs.FinMap.Entries.{is_sorted}
@@ -12,14 +12,15 @@ use Rattle.osm_elements.specs.declared.element.Element.TheVariants.{Node, Way, R
 use Rattle.osm_elements.specs.Elements.{tags_of}
 use Rattle.osm_elements.specs.Maps.{Rows, is_same, is_among, is_present, is_absent, least, name_set}
 use Rattle.osm_elements.specs.Rows.{AreInOrder, row_at}
-use Rattle.osm_elements.specs.TagRows.{Pairs, text_cmp}
+use Rattle.osm_elements.specs.KeyedRows.{text_cmp}
+use Rattle.osm_elements.specs.TagRows.{Pairs}
 use Rattle.osm_elements.specs.Facts.Among.{is_among-name_set, is_among-append}
 use Rattle.osm_elements.specs.Facts.Dropped.{same_either_way}
 use Rattle.osm_elements.specs.Facts.Rows.{same_names}
 use Rattle.osm_refs.specs.References.{refers_to, row_references, users}
 use Rattle.osm_refs.specs.Facts.RisingNames.{IsRising-filter, IsRising-name_set, is_among-passing, same_rising}
 use Rattle.osm_changes.specs.declared.change.Change.{Change}
-use Rattle.osm_changes.specs.Changes.{differences}
+use Rattle.osm_changes.specs.Changes.{rows_changes, differences}
 use Rattle.osm_changes.specs.SameRows.{is_same_row}
 use Rattle.osm_changes.specs.Sound.{is_sound}
 use Rattle.osm_changes.specs.Facts.Differing.{same_row}
@@ -27,24 +28,24 @@ use Rattle.osm_changes.specs.Facts.SoundRows.{sound_in_order}
 use Rattle.edit_simple.specs.declared.refusal.Refusal.{Refusal}
 use Rattle.edit_simple.specs.declared.refusal.Refusal.TheVariants.{Absent, TagConflict, TooFew, Memory}
 use Rattle.edit_simple.specs.Checks.{first_that_holds, the_least}
-use Rattle.edit_simple.specs.Inner.Passing.{passed}
-use Rattle.edit_simple.specs.Parts.{nodes_of, row_tags, with_nodes, with_members}
+use Rattle.edit_simple.specs.Passing.{passed}
+use Rattle.edit_simple.specs.Contents.{nodes_of, row_tags, with_nodes, with_members}
 use Rattle.edit_simple.specs.Plans.{IsPlan}
 use Rattle.edit_simple.specs.Facts.Checked.{nones}
-use Rattle.edit_simple.specs.Facts.Differences.{differing_are, apart_rows}
+use Rattle.edit_simple.specs.Facts.Differences.{rows_differing, apart_rows}
 use Rattle.edit_simple.specs.Facts.FirstUsers.{first_is_least}
 use Rattle.edit_simple.specs.Facts.Kinds.{node_there}
 use Rattle.edit_simple.specs.Facts.Lists.{all_from}
-use Rattle.edit_simple.specs.Facts.PassingRows.{map_same, passes_at, among_rows, rising_names}
+use Rattle.edit_simple.specs.Facts.PassingRows.{passes_at, among_rows, rising_names}
 use Rattle.edit_simple.specs.Facts.Retagging.{tags_sorted}
 use Rattle.edit_topology.specs.BothTags.{both_tags, conflict}
-use Rattle.edit_topology.specs.Inner.Merging.{is_either, replaced, subjects, name_checks, tag_checks, is_cut_short, merged_element, merged_row, merged_change, MayMerge}
-use Rattle.edit_topology.specs.Merge.{merged_nodes, shrunk, merge_checks, after_merge}
+use Rattle.edit_topology.specs.Inner.Merging.{is_either, replaced, subjects, name_checks, tag_checks, is_cut_short, merged_element, row_merged, MayMerge}
+use Rattle.edit_topology.specs.Merge.{merged_nodes, shrunk, merge_checks, after_merge, united, merge_row}
 use Rattle.edit_topology.specs.Renaming.{renamed_members}
 use Rattle.edit_topology.specs.Facts.BothTags.{are_tags-row_tags}
 use Rattle.edit_topology.specs.Facts.Changing.{merge_changes}
 use Rattle.edit_topology.specs.Facts.EachBut.{row_at-each_but, each_but_gone}
-use Rattle.edit_topology.specs.Facts.Merging.{Merges, merges, united, merge_row}
+use Rattle.edit_topology.specs.Facts.Merging.{Merges, merges}
 use Rattle.edit_topology.specs.Facts.Staying.{merge_leaves}
 use Rattle.edit_topology.proofs.MergeLists.{short_is, tags_stay}
 
@@ -129,9 +130,6 @@ module _ {A : Type 0} (m : Rows A) (k g : Name) (sound : is_sound m ≡ true) wh
 
   abbrev rest : List (Option (Refusal A))
   rest = tag_checks k (row_tags (row_at m k)) (row_tags (row_at m g))
-
-  pub named_wrong : (r : Refusal A) → first_that_holds (name_checks k g) ≡ Some r → first_that_holds (merge_checks m k g) ≡ Some r
-  named_wrong r e = before_all (name_checks k g) (then_some (is_absent m k) (Absent k) ∷ then_some (is_absent m g) (Absent g) ∷ the_least TooFew (shrunk m k g) ∷ rest) r e
 
   module _ (names : first_that_holds {X = Refusal A} (name_checks k g) ≡ None) where
     from_names : first_that_holds (merge_checks m k g) ≡ first_that_holds (then_some (is_absent m k) (Absent k) ∷ then_some (is_absent m g) (Absent g) ∷ the_least TooFew (shrunk m k g) ∷ rest)
@@ -241,18 +239,18 @@ module _ {A : Type 0} (m : Rows A) (k g : Name) (sound : is_sound m ≡ true) wh
         ∙ ap (λ b. Some (with_nodes (merged_nodes k g) (with_members (renamed_members g k) (cond b (united m g (Node kept.0 kept.1 kept.2)) (Node kept.0 kept.1 kept.2))))) (same_either_way k y ∙ same)
         ∙ (λ i. Some (Node kept.0 kept.1 (both_tags (sym own_are i) (sym theirs i))))
 
-    row_is : (y : Name) → is_among changed y ≡ true → merged_row k g both y (row_at m y) ≡ row_at n y
-    row_is y i = each (merged_row k g both y (row_at m y) ≡ row_at n y) y i at_g at_k named
+    row_is : (y : Name) → is_among changed y ≡ true → row_merged m k g both y ≡ row_at n y
+    row_is y i = each (row_merged m k g both y ≡ row_at n y) y i at_g at_k named
       where
-        at_g : is_same y g ≡ true → merged_row k g both y (row_at m y) ≡ row_at n y
+        at_g : is_same y g ≡ true → row_merged m k g both y ≡ row_at n y
         at_g e =
             ap (λ b. cond b None (option_map (merged_element k g both) (row_at m y))) (same_either_way g y ∙ e)
             ∙ sym (row_at-each_but m g (merge_row m k g) y ∙ ap (λ b. option_map (merge_row m k g y) (cond b None (row_at m y))) e)
 
-        stays : is_same y g ≡ false → merged_row k g both y (row_at m y) ≡ option_map (merged_element k g both) (row_at m y)
+        stays : is_same y g ≡ false → row_merged m k g both y ≡ option_map (merged_element k g both) (row_at m y)
         stays e = ap (λ b. cond b None (option_map (merged_element k g both) (row_at m y))) (same_either_way g y ∙ e)
 
-        at_k : is_same y g ≡ false → is_same y k ≡ true → gains ≡ true → merged_row k g both y (row_at m y) ≡ row_at n y
+        at_k : is_same y g ≡ false → is_same y k ≡ true → gains ≡ true → row_merged m k g both y ≡ row_at n y
         at_k e f h = stays e ∙ ap (option_map (merged_element k g both)) (row_k y f) ∙ ap (λ t. Some (Node kept.0 kept.1 t)) both_are ∙ sym (node_now y e f)
 
         element : (v : Element A) → is_same k y ≡ false → is_among (row_references (Some v)) g ≡ true → merged_element k g both v ≡ merge_row m k g y v
@@ -266,7 +264,7 @@ module _ {A : Type 0} (m : Rows A) (k g : Name) (sound : is_sound m ≡ true) wh
         by None f h = refl
         by (Some v) f h = ap Some (element v f h)
 
-        named : is_same y g ≡ false → is_same y k ≡ false → is_among (row_references (row_at m y)) g ≡ true → merged_row k g both y (row_at m y) ≡ row_at n y
+        named : is_same y g ≡ false → is_same y k ≡ false → is_among (row_references (row_at m y)) g ≡ true → row_merged m k g both y ≡ row_at n y
         named e f h = stays e ∙ by (row_at m y) (same_either_way k y ∙ f) h ∙ sym (row_now y e)
 
     there : (y : Name) → is_among changed y ≡ true → is_present m y ≡ true
@@ -335,11 +333,10 @@ module _ {A : Type 0} (m : Rows A) (k g : Name) (sound : is_sound m ≡ true) wh
       apart = λ y i e. let j = sym (is_among-name_set y changed) ∙ i in becomes_other y j (sym (row_is y j) ∙ e);
     }
 
-    changes_are : map (merged_change m k g both) (name_set changed) ≡ differences m n
+    changes_are : rows_changes m (row_merged m k g both) (name_set changed) ≡ differences m n
     changes_are =
-        map_same (merged_change m k g both) (λ y. record { name = y; before = row_at m y; after = row_at n y }) (name_set changed)
-        (λ y i. ap (λ o. record { name = y; before = row_at m y; after = o }) (row_is y (sym (is_among-name_set y changed) ∙ i)))
-        ∙ ap (map (λ y. record { name = y; before = row_at m y; after = row_at n y })) (differing_are m n (name_set changed) (IsRising-name_set changed) set_differs)
+        rows_differing m n (row_merged m k g both) (name_set changed) (IsRising-name_set changed) set_differs
+        (λ y i. row_is y (sym (is_among-name_set y changed) ∙ i))
 
     -- ---- the plan, with the names as they are found
 
@@ -350,5 +347,5 @@ module _ {A : Type 0} (m : Rows A) (k g : Name) (sound : is_sound m ≡ true) wh
       pub found_may : MayMerge m k g both names
       found_may = subst (λ l. MayMerge m k g both l) (sym names_changed) may_merge
 
-      pub merge_planned : (cs : List (Change A)) → cs ≡ map (merged_change m k g both) names → IsPlan m (merge_checks m k g) (after_merge m k g) (Ok cs)
-      merge_planned cs is = (ok, is ∙ ap (map (merged_change m k g both)) names_changed ∙ changes_are)
+      pub merge_planned : (cs : List (Change A)) → cs ≡ rows_changes m (row_merged m k g both) names → IsPlan m (merge_checks m k g) (after_merge m k g) (Ok cs)
+      merge_planned cs is = (ok, is ∙ ap (rows_changes m (row_merged m k g both)) names_changed ∙ changes_are)

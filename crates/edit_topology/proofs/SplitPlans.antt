@@ -1,5 +1,5 @@
 -- Plans of splits: which rows change, and what they become.
-use Rattle.std.proofs.Common.{◌≡◌, ◌≢◌, ◌+◌, ◌++◌, ℕ, min, Bool, true, false, not, ◌&&◌, ◌||◌, List, [], ◌∷◌, Option, Some, None, Ok, Err, is_some, find, slice_get, length, map, take, nat_lt, refl, sym, ap, subst, ◌∙◌, cond, arith}
+use Rattle.std.proofs.Common.{◌≡◌, ◌≢◌, ◌+◌, ◌++◌, ℕ, min, Bool, true, false, not, ◌&&◌, ◌||◌, List, [], ◌∷◌, Option, Some, None, Ok, Err, is_some, find, slice_get, length, take, nat_lt, refl, sym, ap, subst, ◌∙◌, cond, arith}
 use Rattle.std.proofs.lemmas.Bool.Decides.{nat_tests}
 use Rattle.std.proofs.lemmas.List.{length-take}
 use Rattle.std.specs.Bool.{then_some}
@@ -18,7 +18,7 @@ use Rattle.osm_elements.specs.Facts.Tests.{second_true}
 use Rattle.osm_refs.specs.References.{refers_to, row_references, users}
 use Rattle.osm_refs.specs.Facts.RisingNames.{IsRising-name_set, IsRising-filter, is_among-passing, same_rising}
 use Rattle.osm_changes.specs.declared.change.Change.{Change}
-use Rattle.osm_changes.specs.Changes.{differences}
+use Rattle.osm_changes.specs.Changes.{rows_changes, differences}
 use Rattle.osm_changes.specs.SameRows.{is_same_row}
 use Rattle.osm_changes.specs.Sound.{is_sound, most_members}
 use Rattle.osm_changes.specs.Facts.Differing.{same_row}
@@ -26,23 +26,23 @@ use Rattle.osm_changes.specs.Facts.SoundRows.{sound_in_order}
 use Rattle.edit_simple.specs.declared.refusal.Refusal.{Refusal}
 use Rattle.edit_simple.specs.declared.refusal.Refusal.TheVariants.{Absent, Present, WrongKind, BadPosition, TooMany}
 use Rattle.edit_simple.specs.Checks.{first_that_holds, the_least}
-use Rattle.edit_simple.specs.Inner.Passing.{passed}
+use Rattle.edit_simple.specs.Passing.{passed}
 use Rattle.edit_simple.specs.Kinds.{is_way}
-use Rattle.edit_simple.specs.Parts.{nodes_of, members_of, with_nodes, with_members}
+use Rattle.edit_simple.specs.Contents.{nodes_of, members_of, with_nodes, with_members}
 use Rattle.edit_simple.specs.Plans.{IsPlan}
-use Rattle.edit_simple.specs.Facts.Differences.{differing_are, apart_rows}
+use Rattle.edit_simple.specs.Facts.Differences.{rows_differing, apart_rows}
 use Rattle.edit_simple.specs.Facts.FirstUsers.{first_is_least}
 use Rattle.edit_simple.specs.Facts.Kinds.{told_way}
 use Rattle.edit_simple.specs.Facts.Lists.{or_left, all_listed}
-use Rattle.edit_simple.specs.Facts.PassingRows.{map_same, passes_at, rising_names, among_rows}
+use Rattle.edit_simple.specs.Facts.PassingRows.{passes_at, rising_names, among_rows}
 use Rattle.edit_simple.specs.Facts.Rewriting.{fine}
-use Rattle.edit_topology.specs.Inner.Splitting.{split_length, is_overfull, is_way_row, split_element, row_split, split_change, MaySplit}
-use Rattle.edit_topology.specs.Split.{is_inside, split_members, overfull, split_checks, after_split}
+use Rattle.edit_topology.specs.Inner.Splitting.{split_length, is_overfull, is_way_row, split_element, row_split, row_of_split, MaySplit}
+use Rattle.edit_topology.specs.Split.{is_inside, split_members, overfull, split_checks, after_split, split_row, split_off}
 use Rattle.edit_topology.specs.Facts.Changing.{split_changes}
 use Rattle.edit_topology.specs.Facts.Fitting.{way_fits}
 use Rattle.edit_topology.specs.Facts.Lists.{or_first, or_second}
 use Rattle.edit_topology.specs.Facts.Refusing.{overfull_are_users}
-use Rattle.edit_topology.specs.Facts.Splitting.{Splits, splits, split_row, split_off, row_at-after_split}
+use Rattle.edit_topology.specs.Facts.Splitting.{Splits, splits, row_at-after_split}
 use Rattle.edit_topology.specs.Facts.Staying.{split_leaves}
 use Rattle.edit_topology.proofs.SplitLoops.{find_is_first, length_split}
 
@@ -132,8 +132,8 @@ module _ {A : Type 0} where
     s : Splits m w i v
     s = splits m w i v sound ok
 
-    abbrev touched : List Name
-    touched = w ∷ v ∷ users m w
+    abbrev changing : List Name
+    changing = w ∷ v ∷ users m w
 
     named : (y : Name) → is_among (users m w) y ≡ is_among (row_references (row_at m y)) w
     named y = among_rows (λ r. refers_to r.1 w) m (sound_in_order m sound) y ∙ by (row_at m y)
@@ -145,7 +145,7 @@ module _ {A : Type 0} where
     no_node : is_node w.kind ≡ true → ⊥
     no_node h = cc (sym h ∙ ap is_node (told_way w.kind s.way_w))
 
-    -- ---- what is touched becomes
+    -- ---- what rows become
 
     fresh : row_at m v ≡ None
     fresh = no_row (row_at m v) s.fresh
@@ -189,63 +189,62 @@ module _ {A : Type 0} where
     way_at : (y : Name) → is_same y w ≡ true → row_at m y ≡ Some (Way s.nodes s.tags)
     way_at y f = ap (row_at m) (same_names y w f) ∙ s.row
 
-    touched_row : (y : Name) → is_among touched y ≡ true → row_at (after_split m w i v) y ≡ Some (row_split m w i v (row_at m y))
-    touched_row y t = by (is_same y v) refl (is_same y w) refl t
+    changing_row : (y : Name) → is_among changing y ≡ true → row_at (after_split m w i v) y ≡ Some (row_split m w i v (row_at m y))
+    changing_row y t = by (is_same y v) refl (is_same y w) refl t
       where
         by : (b : Bool) → is_same y v ≡ b → (c : Bool) → is_same y w ≡ c → (c || (b || is_among (users m w) y)) ≡ true → row_at (after_split m w i v) y ≡ Some (row_split m w i v (row_at m y))
         by true e c f g = ap (row_at (after_split m w i v)) (same_names y v e) ∙ new_row ∙ ap (λ z. Some (row_split m w i v (row_at m z))) (sym (same_names y v e))
         by false e true f g = kept y (Way s.nodes s.tags) (way_at y f) e (or_left (is_same w y) (is_among s.nodes w) (same_either_way w y ∙ f))
         by false e false f g = user_kept y (row_at m y) refl e (sym (named y) ∙ g)
 
-    -- ---- each that is touched becomes another, and no other
+    -- ---- each row becomes another, and no other
 
-    becomes_other : (y : Name) → is_among touched y ≡ true → row_at (after_split m w i v) y ≢ row_at m y
+    becomes_other : (y : Name) → is_among changing y ≡ true → row_at (after_split m w i v) y ≢ row_at m y
     becomes_other y t same = by (is_same y v) refl (is_same y w) refl t
       where
         by : (b : Bool) → is_same y v ≡ b → (c : Bool) → is_same y w ≡ c → (c || (b || is_among (users m w) y)) ≡ true → ⊥
-        by true e c f g = cc (ap is_some (sym (touched_row y t) ∙ same ∙ ap (row_at m) (same_names y v e) ∙ fresh))
+        by true e c f g = cc (ap is_some (sym (changing_row y t) ∙ same ∙ ap (row_at m) (same_names y v e) ∙ fresh))
         by false e true f g =
             cut_short i s.nodes s.inside
-            (ap (λ o. length (nodes_of o)) (ap (λ o. Some (row_split m w i v o)) (sym (way_at y f)) ∙ sym (touched_row y t) ∙ same ∙ way_at y f))
+            (ap (λ o. length (nodes_of o)) (ap (λ o. Some (row_split m w i v o)) (sym (way_at y f)) ∙ sym (changing_row y t) ∙ same ∙ way_at y f))
         by false e false f g = split_changes m w i v y sound ok (sym (named y) ∙ g) same
 
-    stays : (y : Name) → is_among touched y ≡ false → row_at (after_split m w i v) y ≡ row_at m y
+    stays : (y : Name) → is_among changing y ≡ false → row_at (after_split m w i v) y ≡ row_at m y
     stays y out =
         let others = or_second (is_same y w) (is_same y v || is_among (users m w) y) out in
         split_leaves m w i v y (or_first (is_same y w) (is_same y v || is_among (users m w) y) out) (or_first (is_same y v) (is_among (users m w) y) others)
         (sym (named y) ∙ or_second (is_same y v) (is_among (users m w) y) others)
 
-    in_touched : (y : Name) → is_among (name_set touched) y ≡ true → is_among touched y ≡ true
-    in_touched y j = sym (is_among-name_set y touched) ∙ j
+    in_changing : (y : Name) → is_among (name_set changing) y ≡ true → is_among changing y ≡ true
+    in_changing y j = sym (is_among-name_set y changing) ∙ j
 
-    set_differs : (y : Name) → is_among (name_set touched) y ≡ not (is_same_row (row_at m y) (row_at (after_split m w i v) y))
-    set_differs y = is_among-name_set y touched ∙ by (is_among touched y) refl
+    set_differs : (y : Name) → is_among (name_set changing) y ≡ not (is_same_row (row_at m y) (row_at (after_split m w i v) y))
+    set_differs y = is_among-name_set y changing ∙ by (is_among changing y) refl
       where
-        by : (b : Bool) → is_among touched y ≡ b → b ≡ not (is_same_row (row_at m y) (row_at (after_split m w i v) y))
+        by : (b : Bool) → is_among changing y ≡ b → b ≡ not (is_same_row (row_at m y) (row_at (after_split m w i v) y))
         by true e = sym (ap not (apart_rows (row_at m y) (row_at (after_split m w i v) y) (becomes_other y e)))
         by false e = sym (ap (λ o. not (is_same_row (row_at m y) o)) (stays y e) ∙ ap not (same_row (row_at m y)))
 
-    may_split : MaySplit m w i v (name_set touched)
+    may_split : MaySplit m w i v (name_set changing)
     may_split = record {
       way = ap is_way_row s.row;
-      rising = IsRising-name_set touched;
-      apart = λ y j e. becomes_other y (in_touched y j) (touched_row y (in_touched y j) ∙ e);
+      rising = IsRising-name_set changing;
+      apart = λ y j e. becomes_other y (in_changing y j) (changing_row y (in_changing y j) ∙ e);
     }
 
-    changes_are : map (split_change m w i v) (name_set touched) ≡ differences m (after_split m w i v)
+    changes_are : rows_changes m (row_of_split m w i v) (name_set changing) ≡ differences m (after_split m w i v)
     changes_are =
-        map_same (split_change m w i v) (λ y. record { name = y; before = row_at m y; after = row_at (after_split m w i v) y }) (name_set touched)
-        (λ y j. ap (λ o. record { name = y; before = row_at m y; after = o }) (sym (touched_row y (in_touched y j))))
-        ∙ ap (map (λ y. record { name = y; before = row_at m y; after = row_at (after_split m w i v) y })) (differing_are m (after_split m w i v) (name_set touched) (IsRising-name_set touched) set_differs)
+        rows_differing m (after_split m w i v) (row_of_split m w i v) (name_set changing) (IsRising-name_set changing) set_differs
+        (λ y j. sym (changing_row y (in_changing y j)))
 
     -- ---- the plan, with the names as they are found
 
     module _ (subjects its names : List Name) (subjects_are : subjects ≡ w ∷ v ∷ []) (its_are : its ≡ users m w) (names_are : names ≡ name_set (subjects ++ its)) where
-      names_touched : names ≡ name_set touched
-      names_touched = names_are ∙ (λ j. name_set (subjects_are j ++ its_are j))
+      names_changing : names ≡ name_set changing
+      names_changing = names_are ∙ (λ j. name_set (subjects_are j ++ its_are j))
 
       pub found_may : MaySplit m w i v names
-      found_may = subst (λ l. MaySplit m w i v l) (sym names_touched) may_split
+      found_may = subst (λ l. MaySplit m w i v l) (sym names_changing) may_split
 
-      pub split_planned : (cs : List (Change A)) → cs ≡ map (split_change m w i v) names → IsPlan m (split_checks m w i v) (after_split m w i v) (Ok cs)
-      split_planned cs is = (ok, is ∙ ap (map (split_change m w i v)) names_touched ∙ changes_are)
+      pub split_planned : (cs : List (Change A)) → cs ≡ rows_changes m (row_of_split m w i v) names → IsPlan m (split_checks m w i v) (after_split m w i v) (Ok cs)
+      split_planned cs is = (ok, is ∙ ap (rows_changes m (row_of_split m w i v)) names_changing ∙ changes_are)

@@ -1,5 +1,5 @@
 -- Plans of unglues: which rows change, and what they become.
-use Rattle.std.proofs.Common.{◌≡◌, ◌≢◌, ◌++◌, ℕ, Bool, true, false, not, ◌||◌, ◌&&◌, ◌<◌, T, All, List, [], ◌∷◌, Option, Some, None, Ok, is_some, zero, suc, length, map, nat_lt, refl, sym, ap, subst, ◌∙◌, arith}
+use Rattle.std.proofs.Common.{◌≡◌, ◌≢◌, ◌++◌, ℕ, Bool, true, false, not, ◌||◌, ◌&&◌, ◌<◌, T, List, [], ◌∷◌, append-nil, Option, Some, None, Ok, is_some, length, set, nat_lt, refl, sym, ap, subst, ◌∙◌, arith}
 use Rattle.std.proofs.lemmas.Bool.Decides.{nat_tests}
 use Rattle.std.proofs.lemmas.Option.{slice_get_within}
 use Rattle.std.specs.Bool.{then_some}
@@ -15,20 +15,22 @@ use Rattle.osm_elements.specs.Maps.{Rows, is_same, is_among}
 use Rattle.osm_elements.specs.NameOrder.{name_cmp}
 use Rattle.osm_elements.specs.Names.{kind_rank}
 use Rattle.osm_elements.specs.Rows.{row_at}
+use Rattle.osm_elements.specs.TagRows.{Pairs}
 use Rattle.osm_elements.specs.Facts.Rows.{same_names}
-use Rattle.osm_refs.specs.Inner.Rising.{IsRising}
+use Rattle.osm_refs.specs.Rising.{IsRising}
 use Rattle.osm_changes.specs.declared.change.Change.{Change}
-use Rattle.osm_changes.specs.Changes.{differences, AreChanges}
+use Rattle.osm_changes.specs.Changes.{row_changes, rows_changes, differences, AreChanges}
 use Rattle.osm_changes.specs.SameRows.{is_same_row}
 use Rattle.osm_changes.specs.Sound.{is_sound}
 use Rattle.osm_changes.specs.Facts.Differing.{same_row}
+use Rattle.osm_changes.specs.Facts.RowChanges.{AreChanges-row_changes, AreChanges-two_rows}
 use Rattle.edit_simple.specs.declared.refusal.Refusal.TheVariants.{BadPosition}
 use Rattle.edit_simple.specs.Checks.{first_that_holds}
-use Rattle.edit_simple.specs.Parts.{nodes_of}
+use Rattle.edit_simple.specs.Contents.{nodes_of, with_nodes}
 use Rattle.edit_simple.specs.Plans.{IsPlan}
 use Rattle.edit_simple.specs.Facts.Differences.{differing_are, apart_rows}
 use Rattle.edit_simple.specs.Facts.Kinds.{told_node, told_way}
-use Rattle.edit_topology.specs.Inner.Ungluing.{name_checks, node_of_way, unglued}
+use Rattle.edit_topology.specs.Inner.Ungluing.{name_checks, node_standing}
 use Rattle.edit_topology.specs.Unglue.{unglue_checks, after_unglue}
 use Rattle.edit_topology.specs.Facts.Changing.{unglue_changes}
 use Rattle.edit_topology.specs.Facts.Staying.{unglue_leaves}
@@ -51,19 +53,23 @@ less_test : (i n : ℕ) → i < n → nat_lt i n ≡ true
 less_test i n l = grind (arith, nat_tests)
 
 module _ {A : Type 0} where
-  -- the change of the way goes behind that of the new node
-  pub second_fits : (v w : Name) (node unglued way copy : Element A) → is_lt (name_cmp v w) ≡ true → unglued ≢ way → (front : List (Change A)) → front ≡ record { name = v; before = None; after = Some node } ∷ []
-      → copy ≡ way → AreChanges (front ++ record { name = w; before = Some copy; after = Some unglued } ∷ [])
+  -- ways of other nodes
+  pub other_nodes : (nodes others : List Name) (t u : Pairs) → nodes ≢ others → ◌≢◌ {A = Element A} (Way nodes t) (Way others u)
+  other_nodes nodes others t u apart e = apart (ap (λ w. nodes_of (Some w)) e)
+
+  -- the changes of the new node begin them
+  pub first_fits : (v : Name) (node : Element A) (front : List (Change A)) → front ≡ [] → AreChanges (front ++ row_changes v None (Some node))
+  first_fits v node front is = subst (λ cs. AreChanges (cs ++ row_changes v None (Some node))) (sym is) (AreChanges-row_changes v None (Some node) (λ e. cc))
+
+  -- those of the way go behind those of the new node
+  pub second_fits : (v w : Name) (node unglued way copy : Element A) → is_lt (name_cmp v w) ≡ true → unglued ≢ way → (front : List (Change A)) → front ≡ row_changes v None (Some node)
+      → copy ≡ way → AreChanges (front ++ row_changes w (Some copy) (Some unglued))
   second_fits v w node unglued way copy lt other front is same =
-      subst (λ cs. AreChanges (cs ++ record { name = w; before = Some copy; after = Some unglued } ∷ [])) (sym is) (record { rising = subst (λ b. T ((b && true) && true)) (sym lt) tt; differ = each })
+      subst (λ cs. AreChanges (cs ++ row_changes w (Some copy) (Some unglued))) (sym is)
+      (AreChanges-two_rows v w None (Some node) (Some copy) (Some unglued) lt (λ e. cc) (λ e. other (inside e ∙ same)))
     where
       inside : Some unglued ≡ Some copy → unglued ≡ copy
       inside e = cc
-
-      each : All (λ (c : Change A). c.after ≢ c.before) (record { name = v; before = None; after = Some node } ∷ record { name = w; before = Some copy; after = Some unglued } ∷ [])
-      each zero d l = λ e. cc
-      each (suc zero) d l = λ e. other (inside e ∙ same)
-      each (suc (suc i)) d l = absurd (omega (arith, l))
 
   no_row : (o : Option (Element A)) → is_some o ≡ false → o ≡ None
   no_row None e = refl
@@ -81,7 +87,7 @@ module _ {A : Type 0} where
         ∙ ap (λ o. first_that_holds (then_some (not (nat_lt i (length (nodes_of o)))) BadPosition ∷ [])) row
 
     -- where no node is found, the position lies beyond
-    beyond : (u : Element A) → row_at m w ≡ Some u → None ≡ node_of_way m u i → nat_lt i (length (nodes_of (Some u))) ≡ false
+    beyond : (u : Element A) → row_at m w ≡ Some u → None ≡ node_standing m (nodes_of (Some u)) i → nat_lt i (length (nodes_of (Some u))) ≡ false
     beyond (Node lat lon tags) is none = grind (arith, nat_tests)
     beyond (Way nodes tags) is none = by (nat_lt i (length nodes)) refl
       where
@@ -90,11 +96,11 @@ module _ {A : Type 0} where
         by false e = refl
     beyond (Relation members tags) is none = grind (arith, nat_tests)
 
-    pub no_position : None ≡ node_of_way m way i → Some BadPosition ≡ first_that_holds (unglue_checks m w i v)
+    pub no_position : None ≡ node_standing m (nodes_of (Some way)) i → Some BadPosition ≡ first_that_holds (unglue_checks m w i v)
     no_position none = sym (position ∙ ap (λ b. first_that_holds (then_some (not b) BadPosition ∷ [])) (beyond way row none))
 
     -- and where one is, it does not
-    pub within : (node : Element A) → Some node ≡ node_of_way m way i → i < length (nodes_of (Some way))
+    pub within : (node : Element A) → Some node ≡ node_standing m (nodes_of (Some way)) i → i < length (nodes_of (Some way))
     within node found = by (slice_get (nodes_of (Some way)) i) refl found
       where
         by : (o : Option Name) → slice_get (nodes_of (Some way)) i ≡ o → Some node ≡ option_and_then (row_at m) o → i < length (nodes_of (Some way))
@@ -103,7 +109,7 @@ module _ {A : Type 0} where
 
     -- ---- an accepted unglue
 
-    module _ (node : Element A) (found : Some node ≡ node_of_way m way i) where
+    module _ (node : Element A) (found : Some node ≡ node_standing m (nodes_of (Some way)) i) where
       accepted : first_that_holds (unglue_checks m w i v) ≡ None
       accepted = position ∙ ap (λ b. first_that_holds (then_some (not b) BadPosition ∷ [])) (less_test i (length (nodes_of (Some way))) (within node found))
 
@@ -122,10 +128,10 @@ module _ {A : Type 0} where
       new_node : row_at n v ≡ Some node
       new_node = new_row m w i v ∙ ap (λ o. option_and_then (row_at m) (slice_get (nodes_of o) i)) row ∙ sym found
 
-      way_becomes : row_at n w ≡ Some (unglued i v way)
+      way_becomes : row_at n w ≡ Some (with_nodes (λ list. set list i v) way)
       way_becomes = way_after m w i v (not_new m w i v s) way row
 
-      pub another_way : unglued i v way ≢ way
+      pub another_way : with_nodes (λ list. set list i v) way ≢ way
       another_way e = unglue_changes m w i v sound accepted (way_becomes ∙ ap Some e ∙ sym row)
 
       -- v and w have other rows, and no other name has
@@ -137,14 +143,15 @@ module _ {A : Type 0} where
           by false e true f = sym (ap (λ z. not (is_same_row (row_at m z) (row_at n z))) (same_names y w f) ∙ ap not (apart_rows (row_at m w) (row_at n w) (unglue_changes m w i v sound accepted)))
           by false e false f = sym (ap (λ o. not (is_same_row (row_at m y) o)) (unglue_leaves m w i v y f e) ∙ ap not (same_row (row_at m y)))
 
-      changes_are : record { name = v; before = None; after = Some node } ∷ record { name = w; before = Some way; after = Some (unglued i v way) } ∷ [] ≡ differences m n
+      changes_are : row_changes v None (Some node) ++ row_changes w (Some way) (Some (with_nodes (λ list. set list i v) way)) ≡ differences m n
       changes_are =
-          (λ j. record { name = v; before = sym fresh j; after = sym new_node j } ∷ record { name = w; before = sym row j; after = sym way_becomes j } ∷ [])
-          ∙ ap (map (λ y. record { name = y; before = row_at m y; after = row_at n y })) (differing_are m n (v ∷ w ∷ []) rising these_differ)
+          (λ j. row_changes v (sym fresh j) (sym new_node j) ++ row_changes w (sym row j) (sym way_becomes j))
+          ∙ ap (λ cs. row_changes v (row_at m v) (row_at n v) ++ cs) (sym (append-nil (row_changes w (row_at m w) (row_at n w))))
+          ∙ ap (rows_changes m (row_at n)) (differing_are m n (v ∷ w ∷ []) rising these_differ)
         where
           rising : IsRising (v ∷ w ∷ [])
           rising = subst (λ b. T ((b && true) && true)) (sym in_order) tt
 
-      pub unglue_planned : (after : Element A) → after ≡ unglued i v way → (cs : List (Change A))
-          → cs ≡ record { name = v; before = None; after = Some node } ∷ record { name = w; before = Some way; after = Some after } ∷ [] → IsPlan m (unglue_checks m w i v) n (Ok cs)
-      unglue_planned after is cs e = (accepted, e ∙ ap (λ u. record { name = v; before = None; after = Some node } ∷ record { name = w; before = Some way; after = Some u } ∷ []) is ∙ changes_are)
+      pub unglue_planned : (after : Element A) → after ≡ with_nodes (λ list. set list i v) way → (cs : List (Change A))
+          → cs ≡ row_changes v None (Some node) ++ row_changes w (Some way) (Some after) → IsPlan m (unglue_checks m w i v) n (Ok cs)
+      unglue_planned after is cs e = (accepted, e ∙ ap (λ u. row_changes v None (Some node) ++ row_changes w (Some way) (Some u)) is ∙ changes_are)

@@ -3,7 +3,8 @@ use Rattle.std.specs.Prelude.{◌≡◌, ◌≢◌, ℕ, Bool, false, not, List,
 use Rattle.std.specs.List.{fold, find}
 use Rattle.std.specs.Option.{option_map}
 use Rattle.std.specs.FinMap.Entries.{put}
-use Rattle.osm_elements.specs.TagRows.{Pairs, text_cmp, value_at}
+use Rattle.osm_elements.specs.KeyedRows.{text_cmp, value_at}
+use Rattle.osm_elements.specs.TagRows.{Pairs}
 use Rattle.osm_elements.specs.Texts.{is_same_text}
 
 -- the tags of the one and of the other

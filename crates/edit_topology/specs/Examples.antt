@@ -5,12 +5,13 @@ use Rattle.osm_elements.specs.declared.element.Element.{Element}
 use Rattle.osm_elements.specs.declared.element.Element.TheVariants.{Node}
 use Rattle.osm_elements.specs.Maps.{Rows}
 use Rattle.osm_elements.specs.Rows.{row_at, put_row}
+use Rattle.osm_elements.specs.Scenes.{thousand_tags}
 use Rattle.edit_simple.specs.declared.refusal.Refusal.{Refusal}
 use Rattle.edit_simple.specs.declared.refusal.Refusal.TheVariants.{Absent, Present, WrongKind, Same, BadPosition, NotEndToEnd, TagConflict, TooFew, TooMany}
 use Rattle.edit_simple.specs.Scenes.{Any, n-1, n-2, n-3, n-7, n-8, w1, w2, w3, w5, r1, r9, node_at, way_of, relation_of, outer, start, refused}
 use Rattle.edit_topology.specs.Join.{join_checks, after_join}
 use Rattle.edit_topology.specs.Merge.{merge_checks, after_merge}
-use Rattle.edit_topology.specs.Scenes.{a1, a2, b1, b2, c1, thousand_tags, tagged_node, tagged_way, beside, ring, thrice, with_many, with_long, ways_tagged, nodes_tagged, there_and_back}
+use Rattle.edit_topology.specs.Scenes.{a1, a2, b1, b2, c1, tagged_node, tagged_way, beside, ring, thrice, with_many, with_long, ways_tagged, nodes_tagged, there_and_back}
 use Rattle.edit_topology.specs.Split.{split_checks, after_split}
 use Rattle.edit_topology.specs.Unglue.{unglue_checks, after_unglue}
 

@@ -4,6 +4,7 @@ use Rattle.std.specs.Bool.{then_some}
 use Rattle.std.specs.List.{filter, last_or, slice_get, zip}
 use Rattle.std.specs.Option.{option_eq, option_map}
 use Rattle.osm_elements.specs.declared.name.Name.{Name}
+use Rattle.osm_elements.specs.declared.element.Element.{Element}
 use Rattle.osm_elements.specs.Maps.{Rows, is_same, is_absent, rows_but}
 use Rattle.osm_elements.specs.Rows.{row_at}
 use Rattle.osm_elements.specs.Texts.{is_same_text}
@@ -11,7 +12,7 @@ use Rattle.osm_changes.specs.Sound.{most_nodes}
 use Rattle.edit_simple.specs.declared.refusal.Refusal.{Refusal}
 use Rattle.edit_simple.specs.declared.refusal.Refusal.TheVariants.{Absent, WrongKind, Same, NotEndToEnd, TagConflict, TooMany}
 use Rattle.edit_simple.specs.Kinds.{is_way}
-use Rattle.edit_simple.specs.Parts.{nodes_of, row_tags, with_nodes, with_tags, with_members, each_row, at_name}
+use Rattle.edit_simple.specs.Contents.{nodes_of, row_tags, with_nodes, with_tags, with_members, each_row, at_name}
 use Rattle.edit_simple.specs.Tagging.{most_tags}
 use Rattle.edit_topology.specs.BothTags.{both_tags, conflict}
 use Rattle.edit_topology.specs.Renaming.{renamed_members}
@@ -52,9 +53,14 @@ module _ {A : Type 0} where
       ∷ then_some (nat_lt most_tags (length (both_tags (row_tags (row_at m w)) (row_tags (row_at m v))))) (TooMany w)
       ∷ []
 
-  -- w's list is w's and then v's without its first, and its tags are both ways' tags; v is gone, and w is the member where v was one
+  -- w with v's list behind its own, without its first, and with both ways' tags
+  abbrev pub lengthened : Rows A → Name → Element A → Element A
+  lengthened m v u = with_nodes (λ list. end_to_end list (nodes_of (row_at m v))) (with_tags (λ tags. both_tags tags (row_tags (row_at m v))) u)
+
+  -- what a row becomes: w is lengthened, and w is the member where v was one
+  abbrev pub join_row : Rows A → Name → Name → Name → Element A → Element A
+  join_row m w v y u = with_members (joined_members w v) (at_name w (lengthened m v) y u)
+
+  -- v is gone, and every other row becomes what it becomes
   abbrev pub after_join : Rows A → Name → Name → Rows A
-  after_join m w v = each_row
-      (λ y e. with_members (joined_members w v)
-      (at_name w (λ u. with_nodes (λ list. end_to_end list (nodes_of (row_at m v))) (with_tags (λ tags. both_tags tags (row_tags (row_at m v))) u)) y e))
-      (rows_but v m)
+  after_join m w v = each_row (join_row m w v) (rows_but v m)

@@ -4,13 +4,14 @@ use Rattle.std.specs.Bool.{then_some}
 use Rattle.std.specs.List.{dedup, filter}
 use Rattle.std.specs.Option.{option_map}
 use Rattle.osm_elements.specs.declared.name.Name.{Name}
+use Rattle.osm_elements.specs.declared.element.Element.{Element}
 use Rattle.osm_elements.specs.Made.{is_node}
 use Rattle.osm_elements.specs.Maps.{Rows, is_same, is_among, is_absent, names_of, rows_but}
 use Rattle.osm_elements.specs.Rows.{row_at}
 use Rattle.edit_simple.specs.declared.refusal.Refusal.{Refusal}
 use Rattle.edit_simple.specs.declared.refusal.Refusal.TheVariants.{Absent, WrongKind, Same, TagConflict, TooFew, TooMany}
 use Rattle.edit_simple.specs.Checks.{the_least}
-use Rattle.edit_simple.specs.Parts.{nodes_of, row_tags, with_nodes, with_tags, with_members, each_row, at_name}
+use Rattle.edit_simple.specs.Contents.{nodes_of, row_tags, with_nodes, with_tags, with_members, each_row, at_name}
 use Rattle.edit_simple.specs.Tagging.{most_tags}
 use Rattle.edit_topology.specs.BothTags.{both_tags, conflict}
 use Rattle.edit_topology.specs.Renaming.{renamed, renamed_members}
@@ -41,8 +42,14 @@ module _ {A : Type 0} where
       ∷ then_some (nat_lt most_tags (length (both_tags (row_tags (row_at m k)) (row_tags (row_at m g))))) (TooMany k)
       ∷ []
 
-  -- k stands wherever g was named, keeps its position, and has both nodes' tags; g is gone
+  -- k with both nodes' tags, at its own position
+  abbrev pub united : Rows A → Name → Element A → Element A
+  united m g u = with_tags (λ tags. both_tags tags (row_tags (row_at m g))) u
+
+  -- what a row becomes: k has both nodes' tags, and k stands wherever g was named
+  abbrev pub merge_row : Rows A → Name → Name → Name → Element A → Element A
+  merge_row m k g y u = with_nodes (merged_nodes k g) (with_members (renamed_members g k) (at_name k (united m g) y u))
+
+  -- g is gone, and every other row becomes what it becomes
   abbrev pub after_merge : Rows A → Name → Name → Rows A
-  after_merge m k g = each_row
-      (λ y e. with_nodes (merged_nodes k g) (with_members (renamed_members g k) (at_name k (with_tags (λ tags. both_tags tags (row_tags (row_at m g)))) y e)))
-      (rows_but g m)
+  after_merge m k g = each_row (merge_row m k g) (rows_but g m)

@@ -1,6 +1,5 @@
 -- Maps and parts of the worked examples, beside those of `edit_simple`.
-use Rattle.std.specs.Prelude.{◌*◌, ◌++◌, ℕ, List, [], ◌∷◌, map, pos, replicate}
-use Rattle.std.specs.List.{flat_map, range_with_len}
+use Rattle.std.specs.Prelude.{◌*◌, ◌++◌, ℕ, List, [], ◌∷◌, pos, replicate}
 use Rattle.osm_elements.specs.declared.name.Name.{Name}
 use Rattle.osm_elements.specs.declared.element.Element.{Element}
 use Rattle.osm_elements.specs.declared.element.Element.TheVariants.{Node, Way}
@@ -24,10 +23,6 @@ b2 = (98 ∷ [], 50 ∷ [])
 
 abbrev pub c1 : List ℕ × List ℕ
 c1 = (99 ∷ [], 49 ∷ [])
-
--- a thousand tags with no value, their keys each of two characters
-abbrev pub thousand_tags : Pairs
-thousand_tags = flat_map (λ i. map (λ j. (i ∷ j ∷ [], [])) (range_with_len 48 40)) (range_with_len 48 25)
 
 abbrev pub tagged_node : ℕ → Pairs → Element Any
 tagged_node degrees tags = Node (pos (degrees * 10000000)) (pos (degrees * 10000000)) tags

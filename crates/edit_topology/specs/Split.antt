@@ -3,6 +3,7 @@ use Rattle.std.specs.Prelude.{◌+◌, ◌&&◌, ℕ, Bool, not, List, [], ◌�
 use Rattle.std.specs.Bool.{then_some}
 use Rattle.std.specs.List.{filter, flat_map}
 use Rattle.osm_elements.specs.declared.name.Name.{Name}
+use Rattle.osm_elements.specs.declared.element.Element.{Element}
 use Rattle.osm_elements.specs.declared.element.Element.TheVariants.{Way}
 use Rattle.osm_elements.specs.Maps.{Rows, is_same, is_present, is_absent, names_of}
 use Rattle.osm_elements.specs.Rows.{row_at, put_row}
@@ -11,7 +12,7 @@ use Rattle.edit_simple.specs.declared.refusal.Refusal.{Refusal}
 use Rattle.edit_simple.specs.declared.refusal.Refusal.TheVariants.{Absent, Present, WrongKind, BadPosition, TooMany}
 use Rattle.edit_simple.specs.Checks.{the_least}
 use Rattle.edit_simple.specs.Kinds.{is_way}
-use Rattle.edit_simple.specs.Parts.{nodes_of, members_of, row_tags, with_nodes, with_members, each_row, at_name}
+use Rattle.edit_simple.specs.Contents.{nodes_of, members_of, row_tags, with_nodes, with_members, each_row, at_name}
 
 -- a position in the list, counted from 0, that is neither the first nor the last
 abbrev pub is_inside : ℕ → List Name → Bool
@@ -37,8 +38,14 @@ module _ {A : Type 0} where
       ∷ the_least TooMany (overfull m w v)
       ∷ []
 
-  -- w keeps the positions from 0 to i; v has those from i to the last, and w's tags; a member w becomes w and v
+  -- what a row becomes: w keeps the positions from 0 to i, and a member w becomes w and v
+  abbrev pub split_row : Name → ℕ → Name → Name → Element A → Element A
+  split_row w i v y u = with_members (split_members w v) (at_name w (with_nodes (take (i + 1))) y u)
+
+  -- the new way: the positions from i to the last, and w's tags
+  abbrev pub split_off : Rows A → Name → ℕ → Element A
+  split_off m w i = Way (drop i (nodes_of (row_at m w))) (row_tags (row_at m w))
+
+  -- every row becomes what it becomes, and v is the new way
   abbrev pub after_split : Rows A → Name → ℕ → Name → Rows A
-  after_split m w i v = put_row
-      (each_row (λ y e. with_members (split_members w v) (at_name w (with_nodes (take (i + 1))) y e)) m)
-      v (Way (drop i (nodes_of (row_at m w))) (row_tags (row_at m w)))
+  after_split m w i v = put_row (each_row (split_row w i v) m) v (split_off m w i)

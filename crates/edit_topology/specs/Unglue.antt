@@ -12,7 +12,7 @@ use Rattle.osm_changes.specs.Changes.{with_row}
 use Rattle.edit_simple.specs.declared.refusal.Refusal.{Refusal}
 use Rattle.edit_simple.specs.declared.refusal.Refusal.TheVariants.{Absent, Present, WrongKind, BadPosition}
 use Rattle.edit_simple.specs.Kinds.{is_way}
-use Rattle.edit_simple.specs.Parts.{nodes_of, with_nodes, each_row, at_name}
+use Rattle.edit_simple.specs.Contents.{nodes_of, with_nodes, each_row, at_name}
 
 module _ {A : Type 0} where
   -- the row of the node that stands at a position of w's list, counted from 0

@@ -2,18 +2,18 @@
 ghost use Rattle.std.specs.Prelude.{◌≡◌, ◌⊎◌, ◌<◌, ◌≤◌, true, false, T, map, length, nat_lt, nat_eq, is_some, MatchResult, OnOk, IfErr};
 ghost use Rattle.std.specs.FinMap.Entries.{is_sorted, put};
 ghost use Rattle.std.specs.Option.{option_copied};
-ghost use Rattle.osm_elements.specs.TagRows.{AreTagRows, tag_pair, text_cmp, value_at};
+ghost use Rattle.osm_elements.specs.KeyedRows.{text_cmp, value_at};
+ghost use Rattle.osm_elements.specs.TagRows.{AreTagRows, tag_pair};
 ghost use Rattle.osm_elements.specs.declared.fault.TextFault.TheVariants as faults;
 ghost use Rattle.edit_simple.specs.declared.refusal.Refusal.TheVariants.{TooMany, Memory as OutOfMemory};
 ghost use Rattle.edit_simple.specs.Tagging.{most_tags};
 ghost use Rattle.edit_topology.specs.BothTags.{both_tags, is_another, conflict};
 
-use edit_simple::lookup::is_same_text;
 use edit_simple::refusal::Refusal;
 use osm_elements::fault::TextFault;
 use osm_elements::name::Name;
 use osm_elements::tags::{Tag, Tags};
-use osm_elements::text::Text;
+use osm_elements::text::{Text, is_same_text};
 use std::alloc::Allocator;
 
 /// The least key that has a value in both and not the same one; none where there is no such key.

@@ -1,30 +1,28 @@
 //! Plans of joins.
 ghost use Rattle.std.specs.Prelude.{◌≡◌, ◌⊎◌, ◌≤◌, true, map, length, None, Some, MatchResult, IfOk, if◌then◌else◌, OnOk};
 ghost use Rattle.std.specs.Option.{option_copied, option_map};
-ghost use Rattle.osm_elements.specs.Maps.{is_absent, is_present, is_same};
+ghost use Rattle.osm_elements.specs.Maps.{is_present, is_same};
 ghost use Rattle.osm_elements.specs.Members.{member_pair};
 ghost use Rattle.osm_elements.specs.Rows.{row_at};
-ghost use Rattle.osm_elements.specs.declared.element.Element.TheVariants.{Way};
 ghost use Rattle.osm_refs.specs.References.{users};
+ghost use Rattle.osm_changes.specs.Changes.{rows_changes};
 ghost use Rattle.osm_changes.specs.Sound.{is_sound, most_nodes};
-ghost use Rattle.edit_simple.specs.declared.refusal.Refusal.TheVariants.{Absent, TagConflict, Memory as OutOfMemory};
+ghost use Rattle.edit_simple.specs.declared.refusal.Refusal.TheVariants.{TagConflict, Memory as OutOfMemory};
 ghost use Rattle.edit_simple.specs.Checks.{first_that_holds};
-ghost use Rattle.edit_simple.specs.Inner.Passing.{passed};
-ghost use Rattle.edit_simple.specs.Kinds.{is_way};
-ghost use Rattle.edit_simple.specs.Parts.{with_members};
+ghost use Rattle.edit_simple.specs.Passing.{passed};
+ghost use Rattle.edit_simple.specs.Contents.{with_members};
 ghost use Rattle.edit_simple.specs.Plans.{IsPlan};
 ghost use Rattle.edit_topology.specs.BothTags.{conflict};
-ghost use Rattle.edit_topology.specs.Inner.Joining.{name_checks, list_checks, way_of_both, joined_change, MayJoin};
+ghost use Rattle.edit_topology.specs.Inner.Joining.{name_checks, list_checks, way_of_both, row_joined, MayJoin};
 ghost use Rattle.edit_topology.specs.Join.{meet_end_to_end, end_to_end, goes_on, joined_members, join_checks, after_join};
 ghost use Rattle.edit_topology.specs.Renaming.{renamed};
 
 use crate::both_tags::{both_tags, conflict};
-use crate::kinds::is_way;
-use crate::touched::touched;
+use crate::subjects::subjects_and_users;
+use edit_simple::kinds::is_way;
 use edit_simple::limits::MOST_NODES;
-use edit_simple::lookup::{is_same, is_same_text};
 use edit_simple::refusal::Refusal;
-use osm_changes::change::Change;
+use edit_simple::ways::way_at;
 use osm_changes::changes::Changes;
 use osm_elements::Memory;
 use osm_elements::element::Element;
@@ -32,8 +30,10 @@ use osm_elements::map::OsmMap;
 use osm_elements::member::Member;
 use osm_elements::members::Members;
 use osm_elements::name::Name;
+use osm_elements::names::is_same;
 use osm_elements::nodes::Nodes;
 use osm_elements::tags::Tags;
+use osm_elements::text::is_same_text;
 use std::alloc::Allocator;
 
 /// Plans to join a way to another.
@@ -49,7 +49,7 @@ pub fn plan<A: Allocator + Clone>(
     ensures { IsPlan rows.now (join_checks rows.now name.now other.now) (after_join rows.now name.now other.now) result }
 {
     let joined = way_of_both(rows, name, other)?;
-    let names = touched(alloc.clone()?, &[*name, *other], its_users)?;
+    let names = subjects_and_users(alloc.clone()?, &[*name, *other], its_users)?;
     Ok(change_all(alloc, rows, name, other, joined, &names)?)
 }
 
@@ -88,26 +88,6 @@ fn check_names<A: Allocator>(name: &Name, other: &Name) -> Result<(), Refusal<A>
         return Err(Refusal::Same(*name));
     }
     Ok(())
-}
-
-// The nodes and tags of a way, or the refusal of one that is not there.
-fn way_at<'m, A: Allocator>(
-    rows: &'m OsmMap<A>,
-    name: &Name,
-) -> Result<(&'m Nodes<A>, &'m Tags<A>), Refusal<A>>
-    requires sound { is_sound rows.now ≡ true }
-    requires kind { is_way name.now.kind ≡ true }
-    ensures { MatchResult result
-        (λ way. row_at rows.now name.now ≡ Some (Way way.0.now way.1.now))
-        (λ r. (is_absent rows.now name.now ≡ true) × (r ≡ Absent name.now)) }
-{
-    let Some(element) = rows.get(name) else {
-        return Err(Refusal::Absent(*name));
-    };
-    match element {
-        Element::Way { nodes, tags } => Ok((nodes, tags)),
-        _ => unreachable!(),
-    }
 }
 
 // Whether the one list ends where the other begins, and both make a list that is not too long.
@@ -155,7 +135,7 @@ fn end_to_end<A: Allocator + Clone>(nodes: &Nodes<A>, others: &Nodes<A>) -> Resu
     Ok(Nodes::from_vec(names))
 }
 
-// The changes of the names that are touched, of which the way becomes the joined one.
+// The changes of the names whose rows change, of which the way becomes the joined one.
 fn change_all<A: Allocator + Clone>(
     alloc: A,
     rows: &OsmMap<A>,
@@ -165,46 +145,45 @@ fn change_all<A: Allocator + Clone>(
     names: &[Name],
 ) -> Result<Changes<A>, Memory>
     requires { MayJoin rows.now name.now other.now joined names.now }
-    ensures { IfOk result (λ cs. cs ≡ map (joined_change rows.now name.now other.now (Some joined)) names.now) }
+    ensures { IfOk result (λ cs.
+        cs ≡ rows_changes rows.now (row_joined rows.now name.now other.now (Some joined)) names.now) }
 {
     let mut joined = Some(joined);
     let mut changes = Changes::empty(alloc.clone()?);
-    for touched in names {
-        let change = joined_change(&alloc, rows, name, other, &mut joined, touched)?;
-        changes.push(change)?;
+    for changing in names {
+        let (before, after) = rows_of(&alloc, rows, name, other, &mut joined, changing)?;
+        changes.push_row(*changing, Some(before), after)?;
     }
     Ok(changes)
 }
 
-// The change of a name that is touched. The joined way is given to the way.
-fn joined_change<A: Allocator + Clone>(
+// The element of a name whose row changes before the join, and what it becomes: none where the name is the other's.
+// The joined way is given to the way.
+fn rows_of<A: Allocator + Clone>(
     alloc: &A,
     rows: &OsmMap<A>,
     name: &Name,
     other: &Name,
     joined: &mut Option<Element<A>>,
-    touched: &Name,
-) -> Result<Change<A>, Memory>
-    requires { is_present rows.now touched.now ≡ true }
-    ensures change { IfOk result (λ c. c ≡ joined_change rows.now name.now other.now joined.old touched.now) }
-    ensures joined { OnOk result (joined.new ≡ (if is_same touched.now name.now then None else joined.old)) }
+    changing: &Name,
+) -> Result<(Element<A>, Option<Element<A>>), Memory>
+    requires { is_present rows.now changing.now ≡ true }
+    ensures row { IfOk result (λ row. (Some row.0 ≡ row_at rows.now changing.now)
+        × (row.1 ≡ row_joined rows.now name.now other.now joined.old changing.now)) }
+    ensures joined { OnOk result (joined.new ≡ (if is_same changing.now name.now then None else joined.old)) }
 {
-    let Some(element) = rows.get(touched) else {
+    let Some(element) = rows.get(changing) else {
         unreachable!()
     };
     let before = element.copy()?;
-    let after = if is_same(touched, name) {
+    let after = if is_same(changing, name) {
         joined.take()
-    } else if is_same(touched, other) {
+    } else if is_same(changing, other) {
         None
     } else {
         Some(renamed(alloc, name, other, element)?)
     };
-    Ok(Change {
-        name: *touched,
-        before: Some(before),
-        after,
-    })
+    Ok((before, after))
 }
 
 // The element with the way as a member wherever the other was one.

@@ -3,11 +3,10 @@
 
 mod both_tags;
 mod join;
-mod kinds;
 pub mod laws;
 mod merge;
 pub mod plans;
 mod renaming;
 mod split;
-mod touched;
+mod subjects;
 mod unglue;

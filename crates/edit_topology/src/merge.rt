@@ -1,31 +1,31 @@
 //! Plans of merges.
-ghost use Rattle.std.specs.Prelude.{◌≡◌, ◌⊎◌, ◌++◌, true, map, None, Some, IfOk, MatchResult};
+ghost use Rattle.std.specs.Prelude.{◌≡◌, ◌⊎◌, ◌++◌, true, None, Some, IfOk, MatchResult};
 ghost use Rattle.std.specs.List.{find, list_all};
 ghost use Rattle.osm_elements.specs.Made.{is_node};
 ghost use Rattle.osm_elements.specs.Maps.{is_present, is_same, name_set};
 ghost use Rattle.osm_elements.specs.Rows.{row_at};
 ghost use Rattle.osm_refs.specs.References.{users};
+ghost use Rattle.osm_changes.specs.Changes.{rows_changes};
 ghost use Rattle.osm_changes.specs.Sound.{is_sound};
 ghost use Rattle.edit_simple.specs.declared.refusal.Refusal.TheVariants.{Memory as OutOfMemory};
 ghost use Rattle.edit_simple.specs.Checks.{first_that_holds};
-ghost use Rattle.edit_simple.specs.Inner.Passing.{passed};
+ghost use Rattle.edit_simple.specs.Passing.{passed};
 ghost use Rattle.edit_simple.specs.Plans.{IsPlan};
 ghost use Rattle.edit_topology.specs.BothTags.{both_tags};
-ghost use Rattle.edit_topology.specs.Inner.Merging.{is_either, subjects, name_checks, tag_checks, is_cut_short, merged_element, merged_row, merged_change, MayMerge};
+ghost use Rattle.edit_topology.specs.Inner.Merging.{is_either, subjects, name_checks, tag_checks, is_cut_short, merged_element, merged_row, row_merged, MayMerge};
 ghost use Rattle.edit_topology.specs.Merge.{merge_checks, after_merge};
 
 use crate::both_tags::{both_tags, conflict};
-use crate::kinds::is_node;
 use crate::renaming::{renamed_members, replaced};
-use crate::touched::touched;
-use edit_simple::lookup::is_same;
+use crate::subjects::subjects_and_users;
+use edit_simple::kinds::is_node;
 use edit_simple::refusal::Refusal;
-use osm_changes::change::Change;
 use osm_changes::changes::Changes;
 use osm_elements::Memory;
 use osm_elements::element::Element;
 use osm_elements::map::OsmMap;
 use osm_elements::name::Name;
+use osm_elements::names::is_same;
 use osm_elements::tags::Tags;
 use std::alloc::Allocator;
 
@@ -136,9 +136,9 @@ fn all_changed<A: Allocator>(
     ensures { IfOk result (λ names. names.items ≡ name_set (subjects name.now other.now gains ++ its_users.now)) }
 {
     if gains {
-        touched(alloc, &[*name, *other], its_users)
+        subjects_and_users(alloc, &[*name, *other], its_users)
     } else {
-        touched(alloc, &[*other], its_users)
+        subjects_and_users(alloc, &[*other], its_users)
     }
 }
 
@@ -152,39 +152,37 @@ fn change_all<A: Allocator + Clone>(
     changed: &[Name],
 ) -> Result<Changes<A>, Memory>
     requires { MayMerge rows.now name.now other.now both.now changed.now }
-    ensures { IfOk result (λ cs. cs ≡ map (merged_change rows.now name.now other.now both.now) changed.now) }
+    ensures { IfOk result (λ cs.
+        cs ≡ rows_changes rows.now (row_merged rows.now name.now other.now both.now) changed.now) }
 {
     let mut changes = Changes::empty(alloc.clone()?);
     for changing in changed {
-        let change = merged_change(&alloc, rows, name, other, both, changing)?;
-        changes.push(change)?;
+        let (before, after) = rows_of(&alloc, rows, name, other, both, changing)?;
+        changes.push_row(*changing, Some(before), after)?;
     }
     Ok(changes)
 }
 
-// The change of a name whose row changes.
-fn merged_change<A: Allocator + Clone>(
+// The element of a name whose row changes before the merge, and what it becomes: none where the name is the other's.
+fn rows_of<A: Allocator + Clone>(
     alloc: &A,
     rows: &OsmMap<A>,
     name: &Name,
     other: &Name,
     both: &Tags<A>,
     changing: &Name,
-) -> Result<Change<A>, Memory>
+) -> Result<(Element<A>, Option<Element<A>>), Memory>
     requires node { is_node name.now.kind ≡ true }
     requires there { is_present rows.now changing.now ≡ true }
-    ensures { IfOk result (λ c. c ≡ merged_change rows.now name.now other.now both.now changing.now) }
+    ensures { IfOk result (λ row. (Some row.0 ≡ row_at rows.now changing.now)
+        × (row.1 ≡ row_merged rows.now name.now other.now both.now changing.now)) }
 {
     let Some(element) = rows.get(changing) else {
         unreachable!()
     };
     let before = element.copy()?;
     let after = merged_row(alloc, name, other, both, changing, element)?;
-    Ok(Change {
-        name: *changing,
-        before: Some(before),
-        after,
-    })
+    Ok((before, after))
 }
 
 // What the element of a name becomes: none where the name is the other's.

@@ -6,11 +6,11 @@ ghost use Rattle.osm_elements.specs.Nodes.{AreNodes};
 ghost use Rattle.edit_topology.specs.Inner.Merging.{replaced};
 ghost use Rattle.edit_topology.specs.Renaming.{renamed, renamed_members};
 
-use edit_simple::lookup::is_same;
 use osm_elements::Memory;
 use osm_elements::member::Member;
 use osm_elements::members::Members;
 use osm_elements::name::Name;
+use osm_elements::names::is_same;
 use osm_elements::nodes::Nodes;
 use std::alloc::Allocator;
 

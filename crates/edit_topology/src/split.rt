@@ -4,20 +4,20 @@ ghost use Rattle.osm_elements.specs.Maps.{is_same};
 ghost use Rattle.osm_elements.specs.Members.{member_pair};
 ghost use Rattle.osm_elements.specs.Rows.{row_at};
 ghost use Rattle.osm_refs.specs.References.{users};
+ghost use Rattle.osm_changes.specs.Changes.{rows_changes};
 ghost use Rattle.osm_changes.specs.Sound.{is_sound};
 ghost use Rattle.edit_simple.specs.Checks.{first_that_holds};
-ghost use Rattle.edit_simple.specs.Inner.Passing.{passed};
-ghost use Rattle.edit_simple.specs.Parts.{nodes_of};
+ghost use Rattle.edit_simple.specs.Passing.{passed};
 ghost use Rattle.edit_simple.specs.Plans.{IsPlan};
-ghost use Rattle.edit_topology.specs.Inner.Splitting.{split_length, is_overfull, is_way_row, split_member, split_element, new_way, split_change, MaySplit};
+ghost use Rattle.edit_topology.specs.Inner.Splitting.{split_length, is_overfull, is_way_row, split_member, split_element, new_way, row_of_split, MaySplit};
 ghost use Rattle.edit_topology.specs.Split.{is_inside, split_members, split_checks, after_split};
 
-use crate::kinds::is_way;
-use crate::touched::touched;
+use crate::subjects::subjects_and_users;
+use edit_simple::kinds::is_way;
 use edit_simple::limits::MOST_MEMBERS;
-use edit_simple::lookup::{is_present, is_same};
+use edit_simple::lookup::is_present;
 use edit_simple::refusal::Refusal;
-use osm_changes::change::Change;
+use edit_simple::ways::way_at;
 use osm_changes::changes::Changes;
 use osm_elements::Memory;
 use osm_elements::element::Element;
@@ -25,6 +25,7 @@ use osm_elements::map::OsmMap;
 use osm_elements::member::Member;
 use osm_elements::members::Members;
 use osm_elements::name::Name;
+use osm_elements::names::is_same;
 use osm_elements::nodes::Nodes;
 use std::alloc::Allocator;
 
@@ -42,7 +43,7 @@ pub fn plan<A: Allocator + Clone>(
     ensures { IsPlan rows.now (split_checks rows.now name.now place into.now) (after_split rows.now name.now place into.now) result }
 {
     check(rows, its_users, name, place, into)?;
-    let names = touched(alloc.clone()?, &[*name, *into], its_users)?;
+    let names = subjects_and_users(alloc.clone()?, &[*name, *into], its_users)?;
     Ok(change_all(alloc, rows, &names, name, place, into)?)
 }
 
@@ -64,13 +65,11 @@ fn check<A: Allocator>(
     if !is_way(into) {
         return Err(Refusal::WrongKind(*into));
     }
-    let Some(way) = rows.get(name) else {
-        return Err(Refusal::Absent(*name));
-    };
+    let (nodes, _) = way_at(rows, name)?;
     if is_present(rows, into) {
         return Err(Refusal::Present(*into));
     }
-    if !is_inside(place, way) {
+    if !is_inside(place, nodes.names()) {
         return Err(Refusal::BadPosition);
     }
     match first_overfull(rows, its_users, name) {
@@ -79,15 +78,12 @@ fn check<A: Allocator>(
     }
 }
 
-// Whether the place is one of the way's, and neither its first nor its last.
-fn is_inside<A: Allocator>(place: u32, way: &Element<A>) -> bool
-    ensures { result ≡ is_inside place (nodes_of (Some way.now)) }
+// Whether the place is one of the list's, and neither its first nor its last.
+fn is_inside(place: u32, nodes: &[Name]) -> bool
+    ensures { result ≡ is_inside place nodes.now }
 {
     let place = place as usize;
-    match way {
-        Element::Way { nodes, .. } => 0 < place && place + 1 < nodes.len(),
-        _ => false,
-    }
+    0 < place && place + 1 < nodes.len()
 }
 
 // The first of the way's users that would have more than 32,000 members.
@@ -129,7 +125,7 @@ fn count_named<A: Allocator>(members: &[Member<A>], way: &Name) -> usize
         .count()
 }
 
-// The changes of the names that are touched.
+// The changes of the names whose rows change.
 fn change_all<A: Allocator + Clone>(
     alloc: A,
     rows: &OsmMap<A>,
@@ -139,27 +135,28 @@ fn change_all<A: Allocator + Clone>(
     into: &Name,
 ) -> Result<Changes<A>, Memory>
     requires { MaySplit rows.now way.now place into.now names.now }
-    ensures { IfOk result (λ cs. cs ≡ map (split_change rows.now way.now place into.now) names.now) }
+    ensures { IfOk result (λ cs. cs ≡ rows_changes rows.now (row_of_split rows.now way.now place into.now) names.now) }
 {
     let mut changes = Changes::empty(alloc.clone()?);
     for name in names {
-        let change = split_change(&alloc, rows, name, way, place, into)?;
-        changes.push(change)?;
+        let (before, after) = rows_of(&alloc, rows, name, way, place, into)?;
+        changes.push_row(*name, before, Some(after))?;
     }
     Ok(changes)
 }
 
-// The change of a name that is touched: the new way where nothing has the name.
-fn split_change<A: Allocator + Clone>(
+// The row of a name whose row changes before the split, and the element after: the new way where nothing has the name.
+fn rows_of<A: Allocator + Clone>(
     alloc: &A,
     rows: &OsmMap<A>,
     name: &Name,
     way: &Name,
     place: u32,
     into: &Name,
-) -> Result<Change<A>, Memory>
+) -> Result<(Option<Element<A>>, Element<A>), Memory>
     requires { is_way_row (row_at rows.now way.now) ≡ true }
-    ensures { IfOk result (λ c. c ≡ split_change rows.now way.now place into.now name.now) }
+    ensures { IfOk result (λ row. (row.0 ≡ row_at rows.now name.now)
+        × (Some row.1 ≡ row_of_split rows.now way.now place into.now name.now)) }
 {
     let (before, after) = match rows.get(name) {
         Some(element) => (
@@ -168,11 +165,7 @@ fn split_change<A: Allocator + Clone>(
         ),
         None => (None, new_way(alloc, rows, way, place)?),
     };
-    Ok(Change {
-        name: *name,
-        before,
-        after: Some(after),
-    })
+    Ok((before, after))
 }
 
 // The new way: the nodes of a way from a place on, and its tags.

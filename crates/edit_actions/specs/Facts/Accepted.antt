@@ -12,7 +12,7 @@ use Rattle.osm_changes.specs.Sound.{is_sound}
 use Rattle.osm_changes.specs.Facts.Changing.{changed-differences}
 use Rattle.osm_changes.specs.Facts.SoundRows.{sound_in_order}
 use Rattle.edit_simple.specs.Move.{is_moved, moved_by}
-use Rattle.edit_simple.specs.Parts.{at_name, with_tags, with_nodes, with_members, each_row}
+use Rattle.edit_simple.specs.Contents.{at_name, with_tags, with_nodes, with_members, each_row}
 use Rattle.edit_simple.specs.Purge.{goes, what_is_left}
 use Rattle.edit_simple.specs.Tagging.{retagged}
 use Rattle.edit_simple.specs.Facts.EachRow.{AreInOrder-each_row}
@@ -22,9 +22,12 @@ use Rattle.edit_simple.specs.Facts.Moving.{move_accepted}
 use Rattle.edit_simple.specs.Facts.Purging.{purge_accepted}
 use Rattle.edit_simple.specs.Facts.Relisting.{reverse_accepted, nodes_accepted, members_accepted}
 use Rattle.edit_simple.specs.Facts.Retagging.{retag_accepted}
-use Rattle.edit_topology.specs.Facts.Joining.{join_row, join_accepted}
-use Rattle.edit_topology.specs.Facts.Merging.{merge_row, merge_accepted}
-use Rattle.edit_topology.specs.Facts.Splitting.{split_row, split_off, split_accepted}
+use Rattle.edit_topology.specs.Join.{join_row}
+use Rattle.edit_topology.specs.Facts.Joining.{join_accepted}
+use Rattle.edit_topology.specs.Merge.{merge_row}
+use Rattle.edit_topology.specs.Facts.Merging.{merge_accepted}
+use Rattle.edit_topology.specs.Split.{split_row, split_off}
+use Rattle.edit_topology.specs.Facts.Splitting.{split_accepted}
 use Rattle.edit_topology.specs.Facts.Ungluing.{AreInOrder-after_unglue, unglue_accepted}
 use Rattle.edit_actions.specs.declared.action.Action.{Action}
 use Rattle.edit_actions.specs.declared.action.Action.TheVariants.{Create, Retag, Move, Reverse, Nodes, Members, Delete, Purge, Split, Join, Merge, Unglue}

@@ -1,16 +1,18 @@
--- Changes that are made in turn, one for each of rising names.
-use Rattle.std.proofs.Common.{◌≡◌, ◌≢◌, ◌<◌, ◌+◌, ◌||◌, ℕ, zero, suc, Bool, true, false, T, All, List, [], ◌∷◌, ◌++◌, length, map, take, get_or, refl, sym, ap, subst, ◌∙◌, arith}
-use Rattle.std.proofs.lemmas.List.{take_more, map-append}
+-- Changes that are made in turn, those of one rising name after the other.
+use Rattle.std.proofs.Common.{◌≡◌, ◌≢◌, ◌<◌, ◌+◌, ◌||◌, ℕ, zero, suc, Bool, true, false, T, List, [], ◌∷◌, ◌++◌, Option, length, take, get_or, sym, subst}
 use Rattle.std.specs.Ordering.{is_lt}
 use Rattle.std.specs.FinMap.Entries.{is_sorted, below_all}
 use Rattle.osm_elements.specs.declared.name.Name.{Name}
+use Rattle.osm_elements.specs.declared.element.Element.{Element}
 use Rattle.osm_elements.specs.NameOrder.{name_cmp}
-use Rattle.osm_elements.specs.Maps.{is_same, is_among}
+use Rattle.osm_elements.specs.Maps.{Rows, is_same, is_among}
+use Rattle.osm_elements.specs.Rows.{row_at}
 use Rattle.osm_elements.specs.Facts.Entries.{both, first, second}
-use Rattle.osm_refs.specs.Inner.Rising.{IsRising, bare_rows}
+use Rattle.osm_refs.specs.Rising.{IsRising}
+use Rattle.rising_lists.specs.Rising.{bare_rows}
 use Rattle.osm_changes.specs.declared.change.Change.{Change}
-use Rattle.osm_changes.specs.Changes.{changed_names, AreChanges}
-use Rattle.edit_simple.specs.Facts.Lists.{or_right, is_among_own}
+use Rattle.osm_changes.specs.Changes.{row_changes, rows_changes, AreChanges}
+use Rattle.osm_changes.specs.Facts.RowChanges.{AreChanges-rows_changes, more-rows_changes}
 
 -- the front of a rising list rises
 
@@ -37,23 +39,10 @@ is_among-take (x ∷ xs) (suc i) y h = by (is_same y x) h (is_among-take xs i y)
     by true g rest = g
     by false g rest = rest g
 
-module _ {A : Type 0} (change : Name → Change A) (named : (y : Name) → (change y).name ≡ y) where
-  names_of_changes : (xs : List Name) → changed_names (map change xs) ≡ xs
-  names_of_changes [] = refl
-  names_of_changes (x ∷ xs) = λ i. named x i ∷ names_of_changes xs i
-
-  all_differ : (xs : List Name) → ((y : Name) → is_among xs y ≡ true → (change y).after ≢ (change y).before) → All (λ (c : Change A). c.after ≢ c.before) (map change xs)
-  all_differ [] h i d l = absurd (omega (arith, l))
-  all_differ (x ∷ xs) h zero d l = h x (is_among_own x xs)
-  all_differ (x ∷ xs) h (suc i) d l = all_differ xs (λ y k. h y (or_right (is_same y x) (is_among xs y) k)) i d (omega (arith, l))
-
-  -- the change of the next name goes behind those before it
-  pub one_fits : (xs : List Name) (i : ℕ) (x : Name) → i < length xs → x ≡ get_or xs i x → IsRising xs → ((y : Name) → is_among xs y ≡ true → (change y).after ≢ (change y).before)
-      → (cs : List (Change A)) (c : Change A) → cs ≡ map change (take i xs) → c ≡ change x → AreChanges (cs ++ c ∷ [])
-  one_fits xs i x l is rising apart cs c e f =
-      subst (λ ds. AreChanges ds) (sym more)
-      (record { rising = subst IsRising (sym (names_of_changes (take (i + 1) xs))) (IsRising-take xs (i + 1) rising); differ = all_differ (take (i + 1) xs) (λ y k. apart y (is_among-take xs (i + 1) y k)) })
-    where
-      more : cs ++ c ∷ [] ≡ map change (take (i + 1) xs)
-      more =
-          (λ j. e j ++ f j ∷ []) ∙ sym (map-append change (take i xs) (x ∷ [])) ∙ ap (λ y. map change (take i xs ++ y ∷ [])) is ∙ ap (map change) (sym (take_more xs i x l))
+module _ {A : Type 0} (m : Rows A) (after : Name → Option (Element A)) where
+  -- the changes of the next name go behind those before it
+  pub one_fits : (xs : List Name) (i : ℕ) (x : Name) → i < length xs → x ≡ get_or xs i x → IsRising xs → ((y : Name) → is_among xs y ≡ true → after y ≢ row_at m y)
+      → (cs : List (Change A)) (o p : Option (Element A)) → cs ≡ rows_changes m after (take i xs) → o ≡ row_at m x → p ≡ after x → AreChanges (cs ++ row_changes x o p)
+  one_fits xs i x l is rising apart cs o p e f g =
+      subst (λ ds. AreChanges ds) (sym (more-rows_changes m after xs i x l is cs o p e f g))
+      (AreChanges-rows_changes m after (take (i + 1) xs) (IsRising-take xs (i + 1) rising) (λ y k. apart y (is_among-take xs (i + 1) y k)))

@@ -1,6 +1,7 @@
 -- What is told by a list of checks of which none holds.
-use Rattle.std.proofs.Common.{◌≡◌, Bool, true, false, not, List, [], ◌∷◌, Option, Some, None, refl}
+use Rattle.std.proofs.Common.{◌≡◌, Bool, true, false, not, List, [], ◌∷◌, Option, Some, None, Result, Ok, Err, IfErr, refl, sym, subst}
 use Rattle.std.specs.Bool.{then_some}
+use Rattle.std.specs.Result.{IsErrAnd}
 use Rattle.osm_elements.specs.declared.name.Name.{Name}
 use Rattle.edit_simple.specs.declared.refusal.Refusal.{Refusal}
 use Rattle.edit_simple.specs.Checks.{first_that_holds, the_least}
@@ -34,3 +35,8 @@ from_not false e = refl
 pub no_least : {A : Type 0} (why : Name → Refusal A) (names : List Name) → the_least why names ≡ None → names ≡ []
 no_least why [] e = refl
 no_least why (x ∷ names) e = absurd (cc)
+
+-- what holds of an error holds of the error that is answered
+pub err_same : {X E : Type 0} (Q : E → Type 0) (r : Result X E) (e : E) → IsErrAnd r (λ x. x ≡ e) → Q e → IfErr r Q
+err_same Q (Ok x) e h q = tt
+err_same Q (Err x) e h q = subst Q (sym h) q

@@ -1,5 +1,5 @@
 -- Changes that are those between two maps.
-use Rattle.std.proofs.Common.{◌≡◌, ◌≢◌, zero, suc, All, arith, Bool, true, false, not, ◌&&◌, ◌||◌, List, [], ◌∷◌, ◌++◌, Option, Some, None, is_some, map, refl, sym, ap, ◌∙◌, cond}
+use Rattle.std.proofs.Common.{◌≡◌, ◌≢◌, Bool, true, false, not, ◌&&◌, ◌||◌, List, [], ◌∷◌, ◌++◌, append-nil, Option, Some, None, is_some, refl, sym, ap, ◌∙◌, cond}
 use Rattle.std.specs.Option.{option_map}
 use Rattle.osm_elements.specs.declared.name.Name.{Name}
 use Rattle.osm_elements.specs.declared.element.Element.{Element}
@@ -9,13 +9,13 @@ use Rattle.osm_elements.specs.Facts.Among.{is_among-name_set, is_among-append, i
 use Rattle.osm_elements.specs.Facts.Rows.{same_names, is_eq-name_cmp_itself}
 use Rattle.osm_elements.specs.Facts.Dropped.{same_either_way}
 use Rattle.osm_refs.specs.Facts.RisingNames.{is_among-passing, same_rising, IsRising-filter, IsRising-name_set}
-use Rattle.osm_refs.specs.Inner.Rising.{IsRising}
-use Rattle.osm_changes.specs.declared.change.Change.{Change}
+use Rattle.osm_refs.specs.Rising.{IsRising}
 use Rattle.osm_changes.specs.SameRows.{is_same_row}
-use Rattle.osm_changes.specs.Changes.{differing, differences, AreChanges}
+use Rattle.osm_changes.specs.Changes.{differing, row_changes, rows_changes, differences}
 use Rattle.osm_changes.specs.Facts.Differing.{same_row}
+use Rattle.osm_changes.specs.Facts.RowChanges.{same-rows_changes}
 use Rattle.osm_changes.specs.Facts.SameElements.{told_same_row}
-use Rattle.edit_simple.specs.Parts.{each_row, at_name}
+use Rattle.edit_simple.specs.Contents.{each_row, at_name}
 use Rattle.edit_simple.specs.Facts.EachRow.{row_at-each_row}
 
 module _ {A : Type 0} where
@@ -41,23 +41,21 @@ module _ {A : Type 0} where
       same_rising names (differing m n) rising (IsRising-filter (λ y. not (is_same_row (row_at m y) (row_at n y))) (name_set (names_of m ++ names_of n)) (IsRising-name_set (names_of m ++ names_of n)))
       (λ y. are y ∙ sym (is_among-differing m n y))
 
+  -- the changes of rising names to their rows in another map, which differs at these alone
+  pub rows_differing : (m n : Rows A) (after : Name → Option (Element A)) (names : List Name) → IsRising names → ((y : Name) → is_among names y ≡ not (is_same_row (row_at m y) (row_at n y)))
+      → ((y : Name) → is_among names y ≡ true → after y ≡ row_at n y) → rows_changes m after names ≡ differences m n
+  rows_differing m n after names rising are becomes =
+      same-rows_changes m m after (row_at n) names (λ y i. (refl, becomes y i)) ∙ ap (rows_changes m (row_at n)) (differing_are m n names rising are)
+
   -- two maps that differ at one name alone
   pub one_difference : (m n : Rows A) (x : Name) → is_same_row (row_at m x) (row_at n x) ≡ false → ((y : Name) → is_same y x ≡ false → row_at n y ≡ row_at m y)
-      → record { name = x; before = row_at m x; after = row_at n x } ∷ [] ≡ differences m n
+      → row_changes x (row_at m x) (row_at n x) ≡ differences m n
   one_difference m n x other rest =
-      ap (map (λ y. record { name = y; before = row_at m y; after = row_at n y })) (differing_are m n (x ∷ []) tt (λ y. by y (is_same y x) refl))
+      sym (append-nil (row_changes x (row_at m x) (row_at n x))) ∙ ap (rows_changes m (row_at n)) (differing_are m n (x ∷ []) tt (λ y. by y (is_same y x) refl))
     where
       by : (y : Name) (b : Bool) → is_same y x ≡ b → (b || false) ≡ not (is_same_row (row_at m y) (row_at n y))
       by y true e = sym (ap (λ z. not (is_same_row (row_at m z) (row_at n z))) (same_names y x e) ∙ ap not other)
       by y false e = sym (ap (λ o. not (is_same_row (row_at m y) o)) (rest y e) ∙ ap not (same_row (row_at m y)))
-
-  -- one change that changes something is a list of changes
-  pub one_is_changes : (x : Name) (o p : Option (Element A)) → p ≢ o → AreChanges (record { name = x; before = o; after = p } ∷ [])
-  one_is_changes x o p apart = record { rising = tt; differ = one (record { name = x; before = o; after = p }) apart }
-    where
-      one : (c : Change A) → c.after ≢ c.before → All (λ (d : Change A). d.after ≢ d.before) (c ∷ [])
-      one c h zero d l = h
-      one c h (suc i) d l = absurd (omega (arith, l))
 
   -- rows that are not the same pass no test of sameness
   pub apart_rows : (o p : Option (Element A)) → p ≢ o → is_same_row o p ≡ false
@@ -69,9 +67,9 @@ module _ {A : Type 0} where
 
   -- the row of one name rewritten
   pub one_rewritten : (m : Rows A) (x : Name) (f : Element A → Element A) (v : Element A) → row_at m x ≡ Some v → Some (f v) ≢ Some v
-      → record { name = x; before = Some v; after = Some (f v) } ∷ [] ≡ differences m (each_row (at_name x f) m)
+      → row_changes x (Some v) (Some (f v)) ≡ differences m (each_row (at_name x f) m)
   one_rewritten m x f v is apart =
-      ap (λ o. record { name = x; before = o; after = Some (f v) } ∷ []) (sym is) ∙ ap (λ o. record { name = x; before = row_at m x; after = o } ∷ []) (sym now)
+      ap (λ o. row_changes x o (Some (f v))) (sym is) ∙ ap (row_changes x (row_at m x)) (sym now)
       ∙ one_difference m n x (apart_rows (row_at m x) (row_at n x) (λ e. apart (sym now ∙ e ∙ is))) rest
     where
       n : Rows A

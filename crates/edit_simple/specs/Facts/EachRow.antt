@@ -9,7 +9,7 @@ use Rattle.osm_elements.specs.NameOrder.{name_cmp}
 use Rattle.osm_elements.specs.Maps.{Rows}
 use Rattle.osm_elements.specs.Rows.{AreInOrder, row_at}
 use Rattle.osm_elements.specs.Facts.Rows.{same_names, row_at_is_find}
-use Rattle.edit_simple.specs.Parts.{each_row}
+use Rattle.edit_simple.specs.Contents.{each_row}
 
 module _ {A : Type 0} where
   below_each_row : (f : Name → Element A → Element A) (x : Name) (m : Rows A) → below_all name_cmp x (each_row f m) ≡ below_all name_cmp x m

@@ -1,5 +1,6 @@
--- Tests over lists of names.
-use Rattle.std.proofs.Common.{◌≡◌, ℕ, Bool, true, false, ◌||◌, List, [], ◌∷◌, nat_lt, nat_le, reverse, refl, ap, ◌∙◌, cond, arith}
+-- Tests over lists of names, and what is left of a list.
+use Rattle.std.proofs.Common.{◌≡◌, ◌<◌, ◌+◌, ℕ, suc, Bool, true, false, ◌||◌, List, [], ◌∷◌, length, drop, get_or, nat_lt, nat_le, reverse, refl, sym, ap, ◌∙◌, cond, arith, add-one}
+use Rattle.std.proofs.Math.Seq.{drop-cons}
 use Rattle.std.proofs.lemmas.Bool.Decides.{nat_tests}
 use Rattle.std.proofs.lemmas.List.{reverse-append}
 use Rattle.std.specs.List.{filter, list_all}
@@ -73,3 +74,7 @@ is_among-reverse [] e = refl
 is_among-reverse (x ∷ xs) e =
     ap (λ l. is_among l e) (reverse-append (x ∷ []) xs) ∙ is_among-append e (reverse xs) (x ∷ [])
     ∙ ap (λ b. b || (is_same e x || false)) (is_among-reverse xs e) ∙ ap (λ b. is_among xs e || b) (or_false (is_same e x)) ∙ or_turned (is_among xs e) (is_same e x)
+
+-- what is left of a list from a place on
+pub drop_at : {X : Type 0} (xs : List X) (i : ℕ) (x : X) → i < length xs → x ≡ get_or xs i x → drop i xs ≡ x ∷ drop (i + 1) xs
+drop_at xs i x h is = drop-cons xs i x h ∙ ap (λ y. y ∷ drop (suc i) xs) (sym is) ∙ ap (λ n. x ∷ drop n xs) (sym (add-one i))

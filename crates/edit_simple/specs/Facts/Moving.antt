@@ -22,8 +22,8 @@ use Rattle.edit_simple.specs.declared.refusal.Refusal.{Refusal}
 use Rattle.edit_simple.specs.declared.refusal.Refusal.TheVariants.{WrongKind, OutOfRange, Nothing}
 use Rattle.edit_simple.specs.Checks.{first_that_holds}
 use Rattle.edit_simple.specs.Kinds.{is_way, is_relation}
-use Rattle.edit_simple.specs.Move.{is_moved, moved_by, is_out_of_range, left_range, move_checks, after_move}
-use Rattle.edit_simple.specs.Parts.{nodes_of}
+use Rattle.edit_simple.specs.Move.{is_moved, moved_by, moves, is_out_of_range, left_range, move_checks, after_move}
+use Rattle.edit_simple.specs.Contents.{nodes_of}
 use Rattle.edit_simple.specs.Facts.Checked.{nones, not_so, from_false, from_not, no_least}
 use Rattle.edit_simple.specs.Facts.Deleting.{names_of_none}
 use Rattle.edit_simple.specs.Facts.Kinds.{node_there, way_there}
@@ -36,10 +36,6 @@ pub no_distance : (z d : ℤ) → z +ℤ d ≡ z → d ≡ pos 0
 no_distance z d e = sym (+ℤ-neg_ℤ_cancel d z) ∙ ap (λ t. t -ℤ z) (+ℤ_comm d z ∙ e ∙ sym (+ℤ_idl z)) ∙ +ℤ-neg_ℤ_cancel (pos 0) z
 
 module _ {A : Type 0} where
-  -- the row of a moved node, and any other's
-  abbrev pub moves : Rows A → List Name → ℤ → ℤ → Name → Element A → Element A
-  moves m list dlat dlon y v = cond (is_moved m list y) (moved_by dlat dlon v) v
-
   -- what is moved and does not leave the range is fine
   moved_fine : (m : Rows A) (y : Name) (dlat dlon : ℤ) (v : Element A) → Fine m y v → is_out_of_range (moved_by dlat dlon v) ≡ false → Fine m y (moved_by dlat dlon v)
   moved_fine m y dlat dlon (Node lat lon tags) f t =

@@ -1,5 +1,5 @@
 -- The names of the rows that pass a test.
-use Rattle.std.proofs.Common.{◌≡◌, ◌||◌, Bool, true, false, T, List, [], ◌∷◌, Option, Some, None, map, refl, sym, ap, ◌∙◌, cond}
+use Rattle.std.proofs.Common.{◌≡◌, ◌||◌, Bool, true, false, T, [], ◌∷◌, Option, Some, None, refl, sym, ap, ◌∙◌, cond}
 use Rattle.std.specs.List.{filter}
 use Rattle.std.specs.Ordering.{is_lt}
 use Rattle.std.specs.FinMap.Entries.{is_sorted, below_all}
@@ -10,17 +10,8 @@ use Rattle.osm_elements.specs.NameOrder.{name_cmp}
 use Rattle.osm_elements.specs.Rows.{AreInOrder, row_at}
 use Rattle.osm_elements.specs.Facts.Entries.{both, first, second, find_below}
 use Rattle.osm_elements.specs.Facts.Rows.{same_names, row_at_is_find}
-use Rattle.osm_refs.specs.Inner.Rising.{IsRising, bare_rows}
-use Rattle.edit_simple.specs.Facts.Lists.{or_right, is_among_own}
-
--- lists that are the same where they are looked at
-module _ {X : Type 0} (f g : Name → X) where
-  pub map_same : (xs : List Name) → ((y : Name) → is_among xs y ≡ true → f y ≡ g y) → map f xs ≡ map g xs
-  map_same [] h = refl
-  map_same (x ∷ xs) h =
-      let own = h x (is_among_own x xs) in
-      let rest = map_same xs (λ y i. h y (or_right (is_same y x) (is_among xs y) i)) in
-      λ i. own i ∷ rest i
+use Rattle.osm_refs.specs.Rising.{IsRising}
+use Rattle.rising_lists.specs.Rising.{bare_rows}
 
 module _ {A : Type 0} where
   -- whether a row is there and passes

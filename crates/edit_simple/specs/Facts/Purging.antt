@@ -23,7 +23,7 @@ use Rattle.osm_changes.specs.Facts.SoundRows.{sound_in_order}
 use Rattle.edit_simple.specs.declared.refusal.Refusal.{Refusal}
 use Rattle.edit_simple.specs.declared.refusal.Refusal.TheVariants.{Absent}
 use Rattle.edit_simple.specs.Checks.{first_that_holds}
-use Rattle.edit_simple.specs.Parts.{nodes_of}
+use Rattle.edit_simple.specs.Contents.{nodes_of}
 use Rattle.edit_simple.specs.Purge.{without, falls_short, goes, what_is_left, purge_checks, after_purge}
 use Rattle.edit_simple.specs.Facts.Checked.{nones, not_so, from_false, from_not}
 use Rattle.edit_simple.specs.Facts.EachRow.{AreInOrder-each_row, row_at-each_row}

@@ -19,7 +19,7 @@ use Rattle.edit_simple.specs.declared.refusal.Refusal.{Refusal}
 use Rattle.edit_simple.specs.declared.refusal.Refusal.TheVariants.{Absent, WrongKind, TooFew, TooMany, Nothing}
 use Rattle.edit_simple.specs.Checks.{first_that_holds, the_least}
 use Rattle.edit_simple.specs.Kinds.{is_way, is_relation}
-use Rattle.edit_simple.specs.Parts.{nodes_of, members_of, with_nodes, with_members}
+use Rattle.edit_simple.specs.Contents.{nodes_of, members_of, with_nodes, with_members}
 use Rattle.edit_simple.specs.Reverse.{reverse_checks, after_reverse}
 use Rattle.edit_simple.specs.Nodes.{nodes_checks, after_nodes}
 use Rattle.edit_simple.specs.Members.{members_checks, after_members}

@@ -1,25 +1,25 @@
 -- An accepted retag keeps a sound map sound, and changes it.
-use Rattle.std.proofs.Common.{◌≡◌, ◌≢◌, ℕ, Bool, true, false, not, ◌&&◌, T, List, [], ◌∷◌, Option, Some, None, is_some, length, nat_eq, nat_lt, nat_le, refl, sym, ap, ◌∙◌, cond}
+use Rattle.std.proofs.Common.{◌≡◌, ◌≢◌, ℕ, Bool, true, false, not, ◌&&◌, T, List, [], ◌∷◌, Option, Some, None, is_some, length, nat_lt, nat_le, refl, sym, ap, ◌∙◌}
 use Rattle.std.specs.Bool.{passes}
 use Rattle.std.specs.Prelude.{⊤}
 use Rattle.std.specs.List.{filter, list_all}
 use Rattle.std.specs.Ordering.{is_eq}
 use Rattle.std.specs.Cmp.Lexicographic.{nat_list_cmp_total}
-use Rattle.std.specs.declared.cmp.Ordering.{Ordering}
-use Rattle.std.specs.declared.cmp.Ordering.TheVariants.{Less, Equal, Greater}
-use Rattle.std.specs.FinMap.Entries.{by_order, put, is_sorted, is_sorted-put, is_sorted-where_key}
+use Rattle.std.specs.FinMap.Entries.{put, is_sorted, is_sorted-put, is_sorted-where_key}
 use Rattle.osm_coords.specs.Latitude.{latitude}
 use Rattle.osm_coords.specs.Longitude.{longitude}
 use Rattle.osm_elements.specs.declared.name.Name.{Name}
 use Rattle.osm_elements.specs.declared.element.Element.{Element}
 use Rattle.osm_elements.specs.declared.element.Element.TheVariants.{Node, Way, Relation}
 use Rattle.osm_elements.specs.Elements.{tags_of}
+use Rattle.osm_elements.specs.KeyedValues.{is_short}
 use Rattle.osm_elements.specs.Made.{are_nodes, is_made}
 use Rattle.osm_elements.specs.Maps.{Rows, is_present, is_absent}
 use Rattle.osm_elements.specs.Members.{are_members}
 use Rattle.osm_elements.specs.Rows.{row_at}
-use Rattle.osm_elements.specs.TagRows.{Pairs, text_cmp, is_tag, are_tags}
-use Rattle.osm_elements.specs.Texts.{is_long}
+use Rattle.osm_elements.specs.KeyedRows.{text_cmp}
+use Rattle.osm_elements.specs.TagRows.{Pairs, is_tag, are_tags}
+use Rattle.osm_elements.specs.Facts.KeyedRows.{sorted_rows, each_row-put, each_row-filter}
 use Rattle.osm_elements.specs.Facts.Tests.{both_true, first_true, second_true}
 use Rattle.osm_changes.specs.SameRows.{are_same_tags, are_same_names}
 use Rattle.osm_changes.specs.Sound.{is_sound}
@@ -28,9 +28,9 @@ use Rattle.osm_changes.specs.Facts.SoundRows.{is_true}
 use Rattle.edit_simple.specs.declared.refusal.Refusal.{Refusal}
 use Rattle.edit_simple.specs.declared.refusal.Refusal.TheVariants.{Absent, TooMany, Nothing}
 use Rattle.edit_simple.specs.Checks.{first_that_holds}
-use Rattle.edit_simple.specs.Parts.{row_tags, with_tags}
+use Rattle.edit_simple.specs.Contents.{row_tags, with_tags}
 use Rattle.edit_simple.specs.Retag.{retag_checks, after_retag}
-use Rattle.edit_simple.specs.Tagging.{Gifts, tagged, retagged, is_gift, are_gifts, most_tags}
+use Rattle.edit_simple.specs.Tagging.{GivenTags, tagged, retagged, is_given, are_given, most_tags}
 use Rattle.edit_simple.specs.Facts.Checked.{nones, not_so, from_false}
 use Rattle.edit_simple.specs.Facts.Lists.{at_least}
 use Rattle.edit_simple.specs.Facts.Rewriting.{Fine, one_stays_sound, one_differs}
@@ -47,42 +47,24 @@ third false b c h = absurd (cc)
 
 -- tags stay tags after a put of one
 pub tags_put : (key value : List ℕ) → is_tag (key, value) ≡ true → (tags : Pairs) → list_all is_tag tags ≡ true → list_all is_tag (put text_cmp key value tags) ≡ true
-tags_put key value h [] all = both_true (is_tag (key, value)) true h refl
-tags_put key value h (e ∷ es) all = by (text_cmp key e.0) (tags_put key value h es rest)
-  where
-    rest : list_all is_tag es ≡ true
-    rest = second_true (is_tag e) (list_all is_tag es) all
-
-    own : is_tag e ≡ true
-    own = first_true (is_tag e) (list_all is_tag es) all
-
-    by : (o : Ordering) → list_all is_tag (put text_cmp key value es) ≡ true → list_all is_tag (by_order o ((key, value) ∷ e ∷ es) ((e.0, value) ∷ es) (e ∷ put text_cmp key value es)) ≡ true
-    by Less r = both_true (is_tag (key, value)) (list_all is_tag (e ∷ es)) h all
-    by Equal r = both_true (is_tag (e.0, value)) (list_all is_tag es)
-        (three (not (nat_eq (length e.0) 0)) (not (is_long e.0)) (not (is_long e.1)) (not (is_long value)) own (third (not (nat_eq (length key) 0)) (not (is_long key)) (not (is_long value)) h)) rest
-    by Greater r = both_true (is_tag e) (list_all is_tag (put text_cmp key value es)) own r
+tags_put key value h tags all = is_true (list_all is_tag (put text_cmp key value tags)) (each_row-put is_short key value (passes (is_tag (key, value)) h) tags (passes (list_all is_tag tags) all))
 
 tags_filter : (p : List ℕ × List ℕ → Bool) (tags : Pairs) → list_all is_tag tags ≡ true → list_all is_tag (filter p tags) ≡ true
-tags_filter p [] h = refl
-tags_filter p (e ∷ es) h = by (p e) (tags_filter p es (second_true (is_tag e) (list_all is_tag es) h))
-  where
-    by : (b : Bool) → list_all is_tag (filter p es) ≡ true → list_all is_tag (cond b (e ∷ filter p es) (filter p es)) ≡ true
-    by true rest = both_true (is_tag e) (list_all is_tag (filter p es)) (first_true (is_tag e) (list_all is_tag es) h) rest
-    by false rest = rest
+tags_filter p tags all = is_true (list_all is_tag (filter p tags)) (each_row-filter is_short p tags (passes (list_all is_tag tags) all))
 
-tags_tagged : (tags : Pairs) (key : List ℕ) (o : Option (List ℕ)) → is_gift (key, o) ≡ true → list_all is_tag tags ≡ true → list_all is_tag (tagged tags key o) ≡ true
+tags_tagged : (tags : Pairs) (key : List ℕ) (o : Option (List ℕ)) → is_given (key, o) ≡ true → list_all is_tag tags ≡ true → list_all is_tag (tagged tags key o) ≡ true
 tags_tagged tags key None h all = tags_filter (λ p. not (is_eq (text_cmp key p.0))) tags all
 tags_tagged tags key (Some value) h all = tags_put key value h tags all
 
-sorted_tagged : (tags : Pairs) (key : List ℕ) (o : Option (List ℕ)) → T (is_sorted text_cmp tags) → T (is_sorted text_cmp (tagged tags key o))
+pub sorted_tagged : (tags : Pairs) (key : List ℕ) (o : Option (List ℕ)) → T (is_sorted text_cmp tags) → T (is_sorted text_cmp (tagged tags key o))
 sorted_tagged tags key None h = is_sorted-where_key text_cmp (λ q. not (is_eq (text_cmp key q))) tags h
 sorted_tagged tags key (Some value) h = is_sorted-put text_cmp nat_list_cmp_total key value tags h
 
-tags_retagged : (given : Gifts) (tags : Pairs) → list_all is_gift given ≡ true → list_all is_tag tags ≡ true → list_all is_tag (retagged tags given) ≡ true
+tags_retagged : (given : GivenTags) (tags : Pairs) → list_all is_given given ≡ true → list_all is_tag tags ≡ true → list_all is_tag (retagged tags given) ≡ true
 tags_retagged [] tags g all = all
-tags_retagged (h ∷ hs) tags g all = tags_retagged hs (tagged tags h.0 h.1) (second_true (is_gift h) (list_all is_gift hs) g) (tags_tagged tags h.0 h.1 (first_true (is_gift h) (list_all is_gift hs) g) all)
+tags_retagged (h ∷ hs) tags g all = tags_retagged hs (tagged tags h.0 h.1) (second_true (is_given h) (list_all is_given hs) g) (tags_tagged tags h.0 h.1 (first_true (is_given h) (list_all is_given hs) g) all)
 
-sorted_retagged : (given : Gifts) (tags : Pairs) → T (is_sorted text_cmp tags) → T (is_sorted text_cmp (retagged tags given))
+sorted_retagged : (given : GivenTags) (tags : Pairs) → T (is_sorted text_cmp tags) → T (is_sorted text_cmp (retagged tags given))
 sorted_retagged [] tags h = h
 sorted_retagged (g ∷ gs) tags h = sorted_retagged gs (tagged tags g.0 g.1) (sorted_tagged tags g.0 g.1 h)
 
@@ -93,15 +75,15 @@ tags_from tags sorted few all =
     (both_true (nat_le (length tags) 1000) (list_all is_tag tags) (at_least most_tags (length tags) few) all)
 
 pub tags_sorted : (tags : Pairs) → are_tags tags ≡ true → T (is_sorted text_cmp tags)
-tags_sorted tags h = passes (is_sorted text_cmp tags) (first_true (is_sorted text_cmp tags) (nat_le (length tags) 1000 && list_all is_tag tags) h)
+tags_sorted tags h = sorted_rows is_short tags (passes (are_tags tags) h)
 
 pub tags_all : (tags : Pairs) → are_tags tags ≡ true → list_all is_tag tags ≡ true
 tags_all tags h = third (is_sorted text_cmp tags) (nat_le (length tags) 1000) (list_all is_tag tags) h
 
-are_tags-retagged : (given : Gifts) (tags : Pairs) → are_gifts given ≡ true → are_tags tags ≡ true → nat_lt most_tags (length (retagged tags given)) ≡ false → are_tags (retagged tags given) ≡ true
+are_tags-retagged : (given : GivenTags) (tags : Pairs) → are_given given ≡ true → are_tags tags ≡ true → nat_lt most_tags (length (retagged tags given)) ≡ false → are_tags (retagged tags given) ≡ true
 are_tags-retagged given tags g h few =
     tags_from (retagged tags given) (sorted_retagged given tags (tags_sorted tags h)) few
-    (tags_retagged given tags (third (is_sorted text_cmp given) (nat_le (length given) most_tags) (list_all is_gift given) g) (tags_all tags h))
+    (tags_retagged given tags (third (is_sorted text_cmp given) (nat_le (length given) most_tags) (list_all is_given given) g) (tags_all tags h))
 
 -- tags that are equal pass the test of equality
 pub same_tags_itself : (tags : Pairs) → are_same_tags tags tags ≡ true
@@ -146,9 +128,9 @@ module _ {A : Type 0} where
       by None e h = absurd (cc)
       by (Some v) e h = (v, e)
 
-  pub retag_accepted : (m : Rows A) (x : Name) (given : Gifts) → is_sound m ≡ true → are_gifts given ≡ true → first_that_holds (retag_checks m x given) ≡ None
+  pub retag_accepted : (m : Rows A) (x : Name) (given : GivenTags) → is_sound m ≡ true → are_given given ≡ true → first_that_holds (retag_checks m x given) ≡ None
       → (is_sound (after_retag m x given) ≡ true) × (after_retag m x given ≢ m)
-  retag_accepted m x given sound gifts ok =
+  retag_accepted m x given sound given_well ok =
       (one_stays_sound m sound x (with_tags f) fits, one_differs m x (with_tags f) row.0 row.1 row_tags other)
     where
       f : Pairs → Pairs
@@ -159,7 +141,7 @@ module _ {A : Type 0} where
 
       fits : (v : Element A) → row_at m x ≡ Some v → Fine m x v → Fine m x (with_tags f v)
       fits v is own =
-          fine_tagged m x f v (are_tags-retagged given (tags_of v) gifts (made_tags v own.made) (ap (λ o. nat_lt most_tags (length (retagged (row_tags o) given))) (sym is) ∙ few)) own
+          fine_tagged m x f v (are_tags-retagged given (tags_of v) given_well (made_tags v own.made) (ap (λ o. nat_lt most_tags (length (retagged (row_tags o) given))) (sym is) ∙ few)) own
 
       row : (v : Element A) × (row_at m x ≡ Some v)
       row = is_there m x (from_false (is_present m x) (not_so {X = Refusal A} (is_absent m x) (Absent x) (nones (retag_checks m x given) ok).0))

@@ -13,7 +13,7 @@ use Rattle.osm_elements.specs.Facts.Tests.{both_true, first_true, second_true}
 use Rattle.osm_refs.specs.References.{references}
 use Rattle.osm_changes.specs.Sound.{is_sound, is_sound_row, is_of_length}
 use Rattle.osm_changes.specs.Facts.SoundRows.{sound_row, sound_in_order, sound_from_rows}
-use Rattle.edit_simple.specs.Parts.{each_row, at_name}
+use Rattle.edit_simple.specs.Contents.{each_row, at_name}
 use Rattle.edit_simple.specs.Facts.EachRow.{AreInOrder-each_row, row_at-each_row}
 use Rattle.edit_simple.specs.Facts.Lists.{all_listed, all_from}
 

@@ -1,5 +1,5 @@
 -- Moves of nodes one by one.
-use Rattle.std.specs.Prelude.{◌≡◌, ◌⊎◌, ◌&&◌, ℤ, pos, Bool, true, false, List, [], map, Option, Some, None, Result, MatchResult}
+use Rattle.std.specs.Prelude.{◌≡◌, ◌⊎◌, ◌&&◌, ℤ, pos, Bool, true, false, List, [], Option, Some, None, Result, MatchResult}
 use Rattle.std.specs.List.{filter, list_all}
 use Rattle.std.specs.Ordering.{int_eq}
 use Rattle.osm_elements.specs.declared.name.Name.{Name}
@@ -7,11 +7,12 @@ use Rattle.osm_elements.specs.declared.element.Element.{Element}
 use Rattle.osm_elements.specs.declared.element.Element.TheVariants.{Node, Way, Relation}
 use Rattle.osm_elements.specs.Maps.{Rows, least}
 use Rattle.osm_elements.specs.Rows.{row_at}
-use Rattle.osm_refs.specs.Inner.Rising.{IsRising}
+use Rattle.osm_refs.specs.Rising.{IsRising}
 use Rattle.osm_changes.specs.declared.change.Change.{Change}
+use Rattle.osm_changes.specs.Changes.{rows_changes}
 use Rattle.edit_simple.specs.declared.refusal.Refusal.{Refusal}
 use Rattle.edit_simple.specs.declared.refusal.Refusal.TheVariants.{OutOfRange, Memory}
-use Rattle.edit_simple.specs.Inner.Moving.{row_leaves, moved_change}
+use Rattle.edit_simple.specs.Inner.Moving.{row_leaves, moved_row}
 
 module _ {A : Type 0} where
   abbrev pub is_node_row : Option (Element A) → Bool
@@ -30,8 +31,8 @@ module _ {A : Type 0} where
   abbrev pub leaving : Rows A → ℤ → ℤ → List Name → List Name
   leaving m dlat dlon names = filter (λ y. row_leaves dlat dlon (row_at m y)) names
 
-  -- the change of each, where none leaves the range; else the first that does
+  -- the changes of each, where none leaves the range; else the first that does
   abbrev pub IsMoved : Rows A → List Name → ℤ → ℤ → Result (List (Change A)) (Refusal A) → Type 0
   IsMoved m moved dlat dlon r =
-      MatchResult r (λ cs. (leaving m dlat dlon moved ≡ []) × (cs ≡ map (moved_change m dlat dlon) moved))
+      MatchResult r (λ cs. (leaving m dlat dlon moved ≡ []) × (cs ≡ rows_changes m (moved_row m dlat dlon) moved))
       (λ e. ((y : Name) × (least (leaving m dlat dlon moved) ≡ Some y) × (e ≡ OutOfRange y)) ⊎ (e ≡ Memory))

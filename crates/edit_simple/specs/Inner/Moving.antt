@@ -7,7 +7,6 @@ use Rattle.osm_elements.specs.declared.element.Element.{Element}
 use Rattle.osm_elements.specs.declared.element.Element.TheVariants.{Node, Way, Relation}
 use Rattle.osm_elements.specs.Maps.{Rows}
 use Rattle.osm_elements.specs.Rows.{row_at}
-use Rattle.osm_changes.specs.declared.change.Change.{Change}
 use Rattle.edit_simple.specs.Move.{moved_by, is_out_of_range}
 
 module _ {A : Type 0} where
@@ -26,5 +25,6 @@ module _ {A : Type 0} where
   row_leaves dlat dlon None = false
   row_leaves dlat dlon (Some v) = is_out_of_range (moved_by dlat dlon v)
 
-  abbrev pub moved_change : Rows A → ℤ → ℤ → Name → Change A
-  moved_change m dlat dlon y = record { name = y; before = row_at m y; after = option_map (moved_by dlat dlon) (row_at m y) }
+  -- what a moved row becomes
+  abbrev pub moved_row : Rows A → ℤ → ℤ → Name → Option (Element A)
+  moved_row m dlat dlon y = option_map (moved_by dlat dlon) (row_at m y)

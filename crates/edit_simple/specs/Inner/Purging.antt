@@ -6,10 +6,9 @@ use Rattle.osm_elements.specs.declared.name.Name.{Name}
 use Rattle.osm_elements.specs.declared.element.Element.{Element}
 use Rattle.osm_elements.specs.Maps.{Rows, is_among, is_present}
 use Rattle.osm_elements.specs.Rows.{row_at}
-use Rattle.osm_refs.specs.Inner.Rising.{IsRising}
+use Rattle.osm_refs.specs.Rising.{IsRising}
 use Rattle.osm_refs.specs.Tables.{Table, users_in}
-use Rattle.osm_changes.specs.declared.change.Change.{Change}
-use Rattle.edit_simple.specs.Parts.{nodes_of, with_nodes, with_members}
+use Rattle.edit_simple.specs.Contents.{nodes_of, with_nodes, with_members}
 use Rattle.edit_simple.specs.Purge.{without, falls_short}
 
 -- a user of a purged name, and its own users where it goes
@@ -33,11 +32,12 @@ module _ {A : Type 0} where
   abbrev pub row_left : List Name → Name → Name → Option (Element A) → Option (Element A)
   row_left gone x y o = if is_among gone y then None else option_map (left_of gone x) o
 
-  abbrev pub purged_change : Rows A → List Name → Name → Name → Change A
-  purged_change m gone x y = record { name = y; before = row_at m y; after = row_left gone x y (row_at m y) }
+  -- what the row of a name becomes
+  abbrev pub purged_row : Rows A → List Name → Name → Name → Option (Element A)
+  purged_row m gone x y = row_left gone x y (row_at m y)
 
   -- rising names that are there, whose rows all become others
   pub record MayPurge (m : Rows A) (gone : List Name) (x : Name) (names : List Name) : Type 0 where
     pub rising : IsRising names
     pub there : list_all (is_present m) names ≡ true
-    pub apart : (y : Name) → is_among names y ≡ true → row_left gone x y (row_at m y) ≢ row_at m y
+    pub apart : (y : Name) → is_among names y ≡ true → purged_row m gone x y ≢ row_at m y

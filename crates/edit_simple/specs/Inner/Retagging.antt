@@ -2,21 +2,24 @@
 use Rattle.std.specs.Prelude.{ℕ, List, Option, Some, None}
 use Rattle.std.specs.List.{fold}
 use Rattle.std.specs.FinMap.Entries.{put}
-use Rattle.osm_elements.specs.TagRows.{Pairs, text_cmp, without_key}
-use Rattle.edit_simple.specs.Tagging.{Gifts}
+use Rattle.osm_elements.specs.KeyedRows.{text_cmp, without_key}
+use Rattle.osm_elements.specs.TagRows.{Pairs}
+use Rattle.edit_simple.specs.Tagging.{GivenTags}
 
-abbrev pub lost : Pairs → List ℕ → Option (List ℕ) → Pairs
-lost tags key None = without_key tags key
-lost tags key (Some value) = tags
+-- the tags after a key lost its tag, where it is given no value
+abbrev pub removed : Pairs → List ℕ → Option (List ℕ) → Pairs
+removed tags key None = without_key tags key
+removed tags key (Some value) = tags
 
-abbrev pub got : Pairs → List ℕ → Option (List ℕ) → Pairs
-got tags key None = tags
-got tags key (Some value) = put text_cmp key value tags
+-- the tags after a key got its value, where it is given one
+abbrev pub valued : Pairs → List ℕ → Option (List ℕ) → Pairs
+valued tags key None = tags
+valued tags key (Some value) = put text_cmp key value tags
 
 -- the tags after the keys with no value lost theirs
-abbrev pub all_lost : Pairs → Gifts → Pairs
-all_lost tags given = fold (λ t g. lost t g.0 g.1) tags given
+abbrev pub all_removed : Pairs → GivenTags → Pairs
+all_removed tags given = fold (λ t g. removed t g.0 g.1) tags given
 
 -- the tags after the keys with a value got it
-abbrev pub all_got : Pairs → Gifts → Pairs
-all_got tags given = fold (λ t g. got t g.0 g.1) tags given
+abbrev pub all_valued : Pairs → GivenTags → Pairs
+all_valued tags given = fold (λ t g. valued t g.0 g.1) tags given

@@ -11,13 +11,14 @@ use Rattle.osm_elements.specs.declared.name.Name.{Name}
 use Rattle.osm_elements.specs.declared.element.Element.{Element}
 use Rattle.osm_elements.specs.Maps.{Rows}
 use Rattle.osm_elements.specs.Rows.{row_at}
-use Rattle.osm_elements.specs.TagRows.{Pairs, text_cmp, value_at, is_tag, are_tags}
+use Rattle.osm_elements.specs.KeyedRows.{text_cmp, value_at}
+use Rattle.osm_elements.specs.TagRows.{Pairs, is_tag, are_tags}
 use Rattle.osm_elements.specs.Texts.{is_same_text}
 use Rattle.osm_elements.specs.Facts.Entries.{first, second, find_below}
 use Rattle.osm_elements.specs.Facts.Rows.{same}
 use Rattle.osm_elements.specs.Facts.Tests.{first_true, second_true}
 use Rattle.osm_changes.specs.Sound.{is_sound}
-use Rattle.edit_simple.specs.Parts.{row_tags}
+use Rattle.edit_simple.specs.Contents.{row_tags}
 use Rattle.edit_simple.specs.Tagging.{most_tags}
 use Rattle.edit_simple.specs.Facts.Retagging.{tags_put, tags_from, tags_sorted, tags_all, same_tags_itself, made_tags}
 use Rattle.edit_simple.specs.Facts.Rewriting.{fine}

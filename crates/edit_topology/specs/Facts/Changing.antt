@@ -11,19 +11,19 @@ use Rattle.osm_elements.specs.Facts.Rows.{same_names, is_eq-name_cmp_itself}
 use Rattle.osm_refs.specs.References.{references, row_references}
 use Rattle.osm_changes.specs.Sound.{is_sound}
 use Rattle.edit_simple.specs.Checks.{first_that_holds}
-use Rattle.edit_simple.specs.Parts.{with_nodes, with_members}
+use Rattle.edit_simple.specs.Contents.{with_nodes, with_members}
 use Rattle.edit_simple.specs.Facts.Kinds.{told_way}
 use Rattle.edit_simple.specs.Facts.Lists.{or_left, or_right, all_listed}
 use Rattle.edit_simple.specs.Facts.Rewriting.{fine}
-use Rattle.edit_topology.specs.Join.{join_checks, after_join}
-use Rattle.edit_topology.specs.Merge.{merge_checks, after_merge}
-use Rattle.edit_topology.specs.Split.{split_members, split_checks, after_split}
+use Rattle.edit_topology.specs.Join.{join_checks, after_join, join_row}
+use Rattle.edit_topology.specs.Merge.{merge_checks, after_merge, merge_row}
+use Rattle.edit_topology.specs.Split.{split_members, split_checks, after_split, split_row, split_off}
 use Rattle.edit_topology.specs.Unglue.{unglue_checks, after_unglue}
 use Rattle.edit_topology.specs.Facts.EachBut.{each_but_gone}
 use Rattle.edit_topology.specs.Facts.Fitting.{way_fits}
-use Rattle.edit_topology.specs.Facts.Joining.{join_row, join_accepted}
-use Rattle.edit_topology.specs.Facts.Merging.{merge_row, merge_accepted}
-use Rattle.edit_topology.specs.Facts.Splitting.{Splits, splits, split_row, split_off, row_at-after_split}
+use Rattle.edit_topology.specs.Facts.Joining.{join_accepted}
+use Rattle.edit_topology.specs.Facts.Merging.{merge_accepted}
+use Rattle.edit_topology.specs.Facts.Splitting.{Splits, splits, row_at-after_split}
 use Rattle.edit_topology.specs.Facts.Ungluing.{Unglues, unglues, not_new, way_after, new_among}
 
 -- where w is a member, v is one after the split

@@ -9,7 +9,7 @@ use Rattle.osm_elements.specs.Facts.Rows.{is_eq-name_cmp_itself}
 use Rattle.osm_elements.specs.Facts.Dropped.{row_at-rows_but, AreInOrder-rows_but}
 use Rattle.osm_changes.specs.Sound.{is_sound}
 use Rattle.osm_changes.specs.Facts.SoundRows.{sound_in_order}
-use Rattle.edit_simple.specs.Parts.{each_row}
+use Rattle.edit_simple.specs.Contents.{each_row}
 use Rattle.edit_simple.specs.Facts.EachRow.{AreInOrder-each_row, row_at-each_row}
 use Rattle.edit_simple.specs.Facts.Rewriting.{Fine, Rewrites, stays_sound, rewritten, still_there, differ_at}
 use Rattle.edit_topology.specs.Facts.Fitting.{same_fine}

@@ -21,7 +21,7 @@ use Rattle.edit_simple.specs.declared.refusal.Refusal.{Refusal}
 use Rattle.edit_simple.specs.declared.refusal.Refusal.TheVariants.{Absent, WrongKind, Same, TooMany}
 use Rattle.edit_simple.specs.Checks.{first_that_holds}
 use Rattle.edit_simple.specs.Kinds.{is_way}
-use Rattle.edit_simple.specs.Parts.{nodes_of, row_tags, with_nodes, with_tags, with_members, at_name}
+use Rattle.edit_simple.specs.Contents.{nodes_of, row_tags, with_tags, with_members, at_name}
 use Rattle.edit_simple.specs.Tagging.{most_tags}
 use Rattle.edit_simple.specs.Facts.Checked.{Nones, nones, not_so, from_false}
 use Rattle.edit_simple.specs.Facts.Kinds.{told_way, way_there}
@@ -29,7 +29,7 @@ use Rattle.edit_simple.specs.Facts.Lists.{or_right, at_least, all_listed, all_fr
 use Rattle.edit_simple.specs.Facts.Retagging.{fine_tagged, made_tags}
 use Rattle.edit_simple.specs.Facts.Rewriting.{Fine, fine, at_one}
 use Rattle.edit_topology.specs.BothTags.{both_tags}
-use Rattle.edit_topology.specs.Join.{end_to_end, goes_on, kept_members, joined_members, join_checks, after_join}
+use Rattle.edit_topology.specs.Join.{end_to_end, goes_on, kept_members, joined_members, join_checks, after_join, lengthened, join_row}
 use Rattle.edit_topology.specs.Renaming.{renamed}
 use Rattle.edit_topology.specs.Facts.BothTags.{are_tags-both_tags, are_tags-row_tags}
 use Rattle.edit_topology.specs.Facts.EachBut.{each_but_there, each_but_accepted}
@@ -154,13 +154,6 @@ module _ {A : Type 0} where
 
       way : (nodes : List Name) × (tags : Pairs) × (row_at m v ≡ Some (Way nodes tags))
       way = way_there m v sound is here
-
-  -- what a join makes of w's element, and of a row
-  abbrev pub lengthened : Rows A → Name → Element A → Element A
-  lengthened m v u = with_nodes (λ list. end_to_end list (nodes_of (row_at m v))) (with_tags (λ tags. both_tags tags (row_tags (row_at m v))) u)
-
-  abbrev pub join_row : Rows A → Name → Name → Name → Element A → Element A
-  join_row m w v y u = with_members (joined_members w v) (at_name w (lengthened m v) y u)
 
   pub join_accepted : (m : Rows A) (w v : Name) → is_sound m ≡ true → first_that_holds (join_checks m w v) ≡ None → (is_sound (after_join m w v) ≡ true) × (after_join m w v ≢ m)
   join_accepted m w v sound ok =

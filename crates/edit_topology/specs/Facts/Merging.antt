@@ -17,14 +17,14 @@ use Rattle.osm_changes.specs.Sound.{is_sound, most_nodes, most_members}
 use Rattle.edit_simple.specs.declared.refusal.Refusal.{Refusal}
 use Rattle.edit_simple.specs.declared.refusal.Refusal.TheVariants.{Absent, WrongKind, Same, TooFew, TooMany}
 use Rattle.edit_simple.specs.Checks.{first_that_holds}
-use Rattle.edit_simple.specs.Parts.{nodes_of, row_tags, with_nodes, with_tags, with_members, at_name}
+use Rattle.edit_simple.specs.Contents.{nodes_of, row_tags, with_nodes, with_tags, with_members, at_name}
 use Rattle.edit_simple.specs.Tagging.{most_tags}
 use Rattle.edit_simple.specs.Facts.Checked.{Nones, nones, not_so, from_false, no_least}
 use Rattle.edit_simple.specs.Facts.Lists.{or_right, at_least, all_listed, all_from}
 use Rattle.edit_simple.specs.Facts.Retagging.{fine_tagged, made_tags}
 use Rattle.edit_simple.specs.Facts.Rewriting.{Fine, fine, at_one}
 use Rattle.edit_topology.specs.BothTags.{both_tags}
-use Rattle.edit_topology.specs.Merge.{without_doubled, merged_nodes, shrunk, merge_checks, after_merge}
+use Rattle.edit_topology.specs.Merge.{without_doubled, merged_nodes, shrunk, merge_checks, after_merge, merge_row}
 use Rattle.edit_topology.specs.Renaming.{renamed, renamed_members}
 use Rattle.edit_topology.specs.Facts.BothTags.{are_tags-both_tags, are_tags-row_tags}
 use Rattle.edit_topology.specs.Facts.EachBut.{each_but_there, each_but_accepted}
@@ -115,13 +115,6 @@ module _ {A : Type 0} where
     where
       none : Nones (merge_checks m k g)
       none = nones (merge_checks m k g) ok
-
-  -- what a merge makes of k's element, and of a row
-  abbrev pub united : Rows A → Name → Element A → Element A
-  united m g u = with_tags (λ tags. both_tags tags (row_tags (row_at m g))) u
-
-  abbrev pub merge_row : Rows A → Name → Name → Name → Element A → Element A
-  merge_row m k g y u = with_nodes (merged_nodes k g) (with_members (renamed_members g k) (at_name k (united m g) y u))
 
   nodes_same : (f : Pairs → Pairs) (b : Bool) (u : Element A) → nodes_of (Some (cond b (with_tags f u) u)) ≡ nodes_of (Some u)
   nodes_same f false u = refl

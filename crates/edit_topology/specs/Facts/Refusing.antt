@@ -12,7 +12,7 @@ use Rattle.osm_elements.specs.NameOrder.{name_cmp}
 use Rattle.osm_elements.specs.Facts.Tests.{first_true, second_true}
 use Rattle.osm_refs.specs.References.{references, refers_to}
 use Rattle.osm_changes.specs.Sound.{is_sound, is_sound_row, is_of_length, most_members}
-use Rattle.edit_simple.specs.Parts.{members_of}
+use Rattle.edit_simple.specs.Contents.{members_of}
 use Rattle.edit_topology.specs.Split.{split_members, overfull}
 use Rattle.edit_topology.specs.Facts.Lists.{not_more}
 use Rattle.edit_topology.specs.Facts.Staying.{split_members_same}

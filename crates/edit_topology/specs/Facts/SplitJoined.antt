@@ -10,7 +10,8 @@ use Rattle.osm_elements.specs.declared.element.Element.{Element}
 use Rattle.osm_elements.specs.declared.element.Element.TheVariants.{Node, Way, Relation}
 use Rattle.osm_elements.specs.Maps.{Rows, is_same, is_among, is_present, is_absent}
 use Rattle.osm_elements.specs.Rows.{row_at}
-use Rattle.osm_elements.specs.TagRows.{Pairs, text_cmp, is_tag, are_tags}
+use Rattle.osm_elements.specs.KeyedRows.{text_cmp}
+use Rattle.osm_elements.specs.TagRows.{Pairs, is_tag, are_tags}
 use Rattle.osm_elements.specs.Texts.{is_same_text}
 use Rattle.osm_elements.specs.Facts.Rows.{same_names, is_eq-name_cmp_itself, same_rows}
 use Rattle.osm_elements.specs.Facts.Tests.{both_true, first_true, second_true}
@@ -20,21 +21,21 @@ use Rattle.edit_simple.specs.declared.refusal.Refusal.{Refusal}
 use Rattle.edit_simple.specs.declared.refusal.Refusal.TheVariants.{Absent, WrongKind, Same, NotEndToEnd, TagConflict, TooMany}
 use Rattle.edit_simple.specs.Checks.{first_that_holds}
 use Rattle.edit_simple.specs.Kinds.{is_way}
-use Rattle.edit_simple.specs.Parts.{nodes_of, row_tags, with_nodes, with_members}
+use Rattle.edit_simple.specs.Contents.{nodes_of, row_tags, with_nodes, with_members}
 use Rattle.edit_simple.specs.Tagging.{most_tags}
 use Rattle.edit_simple.specs.Facts.Checked.{Nones}
 use Rattle.edit_simple.specs.Facts.Retagging.{made_tags}
 use Rattle.edit_simple.specs.Facts.Rewriting.{Fine, fine}
 use Rattle.edit_topology.specs.BothTags.{both_tags, conflict}
-use Rattle.edit_topology.specs.Join.{meet_end_to_end, end_to_end, goes_on, kept_members, joined_members, join_checks, after_join}
+use Rattle.edit_topology.specs.Join.{meet_end_to_end, end_to_end, goes_on, kept_members, joined_members, join_checks, after_join, lengthened, join_row}
 use Rattle.edit_topology.specs.Renaming.{renamed_members}
-use Rattle.edit_topology.specs.Split.{is_inside, split_members, split_checks, after_split}
+use Rattle.edit_topology.specs.Split.{is_inside, split_members, split_checks, after_split, split_row, split_off}
 use Rattle.edit_topology.specs.Facts.BothTags.{same_text_itself, both_tags_same, no_conflict}
 use Rattle.edit_topology.specs.Facts.EachBut.{row_at-each_but, each_but_rewrites}
-use Rattle.edit_topology.specs.Facts.Joining.{kept_on, kept_off, not_on, lengthened, join_row}
+use Rattle.edit_topology.specs.Facts.Joining.{kept_on, kept_off, not_on}
 use Rattle.edit_topology.specs.Facts.Lists.{not_more, or_first, or_second}
 use Rattle.edit_topology.specs.Facts.Renaming.{renamed_members_same}
-use Rattle.edit_topology.specs.Facts.Splitting.{Splits, splits, split_row, split_off, row_at-after_split, split_there, split_there_new, split_accepted}
+use Rattle.edit_topology.specs.Facts.Splitting.{Splits, splits, row_at-after_split, split_there, split_there_new, split_accepted}
 
 -- ---- the list
 

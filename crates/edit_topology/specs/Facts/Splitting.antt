@@ -21,13 +21,13 @@ use Rattle.edit_simple.specs.declared.refusal.Refusal.{Refusal}
 use Rattle.edit_simple.specs.declared.refusal.Refusal.TheVariants.{Absent, Present, WrongKind, BadPosition, TooMany}
 use Rattle.edit_simple.specs.Checks.{first_that_holds}
 use Rattle.edit_simple.specs.Kinds.{is_way}
-use Rattle.edit_simple.specs.Parts.{nodes_of, members_of, row_tags, with_nodes, with_members, each_row, at_name}
+use Rattle.edit_simple.specs.Contents.{nodes_of, members_of, row_tags, with_nodes, with_members, each_row, at_name}
 use Rattle.edit_simple.specs.Facts.Checked.{Nones, nones, not_so, from_false, no_least}
 use Rattle.edit_simple.specs.Facts.EachRow.{AreInOrder-each_row, row_at-each_row}
 use Rattle.edit_simple.specs.Facts.Kinds.{told_way, way_there}
 use Rattle.edit_simple.specs.Facts.Lists.{at_least, all_listed, all_from}
 use Rattle.edit_simple.specs.Facts.Rewriting.{Fine, fine, Rewrites, stays_sound, rewritten, still_there, at_one, differ_at}
-use Rattle.edit_topology.specs.Split.{is_inside, split_members, overfull, split_checks, after_split}
+use Rattle.edit_topology.specs.Split.{is_inside, split_members, overfull, split_checks, after_split, split_row, split_off}
 use Rattle.edit_topology.specs.Facts.Fitting.{FitsWay, way_fits, relation_fits, fine_node, fine_way, fine_relation, same_fine, none_named}
 use Rattle.edit_topology.specs.Facts.Lists.{or_cases, still_short, drop_within, take_within}
 
@@ -132,14 +132,6 @@ module _ {A : Type 0} where
 
       way : (nodes : List Name) × (tags : Pairs) × (row_at m w ≡ Some (Way nodes tags))
       way = way_there m w sound is here
-
-  -- what a split makes of a row
-  abbrev pub split_row : Name → ℕ → Name → Name → Element A → Element A
-  split_row w i v y u = with_members (split_members w v) (at_name w (with_nodes (take (i + 1))) y u)
-
-  -- the new way
-  abbrev pub split_off : Rows A → Name → ℕ → Element A
-  split_off m w i = Way (drop i (nodes_of (row_at m w))) (row_tags (row_at m w))
 
   pub row_at-after_split : (m : Rows A) (w : Name) (i : ℕ) (v y : Name) → row_at (after_split m w i v) y ≡ cond (is_same y v) (Some (split_off m w i)) (option_map (split_row w i v y) (row_at m y))
   row_at-after_split m w i v y =

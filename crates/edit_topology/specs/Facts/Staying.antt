@@ -8,17 +8,16 @@ use Rattle.osm_elements.specs.Maps.{Rows, is_same, is_among}
 use Rattle.osm_elements.specs.Rows.{row_at}
 use Rattle.osm_elements.specs.Facts.Dropped.{same_either_way}
 use Rattle.osm_refs.specs.References.{references, row_references}
-use Rattle.edit_simple.specs.Parts.{with_nodes, with_members}
-use Rattle.edit_topology.specs.Join.{kept_members, joined_members, after_join}
-use Rattle.edit_topology.specs.Merge.{without_doubled, merged_nodes, after_merge}
+use Rattle.edit_simple.specs.Contents.{with_nodes, with_members}
+use Rattle.edit_topology.specs.Join.{kept_members, joined_members, after_join, lengthened, join_row}
+use Rattle.edit_topology.specs.Merge.{without_doubled, merged_nodes, after_merge, united, merge_row}
 use Rattle.edit_topology.specs.Renaming.{renamed, renamed_members}
-use Rattle.edit_topology.specs.Split.{split_members, after_split}
+use Rattle.edit_topology.specs.Split.{split_members, after_split, split_row, split_off}
 use Rattle.edit_topology.specs.Facts.EachBut.{row_at-each_but}
-use Rattle.edit_topology.specs.Facts.Joining.{kept_on, not_on, lengthened, join_row}
+use Rattle.edit_topology.specs.Facts.Joining.{kept_on, not_on}
 use Rattle.edit_topology.specs.Facts.Lists.{or_first, or_second}
-use Rattle.edit_topology.specs.Facts.Merging.{united, merge_row}
 use Rattle.edit_topology.specs.Facts.Renaming.{renamed_members_same}
-use Rattle.edit_topology.specs.Facts.Splitting.{split_row, split_off, row_at-after_split}
+use Rattle.edit_topology.specs.Facts.Splitting.{row_at-after_split}
 use Rattle.edit_topology.specs.Facts.Ungluing.{unglue_row, row_at-after_unglue}
 use Rattle.edit_topology.specs.Unglue.{row_standing, after_unglue}
 

@@ -7,7 +7,8 @@ use Rattle.std.specs.Option.{option_map, option_or, unwrap_or}
 use Rattle.std.specs.Ordering.{is_eq, is_lt}
 use Rattle.std.specs.declared.cmp.Ordering.TheVariants.{Less}
 use Rattle.std.specs.FinMap.Entries.{put, is_sorted, below_all, find-put}
-use Rattle.osm_elements.specs.TagRows.{Pairs, text_cmp, value_at, are_tags}
+use Rattle.osm_elements.specs.KeyedRows.{text_cmp, value_at}
+use Rattle.osm_elements.specs.TagRows.{Pairs, are_tags}
 use Rattle.osm_elements.specs.Texts.{is_same_text}
 use Rattle.osm_elements.specs.Facts.Entries.{both, first, second, find_below, below_less}
 use Rattle.osm_changes.specs.Facts.SameElements.{same_texts}

@@ -19,7 +19,7 @@ use Rattle.edit_simple.specs.declared.refusal.Refusal.{Refusal}
 use Rattle.edit_simple.specs.declared.refusal.Refusal.TheVariants.{Absent, Present, WrongKind, BadPosition}
 use Rattle.edit_simple.specs.Checks.{first_that_holds}
 use Rattle.edit_simple.specs.Kinds.{is_way}
-use Rattle.edit_simple.specs.Parts.{nodes_of, with_nodes, each_row, at_name}
+use Rattle.edit_simple.specs.Contents.{nodes_of, with_nodes, each_row, at_name}
 use Rattle.edit_simple.specs.Facts.Checked.{Nones, nones, not_so, from_false}
 use Rattle.edit_simple.specs.Facts.EachRow.{AreInOrder-each_row, row_at-each_row}
 use Rattle.edit_simple.specs.Facts.Kinds.{way_there, node_there, told_node}

@@ -8,13 +8,12 @@ use Rattle.osm_elements.specs.declared.element.Element.{Element}
 use Rattle.osm_elements.specs.declared.element.Element.TheVariants.{Way}
 use Rattle.osm_elements.specs.Maps.{Rows, is_same, is_among, is_present}
 use Rattle.osm_elements.specs.Rows.{row_at}
-use Rattle.osm_refs.specs.Inner.Rising.{IsRising}
-use Rattle.osm_changes.specs.declared.change.Change.{Change}
+use Rattle.osm_refs.specs.Rising.{IsRising}
 use Rattle.osm_changes.specs.Sound.{most_nodes}
 use Rattle.edit_simple.specs.declared.refusal.Refusal.{Refusal}
 use Rattle.edit_simple.specs.declared.refusal.Refusal.TheVariants.{WrongKind, Same, NotEndToEnd, TooMany}
 use Rattle.edit_simple.specs.Kinds.{is_way}
-use Rattle.edit_simple.specs.Parts.{nodes_of, row_tags, with_members}
+use Rattle.edit_simple.specs.Contents.{nodes_of, row_tags, with_members}
 use Rattle.edit_topology.specs.BothTags.{both_tags}
 use Rattle.edit_topology.specs.Join.{meet_end_to_end, end_to_end, joined_members}
 
@@ -34,9 +33,6 @@ module _ {A : Type 0} where
   -- what the row of y becomes, where that of w becomes `joined`
   abbrev pub row_joined : Rows A → Name → Name → Option (Element A) → Name → Option (Element A)
   row_joined m w v joined y = if is_same y w then joined else (if is_same y v then None else option_map (with_members (joined_members w v)) (row_at m y))
-
-  abbrev pub joined_change : Rows A → Name → Name → Option (Element A) → Name → Change A
-  joined_change m w v joined y = record { name = y; before = row_at m y; after = row_joined m w v joined y }
 
   -- rising names that are there, whose rows all become others
   pub record MayJoin (m : Rows A) (w v : Name) (joined : Element A) (names : List Name) : Type 0 where

@@ -10,8 +10,7 @@ use Rattle.osm_elements.specs.Made.{is_node}
 use Rattle.osm_elements.specs.Maps.{Rows, is_same, is_among, is_present}
 use Rattle.osm_elements.specs.Rows.{row_at}
 use Rattle.osm_elements.specs.TagRows.{Pairs}
-use Rattle.osm_refs.specs.Inner.Rising.{IsRising}
-use Rattle.osm_changes.specs.declared.change.Change.{Change}
+use Rattle.osm_refs.specs.Rising.{IsRising}
 use Rattle.edit_simple.specs.declared.refusal.Refusal.{Refusal}
 use Rattle.edit_simple.specs.declared.refusal.Refusal.TheVariants.{WrongKind, Same, TagConflict, TooMany}
 use Rattle.edit_simple.specs.Tagging.{most_tags}
@@ -63,12 +62,13 @@ module _ {A : Type 0} where
   abbrev pub merged_row : Name → Name → Pairs → Name → Option (Element A) → Option (Element A)
   merged_row k g both y o = if is_same g y then None else option_map (merged_element k g both) o
 
-  abbrev pub merged_change : Rows A → Name → Name → Pairs → Name → Change A
-  merged_change m k g both y = record { name = y; before = row_at m y; after = merged_row k g both y (row_at m y) }
+  -- what the row of y becomes
+  abbrev pub row_merged : Rows A → Name → Name → Pairs → Name → Option (Element A)
+  row_merged m k g both y = merged_row k g both y (row_at m y)
 
   -- a node's name, and rising names that are there, whose rows all become others
   pub record MayMerge (m : Rows A) (k g : Name) (both : Pairs) (names : List Name) : Type 0 where
     pub node : is_node k.kind ≡ true
     pub rising : IsRising names
     pub there : list_all (is_present m) names ≡ true
-    pub apart : (y : Name) → is_among names y ≡ true → merged_row k g both y (row_at m y) ≢ row_at m y
+    pub apart : (y : Name) → is_among names y ≡ true → row_merged m k g both y ≢ row_at m y

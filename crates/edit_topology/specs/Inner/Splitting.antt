@@ -5,10 +5,9 @@ use Rattle.osm_elements.specs.declared.element.Element.{Element}
 use Rattle.osm_elements.specs.declared.element.Element.TheVariants.{Node, Way, Relation}
 use Rattle.osm_elements.specs.Maps.{Rows, is_same, is_among}
 use Rattle.osm_elements.specs.Rows.{row_at}
-use Rattle.osm_refs.specs.Inner.Rising.{IsRising}
-use Rattle.osm_changes.specs.declared.change.Change.{Change}
+use Rattle.osm_refs.specs.Rising.{IsRising}
 use Rattle.osm_changes.specs.Sound.{most_members}
-use Rattle.edit_simple.specs.Parts.{nodes_of, members_of, row_tags, with_nodes, with_members}
+use Rattle.edit_simple.specs.Contents.{nodes_of, members_of, row_tags, with_nodes, with_members}
 use Rattle.edit_topology.specs.Split.{split_members}
 
 -- how many members name w
@@ -47,11 +46,12 @@ module _ {A : Type 0} where
   row_split m w i v None = new_way i (row_at m w)
   row_split m w i v (Some u) = split_element w i v u
 
-  abbrev pub split_change : Rows A → Name → ℕ → Name → Name → Change A
-  split_change m w i v y = record { name = y; before = row_at m y; after = Some (row_split m w i v (row_at m y)) }
+  -- what the row of y becomes
+  abbrev pub row_of_split : Rows A → Name → ℕ → Name → Name → Option (Element A)
+  row_of_split m w i v y = Some (row_split m w i v (row_at m y))
 
   -- a way that is there, and rising names whose rows all become others
   pub record MaySplit (m : Rows A) (w : Name) (i : ℕ) (v : Name) (names : List Name) : Type 0 where
     pub way : is_way_row (row_at m w) ≡ true
     pub rising : IsRising names
-    pub apart : (y : Name) → is_among names y ≡ true → Some (row_split m w i v (row_at m y)) ≢ row_at m y
+    pub apart : (y : Name) → is_among names y ≡ true → row_of_split m w i v y ≢ row_at m y

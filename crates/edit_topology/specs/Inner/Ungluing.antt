@@ -1,5 +1,5 @@
 -- An unglue, part by part.
-use Rattle.std.specs.Prelude.{ℕ, not, List, [], ◌∷◌, Option, Some, set}
+use Rattle.std.specs.Prelude.{ℕ, not, List, [], ◌∷◌, Option}
 use Rattle.std.specs.Bool.{then_some}
 use Rattle.std.specs.List.{slice_get}
 use Rattle.std.specs.Option.{option_and_then}
@@ -11,7 +11,6 @@ use Rattle.osm_elements.specs.Rows.{row_at}
 use Rattle.edit_simple.specs.declared.refusal.Refusal.{Refusal}
 use Rattle.edit_simple.specs.declared.refusal.Refusal.TheVariants.{Absent, Present, WrongKind}
 use Rattle.edit_simple.specs.Kinds.{is_way}
-use Rattle.edit_simple.specs.Parts.{nodes_of, with_nodes}
 
 module _ {A : Type 0} where
   -- what is asked of the names, before the position
@@ -23,10 +22,6 @@ module _ {A : Type 0} where
       ∷ then_some (is_present m v) (Present v)
       ∷ []
 
-  -- the row of the node at a position of a way
-  abbrev pub node_of_way : Rows A → Element A → ℕ → Option (Element A)
-  node_of_way m way i = option_and_then (row_at m) (slice_get (nodes_of (Some way)) i)
-
-  -- the way with v at the position
-  abbrev pub unglued : ℕ → Name → Element A → Element A
-  unglued i v way = with_nodes (λ list. set list i v) way
+  -- the row of the node at a position of a list
+  abbrev pub node_standing : Rows A → List Name → ℕ → Option (Element A)
+  node_standing m nodes i = option_and_then (row_at m) (slice_get nodes i)

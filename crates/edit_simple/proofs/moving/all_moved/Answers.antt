@@ -2,7 +2,7 @@ use Rattle.std.proofs.Common.{ap, ◌∙◌}
 use Rattle.osm_elements.specs.Maps.{name_set}
 use Rattle.osm_elements.specs.Facts.NameOrder.{name_cmp_is}
 use Rattle.osm_elements.specs.Facts.SameNames.{name_eq_is}
-use Rattle.edit_simple.specs.Facts.NameSets.{sorted_is_name_set}
+use Rattle.osm_refs.specs.Facts.NameSets.{sorted_is_name_set}
 use Rattle.edit_simple.proofs.moving.all_moved.Goals as goal
 
 pub returns : goal.returns

@@ -1,12 +1,15 @@
 use Rattle.std.proofs.Common.{◌≡◌, ◌<◌, ◌⊎◌, length, map}
 use Rattle.osm_elements.specs.declared.fault.TextFault.TheVariants as faults
+use Rattle.osm_elements.specs.KeyedValues.{is_short}
 use Rattle.osm_elements.specs.TagRows.{tag_pair}
+use Rattle.osm_elements.specs.Facts.KeyedRows.{each_key}
+use Rattle.edit_simple.specs.Facts.Checked.{err_same}
 use Rattle.edit_topology.specs.BothTags.{both_tags}
-use Rattle.edit_topology.proofs.BothTagsLoops.{own_key, fault_told, err_same}
+use Rattle.edit_topology.proofs.BothTagsLoops.{fault_told}
 use Rattle.edit_topology.proofs.both_tags.put_all.Goals as goal
 
 pub put_one-requires : goal.put_one-requires
-put_one-requires g c = record { key = own_key c.args.others.now c.requires.others c.loop-tag.tag-index c.tag-item.result c.loop-tag-test.true c.tag-item.is }
+put_one-requires g c = record { key = each_key is_short c.args.others.now c.requires.others c.loop-tag.tag-index c.tag-item.result c.loop-tag-test.true c.tag-item.is }
 
 pub returns-in_err-put_one-clause-err : goal.returns-in_err-put_one-clause-err
 returns-in_err-put_one-clause-err g c =

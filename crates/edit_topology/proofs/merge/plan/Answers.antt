@@ -1,6 +1,6 @@
 use Rattle.std.proofs.Common.{length, nat_lt, inl, sym, ap, ◌∙◌}
 use Rattle.edit_simple.specs.Checks.{first_that_holds}
-use Rattle.edit_simple.specs.Parts.{row_tags}
+use Rattle.edit_simple.specs.Contents.{row_tags}
 use Rattle.edit_topology.specs.Inner.Merging.{name_checks, tag_checks}
 use Rattle.edit_topology.proofs.MergePlans.{passed_ok, too_few, from_tags, refused, found_may, merge_planned}
 use Rattle.edit_topology.proofs.merge.plan.Goals as goal

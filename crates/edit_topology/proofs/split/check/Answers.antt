@@ -1,13 +1,14 @@
-use Rattle.std.proofs.Common.{sym}
+use Rattle.std.proofs.Common.{sym, ap, ◌∙◌}
+use Rattle.edit_topology.specs.Split.{is_inside}
 use Rattle.edit_topology.proofs.SplitPlans.{relation_told, nothing_told}
 use Rattle.edit_topology.proofs.split.check.Goals as goal
 
-pub returns-in-Some-first_overfull : goal.returns-in-Some-first_overfull
-returns-in-Some-first_overfull g c =
-    relation_told c.args.rows.now c.args.name.now c.args.place c.args.into.now c.in-Some.way.now c.args.its_users.now c.requires.sound c.requires.users (sym c.if-not-is_way.ensures) (sym c.if-not-is_way-2.ensures)
-    (sym c.in-Some.ensures) (sym c.if-is_present.ensures) (sym c.if-not-is_inside.ensures) c.in-Some-first_overfull.relation c.in-Some-first_overfull.ensures
+pub returns-in-Some : goal.returns-in-Some
+returns-in-Some g c =
+    relation_told c.args.rows.now c.args.name.now c.args.place c.args.into.now _ c.args.its_users.now c.requires.sound c.requires.users (sym c.if-not-is_way.ensures) (sym c.if-not-is_way-2.ensures)
+    c.in_ok-nodes.ensures (sym c.if-is_present.ensures) (ap (is_inside c.args.place) (sym c.names.ensures.names) ∙ sym c.if-not-is_inside.ensures) c.in-Some.relation c.in-Some.ensures
 
 pub returns-in-None : goal.returns-in-None
 returns-in-None g c =
-    nothing_told c.args.rows.now c.args.name.now c.args.place c.args.into.now c.in-Some.way.now c.args.its_users.now c.requires.sound c.requires.users (sym c.if-not-is_way.ensures) (sym c.if-not-is_way-2.ensures)
-    (sym c.in-Some.ensures) (sym c.if-is_present.ensures) (sym c.if-not-is_inside.ensures) c.in-None.ensures
+    nothing_told c.args.rows.now c.args.name.now c.args.place c.args.into.now _ c.args.its_users.now c.requires.sound c.requires.users (sym c.if-not-is_way.ensures) (sym c.if-not-is_way-2.ensures)
+    c.in_ok-nodes.ensures (sym c.if-is_present.ensures) (ap (is_inside c.args.place) (sym c.names.ensures.names) ∙ sym c.if-not-is_inside.ensures) c.in-None.ensures

@@ -1,0 +1,7 @@
+use Rattle.std.proofs.Common.{◌≡◌, map, take}
+use Rattle.edit_simple.specs.Tagging.{given_pair}
+use Rattle.edit_simple.specs.Inner.Retagging.{all_valued}
+use Rattle.edit_simple.proofs.retagging.put_values.Given as goal
+
+abbrev pub invariant-loop-row : goal.invariant-loop-row
+invariant-loop-row g l = l.tags ≡ all_valued l.fn.tags (map given_pair (take l.row-index l.given))

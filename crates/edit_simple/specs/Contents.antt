@@ -1,0 +1,51 @@
+-- What rows contain, and rows with other contents. (OpenStreetMap wiki, "Elements".)
+use Rattle.std.specs.Prelude.{ℕ, List, [], Option, Some, None, map, if◌then◌else◌}
+use Rattle.osm_elements.specs.declared.name.Name.{Name}
+use Rattle.osm_elements.specs.declared.element.Element.{Element}
+use Rattle.osm_elements.specs.declared.element.Element.TheVariants.{Node, Way, Relation}
+use Rattle.osm_elements.specs.Elements.{tags_of}
+use Rattle.osm_elements.specs.Maps.{Rows, is_same}
+use Rattle.osm_elements.specs.TagRows.{Pairs}
+
+module _ {A : Type 0} where
+  -- the tags of a row, none where there is no row
+  abbrev pub row_tags : Option (Element A) → Pairs
+  row_tags None = []
+  row_tags (Some v) = tags_of v
+
+  -- a way's list; none of another kind
+  abbrev pub nodes_of : Option (Element A) → List Name
+  nodes_of None = []
+  nodes_of (Some (Node lat lon tags)) = []
+  nodes_of (Some (Way nodes tags)) = nodes
+  nodes_of (Some (Relation members tags)) = []
+
+  -- a relation's members; none of another kind
+  abbrev pub members_of : Option (Element A) → List (Name × List ℕ)
+  members_of None = []
+  members_of (Some (Node lat lon tags)) = []
+  members_of (Some (Way nodes tags)) = []
+  members_of (Some (Relation members tags)) = members
+
+  abbrev pub with_tags : (Pairs → Pairs) → Element A → Element A
+  with_tags f (Node lat lon tags) = Node lat lon (f tags)
+  with_tags f (Way nodes tags) = Way nodes (f tags)
+  with_tags f (Relation members tags) = Relation members (f tags)
+
+  abbrev pub with_nodes : (List Name → List Name) → Element A → Element A
+  with_nodes f (Node lat lon tags) = Node lat lon tags
+  with_nodes f (Way nodes tags) = Way (f nodes) tags
+  with_nodes f (Relation members tags) = Relation members tags
+
+  abbrev pub with_members : (List (Name × List ℕ) → List (Name × List ℕ)) → Element A → Element A
+  with_members f (Node lat lon tags) = Node lat lon tags
+  with_members f (Way nodes tags) = Way nodes tags
+  with_members f (Relation members tags) = Relation (f members) tags
+
+  -- every row rewritten, by its name and its element
+  abbrev pub each_row : (Name → Element A → Element A) → Rows A → Rows A
+  each_row f m = map (λ r. (r.0, f r.0 r.1)) m
+
+  -- every row as it is, but that of x rewritten
+  abbrev pub at_name : Name → (Element A → Element A) → Name → Element A → Element A
+  at_name x f y v = if is_same x y then f v else v

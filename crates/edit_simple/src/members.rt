@@ -1,0 +1,97 @@
+//! Plans that give a relation other members.
+ghost use Rattle.std.specs.Prelude.{◌≡◌, ◌⊎◌, true, false, [], ◌∷◌, not, MatchResult, Some};
+ghost use Rattle.std.specs.Bool.{then_some};
+ghost use Rattle.osm_elements.specs.Maps.{is_absent};
+ghost use Rattle.osm_elements.specs.Rows.{row_at};
+ghost use Rattle.osm_elements.specs.declared.element.Element.TheVariants.{Relation};
+ghost use Rattle.osm_changes.specs.Changes.{row_changes};
+ghost use Rattle.osm_changes.specs.SameRows.{are_same_members};
+ghost use Rattle.osm_changes.specs.Sound.{is_sound};
+ghost use Rattle.edit_simple.specs.declared.refusal.Refusal.TheVariants.{WrongKind, Absent, Nothing, Memory as OutOfMemory};
+ghost use Rattle.edit_simple.specs.Checks.{first_that_holds};
+ghost use Rattle.edit_simple.specs.Kinds.{is_relation};
+ghost use Rattle.edit_simple.specs.Members.{members_checks, after_members};
+ghost use Rattle.edit_simple.specs.Plans.{IsPlan};
+
+use crate::changing::one_change;
+use crate::kinds::is_relation;
+use crate::limits::MOST_MEMBERS;
+use crate::lookup::least_missing_member;
+use crate::refusal::Refusal;
+use osm_changes::changes::Changes;
+use osm_changes::same::are_same_members;
+use osm_elements::element::Element;
+use osm_elements::map::OsmMap;
+use osm_elements::members::Members;
+use osm_elements::name::Name;
+use osm_elements::tags::Tags;
+use std::alloc::Allocator;
+
+/// Plans to give a relation other members.
+pub fn plan<A: Allocator + Clone>(
+    alloc: A,
+    rows: &OsmMap<A>,
+    name: &Name,
+    list: &Members<A>,
+) -> Result<Changes<A>, Refusal<A>>
+    requires { is_sound rows.now ≡ true }
+    ensures { IsPlan rows.now (members_checks rows.now name.now list.now) (after_members rows.now name.now list.now) result }
+{
+    let (members, tags) = relation_at(rows, name)?;
+    if list.len() > MOST_MEMBERS {
+        return Err(Refusal::TooMany(*name));
+    }
+    if let Some(absent) = least_missing_member(rows, name, list.as_slice()) {
+        return Err(Refusal::Absent(absent));
+    }
+    change_members(alloc, name, members, tags, list)
+}
+
+// The members and tags of a relation, or the refusal of a name that is no relation's or is not there.
+fn relation_at<'m, A: Allocator>(
+    rows: &'m OsmMap<A>,
+    name: &Name,
+) -> Result<(&'m Members<A>, &'m Tags<A>), Refusal<A>>
+    requires { is_sound rows.now ≡ true }
+    ensures { MatchResult result
+        (λ relation. (is_relation name.now.kind ≡ true) × (row_at rows.now name.now ≡ Some (Relation relation.0.now relation.1.now)))
+        (λ r. first_that_holds (then_some (not (is_relation name.now.kind)) (WrongKind name.now) ∷ then_some (is_absent rows.now name.now) (Absent name.now) ∷ []) ≡ Some r) }
+{
+    if !is_relation(name) {
+        return Err(Refusal::WrongKind(*name));
+    }
+    let Some(element) = rows.get(name) else {
+        return Err(Refusal::Absent(*name));
+    };
+    match element {
+        Element::Relation { members, tags } => Ok((members, tags)),
+        _ => unreachable!(),
+    }
+}
+
+// The changes of a relation to other members, or the refusal of those that it has.
+fn change_members<A: Allocator + Clone>(
+    alloc: A,
+    name: &Name,
+    members: &Members<A>,
+    tags: &Tags<A>,
+    others: &Members<A>,
+) -> Result<Changes<A>, Refusal<A>>
+    ensures { MatchResult result
+        (λ cs. (are_same_members members.now others.now ≡ false)
+        × (cs ≡ row_changes name.now (Some (Relation members.now tags.now)) (Some (Relation others.now tags.now))))
+        (λ r. ((are_same_members members.now others.now ≡ true) × (r ≡ Nothing)) ⊎ (r ≡ OutOfMemory)) }
+{
+    if are_same_members(members, others) {
+        return Err(Refusal::Nothing);
+    }
+    let before = Element::Relation {
+        members: members.copy()?,
+        tags: tags.copy()?,
+    };
+    let after = Element::Relation {
+        members: others.copy()?,
+        tags: tags.copy()?,
+    };
+    Ok(one_change(alloc, name, Some(before), Some(after))?)
+}

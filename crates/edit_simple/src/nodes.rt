@@ -1,0 +1,42 @@
+//! Plans that give a way other nodes.
+ghost use Rattle.std.specs.Prelude.{◌≡◌, true};
+ghost use Rattle.osm_changes.specs.Sound.{is_sound};
+ghost use Rattle.edit_simple.specs.Nodes.{nodes_checks, after_nodes};
+ghost use Rattle.edit_simple.specs.Plans.{IsPlan};
+
+use crate::kinds::is_way;
+use crate::limits::{FEWEST_NODES, MOST_NODES};
+use crate::lookup::least_missing;
+use crate::refusal::Refusal;
+use crate::ways::{change_nodes, way_at};
+use osm_changes::changes::Changes;
+use osm_elements::map::OsmMap;
+use osm_elements::name::Name;
+use osm_elements::nodes::Nodes;
+use std::alloc::Allocator;
+
+/// Plans to give a way other nodes.
+pub fn plan<A: Allocator + Clone>(
+    alloc: A,
+    rows: &OsmMap<A>,
+    name: &Name,
+    list: &Nodes<A>,
+) -> Result<Changes<A>, Refusal<A>>
+    requires { is_sound rows.now ≡ true }
+    ensures { IsPlan rows.now (nodes_checks rows.now name.now list.now) (after_nodes rows.now name.now list.now) result }
+{
+    if !is_way(name) {
+        return Err(Refusal::WrongKind(*name));
+    }
+    let (nodes, tags) = way_at(rows, name)?;
+    if list.len() < FEWEST_NODES {
+        return Err(Refusal::TooFew(*name));
+    }
+    if list.len() > MOST_NODES {
+        return Err(Refusal::TooMany(*name));
+    }
+    if let Some(absent) = least_missing(rows, name, list.names()) {
+        return Err(Refusal::Absent(absent));
+    }
+    change_nodes(alloc, name, nodes, tags, list.copy()?)
+}

@@ -1,0 +1,68 @@
+//! Ways in a map, and their change to other nodes.
+ghost use Rattle.std.specs.Prelude.{◌≡◌, ◌⊎◌, true, false, MatchResult, Some};
+ghost use Rattle.osm_elements.specs.Maps.{is_absent};
+ghost use Rattle.osm_elements.specs.Rows.{row_at};
+ghost use Rattle.osm_elements.specs.declared.element.Element.TheVariants.{Way};
+ghost use Rattle.osm_changes.specs.Changes.{row_changes};
+ghost use Rattle.osm_changes.specs.SameRows.{are_same_names};
+ghost use Rattle.osm_changes.specs.Sound.{is_sound};
+ghost use Rattle.edit_simple.specs.declared.refusal.Refusal.TheVariants.{Absent, Nothing, Memory as OutOfMemory};
+ghost use Rattle.edit_simple.specs.Kinds.{is_way};
+
+use crate::changing::one_change;
+use crate::refusal::Refusal;
+use osm_changes::changes::Changes;
+use osm_changes::same::are_same_names;
+use osm_elements::element::Element;
+use osm_elements::map::OsmMap;
+use osm_elements::name::Name;
+use osm_elements::nodes::Nodes;
+use osm_elements::tags::Tags;
+use std::alloc::Allocator;
+
+/// The nodes and tags of a way, in time logarithmic in the size of the map, or `Absent` where it is not there.
+pub fn way_at<'m, A: Allocator>(
+    rows: &'m OsmMap<A>,
+    name: &Name,
+) -> Result<(&'m Nodes<A>, &'m Tags<A>), Refusal<A>>
+    requires sound { is_sound rows.now ≡ true }
+    requires kind { is_way name.now.kind ≡ true }
+    ensures { MatchResult result
+        (λ way. row_at rows.now name.now ≡ Some (Way way.0.now way.1.now))
+        (λ r. (is_absent rows.now name.now ≡ true) × (r ≡ Absent name.now)) }
+{
+    let Some(element) = rows.get(name) else {
+        return Err(Refusal::Absent(*name));
+    };
+    match element {
+        Element::Way { nodes, tags } => Ok((nodes, tags)),
+        _ => unreachable!(),
+    }
+}
+
+/// The changes of a way to other nodes, or `Nothing` where it has these, or `Memory`.
+pub fn change_nodes<A: Allocator + Clone>(
+    alloc: A,
+    name: &Name,
+    nodes: &Nodes<A>,
+    tags: &Tags<A>,
+    others: Nodes<A>,
+) -> Result<Changes<A>, Refusal<A>>
+    ensures { MatchResult result
+        (λ cs. (are_same_names nodes.now others ≡ false)
+        × (cs ≡ row_changes name.now (Some (Way nodes.now tags.now)) (Some (Way others tags.now))))
+        (λ r. ((are_same_names nodes.now others ≡ true) × (r ≡ Nothing)) ⊎ (r ≡ OutOfMemory)) }
+{
+    if are_same_names(nodes.names(), others.names()) {
+        return Err(Refusal::Nothing);
+    }
+    let before = Element::Way {
+        nodes: nodes.copy()?,
+        tags: tags.copy()?,
+    };
+    let after = Element::Way {
+        nodes: others,
+        tags: tags.copy()?,
+    };
+    Ok(one_change(alloc, name, Some(before), Some(after))?)
+}
