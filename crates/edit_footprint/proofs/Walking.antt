@@ -1,8 +1,8 @@
 -- A walk over two rising lists of names finds the least that both have.
 use Prim.Native.Nat.{zero}
-use Rattle.std.proofs.Common.{◌≡◌, ℕ, suc, ◌+◌, ◌<◌, ◌≤◌, ◌||◌, false, cond, T, List, [], ◌∷◌, Some, None, length, get_or, drop, refl, sym, ap, subst, ◌∙◌, add-one, arith}
+use Rattle.std.proofs.Common.{◌≡◌, ℕ, suc, ◌+◌, ◌<◌, ◌≤◌, ◌||◌, cond, T, List, [], ◌∷◌, Some, None, length, get_or, drop, refl, sym, ap, subst, ◌∙◌, add-one, arith}
 use Rattle.std.proofs.Math.Seq.{drop-cons}
-use Rattle.std.specs.Ordering.{is_eq, is_lt, ordering_reverse}
+use Rattle.std.specs.Ordering.{is_eq, ordering_reverse}
 use Rattle.std.specs.FinMap.Entries.{below_all}
 use Rattle.std.specs.declared.cmp.Ordering.{Ordering}
 use Rattle.std.specs.declared.cmp.Ordering.TheVariants.{Less, Equal, Greater}
@@ -11,25 +11,14 @@ use Rattle.osm_elements.specs.NameOrder.{name_cmp}
 use Rattle.osm_elements.specs.Maps.{is_among}
 use Rattle.osm_elements.specs.Facts.Entries.{first, second, below_less}
 use Rattle.osm_elements.specs.Facts.Names.{name_cmp_total}
-use Rattle.osm_refs.specs.Inner.Rising.{IsRising, bare_rows}
+use Rattle.osm_refs.specs.Rising.{IsRising}
+use Rattle.rising_lists.specs.Rising.{bare_rows}
+use Rattle.rising_lists.specs.Facts.Sorted.{less}
+use Rattle.edit_footprint.specs.Facts.Names.{not_among_above}
 use Rattle.edit_footprint.specs.Footprints.{meets}
 
 pub turned : (x y : Name) (o : Ordering) → name_cmp x y ≡ o → name_cmp y x ≡ ordering_reverse o
 turned x y o e = name_cmp_total.antisymm y x ∙ ap ordering_reverse e
-
-less : (o : Ordering) → T (is_lt o) → o ≡ Less
-less Less p = refl
-less Equal p = absurd p
-less Greater p = absurd p
-
--- a name below all of a list is not among it
-pub not_among_above : (x : Name) (ys : List Name) → T (below_all name_cmp x (bare_rows ys)) → is_among ys x ≡ false
-not_among_above x [] h = refl
-not_among_above x (y ∷ ys) h = ap (λ o. is_eq o || is_among ys x) (less _ (first _ _ h)) ∙ not_among_above x ys (second _ _ h)
-
--- the first of a rising list is not among the rest
-pub first_not_among_rest : (x : Name) (xs : List Name) → IsRising (x ∷ xs) → is_among xs x ≡ false
-first_not_among_rest x xs h = not_among_above x xs (first _ _ h)
 
 -- a name below a list shares nothing with it
 shares_none : (y : Name) (xs ys : List Name) → T (below_all name_cmp y (bare_rows xs)) → meets xs (y ∷ ys) ≡ meets xs ys

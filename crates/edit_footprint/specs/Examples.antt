@@ -1,36 +1,94 @@
--- What was worked out by hand of footprints.
+-- What was worked out by hand of footprints. The start has the ways w1 of n-1 and n-2, and w2 of n-1, n-3 and n-2, and the relation r1 of n-1, w2, w1 and w2.
 use Rattle.std.specs.Prelude.{◌≡◌, [], ◌∷◌, Some, pos}
 use Rattle.osm_elements.specs.declared.name.Name.{Name}
 use Rattle.osm_elements.specs.declared.name.Kind.TheVariants as kinds
+use Rattle.osm_elements.specs.Maps.{Rows}
 use Rattle.osm_elements.specs.NameTexts.{named}
+use Rattle.osm_elements.specs.Rows.{put_row}
 use Rattle.edit_actions.specs.declared.action.Action.{Action}
-use Rattle.edit_actions.specs.declared.action.Action.TheVariants.{Move, Nodes, Delete, Purge, Split, Unglue}
+use Rattle.edit_actions.specs.declared.action.Action.TheVariants.{Create, Retag, Move, Reverse, Nodes, Members, Delete, Purge, Split, Join, Merge, Unglue}
 use Rattle.edit_actions.specs.After.{after}
-use Rattle.edit_simple.specs.Scenes.{Any, n-1, n-2, n-3, n-7, w1, w2, w3, r1, start}
-use Rattle.edit_topology.specs.Scenes.{beside}
+use Rattle.edit_simple.specs.Scenes.{Any, n-1, n-2, n-3, n-7, n5, w1, w2, w3, r1, r9, node_at, way_of, relation_of, outer, x, start}
+use Rattle.edit_topology.specs.Scenes.{a1, beside, nodes_tagged}
 use Rattle.edit_footprint.specs.Footprints.{footprint, meets}
 
 abbrev pub w9 : Name
 w9 = named kinds.Way (pos 9) tt
 
--- takes n-3 out of w2
-abbrev pub shorter : Action Any
-shorter = Nodes w2 (n-1 ∷ n-2 ∷ [])
+-- of a create: the new name, and what the new row begins to name, each once; a relation that is its own member names itself
+unfoldable pub created : Type 0
+created =
+    (footprint start (Create n5 (node_at 5)) ≡ n5 ∷ [])
+    × (footprint start (Create w3 (way_of (n-2 ∷ n-3 ∷ n-2 ∷ []))) ≡ n-3 ∷ n-2 ∷ w3 ∷ [])
+    × (footprint start (Create r9 (relation_of ((w2, outer) ∷ (r9, []) ∷ (n-3, []) ∷ []))) ≡ n-3 ∷ w2 ∷ r9 ∷ [])
 
--- a node that a way ceases to name is in the footprint, so the delete of the node meets it
-unfoldable pub ceased : Type 0
-ceased =
-    (footprint start shorter ≡ n-3 ∷ w2 ∷ [])
-    × (footprint (after start shorter) (Delete n-3) ≡ n-3 ∷ [])
-    × (meets (footprint start shorter) (footprint (after start shorter) (Delete n-3)) ≡ Some n-3)
+-- of a retag: its element alone, and nothing that this names before and after
+unfoldable pub retagged : Type 0
+retagged =
+    (footprint start (Retag w1 ((x, Some outer) ∷ [])) ≡ w1 ∷ [])
+    × (footprint start (Retag r1 ((x, Some []) ∷ [])) ≡ r1 ∷ [])
 
--- of a split: both parts, the node that the way ceases to name, those that the new way begins to name, and the relation that names both
-unfoldable pub split : Type 0
-split = footprint start (Split w2 1 w9) ≡ n-3 ∷ n-2 ∷ w2 ∷ w9 ∷ r1 ∷ []
+-- of a move: what is listed, also a way, whose row stays, and the nodes that are moved; no way or relation that names them
+unfoldable pub moved : Type 0
+moved =
+    (footprint start (Move (n-3 ∷ []) (pos 10) (pos 0)) ≡ n-3 ∷ [])
+    × (footprint start (Move (w1 ∷ []) (pos 10) (pos 0)) ≡ n-2 ∷ n-1 ∷ w1 ∷ [])
+    × (footprint start (Move (w2 ∷ n-1 ∷ w2 ∷ []) (pos 0) (pos 10)) ≡ n-3 ∷ n-2 ∷ n-1 ∷ w2 ∷ [])
 
--- of a purge: what goes, the way and the relation that lose it, and the other node of the way that goes
+-- of a reverse: the way alone, which names the same nodes after it
+unfoldable pub reversed : Type 0
+reversed = footprint start (Reverse w2) ≡ w2 ∷ []
+
+-- of new nodes: the way, the nodes that it begins to name and those that it ceases to; one in the list that was there before is none, in whatever order
+unfoldable pub nodes_given : Type 0
+nodes_given =
+    (footprint start (Nodes w1 (n-2 ∷ n-3 ∷ [])) ≡ n-3 ∷ n-1 ∷ w1 ∷ [])
+    × (footprint start (Nodes w1 (n-1 ∷ n-3 ∷ n-2 ∷ [])) ≡ n-3 ∷ w1 ∷ [])
+    × (footprint start (Nodes w1 (n-2 ∷ n-1 ∷ n-2 ∷ [])) ≡ w1 ∷ [])
+
+-- of new members: the relation, the members that it begins to name, itself among them, and those that it ceases to; w1 was there before, in another role
+unfoldable pub members_given : Type 0
+members_given =
+    (footprint start (Members r1 ((r1, x) ∷ (n-2, []) ∷ (w1, x) ∷ [])) ≡ n-2 ∷ n-1 ∷ w2 ∷ r1 ∷ [])
+    × (footprint start (Members r1 ((w2, x) ∷ (w1, x) ∷ (n-1, x) ∷ [])) ≡ r1 ∷ [])
+    × (footprint start (Members r1 []) ≡ n-1 ∷ w1 ∷ w2 ∷ r1 ∷ [])
+
+-- of a delete: what goes, and what it ceases to name
+unfoldable pub deleted : Type 0
+deleted =
+    (footprint (put_row start n5 (node_at 5)) (Delete n5) ≡ n5 ∷ [])
+    × (footprint (beside (n-3 ∷ n-1 ∷ n-3 ∷ [])) (Delete w3) ≡ n-3 ∷ n-1 ∷ w3 ∷ [])
+    × (footprint start (Delete r1) ≡ n-1 ∷ w1 ∷ w2 ∷ r1 ∷ [])
+
+-- of a purge: what goes, and what it names; each way and relation that loses it; and with w1, which goes too, its other node. A node that w2 keeps is none
 unfoldable pub purged : Type 0
-purged = footprint start (Purge n-1) ≡ n-2 ∷ n-1 ∷ w1 ∷ w2 ∷ r1 ∷ []
+purged =
+    (footprint start (Purge n-1) ≡ n-2 ∷ n-1 ∷ w1 ∷ w2 ∷ r1 ∷ [])
+    × (footprint start (Purge n-3) ≡ n-3 ∷ w2 ∷ [])
+    × (footprint start (Purge w1) ≡ n-2 ∷ n-1 ∷ w1 ∷ r1 ∷ [])
+
+-- of a split: both parts, the node that the way ceases to name, those that the new way begins to name, and the relation that names both; where none does, none
+unfoldable pub split : Type 0
+split =
+    (footprint start (Split w2 1 w9) ≡ n-3 ∷ n-2 ∷ w2 ∷ w9 ∷ r1 ∷ [])
+    × (footprint (beside (n-1 ∷ n-2 ∷ n-3 ∷ n-1 ∷ [])) (Split w3 2 w9) ≡ n-3 ∷ n-1 ∷ w3 ∷ w9 ∷ [])
+
+-- w3 goes on from w1's end to n-3
+abbrev pub further : Rows Any
+further = beside (n-2 ∷ n-3 ∷ [])
+
+-- of a join: both ways, what the one begins to name, what the other ceases to, and the relation that names the one in the place of the other; r1 names the one as before
+unfoldable pub joined : Type 0
+joined =
+    (footprint further (Join w1 w3) ≡ n-3 ∷ n-2 ∷ w1 ∷ w3 ∷ [])
+    × (footprint (put_row further r9 (relation_of ((w3, x) ∷ (n-1, []) ∷ []))) (Join w1 w3) ≡ n-3 ∷ n-2 ∷ w1 ∷ w3 ∷ r9 ∷ [])
+
+-- of a merge: both nodes, also where the one keeps its row, and each way and relation that named the other
+unfoldable pub merged : Type 0
+merged =
+    (footprint start (Merge n-1 n-3) ≡ n-3 ∷ n-1 ∷ w2 ∷ [])
+    × (footprint start (Merge n-3 n-1) ≡ n-3 ∷ n-1 ∷ w1 ∷ w2 ∷ r1 ∷ [])
+    × (footprint (nodes_tagged [] (a1 ∷ [])) (Merge n-1 n-3) ≡ n-3 ∷ n-1 ∷ w2 ∷ [])
 
 -- moves n-1 a bit to the north
 abbrev pub north : Action Any
@@ -43,3 +101,14 @@ unglued =
     × (let m = beside (n-1 ∷ n-2 ∷ n-1 ∷ []) in
     (footprint m (Unglue w3 2 n-7) ≡ n-7 ∷ n-1 ∷ w3 ∷ [])
     × (meets (footprint m north) (footprint (after m north) (Unglue w3 2 n-7)) ≡ Some n-1))
+
+-- takes n-3 out of w2
+abbrev pub shorter : Action Any
+shorter = Nodes w2 (n-1 ∷ n-2 ∷ [])
+
+-- a node that a way ceases to name is in the footprint, so the delete of the node meets it
+unfoldable pub ceased : Type 0
+ceased =
+    (footprint start shorter ≡ n-3 ∷ w2 ∷ [])
+    × (footprint (after start shorter) (Delete n-3) ≡ n-3 ∷ [])
+    × (meets (footprint start shorter) (footprint (after start shorter) (Delete n-3)) ≡ Some n-3)

@@ -5,13 +5,17 @@ pub mod Becoming
 pub mod Commutation
 pub mod Differences
 pub mod Footprints
+pub mod Holding
 pub mod Joining
 pub mod Leaving
 pub mod Locality
+pub mod Meeting
 pub mod Merging
 pub mod Moving
+pub mod Names
 pub mod Naming
 pub mod NonePassing
+pub mod Numbers
 pub mod OneRow
 pub mod Purging
 pub mod Splitting

@@ -1,3 +1,4 @@
--- How footprints are found and held. No contract that is seen from outside cites these.
-pub mod Lists
+-- How footprints are found, and what is kept of their holders. No contract that is seen from outside cites these.
+pub mod Keeping
+pub mod Searching
 pub mod Touching

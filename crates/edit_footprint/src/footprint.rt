@@ -1,7 +1,7 @@
 //! Footprints: the names that an action touches.
 ghost use Rattle.std.specs.Prelude.{◌≡◌, IfOk};
 ghost use Rattle.osm_elements.specs.Maps.{name_set};
-ghost use Rattle.osm_refs.specs.Inner.Rising.{IsRising};
+ghost use Rattle.osm_refs.specs.Rising.{IsRising};
 ghost use Rattle.edit_footprint.specs.Footprints.{meets};
 
 use osm_elements::Memory;
@@ -21,7 +21,7 @@ pub struct Footprint<A: Allocator> {
 impl<A: Allocator> Model for Footprint<A> {
     ghost use Rattle.std.specs.Prelude.{List};
     ghost use Rattle.osm_elements.specs.declared.name.Name.{Name};
-    ghost use Rattle.osm_refs.specs.Inner.Rising.{IsRising};
+    ghost use Rattle.osm_refs.specs.Rising.{IsRising};
 
     ghost Value = { List Name };
 

@@ -1,35 +1,40 @@
 //! Which standing entries hold a name.
-ghost use Rattle.std.specs.Prelude.{◌≡◌, ◌++◌, [], ◌∷◌, map, IfOk, OnOk, OnErr};
-ghost use Rattle.edit_footprint.specs.Holding.{IsNext, first_after, without};
+ghost use Rattle.std.specs.Prelude.{◌≡◌, [], nat_lt, OnOk, OnErr};
+ghost use Rattle.std.specs.List.{find};
+ghost use Rattle.std.specs.Ordering.{nat_cmp};
+ghost use Rattle.rising_lists.specs.Rising.{IsRising};
+ghost use Rattle.edit_footprint.specs.Holding.{IsNext, HoldsOnly, IsFirstAfter, standing, fallen};
+ghost use Rattle.edit_footprint.specs.Inner.Searching as inner;
 
 use crate::footprint::Footprint;
-use crate::number_lists::NumberLists;
 use osm_elements::Memory;
 use osm_elements::name::Name;
+use rising_lists::lists::RisingLists;
 use std::alloc::Allocator;
-use std::collections::BTreeMap;
 use std::marker::Model;
 
-/// The footprints of the entries that stand, by the entries' numbers, with the numbers that hold each name.
+/// The entries that stand, by the names of their footprints: for each name that any of them has their numbers,
+/// rising. The footprints themselves are kept by whoever lets an entry stand, and are lent when it falls.
 #[derive(Drop)]
 #[derive_where(Debug)]
 pub struct Holders<A: Allocator> {
     #[derive_where(skip)]
     alloc: A,
-    held: BTreeMap<u64, Footprint<A>, A>,
-    lists: NumberLists<A>,
+    lists: RisingLists<Name, u64, A>,
 }
 
-// Holders are seen as the list of the entries' numbers, rising, each with its footprint.
+// Holders are seen as the list of the names that are held, in their order, each with the numbers that hold it. No
+// number is awaited.
 impl<A: Allocator> Model for Holders<A> {
+    ghost use Rattle.rising_lists.specs.Tables.{as_table};
     ghost use Rattle.edit_footprint.specs.Holding.{Held};
-    ghost use Rattle.edit_footprint.specs.Inner.Lists.{AreHolders};
+    ghost use Rattle.edit_footprint.specs.Inner.Keeping.{NoneAwaited};
 
     ghost Value = { Held };
 
-    ghost view = { λ h. h.held.entries };
+    ghost view = { λ h. as_table h.lists.lists.entries };
 
-    ghost invariant = { λ h. AreHolders h.held.entries h.lists.lists.entries };
+    ghost invariant = { λ h. NoneAwaited h.lists.lists.entries };
 }
 
 impl<A: Allocator> Holders<A> {
@@ -41,61 +46,66 @@ impl<A: Allocator> Holders<A> {
     {
         Holders {
             alloc,
-            held: BTreeMap::new(alloc),
-            lists: NumberLists::new(alloc),
+            lists: RisingLists::new(alloc),
         }
     }
 
-    /// Lets an entry stand whose number comes after those of all others, or refuses with `Memory` and leaves all as it was.
-    /// It takes time logarithmic in the number of held names for each name of the footprint.
-    pub fn stand(&mut self, footprint: Footprint<A>, seq: u64) -> Result<(), Memory>
+    /// Lets an entry stand whose number comes after those of all others, or refuses with `Memory` and leaves all as
+    /// it was. It takes time logarithmic in the number of held names for each name of the footprint.
+    pub fn stand(&mut self, footprint: &Footprint<A>, seq: u64) -> Result<(), Memory>
     where
         A: Clone,
         requires { IsNext self.old seq }
-        ensures ok { OnOk result (self.new ≡ self.old ++ (seq, footprint) ∷ []) }
+        ensures ok { OnOk result (self.new ≡ standing self.old footprint.now seq) }
         ensures err { OnErr result (self.new ≡ self.old) }
     {
-        self.lists.make_room_all(&self.alloc, footprint.names())?;
-        if let Err(refused) = self.held.insert(seq, footprint) {
-            let (_, footprint) = refused.value;
-            self.lists.sweep_all(footprint.names());
-            return Err(Memory);
-        }
-        match self.held.get(&seq) {
-            Some(footprint) => self.lists.push_all(footprint.names(), seq),
-            None => unreachable!(),
-        }
+        let names = footprint.names();
+        self.lists.await_all(&self.alloc, names)?;
+        self.lists.add_all(names, seq);
         Ok(())
     }
 
-    /// Lets an entry fall, if it stands. A name that no entry holds any more leaves nothing behind. It takes no memory, and
-    /// for each name of the entry's footprint time logarithmic in the number of held names, and what it takes to move the
-    /// later numbers of that name.
-    pub fn fall(&mut self, seq: u64)
-        ensures { self.new ≡ without self.old seq }
+    /// Lets an entry fall that holds the names of its footprint alone. A name that no other entry holds leaves
+    /// nothing behind. It takes no memory, and for each name of the footprint time logarithmic in the number of held
+    /// names, and what it takes to move the later numbers of that name.
+    pub fn fall(&mut self, footprint: &Footprint<A>, seq: u64)
+        requires { HoldsOnly self.old footprint.now seq }
+        ensures { self.new ≡ fallen self.old seq }
     {
-        match self.held.remove(&seq) {
-            Some(footprint) => self.lists.take_out_all(footprint.names(), seq),
-            None => {}
-        }
+        self.lists.take_out_all(footprint.names(), &seq);
     }
 
-    /// The first entry behind another that shares names with it, and the least of these names, or none where there is no such
-    /// entry, or where the other does not stand. For each name of the other's footprint it takes time logarithmic in the
+    /// The first entry behind a number that holds one of a footprint's names, and the least of these names that it
+    /// holds; or none, where there is no such entry. For each name of the footprint it takes time logarithmic in the
     /// number of held names and in how many entries hold the name.
-    pub fn first_after(&self, seq: u64) -> Option<(u64, Name)>
-        ensures { result ≡ first_after self.now seq }
+    pub fn first_after(&self, footprint: &Footprint<A>, seq: u64) -> Option<(u64, Name)>
+        ensures { IsFirstAfter self.now footprint.now seq result }
     {
-        match self.held.get(&seq) {
-            Some(footprint) => self.lists.soonest(footprint.names(), seq),
-            None => None,
+        let names = footprint.names();
+        let mut first = None;
+        for name in names {
+            first = sooner(first, next(self.lists.of(name), seq), *name);
         }
+        first
     }
+}
 
-    /// The numbers of the entries that stand, rising, or `Memory`. It takes time linear in how many stand.
-    pub fn numbers(&self, alloc: A) -> Result<Vec<u64, A>, Memory>
-        ensures { IfOk result (λ numbers. numbers.items ≡ map (λ h. h.0) self.now) }
-    {
-        self.held.keys().copied().collect(alloc)
+// The least of rising numbers that is above another, in time logarithmic in how many there are.
+fn next(numbers: &[u64], seq: u64) -> Option<u64>
+    requires { IsRising nat_cmp numbers.now }
+    ensures { result ≡ find (nat_lt seq) numbers.now }
+{
+    let after = numbers.partition_point(|number| *number <= seq);
+    numbers.get(after).copied()
+}
+
+// The sooner of a first number with its name and the number of another name.
+fn sooner(first: Option<(u64, Name)>, number: Option<u64>, name: Name) -> Option<(u64, Name)>
+    ensures { result ≡ inner.sooner first number name }
+{
+    match (first, number) {
+        (_, None) => first,
+        (Some((sooner, _)), Some(number)) if sooner <= number => first,
+        (_, Some(number)) => Some((number, name)),
     }
 }

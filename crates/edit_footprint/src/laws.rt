@@ -1,6 +1,10 @@
 //! Laws of footprints, each the contract of a function that does nothing.
-ghost use Rattle.std.specs.Prelude.{◌≡◌, true, None};
-ghost use Rattle.osm_elements.specs.Maps.{Rows};
+ghost use Rattle.std.specs.Prelude.{◌≡◌, true, false, List, Some, None};
+ghost use Rattle.std.specs.Ordering.{is_lt};
+ghost use Rattle.osm_elements.specs.declared.name.Name.{Name};
+ghost use Rattle.osm_elements.specs.NameOrder.{name_cmp};
+ghost use Rattle.osm_elements.specs.Maps.{Rows, is_among};
+ghost use Rattle.osm_refs.specs.Rising.{IsRising};
 ghost use Rattle.osm_changes.specs.Sound.{is_sound};
 ghost use Rattle.edit_actions.specs.declared.action.Action.{Action};
 ghost use Rattle.edit_actions.specs.After.{after};
@@ -8,7 +12,7 @@ ghost use Rattle.edit_actions.specs.MadeActions.{is_made_action};
 ghost use Rattle.edit_actions.specs.Refusals.{refusal};
 ghost use Rattle.edit_footprint.specs.Agreement.{Agree};
 ghost use Rattle.edit_footprint.specs.Commutation.{ChangePlaces};
-ghost use Rattle.edit_footprint.specs.Examples.{ceased, split, purged, unglued};
+ghost use Rattle.edit_footprint.specs.Examples.{created, retagged, moved, reversed, nodes_given, members_given, deleted, purged, split, joined, merged, unglued, ceased};
 ghost use Rattle.edit_footprint.specs.Footprints.{footprint, meets};
 ghost use Rattle.edit_footprint.specs.Locality.{LeavesTheRest, AcceptedAlike};
 
@@ -33,10 +37,30 @@ pub fn commutation<A: Allocator>()
         → meets (footprint m a) (footprint (after m a) b) ≡ None → ChangePlaces m a b }
 {}
 
-/// What the definitions say of the worked examples is what was worked out by hand.
+/// What two footprints share first is the least name that both have, and nothing exactly where no name is in both. So
+/// which of the two is asked does not matter.
+pub fn footprints_meet_in_their_least()
+    ensures shared { (one two : List Name) (x : Name) → meets one two ≡ Some x → (is_among one x ≡ true) × (is_among two x ≡ true) }
+    ensures least { (one two : List Name) (x y : Name) → IsRising one → meets one two ≡ Some x → is_among one y ≡ true → is_among two y ≡ true
+        → is_lt (name_cmp y x) ≡ false }
+    ensures none { (one two : List Name) (x : Name) → meets one two ≡ None → is_among one x ≡ true → is_among two x ≡ true → ⊥ }
+    ensures either_way { (one two : List Name) → IsRising one → IsRising two → meets one two ≡ meets two one }
+{}
+
+/// What the definitions say of the worked examples, one or more of each action and of what two share, is what was worked
+/// out by hand.
 pub fn examples_are_as_worked()
-    ensures ceased { ceased }
-    ensures split { split }
+    ensures created { created }
+    ensures retagged { retagged }
+    ensures moved { moved }
+    ensures reversed { reversed }
+    ensures nodes_given { nodes_given }
+    ensures members_given { members_given }
+    ensures deleted { deleted }
     ensures purged { purged }
+    ensures split { split }
+    ensures joined { joined }
+    ensures merged { merged }
     ensures unglued { unglued }
+    ensures ceased { ceased }
 {}

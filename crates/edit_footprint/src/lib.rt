@@ -4,6 +4,4 @@
 pub mod footprint;
 pub mod holders;
 pub mod laws;
-mod number_list;
-mod number_lists;
 pub mod touching;

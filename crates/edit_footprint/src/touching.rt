@@ -5,23 +5,38 @@ ghost use Rattle.std.specs.Option.{option_copied, option_to_list};
 ghost use Rattle.osm_elements.specs.Maps;
 ghost use Rattle.osm_elements.specs.Maps.{is_same, name_set};
 ghost use Rattle.osm_refs.specs.References.{row_references};
-ghost use Rattle.osm_refs.specs.Inner.Rising.{IsRising};
+ghost use Rattle.osm_refs.specs.Rising.{IsRising};
 ghost use Rattle.osm_changes.specs.Changes.{changed_names};
-ghost use Rattle.edit_simple.specs.Parts.{nodes_of};
+ghost use Rattle.edit_simple.specs.Contents.{nodes_of};
 ghost use Rattle.edit_footprint.specs.Footprints.{subjects, footprint_of, names_but, row_before, unglued_from};
 ghost use Rattle.edit_footprint.specs.Inner.Touching.{begun_or_ceased_once, all_begun_or_ceased};
 
 use crate::footprint::Footprint;
 use edit_actions::action::Action;
-use edit_simple::lookup::is_same;
+use edit_actions::each_action;
 use osm_changes::change::Change;
 use osm_changes::changes::Changes;
 use osm_elements::Memory;
 use osm_elements::element::Element;
 use osm_elements::name::Name;
-use osm_elements::names::Names;
+use osm_elements::names::{Names, is_same};
 use osm_refs::refs::refs_of;
 use std::alloc::Allocator;
+
+// What an action is about, by the list of the actions.
+macro_rules! about {
+    (($action:expr, $alloc:expr) $($variant:ident $word:literal { $($field:ident: $how:ident from $source:ident $(by $name:ident)?),* } by $plan:ident about $way:ident [$($subject:ident),*];)*) => {
+        match $action {
+            $(Action::$variant { $($subject,)* .. } => listed!($way $alloc, $($subject),*),)*
+        }
+    };
+}
+
+// Names as a list of their own.
+macro_rules! listed {
+    (each $alloc:expr, $names:ident) => { Ok(Vec::from_slice($alloc, $names.as_slice())?) };
+    (names $alloc:expr, $($name:ident),*) => { Ok(vec![in $alloc; $(*$name),*]?) };
+}
 
 /// The footprint of an action with its changes, or `Memory`: the names that the action is about, those that it changes,
 /// what their rows begin or cease to name, and the node that it unglues a way from. It takes time `n log n` for changes that
@@ -44,22 +59,7 @@ pub fn footprint<A: Allocator + Clone>(
 fn subjects<A: Allocator>(alloc: A, action: &Action<A>) -> Result<Vec<Name, A>, Memory>
     ensures { IfOk result (λ names. names.items ≡ subjects action.now) }
 {
-    match action {
-        Action::Move { names, .. } => Ok(Vec::from_slice(alloc, names.as_slice())?),
-        Action::Split { name, into, .. } | Action::Unglue { name, into, .. } => {
-            Ok(vec![in alloc; *name, *into]?)
-        }
-        Action::Join { name, other } | Action::Merge { name, other } => {
-            Ok(vec![in alloc; *name, *other]?)
-        }
-        Action::Create { name, .. }
-        | Action::Retag { name, .. }
-        | Action::Reverse { name }
-        | Action::Nodes { name, .. }
-        | Action::Members { name, .. }
-        | Action::Delete { name }
-        | Action::Purge { name } => Ok(vec![in alloc; *name]?),
-    }
+    each_action!(about(action, alloc))
 }
 
 // Puts the names of changes behind other names.

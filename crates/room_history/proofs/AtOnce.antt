@@ -16,7 +16,7 @@ use Rattle.osm_changes.specs.Facts.SoundRows.{sound_in_order}
 use Rattle.edit_actions.specs.declared.action.Action.{Action}
 use Rattle.edit_actions.specs.After.{after, changes}
 use Rattle.edit_actions.specs.Facts.Accepted.{AreInOrder-after}
-use Rattle.edit_footprint.specs.Holding.{first_meeting}
+use Rattle.room_history.specs.Holdings.{first_meeting}
 use Rattle.room_stacks.specs.declared.author.Author.{Author}
 use Rattle.room_stacks.specs.SameAuthors.{is_same_author}
 use Rattle.room_history.specs.declared.call.Call.{Call}
@@ -26,7 +26,7 @@ use Rattle.room_history.specs.declared.entry.EntryKind.{EntryKind}
 use Rattle.room_history.specs.declared.entry.EntryKind.TheVariants.{Do, Undo, Redo}
 use Rattle.room_history.specs.declared.reply.Reply.{Reply}
 use Rattle.room_history.specs.declared.reply.Reply.TheVariants.{Undid}
-use Rattle.room_history.specs.Answers.{spent, conflict, asked, meant, undo_refusal, redo_refusal, kind_refusal, meaning_refusal, answered, answer, answers}
+use Rattle.room_history.specs.Answers.{spent, conflict, asked, meant, undo_refusal, redo_refusal, kind_refusal, meaning_refusal, answer_by, answer, answers}
 use Rattle.room_history.specs.Blockers.{recorded_footprint, blocker}
 use Rattle.room_history.specs.Headline.{IsUndoneAtOnce}
 use Rattle.room_history.specs.Journals.{numbered, is_by, is_work, is_standing, standing, last}
@@ -124,8 +124,8 @@ module _ {A : Type 0} (base : Rows A) (j : List (Entry A)) (order : AreInOrder (
       let size : length k ≡ length j + 1 = length-append j (e ∷ []) in
       let step_is : answer base limit (answers base limit k between).1 c ≡ (Undid (length j + 2) (length j + 1), k ++ u ∷ []) =
       ap (λ l. answer base limit l c) kept ∙ unspent base limit k c fresh room
-      ∙ ap (λ o. answered k c (meaning_refusal (past base k) k c o) o) (asked_for asks)
-      ∙ ap (λ o. answered k c o (Some (Undo (length j + 1)))) (ap (λ w. undo_refusal (past base k) k w (length j + 1)) mine ∙ undo_accepted)
+      ∙ ap (λ o. answer_by k c (meaning_refusal (past base k) k c o) o) (asked_for asks)
+      ∙ ap (λ o. answer_by k c o (Some (Undo (length j + 1)))) (ap (λ w. undo_refusal (past base k) k w (length j + 1)) mine ∙ undo_accepted)
       ∙ ap (λ n. (Undid n (length j + 1), k ++ u ∷ [])) (ap (λ n. n + 1) size ∙ omega arith) in
       let map_is : mapof base (answer base limit (answers base limit k between).1 c).1 ≡ mapof base j = ap (λ (p : Reply A × List (Entry A)). mapof base p.1) step_is ∙ back u refl in (
         ap (λ (p : Reply A × List (Entry A)). p.0) step_is,

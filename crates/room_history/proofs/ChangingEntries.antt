@@ -1,12 +1,12 @@
 -- What an entry of a journal changed are changes from the map before it.
-use Rattle.std.proofs.Common.{◌≡◌, ◌≢◌, ◌⊎◌, ◌++◌, ℕ, true, T, List, [], ◌∷◌, Option, Some, None, inl, inr, refl, sym, ap, subst, ◌∙◌}
+use Rattle.std.proofs.Common.{◌≡◌, ◌≢◌, ◌⊎◌, ◌++◌, ℕ, suc, true, T, List, [], ◌∷◌, All, Option, Some, None, inl, inr, refl, sym, ap, subst, ◌∙◌, arith}
 use Rattle.std.specs.List.{fold}
-use Rattle.std.proofs.lemmas.List.Elements.{All-map}
+use Rattle.std.proofs.lemmas.List.Elements.{All-cons, All-map, All-nil}
 use Rattle.edit_actions.specs.declared.action.Action.{Action}
 use Rattle.edit_actions.specs.After.{after, changes}
 use Rattle.edit_actions.specs.Facts.Accepted.{AreInOrder-after}
 use Rattle.osm_elements.specs.Maps.{Rows}
-use Rattle.osm_elements.specs.Rows.{AreInOrder}
+use Rattle.osm_elements.specs.Rows.{AreInOrder, row_at}
 use Rattle.osm_changes.specs.declared.change.Change.{Change}
 use Rattle.osm_changes.specs.Changes.{taken_back, inverse, changed, changed_names, are_rising, differences, AreChanges, AreFrom}
 use Rattle.osm_changes.specs.Sound.{is_sound}
@@ -20,7 +20,7 @@ use Rattle.room_history.specs.declared.reply.Reply.{Reply}
 use Rattle.room_history.specs.Answers.{redo_refusal, kind_refusal, answer}
 use Rattle.room_history.specs.LegalJournals.{IsJournal, opened, called}
 use Rattle.room_history.specs.Replays.{Past, Recorded, past, past_after, mapof, recorded_of, recorded_next, action_at}
-use Rattle.room_history.proofs.Appending.{recorded-redo}
+use Rattle.room_history.proofs.Appending.{mapof-append, recorded-redo}
 use Rattle.room_history.proofs.Keeping.{journal_led, undone_by}
 use Rattle.room_history.proofs.Leading.{IsLed, led_sound}
 use Rattle.room_history.proofs.Outcomes.{Appended, Left, outcome}
@@ -37,10 +37,19 @@ module _ {A : Type 0} where
     differ = All-map (λ (c : Change A). c.after ≢ c.before) taken_back cs (λ k d l e. h.differ k d l (sym e));
   }
 
-  -- what the next entry records are changes from the map as it is
+  -- each name has the row that its change leads to
+  abbrev pub LeadTo : Rows A → List (Change A) → Type 0
+  LeadTo m cs = All (λ (c : Change A). c.after ≡ row_at m c.name) cs
+
+  lead_back : (m : Rows A) (cs : List (Change A)) → AreFrom m (inverse cs) → LeadTo m cs
+  lead_back m [] h = All-nil (λ (c : Change A). c.after ≡ row_at m c.name)
+  lead_back m (c ∷ cs) h = All-cons (λ (c : Change A). c.after ≡ row_at m c.name) c cs (h 0 c (omega arith)) (lead_back m cs (λ k d l. h (suc k) d (omega (arith, l))))
+
+  -- what the next entry records are changes from the map as it is, and lead to the one after it
   pub record IsChange (p : Past A) (k : EntryKind A) : Type 0 where
     pub changes : AreChanges (recorded_next p k).changes
     pub from : AreFrom p.map (recorded_next p k).changes
+    pub leads : LeadTo (changed p.map (recorded_next p k).changes) (recorded_next p k).changes
 
   -- so it is of each entry in turn
   abbrev AreSteps : Past A → List (Entry A) → Type 0
@@ -60,20 +69,23 @@ module _ {A : Type 0} where
 
   module _ (differ : (m n : Rows A) → AreChanges (differences m n)) (from : (m n : Rows A) → AreFrom m (differences m n))
       (back : (m : Rows A) (cs : List (Change A)) → AreInOrder m → AreChanges cs → AreFrom m cs → AreFrom (changed m cs) (inverse cs)) (base : Rows A) (sound : is_sound base ≡ true) where
+    from_to : (p : Past A) (k : EntryKind A) → AreInOrder p.map → AreChanges (recorded_next p k).changes → AreFrom p.map (recorded_next p k).changes → IsChange p k
+    from_to p k order are from = let cs = (recorded_next p k).changes in record { changes = are; from = from; leads = lead_back (changed p.map cs) cs (back p.map cs order are from) }
+
     -- an action that is done, or done again
-    done : (p : Past A) (k : EntryKind A) (a : Action A) → recorded_next p k ≡ recorded_of p.map a → IsChange p k
-    done p k a is = record {
-      changes = subst (λ (r : Recorded A). AreChanges r.changes) (sym is) (differ p.map (after p.map a));
-      from = subst (λ (r : Recorded A). AreFrom p.map r.changes) (sym is) (from p.map (after p.map a));
-    }
+    done : (p : Past A) (k : EntryKind A) (a : Action A) → AreInOrder p.map → recorded_next p k ≡ recorded_of p.map a → IsChange p k
+    done p k a order is =
+        from_to p k order
+        (subst (λ (r : Recorded A). AreChanges r.changes) (sym is) (differ p.map (after p.map a)))
+        (subst (λ (r : Recorded A). AreFrom p.map r.changes) (sym is) (from p.map (after p.map a)))
 
     -- an entry that is taken back
-    taken : (j : List (Entry A)) (e : Entry A) (s : ℕ) → e.kind ≡ Undo s → Undone base j s e → IsChange (past base j) e.kind
-    taken j e s is u = record {
-      changes = subst (λ cs. AreChanges cs) (sym u.takes_back) (AreChanges-inverse did (differ before (after before u.action)));
-      from = subst (λ cs. AreFrom (mapof base j) cs) (sym u.takes_back)
-          (subst (λ m. AreFrom m (inverse did)) leads (back before did order (differ before (after before u.action)) (from before (after before u.action))));
-    }
+    taken : (j : List (Entry A)) (e : Entry A) (s : ℕ) → AreInOrder (mapof base j) → e.kind ≡ Undo s → Undone base j s e → IsChange (past base j) e.kind
+    taken j e s now is u =
+        from_to (past base j) e.kind now
+        (subst (λ cs. AreChanges cs) (sym u.takes_back) (AreChanges-inverse did (differ before (after before u.action))))
+        (subst (λ cs. AreFrom (mapof base j) cs) (sym u.takes_back)
+        (subst (λ m. AreFrom m (inverse did)) leads (back before did order (differ before (after before u.action)) (from before (after before u.action)))))
       where
         before : Rows A
         before = mapof base (j ++ e ∷ [])
@@ -88,13 +100,15 @@ module _ {A : Type 0} where
         leads = changed-differences before (after before u.action) order (AreInOrder-after before u.action order) ∙ u.before
 
     next : (j : List (Entry A)) (author : Author) (id : ℕ) (k : EntryKind A) → IsLed base j → kind_refusal (past base j) j author k ≡ None → IsChange (past base j) k
-    next j author id (Do a) led passes = done (past base j) (Do a) a refl
-    next j author id (Undo s) led passes = let e : Entry A = record { author = author; id = id; kind = Undo s } in taken j e s refl (undone_by base sound j led e s refl passes)
+    next j author id (Do a) led passes = done (past base j) (Do a) a (sound_in_order (mapof base j) (led_sound base j sound led)) refl
+    next j author id (Undo s) led passes =
+        let e : Entry A = record { author = author; id = id; kind = Undo s } in
+        taken j e s (sound_in_order (mapof base j) (led_sound base j sound led)) refl (undone_by base sound j led e s refl passes)
     next j author id (Redo t) led passes = by (action_at (past base j) t) refl passes
       where
         by : (o : Option (Action A)) → action_at (past base j) t ≡ o → redo_refusal (mapof base j) o ≡ None → IsChange (past base j) (Redo t)
         by None e r = absurd (cc)
-        by (Some a) e r = done (past base j) (Redo t) a (recorded-redo base j t a e)
+        by (Some a) e r = done (past base j) (Redo t) a (sound_in_order (mapof base j) (led_sound base j sound led)) (recorded-redo base j t a e)
 
     journal_steps : (limit : ℕ) (j : List (Entry A)) → IsJournal base limit j → AreSteps (record { map = base; entries = [] }) j
     journal_steps limit j opened = tt
@@ -110,3 +124,7 @@ module _ {A : Type 0} where
 
     pub entry_changes : (limit : ℕ) (i k : List (Entry A)) (e : Entry A) → IsJournal base limit (i ++ e ∷ k) → IsChange (past base i) e.kind
     entry_changes limit i k e h = step_at (record { map = base; entries = [] }) i k e (journal_steps limit (i ++ e ∷ k) h)
+
+    -- each changed name has the row in the map after an entry that its change leads to
+    pub entry_leads : (limit : ℕ) (i k : List (Entry A)) (e : Entry A) → IsJournal base limit (i ++ e ∷ k) → LeadTo (mapof base (i ++ e ∷ [])) (recorded_next (past base i) e.kind).changes
+    entry_leads limit i k e h = let cs = (recorded_next (past base i) e.kind).changes in subst (λ m. LeadTo m cs) (sym (mapof-append base i e)) (entry_changes limit i k e h).leads

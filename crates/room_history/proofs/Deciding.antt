@@ -17,7 +17,7 @@ use Rattle.osm_elements.specs.NameOrder.{name_cmp}
 use Rattle.osm_elements.specs.Maps.{Rows}
 use Rattle.edit_simple.specs.Checks.{first_that_holds}
 use Rattle.room_history.specs.Journals.{numbered, is_by, is_standing, standing}
-use Rattle.room_history.specs.Answers.{spent, conflict, asked, meant, undo_refusal, meaning_refusal, answered, answer}
+use Rattle.room_history.specs.Answers.{spent, conflict, asked, meant, undo_refusal, meaning_refusal, answer_by, answer}
 use Rattle.room_history.specs.Blockers.{blocker}
 use Rattle.room_history.specs.Replays.{Past, past}
 use Rattle.room_history.specs.Headline.{Share, Blocks, IsUndoneExactlyWhere, IsUndoOfLast}
@@ -33,13 +33,13 @@ only (Some x) = refl
 module _ {A : Type 0} where
   -- a call whose id is unspent, in a journal that is not full
   pub unspent : (base : Rows A) (limit : ℕ) (j : List (Entry A)) (c : Call A) → spent j c.author c.id ≡ None → nat_le limit (length j) ≡ false
-      → answer base limit j c ≡ answered j c (meaning_refusal (past base j) j c (meant j c.author c.request)) (meant j c.author c.request)
+      → answer base limit j c ≡ answer_by j c (meaning_refusal (past base j) j c (meant j c.author c.request)) (meant j c.author c.request)
   unspent base limit j c fresh not_full =
       let k = meant j c.author c.request in
       let why = meaning_refusal (past base j) j c k in
-      ap (λ o. answered j c (first_that_holds (option_map Repeat o ∷ then_some (nat_le limit (length j)) Full ∷ why ∷ [])) k) fresh
-      ∙ ap (λ b. answered j c (first_that_holds (then_some b Full ∷ why ∷ [])) k) not_full
-      ∙ ap (λ o. answered j c o k) (only why)
+      ap (λ o. answer_by j c (first_that_holds (option_map Repeat o ∷ then_some (nat_le limit (length j)) Full ∷ why ∷ [])) k) fresh
+      ∙ ap (λ b. answer_by j c (first_that_holds (then_some b Full ∷ why ∷ [])) k) not_full
+      ∙ ap (λ o. answer_by j c o k) (only why)
 
   there : (author : Author) (o : Option (Entry A)) → is_by author o ≡ true → is_none o ≡ false
   there author None h = absurd (cc)
@@ -72,10 +72,10 @@ module _ {A : Type 0} where
       reply : Reply A
       reply = (answer base limit j c).0
 
-      says : (o : Option (ℕ × Name)) → blocker p j s ≡ o → reply ≡ (answered j c (option_map conflict o) (Some (Undo s))).0
+      says : (o : Option (ℕ × Name)) → blocker p j s ≡ o → reply ≡ (answer_by j c (option_map conflict o) (Some (Undo s))).0
       says o e =
-          ap (λ (q : Reply A × List (Entry A)). q.0) (unspent base limit j c fresh room ∙ ap (λ o. answered j c o (Some (Undo s))) (own_refusal p j author s own stands))
-          ∙ ap (λ o. (answered j c (option_map conflict o) (Some (Undo s))).0) e
+          ap (λ (q : Reply A × List (Entry A)). q.0) (unspent base limit j c fresh room ∙ ap (λ o. answer_by j c o (Some (Undo s))) (own_refusal p j author s own stands))
+          ∙ ap (λ o. (answer_by j c (option_map conflict o) (Some (Undo s))).0) e
 
       not_both : (r : Reply A) (seq b : ℕ) (x : Name) → r ≡ Undid seq s → r ≡ Conflict b x → ⊥
       not_both r seq b x e f = absurd (cc (sym e ∙ f))
@@ -98,7 +98,7 @@ module _ {A : Type 0} where
           )
 
   pub is_undo_of_last : (base : Rows A) (limit : ℕ) (j : List (Entry A)) → IsUndoOfLast base limit j
-  is_undo_of_last base limit j author id s own stands low = ap (λ o. answered j whole (refused (option_map Undo o)) (option_map Undo o)) is_last ∙ by (refused (Some (Undo s)))
+  is_undo_of_last base limit j author id s own stands low = ap (λ o. answer_by j whole (refused (option_map Undo o)) (option_map Undo o)) is_last ∙ by (refused (Some (Undo s)))
     where
       whole : Call A
       whole = record { author = author; id = id; request = requests.Undo None }
@@ -109,7 +109,7 @@ module _ {A : Type 0} where
       refused : Option (EntryKind A) → Option (Reply A)
       refused k = first_that_holds (option_map Repeat (spent j author id) ∷ then_some (nat_le limit (length j)) Full ∷ meaning_refusal (past base j) j whole k ∷ [])
 
-      by : (o : Option (Reply A)) → answered j whole o (Some (Undo s)) ≡ answered j one o (Some (Undo s))
+      by : (o : Option (Reply A)) → answer_by j whole o (Some (Undo s)) ≡ answer_by j one o (Some (Undo s))
       by None = refl
       by (Some r) = refl
 

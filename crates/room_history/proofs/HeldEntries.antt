@@ -2,58 +2,30 @@
 use Rattle.std.proofs.Common.{◌≡◌, ◌+◌, ◌<◌, ◌≤◌, ◌++◌, ◌||◌, ℕ, suc, Bool, true, false, not, List, [], ◌∷◌, Option, Some, None, All, length, map, nat_eq, nat_lt, unwrap_or, refl, sym, ap, ◌∙◌, cond, arith}
 use Rattle.std.specs.List.{filter}
 use Rattle.std.specs.Option.{option_map, option_or}
-use Rattle.std.specs.Ordering.{is_eq, nat_cmp}
+use Rattle.std.specs.Ordering.{nat_cmp}
 use Rattle.std.specs.FinMap.Entries.{find}
-use Rattle.std.specs.declared.cmp.Ordering.TheVariants.{Less, Equal, Greater}
-use Rattle.std.proofs.lemmas.Bool.Decides.{nat_tests}
 use Rattle.std.proofs.lemmas.List.{map-append}
 use Rattle.std.proofs.lemmas.List.Elements.{All-cons}
 use Rattle.osm_elements.specs.declared.name.Name.{Name}
 use Rattle.osm_elements.specs.Maps.{Rows}
 use Rattle.edit_actions.specs.declared.action.Action.{Action}
+use Rattle.edit_footprint.specs.Facts.Numbers.{tied}
 use Rattle.edit_footprint.specs.Footprints.{footprint, meets}
-use Rattle.edit_footprint.specs.Holding.{Held, behind, first_meeting, without, IsNext}
+use Rattle.room_history.specs.Holdings.{Holdings, behind, first_meeting, without}
 use Rattle.room_history.specs.declared.entry.Entry.{Entry}
-use Rattle.room_history.specs.declared.entry.EntryKind.TheVariants.{Do, Undo, Redo}
+use Rattle.room_history.specs.declared.entry.EntryKind.TheVariants.{Undo}
 use Rattle.room_history.specs.Blockers.{footprint_of_recorded, recorded_footprint, held, blocker}
 use Rattle.room_history.specs.Journals.{is_work, standing, is_standing}
-use Rattle.room_history.specs.Replays.{Past, past, mapof, recorded_of, recorded_next, action_at}
-use Rattle.room_history.proofs.Appending.{past-append, recorded_each, recorded-last, recorded-redo, standing-work, standing-undo}
+use Rattle.room_history.specs.Replays.{Past, past, mapof, recorded_of, recorded_next}
+use Rattle.room_history.proofs.Appending.{past-append, recorded_each, recorded-last, standing-work, standing-undo}
 use Rattle.room_history.proofs.Chains.{Work, touched, IsApart}
 use Rattle.room_history.proofs.Growing.{numbered_within, Rise, Rise-standing_from, equal_numbers}
 use Rattle.room_history.proofs.RisingNumbers.{is_in, below_end}
 use Rattle.room_history.proofs.Works.{IsRecorded, AreRecorded}
 
-tied : (a b : ℕ) → is_eq (nat_cmp a b) ≡ nat_eq b a
-tied a b = by (nat_lt a b) refl (nat_eq a b) refl
-  where
-    turned : nat_eq a b ≡ nat_eq b a
-    turned = grind (arith, nat_tests)
-
-    apart : nat_lt a b ≡ true → false ≡ nat_eq b a
-    apart e = grind (arith, nat_tests)
-
-    by : (t : Bool) → nat_lt a b ≡ t → (u : Bool) → nat_eq a b ≡ u → is_eq (cond t Less (cond u Equal Greater)) ≡ nat_eq b a
-    by true e u f = apart e
-    by false e true f = sym f ∙ turned
-    by false e false f = sym f ∙ turned
-
--- an entry that came last and falls again leaves all as it was
-pub fallen_again : (h : Held) (seq : ℕ) (names : List Name) → IsNext h seq → without (h ++ (seq, names) ∷ []) seq ≡ h
-fallen_again [] seq names next = ap (λ b. cond (not b) ((seq, names) ∷ []) []) itself
-  where
-    itself : nat_eq seq seq ≡ true
-    itself = grind (arith, nat_tests)
-fallen_again (e ∷ es) seq names next =
-    ap (λ b. cond (not b) (e ∷ without (es ++ (seq, names) ∷ []) seq) (without (es ++ (seq, names) ∷ []) seq)) (apart (next 0 e (omega arith)))
-    ∙ ap (λ l. e ∷ l) (fallen_again es seq names (λ k d within. next (suc k) d (omega arith)))
-  where
-    apart : e.0 < seq → nat_eq e.0 seq ≡ false
-    apart below = grind (arith, nat_tests)
-
 module _ (f : ℕ → List Name) where
   -- numbers, each with its footprint
-  abbrev pub with_names : List ℕ → Held
+  abbrev pub with_names : List ℕ → Holdings
   with_names ss = map (λ s. (s, f s)) ss
 
   found_there : (s : ℕ) (ss : List ℕ) → is_in s ss ≡ true → find nat_cmp s (with_names ss) ≡ Some (f s)
@@ -118,7 +90,7 @@ module _ {A : Type 0} where
 
 module _ {A : Type 0} (base : Rows A) (j : List (Entry A)) where
   -- what is recorded of earlier entries stays
-  earlier_stay : (e : Entry A) (t : ℕ) → t < 1 + length j → recorded_footprint (past base (j ++ e ∷ [])) t ≡ recorded_footprint (past base j) t
+  pub earlier_stay : (e : Entry A) (t : ℕ) → t < 1 + length j → recorded_footprint (past base (j ++ e ∷ [])) t ≡ recorded_footprint (past base j) t
   earlier_stay e t low =
       ap (λ (p : Past A). recorded_footprint p t) (past-append base j e)
       ∙ ap footprint_of_recorded (numbered_within (past base j).entries (recorded_next (past base j) e.kind) t (let same = recorded_each base j in omega (arith, low, same)))
@@ -127,7 +99,7 @@ module _ {A : Type 0} (base : Rows A) (j : List (Entry A)) where
   same_held e = same_below (recorded_footprint (past base j)) (recorded_footprint (past base (j ++ e ∷ []))) (1 + length j) 1 (standing j) (1 + length j) (Rise-standing_from 1 j) (omega arith) (earlier_stay e)
 
   -- the next entry's number comes after all
-  pub is_next : IsNext (held (past base j) j) (length j + 1)
+  pub is_next : All (λ h. h.0 < length j + 1) (held (past base j) j)
   is_next = all_below (recorded_footprint (past base j)) (length j + 1) 1 (standing j) (1 + length j) (Rise-standing_from 1 j) (omega arith)
 
   -- an entry that does an action stands with the footprint that the action has on the map
@@ -146,13 +118,6 @@ module _ {A : Type 0} (base : Rows A) (j : List (Entry A)) where
 
       number : 1 + length j ≡ length j + 1
       number = omega arith
-
-  pub held-do : (e : Entry A) (a : Action A) → e.kind ≡ Do a → held (past base (j ++ e ∷ [])) (j ++ e ∷ []) ≡ held (past base j) j ++ (length j + 1, footprint (mapof base j) a) ∷ []
-  held-do e a k = held-work e a (ap is_work k) (ap (recorded_next (past base j)) k)
-
-  pub held-redo : (e : Entry A) (t : ℕ) (a : Action A) → e.kind ≡ Redo t → action_at (past base j) t ≡ Some a
-      → held (past base (j ++ e ∷ [])) (j ++ e ∷ []) ≡ held (past base j) j ++ (length j + 1, footprint (mapof base j) a) ∷ []
-  held-redo e t a k acts = held-work e a (ap is_work k) (ap (recorded_next (past base j)) k ∙ recorded-redo base j t a acts)
 
   -- what an undo takes back falls
   pub held-undo : (e : Entry A) (s : ℕ) → e.kind ≡ Undo s → held (past base (j ++ e ∷ [])) (j ++ e ∷ []) ≡ without (held (past base j) j) s

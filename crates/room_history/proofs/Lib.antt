@@ -2,6 +2,7 @@ pub mod Appending
 pub mod Asking
 pub mod AtOnce
 pub mod Basing
+pub mod Beginnings
 pub mod BinarySearching
 pub mod Blocking
 pub mod Chains
@@ -10,13 +11,17 @@ pub mod Crossing
 pub mod Deciding
 pub mod Deeds
 pub mod ExampleProofs
+pub mod FirstMeeting
 pub mod Growing
 pub mod HeldEntries
+pub mod Holders
 pub mod Holding
 pub mod InTurn
 pub mod Keeping
+pub mod KeptFootprints
 pub mod LastItems
 pub mod Leading
+pub mod NewsTold
 pub mod Origins
 pub mod Outcomes
 pub mod Redoable

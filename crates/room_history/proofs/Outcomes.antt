@@ -17,7 +17,7 @@ use Rattle.room_history.specs.declared.entry.EntryKind.{EntryKind}
 use Rattle.room_history.specs.declared.entry.EntryKind.TheVariants.{Do, Undo, Redo}
 use Rattle.room_history.specs.declared.reply.Reply.{Reply}
 use Rattle.room_history.specs.declared.reply.Reply.TheVariants.{Done, Undid, Redid, Repeat, Full, NoSuch, NotYours, NotStanding, Refused}
-use Rattle.room_history.specs.Answers.{spent, conflict, meant, nothing_meant, undo_refusal, redo_refusal, kind_refusal, meaning_refusal, accepted, with_entry, answered, answer}
+use Rattle.room_history.specs.Answers.{spent, conflict, meant, nothing_meant, undo_refusal, redo_refusal, kind_refusal, meaning_refusal, accepted, with_entry, answer_by, answer}
 use Rattle.room_history.specs.Blockers.{blocker}
 use Rattle.room_history.specs.Journals.{numbered, is_by, is_standing}
 use Rattle.room_history.specs.Replays.{Past, past, action_at}
@@ -86,11 +86,11 @@ module _ {A : Type 0} where
   pub outcome : (base : Rows A) (limit : ℕ) (j : List (Entry A)) (c : Call A) → Outcome base j c (answer base limit j c)
   outcome base limit j c = by (spent j c.author c.id) (nat_le limit (length j)) (meant j c.author c.request) refl
     where
-      of_kind : (k : EntryKind A) → meant j c.author c.request ≡ Some k → (o : Option (Reply A)) → kind_refusal (past base j) j c.author k ≡ o → Refuses o → Outcome base j c (answered j c (first_that_holds (o ∷ [])) (Some k))
+      of_kind : (k : EntryKind A) → meant j c.author c.request ≡ Some k → (o : Option (Reply A)) → kind_refusal (past base j) j c.author k ≡ o → Refuses o → Outcome base j c (answer_by j c (first_that_holds (o ∷ [])) (Some k))
       of_kind k means None passes refuses = inl (record { kind = k; means = means; passes = passes; is = refl })
       of_kind k means (Some r) passes refuses = inr (record { refused = refuses; same = refl })
 
-      by : (o : Option ℕ) (full : Bool) (k : Option (EntryKind A)) → meant j c.author c.request ≡ k → Outcome base j c (answered j c (first_that_holds (option_map Repeat o ∷ then_some full Full ∷ meaning_refusal (past base j) j c k ∷ [])) k)
+      by : (o : Option ℕ) (full : Bool) (k : Option (EntryKind A)) → meant j c.author c.request ≡ k → Outcome base j c (answer_by j c (first_that_holds (option_map Repeat o ∷ then_some full Full ∷ meaning_refusal (past base j) j c k ∷ [])) k)
       by (Some n) full k means = inr (record { refused = refl; same = refl })
       by None true k means = inr (record { refused = refl; same = refl })
       by None false None means = inr (record { refused = nothing_refused c.request; same = refl })

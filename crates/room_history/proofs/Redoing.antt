@@ -17,7 +17,7 @@ use Rattle.room_history.specs.declared.entry.Entry.{Entry}
 use Rattle.room_history.specs.declared.entry.EntryKind.TheVariants.{Undo, Redo}
 use Rattle.room_history.specs.declared.reply.Reply.{Reply}
 use Rattle.room_history.specs.declared.reply.Reply.TheVariants.{Undid, Redid, Refused}
-use Rattle.room_history.specs.Answers.{spent, meant, redo_refusal, kind_refusal, meaning_refusal, with_entry, answered, answer, answers}
+use Rattle.room_history.specs.Answers.{spent, meant, redo_refusal, kind_refusal, meaning_refusal, with_entry, answer_by, answer, answers}
 use Rattle.room_history.specs.Headline.{IsRedoneAtOnce}
 use Rattle.room_history.specs.Journals.{standing, others, last, redos, redos_after}
 use Rattle.room_history.specs.Replays.{past, mapof, action_at}
@@ -37,8 +37,8 @@ module _ {A : Type 0} (base : Rows A) (limit : ℕ) where
   pub redo_answered : (j : List (Entry A)) (c : Call A) (t : ℕ) (a : Action A) → spent j c.author c.id ≡ None → nat_le limit (length j) ≡ false → c.request ≡ requests.Redo → last (redos j c.author) ≡ Some t
       → action_at (past base j) t ≡ Some a → refusal (mapof base j) a ≡ None → answer base limit j c ≡ (Redid (length j + 1) t, with_entry j c.author c.id (Redo t))
   redo_answered j c t a fresh room asks top acts ok =
-      unspent base limit j c fresh room ∙ ap (λ o. answered j c (meaning_refusal (past base j) j c o) o) (ap (meant j c.author) asks ∙ ap (option_map Redo) top)
-      ∙ ap (λ o. answered j c o (Some (Redo t))) (ap (redo_refusal (mapof base j)) acts ∙ ap (option_map Refused) ok)
+      unspent base limit j c fresh room ∙ ap (λ o. answer_by j c (meaning_refusal (past base j) j c o) o) (ap (meant j c.author) asks ∙ ap (option_map Redo) top)
+      ∙ ap (λ o. answer_by j c o (Some (Redo t))) (ap (redo_refusal (mapof base j)) acts ∙ ap (option_map Refused) ok)
 
   -- the map of another journal, and what each author can redo after it
   pub record IsBack (j k : List (Entry A)) : Type 0 where

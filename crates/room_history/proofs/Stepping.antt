@@ -1,6 +1,7 @@
 -- One step of a room.
-use Rattle.std.proofs.Common.{◌≡◌, Result, OnOk, OnErr, IfOk, IfErr, ◌<◌, ◌≤◌, ◌+◌, ◌++◌, ◌∷◌, ℕ, true, false, List, [], Option, Some, None, Ok, Err, length, refl, sym, ap, subst, ◌∙◌, arith, ◌⊎◌, inl, inr, zero, suc, map, nat_le, unwrap_or}
+use Rattle.std.proofs.Common.{◌≡◌, Result, OnOk, OnErr, IfOk, IfErr, ◌<◌, ◌≤◌, ◌+◌, ◌++◌, ◌∷◌, ℕ, true, false, List, [], Option, Some, None, Ok, Err, length, refl, sym, ap, subst, ◌∙◌, arith, ◌-◌, length-append, ◌⊎◌, inl, inr, zero, suc, map, nat_le}
 use Rattle.std.specs.Bool.{then_some}
+use Rattle.std.specs.Prelude.{slice_set}
 use Rattle.std.specs.Option.{option_map, option_and_then}
 use Rattle.std.proofs.lemmas.Bool.Decides.{nat_tests}
 use Rattle.std.proofs.lemmas.List.{map-append, length-map}
@@ -14,28 +15,29 @@ use Rattle.room_history.specs.declared.entry.EntryKind.{EntryKind}
 use Rattle.room_history.specs.declared.entry.EntryKind.TheVariants.{Do, Undo, Redo}
 use Rattle.edit_simple.specs.declared.refusal.Refusal.{Refusal}
 use Rattle.room_history.specs.declared.reply.Reply.{Reply}
-use Rattle.room_history.specs.declared.reply.Reply.TheVariants.{Done, Undid, Redid, Repeat, Full, NothingToRedo, Refused, Memory}
+use Rattle.room_history.specs.declared.reply.Reply.TheVariants.{Undid, Repeat, Full, NothingToRedo, Refused, Memory}
 use Rattle.osm_elements.specs.declared.name.Name.{Name}
 use Rattle.osm_elements.specs.Maps.{Rows}
+use Rattle.osm_refs.specs.Rising.{IsRising}
 use Rattle.osm_changes.specs.Sound.{is_sound}
 use Rattle.edit_actions.specs.After.{after, changes}
 use Rattle.edit_actions.specs.Refusals.{checks, refusal}
 use Rattle.edit_simple.specs.Checks.{first_that_holds}
-use Rattle.room_history.specs.Journals.{numbered, last, redos}
-use Rattle.room_history.specs.Replays.{Past, Recorded, past, mapof, action_at, recorded_next, done_again, taken_back}
-use Rattle.room_history.specs.Answers.{spent, asked, meant, undo_refusal, redo_refusal, meaning_refusal, with_entry, answered, answer}
-use Rattle.edit_actions.specs.MadeActions.{is_made_action}
-use Rattle.room_history.specs.LegalJournals.{IsJournal, opened, called}
+use Rattle.room_history.specs.Journals.{is_work, numbered, last, redos}
+use Rattle.room_history.specs.Replays.{Past, Recorded, past, mapof, action_at, recorded_of, recorded_next, done_again, taken_back}
+use Rattle.room_history.specs.Answers.{spent, asked, meant, undo_refusal, redo_refusal, kind_refusal, meaning_refusal, accepted, with_entry, answer_by, answer}
+use Rattle.room_history.specs.LegalJournals.{IsJournal, is_made_request, opened, called}
 use Rattle.room_history.specs.Runs.{IsStep}
 use Rattle.room_history.specs.Applied.{applied}
-use Rattle.room_history.specs.Inner.Deeds.{deed_by, deeds}
+use Rattle.room_history.specs.Inner.Holders.{AreHolders}
+use Rattle.room_history.specs.Inner.Deeds.{deed_by, deeds, MayNote}
 use Rattle.room_history.specs.Inner.Origins.{done_by, origin_next, origins}
 use Rattle.room_history.proofs.Origins.{origins-append, origins_each, action_by_origin}
 use Rattle.room_history.proofs.Deeds as journals
 use Rattle.room_history.proofs.Deeds.{deeds-append, spent_deeds, stands_among, redo_deeds}
 use Rattle.room_stacks.specs.Stacks as stacks
 use Rattle.room_stacks.specs.declared.deed.Deed.{Deed}
-use Rattle.room_stacks.specs.declared.deed.Deed.TheVariants.{Did, Undid, Redid}
+use Rattle.room_stacks.specs.declared.deed.Deed.TheVariants.{Undid}
 use Rattle.osm_elements.specs.Rows.{AreInOrder}
 use Rattle.osm_changes.specs.declared.change.Change.{Change}
 use Rattle.osm_changes.specs.Changes.{changed, differences, inverse, AreChanges, AreFrom}
@@ -44,8 +46,8 @@ use Rattle.edit_simple.specs.declared.refusal.Refusal.TheVariants as refusals
 use Rattle.edit_simple.specs.Plans.{IsPlan}
 use Rattle.room_history.specs.Inner.Refusing.{refusal_reply}
 use Rattle.room_history.specs.Inner.Undoing.{undone_or, asked_or}
-use Rattle.room_history.specs.Inner.Rooms.{IsRoom, MayAppend}
-use Rattle.room_history.specs.News.{recorded_changes}
+use Rattle.room_history.specs.Inner.Rooms.{IsRoom, MayAppend, MayWork}
+use Rattle.room_history.specs.Inner.Telling.{recorded_changes}
 use Rattle.room_history.proofs.BinarySearching.{last_is}
 use Rattle.room_history.proofs.Deciding.{unspent}
 use Rattle.room_history.proofs.Keeping.{journal_led}
@@ -53,10 +55,12 @@ use Rattle.osm_changes.specs.Facts.Changing.{changed-differences}
 use Rattle.osm_changes.specs.Facts.SoundRows.{sound_in_order}
 use Rattle.edit_actions.specs.Facts.Accepted.{AreInOrder-after}
 use Rattle.edit_footprint.specs.Footprints.{footprint_of}
-use Rattle.edit_footprint.specs.Holding.{Held, IsNext, without}
-use Rattle.room_history.specs.Blockers.{held}
-use Rattle.room_history.proofs.Appending.{past-append, mapof-append, applied-append, recorded-redo}
-use Rattle.room_history.proofs.HeldEntries.{is_next, held-do, held-redo, held-undo}
+use Rattle.edit_footprint.specs.Facts.Footprints.{IsRising-footprint_of}
+use Rattle.edit_footprint.specs.Holding.{Held, AreHeld, IsNext, HoldsOnly, standing as stands, fallen}
+use Rattle.room_history.specs.Blockers.{recorded_footprint}
+use Rattle.room_history.proofs.Appending.{past-append, mapof-append, applied-append, recorded-redo, recorded_each}
+use Rattle.room_history.proofs.Growing.{numbered_within}
+use Rattle.room_history.proofs.KeptFootprints.{AreHolders-opened, AreHolders-work, AreHolders-undo, kept_of_standing, holders_held, holds_own, holders_next}
 use Rattle.room_history.proofs.Leading.{IsLed, led_sound}
 use Rattle.room_history.proofs.TakingBack.{Undone, undone}
 use Rattle.room_history.proofs.Undoing.{Found, found}
@@ -132,14 +136,14 @@ module _ {A : Type 0} where
       let k = meant j c.author c.request in
       let why = meaning_refusal (past base j) j c k in
       let is_full : nat_le limit (length j) ≡ true = grind (arith, nat_tests) in
-      inl (sym (ap (λ o. answered j c (first_that_holds (option_map Repeat o ∷ then_some (nat_le limit (length j)) Full ∷ why ∷ [])) k) fresh
-      ∙ ap (λ b. answered j c (first_that_holds (then_some b Full ∷ why ∷ [])) k) is_full))
+      inl (sym (ap (λ o. answer_by j c (first_that_holds (option_map Repeat o ∷ then_some (nat_le limit (length j)) Full ∷ why ∷ [])) k) fresh
+      ∙ ap (λ b. answer_by j c (first_that_holds (then_some b Full ∷ why ∷ [])) k) is_full))
 
   pub step_repeat : (base : Rows A) (limit : ℕ) (j : List (Entry A)) (c : Call A) (seq : ℕ) → spent j c.author c.id ≡ Some seq → IsStep base limit j c (Repeat seq) j
   step_repeat base limit j c seq is =
       let k = meant j c.author c.request in
       let why = meaning_refusal (past base j) j c k in
-      inl (sym (ap (λ o. answered j c (first_that_holds (option_map Repeat o ∷ then_some (nat_le limit (length j)) Full ∷ why ∷ [])) k) is))
+      inl (sym (ap (λ o. answer_by j c (first_that_holds (option_map Repeat o ∷ then_some (nat_le limit (length j)) Full ∷ why ∷ [])) k) is))
 
   -- a call is known by its parts
   pub same_call : (base : Rows A) (limit : ℕ) (j k : List (Entry A)) (c : Call A) (r : Request A) (reply : Reply A) → c.request ≡ r → IsStep base limit j (record { author = c.author; id = c.id; request = r }) reply k → IsStep base limit j c reply k
@@ -147,50 +151,35 @@ module _ {A : Type 0} where
 
   module _ (base : Rows A) (limit : ℕ) (j : List (Entry A)) (author : Author) (id : ℕ) (may : MayAppend limit j author id) where
     -- the answer to a call whose id is unspent, in a journal that is not full
-    answer_is : (r : Request A) → answer base limit j (record { author = author; id = id; request = r }) ≡ answered j (record { author = author; id = id; request = r }) (meaning_refusal (past base j) j (record { author = author; id = id; request = r }) (meant j author r)) (meant j author r)
+    answer_is : (r : Request A) → answer base limit j (record { author = author; id = id; request = r }) ≡ answer_by j (record { author = author; id = id; request = r }) (meaning_refusal (past base j) j (record { author = author; id = id; request = r }) (meant j author r)) (meant j author r)
     answer_is r = unspent base limit j (record { author = author; id = id; request = r }) may.0 (below limit (length j) may.1)
 
-    done_is : (a : Action A) → refusal (mapof base j) a ≡ None → answer base limit j (record { author = author; id = id; request = requests.Do a }) ≡ (Done (length j + 1), with_entry j author id (Do a))
-    done_is a e = answer_is (requests.Do a) ∙ ap (λ o. answered j (record { author = author; id = id; request = requests.Do a }) (option_map Refused o) (Some (Do a))) e
+    -- a request that means an entry
+    module _ (r : Request A) (k : EntryKind A) (means : meant j author r ≡ Some k) where
+      abbrev call : Call A
+      call = record { author = author; id = id; request = r }
 
-    pub step_not_done : (a : Action A) (reply : Reply A) → (reply ≡ Memory) ⊎ (option_map Refused (refusal (mapof base j) a) ≡ Some reply) → IsStep base limit j (record { author = author; id = id; request = requests.Do a }) reply j
-    step_not_done a reply (inl is) = inr (is, refl)
-    step_not_done a reply (inr is) = inl (sym (answer_is (requests.Do a) ∙ ap (λ o. answered j (record { author = author; id = id; request = requests.Do a }) o (Some (Do a))) is))
+      -- is answered by what refuses that, if anything does
+      meaning_is : answer base limit j call ≡ answer_by j call (kind_refusal (past base j) j author k) (Some k)
+      meaning_is = answer_is r ∙ ap (λ o. answer_by j call (meaning_refusal (past base j) j call o) o) means
 
-    pub step_done : (a : Action A) (seq : ℕ) → refusal (mapof base j) a ≡ None → seq ≡ length j + 1 → IsStep base limit j (record { author = author; id = id; request = requests.Do a }) (Done seq) (with_entry j author id (Do a))
-    step_done a seq e is = inl (ap (λ n. (Done n, with_entry j author id (Do a))) is ∙ sym (done_is a e))
+      pub step_refused : (reply : Reply A) → (reply ≡ Memory) ⊎ (kind_refusal (past base j) j author k ≡ Some reply) → IsStep base limit j call reply j
+      step_refused reply (inl is) = inr (is, refl)
+      step_refused reply (inr is) = inl (sym (meaning_is ∙ ap (λ o. answer_by j call o (Some k)) is))
 
-    legal_do : IsJournal base limit j → (a : Action A) → is_made_action a ≡ true → refusal (mapof base j) a ≡ None → IsJournal base limit (with_entry j author id (Do a))
-    legal_do h a made e = subst (λ k. IsJournal base limit k) (ap (λ (p : Reply A × List (Entry A)). p.1) (done_is a e)) (called j (record { author = author; id = id; request = requests.Do a }) h made)
+      module _ (ok : kind_refusal (past base j) j author k ≡ None) where
+        accepted_is : answer base limit j call ≡ (accepted (length j + 1) k, with_entry j author id k)
+        accepted_is = meaning_is ∙ ap (λ o. answer_by j call o (Some k)) ok
 
-    legal_undo : IsJournal base limit j → (s : ℕ) → undo_refusal (past base j) j author s ≡ None → IsJournal base limit (with_entry j author id (Undo s))
-    legal_undo h s e =
-        subst (λ k. IsJournal base limit k) (ap (λ (p : Reply A × List (Entry A)). p.1) (answer_is (requests.Undo (Some s)) ∙ ap (λ o. answered j (record { author = author; id = id; request = requests.Undo (Some s) }) o (Some (Undo s))) e))
-        (called j (record { author = author; id = id; request = requests.Undo (Some s) }) h refl)
+        pub step_accepted : (seq : ℕ) → seq ≡ length j + 1 → IsStep base limit j call (accepted seq k) (with_entry j author id k)
+        step_accepted seq is = inl (ap (λ n. (accepted n k, with_entry j author id k)) is ∙ sym accepted_is)
 
-    -- a redo whose author has an entry on top, and what is recorded of it
-    again : (t : ℕ) → last (redos j author) ≡ Some t
-        → answer base limit j (record { author = author; id = id; request = requests.Redo }) ≡ answered j (record { author = author; id = id; request = requests.Redo }) (redo_refusal (mapof base j) (action_at (past base j) t)) (Some (Redo t))
-    again t top = answer_is requests.Redo ∙ ap (λ o. answered j (record { author = author; id = id; request = requests.Redo }) (meaning_refusal (past base j) j (record { author = author; id = id; request = requests.Redo }) (option_map Redo o)) (option_map Redo o)) top
+        -- the journal with the entry is one that calls lead to
+        legal : IsJournal base limit j → is_made_request r ≡ true → IsJournal base limit (with_entry j author id k)
+        legal h made = subst (λ l. IsJournal base limit l) (ap (λ (p : Reply A × List (Entry A)). p.1) accepted_is) (called j call h made)
 
     pub step_nothing_to_redo : last (redos j author) ≡ None → IsStep base limit j (record { author = author; id = id; request = requests.Redo }) NothingToRedo j
-    step_nothing_to_redo none = inl (sym (answer_is requests.Redo ∙ ap (λ o. answered j (record { author = author; id = id; request = requests.Redo }) (meaning_refusal (past base j) j (record { author = author; id = id; request = requests.Redo }) (option_map Redo o)) (option_map Redo o)) none))
-
-    pub step_not_redone : (t : ℕ) (reply : Reply A) → last (redos j author) ≡ Some t → (reply ≡ Memory) ⊎ (redo_refusal (mapof base j) (action_at (past base j) t) ≡ Some reply)
-        → IsStep base limit j (record { author = author; id = id; request = requests.Redo }) reply j
-    step_not_redone t reply top (inl is) = inr (is, refl)
-    step_not_redone t reply top (inr is) = inl (sym (again t top ∙ ap (λ o. answered j (record { author = author; id = id; request = requests.Redo }) o (Some (Redo t))) is))
-
-    redone_is : (t : ℕ) → last (redos j author) ≡ Some t → redo_refusal (mapof base j) (action_at (past base j) t) ≡ None
-        → answer base limit j (record { author = author; id = id; request = requests.Redo }) ≡ (Redid (length j + 1) t, with_entry j author id (Redo t))
-    redone_is t top ok = again t top ∙ ap (λ o. answered j (record { author = author; id = id; request = requests.Redo }) o (Some (Redo t))) ok
-
-    pub step_redone : (t seq : ℕ) → last (redos j author) ≡ Some t → redo_refusal (mapof base j) (action_at (past base j) t) ≡ None → seq ≡ length j + 1
-        → IsStep base limit j (record { author = author; id = id; request = requests.Redo }) (Redid seq t) (with_entry j author id (Redo t))
-    step_redone t seq top ok is = inl (ap (λ n. (Redid n t, with_entry j author id (Redo t))) is ∙ sym (redone_is t top ok))
-
-    legal_redo : IsJournal base limit j → (t : ℕ) → last (redos j author) ≡ Some t → redo_refusal (mapof base j) (action_at (past base j) t) ≡ None → IsJournal base limit (with_entry j author id (Redo t))
-    legal_redo h t top ok = subst (λ k. IsJournal base limit k) (ap (λ (p : Reply A × List (Entry A)). p.1) (redone_is t top ok)) (called j (record { author = author; id = id; request = requests.Redo }) h refl)
+    step_nothing_to_redo none = inl (sym (answer_is requests.Redo ∙ ap (λ o. answer_by j (record { author = author; id = id; request = requests.Redo }) (meaning_refusal (past base j) j (record { author = author; id = id; request = requests.Redo }) (option_map Redo o)) (option_map Redo o)) none))
 
     -- which entry an undo takes back, or why none
     record Taken (number : Option ℕ) (s : ℕ) : Type 0 where
@@ -212,46 +201,54 @@ module _ {A : Type 0} where
         → IsStep base limit j (record { author = author; id = id; request = requests.Undo number }) (Undid seq s) (with_entry j author id (Undo s))
     step_undid number s seq e is =
         let t = taken_by number (asked j author number) s refl e in
-        inl (ap (λ n. (Undid n s, with_entry j author id (Undo s))) is
-        ∙ sym (answer_is (requests.Undo number) ∙ ap (λ o. answered j (record { author = author; id = id; request = requests.Undo number }) (meaning_refusal (past base j) j (record { author = author; id = id; request = requests.Undo number }) (option_map Undo o)) (option_map Undo o)) t.is ∙ ap (λ o. answered j (record { author = author; id = id; request = requests.Undo number }) o (Some (Undo s))) t.ok))
+        step_accepted (requests.Undo number) (Undo s) (ap (option_map Undo) t.is) t.ok seq is
 
     pub step_not_undone : (number : Option ℕ) (r : Reply A) → Err r ≡ asked_or (undo_refusal (past base j) j author) (asked j author number) → IsStep base limit j (record { author = author; id = id; request = requests.Undo number }) r j
     step_not_undone number r e = inl (sym (answer_is (requests.Undo number) ∙ by (asked j author number) e))
       where
-        by : (o : Option ℕ) → Err r ≡ asked_or (undo_refusal (past base j) j author) o → answered j (record { author = author; id = id; request = requests.Undo number }) (meaning_refusal (past base j) j (record { author = author; id = id; request = requests.Undo number }) (option_map Undo o)) (option_map Undo o) ≡ (r, j)
+        by : (o : Option ℕ) → Err r ≡ asked_or (undo_refusal (past base j) j author) o → answer_by j (record { author = author; id = id; request = requests.Undo number }) (meaning_refusal (past base j) j (record { author = author; id = id; request = requests.Undo number }) (option_map Undo o)) (option_map Undo o) ≡ (r, j)
         by None e = ap (λ p. (p, j)) (cc)
         by (Some t) e = why (undo_refusal (past base j) j author t) e
           where
-            why : (o : Option (Reply A)) → Err r ≡ undone_or t o → answered j (record { author = author; id = id; request = requests.Undo number }) o (Some (Undo t)) ≡ (r, j)
+            why : (o : Option (Reply A)) → Err r ≡ undone_or t o → answer_by j (record { author = author; id = id; request = requests.Undo number }) o (Some (Undo t)) ≡ (r, j)
             why None e = absurd (cc)
             why (Some p) e = ap (λ q. (q, j)) (cc)
 
   -- a room of a sound map, with an empty journal
-  pub IsRoom-opened : (store : StoreState A) (recorded : List (List (Change A))) (firsts : List ℕ) (holders : Held) (done : List Deed) (base : Rows A) (limit : ℕ) (j : List (Entry A))
-      → store.rows ≡ base → store.applied ≡ 0 → recorded ≡ [] → firsts ≡ [] → holders ≡ [] → done ≡ [] → is_sound base ≡ true → j ≡ [] → IsRoom store recorded firsts holders done base limit j
-  IsRoom-opened store recorded firsts holders done base limit j begins none_applied no_changes no_firsts no_holders no_deeds sound no_entries = record {
+  pub IsRoom-opened : (store : StoreState A) (recorded : List (List (Change A))) (firsts : List ℕ) (footprints : List (Option (List Name))) (holders : Held) (done : List Deed) (base : Rows A) (limit : ℕ) (j : List (Entry A))
+      → store.rows ≡ base → store.applied ≡ 0 → recorded ≡ [] → firsts ≡ [] → footprints ≡ [] → holders ≡ [] → done ≡ [] → is_sound base ≡ true → j ≡ [] → IsRoom store recorded firsts footprints holders done base limit j
+  IsRoom-opened store recorded firsts footprints holders done base limit j begins none_applied no_changes no_firsts no_footprints no_holders no_deeds sound no_entries = record {
     base_sound = sound;
     journal = subst (λ k. IsJournal base limit k) (sym no_entries) opened;
     rows_are = begins ∙ ap (mapof base) (sym no_entries);
     count_is = none_applied ∙ ap (applied base) (sym no_entries);
     recorded_are = no_changes ∙ ap (recorded_changes base) (sym no_entries);
     firsts_are = no_firsts ∙ ap origins (sym no_entries);
-    holders_are = no_holders ∙ ap (λ k. held (past base k) k) (sym no_entries);
+    holders_are = opened_holders;
     deeds_are = no_deeds ∙ ap deeds (sym no_entries);
   }
+    where
+      none_held : AreHolders (past base []) [] footprints holders
+      none_held = subst (λ (h : Held). AreHolders (past base []) [] footprints h) (sym no_holders) (subst (λ (l : List (Option (List Name))). AreHolders (past base []) [] l []) (sym no_footprints) (AreHolders-opened base))
+
+      opened_holders : AreHolders (past base j) j footprints holders
+      opened_holders = subst (λ k. AreHolders (past base k) k footprints holders) (sym no_entries) none_held
 
   -- what one more entry records
   recorded-append : (base : Rows A) (j : List (Entry A)) (e : Entry A) → recorded_changes base (j ++ e ∷ []) ≡ recorded_changes base j ++ (recorded_next (past base j) e.kind).changes ∷ []
   recorded-append base j e = ap (map (λ (r : Recorded A). r.changes)) (ap (λ (p : Past A). p.entries) (past-append base j e)) ∙ map-append (λ (r : Recorded A). r.changes) (past base j).entries (recorded_next (past base j) e.kind ∷ [])
 
-  module _ (store : StoreState A) (recorded : List (List (Change A))) (firsts : List ℕ) (holders : Held) (done : List Deed) (base : Rows A) (limit : ℕ) (j : List (Entry A)) (r : IsRoom store recorded firsts holders done base limit j) where
+  module _ (store : StoreState A) (recorded : List (List (Change A))) (firsts : List ℕ) (footprints : List (Option (List Name))) (holders : Held) (done : List Deed) (base : Rows A) (limit : ℕ) (j : List (Entry A)) (r : IsRoom store recorded firsts footprints holders done base limit j) where
     -- what holds of a room's journal
     room_led : IsLed base j
     room_led = journal_led base r.base_sound limit j r.journal
 
-    -- the next number comes after those of all entries that stand
+    -- the names of the holders rise, and the next number comes after all that are held
+    pub may_stand : AreHeld holders
+    may_stand = holders_held (past base j) j footprints holders r.holders_are
+
     pub stands_next : (n : ℕ) → n ≡ length j → IsNext holders (n + 1)
-    stands_next n is = subst (λ h. IsNext h (n + 1)) (sym r.holders_are) (subst (λ m. IsNext (held (past base j) j) (m + 1)) (sym is) (is_next base j))
+    stands_next n is = subst (λ m. IsNext holders (m + 1)) (sym is) (holders_next base j footprints holders r.holders_are)
 
     -- the action that the code finds of an entry is the recorded one
     pub action_told : (es : List (Entry A)) (os : List ℕ) (t : ℕ) (o : Option (Action A)) → es ≡ j → os ≡ firsts → o ≡ option_and_then (λ n. done_by (numbered es n)) (numbered os t) → action_at (past base j) t ≡ o
@@ -275,14 +272,14 @@ module _ {A : Type 0} where
       above_deeds ds n is next = subst (λ d. stacks.IsAboveAll n d) (sym (is ∙ r.deeds_are)) (subst (λ m. stacks.IsAboveAll m (deeds j)) (sym next) (journals.above_deeds j))
 
       -- a room with one more entry
-      grown : (k : EntryKind A) (l : List (Entry A)) (store' : StoreState A) (recorded' : List (List (Change A))) (firsts' : List ℕ) (holders' : Held) (done' : List Deed) (cs : List (Change A))
+      grown : (k : EntryKind A) (l : List (Entry A)) (store' : StoreState A) (recorded' : List (List (Change A))) (firsts' : List ℕ) (footprints' : List (Option (List Name))) (holders' : Held) (done' : List Deed) (cs : List (Change A))
           → IsJournal base limit (with_entry j author id k) → cs ≡ (recorded_next (past base j) k).changes
-          → store' ≡ applied_to store cs → recorded' ≡ recorded ++ cs ∷ [] → firsts' ≡ firsts ++ origin_next (origins j) k ∷ [] → holders' ≡ held (past base (with_entry j author id k)) (with_entry j author id k)
+          → store' ≡ applied_to store cs → recorded' ≡ recorded ++ cs ∷ [] → firsts' ≡ firsts ++ origin_next (origins j) k ∷ [] → AreHolders (past base (with_entry j author id k)) (with_entry j author id k) footprints' holders'
           → done' ≡ done ++ deed_by (length j + 1) author id k ∷ [] → l ≡ with_entry j author id k
-          → IsRoom store' recorded' firsts' holders' done' base limit l
-      grown k l store' recorded' firsts' holders' done' cs legal is store_is recorded_is firsts_is holders_is deeds_is l_is =
+          → IsRoom store' recorded' firsts' footprints' holders' done' base limit l
+      grown k l store' recorded' firsts' footprints' holders' done' cs legal is store_is recorded_is firsts_is holders_is deeds_is l_is =
           let e : Entry A = record { author = author; id = id; kind = k } in
-          subst (λ l. IsRoom store' recorded' firsts' holders' done' base limit l) (sym l_is) (record {
+          subst (λ l. IsRoom store' recorded' firsts' footprints' holders' done' base limit l) (sym l_is) (record {
             base_sound = r.base_sound;
             journal = legal;
             rows_are = ap (λ (s : StoreState A). s.rows) store_is ∙ ap (λ m. changed m cs) r.rows_are ∙ ap (changed (mapof base j)) is ∙ sym (mapof-append base j e);
@@ -297,46 +294,52 @@ module _ {A : Type 0} where
       own_origin : length j + 1 ≡ length (origins j) + 1
       own_origin = ap (λ n. n + 1) (sym (origins_each j))
 
-      -- a room after an accepted action
-      pub IsRoom-do : (a : Action A) (l : List (Entry A)) (store' : StoreState A) (recorded' : List (List (Change A))) (firsts' : List ℕ) (holders' : Held) (done' : List Deed) (cs : List (Change A))
-          → is_made_action a ≡ true → refusal (mapof base j) a ≡ None → cs ≡ changes (mapof base j) a
-          → store' ≡ applied_to store cs → recorded' ≡ recorded ++ cs ∷ [] → firsts' ≡ firsts ++ (length j + 1) ∷ [] → holders' ≡ holders ++ (length j + 1, footprint_of a cs) ∷ []
-          → done' ≡ done ++ Did author id (length j + 1) ∷ [] → l ≡ with_entry j author id (Do a)
-          → IsRoom store' recorded' firsts' holders' done' base limit l
-      IsRoom-do a l store' recorded' firsts' holders' done' cs made ok cs_are store_is recorded_is firsts_is holders_is deeds_is l_is =
-          grown (Do a) l store' recorded' firsts' holders' done' cs (legal_do base limit j author id may r.journal a made ok) cs_are store_is recorded_is
-          (firsts_is ∙ ap (λ n. firsts ++ n ∷ []) own_origin)
-          (holders_is ∙ (λ i. r.holders_are i ++ (length j + 1, footprint_of a (cs_are i)) ∷ []) ∙ sym (held-do base j (record { author = author; id = id; kind = Do a }) a refl))
-          deeds_is l_is
+      -- the action that an entry does, as it is recorded
+      record Does (k : EntryKind A) : Type 0 where
+        action : Action A
+        works : is_work k ≡ true
+        records : recorded_next (past base j) k ≡ recorded_of (mapof base j) action
 
-      -- what a redo that is not refused finds in a room
-      module _ (t : ℕ) (top : last (redos j author) ≡ Some t) (ok : redo_refusal (mapof base j) (action_at (past base j) t) ≡ None) where
-        -- the action, as it is recorded
-        record Again : Type 0 where
-          action : Action A
-          acts : action_at (past base j) t ≡ Some action
+      does_again : (t : ℕ) (o : Option (Action A)) → action_at (past base j) t ≡ o → redo_refusal (mapof base j) o ≡ None → Does (Redo t)
+      does_again t None e ok = absurd (cc)
+      does_again t (Some a) e ok = record { action = a; works = refl; records = recorded-redo base j t a e }
 
-        again_of : (o : Option (Action A)) → action_at (past base j) t ≡ o → redo_refusal (mapof base j) o ≡ None → Again
-        again_of None e k = absurd (cc)
-        again_of (Some a) e k = record { action = a; acts = e }
+      does_of : (k : EntryKind A) → MayWork j author k → kind_refusal (past base j) j author k ≡ None → Does k
+      does_of (Do a) work ok = record { action = a; works = refl; records = refl }
+      does_of (Undo s) work ok = absurd work
+      does_of (Redo t) work ok = does_again t (action_at (past base j) t) refl ok
 
-        again_found : Again
-        again_found = again_of (action_at (past base j) t) refl ok
+      legal_work : (k : EntryKind A) → MayWork j author k → kind_refusal (past base j) j author k ≡ None → IsJournal base limit (with_entry j author id k)
+      legal_work (Do a) work ok = legal base limit j author id may (requests.Do a) (Do a) refl ok r.journal work
+      legal_work (Undo s) work ok = absurd work
+      legal_work (Redo t) work ok = legal base limit j author id may requests.Redo (Redo t) (ap (option_map Redo) work) ok r.journal refl
 
-        -- it is on top of the author's stack of deeds
-        pub redo_top : (ds : List Deed) → ds ≡ done → stacks.top (stacks.redo ds author) ≡ Some t
-        redo_top ds is = ap (λ d. stacks.top (stacks.redo d author)) (is ∙ r.deeds_are) ∙ ap stacks.top (redo_deeds j author) ∙ last_is (redos j author) ∙ top
+      -- it may be noted among the deeds
+      pub work_noted : (k : EntryKind A) → MayWork j author k → (ds : List Deed) → ds ≡ done → MayNote ds author k
+      work_noted (Do a) work ds is = tt
+      work_noted (Undo s) work ds is = absurd work
+      work_noted (Redo t) work ds is = ap (λ d. stacks.top (stacks.redo d author)) (is ∙ r.deeds_are) ∙ ap stacks.top (redo_deeds j author) ∙ last_is (redos j author) ∙ work
 
-        pub IsRoom-redo : (l : List (Entry A)) (store' : StoreState A) (recorded' : List (List (Change A))) (firsts' : List ℕ) (holders' : Held) (done' : List Deed) (cs : List (Change A)) (names : List Name) (o : ℕ)
-            → cs ≡ (recorded_next (past base j) (Redo t)).changes → names ≡ (recorded_next (past base j) (Redo t)).footprint → o ≡ unwrap_or (numbered firsts t) (length j + 1)
-            → store' ≡ applied_to store cs → recorded' ≡ recorded ++ cs ∷ [] → firsts' ≡ firsts ++ o ∷ [] → holders' ≡ holders ++ (length j + 1, names) ∷ []
-            → done' ≡ done ++ Redid author id t (length j + 1) ∷ [] → l ≡ with_entry j author id (Redo t)
-            → IsRoom store' recorded' firsts' holders' done' base limit l
-        IsRoom-redo l store' recorded' firsts' holders' done' cs names o cs_are names_are o_is store_is recorded_is firsts_is holders_is deeds_is l_is =
-            grown (Redo t) l store' recorded' firsts' holders' done' cs (legal_redo base limit j author id may r.journal t top ok) cs_are store_is recorded_is
-            (firsts_is ∙ ap (λ n. firsts ++ n ∷ []) (o_is ∙ (λ i. unwrap_or (numbered (r.firsts_are i) t) (own_origin i))))
-            (holders_is ∙ (λ i. r.holders_are i ++ (length j + 1, (names_are ∙ ap (λ (w : Recorded A). w.footprint) (recorded-redo base j t again_found.action again_found.acts)) i) ∷ [])
-            ∙ sym (held-redo base j (record { author = author; id = id; kind = Redo t }) t again_found.action refl again_found.acts))
+      -- an entry of an action that is not refused
+      module _ (k : EntryKind A) (work : MayWork j author k) (ok : kind_refusal (past base j) j author k ≡ None) where
+        does : Does k
+        does = does_of k work ok
+
+        -- what it touches rises
+        pub work_rises : (names : List Name) → names ≡ (recorded_next (past base j) k).footprint → IsRising names
+        work_rises names is = subst IsRising (sym (is ∙ ap (λ (w : Recorded A). w.footprint) does.records)) (IsRising-footprint_of does.action (changes (mapof base j) does.action))
+
+        -- a room after it
+        pub IsRoom-work : (l : List (Entry A)) (store' : StoreState A) (recorded' : List (List (Change A))) (firsts' : List ℕ) (footprints' : List (Option (List Name))) (holders' : Held) (done' : List Deed) (cs : List (Change A)) (names : List Name)
+            → cs ≡ (recorded_next (past base j) k).changes → names ≡ (recorded_next (past base j) k).footprint
+            → store' ≡ applied_to store cs → recorded' ≡ recorded ++ cs ∷ [] → firsts' ≡ firsts ++ origin_next firsts k ∷ [] → footprints' ≡ footprints ++ Some names ∷ [] → holders' ≡ stands holders names (length j + 1)
+            → done' ≡ done ++ deed_by (length j + 1) author id k ∷ [] → l ≡ with_entry j author id k
+            → IsRoom store' recorded' firsts' footprints' holders' done' base limit l
+        IsRoom-work l store' recorded' firsts' footprints' holders' done' cs names cs_are names_are store_is recorded_is firsts_is footprints_is holders_is deeds_is l_is =
+            grown k l store' recorded' firsts' footprints' holders' done' cs (legal_work k work ok) cs_are store_is recorded_is
+            (firsts_is ∙ ap (λ os. firsts ++ origin_next os k ∷ []) r.firsts_are)
+            (AreHolders-work base j footprints holders r.holders_are (record { author = author; id = id; kind = k }) does.action footprints' holders' names does.works does.records
+            (names_are ∙ ap (λ (w : Recorded A). w.footprint) does.records) footprints_is holders_is)
             deeds_is l_is
 
       -- what an undo that is not refused finds in a room
@@ -368,6 +371,20 @@ module _ {A : Type 0} where
             told finds.was_recorded.changes (ap (λ rs. numbered rs s) r.recorded_are ∙ numbered_mapped (λ (r : Recorded A). r.changes) (past base j).entries s ∙ ap (option_map (λ (r : Recorded A). r.changes)) finds.recorded)
             ∙ ap (λ o. (taken_back o).changes) (sym finds.recorded)
 
+        -- its footprint is kept, and stays where the next entry's is put behind it
+        kept_within : s ≤ length footprints
+        kept_within = let n : length footprints ≡ length j = r.holders_are.footprints_are.count in let m = recorded_each base j in omega (arith, n, m, within_numbered (past base j).entries s finds.was_recorded finds.recorded)
+
+        pub kept_behind_room : (fs : List (Option (List Name))) → fs ≡ footprints ++ None ∷ [] → s ≤ length fs
+        kept_behind_room fs is = let n = ap length is ∙ length-append footprints (None ∷ []) in let m = kept_within in omega (arith, n, m)
+
+        kept_behind : (o : Option (List Name)) → numbered footprints s ≡ Some o → numbered (footprints ++ None ∷ []) s ≡ Some o
+        kept_behind o is = numbered_within footprints None s kept_within ∙ is
+
+        pub holds_just : (fs : List (Option (List Name))) → fs ≡ footprints ++ None ∷ [] → (names : List Name) → numbered fs s ≡ Some (Some names) → HoldsOnly holders names s
+        holds_just fs is names told =
+            holds_own (past base j) j footprints holders r.holders_are s there.there names (sym (numbered_within footprints None s kept_within) ∙ sym (ap (λ l. numbered l s) is) ∙ told)
+
         after_sound : is_sound (mapof base (with_entry j author id (Undo s))) ≡ true
         after_sound = led_sound base (with_entry j author id (Undo s)) r.base_sound finds.led
 
@@ -389,13 +406,15 @@ module _ {A : Type 0} where
             ap (λ m. is_sound (changed m (recorded_next (past base j) (Undo s)).changes)) r.rows_are
             ∙ ap is_sound (sym (mapof-append base j (record { author = author; id = id; kind = Undo s }))) ∙ after_sound
 
-        pub IsRoom-undo : (l : List (Entry A)) (store' : StoreState A) (recorded' : List (List (Change A))) (firsts' : List ℕ) (holders' : Held) (done' : List Deed) (cs : List (Change A))
+        pub IsRoom-undo : (l : List (Entry A)) (store' : StoreState A) (recorded' : List (List (Change A))) (firsts' : List ℕ) (footprints' : List (Option (List Name))) (holders' : Held) (done' : List Deed) (cs : List (Change A))
             → cs ≡ (recorded_next (past base j) (Undo s)).changes
-            → store' ≡ applied_to store cs → recorded' ≡ recorded ++ cs ∷ [] → firsts' ≡ firsts ++ (length j + 1) ∷ [] → holders' ≡ without holders s
+            → store' ≡ applied_to store cs → recorded' ≡ recorded ++ cs ∷ [] → firsts' ≡ firsts ++ (length j + 1) ∷ [] → footprints' ≡ slice_set (footprints ++ None ∷ []) (s - 1) None
+            → ((names : List Name) → numbered (footprints ++ None ∷ []) s ≡ Some (Some names) → holders' ≡ fallen holders s)
             → done' ≡ done ++ Undid author id s (length j + 1) ∷ [] → l ≡ with_entry j author id (Undo s)
-            → IsRoom store' recorded' firsts' holders' done' base limit l
-        IsRoom-undo l store' recorded' firsts' holders' done' cs cs_are store_is recorded_is firsts_is holders_is deeds_is l_is =
-            grown (Undo s) l store' recorded' firsts' holders' done' cs (legal_undo base limit j author id may r.journal s ok) cs_are store_is recorded_is
+            → IsRoom store' recorded' firsts' footprints' holders' done' base limit l
+        IsRoom-undo l store' recorded' firsts' footprints' holders' done' cs cs_are store_is recorded_is firsts_is footprints_is holders_is deeds_is l_is =
+            grown (Undo s) l store' recorded' firsts' footprints' holders' done' cs (legal base limit j author id may (requests.Undo (Some s)) (Undo s) refl ok r.journal refl) cs_are store_is recorded_is
             (firsts_is ∙ ap (λ n. firsts ++ n ∷ []) own_origin)
-            (holders_is ∙ ap (λ h. without h s) r.holders_are ∙ sym (held-undo base j (record { author = author; id = id; kind = Undo s }) s refl))
+            (AreHolders-undo base j footprints holders r.holders_are (record { author = author; id = id; kind = Undo s }) s footprints' holders' refl there.there footprints_is
+            (holders_is (recorded_footprint (past base j) s) (kept_behind (Some (recorded_footprint (past base j) s)) (kept_of_standing (past base j) j footprints holders r.holders_are s there.there))))
             deeds_is l_is

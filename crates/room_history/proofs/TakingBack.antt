@@ -8,7 +8,7 @@ use Rattle.edit_actions.specs.declared.action.Action.{Action}
 use Rattle.edit_actions.specs.After.{after, changes}
 use Rattle.edit_actions.specs.MadeActions.{is_made_action}
 use Rattle.edit_actions.specs.Refusals.{refusal}
-use Rattle.edit_footprint.specs.Holding.{first_meeting}
+use Rattle.room_history.specs.Holdings.{first_meeting}
 use Rattle.room_history.specs.declared.entry.Entry.{Entry}
 use Rattle.room_history.specs.declared.entry.EntryKind.TheVariants.{Undo}
 use Rattle.room_history.specs.Blockers.{recorded_footprint, blocker}

@@ -94,13 +94,13 @@ module _ {A : Type 0} where
   abbrev pub with_entry : List (Entry A) → Author → ℕ → EntryKind A → List (Entry A)
   with_entry j author id k = j ++ record { author = author; id = id; kind = k } ∷ []
 
-  abbrev pub answered : List (Entry A) → Call A → Option (Reply A) → Option (EntryKind A) → Reply A × List (Entry A)
-  answered j c (Some refused) k = (refused, j)
-  answered j c None None = (nothing_meant c.request, j)
-  answered j c None (Some k) = (accepted (length j + 1) k, with_entry j c.author c.id k)
+  abbrev pub answer_by : List (Entry A) → Call A → Option (Reply A) → Option (EntryKind A) → Reply A × List (Entry A)
+  answer_by j c (Some refused) k = (refused, j)
+  answer_by j c None None = (nothing_meant c.request, j)
+  answer_by j c None (Some k) = (accepted (length j + 1) k, with_entry j c.author c.id k)
 
   abbrev pub answer : Rows A → ℕ → List (Entry A) → Call A → Reply A × List (Entry A)
-  answer base limit j c = answered j c (call_refusal base limit j c) (meant j c.author c.request)
+  answer base limit j c = answer_by j c (call_refusal base limit j c) (meant j c.author c.request)
 
   -- the replies to calls in turn, and the journal that they leave
   abbrev pub answers : Rows A → ℕ → List (Entry A) → List (Call A) → List (Reply A) × List (Entry A)

@@ -1,7 +1,7 @@
 -- Which entry stands in the way of an undo: the first later one that stands and that touched what the other did. (The rules of a room are this project's.)
 use Rattle.std.specs.Prelude.{ℕ, List, [], Option, Some, None, map}
 use Rattle.osm_elements.specs.declared.name.Name.{Name}
-use Rattle.edit_footprint.specs.Holding.{Held, first_after}
+use Rattle.room_history.specs.Holdings.{Holdings, first_after}
 use Rattle.room_history.specs.declared.entry.Entry.{Entry}
 use Rattle.room_history.specs.Journals.{numbered, standing}
 use Rattle.room_history.specs.Replays.{Recorded, Past}
@@ -16,7 +16,7 @@ module _ {A : Type 0} where
   recorded_footprint p s = footprint_of_recorded (numbered p.entries s)
 
   -- the entries that stand, rising, each with its recorded footprint
-  abbrev pub held : Past A → List (Entry A) → Held
+  abbrev pub held : Past A → List (Entry A) → Holdings
   held p j = map (λ s. (s, recorded_footprint p s)) (standing j)
 
   -- the first later entry that stands and shares names with s, and the least of these names

@@ -5,6 +5,7 @@ pub mod Bases
 pub mod Blockers
 pub mod Examples
 pub mod Headline
+pub mod Holdings
 pub mod Inner
 pub mod Journals
 pub mod LegalJournals

@@ -6,7 +6,7 @@ use Rattle.osm_elements.specs.declared.element.Element.{Element}
 use Rattle.osm_elements.specs.declared.element.Element.TheVariants.{Node, Way, Relation}
 use Rattle.osm_elements.specs.NameTexts.{named}
 use Rattle.edit_actions.specs.declared.action.Action.{Action}
-use Rattle.edit_footprint.specs.Holding.{Held}
+use Rattle.room_history.specs.Holdings.{Holdings}
 use Rattle.room_stacks.specs.declared.author.Author.{Author}
 use Rattle.room_history.specs.declared.call.Call.{Call}
 use Rattle.room_history.specs.declared.call.Request.TheVariants.{Do, Undo, Redo}
@@ -83,7 +83,7 @@ abbrev pub map_after : ℕ → List (Call Any) → Rows Any
 map_after limit calls = mapof [] (answers [] limit [] calls).1
 
 -- the entries that stand after them, each with its recorded footprint
-abbrev pub held_after : ℕ → List (Call Any) → Held
+abbrev pub held_after : ℕ → List (Call Any) → Holdings
 held_after limit calls = let j = (answers [] limit [] calls).1 in held (past [] j) j
 
 -- what an author can redo after them

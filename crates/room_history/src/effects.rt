@@ -1,13 +1,17 @@
 //! What the parts of a room do for an entry: what it did stands, and what it did is taken back.
-ghost use Rattle.std.specs.Prelude.{◌≡◌, ◌<◌, ◌≤◌, List, [], ◌∷◌, ◌++◌, Some, true, length, IfOk, OnOk, OnErr, vec_len, vec_capacity};
+ghost use Rattle.std.specs.Prelude.{◌≡◌, ◌<◌, ◌≤◌, ◌-◌, List, [], ◌∷◌, ◌++◌, Some, None, true, length, slice_set, IfOk, OnOk, OnErr, vec_len, vec_capacity};
 ghost use Rattle.osm_changes.specs.declared.change.Change.{Change};
 ghost use Rattle.osm_changes.specs.Changes.{changed, inverse, AreFrom};
 ghost use Rattle.osm_changes.specs.Sound.{is_sound};
 ghost use Rattle.osm_changes.specs.Stores.{applied_to};
-ghost use Rattle.edit_footprint.specs.Holding.{IsNext};
+ghost use Rattle.osm_elements.specs.declared.name.Name.{Name};
+ghost use Rattle.osm_refs.specs.Rising.{IsRising};
+ghost use Rattle.edit_footprint.specs.Holding.{AreHeld, IsNext, HoldsOnly, standing, fallen};
+ghost use Rattle.room_stacks.specs.Stacks.{IsAboveAll, spent};
 ghost use Rattle.room_history.specs.Journals.{numbered};
+ghost use Rattle.room_history.specs.Inner.Deeds.{deed_by, MayNote};
 
-use crate::entry::Entry;
+use crate::entry::{Entry, EntryKind};
 use edit_footprint::footprint::Footprint;
 use edit_footprint::holders::Holders;
 use osm_changes::changes::Changes;
@@ -22,43 +26,53 @@ pub(crate) fn make_room<A: Allocator + Copy>(
     entries: &mut Vec<Entry<A>, A>,
     recorded: &mut Vec<Changes<A>, A>,
     origins: &mut Vec<u64, A>,
+    footprints: &mut Vec<Option<Footprint<A>>, A>,
     stacks: &mut Stacks<A>,
     author: &Author,
 ) -> Result<(), Memory>
     ensures entries { entries.new.items ≡ entries.old.items }
     ensures recorded { recorded.new.items ≡ recorded.old.items }
     ensures origins { origins.new.items ≡ origins.old.items }
+    ensures footprints { footprints.new.items ≡ footprints.old.items }
     ensures deeds { stacks.new.deeds ≡ stacks.old.deeds }
     ensures ready { OnOk result (stacks.new.ready ≡ Some author.now) }
     ensures room { OnOk result ((vec_len entries.new < vec_capacity entries.new)
         × (vec_len recorded.new < vec_capacity recorded.new)
-        × (vec_len origins.new < vec_capacity origins.new)) }
+        × (vec_len origins.new < vec_capacity origins.new)
+        × (vec_len footprints.new < vec_capacity footprints.new)) }
 {
     entries.try_reserve(1)?;
     recorded.try_reserve(1)?;
     origins.try_reserve(1)?;
+    footprints.try_reserve(1)?;
     stacks.ready(author)
 }
 
-// Adds an entry, what it changed, and the number of the entry that has its action, to lists that have room for them.
+// Adds an entry, what it changed, the number of the entry that has its action, and its footprint if it stands, to
+// lists that have room for them.
 pub(crate) fn enter<A: Allocator>(
     entries: &mut Vec<Entry<A>, A>,
     recorded: &mut Vec<Changes<A>, A>,
     origins: &mut Vec<u64, A>,
+    footprints: &mut Vec<Option<Footprint<A>>, A>,
     entry: Entry<A>,
     changes: Changes<A>,
     origin: u64,
+    footprint: Option<Footprint<A>>,
 )
     requires room { (vec_len entries.old < vec_capacity entries.old)
         × (vec_len recorded.old < vec_capacity recorded.old)
-        × (vec_len origins.old < vec_capacity origins.old) }
+        × (vec_len origins.old < vec_capacity origins.old)
+        × (vec_len footprints.old < vec_capacity footprints.old) }
     ensures entries { entries.new.items ≡ entries.old.items ++ entry ∷ [] }
     ensures recorded { recorded.new.items ≡ recorded.old.items ++ changes ∷ [] }
     ensures origins { origins.new.items ≡ origins.old.items ++ origin ∷ [] }
+    ensures footprints { footprints.new.items ≡ footprints.old.items ++ footprint ∷ [] }
 {
     push_reserved(entries, entry);
     push_reserved(recorded, changes);
     push_reserved(origins, origin);
+    push_reserved(footprints, footprint);
 }
 
 // Adds an item to a list that has room for it.
@@ -72,27 +86,67 @@ fn push_reserved<T: Drop, A: Allocator>(list: &mut Vec<T, A>, item: T)
     }
 }
 
+// Notes among what authors did the entry of a number, with what it did. It takes no memory.
+pub(crate) fn note<A: Allocator>(
+    stacks: &mut Stacks<A>,
+    author: Author,
+    id: u64,
+    kind: &EntryKind<A>,
+    seq: u64,
+)
+    requires ready { stacks.old.ready ≡ Some author }
+    requires unspent { spent stacks.old.deeds author id ≡ None }
+    requires may { MayNote stacks.old.deeds author kind.now }
+    requires last { IsAboveAll seq stacks.old.deeds }
+    ensures { stacks.new.deeds ≡ stacks.old.deeds ++ deed_by seq author id kind.now ∷ [] }
+{
+    match kind {
+        EntryKind::Do(_) => stacks.did(author, id, seq),
+        EntryKind::Undo(of) => stacks.undid(author, id, *of, seq),
+        EntryKind::Redo(of) => stacks.redid(author, id, *of, seq),
+    }
+}
+
 // Lets an entry stand and applies its changes; or refuses, and both are as they were.
 pub(crate) fn stand<A: Allocator + Copy>(
     alloc: A,
     store: &mut Store<A>,
     holders: &mut Holders<A>,
     changes: &Changes<A>,
-    footprint: Footprint<A>,
+    footprint: &Footprint<A>,
     seq: u64,
 ) -> Result<(), Memory>
+    requires held { AreHeld holders.old }
+    requires rising { IsRising footprint.now }
     requires next { IsNext holders.old seq }
     requires from { AreFrom store.old.rows changes.now }
     requires sound { is_sound (changed store.old.rows changes.now) ≡ true }
-    ensures ok { OnOk result ((store.new ≡ applied_to store.old changes.now) × (holders.new ≡ holders.old ++ (seq, footprint) ∷ [])) }
+    ensures ok { OnOk result ((store.new ≡ applied_to store.old changes.now) × (holders.new ≡ standing holders.old footprint.now seq)) }
     ensures err { OnErr result ((store.new ≡ store.old) × (holders.new ≡ holders.old)) }
 {
     holders.stand(footprint, seq)?;
     if let Err(refused) = store.apply(alloc, changes) {
-        holders.fall(seq);
+        holders.fall(footprint, seq);
         return Err(refused);
     }
     Ok(())
+}
+
+// Lets an entry fall that stood: its footprint is taken out and given up.
+pub(crate) fn let_fall<A: Allocator>(
+    holders: &mut Holders<A>,
+    footprints: &mut Vec<Option<Footprint<A>>, A>,
+    of: u64,
+)
+    requires first { 1 ≤ of }
+    requires there { of ≤ length footprints.old.items }
+    requires only { (names : List Name) → numbered footprints.old.items of ≡ Some (Some names) → HoldsOnly holders.old names of }
+    ensures footprints { footprints.new.items ≡ slice_set footprints.old.items (of - 1) None }
+    ensures holders { (names : List Name) → numbered footprints.old.items of ≡ Some (Some names) → holders.new ≡ fallen holders.old of }
+{
+    if let Some(footprint) = footprints[of as usize - 1].take() {
+        holders.fall(&footprint, of);
+    }
 }
 
 // The changes that take back those recorded under a number.

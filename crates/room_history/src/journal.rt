@@ -2,7 +2,7 @@
 ghost use Rattle.std.specs.Prelude.{◌≡◌};
 ghost use Rattle.std.specs.Option.{option_copied, option_and_then};
 ghost use Rattle.room_history.specs.Journals.{numbered};
-ghost use Rattle.room_history.specs.Inner.Origins.{done_by, own_action};
+ghost use Rattle.room_history.specs.Inner.Origins.{done_by, origin_next, own_action};
 
 use crate::entry::{Entry, EntryKind};
 use edit_actions::action::Action;
@@ -43,5 +43,17 @@ fn own_action<A: Allocator>(entry: &Entry<A>) -> Option<&Action<A>>
     match &entry.kind {
         EntryKind::Do(action) => Some(action),
         EntryKind::Undo(_) | EntryKind::Redo(_) => None,
+    }
+}
+
+/// The number of the entry that has the action of the next one: its own, or for a redo the origin of the entry that it
+/// names. `origins` has the number of the origin of each entry before it. An undo has its own.
+pub fn origin_next<A: Allocator>(origins: &[u64], kind: &EntryKind<A>) -> u64
+    ensures { result ≡ origin_next origins.now kind.now }
+{
+    let own = origins.len() as u64 + 1;
+    match kind {
+        EntryKind::Redo(of) => numbered(origins, *of).copied().unwrap_or(own),
+        EntryKind::Do(_) | EntryKind::Undo(_) => own,
     }
 }

@@ -1,14 +1,15 @@
 //! Laws of the definitions, each the contract of a function that does nothing.
-ghost use Rattle.std.specs.Prelude.{◌≡◌, ◌++◌, ℕ, true, false, List, [], ◌∷◌};
+ghost use Rattle.std.specs.Prelude.{◌≡◌, ◌++◌, ℕ, true, false, List, [], ◌∷◌, All, take};
 ghost use Rattle.edit_simple.specs.declared.refusal.Refusal.{Refusal};
 ghost use Rattle.osm_elements.specs.declared.name.Name.{Name};
-ghost use Rattle.osm_elements.specs.Rows.{AreInOrder};
+ghost use Rattle.osm_elements.specs.Rows.{AreInOrder, row_at};
 ghost use Rattle.room_history.specs.declared.base.BaseFault.{BaseFault};
 ghost use Rattle.room_history.specs.declared.base.BaseFault.TheVariants.{Memory as OutOfMemory};
 ghost use Rattle.room_history.specs.Bases.{IsBaseFault, IsFirstUnsound, are_of_kinds};
 ghost use Rattle.room_history.specs.declared.entry.Entry.{Entry};
 ghost use Rattle.room_history.specs.declared.turned.Opening.{Opening};
 ghost use Rattle.osm_changes.specs.Changes.{AreChanges, AreFrom};
+ghost use Rattle.osm_changes.specs.declared.change.Change.{Change};
 ghost use Rattle.osm_changes.specs.Stores.{counted};
 ghost use Rattle.room_history.specs.Applied.{applied};
 ghost use Rattle.room_history.specs.Headline.{Holds};
@@ -26,6 +27,11 @@ use std::alloc::Allocator;
 /// Every journal that calls lead to from a sound base holds.
 pub fn journals_hold<A: Allocator>()
     ensures { (base : Rows A) (limit : ℕ) (j : List (Entry A)) → is_sound base ≡ true → IsJournal base limit j → Holds base limit j }
+{}
+
+/// The first entries of a journal that calls lead to are one too.
+pub fn journals_begin<A: Allocator>()
+    ensures { (base : Rows A) (limit : ℕ) (j : List (Entry A)) (n : ℕ) → IsJournal base limit j → IsJournal base limit (take n j) }
 {}
 
 /// Every legal history that a desk tells of a room, over a sound base, is a journal that calls lead to, and so holds.
@@ -53,13 +59,15 @@ pub fn entries_are_counted<A: Allocator>()
     ensures { (base : Rows A) (j : List (Entry A)) (e : Entry A) → applied base (j ++ e ∷ []) ≡ counted (applied base j) (recorded_next (past base j) e.kind).changes }
 {}
 
-/// What an entry of a journal changed are changes from the map before it: their names rise, and each leads from the row that the
-/// map has there to another one.
+/// What an entry of a journal changed are changes from the map before it to the map after it: their names rise, and each leads
+/// from the row that the one has there to the row that the other has, which is another.
 pub fn entries_change_their_maps<A: Allocator>()
     ensures changes { (base : Rows A) (limit : ℕ) (i k : List (Entry A)) (e : Entry A) → is_sound base ≡ true → IsJournal base limit (i ++ e ∷ k)
         → AreChanges (recorded_next (past base i) e.kind).changes }
     ensures from { (base : Rows A) (limit : ℕ) (i k : List (Entry A)) (e : Entry A) → is_sound base ≡ true → IsJournal base limit (i ++ e ∷ k)
         → AreFrom (mapof base i) (recorded_next (past base i) e.kind).changes }
+    ensures leads { (base : Rows A) (limit : ℕ) (i k : List (Entry A)) (e : Entry A) → is_sound base ≡ true → IsJournal base limit (i ++ e ∷ k)
+        → All (λ (c : Change A). c.after ≡ row_at (mapof base (i ++ e ∷ [])) c.name) (recorded_next (past base i) e.kind).changes }
 {
     differences_are_changes::<A>();
     an_inverse_restores::<A>();

@@ -1,6 +1,6 @@
 //! What others are told of an entry: the names that it changed, with their rows after it.
 ghost use Rattle.std.specs.Prelude.{◌≡◌, IfOk, length, map, drop};
-ghost use Rattle.room_history.specs.News.{news_row, news_of, news_from};
+ghost use Rattle.room_history.specs.Inner.Telling.{told_row, told_of, told_from};
 
 use crate::entry::Entry;
 use osm_changes::change::Change;
@@ -166,7 +166,7 @@ pub(crate) fn news_past<A: Allocator + Copy>(
     from: u64,
 ) -> Result<NewsList<A>, Memory>
     requires { length recorded.now ≡ length entries.now }
-    ensures { IfOk result (λ told. told ≡ drop from (news_from 1 entries.now recorded.now)) }
+    ensures { IfOk result (λ told. told ≡ drop from (told_from 1 entries.now recorded.now)) }
 {
     let mut told = Vec::new(alloc);
     for place in from as usize..entries.len() {
@@ -183,7 +183,7 @@ fn news_of<A: Allocator + Copy>(
     entry: &Entry<A>,
     changes: &Changes<A>,
 ) -> Result<News<A>, Memory>
-    ensures { IfOk result (λ n. n ≡ news_of seq entry.now changes.now) }
+    ensures { IfOk result (λ n. n ≡ told_of seq entry.now changes.now) }
 {
     let rows = rows_after(alloc, changes.rows())?;
     Ok(News {
@@ -195,7 +195,7 @@ fn news_of<A: Allocator + Copy>(
 
 // The changed names, each with a copy of its row after the change.
 fn rows_after<A: Allocator + Copy>(alloc: A, changes: &[Change<A>]) -> Result<NewsRows<A>, Memory>
-    ensures { IfOk result (λ rows. rows ≡ map news_row changes.now) }
+    ensures { IfOk result (λ rows. rows ≡ map told_row changes.now) }
 {
     let mut rows = Vec::with_capacity(alloc, changes.len())?;
     for change in changes {

@@ -8,17 +8,14 @@ ghost use Rattle.osm_elements.specs.Rows.{AreInOrder};
 ghost use Rattle.osm_changes.specs.Sound.{is_sound};
 ghost use Rattle.edit_footprint.specs.Footprints.{footprint_of};
 ghost use Rattle.osm_changes.specs.Stores.{applied_to};
-ghost use Rattle.edit_footprint.specs.Holding.{IsNext};
 ghost use Rattle.room_history.specs.Journals.{numbered};
 
-use crate::ask::{RoomCall, RoomReply, Undoable};
 use crate::base::{BaseFault, first_unsound};
 use crate::call::{Call, Request};
-use crate::effects::{enter, make_room, stand, taken_back};
+use crate::effects::{enter, let_fall, make_room, note, stand, taken_back};
 use crate::entry::{Entry, EntryKind};
-use crate::journal::{action_of, numbered};
+use crate::journal::{action_of, numbered, origin_next};
 use crate::news::{NewsList, news_past};
-use crate::numbers::Numbers;
 use crate::reply::Reply;
 use crate::undo::undoable;
 use edit_actions::action::Action;
@@ -39,6 +36,8 @@ use std::alloc::Allocator;
 use std::marker::Model;
 use std::snapshot::Snapshot;
 
+mod asking;
+
 /// A room: one map, and the journal of what its authors did to it. It is as good as its base map, which is sound, its limit
 /// and its journal, and contracts see it so. Beside each entry it keeps what that changed and the number of the entry that
 /// has its action, and of each entry that stands its footprint.
@@ -52,6 +51,7 @@ pub struct Room<A: Allocator> {
     entries: Vec<Entry<A>, A>,
     recorded: Vec<Changes<A>, A>,
     origins: Vec<u64, A>,
+    footprints: Vec<Option<Footprint<A>>, A>,
     holders: Holders<A>,
     stacks: Stacks<A>,
 }
@@ -64,25 +64,24 @@ impl<A: Allocator> Model for Room<A> {
 
     ghost view = { λ r. record { base = r.base.value; limit = r.limit; journal = r.entries.items } };
 
-    ghost invariant = { λ r. IsRoom r.store r.recorded.items r.origins.items r.holders r.stacks.deeds r.base.value r.limit r.entries.items };
+    ghost invariant = { λ r. IsRoom r.store r.recorded.items r.origins.items r.footprints.items r.holders r.stacks.deeds r.base.value r.limit r.entries.items };
 }
 
 impl<A: Allocator + Copy> Room<A> {
-    ghost use Rattle.room_history.specs.Answers.{undo_refusal, redo_refusal, with_entry};
+    ghost use Rattle.room_history.specs.Answers.{kind_refusal, undo_refusal, redo_refusal, with_entry};
     ghost use Rattle.room_history.specs.declared.call.Request.TheVariants as requests;
     ghost use Rattle.room_history.specs.declared.reply.Reply.TheVariants as replies;
     ghost use Rattle.edit_actions.specs.Refusals.{refusal};
-    ghost use Rattle.room_history.specs.declared.entry.EntryKind.TheVariants.{Do, Undo, Redo};
-    ghost use Rattle.room_history.specs.Journals.{last, undos, redos};
+    ghost use Rattle.room_history.specs.declared.entry.EntryKind.TheVariants.{Undo, Redo};
+    ghost use Rattle.room_history.specs.Journals.{undos, redos};
     ghost use Rattle.room_history.specs.Replays.{past, mapof, action_at, recorded_next};
     ghost use Rattle.room_history.specs.Applied.{applied};
     ghost use Rattle.edit_actions.specs.After.{changes as changes_of};
     ghost use Rattle.room_history.specs.Headline.{Holds};
-    ghost use Rattle.room_history.specs.Inner.Rooms.{MayAppend};
+    ghost use Rattle.room_history.specs.Inner.Rooms.{MayAppend, MayWork};
     ghost use Rattle.edit_actions.specs.MadeActions.{is_made_action};
     ghost use Rattle.room_history.specs.News.{news};
     ghost use Rattle.room_history.specs.Runs.{IsStep};
-    ghost use Rattle.room_history.specs.Asking.{IsAnswered};
     ghost use Rattle.room_history.specs.Bases.{IsBaseFault, are_of_kinds};
     ghost use Rattle.osm_elements.specs.Rows.{row_at};
 
@@ -125,6 +124,7 @@ impl<A: Allocator + Copy> Room<A> {
             entries: Vec::new(alloc),
             recorded: Vec::new(alloc),
             origins: Vec::new(alloc),
+            footprints: Vec::new(alloc),
             holders: Holders::new(alloc),
             stacks: Stacks::new(alloc),
         }
@@ -186,7 +186,8 @@ impl<A: Allocator + Copy> Room<A> {
     {
         match self.planned(&action) {
             Ok((changes, footprint)) => {
-                match self.append_do(author, id, action, changes, footprint) {
+                let kind = EntryKind::Do(action);
+                match self.append_work(author, id, kind, changes, footprint) {
                     Ok(seq) => Reply::Done { seq },
                     Err(_) => Reply::Memory,
                 }
@@ -215,24 +216,25 @@ impl<A: Allocator + Copy> Room<A> {
         }
     }
 
-    // Appends the entry of an accepted action with what it changes and touches, and answers its number.
-    fn append_do(
+    // Appends the entry of an action that is not refused, done for the first time or again, with what it changes and touches
+    // now, and answers its number.
+    fn append_work(
         &mut self,
         author: Author,
         id: u64,
-        action: Action<A>,
+        kind: EntryKind<A>,
         changes: Changes<A>,
         footprint: Footprint<A>,
     ) -> Result<u64, Memory>
         requires may { MayAppend self.old.limit self.old.journal author id }
-        requires made { is_made_action action ≡ true }
-        requires accepted { refusal (mapof self.old.base self.old.journal) action ≡ None }
-        requires changes { changes ≡ changes_of (mapof self.old.base self.old.journal) action }
-        requires footprint { footprint ≡ footprint_of action (changes_of (mapof self.old.base self.old.journal) action) }
+        requires work { MayWork self.old.journal author kind }
+        requires accepted { kind_refusal (past self.old.base self.old.journal) self.old.journal author kind ≡ None }
+        requires changes { changes ≡ (recorded_next (past self.old.base self.old.journal) kind).changes }
+        requires footprint { footprint ≡ (recorded_next (past self.old.base self.old.journal) kind).footprint }
         requires from { AreFrom (mapof self.old.base self.old.journal) changes }
         requires sound { is_sound (changed (mapof self.old.base self.old.journal) changes) ≡ true }
         ensures ok { IfOk result (λ seq. (seq ≡ length self.old.journal + 1)
-            × (self.new ≡ record self.old { journal = with_entry self.old.journal author id (Do action) })) }
+            × (self.new ≡ record self.old { journal = with_entry self.old.journal author id kind })) }
         ensures err { OnErr result (self.new ≡ self.old) }
     {
         let alloc = *self.entries.allocator();
@@ -240,28 +242,31 @@ impl<A: Allocator + Copy> Room<A> {
             &mut self.entries,
             &mut self.recorded,
             &mut self.origins,
+            &mut self.footprints,
             &mut self.stacks,
             &author,
         )?;
         let seq = self.entries.len() as u64 + 1;
+        let origin = origin_next(&self.origins, &kind);
         stand(
             alloc,
             &mut self.store,
             &mut self.holders,
             &changes,
-            footprint,
+            &footprint,
             seq,
         )?;
-        let kind = EntryKind::Do(action);
+        note(&mut self.stacks, author, id, &kind, seq);
         enter(
             &mut self.entries,
             &mut self.recorded,
             &mut self.origins,
+            &mut self.footprints,
             Entry { author, id, kind },
             changes,
-            seq,
+            origin,
+            Some(footprint),
         );
-        self.stacks.did(author, id, seq);
         Ok(seq)
     }
 
@@ -274,7 +279,14 @@ impl<A: Allocator + Copy> Room<A> {
         ensures limit { self.new.limit ≡ self.old.limit }
     {
         let own = self.stacks.standing(&author);
-        match undoable(&self.entries, &self.holders, own, &author, number) {
+        match undoable(
+            &self.entries,
+            &self.holders,
+            &self.footprints,
+            own,
+            &author,
+            number,
+        ) {
             Ok(of) => match self.append_undo(author, id, of) {
                 Ok(seq) => Reply::Undid { seq, of },
                 Err(_) => Reply::Memory,
@@ -296,23 +308,30 @@ impl<A: Allocator + Copy> Room<A> {
             &mut self.entries,
             &mut self.recorded,
             &mut self.origins,
+            &mut self.footprints,
             &mut self.stacks,
             &author,
         )?;
         let changes = taken_back(&self.recorded, of)?;
         self.store.apply(*self.entries.allocator(), &changes)?;
         let seq = self.entries.len() as u64 + 1;
-        let kind = EntryKind::Undo(of);
+        let undo = EntryKind::Undo(of);
+        note(&mut self.stacks, author, id, &undo, seq);
         enter(
             &mut self.entries,
             &mut self.recorded,
             &mut self.origins,
-            Entry { author, id, kind },
+            &mut self.footprints,
+            Entry {
+                author,
+                id,
+                kind: undo,
+            },
             changes,
             seq,
+            None,
         );
-        self.holders.fall(of);
-        self.stacks.undid(author, id, of, seq);
+        let_fall(&mut self.holders, &mut self.footprints, of);
         Ok(seq)
     }
 
@@ -327,7 +346,8 @@ impl<A: Allocator + Copy> Room<A> {
         match self.stacks.redo(&author).last().copied() {
             Some(of) => match self.plan_again(of) {
                 Ok((changes, footprint)) => {
-                    match self.append_redo(author, id, of, changes, footprint) {
+                    let kind = EntryKind::Redo(of);
+                    match self.append_work(author, id, kind, changes, footprint) {
                         Ok(seq) => Reply::Redid { seq, of },
                         Err(_) => Reply::Memory,
                     }
@@ -351,103 +371,6 @@ impl<A: Allocator + Copy> Room<A> {
             Some(action) => self.planned(action),
             None => Err(Reply::NothingToRedo),
         }
-    }
-
-    // Appends the entry of an action that is done again, with what it changes and touches now, and answers its number.
-    fn append_redo(
-        &mut self,
-        author: Author,
-        id: u64,
-        of: u64,
-        changes: Changes<A>,
-        footprint: Footprint<A>,
-    ) -> Result<u64, Memory>
-        requires may { MayAppend self.old.limit self.old.journal author id }
-        requires top { last (redos self.old.journal author) ≡ Some of }
-        requires accepted { redo_refusal (mapof self.old.base self.old.journal) (action_at (past self.old.base self.old.journal) of) ≡ None }
-        requires changes { changes ≡ (recorded_next (past self.old.base self.old.journal) (Redo of)).changes }
-        requires footprint { footprint ≡ (recorded_next (past self.old.base self.old.journal) (Redo of)).footprint }
-        requires from { AreFrom (mapof self.old.base self.old.journal) changes }
-        requires sound { is_sound (changed (mapof self.old.base self.old.journal) changes) ≡ true }
-        ensures ok { IfOk result (λ seq. (seq ≡ length self.old.journal + 1)
-            × (self.new ≡ record self.old { journal = with_entry self.old.journal author id (Redo of) })) }
-        ensures err { OnErr result (self.new ≡ self.old) }
-    {
-        let alloc = *self.entries.allocator();
-        make_room(
-            &mut self.entries,
-            &mut self.recorded,
-            &mut self.origins,
-            &mut self.stacks,
-            &author,
-        )?;
-        let seq = self.entries.len() as u64 + 1;
-        let origin = numbered(&self.origins, of).copied().unwrap_or(seq);
-        stand(
-            alloc,
-            &mut self.store,
-            &mut self.holders,
-            &changes,
-            footprint,
-            seq,
-        )?;
-        let kind = EntryKind::Redo(of);
-        enter(
-            &mut self.entries,
-            &mut self.recorded,
-            &mut self.origins,
-            Entry { author, id, kind },
-            changes,
-            origin,
-        );
-        self.stacks.redid(author, id, of, seq);
-        Ok(seq)
-    }
-
-    /// Answers what the room is asked, in the form of what it was asked: a call as [`Room::take`] does, a query with
-    /// copies of what the map holds. Where a growth was refused the reply tells it, and the room is as it was.
-    pub fn ask(&mut self, call: RoomCall<A>) -> RoomReply<A>
-        ensures answer { IsAnswered self.old.base self.old.limit self.old.journal call result self.new.journal }
-        ensures base { self.new.base ≡ self.old.base }
-        ensures limit { self.new.limit ≡ self.old.limit }
-    {
-        match call {
-            RoomCall::Take(call) => RoomReply::Take(self.take(call)),
-            RoomCall::Get(name) => RoomReply::Get(self.copy_of(&name)),
-            RoomCall::Rows => RoomReply::Rows(self.front_and_rows()),
-            RoomCall::Undos(author) => RoomReply::Undos(self.undoable_by(&author)),
-            RoomCall::News(from) => RoomReply::News(self.news(from)),
-        }
-    }
-
-    // A copy of the element of a name, or none.
-    fn copy_of(&self, name: &Name) -> Result<Option<Element<A>>, Memory>
-        ensures { IfOk result (λ found. found ≡ row_at (mapof self.now.base self.now.journal) name.now) }
-    {
-        match self.get(name) {
-            Some(element) => Ok(Some(element.copy()?)),
-            None => Ok(None),
-        }
-    }
-
-    // How many entries the journal has, and copies of the rows.
-    fn front_and_rows(&self) -> Result<(u64, Rows<A>), Memory>
-        ensures { IfOk result (λ rows. rows ≡ (length self.now.journal, mapof self.now.base self.now.journal)) }
-    {
-        Ok((self.front(), self.map_rows()?))
-    }
-
-    // Copies of the numbers of an author's entries that stand, and of those that it can redo.
-    fn undoable_by(&self, author: &Author) -> Result<Undoable<A>, Memory>
-        ensures { IfOk result (λ lists. lists ≡ record {
-          undos = undos self.now.journal author.now;
-          redos = redos self.now.journal author.now;
-        }) }
-    {
-        let alloc = *self.entries.allocator();
-        let undos = Numbers::from_vec(Vec::from_slice(alloc, self.undos(author))?);
-        let redos = Numbers::from_vec(Vec::from_slice(alloc, self.redos(author))?);
-        Ok(Undoable { undos, redos })
     }
 
     /// The numbers of an author's entries that stand, rising: those that its undos can take back, where nothing blocks them.
@@ -494,6 +417,7 @@ impl<A: Allocator + Copy> Room<A> {
     pub fn news(&self, from: u64) -> Result<NewsList<A>, Memory>
         ensures { IfOk result (λ told. told ≡ news self.now.base self.now.journal from) }
     {
+        leads_back::<A>();
         let alloc = *self.entries.allocator();
         news_past(alloc, &self.entries, &self.recorded, from)
     }

@@ -7,16 +7,17 @@ use Rattle.osm_elements.specs.Maps.{Rows, is_same}
 use Rattle.osm_elements.specs.Rows.{row_at}
 use Rattle.osm_elements.specs.Facts.Dropped.{row_at-rows_but}
 use Rattle.osm_elements.specs.Facts.Rows.{row_at-put_row}
-use Rattle.edit_simple.specs.Parts.{with_tags, with_nodes, with_members, at_name}
+use Rattle.edit_simple.specs.Contents.{with_tags, with_nodes, with_members, at_name}
 use Rattle.edit_simple.specs.Purge.{goes, what_is_left}
 use Rattle.edit_simple.specs.Tagging.{retagged}
 use Rattle.edit_simple.specs.Facts.EachRow.{row_at-each_row}
-use Rattle.edit_simple.specs.Facts.Moving.{moves}
+use Rattle.edit_simple.specs.Move.{moves}
 use Rattle.edit_simple.specs.Facts.Purging.{row_at-after_purge}
 use Rattle.edit_topology.specs.Facts.EachBut.{row_at-each_but}
-use Rattle.edit_topology.specs.Facts.Joining.{join_row}
-use Rattle.edit_topology.specs.Facts.Merging.{merge_row}
-use Rattle.edit_topology.specs.Facts.Splitting.{split_row, split_off, row_at-after_split}
+use Rattle.edit_topology.specs.Join.{join_row}
+use Rattle.edit_topology.specs.Merge.{merge_row}
+use Rattle.edit_topology.specs.Split.{split_row, split_off}
+use Rattle.edit_topology.specs.Facts.Splitting.{row_at-after_split}
 use Rattle.edit_topology.specs.Facts.Ungluing.{unglue_row, row_at-after_unglue}
 use Rattle.edit_topology.specs.Unglue.{row_standing}
 use Rattle.edit_actions.specs.declared.action.Action.{Action}

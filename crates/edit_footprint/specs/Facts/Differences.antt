@@ -1,30 +1,22 @@
 -- What the differences of maps tell, and maps that differ alike.
-use Rattle.std.proofs.Common.{◌≡◌, Bool, true, false, not, List, [], ◌∷◌, ◌++◌, map, refl, sym, ap, ◌∙◌, cond}
+use Rattle.std.proofs.Common.{◌≡◌, Bool, true, false, not, List, [], ◌∷◌, ◌++◌, refl, sym, ap, ◌∙◌, cond}
 use Rattle.osm_elements.specs.declared.name.Name.{Name}
 use Rattle.osm_elements.specs.Maps.{Rows, is_same, is_among, name_set, names_of}
 use Rattle.osm_elements.specs.Rows.{row_at}
-use Rattle.osm_refs.specs.Inner.Rising.{IsRising}
+use Rattle.osm_refs.specs.Rising.{IsRising}
 use Rattle.osm_refs.specs.Facts.RisingNames.{IsRising-filter, IsRising-name_set}
 use Rattle.osm_changes.specs.declared.change.Change.{Change}
-use Rattle.osm_changes.specs.Changes.{differing, differences, with_row, changed, changed_names}
+use Rattle.osm_changes.specs.Changes.{differing, rows_changes, differences, with_row, changed, changed_names}
 use Rattle.osm_changes.specs.SameRows.{is_same_row}
 use Rattle.osm_changes.specs.Facts.Changing.{row_at-with_row}
 use Rattle.osm_changes.specs.Facts.Differing.{same_row}
+use Rattle.osm_changes.specs.Facts.RowChanges.{names-rows_changes, same-rows_changes}
 use Rattle.osm_changes.specs.Facts.SameElements.{told_same_row}
 use Rattle.edit_simple.specs.Facts.Differences.{is_among-differing, differing_are}
-use Rattle.edit_simple.specs.Facts.PassingRows.{map_same}
 
 module _ {A : Type 0} where
-  -- the change of a name from a map to another
-  abbrev pub change_at : Rows A → Rows A → Name → Change A
-  change_at m n x = record { name = x; before = row_at m x; after = row_at n x }
-
-  names_back : (m n : Rows A) (names : List Name) → changed_names (map (change_at m n) names) ≡ names
-  names_back m n [] = refl
-  names_back m n (x ∷ xs) = ap (λ l. x ∷ l) (names_back m n xs)
-
   pub names-differences : (m n : Rows A) → changed_names (differences m n) ≡ differing m n
-  names-differences m n = names_back m n (differing m n)
+  names-differences m n = names-rows_changes m (row_at n) (differing m n)
 
   -- where two maps don't differ, they have the same row
   pub not_differing : (m n : Rows A) (x : Name) → is_among (differing m n) x ≡ false → row_at m x ≡ row_at n x
@@ -48,8 +40,8 @@ module _ {A : Type 0} where
       → ((y : Name) → is_among names y ≡ false → row_at n2 y ≡ row_at n y)
       → differences n n2 ≡ differences m m2
   same_differences m m2 n n2 names inside kept kept_n =
-      ap (map (change_at n n2)) (sym (differing_are n n2 (differing m m2) (rising m m2) (λ y. is_among-differing m m2 y ∙ sym (test y (is_among names y) refl))))
-      ∙ map_same (change_at n n2) (change_at m m2) (differing m m2) (λ y i. alike y (within y i (is_among names y) refl))
+      ap (rows_changes n (row_at n2)) (sym (differing_are n n2 (differing m m2) (rising m m2) (λ y. is_among-differing m m2 y ∙ sym (test y (is_among names y) refl))))
+      ∙ same-rows_changes n m (row_at n2) (row_at m2) (differing m m2) (λ y i. inside y (within y i (is_among names y) refl))
     where
       test : (y : Name) (b : Bool) → is_among names y ≡ b → not (is_same_row (row_at n y) (row_at n2 y)) ≡ not (is_same_row (row_at m y) (row_at m2 y))
       test y true i = λ j. not (is_same_row ((inside y i).0 j) ((inside y i).1 j))
@@ -59,9 +51,6 @@ module _ {A : Type 0} where
       within : (y : Name) → is_among (differing m m2) y ≡ true → (b : Bool) → is_among names y ≡ b → is_among names y ≡ true
       within y i true e = e
       within y i false e = absurd (cc (sym i ∙ is_among-differing m m2 y ∙ alike_there m m2 y (kept y e)))
-
-      alike : (y : Name) → is_among names y ≡ true → change_at n n2 y ≡ change_at m m2 y
-      alike y i = λ j. record { name = y; before = (inside y i).0 j; after = (inside y i).1 j }
 
   -- the same changes make of the same row the same row
   pub same_changed : (cs : List (Change A)) (m n : Rows A) (y : Name) → row_at n y ≡ row_at m y → row_at (changed n cs) y ≡ row_at (changed m cs) y

@@ -6,7 +6,7 @@ use Rattle.osm_elements.specs.declared.element.Element.{Element}
 use Rattle.osm_elements.specs.Maps.{is_same, is_among}
 use Rattle.osm_elements.specs.Rows.{row_at}
 use Rattle.osm_refs.specs.References.{row_references}
-use Rattle.edit_simple.specs.Parts.{nodes_of, row_tags, with_nodes, with_tags, with_members, at_name}
+use Rattle.edit_simple.specs.Contents.{nodes_of, row_tags, with_nodes, with_tags, with_members, at_name}
 use Rattle.edit_topology.specs.BothTags.{both_tags}
 use Rattle.edit_topology.specs.Join.{end_to_end, joined_members}
 use Rattle.edit_topology.specs.Facts.Changing.{join_changes}

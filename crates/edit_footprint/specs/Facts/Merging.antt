@@ -9,7 +9,7 @@ use Rattle.osm_elements.specs.Rows.{row_at}
 use Rattle.osm_refs.specs.References.{row_references}
 use Rattle.osm_changes.specs.Facts.SoundRows.{sound_in_order}
 use Rattle.edit_simple.specs.declared.refusal.Refusal.TheVariants.{TooFew}
-use Rattle.edit_simple.specs.Parts.{nodes_of, row_tags, with_nodes, with_tags, with_members, at_name}
+use Rattle.edit_simple.specs.Contents.{nodes_of, row_tags, with_nodes, with_tags, with_members, at_name}
 use Rattle.edit_simple.specs.Facts.Checked.{nones, no_least}
 use Rattle.edit_topology.specs.BothTags.{both_tags}
 use Rattle.edit_topology.specs.Merge.{merged_nodes, shrunk}

@@ -17,12 +17,12 @@ use Rattle.osm_changes.specs.Sound.{is_sound}
 use Rattle.osm_changes.specs.Facts.SoundRows.{sound_in_order}
 use Rattle.edit_simple.specs.declared.refusal.Refusal.{Refusal}
 use Rattle.edit_simple.specs.declared.refusal.Refusal.TheVariants.{Absent, OutOfRange, Nothing}
-use Rattle.edit_simple.specs.Move.{is_moved, moved_by, is_out_of_range, left_range}
-use Rattle.edit_simple.specs.Parts.{nodes_of}
+use Rattle.edit_simple.specs.Move.{is_moved, moved_by, is_out_of_range, left_range, moves}
+use Rattle.edit_simple.specs.Contents.{nodes_of}
 use Rattle.edit_simple.specs.Facts.Checked.{nones, not_so, no_least}
 use Rattle.edit_simple.specs.Facts.Kinds.{node_there}
 use Rattle.edit_simple.specs.Facts.Lists.{or_right, second_false, is_among_own}
-use Rattle.edit_simple.specs.Facts.Moving.{moves, elsewhere}
+use Rattle.edit_simple.specs.Facts.Moving.{elsewhere}
 use Rattle.edit_simple.specs.Facts.Relisting.{all_present}
 use Rattle.edit_topology.specs.Facts.Fitting.{none_named}
 use Rattle.edit_actions.specs.declared.action.Action.{Action}

@@ -7,7 +7,7 @@ use Rattle.osm_elements.specs.Maps.{Rows, is_among, is_present}
 use Rattle.osm_elements.specs.Rows.{row_at}
 use Rattle.osm_refs.specs.References.{row_references}
 use Rattle.osm_changes.specs.Sound.{is_sound}
-use Rattle.edit_simple.specs.Parts.{nodes_of}
+use Rattle.edit_simple.specs.Contents.{nodes_of}
 use Rattle.edit_simple.specs.Facts.Rewriting.{fine}
 
 module _ {A : Type 0} where

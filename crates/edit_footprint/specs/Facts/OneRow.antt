@@ -14,8 +14,8 @@ use Rattle.edit_simple.specs.declared.refusal.Refusal.{Refusal}
 use Rattle.edit_simple.specs.declared.refusal.Refusal.TheVariants.{Absent, WrongKind}
 use Rattle.edit_simple.specs.Create.{is_missing}
 use Rattle.edit_simple.specs.Kinds.{is_way, is_relation}
-use Rattle.edit_simple.specs.Parts.{with_tags, with_nodes, with_members, at_name}
-use Rattle.edit_simple.specs.Tagging.{Gifts, retagged}
+use Rattle.edit_simple.specs.Contents.{with_tags, with_nodes, with_members, at_name}
+use Rattle.edit_simple.specs.Tagging.{GivenTags, retagged}
 use Rattle.edit_simple.specs.Facts.Checked.{nones, not_so, from_false, no_least}
 use Rattle.edit_simple.specs.Facts.Kinds.{way_there, relation_there}
 use Rattle.edit_simple.specs.Facts.Lists.{none_left}
@@ -42,7 +42,7 @@ module _ {A : Type 0} where
       by None = refl
       by (Some v) = ap (λ b. Some (cond b (f v) v)) (same_either_way x y ∙ another m a x y own out)
 
-  pub retag_local : (x : Name) (given : Gifts) → IsLocal {A = A} (Retag x given)
+  pub retag_local : (x : Name) (given : GivenTags) → IsLocal {A = A} (Retag x given)
   retag_local x given m n sound sound_n ok agree = accepted_alike m n a agree (λ y o. refl) (others_stay m n a x (with_tags (λ tags. retagged tags given)) (alone x) (row_at-after n a)) same ok
     where
       a : Action A

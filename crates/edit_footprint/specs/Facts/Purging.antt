@@ -11,7 +11,7 @@ use Rattle.osm_elements.specs.Rows.{row_at}
 use Rattle.osm_elements.specs.Facts.Dropped.{same_either_way}
 use Rattle.osm_refs.specs.References.{row_references}
 use Rattle.osm_changes.specs.Sound.{is_sound}
-use Rattle.edit_simple.specs.Parts.{nodes_of, with_nodes, with_members}
+use Rattle.edit_simple.specs.Contents.{nodes_of, with_nodes, with_members}
 use Rattle.edit_simple.specs.Purge.{without, falls_short, goes, what_is_left, after_purge}
 use Rattle.edit_simple.specs.Facts.Lists.{is_among_own}
 use Rattle.edit_simple.specs.Facts.Purging.{without_none, row_at-after_purge, x_goes, is_gone, purge_sound}

@@ -9,7 +9,7 @@ use Rattle.osm_refs.specs.References.{row_references, refers_to}
 use Rattle.osm_changes.specs.Sound.{most_members}
 use Rattle.osm_changes.specs.Facts.SoundRows.{sound_in_order}
 use Rattle.edit_simple.specs.declared.refusal.Refusal.TheVariants.{TooMany}
-use Rattle.edit_simple.specs.Parts.{members_of}
+use Rattle.edit_simple.specs.Contents.{members_of}
 use Rattle.edit_simple.specs.Facts.Checked.{nones, no_least}
 use Rattle.edit_topology.specs.Split.{split_members, overfull}
 use Rattle.edit_topology.specs.Facts.Changing.{split_changes}

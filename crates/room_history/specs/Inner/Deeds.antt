@@ -1,9 +1,10 @@
 -- A journal as what its authors did.
-use Rattle.std.specs.Prelude.{ℕ, List}
+use Rattle.std.specs.Prelude.{◌≡◌, ⊤, ℕ, true, List, Some}
 use Rattle.room_stacks.specs.declared.author.Author.{Author}
 use Rattle.room_stacks.specs.declared.deed.Deed.{Deed}
 use Rattle.room_stacks.specs.declared.deed.Deed.TheVariants.{Did, Undid, Redid}
 use Rattle.room_stacks.specs.Numbered.{deeds_from}
+use Rattle.room_stacks.specs.Stacks.{is_standing, redo, top}
 use Rattle.room_history.specs.declared.entry.Entry.{Entry}
 use Rattle.room_history.specs.declared.entry.EntryKind.{EntryKind}
 use Rattle.room_history.specs.declared.entry.EntryKind.TheVariants.{Do, Undo, Redo}
@@ -20,3 +21,9 @@ module _ {A : Type 0} where
 
   abbrev pub deeds : List (Entry A) → List Deed
   deeds j = deeds_from deed 1 j
+
+  -- an author may do so after what was done: an undo is of an entry of its own that stands, a redo of the one on top of its stack
+  abbrev pub MayNote : List Deed → Author → EntryKind A → Type 0
+  MayNote ds author (Do a) = ⊤
+  MayNote ds author (Undo s) = is_standing ds author s ≡ true
+  MayNote ds author (Redo t) = top (redo ds author) ≡ Some t

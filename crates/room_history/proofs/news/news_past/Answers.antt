@@ -1,5 +1,5 @@
 use Rattle.std.proofs.Common.{◌+◌, ◌++◌, drop, ap, ◌∙◌}
-use Rattle.room_history.specs.News.{news_from}
+use Rattle.room_history.specs.Inner.Telling.{told_from}
 use Rattle.room_history.proofs.Telling.{one_more_told, all_told}
 use Rattle.room_history.proofs.news.news_past.Goals as goal
 
@@ -10,11 +10,11 @@ loop-place-preserved g c =
     let place = c.loop-place.place in
     let entry = c.index-entries-place.result in
     let changes = c.index-recorded-place.result in
-    ap (λ items. items ++ drop (place + 1) (news_from 1 entries recorded)) c.in_ok-push.ensures.items
-    ∙ one_more_told place entries recorded c.loop-place.told.items (drop c.args.from (news_from 1 entries recorded)) entry entry changes changes c.in_ok-news.news c.loop-place-test.true c.requires
+    ap (λ items. items ++ drop (place + 1) (told_from 1 entries recorded)) c.in_ok-push.ensures.items
+    ∙ one_more_told place entries recorded c.loop-place.told.items (drop c.args.from (told_from 1 entries recorded)) entry entry changes changes c.in_ok-news.news c.loop-place-test.true c.requires
     c.index-entries-place.is c.index-recorded-place.is c.in_ok-news.ensures c.loop-place.invariant
 
 pub returns : goal.returns
 returns g c =
     c.from_vec.ensures
-    ∙ all_told c.loop-place.place c.args.entries.now c.args.recorded.now c.loop-place.told.items (drop c.args.from (news_from 1 c.args.entries.now c.args.recorded.now)) c.loop-place-test.false c.loop-place.invariant
+    ∙ all_told c.loop-place.place c.args.entries.now c.args.recorded.now c.loop-place.told.items (drop c.args.from (told_from 1 c.args.entries.now c.args.recorded.now)) c.loop-place-test.false c.loop-place.invariant

@@ -2,13 +2,13 @@ use Rattle.std.proofs.Common.{nat_eq, sym, ap, subst, ◌∙◌}
 use Rattle.std.specs.List.{list_any}
 use Rattle.std.specs.List.Sorted.{IsNonDecreasing}
 use Rattle.std.specs.Option.{option_copied, option_map}
-use Rattle.edit_footprint.specs.Holding.{first_after}
 use Rattle.room_history.specs.Answers.{conflict}
 use Rattle.room_history.specs.Inner.Undoing.{undone_or}
 use Rattle.room_history.specs.Journals.{is_by}
 use Rattle.room_history.proofs.BinarySearching.{undos_rise}
 use Rattle.room_history.proofs.Deciding.{own_refusal, not_standing}
 use Rattle.room_history.proofs.Deeds.{own_stands}
+use Rattle.room_history.proofs.KeptFootprints.{blocker_found}
 use Rattle.room_history.proofs.undo.checked.Goals as goal
 
 pub contains-requires : goal.contains-requires
@@ -20,16 +20,16 @@ returns-in-Some-2 g c p h =
     let told = c.contains.ensures ∙ ap (list_any (λ t. nat_eq t c.args.seq)) c.requires ∙ own_stands c.args.entries.now c.args.author.now c.args.seq own in
     sym (ap (undone_or c.args.seq) (not_standing p c.args.entries.now c.args.author.now c.args.seq own (sym told ∙ c.if-not-contains.true)))
 
-pub returns-in-Some-first_after : goal.returns-in-Some-first_after
-returns-in-Some-first_after g c p h =
+pub returns-in-Some-first_blocker : goal.returns-in-Some-first_blocker
+returns-in-Some-first_blocker g c p h =
     let own = ap (is_by c.args.author.now) (sym c.numbered.ensures ∙ ap option_copied c.in-Some.is) ∙ sym c.is.ensures ∙ c.if-not-is.false in
     let told = c.contains.ensures ∙ ap (list_any (λ t. nat_eq t c.args.seq)) c.requires ∙ own_stands c.args.entries.now c.args.author.now c.args.seq own in
-    let blocked = ap (λ held. first_after held c.args.seq) (sym h) ∙ sym c.first_after.ensures ∙ c.in-Some-first_after.is in
+    let blocked = sym (blocker_found p c.args.entries.now c.args.footprints.now c.args.holders.now h c.args.seq c.first_blocker.result (sym told ∙ c.if-not-contains.false) c.first_blocker.ensures) ∙ c.in-Some-first_blocker.is in
     sym (ap (undone_or c.args.seq) (own_refusal p c.args.entries.now c.args.author.now c.args.seq own (sym told ∙ c.if-not-contains.false) ∙ ap (option_map conflict) blocked))
 
-pub returns-in-None-first_after : goal.returns-in-None-first_after
-returns-in-None-first_after g c p h =
+pub returns-in-None-first_blocker : goal.returns-in-None-first_blocker
+returns-in-None-first_blocker g c p h =
     let own = ap (is_by c.args.author.now) (sym c.numbered.ensures ∙ ap option_copied c.in-Some.is) ∙ sym c.is.ensures ∙ c.if-not-is.false in
     let told = c.contains.ensures ∙ ap (list_any (λ t. nat_eq t c.args.seq)) c.requires ∙ own_stands c.args.entries.now c.args.author.now c.args.seq own in
-    let free = ap (λ held. first_after held c.args.seq) (sym h) ∙ sym c.first_after.ensures ∙ c.in-None-first_after.is in
+    let free = sym (blocker_found p c.args.entries.now c.args.footprints.now c.args.holders.now h c.args.seq c.first_blocker.result (sym told ∙ c.if-not-contains.false) c.first_blocker.ensures) ∙ c.in-None-first_blocker.is in
     sym (ap (undone_or c.args.seq) (own_refusal p c.args.entries.now c.args.author.now c.args.seq own (sym told ∙ c.if-not-contains.false) ∙ ap (option_map conflict) free))

@@ -2,8 +2,8 @@ use Rattle.std.proofs.Common.{sym, subst}
 use Rattle.osm_elements.specs.Facts.NameOrder.{name_cmp_is}
 use Rattle.osm_elements.specs.Facts.SameNames.{name_eq_is}
 use Rattle.osm_refs.specs.Facts.RisingNames.{IsRising-name_set}
-use Rattle.osm_refs.specs.Inner.Rising.{IsRising}
-use Rattle.edit_simple.specs.Facts.NameSets.{sorted_is_name_set}
+use Rattle.osm_refs.specs.Rising.{IsRising}
+use Rattle.osm_refs.specs.Facts.NameSets.{sorted_is_name_set}
 use Rattle.edit_footprint.proofs.footprint.Footprint.of.Goals as goal
 
 pub invariant_of-result : goal.invariant_of-result

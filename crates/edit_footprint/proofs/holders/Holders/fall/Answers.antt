@@ -1,16 +1,25 @@
-use Rattle.std.proofs.Common.{Some, ◌∙◌}
-use Rattle.edit_footprint.proofs.HeldEntries.{found_entry, taken_out, AreHolders-fall}
+use Rattle.std.proofs.Common.{◌∙◌, ap}
+use Rattle.std.specs.Ordering.{nat_cmp}
+use Rattle.rising_lists.specs.Lists.{AreLists, Loses, SameAwaited}
+use Rattle.osm_refs.specs.Facts.InNameOrder.{in_name_order}
+use Rattle.edit_footprint.specs.Holding.{Held, fallen}
+use Rattle.edit_footprint.proofs.Keeping.{none_awaited, falls}
 use Rattle.edit_footprint.proofs.holders.Holders.fall.Goals as goal
 
 pub invariant_of-self : goal.invariant_of-self
 invariant_of-self g c =
-    let held = c.self.inside.held.entries in
-    let found = found_entry held c.args.seq (Some c.in-Some.footprint) c.in-Some.ensures.value in
-    AreHolders-fall held c.remove.new.self.entries c.self.inside.lists.lists.entries c.take_out_all.new.self.lists.entries c.args.seq c.in-Some.footprint c.names.result.now c.self.invariant found c.names.ensures.names
-    (c.remove.ensures.entries ∙ taken_out held c.args.seq c.self.invariant.in_order) c.take_out_all.ensures.numbers c.take_out_all.ensures.none_empty
+    let before = c.self.inside.lists.lists.entries in
+    let after = c.take_out_all.new.self.lists.entries in
+    none_awaited before after c.self.invariant (in_name_order (λ order. SameAwaited order before after) c.take_out_all.ensures.awaited)
 
-pub returns-in-Some : goal.returns-in-Some
-returns-in-Some g c = rw (← c.self.view_is) (c.remove.ensures.entries ∙ taken_out c.self.inside.held.entries c.args.seq c.self.invariant.in_order)
-
-pub returns-in-None : goal.returns-in-None
-returns-in-None g c = rw (← c.self.view_is) (c.remove.ensures.entries ∙ taken_out c.self.inside.held.entries c.args.seq c.self.invariant.in_order)
+pub returns : goal.returns
+returns g c =
+    let before = c.self.inside.lists.lists.entries in
+    let after = c.take_out_all.new.self.lists.entries in
+    let names = c.args.footprint.now in
+    let lost = rw c.names.ensures.names at c.take_out_all.ensures.values in
+    let only = rw (← c.self.view_is) at c.requires in
+    let still = none_awaited before after c.self.invariant (in_name_order (λ order. SameAwaited order before after) c.take_out_all.ensures.awaited) in
+    falls before after names c.args.seq (in_name_order (λ order. AreLists order nat_cmp before) c.self.inside.lists.kept) (in_name_order (λ order. AreLists order nat_cmp after) c.take_out_all.new.self.kept)
+    c.self.invariant still only (in_name_order (λ order. Loses order nat_cmp before after names c.args.seq) lost)
+    ∙ ap (λ (held : Held). fallen held c.args.seq) c.self.view_is

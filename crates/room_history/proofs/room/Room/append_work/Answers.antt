@@ -1,0 +1,86 @@
+use Rattle.std.proofs.Common.{◌≡◌, ◌+◌, ◌++◌, ◌∷◌, [], Some, length, sym, ap, subst, ◌∙◌, rules}
+use Rattle.osm_changes.specs.Changes.{AreFrom}
+use Rattle.edit_footprint.specs.Holding.{standing}
+use Rattle.room_history.specs.Answers.{kind_refusal}
+use Rattle.room_history.specs.Replays.{past, mapof, recorded_next}
+use Rattle.room_history.specs.Inner.Deeds.{deed_by}
+use Rattle.room_history.specs.Inner.Origins.{origin_next}
+use Rattle.room_history.specs.Inner.Rooms.{MayAppend, MayWork}
+use Rattle.room_history.proofs.Stepping.{IsRoom-work, may_stand, stands_next, unspent_deed, above_deeds, work_rises, work_noted, on_err}
+use Rattle.room_history.proofs.room.Room.append_work.Goals as goal
+
+pub stand-requires-clause-next : goal.stand-requires-clause-next
+stand-requires-clause-next g c =
+    let room = c.self.inside in
+    let count : c.len.result ≡ length room.entries.items = search rules in
+    stands_next room.store room.recorded.items room.origins.items room.footprints.items room.holders room.stacks.deeds room.base.value room.limit room.entries.items c.self.invariant c.len.result count
+
+pub stand-requires-clause-held : goal.stand-requires-clause-held
+stand-requires-clause-held g c =
+    let room = c.self.inside in
+    may_stand room.store room.recorded.items room.origins.items room.footprints.items room.holders room.stacks.deeds room.base.value room.limit room.entries.items c.self.invariant
+
+pub stand-requires-clause-rising : goal.stand-requires-clause-rising
+stand-requires-clause-rising g c =
+    let room = c.self.inside in
+    let may = subst (λ s. MayAppend s.limit s.journal c.args.author c.args.id) (sym c.self.view_is) c.requires.may in
+    let work = subst (λ s. MayWork s.journal c.args.author c.args.kind) (sym c.self.view_is) c.requires.work in
+    let ok = ap (λ s. kind_refusal (past s.base s.journal) s.journal c.args.author c.args.kind) c.self.view_is ∙ c.requires.accepted in
+    work_rises room.store room.recorded.items room.origins.items room.footprints.items room.holders room.stacks.deeds room.base.value room.limit room.entries.items c.self.invariant c.args.author c.args.id may c.args.kind work ok
+    c.args.footprint (c.requires.footprint ∙ sym (ap (λ s. (recorded_next (past s.base s.journal) c.args.kind).footprint) c.self.view_is))
+
+pub stand-requires-clause-from : goal.stand-requires-clause-from
+stand-requires-clause-from g c =
+    let here = sym (ap (λ s. mapof s.base s.journal) c.self.view_is) ∙ sym c.self.invariant.rows_are in
+    subst (λ m. AreFrom m c.args.changes) here c.requires.from
+
+pub returns-in_err-stand-clause-err : goal.returns-in_err-stand-clause-err
+returns-in_err-stand-clause-err g c =
+    on_err c.from_residual-in_err-stand.result _ (ap (λ es. record { base = c.self.inside.base.value; limit = c.self.inside.limit; journal = es }) c.make_room.ensures.entries ∙ c.self.view_is)
+
+pub note-requires-clause-unspent : goal.note-requires-clause-unspent
+note-requires-clause-unspent g c =
+    let room = c.self.inside in
+    let may = subst (λ s. MayAppend s.limit s.journal c.args.author c.args.id) (sym c.self.view_is) c.requires.may in
+    unspent_deed room.store room.recorded.items room.origins.items room.footprints.items room.holders room.stacks.deeds room.base.value room.limit room.entries.items c.self.invariant c.args.author c.args.id may c.make_room.new.stacks.deeds c.make_room.ensures.deeds
+
+pub note-requires-clause-may : goal.note-requires-clause-may
+note-requires-clause-may g c =
+    let room = c.self.inside in
+    let may = subst (λ s. MayAppend s.limit s.journal c.args.author c.args.id) (sym c.self.view_is) c.requires.may in
+    let work = subst (λ s. MayWork s.journal c.args.author c.args.kind) (sym c.self.view_is) c.requires.work in
+    work_noted room.store room.recorded.items room.origins.items room.footprints.items room.holders room.stacks.deeds room.base.value room.limit room.entries.items c.self.invariant c.args.author c.args.id may c.args.kind work c.make_room.new.stacks.deeds c.make_room.ensures.deeds
+
+pub note-requires-clause-last : goal.note-requires-clause-last
+note-requires-clause-last g c =
+    let room = c.self.inside in
+    let count : c.len.result ≡ length room.entries.items = search rules in
+    let may = subst (λ s. MayAppend s.limit s.journal c.args.author c.args.id) (sym c.self.view_is) c.requires.may in
+    above_deeds room.store room.recorded.items room.origins.items room.footprints.items room.holders room.stacks.deeds room.base.value room.limit room.entries.items c.self.invariant c.args.author c.args.id may c.make_room.new.stacks.deeds (c.len.result + 1) c.make_room.ensures.deeds (ap (λ n. n + 1) count)
+
+pub invariant_of-self-2 : goal.invariant_of-self-2
+invariant_of-self-2 g c =
+    let room = c.self.inside in
+    let count : c.len.result ≡ length room.entries.items = search rules in
+    let may = subst (λ s. MayAppend s.limit s.journal c.args.author c.args.id) (sym c.self.view_is) c.requires.may in
+    let work = subst (λ s. MayWork s.journal c.args.author c.args.kind) (sym c.self.view_is) c.requires.work in
+    let ok = ap (λ s. kind_refusal (past s.base s.journal) s.journal c.args.author c.args.kind) c.self.view_is ∙ c.requires.accepted in
+    IsRoom-work room.store room.recorded.items room.origins.items room.footprints.items room.holders room.stacks.deeds room.base.value room.limit room.entries.items c.self.invariant c.args.author c.args.id may c.args.kind work ok
+    c.enter.new.entries.items c.stand.new.store c.enter.new.recorded.items c.enter.new.origins.items c.enter.new.footprints.items c.stand.new.holders c.note.new.stacks.deeds c.args.changes c.args.footprint
+    (c.requires.changes ∙ sym (ap (λ s. (recorded_next (past s.base s.journal) c.args.kind).changes) c.self.view_is))
+    (c.requires.footprint ∙ sym (ap (λ s. (recorded_next (past s.base s.journal) c.args.kind).footprint) c.self.view_is))
+    c.in_ok-stand.ensures.ok.0
+    (c.enter.ensures.recorded ∙ ap (λ rs. rs ++ c.args.changes ∷ []) c.make_room.ensures.recorded)
+    (c.enter.ensures.origins ∙ (λ i. c.make_room.ensures.origins i ++ (c.origin_next-origin.ensures ∙ ap (λ os. origin_next os c.args.kind) (c.deref.ensures.value ∙ c.make_room.ensures.origins)) i ∷ []))
+    (c.enter.ensures.footprints ∙ ap (λ fs. fs ++ Some c.args.footprint ∷ []) c.make_room.ensures.footprints)
+    (c.in_ok-stand.ensures.ok.1 ∙ ap (λ n. standing room.holders c.args.footprint (n + 1)) count)
+    (c.note.ensures ∙ (λ i. c.make_room.ensures.deeds i ++ deed_by (count i + 1) c.args.author c.args.id c.args.kind ∷ []))
+    (c.enter.ensures.entries ∙ ap (λ es. es ++ record { author = c.args.author; id = c.args.id; kind = c.args.kind } ∷ []) c.make_room.ensures.entries)
+
+pub returns-in_err-make_room-clause-err : goal.returns-in_err-make_room-clause-err
+returns-in_err-make_room-clause-err g c =
+    on_err c.from_residual.result _ (ap (λ es. record { base = c.self.inside.base.value; limit = c.self.inside.limit; journal = es }) c.make_room.ensures.entries ∙ c.self.view_is)
+
+pub invariant_of-self-in_err-stand : goal.invariant_of-self-in_err-stand
+invariant_of-self-in_err-stand g c =
+    rw (c.in_err-stand.ensures.err.0, c.in_err-stand.ensures.err.1, c.make_room.ensures.recorded, c.make_room.ensures.origins, c.make_room.ensures.footprints, c.make_room.ensures.deeds, c.make_room.ensures.entries) c.self.invariant

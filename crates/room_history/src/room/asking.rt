@@ -1,0 +1,65 @@
+//! What a room is asked, calls and queries alike.
+ghost use Rattle.std.specs.Prelude.{◌≡◌, length, IfOk};
+
+use crate::ask::{RoomCall, RoomReply, Undoable};
+use crate::numbers::Numbers;
+use crate::room::Room;
+use osm_elements::Memory;
+use osm_elements::element::Element;
+use osm_elements::map::Rows;
+use osm_elements::name::Name;
+use room_stacks::author::Author;
+use std::alloc::Allocator;
+
+impl<A: Allocator + Copy> Room<A> {
+    ghost use Rattle.osm_elements.specs.Rows.{row_at};
+    ghost use Rattle.room_history.specs.Asking.{IsAnswered};
+    ghost use Rattle.room_history.specs.Journals.{undos, redos};
+    ghost use Rattle.room_history.specs.Replays.{mapof};
+
+    /// Answers what the room is asked, in the form of what it was asked: a call as [`Room::take`] does, a query with
+    /// copies of what the map holds. Where a growth was refused the reply tells it, and the room is as it was.
+    pub fn ask(&mut self, call: RoomCall<A>) -> RoomReply<A>
+        ensures answer { IsAnswered self.old.base self.old.limit self.old.journal call result self.new.journal }
+        ensures base { self.new.base ≡ self.old.base }
+        ensures limit { self.new.limit ≡ self.old.limit }
+    {
+        match call {
+            RoomCall::Take(call) => RoomReply::Take(self.take(call)),
+            RoomCall::Get(name) => RoomReply::Get(self.copy_of(&name)),
+            RoomCall::Rows => RoomReply::Rows(self.front_and_rows()),
+            RoomCall::Undos(author) => RoomReply::Undos(self.undoable_by(&author)),
+            RoomCall::News(from) => RoomReply::News(self.news(from)),
+        }
+    }
+
+    // A copy of the element of a name, or none.
+    fn copy_of(&self, name: &Name) -> Result<Option<Element<A>>, Memory>
+        ensures { IfOk result (λ found. found ≡ row_at (mapof self.now.base self.now.journal) name.now) }
+    {
+        match self.get(name) {
+            Some(element) => Ok(Some(element.copy()?)),
+            None => Ok(None),
+        }
+    }
+
+    // How many entries the journal has, and copies of the rows.
+    fn front_and_rows(&self) -> Result<(u64, Rows<A>), Memory>
+        ensures { IfOk result (λ rows. rows ≡ (length self.now.journal, mapof self.now.base self.now.journal)) }
+    {
+        Ok((self.front(), self.map_rows()?))
+    }
+
+    // Copies of the numbers of an author's entries that stand, and of those that it can redo.
+    fn undoable_by(&self, author: &Author) -> Result<Undoable<A>, Memory>
+        ensures { IfOk result (λ lists. lists ≡ record {
+          undos = undos self.now.journal author.now;
+          redos = redos self.now.journal author.now;
+        }) }
+    {
+        let alloc = *self.entries.allocator();
+        let undos = Numbers::from_vec(Vec::from_slice(alloc, self.undos(author))?);
+        let redos = Numbers::from_vec(Vec::from_slice(alloc, self.redos(author))?);
+        Ok(Undoable { undos, redos })
+    }
+}
