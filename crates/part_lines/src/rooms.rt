@@ -5,7 +5,6 @@ mod calls;
 mod rates;
 mod runs;
 mod seats;
-mod standing;
 mod turns;
 
 pub use rates::measure;
@@ -14,9 +13,8 @@ use std::io;
 use std::sync::Wait;
 use std::thread::Threads;
 
-/// Prints what is answered to runs of calls, and to seats on one thread and on two, and what blocks entries that stand.
+/// Prints what is answered to runs of calls, and to seats on one thread and on two.
 pub fn show<R: Print + Threads + Wait + Sync>(rt: &R, alloc: Global) -> io::Result<()> {
     runs::show(rt, alloc)?;
-    seats::show(rt, alloc)?;
-    standing::show(rt, alloc)
+    seats::show(rt, alloc)
 }

@@ -1,5 +1,5 @@
--- Names that rise, seen from one to the next.
-use Rattle.std.proofs.Common.{◌≡◌, ◌&&◌, ◌||◌, ◌+◌, ◌<◌, ◌≤◌, ℕ, zero, suc, Bool, true, false, T, List, [], ◌∷◌, ◌++◌, length, get_or, drop, map, refl, sym, ap, ◌∙◌, arith}
+-- Of names that rise none stands twice.
+use Rattle.std.proofs.Common.{◌≡◌, ◌||◌, false, T, List, [], ◌∷◌, ◌++◌, map, refl, sym, ap, ◌∙◌}
 use Rattle.std.specs.Ordering.{is_lt, is_eq}
 use Rattle.std.specs.declared.cmp.Ordering.{Ordering}
 use Rattle.std.specs.declared.cmp.Ordering.TheVariants.{Less, Equal, Greater}
@@ -8,39 +8,12 @@ use Rattle.osm_elements.specs.declared.name.Name.{Name}
 use Rattle.osm_elements.specs.NameOrder.{name_cmp}
 use Rattle.osm_elements.specs.Maps.{is_same, is_among}
 use Rattle.osm_elements.specs.Facts.Dropped.{same_either_way}
-use Rattle.osm_elements.specs.Facts.Entries.{first, second, below_less}
-use Rattle.osm_elements.specs.Facts.Names.{name_cmp_total}
-use Rattle.osm_elements.specs.Facts.Tests.{first_true}
+use Rattle.osm_elements.specs.Facts.Entries.{first, second}
 use Rattle.osm_changes.specs.Changes.{are_rising}
-use Rattle.osm_changes.specs.Facts.SoundRows.{is_true, so}
-use Rattle.room_history.specs.declared.news.NewsRow.{NewsRow}
-use Rattle.room_mirror.specs.Mirrors.{told_names}
-use Rattle.room_mirror.specs.Inner.Rising.{is_before}
 
 -- names with nothing beside them
 abbrev bare : List Name → List (Name × Unit {0})
 bare names = map (λ x. (x, tt)) names
-
-less : (o : Ordering) → T (is_lt o) → o ≡ Less
-less Less h = refl
-less Equal h = absurd h
-less Greater h = absurd h
-
--- a test that another brings along
-with_another : (b r : Bool) → (r ≡ true → b ≡ true) → (b && r) ≡ r
-with_another true r h = refl
-with_another false true h = h refl
-with_another false false h = refl
-
--- the first of the names is below the next, and the rest rise
-by_neighbours : (x y : Name) (ys : List Name) → are_rising (x ∷ y ∷ ys) ≡ (is_before x y && are_rising (y ∷ ys))
-by_neighbours x y ys = by (is_lt (name_cmp x y)) refl
-  where
-    by : (b : Bool) → is_lt (name_cmp x y) ≡ b → ((b && below_all name_cmp x (bare ys)) && are_rising (y ∷ ys)) ≡ (b && are_rising (y ∷ ys))
-    by false e = refl
-    by true e = with_another (below_all name_cmp x (bare ys)) (are_rising (y ∷ ys))
-        (λ r. is_true (below_all name_cmp x (bare ys))
-        (below_less name_cmp name_cmp_total x y (bare ys) (less (name_cmp x y) (so (is_lt (name_cmp x y)) e)) (so (below_all name_cmp y (bare ys)) (first_true (below_all name_cmp y (bare ys)) (are_rising ys) r))))
 
 below_is_other : (o : Ordering) → T (is_lt o) → is_eq o ≡ false
 below_is_other Less h = refl
@@ -55,27 +28,3 @@ earlier (y ∷ ys) x rest h = ap (λ b. b || is_among ys x) (sym (same_either_wa
     apart : (zs : List Name) → T (below_all name_cmp y (bare (zs ++ x ∷ rest))) → is_same y x ≡ false
     apart [] t = below_is_other (name_cmp y x) (first _ _ t)
     apart (z ∷ zs) t = apart zs (second _ _ t)
-
-module _ {A : Type 0} where
-  -- whether the names rise from a place on: the next two do, and those from the next place on
-  pub rising_at : (told : List (NewsRow A)) (i : ℕ) (d e : NewsRow A) → i + 1 < length told
-      → are_rising (told_names (drop i told)) ≡ (is_before (get_or told i d).name (get_or told (i + 1) e).name && are_rising (told_names (drop (i + 1) told)))
-  rising_at [] i d e l = absurd (omega (arith, l))
-  rising_at (r ∷ []) i d e l = absurd (omega (arith, l))
-  rising_at (r ∷ s ∷ rs) zero d e l = by_neighbours r.name s.name (told_names rs)
-  rising_at (r ∷ s ∷ rs) (suc i) d e l =
-      let place : suc i + 1 ≡ suc (i + 1) = omega arith in
-      rw place (rising_at (s ∷ rs) i d e (omega (arith, l)))
-
-  -- and from the last place on there is no next
-  pub rising_last : (told : List (NewsRow A)) (i : ℕ) → i < length told → length told ≤ i + 1 → are_rising (told_names (drop i told)) ≡ are_rising (told_names (drop (i + 1) told))
-  rising_last [] i l m = absurd (omega (arith, l))
-  rising_last (r ∷ []) zero l m = refl
-  rising_last (r ∷ []) (suc i) l m = absurd (omega (arith, l))
-  rising_last (r ∷ s ∷ rs) zero l m = absurd (omega (arith, m))
-  rising_last (r ∷ s ∷ rs) (suc i) l m = let place : suc i + 1 ≡ suc (i + 1) = omega arith in rw place (rising_last (s ∷ rs) i (omega (arith, l)) (omega (arith, m)))
-
-  -- a walk over the names goes on where the next name is above
-  pub rises_on : (told : List (NewsRow A)) (i : ℕ) (d e : NewsRow A) (all : Bool) → i + 1 < length told → true ≡ is_before (get_or told i d).name (get_or told (i + 1) e).name
-      → all ≡ are_rising (told_names (drop i told)) → all ≡ are_rising (told_names (drop (i + 1) told))
-  rises_on told i d e all l above before = before ∙ rising_at told i d e l ∙ ap (λ b. b && are_rising (told_names (drop (i + 1) told))) (sym above)

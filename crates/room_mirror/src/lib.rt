@@ -6,4 +6,3 @@ mod fitting;
 pub mod laws;
 pub mod mirror;
 mod replacing;
-mod same;

@@ -8,7 +8,7 @@ use Rattle.std.specs.Io.KnownBytes.{Consumes, IsAtEnd}
 use Rattle.room_wire.specs.declared.bad.Fault.TheVariants.{NotJson}
 use Rattle.room_wire.specs.Welcomes.{spells_welcome}
 use Rattle.room_program.specs.declared.failed.Failed.{Failed}
-use Rattle.room_program.specs.Bases.{BeginsWith, behind, behind_line, first_line, spelled_base}
+use Rattle.room_program.specs.Bases.{IsFirstLineOf, behind, behind_line, first_line, spelled_base}
 use Rattle.room_program.specs.Lines.{IsLine}
 use Rattle.room_program.specs.Scripts.{Loss}
 use Rattle.room_program.specs.Streams.{Gets, GetsAtMost, WritesAll, WritesEnded, WritesFront, with_bytes}
@@ -42,12 +42,12 @@ known_first line held later is = ap first_line (append_assoc line (10 ∷ held) 
 known_behind : (line held later : List ℕ) → IsLine line → behind_line ((line ++ 10 ∷ held) ++ later) ≡ held ++ later
 known_behind line held later is = ap behind_line (append_assoc line (10 ∷ held) later) ∙ behind_of line (held ++ later) is
 
-pub begins_line : (line held : List ℕ) (left mid : Option (List ℕ)) → IsLine line → Consumes left mid (line ++ 10 ∷ held) → BeginsWith line left
+pub begins_line : (line held : List ℕ) (left mid : Option (List ℕ)) → IsLine line → Consumes left mid (line ++ 10 ∷ held) → IsFirstLineOf line left
 begins_line line held None mid is read = tt
 begins_line line held (Some xs) None is read = absurd read
 begins_line line held (Some xs) (Some ys) is read = ap first_line read ∙ known_first line held ys is
 
-pub begins_last : (line : List ℕ) (left mid : Option (List ℕ)) → IsLine line → Consumes left mid line → IsAtEnd mid → BeginsWith line left
+pub begins_last : (line : List ℕ) (left mid : Option (List ℕ)) → IsLine line → Consumes left mid line → IsAtEnd mid → IsFirstLineOf line left
 begins_last line None mid is read end = tt
 begins_last line (Some xs) None is read end = absurd read
 begins_last line (Some xs) (Some ys) is read end = ap first_line (read ∙ ap (λ k. line ++ k) end ∙ append-nil line) ∙ first_whole line is

@@ -12,9 +12,7 @@ pub mod ReplayLemmas
 pub mod RunLemmas
 pub mod ScriptRooms
 pub mod ServingLemmas
-pub mod SpelledMade
 pub mod StreamLemmas
-pub mod TreesInOrder
 pub mod WordExampleProofs
 pub mod WordLemmas
 pub mod WordWalks

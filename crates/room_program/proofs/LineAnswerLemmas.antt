@@ -20,7 +20,7 @@ use Rattle.room_history.specs.Rooms.{RoomState}
 use Rattle.room_stacks.specs.declared.author.Author.{Author}
 use Rattle.std.specs.declared.alloc.Global.{Global}
 use Rattle.room_wire.specs.Spelling.{spells}
-use Rattle.room_wire.specs.Asked.{text_of}
+use Rattle.room_wire.specs.Asked.{answer_text}
 use Rattle.room_program.specs.LineAnswers.{split_space, said, spelled, body_answer, message_answer, line_answer, line_id, answered, opened_on, script}
 use Rattle.room_program.specs.LineReplies.{IsReply}
 use Rattle.room_program.specs.Scripts.{Loss, Nothing, Answer_lost, Answer_and_id_lost, script_of}
@@ -74,7 +74,7 @@ pub spelled-no_text : (bs : List ℕ) → ¬ IsUtf8 bs → spelled bs ≡ Err (r
 spelled-no_text bs h = cond-false (is_utf8 bs) (spells bs) (Err (record { id = 0; fault = NotJson })) (false_from_ne_true (is_utf8 bs) (λ e. h (IsUtf8-from_is_utf8 bs e)))
 
 -- a line that names no author
-pub answered-none : (room : RoomState Global) (line : List ℕ) → said line ≡ None → (loss : Loss) × (answered loss room line ≡ (text_of 0 answers.BadLine, room))
+pub answered-none : (room : RoomState Global) (line : List ℕ) → said line ≡ None → (loss : Loss) × (answered loss room line ≡ (answer_text 0 answers.BadLine, room))
 unfolding answered
 answered-none room line s = (Nothing, ap (line_answer room) s)
 
@@ -85,15 +85,15 @@ pub answered-reply : (room : RoomState Global) (line message : List ℕ) (author
 unfolding answered
 answered-reply room line message author text after s (inl e) = (Nothing, ap (line_answer room) s ∙ e)
 answered-reply room line message author text after s (inr (inl t, a)) =
-    (Answer_lost, ap (λ said. (text_of (line_id said) answers.Memory, room)) s ∙ (ap (λ (t : List ℕ). (t, room)) (sym t) ∙ ap (λ (r : RoomState Global). (text, r)) (sym a)))
+    (Answer_lost, ap (λ said. (answer_text (line_id said) answers.Memory, room)) s ∙ (ap (λ (t : List ℕ). (t, room)) (sym t) ∙ ap (λ (r : RoomState Global). (text, r)) (sym a)))
 answered-reply room line message author text after s (inr (inr t, a)) =
     (Answer_and_id_lost, ap (λ (t : List ℕ). (t, room)) (sym t) ∙ ap (λ (r : RoomState Global). (text, r)) (sym a))
 
 -- a message that was not read
 pub reply-bad : (room : RoomState Global) (author : Author) (bad : Bad) (read : Result Incoming Bad) (text : List ℕ) → GivesMessage (Err bad) read →
-    text ≡ text_of bad.id (fault_answer bad.fault) → IsReply (message_answer room author read) (id_told read) room text room
-reply-bad room author bad read text (inl (m, inl i)) t = inr (inr (t ∙ (ap (λ f. text_of bad.id (fault_answer f)) m ∙ ap (λ i. text_of i answers.Memory) i)), refl)
-reply-bad room author bad read text (inl (m, inr i)) t = inr (inl (t ∙ (ap (λ f. text_of bad.id (fault_answer f)) m ∙ ap (λ i. text_of i answers.Memory) i)), refl)
+    text ≡ answer_text bad.id (fault_answer bad.fault) → IsReply (message_answer room author read) (id_told read) room text room
+reply-bad room author bad read text (inl (m, inl i)) t = inr (inr (t ∙ (ap (λ f. answer_text bad.id (fault_answer f)) m ∙ ap (λ i. answer_text i answers.Memory) i)), refl)
+reply-bad room author bad read text (inl (m, inr i)) t = inr (inl (t ∙ (ap (λ f. answer_text bad.id (fault_answer f)) m ∙ ap (λ i. answer_text i answers.Memory) i)), refl)
 reply-bad room author bad read text (inr e) t = inl (ap (message_answer room author) e ∙ ap (λ (t : List ℕ). (t, room)) (sym t))
 
 -- what a message asks for was answered

@@ -14,7 +14,7 @@ use Rattle.room_program.specs.declared.fault.StreamFault.{StreamFault}
 use Rattle.room_program.specs.declared.fault.StreamFault.TheVariants.{Read, Write, Memory}
 use Rattle.room_program.specs.declared.sink.Sink as sinks
 use Rattle.room_program.specs.declared.source.Source as sources
-use Rattle.room_program.specs.Bases.{BeginsWith, behind, IsNoBase, IsTold, IsUnread, Tells}
+use Rattle.room_program.specs.Bases.{IsFirstLineOf, behind, IsNoBase, IsTold, IsUnread, Tells}
 use Rattle.room_program.specs.Faults.{base_fault, stream_fault}
 use Rattle.room_program.specs.Inner.FirstLines.{EndsLine, IsBadLine, ReadsTo}
 use Rattle.room_program.specs.Lines.{IsLine}
@@ -76,11 +76,11 @@ module _ {S : Type 0} (source : sources.Ghosts S) (reads : ℕ) (reader reader' 
   unread_no_base (replays.BadBase bad) is = is
   unread_no_base (replays.Unsound x why) is = absurd is
 
-  pub line_begins : (line : List ℕ) (later : Option Later) → IsLine line → ReadsTo source reads reader reader' line later → BeginsWith line (source.left reader)
+  pub line_begins : (line : List ℕ) (later : Option Later) → IsLine line → ReadsTo source reads reader reader' line later → IsFirstLineOf line (source.left reader)
   line_begins line None is to = begins_last line (source.left reader) (source.left reader') is to.0 to.1
   line_begins line (Some it) is to = begins_line line it.held.items (source.left reader) (source.left reader') is to.0
 
-  pub bad_unread : (line : List ℕ) (fault : ReplayFault) → BeginsWith line (source.left reader) → source.has_failed reader' ≡ false → IsBadLine line fault → IsUnread source reads reader reader' fault
+  pub bad_unread : (line : List ℕ) (fault : ReplayFault) → IsFirstLineOf line (source.left reader) → source.has_failed reader' ≡ false → IsBadLine line fault → IsUnread source reads reader reader' fault
   bad_unread line (replays.BadBase bad) begins works is = (works, (line, begins, is))
   bad_unread line replays.Memory begins works is = works
   bad_unread line replays.Read begins works is = absurd is
@@ -92,11 +92,11 @@ module _ {S : Type 0} (source : sources.Ghosts S) (reads : ℕ) (reader reader' 
   told_no_base base bases.Memory told works is = works
 
   -- what the rows of a line are to the reader that gave it
-  pub told_rows : (line : List ℕ) (r : Result (Rows Global) ReplayFault) → BeginsWith line (source.left reader) → IfOk r (λ rows. Tells line rows) → IfOk r (λ rows. IsTold source reader rows)
+  pub told_rows : (line : List ℕ) (r : Result (Rows Global) ReplayFault) → IsFirstLineOf line (source.left reader) → IfOk r (λ rows. Tells line rows) → IfOk r (λ rows. IsTold source reader rows)
   told_rows line (Ok rows) begins told = (line, begins, told)
   told_rows line (Err fault) begins told = tt
 
-  pub bad_rows : (line : List ℕ) (r : Result (Rows Global) ReplayFault) → BeginsWith line (source.left reader) → source.has_failed reader' ≡ false → IfErr r (λ fault. IsBadLine line fault)
+  pub bad_rows : (line : List ℕ) (r : Result (Rows Global) ReplayFault) → IsFirstLineOf line (source.left reader) → source.has_failed reader' ≡ false → IfErr r (λ fault. IsBadLine line fault)
       → IfErr r (λ fault. IsUnread source reads reader reader' fault)
   bad_rows line (Ok rows) begins works bad = tt
   bad_rows line (Err fault) begins works bad = bad_unread line fault begins works bad

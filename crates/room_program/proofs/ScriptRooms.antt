@@ -13,7 +13,7 @@ use Rattle.room_wire.specs.declared.bad.Fault.TheVariants.{NotJson}
 use Rattle.room_wire.specs.declared.incoming.Incoming.{Incoming}
 use Rattle.room_wire.specs.declared.incoming.Body.{Body}
 use Rattle.room_wire.specs.declared.incoming.Body.TheVariants.{Hello, Change, Get, Map, Undos}
-use Rattle.room_program.specs.Made.{is_made_body}
+use Rattle.room_wire.specs.Made.{is_made_body}
 use Rattle.room_wire.specs.Spelling.{spells}
 use Rattle.room_program.specs.LineAnswers.{said, spelled, body_answer, message_answer, line_answer, answered, opened_on}
 use Rattle.room_program.specs.Scripts.{Loss, Nothing, Answer_lost, Answer_and_id_lost, first_loss, later_losses, room_after}

@@ -36,13 +36,13 @@ abbrev pub behind : Option (List ℕ) → Option (List ℕ)
 behind left = option_map behind_line left
 
 -- this is the first line of what it has left, where that is known
-abbrev pub BeginsWith : List ℕ → Option (List ℕ) → Type 0
-BeginsWith line left = IfSome left (λ bytes. first_line bytes ≡ line)
+abbrev pub IsFirstLineOf : List ℕ → Option (List ℕ) → Type 0
+IsFirstLineOf line left = IfSome left (λ bytes. first_line bytes ≡ line)
 
 module _ {S : Type 0} (source : sources.Ghosts S) where
   -- the first line that a reader has left tells this map
   abbrev pub IsTold : S → Rows Global → Type 0
-  IsTold reader base = (line : List ℕ) × BeginsWith line (source.left reader) × Tells line base
+  IsTold reader base = (line : List ℕ) × IsFirstLineOf line (source.left reader) × Tells line base
 
   -- the map that a room begins with: the one that is told where a base is asked for, and else the empty one
   abbrev pub BeginsOn : Bool → S → Rows Global → Type 0
@@ -53,7 +53,7 @@ module _ {S : Type 0} (source : sources.Ghosts S) where
   abbrev pub IsUnread : ℕ → S → S → ReplayFault → Type 0
   IsUnread reads reader reader' Read = (source.has_failed reader' ≡ true) ⊎ Gets source.gets reads reader reader'
   IsUnread reads reader reader' (BadBase bad) =
-      (source.has_failed reader' ≡ false) × ((line : List ℕ) × BeginsWith line (source.left reader) × (spelled_base line ≡ Err bad))
+      (source.has_failed reader' ≡ false) × ((line : List ℕ) × IsFirstLineOf line (source.left reader) × (spelled_base line ≡ Err bad))
   IsUnread reads reader reader' Memory = source.has_failed reader' ≡ false
   IsUnread reads reader reader' _ = ⊥
 

@@ -25,6 +25,6 @@ pub record IsAnswered (before after : Calls) (asked : ℕ) (answer : Result ℕ 
   pub last : after.last ≡ Some (record { asked = asked; answer = answer })
 
 -- that, or 2^64 - 1 calls were interrupted, which is told as a failure
-abbrev pub Answers : Calls → ℕ → Result ℕ Failed → Calls → Type 0
-Answers before asked answer after =
+abbrev pub AnswersAtLast : Calls → ℕ → Result ℕ Failed → Calls → Type 0
+AnswersAtLast before asked answer after =
     IsAnswered before after asked answer ⊎ ((is_err answer ≡ true) × (2 ^ 64 - 1 ≤ after.interrupted))

@@ -3,7 +3,7 @@ use Rattle.std.specs.Prelude.{ℕ, Bool, List, Result, length}
 use Rattle.room_program.specs.declared.failed.Failed.{Failed}
 use Rattle.room_program.specs.declared.noted.Calls.{Calls}
 use Rattle.room_program.specs.declared.io.Io.{Io}
-use Rattle.room_program.specs.Calls.{Answers}
+use Rattle.room_program.specs.Calls.{AnswersAtLast}
 use Rattle.room_program.specs.Noted as noted
 
 module _ {T : Type 0} where
@@ -21,7 +21,7 @@ module _ {T : Type 0} where
 
   -- a read of some length, and a write of these bytes, answers what the stream did
   abbrev pub Gets : Io T → Result ℕ Failed → Io T → Type 0
-  Gets before answer after = (asked : ℕ) × Answers (calls_of before) asked answer (calls_of after)
+  Gets before answer after = (asked : ℕ) × AnswersAtLast (calls_of before) asked answer (calls_of after)
 
   abbrev pub Puts : Io T → List ℕ → Result ℕ Failed → Io T → Type 0
-  Puts before bytes answer after = Answers (calls_of before) (length bytes) answer (calls_of after)
+  Puts before bytes answer after = AnswersAtLast (calls_of before) (length bytes) answer (calls_of after)

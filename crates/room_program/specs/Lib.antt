@@ -8,7 +8,6 @@ pub mod Io
 pub mod LineAnswers
 pub mod LineReplies
 pub mod Lines
-pub mod Made
 pub mod Noted
 pub mod Replays
 pub mod Runs

@@ -15,7 +15,7 @@ use Rattle.room_wire.specs.declared.bad.Fault.TheVariants.{NotJson}
 use Rattle.room_wire.specs.declared.incoming.Incoming.{Incoming}
 use Rattle.room_wire.specs.declared.incoming.Body.{Body}
 use Rattle.room_wire.specs.Answers.{fault_answer}
-use Rattle.room_wire.specs.Asked.{answer_to, asked, text_of}
+use Rattle.room_wire.specs.Asked.{answer_to, asked, answer_text}
 use Rattle.room_wire.specs.Reading.{id_told}
 use Rattle.room_wire.specs.Spelling.{spells}
 use Rattle.room_program.specs.Scripts.{Loss, Nothing, Answer_lost, Answer_and_id_lost, script_of}
@@ -39,10 +39,10 @@ spelled bytes = if is_utf8 bytes then spells bytes else Err (record { id = 0; fa
 
 -- what a message asks of the room, if it asks something, and else that it is a hello too many: here every author's session has begun. The reply, and the room after it
 abbrev pub asked_answer : RoomState Global → ℕ → Option (RoomCall Global) → List ℕ × RoomState Global
-asked_answer room id None = (text_of id answers.HelloTwice, room)
+asked_answer room id None = (answer_text id answers.HelloTwice, room)
 asked_answer room id (Some call) =
     let step = room_answer room.base room.limit room.journal call in
-    (text_of id (answer_to call step.0), record { base = room.base; limit = room.limit; journal = step.1 })
+    (answer_text id (answer_to call step.0), record { base = room.base; limit = room.limit; journal = step.1 })
 
 -- the reply to a message of an author's, and the room after it
 abbrev pub body_answer : RoomState Global → Author → ℕ → Body → List ℕ × RoomState Global
@@ -50,10 +50,10 @@ body_answer room author id body = asked_answer room id (asked author id body)
 
 abbrev pub message_answer : RoomState Global → Author → Result Incoming Bad → List ℕ × RoomState Global
 message_answer room author (Ok message) = body_answer room author message.id message.body
-message_answer room author (Err bad) = (text_of bad.id (fault_answer bad.fault), room)
+message_answer room author (Err bad) = (answer_text bad.id (fault_answer bad.fault), room)
 
 abbrev pub line_answer : RoomState Global → Option (Author × List ℕ) → List ℕ × RoomState Global
-line_answer room None = (text_of 0 answers.BadLine, room)
+line_answer room None = (answer_text 0 answers.BadLine, room)
 line_answer room (Some p) = message_answer room p.0 (spelled p.1)
 
 -- the id that the message of a line tells, or 0
@@ -64,8 +64,8 @@ line_id (Some p) = id_told (spelled p.1)
 -- a line is answered by what it says, or where its answer was lost that there was no memory
 unfoldable pub answered : Loss → RoomState Global → List ℕ → List ℕ × RoomState Global
 answered Nothing room line = line_answer room (said line)
-answered Answer_lost room line = (text_of (line_id (said line)) answers.Memory, room)
-answered Answer_and_id_lost room line = (text_of 0 answers.Memory, room)
+answered Answer_lost room line = (answer_text (line_id (said line)) answers.Memory, room)
+answered Answer_and_id_lost room line = (answer_text 0 answers.Memory, room)
 
 -- a room that begins with a map, and has an empty journal
 abbrev pub opened_on : Rows Global → ℕ → RoomState Global

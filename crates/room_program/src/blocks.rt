@@ -4,7 +4,7 @@ ghost use Rattle.room_program.specs.Lines.{IsLine};
 ghost use Rattle.room_program.specs.Scripts.{Loss};
 ghost use Rattle.room_program.specs.Runs.{AnswersFront, AnswersSome};
 
-use crate::answers::Answers;
+use crate::answerer::Answerer;
 use crate::lines::{push_line, split_line};
 use osm_elements::Memory;
 use std::alloc::Global;
@@ -13,7 +13,7 @@ use std::alloc::Global;
 pub const BLOCK: usize = 65_536;
 
 // Answers a line that began with the bytes that are held, and holds none.
-fn answer_line<A: Answers>(
+fn answer_line<A: Answerer>(
     alloc: Global,
     answers: &mut A,
     begun: &mut Vec<u8>,
@@ -39,7 +39,7 @@ fn answer_line<A: Answers>(
 
 /// Answers the lines that end in the block until their replies fill a block themselves, and gives what is left. Where
 /// the lines come to their end first, what comes after the last is held, and nothing is left.
-pub fn answer_lines<'a, A: Answers>(
+pub fn answer_lines<'a, A: Answerer>(
     alloc: Global,
     answers: &mut A,
     begun: &mut Vec<u8>,

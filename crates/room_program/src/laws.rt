@@ -1,13 +1,11 @@
 //! Laws of the definitions, each the contract of a function that does nothing.
-ghost use Rattle.std.specs.Prelude.{◌≡◌, ◌≤◌, ◌<◌, ◌+◌, ◌^◌, ℕ, List, IfOk, Ok, Some, codes, is_some, true};
+ghost use Rattle.std.specs.Prelude.{◌≡◌, ◌≤◌, ◌<◌, ◌+◌, ◌^◌, ℕ, List, Ok, Some, codes, is_some, true};
 ghost use Rattle.std.specs.declared.alloc.Global.{Global};
 ghost use Rattle.osm_changes.specs.Sound.{is_sound};
 ghost use Rattle.osm_elements.specs.Maps.{Rows};
 ghost use Rattle.room_history.specs.Headline.{Holds};
 ghost use Rattle.room_history.specs.LegalJournals.{IsJournal};
 ghost use Rattle.room_program.specs.LineAnswers.{answered, opened_on};
-ghost use Rattle.room_program.specs.Made.{is_made_body};
-ghost use Rattle.room_wire.specs.Spelling.{spells};
 ghost use Rattle.room_program.specs.Scripts.{Loss, room_after};
 ghost use Rattle.room_program.specs.declared.io.Io.{Io};
 ghost use Rattle.room_program.specs.Io.{calls_of};
@@ -55,13 +53,6 @@ pub fn calls_are_noted<R: Read, W: Write>()
         → (asked : ℕ) × (0 < asked) × ((calls_of after).last ≡ Some (record { asked = asked; answer = Ok 0 })) }
 {}
 
-/// What a text spells has its values as their types keep them: coordinates in their ranges, tags in order and within
-/// their limits, and of a way nodes.
-#[tactic(auto, using(crate::proofs::SpelledMade::spelled_is_made))]
-pub fn what_is_spelled_is_made()
-    ensures { (text : List ℕ) → IfOk (spells text) (λ message. is_made_body message.body ≡ true) }
-{}
-
 /// After any lines of a script, whatever they say and whatever of their answers was lost, the journal of the room is
 /// one that calls lead to from the map that the room began with. Where that map is sound the theorem holds of the
 /// journal: the map is sound, and equals the standing actions replayed in order.
@@ -73,4 +64,5 @@ pub fn a_script_holds()
         → Holds base limit (room_after answered (opened_on base limit) lines lost).journal }
 {
     room_history::laws::journals_hold::<Global>();
+    room_wire::laws::what_is_spelled_is_made();
 }

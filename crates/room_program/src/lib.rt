@@ -5,7 +5,7 @@
 //! the same calls over any streams.
 #![tactic(auto)]
 
-pub mod answers;
+pub mod answerer;
 pub mod asked;
 pub mod base;
 mod blocks;

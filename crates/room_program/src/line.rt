@@ -7,12 +7,12 @@ ghost use Rattle.room_history.specs.Journals.{undos, redos};
 ghost use Rattle.room_history.specs.Replays.{mapof};
 ghost use Rattle.room_wire.specs.declared.answer.Answer.TheVariants as answers;
 ghost use Rattle.room_wire.specs.Answers.{to_value};
-ghost use Rattle.room_wire.specs.Asked.{found_answer, text_of};
+ghost use Rattle.room_wire.specs.Asked.{found_answer, answer_text};
 ghost use Rattle.room_wire.specs.Reading.{GivesMessage, id_told};
 ghost use Rattle.room_program.specs.LineAnswers.{said, spelled, body_answer, message_answer, answered};
 ghost use Rattle.room_program.specs.LineReplies.{IsReply};
 
-use crate::answers::Answers;
+use crate::answerer::Answerer;
 use memchr::memchr;
 use osm_elements::Memory;
 use osm_elements::name::Name;
@@ -27,7 +27,7 @@ use room_wire::{map_text, read_request, reply_text};
 use std::alloc::Global;
 use std::str;
 
-impl Answers for Room<Global> {
+impl Answerer for Room<Global> {
     ghost answered = { answered };
 
     fn answer(&mut self, alloc: Global, line: &[u8]) -> Result<Json, Memory> {
@@ -131,21 +131,21 @@ fn answer_change(
 }
 
 fn answer_get(alloc: Global, room: &Room<Global>, id: u64, name: Name) -> Result<Json, Memory>
-    ensures { IfOk result (λ text. text ≡ text_of id (found_answer name
+    ensures { IfOk result (λ text. text ≡ answer_text id (found_answer name
         (row_at (mapof room.now.base room.now.journal) name))) }
 {
     reply_text(alloc, id, &Answer::found(name, room.get(&name)))
 }
 
 fn answer_map(alloc: Global, room: &Room<Global>, id: u64) -> Result<Json, Memory>
-    ensures { IfOk result (λ text. text ≡ text_of id (answers.Map
+    ensures { IfOk result (λ text. text ≡ answer_text id (answers.Map
         (to_value (mapof room.now.base room.now.journal)) (length room.now.journal))) }
 {
     map_text(alloc, id, room.map(), room.front())
 }
 
 fn answer_undos(alloc: Global, room: &Room<Global>, author: Author, id: u64) -> Result<Json, Memory>
-    ensures { IfOk result (λ text. text ≡ text_of id (answers.Undos
+    ensures { IfOk result (λ text. text ≡ answer_text id (answers.Undos
         (to_value (undos room.now.journal author)) (to_value (redos room.now.journal author)))) }
 {
     let undos = room.undos(&author);

@@ -13,7 +13,7 @@ ghost use Rattle.room_program.specs.Runs.{AnswersFront, AnswersSome};
 ghost use Rattle.room_program.specs.Streams.{Gets, GetsAtMost, TookNone, WritesAll, WritesEnded, WritesFront};
 ghost use Rattle.room_program.specs.Streams.{with_bytes};
 
-use crate::answers::Answers;
+use crate::answerer::Answerer;
 use crate::base::{FirstLine, read_first_line, rows_of};
 use crate::blocks::{BLOCK, answer_lines};
 use crate::fault::{ReplayFault, StreamFault};
@@ -44,7 +44,7 @@ pub(crate) fn put_all<W: Sink>(writer: &mut W, bytes: &[u8]) -> Result<(), Strea
 }
 
 // Answers each line that ends in the block, writes the replies, and holds what comes after the last.
-fn answer_block<A: Answers, W: Sink>(
+fn answer_block<A: Answerer, W: Sink>(
     alloc: Global,
     answers: &mut A,
     writer: &mut W,
@@ -80,7 +80,7 @@ fn answer_block<A: Answers, W: Sink>(
 
 // Reads block after block, and answers the lines of each before it reads the next. The first lines are those of the bytes
 // that are held already, as if the reader gave them first.
-fn replay_blocks<A: Answers, S: Source, W: Sink>(
+fn replay_blocks<A: Answerer, S: Source, W: Sink>(
     alloc: Global,
     answers: &mut A,
     reader: &mut S,

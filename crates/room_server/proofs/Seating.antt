@@ -11,11 +11,11 @@ use Rattle.room_history.specs.declared.entry.Entry.{Entry}
 use Rattle.room_history.specs.declared.turned.Opening.{Opening}
 use Rattle.room_history.specs.LegalJournals.{IsJournal}
 use Rattle.room_history.specs.Turns.{IsTurn}
-use Rattle.room_session.specs.Rooms.{Known, RoomKnown, IsRoom, BeginsWith, AnswersAt, LooksAt as LooksSo, LeavesOthers, Answers, Looks}
+use Rattle.room_session.specs.Rooms.{Known, RoomKnown, HasRoom, AnswersAt, LooksAt as LooksSo, LeavesOthers, AnswersCall, TellsLength}
 use Rattle.room_stacks.specs.SameAuthors.{is_same_author}
 use Rattle.room_stacks.specs.Authors.{author_of}
 use Rattle.turn_desk.specs.Desk.{IsAt, IsSameSeat, TurnsAt, LooksAt, Leaves, Adds}
-use Rattle.turn_desk.specs.History.{History, entries, StartsWith, IsLegal}
+use Rattle.turn_desk.specs.History.{History, entries, BeginsWith, IsLegal}
 use Rattle.room_server.specs.Tables.{AreAt, DeskView, LooksThere, SeatView, SeatedView, TableView, TurnsThere, kept_of, known_at, known_by, known_of, mark, place_by}
 
 -- ---- lists
@@ -48,7 +48,7 @@ same_mark before after same =
     ∙ ap (λ n. ((before.table, before.fixed), n ∷ map (λ k. k.0) after.met)) same.number
     ∙ ap (λ m. ((before.table, before.fixed), before.number ∷ map (λ k. k.0) m)) same.met
 
-entries_begin : {E : Type 0} (h seen : History E) → StartsWith h seen → BeginsWith (entries h) (entries seen)
+entries_begin : {E : Type 0} (h seen : History E) → BeginsWith h seen → BeginsWith (entries h) (entries seen)
 entries_begin h seen starts = (entries starts.0, ap entries starts.1 ∙ map-append (λ p. p.1) seen starts.0)
 
 -- ---- one seat
@@ -97,7 +97,7 @@ place_is_below names None room e = absurd (grind (arith, e))
 place_is_below names (Some name) room e = let found = position-Some (is_same_author name) names room [] e in found.0
 
 -- a room that is known has a name
-pub room_is_below : (s : SeatedView) (room : ℕ) → IsRoom (known_of s) room → room < length s.table.names
+pub room_is_below : (s : SeatedView) (room : ℕ) → HasRoom (known_of s) room → room < length s.table.names
 room_is_below s room is = place_is_below s.table.names (author_of is.0) room is.1
 
 -- ---- a seat among those of a table
@@ -145,14 +145,14 @@ module _ (table : TableView) (olds : List SeatView) (room : ℕ) (desk : DeskVie
   }
 
   module _ (law : (h : History (Entry Global)) → IsLegal IsTurn desk.fixed h → IsJournal desk.fixed.base desk.fixed.limit (entries h)) where
-    pub answered : (call : RoomCall Global) (reply : RoomReply Global) → TurnsAt IsTurn desk.fixed before call reply after → Answers old_known room call reply new_known
+    pub answered : (call : RoomCall Global) (reply : RoomReply Global) → TurnsAt IsTurn desk.fixed before call reply after → AnswersCall old_known room call reply new_known
     answered call reply turn = record {
       here = subst (λ (k : RoomKnown). AnswersAt k call reply (new_known.at room)) (sym known_before)
           (subst (λ (k : RoomKnown). AnswersAt (known_by desk.fixed before) call reply k) (sym known_after) (turned desk.fixed law before after call reply turn));
       leaves = leaves;
     }
 
-    pub looked_at : (count : ℕ) → LooksAt IsTurn desk.fixed before count after → Looks old_known room count new_known
+    pub looked_at : (count : ℕ) → LooksAt IsTurn desk.fixed before count after → TellsLength old_known room count new_known
     looked_at count look = record {
       here = subst (λ (k : RoomKnown). LooksSo k count (new_known.at room)) (sym known_before)
           (subst (λ (k : RoomKnown). LooksSo (known_by desk.fixed before) count k) (sym known_after) (looked desk.fixed law before after count look));
@@ -172,8 +172,8 @@ module _ (table : TableView) (olds news : List SeatView) (room : ℕ) (desk : De
     pub turn_kept : kept_of (seated table news) ≡ kept_of (seated table olds)
     turn_kept = ap (λ s. kept_of (seated table s)) there.others ∙ still_kept table olds room desk there.before there.after at_desk there.was there.same
 
-    pub turn_answers : Answers (known_of (seated table olds)) room call reply (known_of (seated table news))
-    turn_answers = subst (λ s. Answers (known_of (seated table olds)) room call reply (known_of (seated table s))) (sym there.others)
+    pub turn_answers : AnswersCall (known_of (seated table olds)) room call reply (known_of (seated table news))
+    turn_answers = subst (λ s. AnswersCall (known_of (seated table olds)) room call reply (known_of (seated table s))) (sym there.others)
         (answered table olds room desk there.before there.after at_desk there.was law call reply there.turn)
 
   module _ (law : (h : History (Entry Global)) → IsLegal IsTurn desk.fixed h → IsJournal desk.fixed.base desk.fixed.limit (entries h)) (count : ℕ) (there : LooksThere desk room count olds news) where
@@ -183,6 +183,6 @@ module _ (table : TableView) (olds news : List SeatView) (room : ℕ) (desk : De
     pub look_kept : kept_of (seated table news) ≡ kept_of (seated table olds)
     look_kept = ap (λ s. kept_of (seated table s)) there.others ∙ still_kept table olds room desk there.before there.after at_desk there.was there.same
 
-    pub look_looks : Looks (known_of (seated table olds)) room count (known_of (seated table news))
-    look_looks = subst (λ s. Looks (known_of (seated table olds)) room count (known_of (seated table s))) (sym there.others)
+    pub look_looks : TellsLength (known_of (seated table olds)) room count (known_of (seated table news))
+    look_looks = subst (λ s. TellsLength (known_of (seated table olds)) room count (known_of (seated table s))) (sym there.others)
         (looked_at table olds room desk there.before there.after at_desk there.was law count there.look)

@@ -5,13 +5,13 @@ use Rattle.room_history.specs.declared.entry.Entry.{Entry}
 use Rattle.room_history.specs.Turns.{IsTurn}
 use Rattle.room_server.specs.Tables.{DeskView, SeatView}
 use Rattle.turn_desk.specs.Desk.{HasKin}
-use Rattle.turn_desk.specs.History.{History, IsLegal, StartsWith}
+use Rattle.turn_desk.specs.History.{History, IsLegal, BeginsWith}
 
 -- so many entries has a legal history of the desk, which begins with all that the seat has seen and has the entries of each of its kin
 pub record IsFront (desk : DeskView) (seat : SeatView) (front : ℕ) : Type 0 where
   pub h : History (Entry Global)
   pub legal : IsLegal IsTurn desk.fixed h
-  pub begins : StartsWith h seat.seen
+  pub begins : BeginsWith h seat.seen
   pub kin : HasKin h seat
   pub count : front ≡ length h
 

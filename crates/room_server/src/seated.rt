@@ -1,6 +1,6 @@
 //! Desks with a seat at each, as the rooms of a session.
 ghost use Rattle.std.specs.Prelude.{◌≡◌, ◌<◌, Some, vec_len, slice_get};
-ghost use Rattle.room_session.specs.Rooms.{IsRoom, Answers, Looks};
+ghost use Rattle.room_session.specs.Rooms.{HasRoom, AnswersCall, TellsLength};
 ghost use Rattle.room_server.specs.Tables.{AreAt, DeskView, Kept, SeatView, TurnsThere, LooksThere, kept_of, known_of};
 ghost use Rattle.turn_desk.specs.Desk.{IsAt};
 
@@ -60,8 +60,8 @@ impl<'t> Rooms for Seated<'t> {
     }
 
     fn turn<W: Wait>(&mut self, rt: &W, room: usize, call: RoomCall<Global>) -> RoomReply<Global>
-        requires { IsRoom (known_of self.old) room }
-        ensures answers { Answers (known_of self.old) room call result (known_of self.new) }
+        requires { HasRoom (known_of self.old) room }
+        ensures answers { AnswersCall (known_of self.old) room call result (known_of self.new) }
         // It is one turn at the room's desk through the room's seat.
         ensures turn { (desk : DeskView) × (slice_get self.old.table.desks room ≡ Some desk) × TurnsThere desk room call result self.old.seats self.new.seats }
         ensures kept { kept_of self.new ≡ kept_of self.old }
@@ -72,8 +72,8 @@ impl<'t> Rooms for Seated<'t> {
     }
 
     fn front(&mut self, room: usize) -> u64
-        requires { IsRoom (known_of self.old) room }
-        ensures looks { Looks (known_of self.old) room result (known_of self.new) }
+        requires { HasRoom (known_of self.old) room }
+        ensures looks { TellsLength (known_of self.old) room result (known_of self.new) }
         // It is one look at the room's desk through the room's seat.
         ensures look { (desk : DeskView) × (slice_get self.old.table.desks room ≡ Some desk) × LooksThere desk room result self.old.seats self.new.seats }
         ensures kept { kept_of self.new ≡ kept_of self.old }

@@ -5,7 +5,7 @@ use Rattle.std.proofs.lemmas.List.{append_cancel_left}
 use Rattle.std.specs.declared.alloc.AllocError.{AllocError}
 use Rattle.std.specs.declared.alloc.Global.{Global}
 use Rattle.room_stacks.specs.declared.author.Author.{Author}
-use Rattle.room_history.specs.Answers.{answer, answered, call_refusal, meant}
+use Rattle.room_history.specs.Answers.{answer, answer_by, call_refusal, meant}
 use Rattle.room_history.specs.Turns.{IsTurn}
 use Rattle.room_history.specs.declared.ask.RoomCall.{RoomCall}
 use Rattle.room_history.specs.declared.ask.RoomCall.TheVariants as calls
@@ -26,7 +26,7 @@ use Rattle.room_session.specs.declared.sent.Sent.{Sent}
 use Rattle.room_session.specs.declared.session.State.{State}
 use Rattle.room_session.specs.declared.session.State.TheVariants.{BeforeHello, Open, Closed}
 use Rattle.room_session.specs.Events.{AsksForNews, Begins, BeginsBy, CatchesUp, FindsNoNews, Greets, HearsText, Makes, MakesBy, Replies}
-use Rattle.room_session.specs.Rooms.{Known, RoomKnown, Answers, Looks, MakesNone, MakesOne}
+use Rattle.room_session.specs.Rooms.{Known, RoomKnown, AnswersCall, TellsLength, MakesNone, MakesOne}
 
 -- ---- what one turn adds
 
@@ -36,7 +36,7 @@ IsOf author id entry = (entry.author ≡ author) × (entry.id ≡ id)
 
 -- the answer to a call leaves the journal, or adds one entry of its author's under its id
 answer_adds : (j : List (Entry Global)) (c : Call Global) (refused : Option (Reply Global)) (kind : Option (EntryKind Global))
-    → ((answered j c refused kind).1 ≡ j) ⊎ ((entry : Entry Global) × IsOf c.author c.id entry × ((answered j c refused kind).1 ≡ j ++ entry ∷ []))
+    → ((answer_by j c refused kind).1 ≡ j) ⊎ ((entry : Entry Global) × IsOf c.author c.id entry × ((answer_by j c refused kind).1 ≡ j ++ entry ∷ []))
 answer_adds j c (Some reply) kind = inl refl
 answer_adds j c None None = inl refl
 answer_adds j c None (Some kind) = inr (record { author = c.author; id = c.id; kind = kind }, (refl, refl), refl)
@@ -86,17 +86,17 @@ others_same before after room here others = λ other. one other (cases_eq other 
     one other (inl same) = subst (λ r. (after.at r).mine ≡ (before.at r).mine) (sym same) here
     one other (inr apart) = ap (λ (k : RoomKnown). k.mine) (others other apart)
 
-looks_make_none : (before : Known) (room count : ℕ) (after : Known) → Looks before room count after → MakesNone before after
+looks_make_none : (before : Known) (room count : ℕ) (after : Known) → TellsLength before room count after → MakesNone before after
 looks_make_none before room count after looks = others_same before after room looks.here.mine looks.leaves.others
 
-query_makes_none : (before : Known) (room : ℕ) (call : RoomCall Global) (reply : RoomReply Global) (after : Known) → ((c : Call Global) → call ≢ calls.Take c) → Answers before room call reply after → MakesNone before after
+query_makes_none : (before : Known) (room : ℕ) (call : RoomCall Global) (reply : RoomReply Global) (after : Known) → ((c : Call Global) → call ≢ calls.Take c) → AnswersCall before room call reply after → MakesNone before after
 query_makes_none before room call reply after query answers =
     let here = answers.here in
     let stays = query_leaves (before.at room).opening here.journal call reply (after.at room).seen query here.turn in
     let none = left_adds_none here.journal here.added (sym here.grows ∙ stays) in
     others_same before after room (here.mine ∙ ap (λ added. (before.at room).mine ++ added) none ∙ append-nil (before.at room).mine) answers.leaves.others
 
-call_makes : (before : Known) (room : ℕ) (c : Call Global) (reply : RoomReply Global) (after : Known) → Answers before room (calls.Take c) reply after → MakesNone before after ⊎ MakesOne before room c.author c.id after
+call_makes : (before : Known) (room : ℕ) (c : Call Global) (reply : RoomReply Global) (after : Known) → AnswersCall before room (calls.Take c) reply after → MakesNone before after ⊎ MakesOne before room c.author c.id after
 call_makes before room c reply after answers = by (call_adds (before.at room).opening answers.here.journal c reply (after.at room).seen answers.here.turn)
   where
     by : ((after.at room).seen ≡ answers.here.journal) ⊎ ((entry : Entry Global) × IsOf c.author c.id entry × ((after.at room).seen ≡ answers.here.journal ++ entry ∷ [])) → MakesNone before after ⊎ MakesOne before room c.author c.id after

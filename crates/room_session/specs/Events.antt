@@ -15,7 +15,7 @@ use Rattle.room_wire.specs.declared.incoming.Body.{Body}
 use Rattle.room_wire.specs.declared.incoming.Body.TheVariants.{Hello, Change, Get, Map, Undos}
 use Rattle.room_wire.specs.declared.incoming.Incoming.{Incoming}
 use Rattle.room_wire.specs.Answers.{fault_answer}
-use Rattle.room_wire.specs.Asked.{answer_to, asked, text_of}
+use Rattle.room_wire.specs.Asked.{answer_to, asked, answer_text}
 use Rattle.room_wire.specs.Reading.{GivesMessage}
 use Rattle.room_wire.specs.Spelling.{spells}
 use Rattle.room_wire.specs.Trees.{map_tree}
@@ -23,7 +23,7 @@ use Rattle.room_session.specs.declared.sent.Sent.{Sent}
 use Rattle.room_session.specs.declared.session.State.{State}
 use Rattle.room_session.specs.declared.session.State.TheVariants.{BeforeHello, Open, Closed}
 use Rattle.room_session.specs.NewsTexts.{news_texts}
-use Rattle.room_session.specs.Rooms.{Known, Answers, Looks, IsLegal, MakesNone, MakesOne}
+use Rattle.room_session.specs.Rooms.{Known, AnswersCall, TellsLength, IsJournalOf, MakesNone, MakesOne}
 
 -- these texts go out, and the connection stays
 abbrev pub only : List (List ℕ) → Sent
@@ -53,25 +53,25 @@ module _ (before : Known) (sent : Sent) (state : State) (after : Known) where
   Welcomes id room author =
       let opening = (before.at room).opening in
       let journal = (after.at room).seen in
-      IsLegal opening journal × (sent ≡ only (compact_text (map_tree id (mapof opening.base journal) (length journal)) ∷ [])) × (state ≡ Open room author (length journal))
+      IsJournalOf opening journal × (sent ≡ only (compact_text (map_tree id (mapof opening.base journal) (length journal)) ∷ [])) × (state ≡ Open room author (length journal))
 
   -- a hello to the room at a place, if there is one: the room is asked for its rows in one turn, and it is told where it had no memory for them
   abbrev pub Greets : ℕ → Author → Option ℕ → Type 0
-  Greets id author None = RefusesAlone (text_of id answers.NoRoom)
+  Greets id author None = RefusesAlone (answer_text id answers.NoRoom)
   Greets id author (Some room) =
-      (reply : RoomReply Global) × Answers before room calls.Rows reply after × (Welcomes id room author ⊎ ((reply ≡ wanting calls.Rows) × Refuses sent state (text_of id answers.Memory)))
+      (reply : RoomReply Global) × AnswersCall before room calls.Rows reply after × (Welcomes id room author ⊎ ((reply ≡ wanting calls.Rows) × Refuses sent state (answer_text id answers.Memory)))
 
   -- a message before a hello
   abbrev pub BeginsBy : ℕ → Body → Type 0
   BeginsBy id (Hello room author) = Greets id author (before.place room)
-  BeginsBy id (Change request) = RefusesAlone (text_of id answers.NoHello)
-  BeginsBy id (Get name) = RefusesAlone (text_of id answers.NoHello)
-  BeginsBy id Map = RefusesAlone (text_of id answers.NoHello)
-  BeginsBy id Undos = RefusesAlone (text_of id answers.NoHello)
+  BeginsBy id (Change request) = RefusesAlone (answer_text id answers.NoHello)
+  BeginsBy id (Get name) = RefusesAlone (answer_text id answers.NoHello)
+  BeginsBy id Map = RefusesAlone (answer_text id answers.NoHello)
+  BeginsBy id Undos = RefusesAlone (answer_text id answers.NoHello)
 
   abbrev pub Begins : Result Incoming Bad → Type 0
   Begins (Ok message) = BeginsBy message.id message.body
-  Begins (Err bad) = RefusesAlone (text_of bad.id (fault_answer bad.fault))
+  Begins (Err bad) = RefusesAlone (answer_text bad.id (fault_answer bad.fault))
 
 -- a text before a hello, but for what was due there was no memory
 abbrev pub EndsFirst : Known → Known → Result Incoming Bad → Type 0
@@ -81,21 +81,21 @@ EndsFirst before after said = (due : Sent) × (next : State) × Begins before du
 
 -- what a message asks of the room is asked in one turn, and the text is that of the answer; or nothing is asked
 abbrev pub RepliesTo : Known → ℕ → ℕ → Option (RoomCall Global) → List ℕ → Known → Type 0
-RepliesTo before room id None text after = (text ≡ text_of id answers.HelloTwice) × (after ≡ before)
-RepliesTo before room id (Some call) text after = (reply : RoomReply Global) × Answers before room call reply after × (text ≡ text_of id (answer_to call reply))
+RepliesTo before room id None text after = (text ≡ answer_text id answers.HelloTwice) × (after ≡ before)
+RepliesTo before room id (Some call) text after = (reply : RoomReply Global) × AnswersCall before room call reply after × (text ≡ answer_text id (answer_to call reply))
 
 -- the text is the reply to what was read or refused
 abbrev pub Replies : Known → ℕ → Author → Result Incoming Bad → List ℕ → Known → Type 0
 Replies before room author (Ok message) text after = RepliesTo before room message.id (asked author message.id message.body) text after
-Replies before room author (Err bad) text after = (text ≡ text_of bad.id (fault_answer bad.fault)) × (after ≡ before)
+Replies before room author (Err bad) text after = (text ≡ answer_text bad.id (fault_answer bad.fault)) × (after ≡ before)
 
 -- the room is looked at, and has no entries past those that were told
 abbrev pub FindsNoNews : Known → ℕ → ℕ → Known → Type 0
-FindsNoNews before room told after = (count : ℕ) × (count ≤ told) × Looks before room count after
+FindsNoNews before room told after = (count : ℕ) × (count ≤ told) × TellsLength before room count after
 
 -- the room is looked at, has more, and is asked for the news past what was told, in one turn
 abbrev pub AsksForNews : Known → ℕ → ℕ → Known → Type 0
-AsksForNews before room told after = (count : ℕ) × (told < count) × (looked : Known) × Looks before room count looked × ((reply : RoomReply Global) × Answers looked room (calls.News told) reply after)
+AsksForNews before room told after = (count : ℕ) × (told < count) × (looked : Known) × TellsLength before room count looked × ((reply : RoomReply Global) × AnswersCall looked room (calls.News told) reply after)
 
 -- the texts go out, and then the news of all that is then seen of the room, which is a legal journal, past what was told
 abbrev pub CatchesUp : Known → Sent → State → Known → ℕ → Author → ℕ → List (List ℕ) → Type 0
@@ -103,7 +103,7 @@ CatchesUp before sent state after room author told texts =
     let opening = (before.at room).opening in
     let journal = (after.at room).seen in
     (FindsNoNews before room told after ⊎ AsksForNews before room told after)
-    × IsLegal opening journal × (sent ≡ only (texts ++ news_texts (news opening.base journal told))) × (state ≡ Open room author (length journal))
+    × IsJournalOf opening journal × (sent ≡ only (texts ++ news_texts (news opening.base journal told))) × (state ≡ Open room author (length journal))
 
 -- a text: the reply goes out, and then the news
 abbrev pub GoesOn : Known → Sent → State → Known → ℕ → Author → ℕ → Result Incoming Bad → Type 0

@@ -8,6 +8,7 @@ use Rattle.room_history.specs.declared.turned.Opening.{Opening}
 use Rattle.room_history.specs.LegalJournals.{IsJournal}
 use Rattle.room_history.specs.Turns.{IsTurn}
 use Rattle.room_stacks.specs.declared.author.Author.{Author}
+use Rattle.turn_desk.specs.History.{BeginsWith}
 
 -- what is known of one room: what no call changes of it, the entries that were seen by now, those of them that calls through these rooms made, how long its journal was at each look and at the end of each turn, in order, and how many turns were taken
 pub record RoomKnown : Type 0 where
@@ -23,16 +24,12 @@ pub record Known : Type 0 where
   pub at : ℕ → RoomKnown
 
 -- a room stands at the place
-abbrev pub IsRoom : Known → ℕ → Type 0
-IsRoom known room = (name : List ℕ) × (known.place name ≡ Some room)
+abbrev pub HasRoom : Known → ℕ → Type 0
+HasRoom known room = (name : List ℕ) × (known.place name ≡ Some room)
 
 -- a journal that calls lead to in a room
-abbrev pub IsLegal : Opening Global → List (Entry Global) → Type 0
-IsLegal opening journal = IsJournal opening.base opening.limit journal
-
--- a list begins with another
-abbrev pub BeginsWith : {X : Type 0} → List X → List X → Type 0
-BeginsWith {X} list front = (rest : List X) × (list ≡ front ++ rest)
+abbrev pub IsJournalOf : Opening Global → List (Entry Global) → Type 0
+IsJournalOf opening journal = IsJournal opening.base opening.limit journal
 
 -- of a room all that was known is, and perhaps more
 pub record KeepsRoom (before after : RoomKnown) : Type 0 where
@@ -50,7 +47,7 @@ pub record KeepsKnown (before after : Known) : Type 0 where
 -- the call was answered in one turn, after a legal journal, which begins with all that was seen of the room
 pub record AnswersAt (before : RoomKnown) (call : RoomCall Global) (reply : RoomReply Global) (after : RoomKnown) : Type 0 where
   pub journal : List (Entry Global)
-  pub legal : IsLegal before.opening journal
+  pub legal : IsJournalOf before.opening journal
   pub begins : BeginsWith journal before.seen
   pub turn : IsTurn before.opening journal call reply after.seen
   -- what the call added to that journal, and it alone, is one more of the entries that were made through these rooms
@@ -63,7 +60,7 @@ pub record AnswersAt (before : RoomKnown) (call : RoomCall Global) (reply : Room
 
 -- the journal was looked at and is so long, and what is then seen of the room is all of it; no turn was taken
 pub record LooksAt (before : RoomKnown) (count : ℕ) (after : RoomKnown) : Type 0 where
-  pub legal : IsLegal before.opening after.seen
+  pub legal : IsJournalOf before.opening after.seen
   pub begins : BeginsWith after.seen before.seen
   pub whole : count ≡ length after.seen
   pub mine : after.mine ≡ before.mine
@@ -77,12 +74,12 @@ pub record LeavesOthers (before : Known) (room : ℕ) (after : Known) : Type 0 w
   pub others : (other : ℕ) → other ≢ room → after.at other ≡ before.at other
 
 -- the room was asked in one turn and gave this reply, and nothing else was asked
-pub record Answers (before : Known) (room : ℕ) (call : RoomCall Global) (reply : RoomReply Global) (after : Known) : Type 0 where
+pub record AnswersCall (before : Known) (room : ℕ) (call : RoomCall Global) (reply : RoomReply Global) (after : Known) : Type 0 where
   pub here : AnswersAt (before.at room) call reply (after.at room)
   pub leaves : LeavesOthers before room after
 
 -- the room was looked at once, and nothing was asked
-pub record Looks (before : Known) (room : ℕ) (count : ℕ) (after : Known) : Type 0 where
+pub record TellsLength (before : Known) (room : ℕ) (count : ℕ) (after : Known) : Type 0 where
   pub here : LooksAt (before.at room) count (after.at room)
   pub leaves : LeavesOthers before room after
 

@@ -6,9 +6,9 @@ ghost use Rattle.room_history.specs.declared.ask.RoomReply.{RoomReply};
 ghost use Rattle.room_session.specs.declared.sent.Sent.{Sent};
 ghost use Rattle.room_session.specs.declared.session.State.{State};
 ghost use Rattle.room_session.specs.Events.{only, Begins, BeginsBy, EndsFirst, Greets, Refuses};
-ghost use Rattle.room_session.specs.Rooms.{Answers, KeepsKnown, IsRoom};
+ghost use Rattle.room_session.specs.Rooms.{AnswersCall, KeepsKnown, HasRoom};
 ghost use Rattle.room_session.specs.Running.{IsRunOn};
-ghost use Rattle.room_wire.specs.Asked.{text_of};
+ghost use Rattle.room_wire.specs.Asked.{answer_text};
 ghost use Rattle.room_wire.specs.declared.bad.Bad.{Bad};
 ghost use Rattle.room_wire.specs.declared.incoming.Incoming.{Incoming};
 ghost use Rattle.room_wire.specs.Reading.{GivesMessage};
@@ -82,9 +82,9 @@ fn welcome<R: Rooms, W: Wait>(
     room: usize,
     author: Author,
 ) -> Result<Next, Memory>
-    requires { IsRoom (R.known rooms.old) room }
+    requires { HasRoom (R.known rooms.old) room }
     ensures ok { IfOk result (λ next. Greets (R.known rooms.old) (only next.texts) next.state (R.known rooms.new) id author (Some room)) }
-    ensures err { OnErr result ((reply : RoomReply Global) × Answers (R.known rooms.old) room calls.Rows reply (R.known rooms.new)) }
+    ensures err { OnErr result ((reply : RoomReply Global) × AnswersCall (R.known rooms.old) room calls.Rows reply (R.known rooms.new)) }
     ensures keeps { KeepsKnown (R.known rooms.old) (R.known rooms.new) }
     ensures kept { R.kept rooms.new ≡ R.kept rooms.old }
     ensures runs { IfOk result (λ next. IsRunOn next.state (R.known rooms.new)) }
@@ -103,7 +103,7 @@ fn welcome<R: Rooms, W: Wait>(
 
 // An answer goes out, and the session has not begun.
 fn refuse(alloc: Global, id: u64, answer: &Answer<'_>) -> Result<Next, Memory>
-    ensures { IfOk result (λ next. Refuses (only next.texts) next.state (text_of id answer.now)) }
+    ensures { IfOk result (λ next. Refuses (only next.texts) next.state (answer_text id answer.now)) }
 {
     let texts = one(alloc, id, answer)?;
     let state = State::BeforeHello;
@@ -112,7 +112,7 @@ fn refuse(alloc: Global, id: u64, answer: &Answer<'_>) -> Result<Next, Memory>
 
 // The text of an answer alone.
 fn one(alloc: Global, id: u64, answer: &Answer<'_>) -> Result<Texts, Memory>
-    ensures { IfOk result (λ texts. texts ≡ text_of id answer.now ∷ []) }
+    ensures { IfOk result (λ texts. texts ≡ answer_text id answer.now ∷ []) }
 {
     let mut texts = Texts::empty(alloc);
     texts.push(reply_text(alloc, id, answer)?)?;

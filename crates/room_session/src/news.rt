@@ -4,7 +4,7 @@ ghost use Rattle.room_session.specs.Events.{only, AsksForNews, CatchesUp};
 ghost use Rattle.room_session.specs.Inner.LastTold.{last_told};
 ghost use Rattle.room_session.specs.Inner.Telling.{Tells};
 ghost use Rattle.room_session.specs.NewsTexts.{news_texts};
-ghost use Rattle.room_session.specs.Rooms.{KeepsKnown, IsRoom};
+ghost use Rattle.room_session.specs.Rooms.{KeepsKnown, HasRoom};
 ghost use Rattle.room_session.specs.Running.{IsRunOn};
 
 use crate::next::Next;
@@ -28,7 +28,7 @@ pub(crate) fn news_alone<R: Rooms, W: Wait>(
     author: Author,
     told: u64,
 ) -> Result<Next, Memory>
-    requires room { IsRoom (R.known rooms.old) room }
+    requires room { HasRoom (R.known rooms.old) room }
     requires told { told ≤ length ((R.known rooms.old).at room).seen }
     ensures ok { IfOk result (λ next. CatchesUp (R.known rooms.old) (only next.texts) next.state (R.known rooms.new) room author told []) }
     ensures err { OnErr result (AsksForNews (R.known rooms.old) room told (R.known rooms.new)) }
@@ -49,7 +49,7 @@ pub(crate) fn catch_up<R: Rooms, W: Wait>(
     told: u64,
     mut texts: Texts,
 ) -> Result<Next, Memory>
-    requires room { IsRoom (R.known rooms.old) room }
+    requires room { HasRoom (R.known rooms.old) room }
     requires told { told ≤ length ((R.known rooms.old).at room).seen }
     ensures ok { IfOk result (λ next. CatchesUp (R.known rooms.old) (only next.texts) next.state (R.known rooms.new) room author told texts) }
     ensures err { OnErr result (AsksForNews (R.known rooms.old) room told (R.known rooms.new)) }
@@ -71,7 +71,7 @@ fn tell<R: Rooms, W: Wait>(
     told: u64,
     texts: &mut Texts,
 ) -> Result<u64, Memory>
-    requires room { IsRoom (R.known rooms.old) room }
+    requires room { HasRoom (R.known rooms.old) room }
     requires told { told ≤ length ((R.known rooms.old).at room).seen }
     ensures ok { IfOk result (λ front. Tells (R.known rooms.old) room told texts.old texts.new front (R.known rooms.new)) }
     ensures err { OnErr result (AsksForNews (R.known rooms.old) room told (R.known rooms.new)) }

@@ -1,7 +1,7 @@
 //! Replies in an open session.
 ghost use Rattle.std.specs.Prelude.{◌≡◌, ◌≤◌, ℕ, List, IfOk, MatchResult, Result, length};
 ghost use Rattle.room_session.specs.Events.{only, BreaksOff, GoesOn, Replies, RepliesTo};
-ghost use Rattle.room_session.specs.Rooms.{KeepsKnown, IsRoom};
+ghost use Rattle.room_session.specs.Rooms.{KeepsKnown, HasRoom};
 ghost use Rattle.room_session.specs.Running.{IsRunOn};
 ghost use Rattle.room_wire.specs.Asked.{asked};
 ghost use Rattle.room_wire.specs.declared.bad.Bad.{Bad};
@@ -33,7 +33,7 @@ pub(crate) fn reply_and_news<R: Rooms, W: Wait>(
     told: u64,
     text: &str,
 ) -> Result<Next, Memory>
-    requires room { IsRoom (R.known rooms.old) room }
+    requires room { HasRoom (R.known rooms.old) room }
     requires told { told ≤ length ((R.known rooms.old).at room).seen }
     ensures text { (said : Result Incoming Bad) × GivesMessage said (spells text.now) × MatchResult result
         (λ next. GoesOn (R.known rooms.old) (only next.texts) next.state (R.known rooms.new) room author told said)
@@ -57,7 +57,7 @@ fn reply<R: Rooms, W: Wait>(
     author: Author,
     text: &str,
 ) -> Result<Json, Memory>
-    requires { IsRoom (R.known rooms.old) room }
+    requires { HasRoom (R.known rooms.old) room }
     ensures text { (said : Result Incoming Bad) × GivesMessage said (spells text.now) × (due : List ℕ)
         × Replies (R.known rooms.old) room author said due (R.known rooms.new) × IfOk result (λ json. json ≡ due) }
     ensures keeps { KeepsKnown (R.known rooms.old) (R.known rooms.new) }
@@ -79,7 +79,7 @@ fn reply_to<R: Rooms, W: Wait>(
     id: u64,
     body: Body,
 ) -> Result<Json, Memory>
-    requires { IsRoom (R.known rooms.old) room }
+    requires { HasRoom (R.known rooms.old) room }
     ensures body { (due : List ℕ) × RepliesTo (R.known rooms.old) room id (asked author id body) due (R.known rooms.new)
         × IfOk result (λ json. json ≡ due) }
     ensures keeps { KeepsKnown (R.known rooms.old) (R.known rooms.new) }

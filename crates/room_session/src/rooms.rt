@@ -1,6 +1,6 @@
 //! What a session asks of the rooms.
 ghost use Rattle.std.specs.Prelude.{◌≡◌};
-ghost use Rattle.room_session.specs.Rooms.{Known, IsRoom, Answers, Looks};
+ghost use Rattle.room_session.specs.Rooms.{Known, HasRoom, AnswersCall, TellsLength};
 
 use room_history::ask::{RoomCall, RoomReply};
 use std::alloc::Global;
@@ -22,13 +22,13 @@ pub trait Rooms {
 
     /// Waits for a turn at a room and asks it.
     fn turn<W: Wait>(&mut self, rt: &W, room: usize, call: RoomCall<Global>) -> RoomReply<Global>
-        requires { IsRoom (known self.old) room }
-        ensures answers { Answers (known self.old) room call result (known self.new) }
+        requires { HasRoom (known self.old) room }
+        ensures answers { AnswersCall (known self.old) room call result (known self.new) }
         ensures kept { Self.kept self.new ≡ Self.kept self.old };
 
     /// How many entries a room has. It waits for nobody.
     fn front(&mut self, room: usize) -> u64
-        requires { IsRoom (known self.old) room }
-        ensures looks { Looks (known self.old) room result (known self.new) }
+        requires { HasRoom (known self.old) room }
+        ensures looks { TellsLength (known self.old) room result (known self.new) }
         ensures kept { Self.kept self.new ≡ Self.kept self.old };
 }

@@ -20,7 +20,8 @@ use Rattle.serde_json.specs.Written.{compact_text, outline, items_outline, membe
 use Rattle.osm_elements.specs.declared.name.Name.{Name}
 use Rattle.osm_elements.specs.declared.element.Element.{Element}
 use Rattle.osm_elements.specs.declared.element.Element.TheVariants.{Node, Way, Relation}
-use Rattle.osm_elements.specs.TagRows.{Pairs, AreTagRows, text_cmp}
+use Rattle.osm_elements.specs.KeyedRows.{text_cmp}
+use Rattle.osm_elements.specs.TagRows.{Pairs, AreTagRows}
 use Rattle.room_wire.specs.Inner.Readable.{AreReadable, IsReadable}
 use Rattle.room_wire.specs.ReadBack.{HasId}
 use Rattle.room_wire.specs.Trees.{id_tree, nodes_tree, member_tree, members_tree, tag_members, tags_tree, element_tree, rows_tree, map_tree, whole}

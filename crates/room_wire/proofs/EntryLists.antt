@@ -10,7 +10,7 @@ use Rattle.std.proofs.lemmas.Cmp.{nat_list_cmp_total}
 use Rattle.serde_json.specs.Data.{Data, Members, no_members, member}
 use Rattle.serde_json.specs.View.{members_view}
 use Rattle.serde_json.proofs.Views.{Entry, members_len-members_view}
-use Rattle.osm_elements.specs.TagRows.{text_cmp}
+use Rattle.osm_elements.specs.KeyedRows.{text_cmp}
 use Rattle.room_wire.specs.Spelling.{entry_of, entries_in, entries_of}
 use Rattle.std.proofs.lemmas.Bool.Decides.{nat_tests}
 use Rattle.osm_elements.specs.Texts.{is_long}

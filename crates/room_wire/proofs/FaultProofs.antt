@@ -26,8 +26,8 @@ use Rattle.room_wire.specs.declared.field.Field.TheVariants as fields
 use Rattle.room_wire.specs.declared.incoming.Incoming.{Incoming}
 use Rattle.room_wire.specs.declared.incoming.Body.{Body}
 use Rattle.room_wire.specs.declared.incoming.Body.TheVariants as bodies
-use Rattle.room_wire.specs.Reading.{◌>>=◌, or_fault}
-use Rattle.room_wire.specs.Spelling.{author_at, body_by, create_at, retag_at, move_at, relist_way_at, relist_relation_at, split_at, join_at, merge_at, unglue_at, name_at, place_at, distance_at, gifts_at, el_at, els_at, element_at, lat_at, lon_at, message_by, message_of, members_at, nodes_at, ordinal, seq_at, seq_from, spells, tags_at, tags_from, under}
+use Rattle.room_wire.specs.Reading.{◌>>=◌, or_fault, under}
+use Rattle.room_wire.specs.Spelling.{author_at, body_by, create_at, retag_at, move_at, relist_way_at, relist_relation_at, split_at, join_at, merge_at, unglue_at, name_at, place_at, distance_at, given_tags_at, el_at, els_at, element_at, lat_at, lon_at, by_id, incoming, body_at, message_of, members_at, nodes_at, ordinal, seq_at, seq_from, spells, tags_at, tags_from}
 use Rattle.room_wire.specs.Trees.{whole}
 use Rattle.room_wire.specs.WellFormed.{AreGood, HasWord, IsFirstBad, IsNumber, MessageId, Slot, element_slots, slot, slots}
 use Rattle.room_wire.specs.Words.{Word, word_text}
@@ -109,7 +109,7 @@ body_tells : (word : Word) (d : Data) → Tells (body_by (word_text word) d) (sl
 body_tells words.Create d =
     done_tells (create_at d) (slots words.Create d)
     (step El (el_at d) _ _ (only_field El _) (λ name e. rw e (made (element_at name.kind d) (λ element. actions.Create name element) (element_slots name.kind d) (element_tells name.kind d))))
-body_tells words.Retag d = done_tells (retag_at d) (slots words.Retag d) (pair_tells Tags (gifts_at d) (λ name given. actions.Retag name given) d (only_field Tags _))
+body_tells words.Retag d = done_tells (retag_at d) (slots words.Retag d) (pair_tells Tags (given_tags_at d) (λ name given. actions.Retag name given) d (only_field Tags _))
 body_tells words.Move d = done_tells (move_at d) (slots words.Move d) (move_tells d)
 body_tells words.Reverse d = done_tells _ (slots words.Reverse d) (name_tells (λ name. actions.Reverse name) d)
 body_tells words.Nodes d = done_tells (relist_way_at d) (slots words.Nodes d) (pair_tells Nodes (nodes_at d) (λ name list. actions.Nodes name list) d (only_field Nodes _))
@@ -149,7 +149,7 @@ abbrev field_in : Fault → Field
 field_in (BadField field) = field
 field_in _ = El
 
-told : (id : ℕ) (r : Result Body Fault) (all : List Slot) (field : Field) → Tells r all → (under id r ≡ bad id (BadField field)) ↔ IsFirstBad all field
+told : (id : ℕ) (r : Result Body Fault) (all : List Slot) (field : Field) → Tells r all → (under incoming id r ≡ bad id (BadField field)) ↔ IsFirstBad all field
 told id (Ok body) all field good = (λ e. absurd (ok_no_err _ _ e), λ first. absurd (none_good all field good first))
   where
     ok_no_err : (m : Incoming) (b : Bad) → Ok m ≡ Err b → ⊥
@@ -159,13 +159,13 @@ told id (Err fault) all field (f, is, first) = (
   λ h. ap (bad id) (is ∙ ap BadField (one_first all f field first h)),
 )
 
-ok_told : (id : ℕ) (r : Result Body Fault) (all : List Slot) → Tells r all → IsOk (under id r) ↔ AreGood all
+ok_told : (id : ℕ) (r : Result Body Fault) (all : List Slot) → Tells r all → IsOk (under incoming id r) ↔ AreGood all
 ok_told id (Ok body) all good = (λ ok. good, λ g. refl)
 ok_told id (Err fault) all (f, is, first) = (λ ok. absurd (true≢false (sym ok)), λ g. absurd (none_good all f g first))
 
 module _ (text : List ℕ) (d : Data) (tree : read text ≡ Some d) where
-  body_spelled : (id : ℕ) (word : Word) → MessageId d id → HasWord d word → spells text ≡ under id (body_by (word_text word) d)
-  body_spelled id word has asks = spells-body text d id tree (id_read d id has) ∙ ap (under id) (word_read d word asks)
+  body_spelled : (id : ℕ) (word : Word) → MessageId d id → HasWord d word → spells text ≡ under incoming id (body_by (word_text word) d)
+  body_spelled id word has asks = spells-body text d id tree (id_read d id has) ∙ ap (under incoming id) (word_read d word asks)
 
   pub bad_field_told : (id : ℕ) (word : Word) (field : Field) → MessageId d id → HasWord d word → (spells text ≡ bad id (BadField field)) ↔ IsFirstBad (slots word d) field
   bad_field_told id word field has asks = rw (body_spelled id word has asks) (told id (body_by (word_text word) d) (slots word d) field (body_tells word d))
@@ -177,7 +177,7 @@ module _ (text : List ℕ) (d : Data) (tree : read text ≡ Some d) where
   no_object_told none = ap message_of tree ∙ rw none refl
 
 -- a number that is read is that number
-number_of_ordinal : (v : Data) (n : ℕ) → ordinal v ≡ Some n → (v ≡ whole n) × IsNumber n
+pub number_of_ordinal : (v : Data) (n : ℕ) → ordinal v ≡ Some n → (v ≡ whole n) × IsNumber n
 number_of_ordinal null n e = cc
 number_of_ordinal (boolean b) n e = cc
 number_of_ordinal (string s) n e = cc
@@ -206,7 +206,7 @@ no_id (Some v) none = no_number v (λ n e. none n (ap Some e))
 
 pub bad_id_told : (text : List ℕ) (d : Data) → read text ≡ Some d → is_some (as_object d) ≡ true → ((id : ℕ) → MessageId d id → ⊥) → spells text ≡ bad 0 BadId
 bad_id_told text d tree is_object none =
-    ap message_of tree ∙ rw is_object (ap (λ o. message_by (or_fault BadId o) d) (no_id (get (codes "id") d) (λ n e h. none n (e, h))))
+    ap message_of tree ∙ rw is_object (ap (λ o. by_id incoming body_at (or_fault BadId o) d) (no_id (get (codes "id") d) (λ n e h. none n (e, h))))
 
 other_word : (w : List ℕ) (word : Word) → (w ≡ word_text word → ⊥) → bytes_eq w (word_text word) ≡ false
 other_word w word other = go (bytes_eq w (word_text word)) refl
@@ -230,7 +230,7 @@ unknown_body d (Some (object ms)) other = refl
 unknown_body d (Some (string w)) other = unknown_word w d (λ word e. other word (ap (λ t. Some (string t)) e))
 
 pub unknown_do_told : (text : List ℕ) (d : Data) (id : ℕ) → read text ≡ Some d → MessageId d id → ((word : Word) → HasWord d word → ⊥) → spells text ≡ bad id UnknownDo
-unknown_do_told text d id tree has none = spells-body text d id tree (id_read d id has) ∙ ap (under id) (unknown_body d (get (codes "do") d) none)
+unknown_do_told text d id tree has none = spells-body text d id tree (id_read d id has) ∙ ap (under incoming id) (unknown_body d (get (codes "do") d) none)
 
 pub no_json_told : (text : List ℕ) → read text ≡ None → spells text ≡ bad 0 NotJson
 no_json_told text none = ap message_of none

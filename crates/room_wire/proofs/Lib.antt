@@ -1,10 +1,12 @@
 pub mod Ascii
 pub mod CompactTexts
+pub mod ElementBack
 pub mod Empty
 pub mod EntryLists
 pub mod ExampleProofs
 pub mod FaultProofs
 pub mod FaultsToldOn
+pub mod Found
 pub mod ItemLists
 pub mod MapTexts
 pub mod MemberPairs
@@ -15,9 +17,13 @@ pub mod NoFloats
 pub mod Numerals
 pub mod Prefixes
 pub mod ReadBackProofs
-pub mod Rising
+pub mod RisingNames
 pub mod RowsInOrder
 pub mod RowsOfKinds
 pub mod Shallow
+pub mod SpelledForms
+pub mod SpelledMade
+pub mod SpelledMessages
 pub mod TagMembers
+pub mod TreesInOrder
 pub mod WellFormedProofs

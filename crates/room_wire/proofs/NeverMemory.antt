@@ -15,8 +15,8 @@ use Rattle.std.specs.Str.{bytes_eq}
 use Rattle.room_wire.specs.declared.field.Field.{Field}
 use Rattle.room_wire.specs.declared.field.Field.TheVariants.{El, Els, Lat, Lon, Nodes, Members, Tags, Dlat, Dlon, At, Into, With, Seq}
 use Rattle.room_wire.specs.declared.field.Field.TheVariants as fields
-use Rattle.room_wire.specs.Reading.{◌>>=◌, or_fault}
-use Rattle.room_wire.specs.Spelling.{spells, ordinal, word_at, message_of, message_by, under, id_at, body_at, body_by, action_by, create_at, retag_at, move_at, relist_way_at, relist_relation_at, split_at, join_at, merge_at, unglue_at, element_at, name_at, place_at, el_at, els_at, distance_at, lat_at, lon_at, nodes_at, members_at, tags_at, tags_from, gifts_at, seq_at, seq_from, author_at, hello_at}
+use Rattle.room_wire.specs.Reading.{◌>>=◌, or_fault, under}
+use Rattle.room_wire.specs.Spelling.{spells, ordinal, word_at, message_of, by_id, incoming, id_at, body_at, body_by, action_by, create_at, retag_at, move_at, relist_way_at, relist_relation_at, split_at, join_at, merge_at, unglue_at, element_at, name_at, place_at, el_at, els_at, distance_at, lat_at, lon_at, nodes_at, members_at, tags_at, tags_from, given_tags_at, seq_at, seq_from, author_at, hello_at}
 
 Fine : {X : Type 0} → Result X Fault → Type 0
 Fine r = IfErr r (λ f. f ≢ Memory)
@@ -68,14 +68,14 @@ element_is_fine kinds.Relation d = fine_then (members_at d) _ (fine_or (BadField
 create_is_fine : (d : Data) → Fine (create_at d)
 create_is_fine d = fine_then (el_at d) _ (el_is_fine d) (λ name. fine_then (element_at name.kind d) _ (element_is_fine name.kind d) (λ element. fine_ok _))
 
-gifts_are_fine : (d : Data) → Fine (gifts_at d)
-gifts_are_fine d = fine_or (BadField Tags) _ (λ e. cc)
+given_tags_are_fine : (d : Data) → Fine (given_tags_at d)
+given_tags_are_fine d = fine_or (BadField Tags) _ (λ e. cc)
 
 distance_is_fine : (field : Field) (d : Data) → Fine (distance_at field d)
 distance_is_fine field d = fine_or (BadField field) _ (λ e. cc)
 
 retag_is_fine : (d : Data) → Fine (retag_at d)
-retag_is_fine d = fine_then (el_at d) _ (el_is_fine d) (λ name. fine_then (gifts_at d) _ (gifts_are_fine d) (λ given. fine_ok _))
+retag_is_fine d = fine_then (el_at d) _ (el_is_fine d) (λ name. fine_then (given_tags_at d) _ (given_tags_are_fine d) (λ given. fine_ok _))
 
 move_is_fine : (d : Data) → Fine (move_at d)
 move_is_fine d =
@@ -138,12 +138,12 @@ body_is_fine word d =
 body_at_is_fine : (d : Data) → Fine (body_at d)
 body_at_is_fine d = fine_then (word_at d) (λ word. body_by word d) (fine_or UnknownDo (option_and_then as_str (get (codes "do") d)) (λ e. cc)) (λ word. body_is_fine word d)
 
-under_is_fine : (id : ℕ) (r : Result Body Fault) → Fine r → IfErr (under id r) (λ bad. bad.fault ≢ Memory)
+under_is_fine : (id : ℕ) (r : Result Body Fault) → Fine r → IfErr (under incoming id r) (λ bad. bad.fault ≢ Memory)
 unfolding Fine
 under_is_fine id (Ok body) h = tt
 under_is_fine id (Err fault) h = h
 
-message_is_fine : (r : Result ℕ Fault) (d : Data) → Fine r → IfErr (message_by r d) (λ bad. bad.fault ≢ Memory)
+message_is_fine : (r : Result ℕ Fault) (d : Data) → Fine r → IfErr (by_id incoming body_at r d) (λ bad. bad.fault ≢ Memory)
 unfolding Fine
 message_is_fine (Ok id) d h = under_is_fine id (body_at d) (body_at_is_fine d)
 message_is_fine (Err fault) d h = h

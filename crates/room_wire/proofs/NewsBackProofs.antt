@@ -27,16 +27,17 @@ use Rattle.room_wire.specs.declared.field.Field.{Field}
 use Rattle.room_wire.specs.declared.field.Field.TheVariants as fields
 use Rattle.room_wire.specs.declared.welcome.Welcome.{Welcome}
 use Rattle.room_wire.specs.Lists.{row_at, rows_at, rows_in, rising}
-use Rattle.room_wire.specs.News.{is_gone, news_of, news_row_at, news_tree, number_at, row_tree, spells_news, told_tree, without_id}
+use Rattle.room_wire.specs.News.{is_gone, news_read, news_row_at, news_tree, number_at, row_tree, spells_news, told_tree, without_id}
 use Rattle.room_wire.specs.News as news
 use Rattle.room_wire.specs.NewsBack.{AreNews, IsMapRow, IsNewsRow, IsUnder, IsWelcome}
 use Rattle.room_wire.specs.ReadBack.{HasId}
-use Rattle.room_wire.specs.Reading.{◌>>=◌, or_fault}
-use Rattle.room_wire.specs.Spelling.{author_at, el_at, element_at, items_in}
+use Rattle.room_wire.specs.Reading.{◌>>=◌, or_fault, under}
+use Rattle.room_wire.specs.Spelling.{author_at, by_id, el_at, element_at, items_in}
 use Rattle.room_wire.specs.Trees.{element_tree, rows_tree, whole}
-use Rattle.room_wire.specs.Welcomes.{count_at, count_of, map_at, spells_welcome, welcome_by, welcome_of, welcome_tree, welcomed}
+use Rattle.room_wire.specs.Welcomes.{count_at, count_of, map_at, spells_welcome, welcome, welcome_of, welcome_tree}
 use Rattle.room_wire.specs.Welcomes as welcomes
-use Rattle.room_wire.proofs.ReadBackProofs.{el_back, element_back, three, two}
+use Rattle.room_wire.proofs.ElementBack.{el_back, element_back}
+use Rattle.room_wire.proofs.ReadBackProofs.{three, two}
 use Rattle.room_wire.proofs.WellFormedProofs.{id_read, number_read}
 
 -- items that are each read back
@@ -100,7 +101,7 @@ module _ (latitude_back : (z : ℤ) → IsLatitude z → latitude_of (written z)
       three {D = News Global} (λ author rows seq. record { seq = seq; author = author; rows = rows }) (author_at fields.By d) (rows_at news_row_at (λ r. r.name) fields.Rows d) (number_at d) n.author n.rows n.seq author_is rows_are number_is
 
   pub news_read_back : (text : List ℕ) (n : News Global) → read text ≡ Some (news_tree n) → AreNews n → spells_news text ≡ Ok n
-  news_read_back text n tree h = ap news_of tree ∙ ap without_id (told_back n h)
+  news_read_back text n tree h = ap news_read tree ∙ ap (under without_id 0) (told_back n h)
 
   shown_back : (w : Welcome) → IsWelcome w → welcomes.told_at (welcome_tree w) ≡ Ok (w.rows, w.seq)
   shown_back w h =
@@ -115,4 +116,4 @@ module _ (latitude_back : (z : ℤ) → IsLatitude z → latitude_of (written z)
   pub welcome_read_back : (text : List ℕ) (w : Welcome) → read text ≡ Some (welcome_tree w) → IsWelcome w → spells_welcome text ≡ Ok w
   welcome_read_back text w tree h =
       let d = welcome_tree w in
-      ap welcome_of tree ∙ ap (λ r. welcome_by r d) (id_read d w.id (refl, h.id)) ∙ ap (welcomed w.id) (shown_back w h)
+      ap welcome_of tree ∙ ap (λ r. by_id welcome welcomes.told_at r d) (id_read d w.id (refl, h.id)) ∙ ap (under welcome w.id) (shown_back w h)

@@ -1,5 +1,5 @@
 -- The elements of a welcome are of their names' kinds.
-use Rattle.std.proofs.Common.{◌≡◌, ℕ, Bool, true, false, cond, List, ◌∷◌, Option, Some, None, IfSome, Result, Ok, Err, IfOk, map, option_map, option_and_then, refl, subst}
+use Rattle.std.proofs.Common.{◌≡◌, ℕ, Bool, true, false, cond, List, ◌∷◌, Option, Some, None, IfSome, Ok, IfOk, map, option_map, option_and_then, refl, subst}
 use Rattle.std.specs.declared.alloc.Global.{Global}
 use Rattle.std.specs.Result.{result_ok}
 use Rattle.serde_json.specs.Data.{Data, Items, no_items, item}
@@ -13,40 +13,14 @@ use Rattle.osm_elements.specs.Maps.{Rows, is_kind}
 use Rattle.osm_elements.specs.RowPairs.{row_pair}
 use Rattle.osm_changes.specs.Changes.{are_rising}
 use Rattle.room_history.specs.Bases.{are_of_kinds}
-use Rattle.room_wire.specs.declared.bad.Fault.{Fault}
 use Rattle.room_wire.specs.declared.bad.Fault.TheVariants.{BadField}
 use Rattle.room_wire.specs.declared.field.Field.TheVariants as fields
 use Rattle.room_wire.specs.Fields.{field_text}
 use Rattle.room_wire.specs.Lists.{rising, row_at, rows_at, rows_in}
 use Rattle.room_wire.specs.News.{object_at}
-use Rattle.room_wire.specs.Reading.{◌>>=◌, or_fault}
 use Rattle.room_wire.specs.Spelling.{el_at, element_at, items_in, lat_at, lon_at, members_at, nodes_at, tags_at}
 use Rattle.room_wire.specs.Welcomes.{count_at, map_at, told_at}
-
--- what holds of a step's value
-ok_then : {X Y : Type 0} (Q : X → Type 0) (P : Y → Type 0) (r : Result X Fault) (f : X → Result Y Fault) → IfOk r Q → ((x : X) → Q x → IfOk (f x) P) → IfOk (r >>= f) P
-ok_then Q P (Ok x) f h g = g x h
-ok_then Q P (Err e) f h g = tt
-
-ok_any : {X Y : Type 0} (P : Y → Type 0) (r : Result X Fault) (f : X → Result Y Fault) → ((x : X) → IfOk (f x) P) → IfOk (r >>= f) P
-ok_any P (Ok x) f g = g x
-ok_any P (Err e) f g = tt
-
-ok_or : {X : Type 0} (P : X → Type 0) (fault : Fault) (o : Option X) → IfSome o P → IfOk (or_fault fault o) P
-ok_or P fault None h = tt
-ok_or P fault (Some x) h = h
-
-if_then : {X Y : Type 0} (Q : X → Type 0) (P : Y → Type 0) (o : Option X) (f : X → Option Y) → IfSome o Q → ((x : X) → Q x → IfSome (f x) P) → IfSome (option_and_then f o) P
-if_then Q P None f h g = tt
-if_then Q P (Some x) f h g = g x h
-
-if_any : {X Y : Type 0} (P : Y → Type 0) (o : Option X) (f : X → Option Y) → ((x : X) → IfSome (f x) P) → IfSome (option_and_then f o) P
-if_any P None f g = tt
-if_any P (Some x) f g = g x
-
-if_told : {X : Type 0} (P : X → Type 0) (r : Result X Fault) → IfOk r P → IfSome (result_ok r) P
-if_told P (Ok x) h = h
-if_told P (Err e) h = tt
+use Rattle.room_wire.proofs.Found.{if_any, if_then, if_told, ok_any, ok_or, ok_then}
 
 -- an element is of the kind by which it is read
 element_kind : (k : Kind) (d : Data) → IfOk (element_at k d) (λ v. is_kind (kind_of v) k ≡ true)

@@ -6,8 +6,9 @@ use Rattle.std.specs.FinMap.Entries.{is_sorted, below_all}
 use Rattle.std.proofs.lemmas.Cmp.{nat_list_cmp_total}
 use Rattle.serde_json.specs.Data.{string, member, put}
 use Rattle.std.proofs.lemmas.List.{take_more, drop_more, take-append-drop, map-append}
-use Rattle.osm_elements.specs.declared.tags.Tag.{Tag}
-use Rattle.osm_elements.specs.TagRows.{Pairs, AreTagRows, tag_pair, text_cmp}
+use Rattle.osm_elements.specs.declared.keyed.Keyed.{Keyed}
+use Rattle.osm_elements.specs.KeyedRows.{text_cmp}
+use Rattle.osm_elements.specs.TagRows.{Pairs, AreTagRows, tag_pair}
 use Rattle.room_wire.specs.Trees.{tag_members}
 
 pub first_test : (a b : Bool) → T (a && b) → T a
@@ -35,7 +36,7 @@ put_last (x ∷ done) e more h =
     rw above (ap (member x.0 (string x.1)) (put_last done e more (second_test _ _ h)))
 
 -- the member of the next tag goes last
-pub put_next : {A : Type 0} (tags : List (Tag A)) (rows : Pairs) (i : ℕ) (tag : Tag A) → i < length tags → tag ≡ get_or tags i tag → map tag_pair tags ≡ rows → AreTagRows rows
+pub put_next : {A : Type 0} (tags : List (Keyed (List ℕ) A)) (rows : Pairs) (i : ℕ) (tag : Keyed (List ℕ) A) → i < length tags → tag ≡ get_or tags i tag → map tag_pair tags ≡ rows → AreTagRows rows
     → put tag.key (string tag.value) (tag_members (map tag_pair (take i tags))) ≡ tag_members (map tag_pair (take (i + 1) tags))
 put_next tags rows i tag h is same sound =
     let split : tags ≡ take i tags ++ tag ∷ drop (i + 1) tags = sym (take-append-drop i tags) ∙ ap (λ ys. take i tags ++ ys) (drop_more tags i tag h ∙ ap (λ y. y ∷ drop (i + 1) tags) (sym is)) in

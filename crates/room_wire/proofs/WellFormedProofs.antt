@@ -1,5 +1,5 @@
 -- Every well-formed message spells itself.
-use Rattle.std.proofs.Common.{◌≡◌, ◌&&◌, ◌∙◌, All, ℕ, ℤ, List, codes, true, cond, Option, Some, None, Result, Ok, inl, inr, is_some, option_map, nat_le, refl, sym, ap, arith}
+use Rattle.std.proofs.Common.{◌≡◌, ◌&&◌, ◌∙◌, ℕ, ℤ, List, codes, true, cond, Option, Some, None, Result, Ok, inl, inr, is_some, option_map, nat_le, refl, sym, ap, arith}
 use Rattle.std.specs.declared.alloc.Global.{Global}
 use Rattle.std.specs.Option.{option_and_then}
 use Rattle.std.proofs.lemmas.Bool.Decides.{nat_tests}
@@ -14,8 +14,8 @@ use Rattle.osm_elements.specs.declared.element.Element.TheVariants as elements
 use Rattle.osm_elements.specs.Elements.{kind_of}
 use Rattle.osm_elements.specs.Facts.NameTexts.{name_of_text}
 use Rattle.osm_elements.specs.NameTexts.{name_of}
-use Rattle.osm_elements.specs.TagRows.{AreTagRows, Pairs}
-use Rattle.edit_simple.specs.Tagging.{AreGifts, Gifts}
+use Rattle.osm_elements.specs.TagRows.{Pairs}
+use Rattle.edit_simple.specs.Tagging.{GivenTags}
 use Rattle.edit_actions.specs.declared.action.Action.{Action}
 use Rattle.edit_actions.specs.declared.action.Action.TheVariants as actions
 use Rattle.room_stacks.specs.declared.author.Author.{Author}
@@ -30,14 +30,13 @@ use Rattle.room_wire.specs.declared.incoming.Incoming.{Incoming}
 use Rattle.room_wire.specs.declared.incoming.Body.{Body}
 use Rattle.room_wire.specs.declared.incoming.Body.TheVariants as bodies
 use Rattle.room_wire.specs.Fields.{field_text}
-use Rattle.room_wire.specs.ReadBack.{HasId, IsWhole}
-use Rattle.room_wire.specs.Reading.{◌>>=◌, or_fault}
-use Rattle.room_wire.specs.Spelling.{author_at, body_at, body_by, distance_at, el_at, element_at, els_at, gifts_at, gifts_of, id_at, lat_at, lon_at, name_at, place_at, place_of, names_in, message_by, message_of, members_at, members_in, nodes_at, nodes_in, ordinal, seq_at, seq_from, spells, tags_at, tags_from, text_at, under}
+use Rattle.room_wire.specs.Reading.{◌>>=◌, or_fault, under}
+use Rattle.room_wire.specs.Spelling.{author_at, body_at, body_by, create_at, distance_at, el_at, element_at, els_at, given_tags_at, given_tags_of, id_at, lat_at, lon_at, name_at, place_at, place_of, names_in, by_id, incoming, message_of, members_at, members_in, nodes_at, nodes_in, ordinal, seq_at, seq_from, spells, tags_at, tags_from, text_at}
 use Rattle.room_wire.specs.Trees.{whole}
-use Rattle.room_wire.specs.WellFormed.{Asks, Has, HasAuthor, HasDistance, HasElement, HasMembers, HasName, HasNameAt, HasNodes, HasPlace, HasSeq, HasTags, HasText, HasWord, IsMessage, IsNumber, MessageId, gifts_tree, names_tree}
+use Rattle.room_wire.specs.WellFormed.{Asks, Has, HasAuthor, HasDistance, HasElement, HasGivenTags, HasMembers, HasName, HasNameAt, HasNames, HasNodes, HasPlace, HasSeq, HasTags, HasText, HasWord, IsMessage, IsNumber, MessageId}
 use Rattle.room_wire.specs.Words.{Word, word_text}
 use Rattle.room_wire.specs.Words as words
-use Rattle.room_wire.proofs.ReadBackProofs.{as_i64-of_integer, created, gifts_of-gift_members, members_in-trees, names_in-trees, nodes_in-ids, tags_of-tag_members, three, two}
+use Rattle.room_wire.proofs.ReadBackProofs.{as_i64-of_integer, given_tags_of-given_tag_members, members_in-trees, names_in-trees, nodes_in-ids, tags_of-tag_members, three, two}
 
 pub number_read : (n : ℕ) → IsNumber n → ordinal (whole n) ≡ Some n
 number_read n h =
@@ -58,8 +57,8 @@ pub id_read : (d : Data) (id : ℕ) → MessageId d id → id_at d ≡ Ok id
 id_read d id h = rw (is_object d (codes "id") (whole id) h.0, h.0) (ap (or_fault _) (number_read id h.1))
 
 -- what a message says, once its id and its word are read
-pub spells-body : (text : List ℕ) (d : Data) (id : ℕ) → read text ≡ Some d → id_at d ≡ Ok id → spells text ≡ under id (body_at d)
-spells-body text d id tree is = ap message_of tree ∙ ap (λ r. message_by r d) is
+pub spells-body : (text : List ℕ) (d : Data) (id : ℕ) → read text ≡ Some d → id_at d ≡ Ok id → spells text ≡ under incoming id (body_at d)
+spells-body text d id tree is = ap message_of tree ∙ ap (λ r. by_id incoming body_at r d) is
 
 pub word_read : (d : Data) (word : Word) → HasWord d word → body_at d ≡ body_by (word_text word) d
 word_read d word h = ap (λ o. or_fault UnknownDo (option_and_then as_str o) >>= λ text. body_by text d) h
@@ -70,7 +69,7 @@ text_read d field reading x h = ap (λ o. or_fault (BadField field) (option_and_
 name_read : (d : Data) (field : Field) (name : Name) → HasNameAt d field name → name_at field d ≡ Ok name
 name_read d field name h = text_read d field name_of name (_, h.0, name_of_text name h.1)
 
-el_read : (d : Data) (name : Name) → HasName d name → el_at d ≡ Ok name
+pub el_read : (d : Data) (name : Name) → HasName d name → el_at d ≡ Ok name
 el_read d name h = name_read d El name h
 
 author_read : (d : Data) (field : Field) (author : Author) → HasAuthor d field author → author_at field d ≡ Ok author
@@ -82,9 +81,9 @@ place_read d place h =
     let inside : nat_le place 4294967295 ≡ true = grind (arith, nat_tests) in
     ap (λ o. or_fault (BadField At) (option_and_then place_of o)) h.0 ∙ ap (λ b. or_fault (BadField At) (cond b (Some place) None)) inside
 
-tags_read : (d : Data) (tags : Pairs) → HasTags d tags → AreTagRows tags → tags_at d ≡ Ok tags
-tags_read d tags (inl h) rows = ap tags_from h ∙ ap (or_fault (BadField Tags)) (tags_of-tag_members tags rows)
-tags_read d tags (inr (missing, none)) rows = ap tags_from missing ∙ ap Ok (sym none)
+tags_read : (d : Data) (tags : Pairs) → HasTags d tags → tags_at d ≡ Ok tags
+tags_read d tags (inl (has, rows)) = ap tags_from has ∙ ap (or_fault (BadField Tags)) (tags_of-tag_members tags rows)
+tags_read d tags (inr (missing, none)) = ap tags_from missing ∙ ap Ok (sym none)
 
 seq_read : (d : Data) (seq : Option ℕ) → HasSeq d seq → seq_at d ≡ Ok seq
 seq_read d None h = ap seq_from h
@@ -95,12 +94,12 @@ array_read : {X : Type 0} (d : Data) (field : Field) (reading : Items → Option
     → or_fault (BadField field) (option_and_then reading (option_and_then as_array (get (field_text field) d))) ≡ Ok x
 array_read d field reading items x has is = ap (λ o. or_fault (BadField field) (option_and_then reading (option_and_then as_array o))) has ∙ ap (or_fault (BadField field)) is
 
-gifts_read : (d : Data) (given : Gifts) → Has d Tags (gifts_tree given) → AreGifts given → gifts_at d ≡ Ok given
-gifts_read d given has gifts =
-    ap (λ o. or_fault (BadField Tags) (option_and_then gifts_of (option_and_then as_object o))) has ∙ ap (or_fault (BadField Tags)) (gifts_of-gift_members given gifts)
+given_tags_read : (d : Data) (given : GivenTags) → HasGivenTags d given → given_tags_at d ≡ Ok given
+given_tags_read d given h =
+    ap (λ o. or_fault (BadField Tags) (option_and_then given_tags_of (option_and_then as_object o))) h.0 ∙ ap (or_fault (BadField Tags)) (given_tags_of-given_tag_members given h.1)
 
-els_read : (d : Data) (names : List Name) → Has d Els (names_tree names) → All HasId names → els_at d ≡ Ok names
-els_read d names has ids = array_read d Els names_in _ names has (names_in-trees names ids)
+els_read : (d : Data) (names : List Name) → HasNames d names → els_at d ≡ Ok names
+els_read d names h = array_read d Els names_in _ names h.0 (names_in-trees names h.1)
 
 distance_read : (d : Data) (field : Field) (z : ℤ) → HasDistance d field z → distance_at field d ≡ Ok z
 distance_read d field z h =
@@ -112,28 +111,30 @@ nodes_read d list h = array_read d Nodes nodes_in _ list h.0 (nodes_in-ids list 
 members_read : (d : Data) (list : List (Name × List ℕ)) → HasMembers d list → members_at d ≡ Ok list
 members_read d list h = array_read d Members members_in _ list h.0 (members_in-trees list h.1 h.2)
 
-element_read : (d : Data) (element : Element Global) → HasElement d element → IsWhole element → element_at (kind_of element) d ≡ Ok element
-element_read d (elements.Node lat lon tags) h whole =
+pub element_read : (d : Data) (element : Element Global) → HasElement d element → element_at (kind_of element) d ≡ Ok element
+element_read d (elements.Node lat lon tags) h =
     three {D = Element Global} (λ x y z. elements.Node x y z) (lat_at d) (lon_at d) (tags_at d) lat lon tags
-    (text_read d Lat latitude_of lat h.0) (text_read d Lon longitude_of lon h.1) (tags_read d tags h.2 whole.2)
-element_read d (elements.Way nodes tags) h whole =
-    two {C = Element Global} (λ x y. elements.Way x y) (nodes_at d) (tags_at d) nodes tags (nodes_read d nodes (h.0, whole.0, whole.1)) (tags_read d tags h.1 whole.2)
-element_read d (elements.Relation members tags) h whole =
-    two {C = Element Global} (λ x y. elements.Relation x y) (members_at d) (tags_at d) members tags (members_read d members (h.0, whole.0, whole.1)) (tags_read d tags h.1 whole.2)
+    (text_read d Lat latitude_of lat h.0) (text_read d Lon longitude_of lon h.1) (tags_read d tags h.2)
+element_read d (elements.Way nodes tags) h = two {C = Element Global} (λ x y. elements.Way x y) (nodes_at d) (tags_at d) nodes tags (nodes_read d nodes h.0) (tags_read d tags h.1)
+element_read d (elements.Relation members tags) h =
+    two {C = Element Global} (λ x y. elements.Relation x y) (members_at d) (tags_at d) members tags (members_read d members h.0) (tags_read d tags h.1)
+
+pub created : (d : Data) (name : Name) (element : Element Global) → el_at d ≡ Ok name → element_at name.kind d ≡ Ok element → create_at d ≡ Ok (actions.Create name element)
+created d name element h g = rw (h, g) refl
 
 -- the action of a message, done
 abbrev doing : Result (Action Global) Fault → Result Body Fault
 doing r = r >>= λ action. Ok (bodies.Change (requests.Do action))
 
 asked : (d : Data) (body : Body) → Asks d body → body_at d ≡ Ok body
-asked d (bodies.Change (requests.Do (actions.Create name element))) (word, named, has, kind, whole) =
-    let element_is : element_at name.kind d ≡ Ok element = ap (λ k. element_at k d) (sym kind) ∙ element_read d element has whole in
+asked d (bodies.Change (requests.Do (actions.Create name element))) (word, named, has, kind) =
+    let element_is : element_at name.kind d ≡ Ok element = ap (λ k. element_at k d) (sym kind) ∙ element_read d element has in
     word_read d words.Create word ∙ ap doing (created d name element (el_read d name named) element_is)
-asked d (bodies.Change (requests.Do (actions.Retag name given))) (word, named, has, gifts) =
-    word_read d words.Retag word ∙ ap doing (two {C = Action Global} (λ x y. actions.Retag x y) (el_at d) (gifts_at d) name given (el_read d name named) (gifts_read d given has gifts))
-asked d (bodies.Change (requests.Do (actions.Move names dlat dlon))) (word, has, ids, north, east) =
+asked d (bodies.Change (requests.Do (actions.Retag name given))) (word, named, has) =
+    word_read d words.Retag word ∙ ap doing (two {C = Action Global} (λ x y. actions.Retag x y) (el_at d) (given_tags_at d) name given (el_read d name named) (given_tags_read d given has))
+asked d (bodies.Change (requests.Do (actions.Move names dlat dlon))) (word, has, north, east) =
     word_read d words.Move word ∙ ap doing (three {D = Action Global} (λ x y z. actions.Move x y z) (els_at d) (distance_at Dlat d) (distance_at Dlon d) names dlat dlon
-    (els_read d names has ids) (distance_read d Dlat dlat north) (distance_read d Dlon dlon east))
+    (els_read d names has) (distance_read d Dlat dlat north) (distance_read d Dlon dlon east))
 asked d (bodies.Change (requests.Do (actions.Reverse name))) (word, named) =
     word_read d words.Reverse word ∙ ap (λ r. doing (r >>= λ name. Ok (actions.Reverse name))) (el_read d name named)
 asked d (bodies.Change (requests.Do (actions.Nodes name list))) (word, named, has) =
@@ -166,4 +167,4 @@ asked d (bodies.Hello room name) (word, at, named) =
 
 pub message_spelled : (text : List ℕ) (d : Data) (message : Incoming) → read text ≡ Some d → IsMessage d message → spells text ≡ Ok message
 message_spelled text d message tree (id, asks) =
-    spells-body text d message.id tree (id_read d message.id id) ∙ ap (under message.id) (asked d message.body asks)
+    spells-body text d message.id tree (id_read d message.id id) ∙ ap (under incoming message.id) (asked d message.body asks)

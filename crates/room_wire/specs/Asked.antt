@@ -38,8 +38,8 @@ answer_to call (replies.Undos (Ok lists)) = answers.Undos (to_value lists.undos)
 answer_to call reply = answers.Memory
 
 -- the text of an answer, under the id of its message
-abbrev pub text_of : ℕ → Answer → List ℕ
-text_of id answer = compact_text (tree_of id answer)
+abbrev pub answer_text : ℕ → Answer → List ℕ
+answer_text id answer = compact_text (tree_of id answer)
 
 -- the name whose element a room was asked for
 abbrev pub name_asked : RoomCall Global → Option Name

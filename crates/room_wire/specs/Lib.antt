@@ -4,6 +4,7 @@ pub mod Examples
 pub mod Fields
 pub mod Inner
 pub mod Lists
+pub mod Made
 pub mod News
 pub mod NewsBack
 pub mod NewsExamples

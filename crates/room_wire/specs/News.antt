@@ -16,7 +16,7 @@ use Rattle.room_wire.specs.declared.bad.Fault.{Fault}
 use Rattle.room_wire.specs.declared.bad.Fault.TheVariants.{NotJson, NotObject, BadField}
 use Rattle.room_wire.specs.declared.bad.Bad.{Bad}
 use Rattle.room_wire.specs.Fields.{field_text}
-use Rattle.room_wire.specs.Reading.{◌>>=◌, or_fault}
+use Rattle.room_wire.specs.Reading.{◌>>=◌, or_fault, under}
 use Rattle.room_wire.specs.Lists.{row_at, rows_at}
 use Rattle.room_wire.specs.Spelling.{author_at, el_at, ordinal}
 use Rattle.room_wire.specs.Trees.{element_tree, name_tree, whole}
@@ -65,14 +65,13 @@ news_at d = if is_some (as_object d) then (object_at fields.News d >>= told_at) 
 abbrev pub news_told : Option Data → Result (News Global) Fault
 news_told d = or_fault NotJson d >>= news_at
 
--- news have no id
-abbrev pub without_id : {X : Type 0} → Result X Fault → Result X Bad
-without_id (Ok x) = Ok x
-without_id (Err fault) = Err (record { id = 0; fault = fault })
+-- news have no id, and their faults are told under 0
+abbrev pub without_id : ℕ → News Global → News Global
+without_id id n = n
 
-abbrev pub news_of : Option Data → Result (News Global) Bad
-news_of d = without_id (news_told d)
+abbrev pub news_read : Option Data → Result (News Global) Bad
+news_read d = under without_id 0 (news_told d)
 
 -- what a text says: news, or its one fault
 abbrev pub spells_news : List ℕ → Result (News Global) Bad
-spells_news text = news_of (read text)
+spells_news text = news_read (read text)

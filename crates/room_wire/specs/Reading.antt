@@ -16,26 +16,29 @@ abbrev pub or_fault : {X : Type 0} → Fault → Option X → Result X Fault
 or_fault fault None = Err fault
 or_fault fault (Some x) = Ok x
 
+-- what was read, or its fault, under an id
+abbrev pub under : {X Y : Type 0} → (ℕ → X → Y) → ℕ → Result X Fault → Result Y Bad
+under made id (Ok x) = Ok (made id x)
+under made id (Err fault) = Err (record { id = id; fault = fault })
+
 -- the answer is the one that is read, or a growth was refused
 abbrev pub Gives : {X : Type 0} → Result X Fault → Result X Fault → Type 0
 Gives (Ok x) read = read ≡ Ok x
 Gives (Err f) read = (f ≡ Memory) ⊎ (read ≡ Err f)
 
--- the id that an answer tells
-abbrev pub id_told : Result Incoming Bad → ℕ
-id_told (Ok incoming) = incoming.id
-id_told (Err bad) = bad.id
-
--- the same for a whole message: where a growth was refused, the id may have been read before
-abbrev pub GivesMessage : Result Incoming Bad → Result Incoming Bad → Type 0
-GivesMessage (Ok incoming) read = read ≡ Ok incoming
-GivesMessage (Err bad) read = ((bad.fault ≡ Memory) × ((bad.id ≡ 0) ⊎ (bad.id ≡ id_told read))) ⊎ (read ≡ Err bad)
-
--- The same for a text that is read whole, whose id, where it has one, tells the answer
+-- the id that an answer tells: that of its fault, or of what was read
 abbrev pub id_of : {X : Type 0} → (X → ℕ) → Result X Bad → ℕ
 id_of id (Ok x) = id x
 id_of id (Err bad) = bad.id
 
+-- the same for a text that is read whole: where a growth was refused, the id may have been read before
 abbrev pub GivesUnder : {X : Type 0} → (X → ℕ) → Result X Bad → Result X Bad → Type 0
 GivesUnder id (Ok x) read = read ≡ Ok x
 GivesUnder id (Err bad) read = ((bad.fault ≡ Memory) × ((bad.id ≡ 0) ⊎ (bad.id ≡ id_of id read))) ⊎ (read ≡ Err bad)
+
+-- the same for a message
+abbrev pub id_told : Result Incoming Bad → ℕ
+id_told = id_of (λ m. m.id)
+
+abbrev pub GivesMessage : Result Incoming Bad → Result Incoming Bad → Type 0
+GivesMessage = GivesUnder (λ m. m.id)

@@ -19,7 +19,7 @@ use Rattle.osm_elements.specs.declared.element.Element.TheVariants as elements
 use Rattle.osm_elements.specs.NameTexts.{name_of, name_with}
 use Rattle.osm_elements.specs.TagRows.{Pairs}
 use Rattle.osm_elements.specs.Texts.{is_long}
-use Rattle.edit_simple.specs.Tagging.{Gifts}
+use Rattle.edit_simple.specs.Tagging.{GivenTags}
 use Rattle.edit_actions.specs.declared.action.Action.{Action}
 use Rattle.edit_actions.specs.declared.action.Action.TheVariants as actions
 use Rattle.room_stacks.specs.declared.author.Author.{Author}
@@ -35,7 +35,7 @@ use Rattle.room_wire.specs.declared.incoming.Incoming.{Incoming}
 use Rattle.room_wire.specs.declared.incoming.Body.{Body}
 use Rattle.room_wire.specs.declared.incoming.Body.TheVariants.{Hello, Change, Get, Map, Undos}
 use Rattle.room_wire.specs.Fields.{field_text}
-use Rattle.room_wire.specs.Reading.{◌>>=◌, or_fault}
+use Rattle.room_wire.specs.Reading.{◌>>=◌, or_fault, under}
 
 -- a whole number in 1..=9007199254740991. (RFC 8259, section 6: integers up to 2^53 - 1 mean the same to every reader.)
 abbrev pub ordinal : Data → Option ℕ
@@ -145,11 +145,11 @@ tags_of = entries_of value_of
 abbrev pub given_of : Data → Option (Option (List ℕ))
 given_of d = if is_some (as_null d) then Some None else option_map Some (value_of d)
 
-abbrev pub gifts_of : ObjectMembers → Option Gifts
-gifts_of = entries_of given_of
+abbrev pub given_tags_of : ObjectMembers → Option GivenTags
+given_tags_of = entries_of given_of
 
-abbrev pub gifts_at : Data → Result Gifts Fault
-gifts_at d = or_fault (BadField Tags) (option_and_then gifts_of (option_and_then as_object (get (field_text Tags) d)))
+abbrev pub given_tags_at : Data → Result GivenTags Fault
+given_tags_at d = or_fault (BadField Tags) (option_and_then given_tags_of (option_and_then as_object (get (field_text Tags) d)))
 
 -- what refuses a text or a tag of a field, to a message
 abbrev pub fault_in : Field → TextFault → Fault
@@ -184,7 +184,7 @@ create_at d = el_at d >>= λ name. element_at name.kind d >>= λ element. Ok (ac
 
 -- the other actions
 abbrev pub retag_at : Data → Result (Action Global) Fault
-retag_at d = el_at d >>= λ name. gifts_at d >>= λ given. Ok (actions.Retag name given)
+retag_at d = el_at d >>= λ name. given_tags_at d >>= λ given. Ok (actions.Retag name given)
 
 abbrev pub move_at : Data → Result (Action Global) Fault
 move_at d = els_at d >>= λ names. distance_at Dlat d >>= λ dlat. distance_at Dlon d >>= λ dlon. Ok (actions.Move names dlat dlon)
@@ -249,18 +249,22 @@ body_at d = word_at d >>= λ word. body_by word d
 abbrev pub id_at : Data → Result ℕ Fault
 id_at d = if is_some (as_object d) then or_fault BadId (option_and_then ordinal (get (codes "id") d)) else Err NotObject
 
--- a body under the id of its message
-abbrev pub under : ℕ → Result Body Fault → Result Incoming Bad
-under id (Ok body) = Ok (record { id = id; body = body })
-under id (Err fault) = Err (record { id = id; fault = fault })
+-- what is read of a tree, if there is one, under the id that it has; a fault before the id is told under 0
+module _ {X Y : Type 0} (made : ℕ → X → Y) (reading : Data → Result X Fault) where
+  abbrev pub by_id : Result ℕ Fault → Data → Result Y Bad
+  by_id (Ok id) d = under made id (reading d)
+  by_id (Err fault) d = under made 0 (Err fault)
 
-abbrev pub message_by : Result ℕ Fault → Data → Result Incoming Bad
-message_by (Ok id) d = under id (body_at d)
-message_by (Err fault) d = Err (record { id = 0; fault = fault })
+  abbrev pub with_id : Option Data → Result Y Bad
+  with_id None = under made 0 (Err NotJson)
+  with_id (Some d) = by_id (id_at d) d
+
+-- a message asks for its body under its id
+abbrev pub incoming : ℕ → Body → Incoming
+incoming id body = record { id = id; body = body }
 
 abbrev pub message_of : Option Data → Result Incoming Bad
-message_of None = Err (record { id = 0; fault = NotJson })
-message_of (Some d) = message_by (id_at d) d
+message_of = with_id incoming body_at
 
 -- what a text says: a message, or its one fault
 abbrev pub spells : List ℕ → Result Incoming Bad

@@ -1,5 +1,5 @@
 -- The tree of a welcome, and what a text of a welcome says. (RFC 8259: the tree. The members are this project's.)
-use Rattle.std.specs.Prelude.{ℕ, List, map, Option, Some, None, Result, Ok, Err, nat_le, if◌then◌else◌}
+use Rattle.std.specs.Prelude.{ℕ, List, map, Option, Some, None, Result, Ok, nat_le, if◌then◌else◌}
 use Rattle.std.specs.Option.{option_and_then}
 use Rattle.std.specs.declared.alloc.Global.{Global}
 use Rattle.serde_json.specs.Data.{Data}
@@ -9,12 +9,12 @@ use Rattle.osm_elements.specs.Maps.{Rows}
 use Rattle.osm_elements.specs.RowPairs.{row_pair}
 use Rattle.room_wire.specs.declared.field.Field.TheVariants as fields
 use Rattle.room_wire.specs.declared.bad.Fault.{Fault}
-use Rattle.room_wire.specs.declared.bad.Fault.TheVariants.{NotJson, BadField}
+use Rattle.room_wire.specs.declared.bad.Fault.TheVariants.{BadField}
 use Rattle.room_wire.specs.declared.bad.Bad.{Bad}
 use Rattle.room_wire.specs.declared.welcome.Welcome.{Welcome}
 use Rattle.room_wire.specs.Fields.{field_text}
 use Rattle.room_wire.specs.Reading.{◌>>=◌, or_fault}
-use Rattle.room_wire.specs.Spelling.{id_at}
+use Rattle.room_wire.specs.Spelling.{with_id}
 use Rattle.room_wire.specs.Lists.{row_at, rows_at}
 use Rattle.room_wire.specs.News.{object_at}
 use Rattle.room_wire.specs.Trees.{map_tree}
@@ -36,18 +36,12 @@ count_at d = or_fault (BadField fields.Seq) (option_and_then count_of (get (fiel
 abbrev pub told_at : Data → Result (Rows Global × ℕ) Fault
 told_at d = object_at fields.Ok d >>= λ ok. map_at ok >>= λ rows. count_at ok >>= λ seq. Ok (rows, seq)
 
--- a welcome under the id of its message
-abbrev pub welcomed : ℕ → Result (Rows Global × ℕ) Fault → Result Welcome Bad
-welcomed id (Ok told) = Ok (record { id = id; seq = told.1; rows = told.0 })
-welcomed id (Err fault) = Err (record { id = id; fault = fault })
-
-abbrev pub welcome_by : Result ℕ Fault → Data → Result Welcome Bad
-welcome_by (Ok id) d = welcomed id (told_at d)
-welcome_by (Err fault) d = Err (record { id = 0; fault = fault })
+-- a welcome tells its rows and its number under its id
+abbrev pub welcome : ℕ → Rows Global × ℕ → Welcome
+welcome id told = record { id = id; seq = told.1; rows = told.0 }
 
 abbrev pub welcome_of : Option Data → Result Welcome Bad
-welcome_of None = Err (record { id = 0; fault = NotJson })
-welcome_of (Some d) = welcome_by (id_at d) d
+welcome_of = with_id welcome told_at
 
 -- what a text says: a welcome, or its one fault
 abbrev pub spells_welcome : List ℕ → Result Welcome Bad

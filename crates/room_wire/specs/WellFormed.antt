@@ -14,8 +14,8 @@ use Rattle.osm_elements.specs.declared.element.Element.TheVariants as elements
 use Rattle.osm_elements.specs.Elements.{kind_of}
 use Rattle.osm_elements.specs.Members.{AreMembers}
 use Rattle.osm_elements.specs.Nodes.{AreNodes}
-use Rattle.osm_elements.specs.TagRows.{Pairs}
-use Rattle.edit_simple.specs.Tagging.{AreGifts, Gifts}
+use Rattle.osm_elements.specs.TagRows.{AreTagRows, Pairs}
+use Rattle.edit_simple.specs.Tagging.{AreGiven, GivenTags}
 use Rattle.edit_actions.specs.declared.action.Action.TheVariants as actions
 use Rattle.room_stacks.specs.declared.author.Author.{Author}
 use Rattle.room_stacks.specs.Authors.{is_author}
@@ -28,8 +28,8 @@ use Rattle.room_wire.specs.declared.incoming.Incoming.{Incoming}
 use Rattle.room_wire.specs.declared.incoming.Body.{Body}
 use Rattle.room_wire.specs.declared.incoming.Body.TheVariants as bodies
 use Rattle.room_wire.specs.Fields.{field_text}
-use Rattle.room_wire.specs.ReadBack.{HasId, IsWhole}
-use Rattle.room_wire.specs.Spelling.{author_at, distance_at, el_at, els_at, gifts_at, lat_at, lon_at, members_at, name_at, nodes_at, place_at, seq_at, tags_at}
+use Rattle.room_wire.specs.ReadBack.{HasId}
+use Rattle.room_wire.specs.Spelling.{author_at, distance_at, el_at, els_at, given_tags_at, lat_at, lon_at, members_at, name_at, nodes_at, place_at, seq_at, tags_at}
 use Rattle.room_wire.specs.Trees.{entry_members, members_tree, name_tree, nodes_tree, tags_tree, whole}
 use Rattle.room_wire.specs.Words.{Word, word_text}
 use Rattle.room_wire.specs.Words as words
@@ -59,19 +59,26 @@ HasText d field reading x = (text : List ℕ) × Has d field (string text) × (r
 abbrev pub IsMissing : Data → Field → Type 0
 IsMissing d field = get (field_text field) d ≡ None
 
+-- the tags of an element, or none
 abbrev pub HasTags : Data → Pairs → Type 0
-HasTags d tags = Has d Tags (tags_tree tags) ⊎ (IsMissing d Tags × (tags ≡ []))
+HasTags d tags = (Has d Tags (tags_tree tags) × AreTagRows tags) ⊎ (IsMissing d Tags × (tags ≡ []))
 
 -- what keys are given, null where that is nothing
 abbrev pub given_tree : Option (List ℕ) → Data
 given_tree None = null
 given_tree (Some value) = string value
 
-abbrev pub gifts_tree : Gifts → Data
-gifts_tree given = object (entry_members given_tree given)
+abbrev pub given_tags_tree : GivenTags → Data
+given_tags_tree given = object (entry_members given_tree given)
+
+abbrev pub HasGivenTags : Data → GivenTags → Type 0
+HasGivenTags d given = Has d Tags (given_tags_tree given) × AreGiven given
 
 abbrev pub names_tree : List Name → Data
 names_tree names = array (items_of (map name_tree names))
+
+abbrev pub HasNames : Data → List Name → Type 0
+HasNames d names = Has d Els (names_tree names) × All HasId names
 
 abbrev pub HasSeq : Data → Option ℕ → Type 0
 HasSeq d None = IsMissing d Seq
@@ -106,16 +113,14 @@ HasMembers d list = Has d Members (members_tree list) × AreMembers list × All 
 -- an element, of whose parts holds what their types keep
 abbrev pub HasElement : {A : Type 0} → Data → Element A → Type 0
 HasElement d (elements.Node lat lon tags) = HasText d Lat latitude_of lat × HasText d Lon longitude_of lon × HasTags d tags
-HasElement d (elements.Way nodes tags) = Has d Nodes (nodes_tree nodes) × HasTags d tags
-HasElement d (elements.Relation members tags) = Has d Members (members_tree members) × HasTags d tags
+HasElement d (elements.Way nodes tags) = HasNodes d nodes × HasTags d tags
+HasElement d (elements.Relation members tags) = HasMembers d members × HasTags d tags
 
 -- the word and the fields of a message, by what it asks for
 abbrev pub Asks : Data → Body → Type 0
-Asks d (bodies.Change (requests.Do (actions.Create name element))) =
-    HasWord d words.Create × HasName d name × HasElement d element × (kind_of element ≡ name.kind) × IsWhole element
-Asks d (bodies.Change (requests.Do (actions.Retag name given))) = HasWord d words.Retag × HasName d name × Has d Tags (gifts_tree given) × AreGifts given
-Asks d (bodies.Change (requests.Do (actions.Move names dlat dlon))) =
-    HasWord d words.Move × Has d Els (names_tree names) × All HasId names × HasDistance d Dlat dlat × HasDistance d Dlon dlon
+Asks d (bodies.Change (requests.Do (actions.Create name element))) = HasWord d words.Create × HasName d name × HasElement d element × (kind_of element ≡ name.kind)
+Asks d (bodies.Change (requests.Do (actions.Retag name given))) = HasWord d words.Retag × HasName d name × HasGivenTags d given
+Asks d (bodies.Change (requests.Do (actions.Move names dlat dlon))) = HasWord d words.Move × HasNames d names × HasDistance d Dlat dlat × HasDistance d Dlon dlon
 Asks d (bodies.Change (requests.Do (actions.Reverse name))) = HasWord d words.Reverse × HasName d name
 Asks d (bodies.Change (requests.Do (actions.Nodes name list))) = HasWord d words.Nodes × HasName d name × HasNodes d list
 Asks d (bodies.Change (requests.Do (actions.Members name list))) = HasWord d words.Members × HasName d name × HasMembers d list
@@ -157,7 +162,7 @@ named_slots (Err fault) d = []
 
 abbrev pub slots : Word → Data → List Slot
 slots words.Create d = slot El (el_at d) ∷ named_slots (el_at d) d
-slots words.Retag d = slot El (el_at d) ∷ slot Tags (gifts_at d) ∷ []
+slots words.Retag d = slot El (el_at d) ∷ slot Tags (given_tags_at d) ∷ []
 slots words.Move d = slot Els (els_at d) ∷ slot Dlat (distance_at Dlat d) ∷ slot Dlon (distance_at Dlon d) ∷ []
 slots words.Reverse d = slot El (el_at d) ∷ []
 slots words.Nodes d = slot El (el_at d) ∷ slot Nodes (nodes_at d) ∷ []

@@ -1,5 +1,5 @@
 //! Laws of the definitions, each the contract of a function that does nothing.
-ghost use Rattle.std.specs.Prelude.{◌≡◌, ◌≢◌, ◌≤◌, ◌↔◌, List, ℕ, None, Some, Ok, Err, IfErr, IsOk, is_some, true};
+ghost use Rattle.std.specs.Prelude.{◌≡◌, ◌≢◌, ◌≤◌, ◌↔◌, List, ℕ, None, Some, Ok, Err, IfErr, IfOk, IsOk, is_some, true};
 ghost use Rattle.std.specs.declared.alloc.Global.{Global};
 ghost use Rattle.osm_elements.specs.Elements.{kind_of};
 ghost use Rattle.osm_elements.specs.declared.name.Name.{Name};
@@ -8,6 +8,7 @@ ghost use Rattle.edit_actions.specs.declared.action.Action.TheVariants.{Create};
 ghost use Rattle.room_history.specs.declared.news.News.{News};
 ghost use Rattle.room_wire.specs.declared.welcome.Welcome.{Welcome};
 ghost use Rattle.room_wire.specs.News.{news_tree, spells_news};
+ghost use Rattle.room_wire.specs.Made.{is_made_body};
 ghost use Rattle.room_wire.specs.NewsBack.{AreNews, IsWelcome};
 ghost use Rattle.room_wire.specs.Welcomes.{spells_welcome, welcome_tree};
 ghost use Rattle.room_wire.specs.declared.bad.Fault.TheVariants.{BadField, BadId, Memory, NotJson, NotObject, UnknownDo};
@@ -86,6 +87,20 @@ pub fn no_text_spells_memory()
 pub fn a_message_spells_itself()
     ensures { (text : List ℕ) (d : Data) (message : Incoming) → read text ≡ Some d → IsMessage d message
         → spells text ≡ Ok message }
+{}
+
+/// What a text spells is a well-formed message of its tree: the tree has the word and the fields of that message, and of
+/// these holds what their types keep. So a text that has a tree spells a message exactly where it has the tree of one.
+pub fn what_is_spelled_is_a_message()
+    ensures { (text : List ℕ) (d : Data) (message : Incoming) → read text ≡ Some d → spells text ≡ Ok message
+        → IsMessage d message }
+{}
+
+/// What a text spells has its values as their types keep them: coordinates in their ranges, tags in order and within
+/// their limits, and of a way nodes.
+#[tactic(auto, using(crate::proofs::SpelledMade::spelled_is_made))]
+pub fn what_is_spelled_is_made()
+    ensures { (text : List ℕ) → IfOk (spells text) (λ message. is_made_body message.body ≡ true) }
 {}
 
 /// Each fault of a text comes exactly where it should: by the tree of the text, by its id and its word, and then by

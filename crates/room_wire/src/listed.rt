@@ -4,7 +4,6 @@ ghost use Rattle.std.specs.Result.{result_map_both, result_ok};
 ghost use Rattle.serde_json.specs.View.{view, items_view};
 ghost use Rattle.osm_changes.specs.Changes.{are_rising};
 ghost use Rattle.room_wire.specs.declared.bad.Fault.TheVariants.{BadField};
-ghost use Rattle.room_wire.specs.Inner.Rising.{is_before};
 ghost use Rattle.room_wire.specs.Lists.{in_list, row_at, rows_at, rows_in};
 ghost use Rattle.room_wire.specs.Reading.{Gives, or_fault};
 
@@ -12,44 +11,31 @@ use crate::bad::Fault;
 use crate::field::Field;
 use crate::forms::el_of;
 use crate::read::element_of;
+use crate::rising::{Named, are_rising};
 use osm_elements::map::Row;
-use osm_elements::name::Name;
 use serde_json::Value;
 use std::alloc::{AllocError, Global};
-use std::cmp::Ordering;
 
 // What an item of an array is, under the name of an element.
-pub trait Listed: Drop {
+pub trait Listed: Named + Drop {
     ghost use Rattle.std.specs.Prelude.{Result};
     ghost use Rattle.serde_json.specs.Data.{Data};
-    ghost use Rattle.osm_elements.specs.declared.name.Name.{Name};
     ghost use Rattle.room_wire.specs.declared.bad.Fault.{Fault};
 
     ghost reads: { Data → Result Self Fault };
 
-    ghost named: { Self → Name };
-
     fn read(alloc: Global, item: &Value) -> Result<Self, Fault>
         ensures { Gives result (reads (view item.now)) };
-
-    fn name(&self) -> Name
-        ensures { result ≡ named self.now };
 }
 
 // An element under its name.
 impl Listed for Row<Global> {
     ghost reads = { row_at };
 
-    ghost named = { λ r. r.name };
-
     fn read(alloc: Global, item: &Value) -> Result<Row<Global>, Fault> {
         let name = el_of(item)?;
         let element = element_of(alloc, name.kind(), item)?;
         Ok(Row { name, element })
-    }
-
-    fn name(&self) -> Name {
-        self.name
     }
 }
 
@@ -102,28 +88,5 @@ fn in_list(field: Field, fault: Fault) -> Fault
     match fault {
         Fault::Memory => Fault::Memory,
         _ => Fault::BadField(field),
-    }
-}
-
-// Whether the names of the rows rise.
-fn are_rising<T: Listed>(rows: &[T]) -> bool
-    ensures { result ≡ are_rising (map T.named rows.now) }
-{
-    for place in 0..rows.len() {
-        if place + 1 < rows.len() && !is_before(&rows[place].name(), &rows[place + 1].name()) {
-            return false;
-        }
-    }
-    true
-}
-
-// Whether a name comes before another.
-fn is_before(one: &Name, other: &Name) -> bool
-    ensures { result ≡ is_before one.now other.now }
-{
-    match one.cmp(other) {
-        Ordering::Less => true,
-        Ordering::Equal => false,
-        Ordering::Greater => false,
     }
 }

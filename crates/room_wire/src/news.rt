@@ -13,7 +13,6 @@ use crate::listed::{Listed, rows_of};
 use crate::numbers::ordinal;
 use crate::read::parse;
 use osm_elements::map::Row;
-use osm_elements::name::Name;
 use room_history::news::{News, NewsRow, NewsRows};
 use serde_json::Value;
 use std::alloc::Global;
@@ -81,8 +80,6 @@ fn number_of(told: &Value) -> Result<u64, Fault>
 impl Listed for NewsRow<Global> {
     ghost reads = { news_row_at };
 
-    ghost named = { λ r. r.name };
-
     fn read(alloc: Global, item: &Value) -> Result<NewsRow<Global>, Fault> {
         if is_gone(item) {
             let name = el_of(item)?;
@@ -92,10 +89,6 @@ impl Listed for NewsRow<Global> {
         let Row { name, element } = Row::<Global>::read(alloc, item)?;
         let element = Some(element);
         Ok(NewsRow { name, element })
-    }
-
-    fn name(&self) -> Name {
-        self.name
     }
 }
 

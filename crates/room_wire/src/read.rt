@@ -3,8 +3,8 @@ ghost use Rattle.std.specs.Prelude.{◌≡◌, ◌⊎◌, ◌<◌, length, Some,
 ghost use Rattle.serde_json.specs.Read.{read};
 ghost use Rattle.serde_json.specs.View.{view};
 ghost use Rattle.room_wire.specs.declared.bad.Fault.TheVariants.{NotJson, Memory};
-ghost use Rattle.room_wire.specs.Reading.{Gives, GivesMessage};
-ghost use Rattle.room_wire.specs.Spelling.{spells, under, id_at, body_at, body_by, hello_at, action_by, element_at};
+ghost use Rattle.room_wire.specs.Reading.{Gives, GivesMessage, under};
+ghost use Rattle.room_wire.specs.Spelling.{spells, incoming, id_at, body_at, body_by, hello_at, action_by, element_at};
 
 use crate::bad::{Bad, Fault};
 use crate::field::Field;
@@ -14,7 +14,7 @@ use crate::forms::{
 };
 use crate::incoming::{Body, Incoming};
 use crate::numbers::ordinal;
-use crate::tag_forms::{gifts_of, tags_of};
+use crate::tag_forms::{given_tags_of, tags_of};
 use edit_actions::action::Action;
 use edit_actions::each_action;
 use osm_elements::element::Element;
@@ -25,7 +25,7 @@ use std::alloc::Global;
 
 // The action of a word, with the fields that it has.
 macro_rules! read_by {
-    (($alloc:expr, $word:expr, $message:expr) $($variant:ident $text:literal { $($field:ident: $how:ident from $source:ident $(by $name:ident)?),* } by $plan:ident;)*) => {
+    (($alloc:expr, $word:expr, $message:expr) $($variant:ident $text:literal { $($field:ident: $how:ident from $source:ident $(by $name:ident)?),* } by $plan:ident about $way:ident [$($subject:ident),*];)*) => {
         match $word {
             $($text => {
                 $(let $field = field!($source ($alloc, $message) $($name)?)?;)*
@@ -41,7 +41,7 @@ macro_rules! field {
     (el ($alloc:expr, $message:expr)) => { el_of($message) };
     (els ($alloc:expr, $message:expr)) => { els_of($alloc, $message) };
     (element ($alloc:expr, $message:expr) $name:ident) => { element_of($alloc, $name.kind(), $message) };
-    (gifts ($alloc:expr, $message:expr)) => { gifts_of($alloc, $message) };
+    (given_tags ($alloc:expr, $message:expr)) => { given_tags_of($alloc, $message) };
     (nodes ($alloc:expr, $message:expr)) => { nodes_of($alloc, $message) };
     (members ($alloc:expr, $message:expr)) => { members_of($alloc, $message) };
     (dlat ($alloc:expr, $message:expr)) => { distance_of($message, Field::Dlat) };
@@ -120,7 +120,7 @@ pub fn id_of(message: &Value) -> Result<u64, Fault>
 
 // What a message asks for, under its id.
 fn incoming_of(alloc: Global, id: u64, message: &Value) -> Result<Incoming, Bad>
-    ensures exact { GivesMessage result (under id (body_at (view message.now))) }
+    ensures exact { GivesMessage result (under incoming id (body_at (view message.now))) }
 {
     match body_of(alloc, message) {
         Ok(body) => Ok(Incoming { id, body }),

@@ -3,8 +3,8 @@ ghost use Rattle.std.specs.Prelude.{◌≡◌, ◌≢◌, ◌<◌, [], length, O
 ghost use Rattle.std.specs.FinMap.Entries.{put};
 ghost use Rattle.serde_json.specs.View.{view, members_view};
 ghost use Rattle.room_wire.specs.Reading.{Gives, or_fault};
-ghost use Rattle.room_wire.specs.Spelling.{key_of, value_of, given_of, entry_of, tags_of, tags_at, gifts_of, gifts_at};
-ghost use Rattle.osm_elements.specs.TagRows.{text_cmp};
+ghost use Rattle.room_wire.specs.Spelling.{key_of, value_of, given_of, entry_of, tags_of, tags_at, given_tags_of, given_tags_at};
+ghost use Rattle.osm_elements.specs.KeyedRows.{text_cmp};
 ghost use Rattle.room_wire.specs.declared.bad.Fault.TheVariants.{BadField, Memory};
 ghost use Rattle.room_wire.specs.declared.field.Field.TheVariants as field;
 
@@ -67,34 +67,34 @@ fn put_tag(tags: &mut Tags<Global>, key: Text<Global>, value: Text<Global>) -> R
 }
 
 // What a retag gives its keys.
-pub fn gifts_of(alloc: Global, message: &Value) -> Result<Retag<Global>, Fault>
-    ensures { Gives result (gifts_at (view message.now)) }
+pub fn given_tags_of(alloc: Global, message: &Value) -> Result<Retag<Global>, Fault>
+    ensures { Gives result (given_tags_at (view message.now)) }
 {
     let members = message
         .get(Field::Tags.as_str())
         .and_then(Value::as_object)
         .ok_or(Fault::BadField(Field::Tags))?;
-    gifts_in(alloc, members)
+    given_tags_in(alloc, members)
 }
 
 // What these keys are given.
-fn gifts_in(alloc: Global, members: &Map<String, Value>) -> Result<Retag<Global>, Fault>
+fn given_tags_in(alloc: Global, members: &Map<String, Value>) -> Result<Retag<Global>, Fault>
     ensures { Gives result
-        (or_fault (BadField field.Tags) (gifts_of (members_view members.now.entries))) }
+        (or_fault (BadField field.Tags) (given_tags_of (members_view members.now.entries))) }
 {
     if members.len() > MOST_TAGS {
         return Err(Fault::BadField(Field::Tags));
     }
-    let mut gifts = Retag::empty(alloc);
+    let mut given_tags = Retag::empty(alloc);
     for (key, value) in members {
-        let (key, given) = gift_of(alloc, key.as_str(), value)?;
-        put_gift(&mut gifts, key, given)?;
+        let (key, given) = given_tag_of(alloc, key.as_str(), value)?;
+        put_given_tag(&mut given_tags, key, given)?;
     }
-    Ok(gifts)
+    Ok(given_tags)
 }
 
 // A key, and the value that it is given, if it is.
-fn gift_of(
+fn given_tag_of(
     alloc: Global,
     key: &str,
     value: &Value,
@@ -107,17 +107,17 @@ fn gift_of(
 }
 
 // Gives a key its value or none, where there is room for one more key.
-fn put_gift(
-    gifts: &mut Retag<Global>,
+fn put_given_tag(
+    given_tags: &mut Retag<Global>,
     key: Text<Global>,
     given: Option<Text<Global>>,
 ) -> Result<(), Fault>
     requires key { key ≢ [] }
-    requires room { length gifts.old < 1000 }
-    ensures ok { OnOk result (gifts.new ≡ put text_cmp key given gifts.old) }
+    requires room { length given_tags.old < 1000 }
+    ensures ok { OnOk result (given_tags.new ≡ put text_cmp key given given_tags.old) }
     ensures err { IfErr result (λ f. f ≡ Memory) }
 {
-    gifts
+    given_tags
         .set(key, given)
         .map_err(|fault| fault_in(Field::Tags, fault))
 }

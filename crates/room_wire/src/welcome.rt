@@ -4,8 +4,8 @@ ghost use Rattle.serde_json.specs.View.{view};
 ghost use Rattle.osm_elements.specs.Rows.{AreInOrder};
 ghost use Rattle.room_history.specs.Bases.{are_of_kinds};
 ghost use Rattle.room_wire.specs.declared.bad.Fault.TheVariants.{Memory};
-ghost use Rattle.room_wire.specs.Reading.{Gives, GivesUnder};
-ghost use Rattle.room_wire.specs.Welcomes.{count_at, map_at, spells_welcome, told_at, welcomed};
+ghost use Rattle.room_wire.specs.Reading.{Gives, GivesUnder, under};
+ghost use Rattle.room_wire.specs.Welcomes.{count_at, map_at, spells_welcome, told_at, welcome};
 
 use crate::bad::{Bad, Fault};
 use crate::field::Field;
@@ -52,7 +52,7 @@ pub fn read_welcome(alloc: Global, text: &str) -> Result<Welcome, Bad>
 
 // The welcome of a reply, under its id.
 fn welcomed(alloc: Global, id: u64, reply: &Value) -> Result<Welcome, Bad>
-    ensures exact { GivesUnder (λ w. w.id) result (welcomed id (told_at (view reply.now))) }
+    ensures exact { GivesUnder (λ w. w.id) result (under welcome id (told_at (view reply.now))) }
     ensures in_order { IfOk result (λ w. AreInOrder w.rows) }
     ensures kinds { IfOk result (λ w. are_of_kinds w.rows ≡ true) }
 {

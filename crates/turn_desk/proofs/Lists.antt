@@ -3,7 +3,7 @@ use Rattle.std.proofs.Common.{◌≡◌, ◌≢◌, ◌⊎◌, ℕ, Bool, true, 
 use Rattle.std.proofs.lemmas.List.{append-nil, map-append}
 use mathlib.Core.Option.{some, some-injective, some-ne-none}
 use lib.ListN.{get_elem?}
-use Rattle.turn_desk.specs.History.{History, entries, entries_by, StartsWith, MayFollow, MayAllFollow, IsLegal}
+use Rattle.turn_desk.specs.History.{History, entries, entries_by, BeginsWith, MayFollow, MayAllFollow, IsLegal}
 use Rattle.turn_desk.specs.Rule.{total}
 
 module _ {A : Type 0} where
@@ -68,10 +68,10 @@ module _ {E : Type 0} where
   entries_by-others n e h ks apart known = λ i d below. entries_by-other _ n e h (apart i d below) ∙ known i d below
 
   -- a history begins with itself, and with what its own beginning begins with
-  pub starts_with_itself : (h : History E) → StartsWith h h
+  pub starts_with_itself : (h : History E) → BeginsWith h h
   starts_with_itself h = ([], sym (append-nil h))
 
-  pub starts_later : (h seen : History E) (p : ℕ × E) → StartsWith h seen → StartsWith (h ++ p ∷ []) seen
+  pub starts_later : (h seen : History E) (p : ℕ × E) → BeginsWith h seen → BeginsWith (h ++ p ∷ []) seen
   starts_later h seen p start = (start.0 ++ p ∷ [], ap (λ l. l ++ p ∷ []) start.1 ∙ append_assoc seen start.0 (p ∷ []))
 
 module _ {F E C P : Type 0} (answers : F → List E → C → P → List E → Type 0) (f : F) where

@@ -3,7 +3,7 @@ use Rattle.std.proofs.Common.{◌≡◌, ℕ, List, length, slice_index, slice_s
 use Rattle.atomic_table.specs.Table.{Me, keeps, Allows}
 use Rattle.atomic_table.specs.declared.shared.Seat.{Seat}
 use Rattle.turn_desk.specs.Desk.{sitting, LooksAt}
-use Rattle.turn_desk.specs.History.{History, StartsWith, IsLegal}
+use Rattle.turn_desk.specs.History.{History, BeginsWith, IsLegal}
 use Rattle.turn_desk.specs.Rule.{HasTurn, HoldsTicket, Kept}
 use Rattle.turn_desk.specs.Inner.Plays.{looking, Sees, Looks}
 use Rattle.turn_desk.specs.declared.view.View.{View}
@@ -60,8 +60,8 @@ module _ {R E F C P : Type 0} (fixed : R → F) (list : R → List E) (answers :
       let seen : after.me.0.seen ≡ it.h = ap (λ (x : Me (Option R) (View E F)). x.0.seen) is in record {
         h = it.h;
         legal = it.legal;
-        front = subst (StartsWith it.h) (sym seen) (starts_with_itself it.h);
-        begins = subst (λ (x : History E). StartsWith x before.me.0.seen) (sym seen) it.seen;
+        front = subst (BeginsWith it.h) (sym seen) (starts_with_itself it.h);
+        begins = subst (λ (x : History E). BeginsWith x before.me.0.seen) (sym seen) it.seen;
         stays_legal = subst (IsLegal answers f) (sym seen) it.legal;
         whole = it.length_is;
         count_is = ap length seen ∙ it.length_is;

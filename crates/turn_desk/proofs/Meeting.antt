@@ -7,7 +7,7 @@ use lib.ListN.{get_elem?}
 use Rattle.atomic_table.specs.Table.{Me, Joins}
 use Rattle.atomic_table.specs.declared.shared.Seat.{Seat}
 use Rattle.atomic_table.proofs.Lists.{at_set, set_else}
-use Rattle.turn_desk.specs.History.{History, entries_by, StartsWith, IsLegal}
+use Rattle.turn_desk.specs.History.{History, entries_by, BeginsWith, IsLegal}
 use Rattle.turn_desk.specs.Desk.{sitting, MeetsAt}
 use Rattle.turn_desk.specs.Rule.{HasTurn, kin_of, Agrees, Moment, HoldsTicket, Fits, Kept}
 use Rattle.turn_desk.specs.Inner.Plays.{Sees}
@@ -124,8 +124,8 @@ module _ {R E F C P : Type 0} (fixed : R → F) (list : R → List E) (answers :
       let end = it.after in
       let seen : after.me.0.seen ≡ it.h = ap (λ (x : Me (Option R) (View E F)). x.0.seen) end in record {
         legal = subst (IsLegal answers f) (sym seen) it.legal;
-        begins = subst (λ (x : History E × History E). StartsWith x.0 x.1) (λ i. (sym seen i, ap (λ (x : Me (Option R) (View E F)). x.0.seen) is i)) it.seen;
-        other_begins = subst (λ (x : History E × History E). StartsWith x.0 x.1) (λ i. (sym seen i, ap (λ (x : Me (Option R) (View E F)). x.0.told) is i)) it.told;
+        begins = subst (λ (x : History E × History E). BeginsWith x.0 x.1) (λ i. (sym seen i, ap (λ (x : Me (Option R) (View E F)). x.0.seen) is i)) it.seen;
+        other_begins = subst (λ (x : History E × History E). BeginsWith x.0 x.1) (λ i. (sym seen i, ap (λ (x : Me (Option R) (View E F)). x.0.told) is i)) it.told;
         number = ap (λ (x : Me (Option R) (View E F)). x.0.number) end ∙ ap (λ (x : Me (Option R) (View E F)). x.0.number) is;
         mine = ap (λ (x : Me (Option R) (View E F)). x.0.mine) end ∙ ap (λ (x : Me (Option R) (View E F)). x.0.mine) is;
         met = ap (λ (x : Me (Option R) (View E F)). x.0.met) end ∙ ap (λ (x : Me (Option R) (View E F)). x.0.met) is;

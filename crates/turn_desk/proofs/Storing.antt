@@ -5,7 +5,7 @@ use lib.ListN.{length-map}
 use mathlib.Core.Option.{some}
 use lib.ListN.{get_elem?}
 use Rattle.atomic_table.specs.Table.{State, Me, Act, keeps, takes, gives, put_back, rest, stepped, Allows, opening}
-use Rattle.turn_desk.specs.History.{History, entries, entries_by, StartsWith, MayFollow, IsLegal}
+use Rattle.turn_desk.specs.History.{History, entries, entries_by, BeginsWith, MayFollow, IsLegal}
 use Rattle.turn_desk.specs.Rule.{HasTurn, kin_of, Agrees, Moment, HoldsTicket, Fits, StandsFor, Kept}
 use Rattle.turn_desk.specs.Inner.Plays.{looking, Grows, Enters, Stores}
 use Rattle.turn_desk.specs.Inner.Steps.{MayLead}
@@ -64,7 +64,7 @@ module _ {R E F C P : Type 0} (fixed : R → F) (list : R → List E) (answers :
   -- the store, where the history after it and the seat's entries in it are known
   stores_as : (slots id t : ℕ) (room : R) (n : ℕ) (me : Me (Option R) (View E F)) → me.0.fixed ≡ Some f → me.0.stage ≡ Turning t → me.1 ≡ (0, Some room) ∷ []
       → (s : State (Option R) (View E F)) (r : Kept fixed list answers f s) → get_elem? s.views id ≡ some me.0
-      → (h : History E) (mine : List E) → IsLegal answers f h → Grows me.0 h mine → n ≡ length h → StandsFor fixed list f room h → Agrees h (record me.0 { mine = mine }) → StartsWith h me.0.told
+      → (h : History E) (mine : List E) → IsLegal answers f h → Grows me.0 h mine → n ≡ length h → StandsFor fixed list f room h → Agrees h (record me.0 { mine = mine }) → BeginsWith h me.0.told
       → ((j : ℕ) (v : View E F) → j ≢ id → Fits r.now j f v → Fits (record r.now { log = h }) j f v)
       → (w : View E F) × (a : Act (Option R)) × Rattle.atomic_table.specs.Table.Valid s.homes me.1 a × Kept fixed list answers f (stepped s 0 n id me.1 w a)
       × Stores fixed list answers me n (w, Rattle.atomic_table.specs.Table.carried_after me.1 a)

@@ -1,7 +1,7 @@
 -- A whole turn, from what its steps told.
 use Rattle.std.proofs.Common.{◌≡◌, ℕ, List, [], ◌∷◌, sym, ap, ◌∙◌, subst, Option, Some}
 use Rattle.atomic_table.specs.Table.{Me}
-use Rattle.turn_desk.specs.History.{entries, StartsWith}
+use Rattle.turn_desk.specs.History.{entries, BeginsWith}
 use Rattle.turn_desk.specs.Rule.{Agrees}
 use Rattle.turn_desk.specs.Inner.Plays.{Draws, Stores, waiting, turning, looking, TakesTurn, Enters}
 use Rattle.turn_desk.specs.Inner.Steps.{IsAtRest, HoldsRoom, GetsTurn, MakesCall}
@@ -28,7 +28,7 @@ module _ {R E F C P : Type 0} (fixed : R → F) (list : R → List E) (answers :
         room = took.room;
         part = draw.2;
         legal = took.legal;
-        begins = subst (StartsWith took.h) seen took.seen;
+        begins = subst (BeginsWith took.h) seen took.seen;
         agrees = agrees_still took.h (waiting t before.0) before.0.stage before.0.parts before.0.seen before.0.looks before.0.tickets agrees;
         stands = took.stands;
         after = took.after ∙ (ap (λ (x : M). (turning t took.h x.0, (0, Some took.room) ∷ x.1)) is ∙ ap (λ (c : List (ℕ × Option R)). (turning t took.h (waiting t before.0), (0, Some took.room) ∷ c)) rest.slots);

@@ -1,7 +1,7 @@
 -- What contracts see of a desk and its seats, and what the calls of a desk say of them.
 use Rattle.std.specs.Prelude.{◌≡◌, ◌≢◌, ◌⊎◌, ℕ, List, [], ◌∷◌, ◌++◌, ◌+◌, ◌-◌, ◌/◌, ◌^◌, max, length, Option, Some, All}
 use Rattle.atomic_table.specs.Seated.{TableId}
-use Rattle.turn_desk.specs.History.{History, entries, entries_by, StartsWith, IsLegal}
+use Rattle.turn_desk.specs.History.{History, entries, entries_by, BeginsWith, IsLegal}
 use Rattle.atomic_table.specs.declared.shared.Seat.{Seat}
 use Rattle.turn_desk.specs.declared.view.View.{View}
 
@@ -97,7 +97,7 @@ module _ {F E C P : Type 0} (answers : F → List E → C → P → List E → T
   pub record TurnsAt (before : Sitting E F) (call : C) (reply : P) (after : Sitting E F) : Type 0 where
     pub h : History E
     pub legal : IsLegal answers f h
-    pub begins : StartsWith h before.seen
+    pub begins : BeginsWith h before.seen
     -- the reply is that of one thread after this history
     pub answer : answers f (entries h) call reply (entries after.seen)
     -- what is then seen is this history, with the call's entry where it was accepted
@@ -112,8 +112,8 @@ module _ {F E C P : Type 0} (answers : F → List E → C → P → List E → T
     pub h : History E
     pub legal : IsLegal answers f h
     -- what is seen begins this history, and begins with all that the seat had seen
-    pub front : StartsWith h after.seen
-    pub begins : StartsWith after.seen before.seen
+    pub front : BeginsWith h after.seen
+    pub begins : BeginsWith after.seen before.seen
     pub stays_legal : IsLegal answers f after.seen
     -- the answer is how long it is, and all of it was seen
     pub whole : length h ≡ count
@@ -127,8 +127,8 @@ module _ {F E C P : Type 0} (answers : F → List E → C → P → List E → T
   pub record MeetsAt (before other after : Sitting E F) : Type 0 where
     -- what is seen is legal, and begins with all that both had seen
     pub legal : IsLegal answers f after.seen
-    pub begins : StartsWith after.seen before.seen
-    pub other_begins : StartsWith after.seen other.seen
+    pub begins : BeginsWith after.seen before.seen
+    pub other_begins : BeginsWith after.seen other.seen
     -- the kin are those of both
     pub number : after.number ≡ before.number
     pub mine : after.mine ≡ before.mine
@@ -144,7 +144,7 @@ module _ {R F E C P : Type 0} (fixed : R → F) (list : R → List E) (answers :
   pub record ClosesWith (seat : Sitting E F) (room : R) : Type 0 where
     pub h : History E
     pub legal : IsLegal answers f h
-    pub begins : StartsWith h seat.seen
+    pub begins : BeginsWith h seat.seen
     pub same : fixed room ≡ f
     pub stands : list room ≡ entries h
     pub kin : HasKin h seat

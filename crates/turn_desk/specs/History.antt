@@ -4,6 +4,10 @@ use Rattle.std.specs.Prelude.{◌≡◌, ◌==◌, ◌⊎◌, ℕ, List, [], ◌
 abbrev pub History : Type 0 → Type 0
 History E = List (ℕ × E)
 
+-- a list begins with another, as a history with what was seen of it
+abbrev pub BeginsWith : {X : Type 0} → List X → List X → Type 0
+BeginsWith {X} list front = (rest : List X) × (list ≡ front ++ rest)
+
 module _ {E : Type 0} where
   -- the entries in their order, whoever made them
   abbrev pub entries : History E → List E
@@ -13,10 +17,6 @@ module _ {E : Type 0} where
   abbrev pub entries_by : ℕ → History E → List E
   entries_by n [] = []
   entries_by n (p ∷ h) = if n == p.0 then p.1 ∷ entries_by n h else entries_by n h
-
-  -- the history begins with what was seen
-  abbrev pub StartsWith : History E → History E → Type 0
-  StartsWith h seen = (rest : History E) × (h ≡ seen ++ rest)
 
   -- the list stayed as it was, or gained one entry at its end
   abbrev pub GainsAtMostOne : List E → List E → Type 0

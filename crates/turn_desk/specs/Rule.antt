@@ -4,7 +4,7 @@ use Rattle.std.specs.Prelude.{◌≡◌, ◌≢◌, ◌⊎◌, ℕ, ◌+◌, ◌
 use mathlib.Core.Option.{some}
 use lib.ListN.{get_elem?}
 use Rattle.atomic_table.specs.Table.{State}
-use Rattle.turn_desk.specs.History.{History, entries, entries_by, StartsWith, IsLegal}
+use Rattle.turn_desk.specs.History.{History, entries, entries_by, BeginsWith, IsLegal}
 use Rattle.turn_desk.specs.declared.view.View.{View}
 use Rattle.turn_desk.specs.declared.view.Stage.{Stage}
 use Rattle.turn_desk.specs.declared.view.Stage.TheVariants.{Idle, Waiting, Turning}
@@ -60,8 +60,8 @@ module _ {E F : Type 0} (now : Moment E) (seat : ℕ) where
   -- and its ticket is its own
   pub record Fits (f : F) (v : View E F) : Type 0 where
     pub fixed : v.fixed ≡ Some f
-    pub seen : StartsWith now.log v.seen
-    pub told : StartsWith now.log v.told
+    pub seen : BeginsWith now.log v.seen
+    pub told : BeginsWith now.log v.told
     pub agrees : Agrees now.log v
     pub kin : All (λ k. now.owner k.0 ≡ seat) (kin_of v)
     pub supply : (n : ℕ) → Supplies v n → now.owner n ≡ seat

@@ -1,7 +1,7 @@
 -- What each kind of step tells the seat that makes it.
 use Rattle.std.specs.Prelude.{◌≡◌, ◌≢◌, ◌⊎◌, ℕ, ◌+◌, ◌-◌, ◌%◌, ◌^◌, ◌<◌, List, [], ◌∷◌, ◌++◌, length, Option, Some}
 use Rattle.atomic_table.specs.Table.{Me}
-use Rattle.turn_desk.specs.History.{History, StartsWith, IsLegal}
+use Rattle.turn_desk.specs.History.{History, BeginsWith, IsLegal}
 use Rattle.turn_desk.specs.Rule.{StandsFor, Agrees}
 use Rattle.turn_desk.specs.declared.view.View.{View}
 use Rattle.turn_desk.specs.declared.view.Stage.TheVariants.{Idle, Waiting, Turning}
@@ -42,7 +42,7 @@ module _ {R E F C P : Type 0} (fixed : R → F) (list : R → List E) (answers :
     pub h : History E
     pub room : R
     pub legal : IsLegal answers f h
-    pub seen : StartsWith h m.0.seen
+    pub seen : BeginsWith h m.0.seen
     pub agrees : Agrees h m.0
     pub stands : StandsFor fixed list f room h
     pub after : m' ≡ (turning t h m.0, (0, Some room) ∷ m.1)
@@ -71,8 +71,8 @@ module _ {R E F C P : Type 0} (fixed : R → F) (list : R → List E) (answers :
   pub record Sees (f : F) (found : ℕ) (m m' : Me (Option R) (View E F)) : Type 0 where
     pub h : History E
     pub legal : IsLegal answers f h
-    pub seen : StartsWith h m.0.seen
-    pub told : StartsWith h m.0.told
+    pub seen : BeginsWith h m.0.seen
+    pub told : BeginsWith h m.0.told
     pub length_is : length h ≡ found
     pub agrees : Agrees h m.0
     pub after : m' ≡ (looking found h m.0, m.1)

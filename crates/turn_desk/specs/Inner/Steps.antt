@@ -3,7 +3,7 @@ use Rattle.std.specs.Prelude.{◌≡◌, ◌⊎◌, ℕ, ◌%◌, ◌^◌, ◌<�
 use Rattle.atomic_table.specs.Table.{Me}
 use Rattle.atomic_table.specs.Seated.{TableId}
 use Rattle.atomic_table.specs.declared.shared.Seat.{Seat}
-use Rattle.turn_desk.specs.History.{History, entries, StartsWith, MayFollow, IsLegal}
+use Rattle.turn_desk.specs.History.{History, entries, BeginsWith, MayFollow, IsLegal}
 use Rattle.turn_desk.specs.Rule.{Agrees, StandsFor}
 use Rattle.turn_desk.specs.Inner.Plays.{waiting, turning, looking, Grows}
 use Rattle.turn_desk.specs.declared.view.View.{View}
@@ -59,7 +59,7 @@ module _ {R E F C P : Type 0} (fixed : R → F) (list : R → List E) (answers :
     pub room : R
     pub part : 0 < m.0.parts
     pub legal : IsLegal answers f h
-    pub begins : StartsWith h m.0.seen
+    pub begins : BeginsWith h m.0.seen
     pub agrees : Agrees h m.0
     pub stands : StandsFor fixed list f room h
     pub after : m' ≡ (turning ticket h (waiting ticket m.0), (0, Some room) ∷ [])

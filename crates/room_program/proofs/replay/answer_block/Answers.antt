@@ -13,7 +13,7 @@ returns-in_err-put_all-clause-front g c =
     let now = c.loop-rest.begun.items ++ c.loop-rest.rest.now in
     on_err c.from_residual.result
     (written-some _ _ _ _ _ _ _ c.loop-rest.invariant.written (g.W.Sink.taken c.put_all.new.writer) part.0 part.1
-    (subst (λ (bs : List ℕ). AnswersSome g.A.Answers.answered c.loop-rest.answers now bs) (sym c.as_slice.ensures.value ∙ part.2) some) part.3)
+    (subst (λ (bs : List ℕ). AnswersSome g.A.Answerer.answered c.loop-rest.answers now bs) (sym c.as_slice.ensures.value ∙ part.2) some) part.3)
 
 pub returns-in_err-rest-clause-front : goal.returns-in_err-rest-clause-front
 returns-in_err-rest-clause-front g c =
@@ -22,7 +22,7 @@ returns-in_err-rest-clause-front g c =
     let now = c.loop-rest.begun.items ++ c.loop-rest.rest.now in
     on_err c.from_residual-in_err-rest.result
     (written-some _ _ _ _ _ _ _ c.loop-rest.invariant.written (g.W.Sink.taken c.put_all.new.writer) out []
-    (subst (λ (bs : List ℕ). AnswersSome g.A.Answers.answered c.loop-rest.answers now bs) (sym (append-nil out)) some)
+    (subst (λ (bs : List ℕ). AnswersSome g.A.Answerer.answered c.loop-rest.answers now bs) (sym (append-nil out)) some)
     (subst (λ (bs : List ℕ). Appends (g.W.Sink.taken c.loop-rest.writer) (g.W.Sink.taken c.put_all.new.writer) bs) c.as_slice.ensures.value c.in_ok-put_all.ensures.ok))
 
 pub loop-rest-preserved : goal.loop-rest-preserved

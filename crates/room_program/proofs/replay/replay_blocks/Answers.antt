@@ -104,7 +104,7 @@ pub returns-in_err-answer_block-clause-front : goal.returns-in_err-answer_block-
 returns-in_err-answer_block-clause-front g c =
     let f = c.in_err-answer_block.ensures.front in
     let left = g.S.Source.left c.args.reader.now in
-    let p = progress-none g.A.Answers.answered c.args.answers.now c.new-begun.result.items (with_bytes c.args.held.now left) (g.W.Sink.taken c.args.writer.now) c.new-begun.ensures.items in
+    let p = progress-none g.A.Answerer.answered c.args.answers.now c.new-begun.result.items (with_bytes c.args.held.now left) (g.W.Sink.taken c.args.writer.now) c.new-begun.ensures.items in
     on_err c.from_residual.result
     (progress-stopped _ _ _ _ _ _ _ _ p left (g.W.Sink.taken c.answer_block.new.writer) c.args.held.now f.0 f.1 (Consumes-before c.args.held.now left) f.2 f.3)
 
@@ -115,7 +115,7 @@ pub loop-init : goal.loop-init
 loop-init g c =
     let said = c.in_ok-answer_block.ensures.ok in
     let left = g.S.Source.left c.args.reader.now in
-    let p = progress-none g.A.Answers.answered c.args.answers.now c.new-begun.result.items (with_bytes c.args.held.now left) (g.W.Sink.taken c.args.writer.now) c.new-begun.ensures.items in
+    let p = progress-none g.A.Answerer.answered c.args.answers.now c.new-begun.result.items (with_bytes c.args.held.now left) (g.W.Sink.taken c.args.writer.now) c.new-begun.ensures.items in
     record {
       progress = progress-block _ _ _ _ _ _ _ _ p left (g.W.Sink.taken c.answer_block.new.writer) c.args.held.now said.0 c.answer_block.new.begun.items c.answer_block.new.answers
           (Consumes-before c.args.held.now left) said.1 said.2;

@@ -6,7 +6,7 @@ use Rattle.room_program.proofs.replay.replay_blocks.Given as goal
 
 abbrev pub invariant-loop : goal.invariant-loop
 invariant-loop g l = record {
-  progress : Progress g.A.Answers.answered l.fn.answers l.answers (with_bytes l.fn.held (g.S.Source.left l.fn.reader)) (g.S.Source.left l.reader) (g.W.Sink.taken l.fn.writer) (g.W.Sink.taken l.writer) l.begun.items;
+  progress : Progress g.A.Answerer.answered l.fn.answers l.answers (with_bytes l.fn.held (g.S.Source.left l.fn.reader)) (g.S.Source.left l.reader) (g.W.Sink.taken l.fn.writer) (g.W.Sink.taken l.writer) l.begun.items;
   held : IsLine l.begun.items;
   reader_works : g.S.Source.has_failed l.reader ≡ false;
   writer_works : g.W.Sink.has_failed l.writer ≡ false;

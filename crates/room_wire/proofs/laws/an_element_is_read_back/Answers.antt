@@ -1,4 +1,4 @@
-use Rattle.room_wire.proofs.ReadBackProofs.{element_read_back}
+use Rattle.room_wire.proofs.ElementBack.{element_read_back}
 use Rattle.room_wire.proofs.laws.an_element_is_read_back.Goals as goal
 
 pub returns : goal.returns

@@ -1,13 +1,13 @@
 use Rattle.std.proofs.Common.{◌≡◌, arith, subst, sym}
 use Rattle.std.proofs.lemmas.Option.{slice_get_within}
-use Rattle.room_session.specs.Rooms.{Answers, IsRoom}
+use Rattle.room_session.specs.Rooms.{AnswersCall, HasRoom}
 use Rattle.room_server.specs.Tables.{SeatedView, kept_of, known_of}
 use Rattle.room_server.proofs.Seating.{room_is_below, turn_answers, turn_at, turn_kept}
 use Rattle.room_server.proofs.seated.SeatedRooms.turn.Goals as goal
 
 pub desk-desk-requires : goal.desk-desk-requires
 desk-desk-requires g c =
-    let is = subst (λ (s : SeatedView). IsRoom (known_of s) c.args.room) (sym c.self.view_is) c.requires in
+    let is = subst (λ (s : SeatedView). HasRoom (known_of s) c.args.room) (sym c.self.view_is) c.requires in
     room_is_below (record { table = c.self.inside.table.now; seats = c.self.inside.seats.items }) c.args.room is
 
 pub turn_at-requires-clause-room : goal.turn_at-requires-clause-room
@@ -24,7 +24,7 @@ invariant_of-self g c =
 
 pub returns-clause-answers : goal.returns-clause-answers
 returns-clause-answers g c =
-    subst (λ (before : SeatedView). Answers (known_of before) c.args.room c.args.call c.turn_at.result (known_of (record { table = c.self.inside.table.now; seats = c.turn_at.new.seats.items }))) c.self.view_is
+    subst (λ (before : SeatedView). AnswersCall (known_of before) c.args.room c.args.call c.turn_at.result (known_of (record { table = c.self.inside.table.now; seats = c.turn_at.new.seats.items }))) c.self.view_is
     (turn_answers c.self.inside.table.now c.self.inside.seats.items c.turn_at.new.seats.items c.args.room c.desk-desk.result.now c.desk-desk.ensures
     (λ h legal. c.legal_histories_hold.ensures.journal c.desk-desk.result.now.fixed h legal) c.args.call c.turn_at.result c.turn_at.ensures)
 

@@ -2,7 +2,7 @@
 use Rattle.std.proofs.lemmas.Result.{IfOk-weaker}
 use Rattle.std.proofs.Common.{List, ℕ, ap, sym, ◌∙◌}
 use Rattle.room_program.proofs.LineAnswerLemmas.{answered-reply, answered-none}
-use Rattle.room_program.proofs.line.RoomGlobalAnswers.answer.Goals as goal
+use Rattle.room_program.proofs.line.RoomGlobalAnswerer.answer.Goals as goal
 
 pub returns-in-Some : goal.returns-in-Some
 returns-in-Some c =

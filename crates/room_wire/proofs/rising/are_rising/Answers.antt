@@ -2,13 +2,13 @@ use Rattle.std.proofs.Common.{map, ap, ap₂, sym, ◌∙◌}
 use Rattle.std.proofs.lemmas.List.{drop_all}
 use Rattle.osm_changes.specs.Changes.{are_rising}
 use Rattle.room_wire.specs.Inner.Rising.{is_before}
-use Rattle.room_wire.proofs.Rising.{rising_last, rises_on}
-use Rattle.room_wire.proofs.listed.are_rising.Goals as goal
-use Rattle.room_wire.proofs.listed.are_rising.Goals.{else-place-rows-via-then-place-rows+else-not-is_before, else-place-rows-via-else-place-rows}
+use Rattle.room_wire.proofs.RisingNames.{rising_last, rises_on}
+use Rattle.room_wire.proofs.rising.are_rising.Goals as goal
+use Rattle.room_wire.proofs.rising.are_rising.Goals.{else-place-rows-via-then-place-rows+else-not-is_before, else-place-rows-via-else-place-rows}
 
 pub loop-place-preserved : goal.loop-place-preserved
 loop-place-preserved g c =
-    let named = g.T.Listed.named in
+    let named = g.T.Named.named in
     let rows = c.args.rows.now in
     let place = c.loop-place.place in
     elim c.else-place-rows.branch [
@@ -19,4 +19,4 @@ loop-place-preserved g c =
     ]
 
 pub returns : goal.returns
-returns g c = sym (c.loop-place.invariant ∙ ap (λ rs. are_rising (map g.T.Listed.named rs)) (drop_all c.loop-place.place c.args.rows.now c.loop-place-test.false))
+returns g c = sym (c.loop-place.invariant ∙ ap (λ rs. are_rising (map g.T.Named.named rs)) (drop_all c.loop-place.place c.args.rows.now c.loop-place-test.false))

@@ -1,25 +1,33 @@
--- In what is read of a text each object has its keys in order, each once.
-use Rattle.std.proofs.Common.{◌≡◌, ℕ, T, List, [], ◌∷◌, Option, Some, None, IfSome, option_map, option_and_then, refl, ap, subst, sym, Ordering, Less, Equal, Greater}
+-- In what is read of a text each object has its keys in order, each once, and what is called negative is below 0, and an i64.
+use Rattle.std.proofs.Common.{◌≡◌, ◌<◌, ◌^◌, ◌&&◌, ℕ, zero, suc, pos, negsuc, neg_ℤ, Float, Bool, true, false, cond, T, List, [], ◌∷◌, Option, Some, None, IfSome, option_map, option_and_then, nat_lt, nat_le, refl, ap, subst, sym, arith, Ordering, Less, Equal, Greater}
+use Rattle.std.proofs.lemmas.Bool.Decides.{nat_tests}
 use Rattle.std.specs.Ordering.{match_ordering}
 use Rattle.std.specs.FinMap.Entries as entries
 use Rattle.std.proofs.lemmas.Cmp.{nat_list_cmp_total}
 use Rattle.json.specs.Json as json
-use Rattle.serde_json.specs.Data.{Data, null, boolean, number, string, array, object, Items, no_items, item, Members, no_members, member, put}
+use Rattle.serde_json.specs.Data.{Num, unsigned, negative, float, Data, null, boolean, number, string, array, object, Items, no_items, item, Members, no_members, member, put}
 use Rattle.serde_json.specs.Find.{get, get_member}
 use Rattle.serde_json.specs.Read.{read, of_json, of_items, of_members, number_of, max_depth}
 use Rattle.json.specs.Lex.{tokens}
-use Rattle.osm_elements.specs.TagRows.{text_cmp}
+use Rattle.osm_elements.specs.KeyedRows.{text_cmp}
+use Rattle.room_wire.proofs.Found.{if_any, if_map, if_more, if_then}
 
 -- members as pairs of a key and a tree
 abbrev pub pairs_of : Members → List (List ℕ × Data)
 pairs_of no_members = []
 pairs_of (member k d ms) = (k, d) ∷ pairs_of ms
 
+-- a number that is read: one that is called negative is below 0
+abbrev pub IsReadNumber : Num → Type 0
+IsReadNumber (unsigned n) = Unit {0}
+IsReadNumber (negative z) = (n : ℕ) × (z ≡ negsuc n) × (n < 2 ^ 63)
+IsReadNumber (float x) = Unit {0}
+
 abbrev mutual
   pub IsInOrder : Data → Type 0
   IsInOrder null = Unit {0}
   IsInOrder (boolean b) = Unit {0}
-  IsInOrder (number n) = Unit {0}
+  IsInOrder (number n) = IsReadNumber n
   IsInOrder (string s) = Unit {0}
   IsInOrder (array ds) = AreInOrder ds
   IsInOrder (object ms) = T (entries.is_sorted text_cmp (pairs_of ms)) × HasInOrder ms
@@ -57,22 +65,39 @@ object_put : (k : List ℕ) (d : Data) (ms : Members) → IsInOrder d → IsInOr
 object_put k d ms h r =
     (subst (λ ps. T (entries.is_sorted text_cmp ps)) (sym (pairs_of-put k d ms)) (entries.is_sorted-put text_cmp nat_list_cmp_total k d (pairs_of ms) r.0), has_in_order_put k d ms h r.1)
 
--- what holds of the value that there may be
-pub if_map : {X Y : Type 0} (P : Y → Type 0) (f : X → Y) (o : Option X) → IfSome o (λ x. P (f x)) → IfSome (option_map f o) P
-if_map P f None h = tt
-if_map P f (Some x) h = h
+IsRead : Option Num → Type 0
+IsRead o = IfSome o IsReadNumber
 
-pub if_then : {X Y : Type 0} (P : Y → Type 0) (o : Option X) (f : X → Option Y) → IfSome o (λ x. IfSome (f x) P) → IfSome (option_and_then f o) P
-if_then P None f h = tt
-if_then P (Some x) f h = h
+choice_read : (b : Bool) (n m : Option Num) → IsRead n → IsRead m → IsRead (cond b n m)
+choice_read true n m h g = h
+choice_read false n m h g = g
 
-pub if_more : {X : Type 0} (Q P : X → Type 0) (o : Option X) → IfSome o Q → ((x : X) → Q x → P x) → IfSome o P
-if_more Q P None h g = tt
-if_more Q P (Some x) h g = g x h
+unsigned_read : (n : ℕ) → IsRead (Some (unsigned n))
+unfolding IsRead
+unsigned_read n = tt
 
-pub if_any : {X : Type 0} (P : X → Type 0) (o : Option X) → ((x : X) → P x) → IfSome o P
-if_any P None g = tt
-if_any P (Some x) g = g x
+float_read : (b : Bool) (x : Float) → IsRead (cond b (Some (float x)) None)
+unfolding IsRead
+float_read true x = tt
+float_read false x = tt
+
+negative_read : (n : ℕ) (b : Bool) (m : Option Num) → IsRead m → IsRead (cond (b && nat_lt 0 n && nat_le n (2 ^ 63)) (Some (negative (neg_ℤ (pos n)))) m)
+unfolding IsRead
+negative_read n false m h = h
+negative_read zero true m h = h
+negative_read (suc n) true m h = by (nat_lt 0 (suc n) && nat_le (suc n) (2 ^ 63)) refl
+  where
+    by : (b : Bool) → (nat_lt 0 (suc n) && nat_le (suc n) (2 ^ 63)) ≡ b → IfSome (cond b (Some (negative (negsuc n))) m) IsReadNumber
+    by true e = (n, refl, grind (arith, nat_tests))
+    by false e = h
+
+number_of_read : (s : List ℕ) → IsRead (number_of s)
+unfolding number_of
+number_of_read s = search (choice_read, negative_read, float_read, unsigned_read)
+
+number_read : (s : List ℕ) → IfSome (number_of s) IsReadNumber
+unfolding IsRead
+number_read s = number_of_read s
 
 abbrev IsObject : Members → Type 0
 IsObject ms = IsInOrder (object ms)
@@ -81,7 +106,7 @@ mutual
   in_order : (j : json.Json) → IfSome (of_json j) IsInOrder
   in_order json.null = tt
   in_order (json.boolean b) = tt
-  in_order (json.number s) = if_map IsInOrder number (number_of s) (if_any (λ n. IsInOrder (number n)) (number_of s) (λ n. tt))
+  in_order (json.number s) = if_map IsInOrder number (number_of s) (number_read s)
   in_order (json.string s) = tt
   in_order (json.array js) = if_map IsInOrder array (of_items js) (items_in_order js)
   in_order (json.object ms) = if_map IsInOrder object (of_members ms no_members) (members_in_order ms no_members (tt, tt))
@@ -89,20 +114,18 @@ mutual
   items_in_order : (js : json.Items) → IfSome (of_items js) AreInOrder
   items_in_order json.no_items = tt
   items_in_order (json.item j js) =
-      if_then AreInOrder (of_json j) (λ d. option_map (item d) (of_items js)) (if_more IsInOrder (λ d. IfSome (option_map (item d) (of_items js)) AreInOrder) (of_json j) (in_order j)
-      (λ d h. if_map AreInOrder (item d) (of_items js) (if_more AreInOrder (λ ds. AreInOrder (item d ds)) (of_items js) (items_in_order js) (λ ds g. (h, g)))))
+      if_then IsInOrder AreInOrder (of_json j) (λ d. option_map (item d) (of_items js)) (in_order j)
+      (λ d h. if_map AreInOrder (item d) (of_items js) (if_more AreInOrder (λ ds. AreInOrder (item d ds)) (of_items js) (items_in_order js) (λ ds g. (h, g))))
 
   members_in_order : (js : json.Members) (found : Members) → IsObject found → IfSome (of_members js found) IsObject
   members_in_order json.no_members found h = h
   members_in_order (json.member k j js) found h =
-      if_then IsObject (of_json j) (λ d. of_members js (put k d found)) (if_more IsInOrder (λ d. IfSome (of_members js (put k d found)) IsObject) (of_json j) (in_order j)
-      (λ d g. members_in_order js (put k d found) (object_put k d found g h)))
+      if_then IsInOrder IsObject (of_json j) (λ d. of_members js (put k d found)) (in_order j) (λ d g. members_in_order js (put k d found) (object_put k d found g h))
 
 -- what is read is in order
 pub read_in_order : (text : List ℕ) → IfSome (read text) IsInOrder
 read_in_order text =
-    let parsed : Option json.Json = option_and_then (λ p. json.if_last p.0 p.1) (json.value max_depth (tokens text)) in
-    if_then IsInOrder parsed of_json (if_any (λ j. IfSome (of_json j) IsInOrder) parsed in_order)
+    if_any IsInOrder (option_and_then (λ p. json.if_last p.0 p.1) (json.value max_depth (tokens text))) of_json in_order
 
 member_choice : (o : Ordering) (found : Option Data) (e : Data) → IsInOrder e → IfSome found IsInOrder → IfSome (match_ordering o found (Some e) found) IsInOrder
 member_choice Less found e h g = g

@@ -7,7 +7,7 @@ use room_wire::json_text::Json;
 use std::alloc::Global;
 
 /// What answers a stream line by line.
-pub trait Answers {
+pub trait Answerer {
     /// The text that answers a line, and what is left to answer the next.
     ghost answered: { Loss → Self → List ℕ → List ℕ × Self };
 

@@ -3,9 +3,9 @@ use Rattle.serde_json.specs.View.{members_view}
 use Rattle.serde_json.proofs.Views.{Entry}
 use Rattle.room_wire.specs.Spelling.{entries_in, given_of}
 use Rattle.room_wire.proofs.EntryLists.{with_front, SameKeys}
-use Rattle.room_wire.proofs.tag_forms.gifts_in.Given as goal
+use Rattle.room_wire.proofs.tag_forms.given_tags_in.Given as goal
 
 abbrev pub invariant-loop-key : goal.invariant-loop-key
 invariant-loop-key l =
-    (done : List Entry) × (l.members.entries ≡ done ++ l.key-iterator) × SameKeys l.gifts done
-    × (with_front given_of l.gifts (members_view l.key-iterator) ≡ entries_in given_of (members_view l.members.entries))
+    (done : List Entry) × (l.members.entries ≡ done ++ l.key-iterator) × SameKeys l.given_tags done
+    × (with_front given_of l.given_tags (members_view l.key-iterator) ≡ entries_in given_of (members_view l.members.entries))

@@ -1,7 +1,7 @@
 use Rattle.std.proofs.Common.{ap, ◌∙◌}
 use Rattle.std.specs.Ordering.{is_lt}
 use Rattle.osm_elements.specs.Facts.NameOrder.{name_cmp_is}
-use Rattle.room_mirror.proofs.fitting.is_before.Goals as goal
+use Rattle.room_wire.proofs.rising.is_before.Goals as goal
 
 pub returns-in-Less : goal.returns-in-Less
 returns-in-Less c = ap is_lt c.in-Less.ensures ∙ ap (λ R. is_lt (R c.args.one.now c.args.other.now)) name_cmp_is

@@ -9,18 +9,18 @@ use Rattle.room_wire.specs.Spelling.{entry_of, given_of}
 use Rattle.room_wire.specs.declared.bad.Fault.TheVariants.{BadField}
 use Rattle.room_wire.specs.declared.field.Field.TheVariants as field
 use Rattle.room_wire.proofs.EntryLists.{with_front, entries_in-some, entries_in-nil, same_keys_more, same_keys_length, put_last, or_fault_ok, entry_of-key, entries_of-few, entries_of-many}
-use Rattle.room_wire.proofs.tag_forms.gifts_in.Goals as goal
+use Rattle.room_wire.proofs.tag_forms.given_tags_in.Goals as goal
 
 pub returns-then-len-gt-MOST_TAGS : goal.returns-then-len-gt-MOST_TAGS
 returns-then-len-gt-MOST_TAGS c = inr (ap (or_fault (BadField field.Tags)) (entries_of-many given_of c.args.members.now.entries (omega (arith, c.len.ensures.len))))
 
-pub put_gift-requires-clause-room : goal.put_gift-requires-clause-room
-put_gift-requires-clause-room c =
+pub put_given_tag-requires-clause-room : goal.put_given_tag-requires-clause-room
+put_given_tag-requires-clause-room c =
     let l = c.loop-key in
     let done = l.invariant.0 in
     let e : Entry = (c.in-Some.key.now, c.in-Some.value.now) in
     let all : c.args.members.now.entries ≡ done ++ e ∷ c.next.new.self = l.invariant.1 ∙ ap (λ es. done ++ es) c.in-Some.ensures.steps in
-    let same = same_keys_length l.gifts done l.invariant.2 in
+    let same = same_keys_length l.given_tags done l.invariant.2 in
     omega (arith, c.len.ensures.len, simp length-append at (ap length all), same)
 
 pub loop-key-preserved : goal.loop-key-preserved
@@ -37,17 +37,17 @@ loop-key-preserved c =
     ap (λ k. entry_of given_of k (view e.1)) (sym c.as_str.ensures.value) ∙ or_fault_ok _ _ (key, value) c.in_ok-key.ensures in
     let named : key ≡ string_bytes e.0 = entry_of-key given_of (string_bytes e.0) (view e.1) (key, value) read in
     let sorted = subst (λ es. IsStrictlySortedBy string_cmp (keys_of es)) all c.len.ensures.ordered in
-    let put_is : c.put_gift.new.gifts ≡ l.gifts ++ (key, value) ∷ [] =
-    c.in_ok-put_gift.ensures.ok ∙ rw named (put_last l.gifts done e left value l.invariant.2 sorted) in (
+    let put_is : c.put_given_tag.new.given_tags ≡ l.given_tags ++ (key, value) ∷ [] =
+    c.in_ok-put_given_tag.ensures.ok ∙ rw named (put_last l.given_tags done e left value l.invariant.2 sorted) in (
       done ++ e ∷ [],
       all ∙ sym (append_assoc done (e ∷ []) left),
-      rw put_is (same_keys_more l.gifts done (key, value) e l.invariant.2 named),
-      ap (λ ts. with_front given_of ts (members_view left)) put_is ∙ sym (entries_in-some given_of l.gifts (key, value) (string_bytes e.0) (view e.1) (members_view left) read)
-          ∙ ap (λ es. with_front given_of l.gifts (members_view es)) (sym step) ∙ l.invariant.3,
+      rw put_is (same_keys_more l.given_tags done (key, value) e l.invariant.2 named),
+      ap (λ ts. with_front given_of ts (members_view left)) put_is ∙ sym (entries_in-some given_of l.given_tags (key, value) (string_bytes e.0) (view e.1) (members_view left) read)
+          ∙ ap (λ es. with_front given_of l.given_tags (members_view es)) (sym step) ∙ l.invariant.3,
     )
 
 pub returns : goal.returns
 returns c =
     let l = c.loop-key in
     ap (or_fault (BadField field.Tags)) (entries_of-few given_of c.args.members.now.entries (omega (arith, c.len.ensures.len)) ∙ sym l.invariant.3
-    ∙ ap (λ es. with_front given_of l.gifts (members_view es)) c.in-None.ensures.steps.0 ∙ entries_in-nil given_of l.gifts)
+    ∙ ap (λ es. with_front given_of l.given_tags (members_view es)) c.in-None.ensures.steps.0 ∙ entries_in-nil given_of l.given_tags)

@@ -1,7 +1,0 @@
-use Rattle.std.proofs.Common.{◌∙◌}
-use Rattle.std.specs.Cmp.Lexicographic.{pointwise}
-use Rattle.osm_elements.specs.Facts.SameNames.{name_eq_is}
-use Rattle.room_mirror.proofs.same.are_same_names.Goals as goal
-
-pub returns : goal.returns
-returns c = c.eq.ensures ∙ (λ i. pointwise (λ a b. name_eq_is a b i) c.args.one.now c.args.other.now)

@@ -1,0 +1,55 @@
+-- What a client makes of the texts that it gets of a room: it reads a welcome, and then news in turn, and keeps a mirror of them. (Welcomes, news and mirrors are this project's.)
+use Rattle.std.specs.Prelude.{◌≡◌, ℕ, true, List, [], ◌∷◌, Option, Some, None, All, take}
+use Rattle.std.specs.Option.{option_and_then}
+use Rattle.std.specs.Result.{result_ok}
+use Rattle.std.specs.declared.alloc.Global.{Global}
+use Rattle.serde_json.specs.Read.{read}
+use Rattle.osm_elements.specs.Maps.{Rows}
+use Rattle.edit_footprint.specs.Footprints.{subjects}
+use Rattle.room_history.specs.declared.entry.Entry.{Entry}
+use Rattle.room_history.specs.declared.entry.EntryKind.{EntryKind}
+use Rattle.room_history.specs.declared.entry.EntryKind.TheVariants.{Do, Undo, Redo}
+use Rattle.room_history.specs.declared.news.News.{News}
+use Rattle.room_history.specs.Replays.{mapof}
+use Rattle.room_stacks.specs.Authors.{is_author}
+use Rattle.room_wire.specs.declared.welcome.Welcome.{Welcome}
+use Rattle.room_wire.specs.News.{news_tree, spells_news}
+use Rattle.room_wire.specs.ReadBack.{HasId}
+use Rattle.room_wire.specs.Welcomes.{spells_welcome}
+use Rattle.room_mirror.specs.declared.fault.MirrorFault.{MirrorFault}
+use Rattle.room_mirror.specs.Mirrors.{MirrorState, fault, with_news}
+
+-- the welcome to a room whose journal has so many entries, under the id of its message
+abbrev pub welcome_to : ℕ → Rows Global → List (Entry Global) → ℕ → Welcome
+welcome_to id base j n = record { id = id; seq = n; rows = mapof base (take n j) }
+
+-- each text is a JSON text whose tree is that of the news at its place
+abbrev pub SpellNews : List (List ℕ) → List (News Global) → Type 0
+SpellNews [] [] = Unit {0}
+SpellNews [] (n ∷ ns) = ⊥
+SpellNews (text ∷ texts) [] = ⊥
+SpellNews (text ∷ texts) (n ∷ ns) = (read text ≡ Some (news_tree n)) × SpellNews texts ns
+
+-- a mirror with news taken, where it has no fault to find
+abbrev pub taken : MirrorState Global → News Global → Option MirrorFault → Option (MirrorState Global)
+taken s n None = Some (with_news s n)
+taken s n (Some f) = None
+
+-- a mirror after the news of each text in turn; none where one is no news, or not taken
+abbrev pub followed : MirrorState Global → List (List ℕ) → Option (MirrorState Global)
+followed s [] = Some s
+followed s (text ∷ texts) = option_and_then (λ n. option_and_then (λ t. followed t texts) (taken s n (fault s n))) (result_ok (spells_news text))
+
+-- the mirror of a client that got these texts: a welcome, and then news
+abbrev pub mirror_made : List ℕ → List (List ℕ) → Option (MirrorState Global)
+mirror_made welcome texts = option_and_then (λ (w : Welcome). followed (record { seq = w.seq; rows = w.rows }) texts) (result_ok (spells_welcome welcome))
+
+-- what an action is about has ids as messages have them
+abbrev pub HasSubjectIds : EntryKind Global → Type 0
+HasSubjectIds (Do a) = All HasId (subjects a)
+HasSubjectIds (Undo s) = Unit {0}
+HasSubjectIds (Redo s) = Unit {0}
+
+-- an entry as messages bring it: its author has an author's name, and what its action is about has ids
+abbrev pub IsBrought : Entry Global → Type 0
+IsBrought e = (is_author e.author ≡ true) × HasSubjectIds e.kind

@@ -1,9 +1,0 @@
--- Names that rise, seen from one to the next.
-use Rattle.std.specs.Prelude.{Bool}
-use Rattle.std.specs.Ordering.{is_lt}
-use Rattle.osm_elements.specs.declared.name.Name.{Name}
-use Rattle.osm_elements.specs.NameOrder.{name_cmp}
-
--- a name comes before another
-abbrev pub is_before : Name → Name → Bool
-is_before x y = is_lt (name_cmp x y)

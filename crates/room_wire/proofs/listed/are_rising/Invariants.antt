@@ -1,6 +1,0 @@
-use Rattle.std.proofs.Common.{◌≡◌, drop, map}
-use Rattle.osm_changes.specs.Changes.{are_rising}
-use Rattle.room_wire.proofs.listed.are_rising.Given as goal
-
-abbrev pub invariant-loop-place : goal.invariant-loop-place
-invariant-loop-place g l = are_rising (map g.T.Listed.named l.rows) ≡ are_rising (map g.T.Listed.named (drop l.place l.rows))
