@@ -8,12 +8,14 @@ import subprocess
 import tempfile
 import time
 
-from serve_many import at_the_same_time, edit
-from serve_rooms import BAD_NAME, CANNOT_LISTEN, TOO_MANY, TWICE, connected
-from serving import free_port
-from talk import PATIENCE, SILENCE, be_closed, check, check_each, create, finish, given, hear, hello, leave, news
-from talk import node, ok, refused, serve_next, serving, talk, want, welcome
-from websocket import BINARY
+from lib.cases import case, each_case, given, want
+from lib.serving import free_port
+from lib.talk import PATIENCE, SILENCE, be_closed, create, finish, hear, hello, leave, news, node, ok, refused
+from lib.talk import serve_next, serving, talk, welcome
+from lib.websocket import BINARY
+
+from .many import at_the_same_time, edit
+from .rooms import BAD_NAME, CANNOT_LISTEN, TOO_MANY, TWICE, connected
 
 # The map of the worked example on_a_base, by the line that tells it and as a room tells it.
 BASE = (
@@ -30,7 +32,7 @@ UNSOUND_BASE = (1, "", "maproom: unsound base w1\n")
 READ_FAILED = (1, "", "maproom: read failed\n")
 
 
-@check
+@case
 def two_sessions_on_a_base():
     """Both welcomes hold the base. Each change is told to both clients, and nothing of the base can be undone."""
     with serving(sessions=2, base=BASE) as server:
@@ -58,7 +60,7 @@ def two_sessions_on_a_base():
         finish(server, ["paris 4"], "left", "binary")
 
 
-@check
+@case
 def rooms_apart_on_one_base():
     """Each room begins with the map, and what is done in one is not done in the others."""
     with serving("rome", "paris", "oslo", sessions=4, base=BASE) as server:
@@ -81,7 +83,7 @@ def rooms_apart_on_one_base():
         finish(server, ["rome 1", "paris 1", "oslo 0"], *["left"] * 4)
 
 
-@check
+@case
 def a_full_room_on_a_base():
     """A base takes none of the entries that a room may have."""
     with serving(limit=1, base=BASE) as server:
@@ -93,7 +95,7 @@ def a_full_room_on_a_base():
         finish(server, ["paris 1"], "left")
 
 
-@check
+@case
 def what_stands_behind_a_base():
     """It is not served, and not read as messages. A base may lack its line feed, and it may tell an empty map."""
     for base in (BASE + f"anna {create(1)}\n" + BASE, BASE + "x" * 200_000, BASE.removesuffix("\n"), BASE.replace("\n", "\r\n")):
@@ -105,7 +107,7 @@ def what_stands_behind_a_base():
         finish(server, ["paris 0"], "left")
 
 
-@check
+@case
 def what_is_not_a_base():
     """Where it was not asked for, nothing is read: what stands on standard input is nothing to a server."""
     with serving() as server:
@@ -134,8 +136,9 @@ class Begun:
         self.kept.close()
 
     def say(self, text):
-        """Writes to its standard input. Gives itself."""
-        self.process.stdin.write(text.encode())
+        """Writes to its standard input, of which a program that has ended reads no more. Gives itself."""
+        with contextlib.suppress(BrokenPipeError):
+            self.process.stdin.write(text.encode())
         return self
 
     def told(self):
@@ -147,7 +150,7 @@ class Begun:
         return self.process.wait(PATIENCE * given.slow), *self.told()
 
 
-@check
+@case
 def an_input_that_stays_open():
     """The rooms are opened when the line is there, whether more comes or not; and before that nobody is served."""
     addr = f"127.0.0.1:{free_port()}"
@@ -173,7 +176,7 @@ def run(text, *rooms, addr="127.0.0.1:0"):
         return program.ended()
 
 
-@check
+@case
 def bad_bases():
     """A first line that is no welcome, or that tells a map which is not sound. Nothing listens, and nothing is printed."""
     others = ("{}\n", f"anna {create(1)}\n", refused(1, '"why":"full"') + "\n")
@@ -186,7 +189,7 @@ def bad_bases():
     want(run(UNSOUND.removesuffix("\n"), "paris"), UNSOUND_BASE)
 
 
-@check
+@case
 def faults_in_their_order():
     """The names are looked at before anything is read, so that no end of the input is waited for; then the base, and then the address."""
     for rooms, wanted in [
@@ -213,7 +216,7 @@ def faults_in_their_order():
             want(program.ended(), wanted)
 
 
-@check
+@case
 def an_input_that_cannot_be_read():
     """A folder, and none, where a base is asked for. Without one neither is read."""
     words = [given.program, "serve", "--addr", "nowhere", "--workers", "1", "--sessions", "1"]
@@ -232,7 +235,7 @@ def an_input_that_cannot_be_read():
     want(run_on(None, "--base", "paris", shell=["bash", "-c", '"$@" <&-', "-"]), READ_FAILED)
 
 
-@check
+@case
 def many_rooms_on_a_large_base():
     """Each of sixteen rooms begins with five hundred elements, the first as the last."""
     rows = [f'{{"el":"n{number}","lat":"51.5000000","lon":"-0.1000000","tags":{{"name":"Café {number}"}}}}' for number in range(1, 451)]
@@ -284,4 +287,4 @@ def mirrors_on_a_base(seed):
         finish(server, [f"paris {front}"], *["left"] * 5)
 
 
-check_each(mirrors_on_a_base, {f"mirrors on a base, the {seed} time": seed for seed in ("first", "second")})
+each_case(mirrors_on_a_base, {f"mirrors on a base, the {seed} time": seed for seed in ("first", "second")})

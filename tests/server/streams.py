@@ -2,10 +2,11 @@
 may come in pieces."""
 import itertools
 
-from talk import SILENCE, be_closed, check, check_each, create, finish, hear, hello, leave, news, node, ok, refused
-from talk import serve_next, serving, talk, want, welcome
-from websocket import BINARY, CLOSE, CONTINUATION, PING, PONG, TEXT
-from websocket import close_payload, frame, head_of_frame, head_of_request, make_key, masked, text_frame
+from lib.cases import case, each_case, want
+from lib.talk import SILENCE, be_closed, create, finish, hear, hello, leave, news, node, ok, refused, serve_next
+from lib.talk import serving, talk, welcome
+from lib.websocket import BINARY, CLOSE, CONTINUATION, PING, PONG, TEXT
+from lib.websocket import close_payload, frame, head_of_frame, head_of_request, make_key, masked, text_frame
 
 # The most that a frame may hold.
 MOST = 16 << 20
@@ -69,7 +70,7 @@ def bad_frame(data):
         finish(server, ["paris 0"], "fault", "left", "fault", "left")
 
 
-@check
+@case
 def a_fragment_too_many():
     """A fragment comes behind the last of a message. The message is answered."""
     with serving(workers=1, sessions=2) as server:
@@ -81,7 +82,7 @@ def a_fragment_too_many():
         finish(server, ["paris 0"], "fault", "left")
 
 
-@check
+@case
 def codes_that_are_none():
     """A close with a code that must not be sent ends the session, and it is left open how."""
     codes = (0, 999, 1004, 1005, 1006, 1015, 5000, 65535)
@@ -121,7 +122,7 @@ def bad_head(data):
         finish(server, ["paris 0"], "fault", "left")
 
 
-@check
+@case
 def other_heads():
     """Whatever path is asked for is served, also with more lines than there must be. What is offered is not taken."""
     heads = (
@@ -226,13 +227,13 @@ def silence(phase):
         finish(server, ["paris 0"], "fault", "left", "left", "left")
 
 
-check_each(bad_frame, BAD_FRAMES)
-check_each(bad_head, BAD_HEADS)
+each_case(bad_frame, BAD_FRAMES)
+each_case(bad_head, BAD_HEADS)
 for how in (reset, end, silence):
-    check_each(how, {f"{how.__name__} {phase.__name__}": phase for phase in PHASES})
+    each_case(how, {f"{how.__name__} {phase.__name__}": phase for phase in PHASES})
 
 
-@check
+@case
 def a_head_in_pieces():
     """Heads in single bytes, and in larger pieces whose pauses are longer than a server waits for more."""
     ways = ((1, 0.04), (8, 0.08), (100, 2 * SILENCE))
@@ -244,7 +245,7 @@ def a_head_in_pieces():
         finish(server, ["paris 0"], *["left"] * len(ways))
 
 
-@check
+@case
 def a_frame_in_pieces():
     """A message whose frame comes in single bytes is answered, and between them come news of the other client's."""
     with serving(sessions=2) as server:
@@ -263,7 +264,7 @@ def a_frame_in_pieces():
         finish(server, ["paris 1"], "left", "left")
 
 
-@check
+@case
 def many_in_one_piece():
     """Messages that come together are answered in their order, each with its news right behind the reply."""
     numbers = range(2, 52)
@@ -278,7 +279,7 @@ def many_in_one_piece():
         finish(server, [f"paris {len(numbers)}"], "left")
 
 
-@check
+@case
 def pings():
     """A ping is answered by a pong with what it held, before the hello and after it, and counts as nothing else."""
     with serving() as server:
@@ -297,7 +298,7 @@ def pings():
         finish(server, ["paris 1"], "left")
 
 
-@check
+@case
 def fragments():
     """A text in fragments, one of them empty and one ending within a character, is one message."""
     tags = '{"name":"Café 東京"}'
@@ -318,7 +319,7 @@ def fragments():
         finish(server, ["paris 2"], "left")
 
 
-@check
+@case
 def a_ping_between_fragments():
     """It is answered beside the text; and a binary message may come in fragments too."""
     with serving() as server:
@@ -332,7 +333,7 @@ def a_ping_between_fragments():
         finish(server, ["paris 0"], "binary")
 
 
-@check
+@case
 def a_long_text():
     """A text of a megabyte is read."""
     with serving() as server:
@@ -342,7 +343,7 @@ def a_long_text():
         finish(server, ["paris 0"], "left")
 
 
-@check
+@case
 def closes():
     """A close is answered with its code, or without one, after the hello and before it."""
     cases = list(itertools.product((1000, 1001, 1003, 1011, 3000, 4999, None), (after_the_hello, before_the_hello)))
@@ -352,7 +353,7 @@ def closes():
         finish(server, ["paris 0"], *["left"] * len(cases))
 
 
-@check
+@case
 def closes_with_more():
     """A close may give a reason. What comes behind it is not read."""
     with serving(workers=1, sessions=2) as server:
@@ -364,7 +365,7 @@ def closes_with_more():
         finish(server, ["paris 0"], "left", "left")
 
 
-@check
+@case
 def binaries():
     """A binary message closes the session with 1003, before the hello and after it, whether that is answered or not.
     What comes behind it is not read."""

@@ -4,7 +4,8 @@ import json
 import random
 import time
 
-from talk import PATIENCE, SILENCE, check, check_each, create, finish, given, serving, want
+from lib.cases import case, each_case, given, want
+from lib.talk import PATIENCE, SILENCE, create, finish, serving
 
 # The tags of an element whose text has a quarter of a megabyte.
 BIG_TAGS = {f"key{number}": "v" * 250 for number in range(1000)}
@@ -19,7 +20,7 @@ def at_the_same_time(count, work):
         return list(pool.map(work, range(count)))
 
 
-@check
+@case
 def two_hundred_at_once():
     """Two hundred clients connect at once where there are four workers: all are served, and none is dropped."""
     count = 200
@@ -50,7 +51,7 @@ def deaf_client(server):
     return session
 
 
-@check
+@case
 def a_slow_reader():
     """A client that does not read what it asked for holds up no other. When it reads, all is there."""
     with serving(workers=3, sessions=3) as server:
@@ -68,7 +69,7 @@ def a_slow_reader():
         finish(server, ["paris 22"], "left", "left", "left")
 
 
-@check
+@case
 def a_reader_that_goes():
     """A client that does not read what it asked for, and then resets its connection, leaves its worker to the next."""
     with serving(workers=1, sessions=2) as server:
@@ -168,4 +169,4 @@ def mirrors(seed):
         finish(server, [f"paris {front}"], *["left"] * 8)
 
 
-check_each(mirrors, {f"mirrors, the {seed} time": seed for seed in ("first", "second", "third")})
+each_case(mirrors, {f"mirrors, the {seed} time": seed for seed in ("first", "second", "third")})

@@ -4,25 +4,18 @@ import contextlib
 import json
 import os
 import re
-import signal
 import socket
 import subprocess
-import sys
 import tempfile
 import time
 
-from websocket import Broken, Client, Late
+from .websocket import Broken, Client, Late
 
 # A line of the log, of which only what stands behind the logger's own words is compared.
 LOG_LINE = re.compile(r"(?:.*\] )?session (\d+) (open|end (\w+))")
 
 # How often another port is tried, where somebody else took the one that was free.
 TRIES = 10
-
-
-def stop_when_told():
-    """Has a script that is told to stop end as by an exception, so that it ends what it started."""
-    signal.signal(signal.SIGTERM, lambda *_: sys.exit("stopped"))
 
 
 def free_port():

@@ -4,9 +4,10 @@ import base64
 import contextlib
 import json
 
-from others import PATIENCE, browsing, wait_for
-from talk import given
-from websocket import TEXT, Broken, Client
+from .cases import given
+from .others import browsing
+from .programs import PATIENCE, wait_for
+from .websocket import TEXT, Broken, Client
 
 # What keys are called, beside letters: their codes.
 KEYS = {"Enter": 13, "Escape": 27, "Tab": 9, "ArrowLeft": 37, "ArrowUp": 38, "ArrowRight": 39, "ArrowDown": 40}

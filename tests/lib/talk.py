@@ -1,49 +1,11 @@
 """What the checks of the server share: the texts that go to and fro, and short forms of what they do and want."""
-import argparse
-import functools
-
-from serving import PartServer, Server
-from websocket import Broken
-
-# What the script was given: the program, part_lines or nothing, and how many times as long all may take.
-given = argparse.Namespace(program=None, parts=None, slow=1.0)
+from .cases import given, want
+from .serving import PartServer, Server
 
 # How many seconds whatever is waited for may take. Only a check that fails is held up by that.
 PATIENCE = 20
 # How long it is watched that nothing comes: several of the 50 milliseconds after which a server looks for news.
 SILENCE = 0.3
-
-# Each check, by what it is called; and the names of those that need part_lines.
-CHECKS = {}
-PART_CHECKS = set()
-
-
-def check(function):
-    """Has a function be a check under its name."""
-    CHECKS[function.__name__] = function
-    return function
-
-
-def part_check(function):
-    """The same of a check that needs part_lines."""
-    PART_CHECKS.add(function.__name__)
-    return check(function)
-
-
-def check_each(function, cases):
-    """Has a function be a check of each of some cases, which are told by what they are called."""
-    CHECKS.update((what, functools.partial(function, case)) for what, case in cases.items())
-
-
-def passes(name, check):
-    """Whether a check passes, which is told."""
-    try:
-        check()
-    except Exception as fault:  # whatever goes wrong is this check's
-        print(f"{name} FAILED: {type(fault).__name__}: {str(fault)[:2000]}", flush=True)
-        return False
-    print(name, "ok", flush=True)
-    return True
 
 
 def serving(*rooms, **how):
@@ -54,12 +16,6 @@ def serving(*rooms, **how):
 def serving_parts(turns, **how):
     """The server that part_lines runs, whose sessions read so many messages at most."""
     return PartServer(given.parts, turns, **{"patience": PATIENCE * given.slow, **how})
-
-
-def want(found, wanted):
-    """Fails where another thing is found than is wanted."""
-    if found != wanted:
-        raise Broken(f"{found!r} in the place of {wanted!r}")
 
 
 def talk(client, message, *texts):

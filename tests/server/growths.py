@@ -2,10 +2,11 @@
 import collections
 import itertools
 
-from faulty import Faulty, library, logged
-from loading import refusing
-from talk import GONE, check_each, create, hello, news, node, ok, refused, want, welcome
-from websocket import CLOSE, TEXT, Broken, Gone, close_payload
+from lib.cases import each_case, want
+from lib.faulty import Faulty, logged
+from lib.growths import refusing
+from lib.talk import GONE, create, hello, news, node, ok, refused, welcome
+from lib.websocket import CLOSE, TEXT, Broken, Gone, close_payload
 
 # What the program tells where it ends for want of memory; the system needs some for a thread, too.
 NO_MEMORY, NO_WORKER = "maproom: no memory\n", "maproom: cannot start a worker\n"
@@ -137,7 +138,7 @@ def refuse(growth, told):
     """Refuses a growth in a run. Gives what came of it, or nothing where there was no such growth."""
     sessions, rooms, rows = told.run
     base = None if rows is None else welcome(7, *rows) + "\n"
-    with Faulty(refusing(library("refusing"), growth), rooms, sessions=sessions, base=base) as server:
+    with Faulty(refusing(growth), rooms, sessions=sessions, base=base) as server:
         has_begun = server.told(server.output) == "listening\n"
         seen = [told.play(server) for _ in range(sessions)] if has_begun else []
         what = outcome(server, told, seen)
@@ -160,7 +161,7 @@ def each_growth(run):
     want(repeated, {None} if run.sessions == 1 else {None, 2, 4})
 
 
-check_each(each_growth, {
+each_case(each_growth, {
     "each growth, one session": Run(1),
     "each growth, two sessions": Run(2),
     "each growth, two rooms on a base": Run(1, ("paris", "rome"), BASE_ROWS),

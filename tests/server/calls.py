@@ -5,9 +5,10 @@ import errno
 import functools
 import itertools
 
-from faulty import WHOLE, failing, finish
-from talk import GONE, check, check_each, create, hello, leave, news, node, ok, refused, serve_next, serving, talk, want, welcome
-from websocket import BINARY, CLOSE, PING, PONG, TEXT, Gone, close_payload, frame, head_of_request, make_key, text_frame
+from lib.cases import case, each_case, want
+from lib.faulty import WHOLE, failing, finish
+from lib.talk import GONE, create, hello, leave, news, node, ok, refused, serve_next, serving, talk, welcome
+from lib.websocket import BINARY, CLOSE, PING, PONG, TEXT, Gone, close_payload, frame, head_of_request, make_key, text_frame
 
 # What a client sends, what comes for it, and how many entries the room has once it was heard.
 Step = collections.namedtuple("Step", "sent wanted seq")
@@ -139,10 +140,10 @@ def name_of(fault):
     return f"each {fault.call}{pieces} fails by {errno.errorcode[fault.why]}, {fault.ending}"
 
 
-check_each(each_call, {name_of(fault): fault for fault in FAULTS})
+each_case(each_call, {name_of(fault): fault for fault in FAULTS})
 
 
-@check
+@case
 def news_that_cannot_be_sent():
     """The session of a silent client ends where its news cannot be sent. That of the other one goes on."""
     with failing("write", 3, errno.EPIPE, session=1, workers=2, sessions=3) as server:
@@ -157,7 +158,7 @@ def news_that_cannot_be_sent():
         finish(server, 1, "fault", "left", "left")
 
 
-@check
+@case
 def handshakes_that_fail():
     """Three in a row, by their heads and by the answer that cannot be sent. Then the same worker serves, and stops."""
     with failing("write", 1, sessions=4) as server:
@@ -168,7 +169,7 @@ def handshakes_that_fail():
         finish(server, serve_after(server, 0), "fault", "fault", "fault", "left")
 
 
-@check
+@case
 def accepts_that_fail():
     """An accept that fails is a session that ends as a fault, and the connection is left for the next one."""
     for number, why in itertools.product((1, 2, 3), (errno.ECONNABORTED, errno.EMFILE)):
@@ -178,7 +179,7 @@ def accepts_that_fail():
             finish(server, 0, *[None if session == number else "left" for session in (1, 2, 3)])
 
 
-@check
+@case
 def an_accept_that_is_interrupted():
     """It is made again, and is no session."""
     with failing("accept", 1, errno.EINTR, sessions=2) as server:
@@ -188,7 +189,7 @@ def an_accept_that_is_interrupted():
         finish(server, 0, "left", "left")
 
 
-@check
+@case
 def all_accepts_that_fail():
     """Where no accept succeeds the program ends with the last one."""
     with failing("accept", 1, sessions=1) as server:
@@ -207,10 +208,10 @@ def time_limit(option):
             finish(server, 0, *[None if session == number else "left" for session in (1, 2, 3)])
 
 
-check_each(time_limit, {f"a connection without its {option}": option for option in ("read_time", "write_time")})
+each_case(time_limit, {f"a connection without its {option}": option for option in ("read_time", "write_time")})
 
 
-@check
+@case
 def no_delay_that_fails():
     """That a write goes out at once is asked for, and not needed."""
     with failing("no_delay", 1, sessions=1) as server:
@@ -219,7 +220,7 @@ def no_delay_that_fails():
         finish(server, front, "left")
 
 
-@check
+@case
 def workers_that_do_not_start():
     """Where the thread of one is not started nobody is served, those that were started stop, and the program ends."""
     for number in (1, 2, 3):
@@ -229,7 +230,7 @@ def workers_that_do_not_start():
         finish(server, serve_after(server, 0), "left")
 
 
-@check
+@case
 def addresses_that_are_refused():
     """A program that cannot listen says so, before it prints anything."""
     for call, why in (("bind", errno.EACCES), ("bind", errno.EADDRINUSE), ("listen", errno.EADDRINUSE), ("reuse", errno.ENOMEM)):

@@ -1,61 +1,43 @@
 """Software of others with which tests try the server and the clients, where it is installed: the package websockets of
 Python, the package ws of Node, and Chromium without a window."""
 import contextlib
+import functools
 import os
 import shutil
 import signal
 import subprocess
 import sys
 import tempfile
-import time
 
-from talk import given
-from websocket import Late
+from .programs import run_soon
 
 # Where Debian has the packages of Node.
 PACKAGES = "/usr/share/nodejs:/usr/lib/nodejs"
-# How many seconds a program of others may take, with its start.
-PATIENCE = 90
-
-
-def run(words, **how):
-    """What came of a command."""
-    return subprocess.run(words, stdin=subprocess.DEVNULL, stdout=subprocess.PIPE, stderr=subprocess.PIPE,
-                          timeout=PATIENCE * given.slow, check=False, **how)
 
 
 def is_there(*words, **how):
     """Whether a command can be run and succeeds."""
     try:
-        return run(words, **how).returncode == 0
+        return run_soon(*words, **how).status == 0
     except OSError:
         return False
 
 
-def wait_for(what, value):
-    """Waits until something has a value that is true, and gives it."""
-    deadline = time.monotonic() + PATIENCE * given.slow
-    while True:
-        found = value()
-        if found:
-            return found
-        if time.monotonic() > deadline:
-            raise Late(what() if callable(what) else what)
-        time.sleep(0.01)
-
-
+@functools.lru_cache(maxsize=None)
 def python_with_websockets():
     """A Python that has the package, if there is one."""
     pythons = (sys.executable, "python3", "/usr/bin/python3")
     return next((python for python in pythons if is_there(python, "-c", "import websockets")), None)
 
 
+@functools.lru_cache(maxsize=None)
 def environment_with_ws():
     """An environment in which Node finds the package, if there is one."""
     environment = {**os.environ, "NODE_PATH": f"{os.environ.get('NODE_PATH', '')}:{PACKAGES}"}
     return environment if is_there("node", "-e", 'require("ws")', env=environment) else None
 
 
+@functools.lru_cache(maxsize=None)
 def chromium():
     """The program of Chromium, if it is there."""
     names = ("chromium", "chromium-browser", "chromium-headless-shell")
@@ -81,3 +63,8 @@ def browsing(program, *words):
             os.killpg(browser.pid, signal.SIGKILL)
         browser.wait()
         shutil.rmtree(folder, ignore_errors=True)
+
+
+def can_be_interrupted():
+    """Has a program that is started end by an interrupt, which is ignored in what a shell runs in the background."""
+    signal.signal(signal.SIGINT, signal.SIG_DFL)

@@ -1,23 +1,23 @@
 """Checks of the server: what is said in sessions, text by text, and what the program prints, logs and refuses."""
 import functools
 import json
-import os
-import re
 import socket
 import subprocess
 import time
 
-import told
-from serving import free_port
-from talk import GONE, PATIENCE, SILENCE, be_closed, check, check_each, create, finish, given, hear, hello, leave, news
-from talk import node, ok, refused, serve_next, serving, talk, want, welcome
-from websocket import BINARY, Client, head_of_request, make_key
+from lib import texts
+from lib.cases import TOP, case, each_case, given, want
+from lib.programs import run_soon
+from lib.serving import free_port
+from lib.talk import GONE, PATIENCE, SILENCE, be_closed, create, finish, hear, hello, leave, news, node, ok, refused
+from lib.talk import serve_next, serving, talk, welcome
+from lib.websocket import BINARY, Client, head_of_request, make_key
 
 # The page that tells the sessions of two clients.
-PAGE = f"{os.path.dirname(os.path.dirname(os.path.abspath(__file__)))}/docs/SERVER.md"
+PAGE = f"{TOP}/docs/SERVER.md"
 
 
-@check
+@case
 def two_sessions():
     """Each change is told to both clients, to the other one unasked, and an undo meets what the other did since."""
     with serving(sessions=2) as server:
@@ -38,7 +38,7 @@ def two_sessions():
         finish(server, ["paris 2"], "left", "binary")
 
 
-@check
+@case
 def an_undo_is_told():
     """The news of an undo have what was put back, those of a redo what was done again."""
     with serving(sessions=2) as server:
@@ -56,7 +56,7 @@ def an_undo_is_told():
         finish(server, ["paris 3"], "left", "left")
 
 
-@check
+@case
 def before_and_after_a_hello():
     """Until a hello names a room that is there nothing is done or told. A second hello is refused."""
     with serving(sessions=2) as server:
@@ -77,7 +77,7 @@ def before_and_after_a_hello():
         finish(server, ["paris 2"], "left", "left")
 
 
-@check
+@case
 def two_at_once():
     """A session that stays silent does not keep a second from being served, and is then told what that one did."""
     with serving(sessions=2) as server:
@@ -92,7 +92,7 @@ def two_at_once():
         finish(server, ["paris 1"], "left", "left")
 
 
-@check
+@case
 def a_session_waits_for_a_worker():
     """Where each worker has a session the next one waits, and is served when one has ended."""
     with serving(workers=1, sessions=2) as server:
@@ -109,7 +109,7 @@ def a_session_waits_for_a_worker():
         finish(server, ["paris 1"], "left", "left")
 
 
-@check
+@case
 def rooms_apart():
     """Clients of two rooms know nothing of each other, not even under one name and one id."""
     with serving("rome", "paris", sessions=2) as server:
@@ -128,7 +128,7 @@ def rooms_apart():
         finish(server, ["rome 1", "paris 2"], "left", "left")
 
 
-@check
+@case
 def one_name_twice():
     """Two clients under one author's name share what can be undone and redone, and the ids that are spent."""
     with serving(sessions=2) as server:
@@ -149,7 +149,7 @@ def one_name_twice():
         finish(server, ["paris 3"], "left", "left")
 
 
-@check
+@case
 def sent_again():
     """A change whose connection was reset is sent again in a new session under its id, and was done once."""
     with serving(sessions=3) as server:
@@ -165,7 +165,7 @@ def sent_again():
         finish(server, ["paris 1"], "fault", "fault", "left")
 
 
-@check
+@case
 def sent_again_unanswered():
     """So where the reset comes at any moment after the change was sent: done by now or not, it is never done twice."""
     count = 24
@@ -189,7 +189,7 @@ def sent_again_unanswered():
         finish(server, [f"paris {count}"], *["fault", "left"] * count, "left")
 
 
-@check
+@case
 def a_full_room():
     """A room that took as many entries as it may refuses each change, and is asked as ever."""
     with serving(limit=1) as server:
@@ -206,7 +206,7 @@ def a_full_room():
         finish(server, ["paris 1"], "left")
 
 
-@check
+@case
 def a_room_that_takes_nothing():
     """Where a room may take no entry it refuses the first change."""
     with serving(limit=0) as server:
@@ -228,30 +228,30 @@ class Told:
         self.is_open = True
         self.found, self.wanted = ([], []), ([], [])
 
-    def hear(self, texts):
-        """Is told these texts."""
-        for text in texts:
+    def hear(self, told, place):
+        """Is told these texts, by a line at this place."""
+        for text in told:
             self.wanted[is_news(text)].append(text)
         while any(len(found) < len(wanted) for found, wanted in zip(self.found, self.wanted)):
             text = self.client.text()
             self.found[is_news(text)].append(text)
-        want(self.found, self.wanted)
+        want(self.found, self.wanted, place)
 
-    def comes_to(self, event, texts):
-        """An event of the client, and what goes out to it."""
-        if texts == ["the session is closed"]:
-            want(self.is_open, False)
+    def comes_to(self, event, told, place):
+        """An event of the client, and what goes out to it, by a line at this place."""
+        if told == ["the session is closed"]:
+            want(self.is_open, False, place)
         elif event == "close":
             self.end()
         elif event == "binary":
-            want(texts, ["close 1003"])
+            want(told, ["close 1003"], place)
             self.client.send(BINARY, b"\x00\xff")
             be_closed(self.client, 1003)
             self.is_open = False
         else:
             if event != "quiet":
                 self.client.say(event)
-            self.hear(texts)
+            self.hear(told, place)
 
     def end(self):
         """Closes, if that was not done. Before the answer may come news of which the file does not tell any more."""
@@ -268,37 +268,38 @@ def is_news(text):
     return text.startswith('{"news"')
 
 
-CLIENTS = ("anna ", "bob ")
-
-
 def sessions_of_page():
-    """The sessions that the page tells, in all its blocks of texts together."""
+    """The sessions that the page tells, in all its blocks of texts together. All else there is a remark."""
+    lines, is_told = [], False
     with open(PAGE, encoding="utf-8") as page:
-        return told.taken_apart("".join(re.findall(r"^```text\n(.*?)^```$", page.read(), re.M | re.S)), CLIENTS)
+        for line in page:
+            is_told = line == "```text\n" or is_told and line != "```\n"
+            lines.append("#\n" if line.startswith("```") or not is_told else line)
+    return texts.Text("".join(lines), PAGE)
 
 
 def told_sessions(read):
-    """The sessions that a file tells, over sockets. The first event of a client connects it, whatever it is."""
-    words, lines, blocks = read()
-    events = [line.split(" ", 1) for line in lines]
+    """The sessions that a text tells, over sockets. The first event of a client connects it, whatever it is."""
+    text = read()
+    events = [line.split(" ", 1) for line in text.lines]
     first = {name: event for name, event in reversed(events)}
     count = sum(event == "connect" for _, event in events) + sum(event != "connect" for event in first.values())
-    with serving(sessions=count, limit=words[-1] if words else None) as server:
+    with serving(sessions=count, limit=text.limit) as server:
         clients = {}
-        for (name, event), texts in zip(events, blocks):
+        for place, ((name, event), block) in enumerate(zip(events, text.blocks)):
             if event == "connect" and name in clients:
                 clients.pop(name).end()
             if name not in clients:
                 clients[name] = Told(server)
             if event != "connect":
-                clients[name].comes_to(event, texts)
+                clients[name].comes_to(event, block, text.place(place))
         for client in clients.values():
             client.end()
         status, _, ends = server.finish()
         want((status, len(ends)), (0, count))
 
 
-@check
+@case
 def end_of_the_program():
     """After its last session the program tells how far each room came, in the order of the words, and ends."""
     with serving("rome", "paris", "a_b_9", workers=1, sessions=4) as server:
@@ -321,7 +322,7 @@ def end_of_the_program():
         finish(server, ["rome 0", "paris 2", "a_b_9 0"], "left", "binary", "fault", "left")
 
 
-@check
+@case
 def a_full_disk():
     """Where the disk takes nothing of what is printed, clients are served all the same."""
     port, patience = free_port(), PATIENCE * given.slow
@@ -349,7 +350,7 @@ def connected(port, deadline):
             time.sleep(0.01)
 
 
-@check
+@case
 def as_many_as_there_may_be():
     """As many rooms and workers as there may be, and the longest name of a room."""
     rooms = [*(f"room_{number}" for number in range(63)), "a" * 32]
@@ -364,9 +365,7 @@ def as_many_as_there_may_be():
 
 def run(*words):
     """What the program comes to over words, where it does not serve."""
-    streams = {"stdin": subprocess.DEVNULL, "stdout": subprocess.PIPE, "stderr": subprocess.PIPE}
-    ran = subprocess.run([given.program, *words], timeout=PATIENCE * given.slow, check=False, **streams)
-    return ran.returncode, ran.stdout.decode(), ran.stderr.decode()
+    return run_soon(given.program, *words).texts()
 
 
 def serve(*rooms, addr="127.0.0.1:0"):
@@ -380,7 +379,7 @@ TOO_MANY = (2, "", "maproom: too many rooms\n")
 CANNOT_LISTEN = (1, "", "maproom: cannot listen\n")
 
 
-@check
+@case
 def bad_rooms():
     """The number of rooms is looked at first, then their names one after another, and then the address."""
     want(serve("Paris"), BAD_NAME)
@@ -397,14 +396,14 @@ def bad_rooms():
     want(serve("paris", "paris", addr="nowhere"), TWICE)
 
 
-@check
+@case
 def bad_addresses():
     """At what is no address, or has no port, nothing listens."""
     hosts = ("nowhere", "127.0.0.1", "127.0.0.1:", "127.0.0.1:65536", "127.0.0.1:port", "127.0.0.256:47316", ":", "")
     want({addr: serve("paris", addr=addr) for addr in hosts}, {addr: CANNOT_LISTEN for addr in hosts})
 
 
-@check
+@case
 def a_taken_port():
     """Where another listens nothing else does; but the names of rooms are looked at before that."""
     with socket.socket() as other:
@@ -415,7 +414,7 @@ def a_taken_port():
         want(serve("paris", "paris", addr=taken), TWICE)
 
 
-@check
+@case
 def refused_words():
     """Numbers out of their range, and words that are none, twice there or missing: what reads the words says so."""
     words = ["serve", "--addr", "127.0.0.1:0", "--workers", "1", "--sessions", "1", "paris"]
@@ -433,7 +432,7 @@ def refused_words():
         want((line, status, printed, bool(why)), (line, 2, "", True))
 
 
-@check
+@case
 def help_for_words():
     """The help is printed, and names each option."""
     status, printed, why = run("serve", "--help")
@@ -441,7 +440,7 @@ def help_for_words():
     want((status, missing, why), (0, [], ""))
 
 
-check_each(told_sessions, {
+each_case(told_sessions, {
     "the page docs/SERVER.md": sessions_of_page,
-    **{path.rpartition("texts/")[2]: functools.partial(told.read, path, CLIENTS) for path in told.files_in("sessions")},
+    **{f"sessions/{name}": functools.partial(texts.read, path) for name, path in texts.files_in("sessions").items()},
 })

@@ -1,14 +1,20 @@
 """Checks of the server as part_lines runs it, where what `maproom serve` leaves to chance or to its bound is in hand: a
 message that is held back, and sessions that read few messages."""
-from talk import SILENCE, be_closed, create, finish, hear, hello, leave, news, node, ok, part_check, refused
-from talk import serving_parts, talk, want, welcome
-from websocket import text_frame
+from lib.cases import case_if, given, want
+from lib.talk import SILENCE, be_closed, create, finish, hear, hello, leave, news, node, ok, refused, serving_parts
+from lib.talk import talk, welcome
+from lib.websocket import text_frame
 
 # How many messages a session reads at most, where that is few.
 FEW = 20
 
 
-@part_check
+def has_parts():
+    """Whether part_lines is there."""
+    return given.parts is not None
+
+
+@case_if(has_parts)
 def a_held_message():
     """An undo is held back until a change of another session was answered: both are served at the same time. So the
     undo meets that change, and the news of the change follow its reply."""
@@ -28,7 +34,7 @@ def a_held_message():
         finish(server, ["paris 2"], "left", "left")
 
 
-@part_check
+@case_if(has_parts)
 def as_many_messages_as_may_be():
     """A client that says one message more than a session reads gets a close with 1000 in the place of the last reply.
     A wait in which nothing came counts as a message, so a client may be answered less; but one of several is not."""
@@ -50,7 +56,7 @@ def as_many_messages_as_may_be():
         finish(server, ["paris 0"], *["bound"] * len(clients))
 
 
-@part_check
+@case_if(has_parts)
 def as_many_waits_as_may_be():
     """A silent client is closed with 1000 after so many waits, and one that never shakes hands gets nothing."""
     with serving_parts(FEW, workers=1, sessions=3) as server:

@@ -1,29 +1,17 @@
 """A server in which a call of the system fails, or a growth of its memory is refused, by a library that is loaded before it."""
 import errno
-import functools
-import tempfile
 
-from loading import REFUSED, make_library
-from serving import LOG_LINE, Server
-from talk import PATIENCE, given, want
+from .cases import given, want
+from .growths import REFUSED
+from .preloaded import library
+from .serving import LOG_LINE, Server
+from .talk import PATIENCE
 
-# What the libraries tell on standard error (failing.c, refusing.c).
+# What the libraries tell on standard error (tests/preload/failing.c and refusing.c).
 LINES = ("a call was failed\n", REFUSED.decode())
 
 # So many bytes that no read or write is cut.
 WHOLE = 1 << 30
-
-
-@functools.lru_cache(maxsize=None)
-def folder():
-    """A folder for the libraries, which goes with the script."""
-    return tempfile.TemporaryDirectory()
-
-
-@functools.lru_cache(maxsize=None)
-def library(name):
-    """The library of a name, made when it is first asked for."""
-    return make_library(folder().name, name)
 
 
 class Faulty(Server):

@@ -1,0 +1,112 @@
+"""The pages of the repository, in blocks: prose, which can be wrapped, tables, headings, and what stands as it is."""
+import glob
+import os
+import re
+
+from .cases import TOP
+
+# How wide a line of prose may be, and how long the text of a table's cell.
+WIDTH = 100
+
+FENCE = "```"
+ITEM = re.compile(r"( *)([-*]|\d+\.) +")
+# What stays together in a line: words, with the code in them whole.
+WORD = re.compile(r"(?:`[^`]*`|[^\s`])+")
+# What would be read as something else at the front of a line.
+MARKS = re.compile(r"([-+*>|#]|\d+[.)])")
+
+
+def paths():
+    """The pages, README first."""
+    return [f"{TOP}/README.md", f"{TOP}/CHANGELOG.md", *sorted(glob.glob(f"{TOP}/docs/*.md"))]
+
+
+class Block:
+    """Lines of a page that belong together: of what kind they are, and the number of the first."""
+
+    def __init__(self, kind, number, lines):
+        self.kind, self.number, self.lines = kind, number, lines
+
+
+def kind_of(line, is_fenced, depth):
+    """What a line begins where nothing goes on: code that is fenced or indented, a table, a heading, or prose. `depth` is
+    how far the text of a list's item stands in."""
+    if is_fenced or line.startswith(FENCE):
+        return "fence"
+    if not line.strip():
+        return "blank"
+    if line.startswith("|"):
+        return "table"
+    if line.startswith("#"):
+        return "heading"
+    return "code" if len(line) - len(line.lstrip(" ")) >= depth + 4 and not ITEM.match(line) else "prose"
+
+
+def blocks_of(text):
+    """The blocks of a page."""
+    blocks, is_fenced, depth = [], False, 0
+    for number, line in enumerate(text.split("\n"), 1):
+        last = blocks[-1].kind if blocks else "blank"
+        item = None if is_fenced else ITEM.match(line)
+        goes_on = last == "prose" and not item and line.strip() and not line.startswith((FENCE, "|", "#"))
+        kind = "prose" if goes_on else kind_of(line, is_fenced, depth)
+        if kind == "prose" and not goes_on:
+            depth = item.end() if item else 0 if not line.startswith(" ") else depth
+        if goes_on or (kind == last and kind in ("fence", "table", "code") and (kind != "fence" or is_fenced)):
+            blocks[-1].lines.append(line)
+        else:
+            blocks.append(Block(kind, number, [line]))
+        if line.startswith(FENCE):
+            is_fenced = not is_fenced
+    return blocks
+
+
+def wrapped(lines):
+    """Lines of prose, or of one item of a list, wrapped anew."""
+    item = ITEM.match(lines[0])
+    first = item[0] if item else re.match(" *", lines[0])[0]
+    rest = " " * len(first)
+    words = WORD.findall(" ".join([lines[0][len(first) :], *lines[1:]]))
+    made, line = [], ""
+    for word in words:
+        if line and len(rest) + len(line) + 1 + len(word) > WIDTH and not MARKS.fullmatch(word) and not word.startswith("#"):
+            made.append(line)
+            line = word
+        else:
+            line = f"{line} {word}" if line else word
+    made.append(line)
+    return [f"{first if at == 0 else rest}{line}" for at, line in enumerate(made)]
+
+
+def wrap(text):
+    """A page with its prose wrapped anew."""
+    return "\n".join(line for block in blocks_of(text) for line in (wrapped(block.lines) if block.kind == "prose" else block.lines))
+
+
+def spans_of(block):
+    """The spans of code in prose, a heading or a table, each with the number of its line."""
+    for number, line in enumerate(block.lines, block.number):
+        for span in re.findall(r"`([^`]+)`", line):
+            yield number, span
+
+
+def commands_of(block):
+    """The lines of a block of code, each with its number. One that is fenced has its language in the first line."""
+    return list(enumerate(block.lines, block.number))[1 if block.kind == "fence" else 0 :]
+
+
+def anchors_of(text):
+    """What links can name of a page: its headings, as they are written in addresses."""
+    headings = [block.lines[0].lstrip("#").strip() for block in blocks_of(text) if block.kind == "heading"]
+    return {re.sub(r"[^\w\- ]", "", heading.lower()).replace(" ", "-") for heading in headings}
+
+
+def read(path):
+    """The text of a page."""
+    with open(path, encoding="utf-8") as file:
+        return file.read()
+
+
+def name_of(path):
+    """What a page is called."""
+    return os.path.relpath(path, TOP)

@@ -1,0 +1,24 @@
+"""The libraries of tests/preload, which are loaded before a program: the kit's compiler makes them."""
+import functools
+import os
+import subprocess
+import tempfile
+
+from .cases import TESTS
+
+
+@functools.lru_cache(maxsize=None)
+def folder():
+    """A folder for the libraries, which goes with the script."""
+    return tempfile.TemporaryDirectory(prefix="maproom-preload-")
+
+
+@functools.lru_cache(maxsize=None)
+def library(name):
+    """The path of the library of a name, made when it is first asked for."""
+    page = subprocess.run(["rt", "doc"], stdout=subprocess.PIPE, check=True).stdout.decode().split()[0]
+    tools, path = f"{os.path.dirname(page)}/toolchain/bin", f"{folder().name}/{name}.so"
+    words = [f"{tools}/clang", "--target=x86_64-unknown-linux-gnu", "--no-default-config", f"--ld-path={tools}/ld.lld"]
+    words += ["-O1", "-ffreestanding", "-nostdlib", "-shared", "-fPIC", "-o", path]
+    subprocess.run([*words, f"{TESTS}/preload/{name}.c"], check=True)
+    return path

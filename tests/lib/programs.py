@@ -1,0 +1,60 @@
+"""What came of a command."""
+import subprocess
+import time
+from typing import NamedTuple
+
+from .cases import given
+from .websocket import Late
+
+# How many seconds a program may take that is waited for, with its start.
+PATIENCE = 90
+
+
+class Ran(NamedTuple):
+    """What came of a command: its status, and all that it wrote to standard output and to standard error."""
+
+    status: int
+    output: bytes
+    errors: bytes
+
+    def texts(self):
+        """The same as texts."""
+        return self.status, self.output.decode(), self.errors.decode()
+
+    def lines(self):
+        """The lines of standard output."""
+        return lines_of(self.output.decode())
+
+
+def lines_of(text):
+    """The lines of a text that ends with a line feed, which alone ends a line."""
+    return text.split("\n")[:-1]
+
+
+def text_of(lines):
+    """The text of lines."""
+    return "".join(f"{line}\n" for line in lines)
+
+
+def run(*words, lines=b"", **how):
+    """What came of a command over an input, or over a stream that is named as `stdin`."""
+    streams = {"stdout": subprocess.PIPE, "stderr": subprocess.PIPE, **({} if "stdin" in how else {"input": lines})}
+    ran = subprocess.run(words, check=False, **streams, **how)
+    return Ran(ran.returncode, ran.stdout, ran.stderr)
+
+
+def run_soon(*words, **how):
+    """The same of one that may not take longer than anything that is waited for."""
+    return run(*words, timeout=PATIENCE * given.slow, **how)
+
+
+def wait_for(what, value):
+    """Waits until something has a value that is true, and gives it."""
+    deadline = time.monotonic() + PATIENCE * given.slow
+    while True:
+        found = value()
+        if found:
+            return found
+        if time.monotonic() > deadline:
+            raise Late(what() if callable(what) else what)
+        time.sleep(0.01)
