@@ -1,12 +1,12 @@
 #!/usr/bin/env node
 // An example of a client that keeps a mirror of a room's map, over the texts alone.
 //
-// Usage: client.js ROOM NAME [CHANGE..], each CHANGE a message without its id, as {"do":"undo"}.
+//     client.js ROOM NAME [CHANGE..]      each CHANGE a message without its id, as {"do":"undo"}
 //
 // It reads what the room sends from standard input, a text a line, and an empty line where the session was closed.
 // It prints what it sends, and an empty line where it leaves a session; at the end of input the elements of its
-// mirror. What it does with the texts is the class Client, which knows of no streams: socket_client.js has it speak
-// over WebSockets.
+// mirror. A refusal is told on standard error, and the status is 1 then. What it does with the texts is the class
+// Client, which knows of no streams: socket_client.js has it speak over WebSockets.
 "use strict";
 
 // News that are not the next: only a new session, with its welcome, tells what was missed.
@@ -109,25 +109,56 @@ class Client {
   }
 }
 
-module.exports = { Client, Missed, Refused };
+module.exports = { Client, Missed, Refused, tellRefusal, wordsOf };
+
+// A message without its id, as a word of the command line has it. Throws where it is none.
+function messageOf(word) {
+  const message = JSON.parse(word);
+  if (message === null || typeof message !== "object" || Array.isArray(message)) throw new SyntaxError(word);
+  return message;
+}
+
+// So many words of the command line, and the messages behind them. What is wrong with it ends the program.
+function wordsOf(count, usage) {
+  const words = process.argv.slice(2);
+  try {
+    if (words.length < count) throw new SyntaxError("too few words");
+    return [...words.slice(0, count), words.slice(count).map(messageOf)];
+  } catch {
+    console.error(`usage: ${usage}`);
+    process.exit(2);
+  }
+}
+
+// Tells a refusal, with which the program will have failed.
+function tellRefusal(client, no) {
+  process.exitCode = 1;
+  console.error(`refused: ${client.inWords(no)}`);
+}
 
 function main() {
-  const client = new Client(...process.argv.slice(2, 4));
-  for (const change of process.argv.slice(4)) client.ask(JSON.parse(change));
+  const [room, name, changes] = wordsOf(2, "client.js ROOM NAME [CHANGE..]");
+  const client = new Client(room, name);
+  const lines = require("node:readline").createInterface({ input: process.stdin });
+  let isRefused = false;
   const print = (texts) => texts.forEach((text) => console.log(text));
   const take = (text) => {
     try {
       return text === "" ? client.begin() : client.take(text);
     } catch (error) {
       if (error instanceof Missed) return ["", ...client.begin()];
-      throw error;
+      if (!(error instanceof Refused)) throw error;
+      isRefused = true;
+      tellRefusal(client, error.no);
+      lines.close();
+      return [];
     }
   };
+  for (const change of changes) client.ask(change, (told) => told.no && tellRefusal(client, told.no));
   print(client.begin());
-  require("node:readline")
-    .createInterface({ input: process.stdin })
-    .on("line", (line) => print(take(line.trim())))
-    .on("close", () => client.elements.forEach((element) => console.log(JSON.stringify(element))));
+  lines
+    .on("line", (line) => isRefused || print(take(line.trim())))
+    .on("close", () => isRefused || client.elements.forEach((element) => console.log(JSON.stringify(element))));
 }
 
 if (require.main === module) main();

@@ -1,11 +1,12 @@
 #!/usr/bin/env python3
 """An example of a client that keeps a mirror of a room's map, over the texts alone.
 
-Usage: client.py ROOM NAME [CHANGE..], each CHANGE a message without its id, as {"do":"undo"}.
+    client.py ROOM NAME [CHANGE..]      each CHANGE a message without its id, as {"do":"undo"}
 
 It reads what the room sends from standard input, a text a line, and an empty line where the session was closed. It
-prints what it sends, and an empty line where it leaves a session; at the end of input the elements of its mirror. What
-it does with the texts is the class Client, which knows of no streams: socket_client.py has it speak over WebSockets.
+prints what it sends, and an empty line where it leaves a session; at the end of input the elements of its mirror. A
+refusal is told on standard error, and the status is 1 then. What it does with the texts is the class Client, which
+knows of no streams: socket_client.py has it speak over WebSockets.
 """
 import collections
 import json
@@ -21,7 +22,7 @@ class Refused(Exception):
     """A refusal: `no` is what the room said of it, as {"why": "conflict", "at": "n-1", "with": 2}."""
 
     def __init__(self, no):
-        super().__init__(json.dumps(no))
+        super().__init__(compact(no))
         self.no = no
 
 
@@ -125,10 +126,41 @@ class Client:
         return " ".join(str(no[key]) for key in ("why", *sorted(set(no) - {"why"})))
 
 
+def message_of(word):
+    """A message without its id, as a word of the command line has it. Raises ValueError where it is none."""
+    message = json.loads(word)
+    if not isinstance(message, dict):
+        raise ValueError(f"no message: {word}")
+    return message
+
+
+def words_of(words):
+    """The room, the name and the messages that the command line has. What is wrong with it ends the program."""
+    try:
+        room, name, *changes = words
+        return room, name, [message_of(change) for change in changes]
+    except ValueError:
+        print("usage: client.py ROOM NAME [CHANGE..]", file=sys.stderr)
+        sys.exit(2)
+
+
+def tell_refusal(client, no):
+    """Tells a refusal."""
+    print(f"refused: {client.in_words(no)}", file=sys.stderr, flush=True)
+
+
 def main():
-    client = Client(*sys.argv[1:3])
-    for change in sys.argv[3:]:
-        client.ask(json.loads(change))
+    room, name, changes = words_of(sys.argv[1:])
+    client, status = Client(room, name), 0
+
+    def answered(told):
+        nonlocal status
+        if "no" in told:
+            status = 1
+            tell_refusal(client, told["no"])
+
+    for change in changes:
+        client.ask(change, answered)
     print(*client.begin(), sep="\n")
     for line in sys.stdin:
         try:
@@ -136,11 +168,13 @@ def main():
         except Missed:
             texts = ["", *client.begin()]
         except Refused as refusal:
-            sys.exit(f"the room refused the hello: {refusal}")
+            tell_refusal(client, refusal.no)
+            sys.exit(1)
         for text in texts:
             print(text)
     for element in client.elements.values():
         print(compact(element))
+    sys.exit(status)
 
 
 if __name__ == "__main__":

@@ -2,7 +2,9 @@
 // A client of a room over WebSockets, for programs: the platform's own WebSocket, or where there is none that of
 // the package ws (in Debian node-ws).
 //
-// Usage: socket_client.js URL ROOM NAME [MESSAGE..], each MESSAGE without its id. It prints each answer.
+//     socket_client.js URL ROOM NAME [MESSAGE..]      each MESSAGE without its id
+//
+// It prints each answer; a refusal is told on standard error, and the status is 1 then.
 //
 // In a program:
 //
@@ -15,8 +17,17 @@
 // what was not answered is said again under its id, so that nothing is done twice. A refusal is thrown as Refused:
 // its `no` has what the room said, and `room.client.inWords(no)` says it.
 "use strict";
-const { Client, Missed, Refused } = require("./client.js");
-const Socket = globalThis.WebSocket ?? require("ws");
+const { Client, Missed, Refused, tellRefusal, wordsOf } = require("./client.js");
+
+// The WebSocket of the platform, or else of the package.
+function socketClass() {
+  if (globalThis.WebSocket) return globalThis.WebSocket;
+  try {
+    return require("ws");
+  } catch {
+    throw new Error("it needs the package ws (in Debian node-ws)");
+  }
+}
 
 // How many milliseconds pass before a connection that broke is made anew: at first, and at most.
 const SOON = 100;
@@ -37,17 +48,26 @@ class Room {
 
   // Begins a session, and another one where it ends.
   connect() {
-    this.socket = new Socket(this.url);
+    try {
+      this.socket = new (socketClass())(this.url);
+    } catch (error) {
+      return this.fail(this.noSession(error));
+    }
     this.socket.onopen = () => this.say(this.client.begin());
     this.socket.onmessage = (event) => this.take(event.data);
-    this.socket.onerror = () => {
-      if (!this.isThere) this.close(new Error(`no session at ${this.url}`));
+    this.socket.onerror = (event) => {
+      if (!this.isThere) this.close(this.noSession(event));
     };
     this.socket.onclose = () => {
       if (this.isClosed) return;
       this.timer = setTimeout(() => this.connect(), this.pause);
       this.pause = Math.min(2 * this.pause, LATE);
     };
+  }
+
+  // That the first session did not begin, with what its cause says.
+  noSession({ message }) {
+    return new Error(`no session at ${this.url}`, { cause: { message } });
   }
 
   // Takes what the room says, and says what is to be said then.
@@ -66,7 +86,7 @@ class Room {
 
   // Says some texts. What cannot be said now is said in the next session.
   say(texts) {
-    for (const text of texts) if (this.socket.readyState === Socket.OPEN) this.socket.send(text);
+    for (const text of texts) if (this.socket.readyState === this.socket.OPEN) this.socket.send(text);
   }
 
   // Asks the room. Gives what the answer has under `ok`, or throws Refused.
@@ -89,23 +109,23 @@ class Room {
 module.exports = { Room, Missed, Refused };
 
 async function main() {
-  const [url, name, author, ...messages] = process.argv.slice(2);
-  const room = await Room.open(url, name, author);
-  for (const message of messages) {
-    try {
-      console.log(JSON.stringify(await room.ask(JSON.parse(message))));
-    } catch (error) {
-      if (!(error instanceof Refused)) throw error;
-      process.exitCode = 1;
-      console.error(`refused: ${room.client.inWords(error.no)}`);
+  const [url, name, author, messages] = wordsOf(3, "socket_client.js URL ROOM NAME [MESSAGE..]");
+  try {
+    const room = await Room.open(url, name, author);
+    for (const message of messages) {
+      try {
+        console.log(JSON.stringify(await room.ask(message)));
+      } catch (error) {
+        if (!(error instanceof Refused)) throw error;
+        tellRefusal(room.client, error.no);
+      }
     }
+    room.close();
+  } catch (error) {
+    process.exitCode = 1;
+    if (error instanceof Refused) tellRefusal(new Client(name, author), error.no);
+    else for (const each of [error.cause, error]) if (each?.message) console.error(`socket_client: ${each.message}`);
   }
-  room.close();
 }
 
-if (require.main === module) {
-  main().catch((error) => {
-    console.error(`socket_client: ${error.message}`);
-    process.exitCode = 1;
-  });
-}
+if (require.main === module) main();

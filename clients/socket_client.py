@@ -19,14 +19,16 @@ what was not answered is said again under its id, so that nothing is done twice.
 import argparse
 import asyncio
 import contextlib
-import json
 import sys
 import time
 
-import websockets
+try:
+    import websockets
+except ModuleNotFoundError:
+    websockets = None
 
 sys.dont_write_bytecode = True
-from client import Client, Missed, Refused, compact
+from client import Client, Missed, Refused, compact, message_of, tell_refusal
 
 # How many seconds pass before a connection that broke is made anew: at first, and at most.
 SOON, LATE = 0.1, 5
@@ -114,7 +116,7 @@ async def talk(given):
                 print(compact(await room.ask(message)), flush=True)
             except Refused as refusal:
                 status = 1
-                print(f"refused: {room.client.in_words(refusal.no)}", file=sys.stderr, flush=True)
+                tell_refusal(room.client, refusal.no)
         if given.map:
             print(compact({"id": 1, "ok": await room.ask({"do": "map"})}))
         if given.follow:
@@ -123,18 +125,27 @@ async def talk(given):
 
 
 def main():
-    words = argparse.ArgumentParser(description=__doc__, formatter_class=argparse.RawDescriptionHelpFormatter)
+    usage = "socket_client.py [--map] [--follow] URL ROOM NAME [MESSAGE..]"
+    words = argparse.ArgumentParser(usage=usage, description=__doc__, formatter_class=argparse.RawDescriptionHelpFormatter)
+    words.error = lambda _: words.exit(2, words.format_usage())
     words.add_argument("--map", action="store_true", help="print the map at last, as map_to_osm and --base read it")
     words.add_argument("--follow", action="store_true", help="stay, and tell of each entry")
     for word in ("url", "room", "name"):
         words.add_argument(word, metavar=word.upper())
-    words.add_argument("message", metavar="MESSAGE", nargs="*", type=json.loads, help="a message without its id")
+    words.add_argument("message", metavar="MESSAGE", nargs="*", type=message_of, help="a message without its id")
+    given = words.parse_args()
+    no_session = f"socket_client: no session at {given.url}"
+    if websockets is None:
+        sys.exit(f"socket_client: it needs the package websockets (in Debian python3-websockets)\n{no_session}")
     try:
-        sys.exit(asyncio.run(talk(words.parse_args())))
+        sys.exit(asyncio.run(talk(given)))
     except KeyboardInterrupt:
         sys.exit(130)
-    except (OSError, websockets.WebSocketException, Refused) as fault:
-        sys.exit(f"socket_client: {fault}")
+    except Refused as refusal:
+        tell_refusal(Client(given.room, given.name), refusal.no)
+        sys.exit(1)
+    except (OSError, websockets.WebSocketException) as fault:
+        sys.exit(f"socket_client: {fault}\n{no_session}")
 
 
 if __name__ == "__main__":
