@@ -13,7 +13,7 @@ use std::alloc::{AllocError, Allocator};
 
 // An action with the same fields, each copied.
 macro_rules! copied {
-    (($action:expr) $($variant:ident $word:literal { $($field:ident: $how:ident from $source:ident $(by $name:ident)?),* } by $plan:ident about $way:ident [$($subject:ident),*];)*) => {
+    (($action:expr) $($variant:ident $word:literal { $($field:ident: $how:ident from $source:ident $(by $name:ident)?),* } by $plan:ident about $part:ident $way:ident [$($subject:ident),*];)*) => {
         match $action {
             $(Action::$variant { $($field),* } => Ok(Action::$variant {
                 $($field: $field.clone()?),*

@@ -3,7 +3,7 @@
 /// Writes the same for each action: hands the list of the actions to a macro, behind what the macro is given.
 ///
 /// A line of the list has the action, its word in a message, its fields, its plan, which takes the fields in this order, and what it
-/// is about: `names` that are fields, or `each` name of a field that is a list of them.
+/// is about: the `tags`, the `rest` or `both` parts of the rows of `names` that are fields, or of `each` name of a field that is a list.
 /// Each field says how the plan takes it, `lent`, as a `slice`, or as a `number`; and from which field of a message it is read,
 /// in this order, and by the `kind` of which name that is read, if it matters.
 #[macro_export]
@@ -11,18 +11,18 @@ macro_rules! each_action {
     ($write:ident $given:tt) => {
         $write! {
             $given
-            Create "create" { name: lent from el, element: lent from element by name } by plan_create about names [name];
-            Retag "retag" { name: lent from el, tags: lent from given_tags } by plan_retag about names [name];
-            Move "move" { names: slice from els, dlat: number from dlat, dlon: number from dlon } by plan_move about each [names];
-            Reverse "reverse" { name: lent from el } by plan_reverse about names [name];
-            Nodes "nodes" { name: lent from el, list: lent from nodes } by plan_nodes about names [name];
-            Members "members" { name: lent from el, list: lent from members } by plan_members about names [name];
-            Delete "delete" { name: lent from el } by plan_delete about names [name];
-            Purge "purge" { name: lent from el } by plan_purge about names [name];
-            Split "split" { name: lent from el, place: number from at, into: lent from into } by plan_split about names [name, into];
-            Join "join" { name: lent from el, other: lent from with } by plan_join about names [name, other];
-            Merge "merge" { name: lent from el, other: lent from with } by plan_merge about names [name, other];
-            Unglue "unglue" { name: lent from el, place: number from at, into: lent from into } by plan_unglue about names [name, into];
+            Create "create" { name: lent from el, element: lent from element by name } by plan_create about both names [name];
+            Retag "retag" { name: lent from el, tags: lent from given_tags } by plan_retag about tags names [name];
+            Move "move" { names: slice from els, dlat: number from dlat, dlon: number from dlon } by plan_move about rest each [names];
+            Reverse "reverse" { name: lent from el } by plan_reverse about rest names [name];
+            Nodes "nodes" { name: lent from el, list: lent from nodes } by plan_nodes about rest names [name];
+            Members "members" { name: lent from el, list: lent from members } by plan_members about rest names [name];
+            Delete "delete" { name: lent from el } by plan_delete about both names [name];
+            Purge "purge" { name: lent from el } by plan_purge about both names [name];
+            Split "split" { name: lent from el, place: number from at, into: lent from into } by plan_split about both names [name, into];
+            Join "join" { name: lent from el, other: lent from with } by plan_join about both names [name, other];
+            Merge "merge" { name: lent from el, other: lent from with } by plan_merge about both names [name, other];
+            Unglue "unglue" { name: lent from el, place: number from at, into: lent from into } by plan_unglue about both names [name, into];
         }
     };
 }

@@ -1,12 +1,15 @@
 //! Laws of the actions, each the contract of a function that does nothing.
-ghost use Rattle.std.specs.Prelude.{◌≡◌, ◌≢◌, true, Some, None};
+ghost use Rattle.std.specs.Prelude.{◌≡◌, ◌≢◌, [], ◌∷◌, true, Some, None};
 ghost use Rattle.osm_elements.specs.declared.element.Element.{Element};
 ghost use Rattle.osm_elements.specs.declared.name.Name.{Name};
 ghost use Rattle.osm_elements.specs.Rows.{row_at};
-ghost use Rattle.edit_actions.specs.declared.action.Action.TheVariants.{Create, Delete};
+ghost use Rattle.edit_actions.specs.declared.action.Action.TheVariants.{Create, Delete, Retag};
 ghost use Rattle.osm_elements.specs.Maps.{Rows};
-ghost use Rattle.osm_changes.specs.Changes.{row_changes, changed};
+ghost use Rattle.osm_changes.specs.declared.part.Part.TheVariants.{Tags, Rest};
+ghost use Rattle.osm_changes.specs.Cells.{tags_at};
+ghost use Rattle.osm_changes.specs.Changes.{changed, changed_cells, half_change};
 ghost use Rattle.osm_changes.specs.Sound.{is_sound};
+ghost use Rattle.edit_simple.specs.Tagging.{GivenTags};
 ghost use Rattle.edit_actions.specs.declared.action.Action.{Action};
 ghost use Rattle.edit_actions.specs.After.{after, changes};
 ghost use Rattle.edit_actions.specs.MadeActions.{is_made_action};
@@ -27,10 +30,13 @@ pub fn accepted_changes_lead_there<A: Allocator>()
         → changed m (changes m a) ≡ after m a }
 {}
 
-/// An accepted create changes its name from nothing to the element, and a delete of what is there its name to nothing.
+/// An accepted create changes both cells of its name, from nothing to the halves of the element, a delete of what is there both
+/// from these to nothing, and an accepted retag the tags of its name alone.
 pub fn one_name_is_changed<A: Allocator>()
     ensures create { (m : Rows A) (x : Name) (v : Element A) → row_at m x ≡ None
-        → changes m (Create x v) ≡ row_changes x None (Some v) }
+        → changes m (Create x v) ≡ half_change x None (Some v) Tags ∷ half_change x None (Some v) Rest ∷ [] }
     ensures delete { (m : Rows A) (x : Name) (v : Element A) → row_at m x ≡ Some v
-        → changes m (Delete x) ≡ row_changes x (Some v) None }
+        → changes m (Delete x) ≡ half_change x (Some v) None Tags ∷ half_change x (Some v) None Rest ∷ [] }
+    ensures retag { (m : Rows A) (x : Name) (given : GivenTags) → refusal m (Retag x given) ≡ None
+        → changed_cells (changes m (Retag x given)) ≡ tags_at x ∷ [] }
 {}

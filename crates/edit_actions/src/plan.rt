@@ -23,7 +23,7 @@ use std::alloc::Allocator;
 
 // What the action's plan answers.
 macro_rules! planned {
-    (($action:expr, $alloc:expr, $store:expr) $($variant:ident $word:literal { $($field:ident: $how:ident from $source:ident $(by $name:ident)?),* } by $plan:ident about $way:ident [$($subject:ident),*];)*) => {
+    (($action:expr, $alloc:expr, $store:expr) $($variant:ident $word:literal { $($field:ident: $how:ident from $source:ident $(by $name:ident)?),* } by $plan:ident about $part:ident $way:ident [$($subject:ident),*];)*) => {
         match $action {
             $(Action::$variant { $($field),* } => $plan($alloc, $store, $(handed!($how $field)),*),)*
         }

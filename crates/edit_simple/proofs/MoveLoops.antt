@@ -29,7 +29,7 @@ use Rattle.edit_simple.specs.declared.refusal.Refusal.TheVariants.{OutOfRange, M
 use Rattle.edit_simple.specs.Inner.Moving.{row_leaves, moved_row}
 use Rattle.edit_simple.specs.Inner.Moves.{is_node_row, MayMove, leaving}
 use Rattle.edit_simple.specs.Move.{moved_by}
-use Rattle.edit_simple.specs.Facts.Lists.{all_listed, drop_at}
+use Rattle.edit_simple.specs.Facts.Lists.{drop_at}
 use Rattle.edit_simple.specs.Facts.Moving.{elsewhere}
 use Rattle.edit_simple.specs.Facts.ChangesInTurn.{one_fits}
 use Rattle.edit_simple.specs.Facts.FirstUsers.{min_below}
@@ -73,7 +73,7 @@ module _ {A : Type 0} (m : Rows A) (dlat dlon : ℤ) where
     pub push_fits : (cs : List (Change A)) (o p : Option (Element A)) → MayMove m xs dlat dlon → cs ≡ rows_changes m (moved_row m dlat dlon) (take i xs) → o ≡ row_at m x → p ≡ moved_row m dlat dlon x
         → AreChanges (cs ++ row_changes x o p)
     push_fits cs o p h e f g =
-        one_fits m (moved_row m dlat dlon) xs i x l is h.rising (λ y k. moved_apart (row_at m y) h.distance (all_listed (λ z. is_node_row (row_at m z)) xs y h.there k)) cs o p e f g
+        one_fits m (moved_row m dlat dlon) xs i x l is h.rising cs o p e f g
 
     pub none_more : leaving m dlat dlon (take i xs) ≡ [] → row_leaves dlat dlon (row_at m x) ≡ false → leaving m dlat dlon (take (i + 1) xs) ≡ []
     none_more none stays =

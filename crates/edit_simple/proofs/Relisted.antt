@@ -56,13 +56,6 @@ module _ {A : Type 0} where
   members_apart : (members others : List (Name × List ℕ)) (t u : Pairs) → are_same_members members others ≡ false → ◌≢◌ {A = Option (Element A)} (Some (Relation others t)) (Some (Relation members u))
   members_apart members others t u other e = cc (sym (same_members_itself others) ∙ ap (λ o. are_same_members (members_of o) others) e ∙ other)
 
-  -- ways of other nodes, by parts that are equal to these
-  pub ways_apart : (nodes others n o : List Name) (t u : Pairs) → n ≡ nodes → o ≡ others → false ≡ are_same_names nodes others → ◌≢◌ {A = Option (Element A)} (Some (Way o t)) (Some (Way n u))
-  ways_apart nodes others n o t u p q other e = nodes_apart n o t u ((λ i. are_same_names (p i) (q i)) ∙ sym other) e
-
-  pub relations_apart : (members others n o : List (Name × List ℕ)) (t u : Pairs) → n ≡ members → o ≡ others → false ≡ are_same_members members others → ◌≢◌ {A = Option (Element A)} (Some (Relation o t)) (Some (Relation n u))
-  relations_apart members others n o t u p q other e = members_apart n o t u ((λ i. are_same_members (p i) (q i)) ∙ sym other) e
-
   -- where the new name is there, nothing else is missing than what is absent
   missing_is_absent : (m : Rows A) (x : Name) → is_present m x ≡ true → (names : List Name) → filter (is_missing m x) names ≡ filter (is_absent m) names
   missing_is_absent m x here [] = refl

@@ -1,5 +1,5 @@
 -- Plans of unglues: which rows change, and what they become.
-use Rattle.std.proofs.Common.{◌≡◌, ◌≢◌, ◌++◌, ℕ, Bool, true, false, not, ◌||◌, ◌&&◌, ◌<◌, T, List, [], ◌∷◌, append-nil, Option, Some, None, Ok, is_some, length, set, nat_lt, refl, sym, ap, subst, ◌∙◌, arith}
+use Rattle.std.proofs.Common.{◌≡◌, ◌++◌, ℕ, Bool, true, false, not, ◌||◌, ◌&&◌, ◌<◌, T, List, [], ◌∷◌, append-nil, Option, Some, None, Ok, is_some, length, set, nat_lt, refl, sym, ap, subst, ◌∙◌, arith}
 use Rattle.std.proofs.lemmas.Bool.Decides.{nat_tests}
 use Rattle.std.proofs.lemmas.Option.{slice_get_within}
 use Rattle.std.specs.Bool.{then_some}
@@ -15,20 +15,19 @@ use Rattle.osm_elements.specs.Maps.{Rows, is_same, is_among}
 use Rattle.osm_elements.specs.NameOrder.{name_cmp}
 use Rattle.osm_elements.specs.Names.{kind_rank}
 use Rattle.osm_elements.specs.Rows.{row_at}
-use Rattle.osm_elements.specs.TagRows.{Pairs}
 use Rattle.osm_elements.specs.Facts.Rows.{same_names}
 use Rattle.osm_refs.specs.Rising.{IsRising}
 use Rattle.osm_changes.specs.declared.change.Change.{Change}
-use Rattle.osm_changes.specs.Changes.{row_changes, rows_changes, differences, AreChanges}
+use Rattle.osm_changes.specs.Changes.{row_changes, differences, AreChanges}
 use Rattle.osm_changes.specs.SameRows.{is_same_row}
 use Rattle.osm_changes.specs.Sound.{is_sound}
-use Rattle.osm_changes.specs.Facts.Differing.{same_row}
+use Rattle.osm_changes.specs.Facts.SameElements.{same_row}
 use Rattle.osm_changes.specs.Facts.RowChanges.{AreChanges-row_changes, AreChanges-two_rows}
 use Rattle.edit_simple.specs.declared.refusal.Refusal.TheVariants.{BadPosition}
 use Rattle.edit_simple.specs.Checks.{first_that_holds}
 use Rattle.edit_simple.specs.Contents.{nodes_of, with_nodes}
 use Rattle.edit_simple.specs.Plans.{IsPlan}
-use Rattle.edit_simple.specs.Facts.Differences.{differing_are, apart_rows}
+use Rattle.edit_simple.specs.Facts.Differences.{rows_differing, apart_rows}
 use Rattle.edit_simple.specs.Facts.Kinds.{told_node, told_way}
 use Rattle.edit_topology.specs.Inner.Ungluing.{name_checks, node_standing}
 use Rattle.edit_topology.specs.Unglue.{unglue_checks, after_unglue}
@@ -53,23 +52,15 @@ less_test : (i n : ℕ) → i < n → nat_lt i n ≡ true
 less_test i n l = grind (arith, nat_tests)
 
 module _ {A : Type 0} where
-  -- ways of other nodes
-  pub other_nodes : (nodes others : List Name) (t u : Pairs) → nodes ≢ others → ◌≢◌ {A = Element A} (Way nodes t) (Way others u)
-  other_nodes nodes others t u apart e = apart (ap (λ w. nodes_of (Some w)) e)
-
   -- the changes of the new node begin them
   pub first_fits : (v : Name) (node : Element A) (front : List (Change A)) → front ≡ [] → AreChanges (front ++ row_changes v None (Some node))
-  first_fits v node front is = subst (λ cs. AreChanges (cs ++ row_changes v None (Some node))) (sym is) (AreChanges-row_changes v None (Some node) (λ e. cc))
+  first_fits v node front is = subst (λ cs. AreChanges (cs ++ row_changes v None (Some node))) (sym is) (AreChanges-row_changes v None (Some node))
 
   -- those of the way go behind those of the new node
-  pub second_fits : (v w : Name) (node unglued way copy : Element A) → is_lt (name_cmp v w) ≡ true → unglued ≢ way → (front : List (Change A)) → front ≡ row_changes v None (Some node)
-      → copy ≡ way → AreChanges (front ++ row_changes w (Some copy) (Some unglued))
-  second_fits v w node unglued way copy lt other front is same =
-      subst (λ cs. AreChanges (cs ++ row_changes w (Some copy) (Some unglued))) (sym is)
-      (AreChanges-two_rows v w None (Some node) (Some copy) (Some unglued) lt (λ e. cc) (λ e. other (inside e ∙ same)))
-    where
-      inside : Some unglued ≡ Some copy → unglued ≡ copy
-      inside e = cc
+  pub second_fits : (v w : Name) (node unglued copy : Element A) → is_lt (name_cmp v w) ≡ true → (front : List (Change A)) → front ≡ row_changes v None (Some node)
+      → AreChanges (front ++ row_changes w (Some copy) (Some unglued))
+  second_fits v w node unglued copy lt front is =
+      subst (λ cs. AreChanges (cs ++ row_changes w (Some copy) (Some unglued))) (sym is) (AreChanges-two_rows v w None (Some node) (Some copy) (Some unglued) lt)
 
   no_row : (o : Option (Element A)) → is_some o ≡ false → o ≡ None
   no_row None e = refl
@@ -131,9 +122,6 @@ module _ {A : Type 0} where
       way_becomes : row_at n w ≡ Some (with_nodes (λ list. set list i v) way)
       way_becomes = way_after m w i v (not_new m w i v s) way row
 
-      pub another_way : with_nodes (λ list. set list i v) way ≢ way
-      another_way e = unglue_changes m w i v sound accepted (way_becomes ∙ ap Some e ∙ sym row)
-
       -- v and w have other rows, and no other name has
       these_differ : (y : Name) → is_among (v ∷ w ∷ []) y ≡ not (is_same_row (row_at m y) (row_at n y))
       these_differ y = by (is_same y v) refl (is_same y w) refl
@@ -147,7 +135,7 @@ module _ {A : Type 0} where
       changes_are =
           (λ j. row_changes v (sym fresh j) (sym new_node j) ++ row_changes w (sym row j) (sym way_becomes j))
           ∙ ap (λ cs. row_changes v (row_at m v) (row_at n v) ++ cs) (sym (append-nil (row_changes w (row_at m w) (row_at n w))))
-          ∙ ap (rows_changes m (row_at n)) (differing_are m n (v ∷ w ∷ []) rising these_differ)
+          ∙ rows_differing m n (row_at n) (v ∷ w ∷ []) rising these_differ (λ y i. refl)
         where
           rising : IsRising (v ∷ w ∷ [])
           rising = subst (λ b. T ((b && true) && true)) (sym in_order) tt

@@ -1,5 +1,5 @@
 //! Plans of unglues.
-ghost use Rattle.std.specs.Prelude.{◌≡◌, ◌≢◌, ◌<◌, ◌++◌, true, None, Some, length, set, MatchResult, IfOk};
+ghost use Rattle.std.specs.Prelude.{◌≡◌, ◌<◌, ◌++◌, true, None, Some, length, set, MatchResult, IfOk};
 ghost use Rattle.std.specs.Option.{option_copied};
 ghost use Rattle.std.specs.Ordering.{is_lt};
 ghost use Rattle.osm_elements.specs.Made.{is_node};
@@ -106,8 +106,7 @@ fn change_both<A: Allocator + Clone>(
     tags: &Tags<A>,
     unglued: Nodes<A>,
 ) -> Result<Changes<A>, Memory>
-    requires rising { is_lt (name_cmp into.now name.now) ≡ true }
-    requires other { unglued ≢ nodes.now }
+    requires { is_lt (name_cmp into.now name.now) ≡ true }
     ensures { IfOk result (λ cs. cs
         ≡ row_changes into.now None (Some node.now)
         ++ row_changes name.now (Some (Way nodes.now tags.now)) (Some (Way unglued tags.now))) }

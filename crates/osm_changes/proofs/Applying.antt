@@ -1,230 +1,235 @@
--- Changes applied one by one lead to the map after them.
-use Rattle.std.proofs.Common.{◌≡◌, ◌||◌, ◌&&◌, ◌<◌, ◌+◌, ℕ, zero, suc, Bool, true, false, not, T, List, [], ◌∷◌, ◌++◌, Option, Some, None, is_some, is_none, length, get_or, take, drop, map, refl, sym, ap, subst, ◌∙◌, cond, arith}
+-- Rows put in two goes, the new ones first, lead to the map that they are of; and what was put is taken out again.
+use Rattle.std.proofs.Common.{◌≡◌, ◌||◌, ◌&&◌, ◌<◌, ◌+◌, ℕ, Bool, true, false, not, T, List, [], ◌∷◌, ◌++◌, Option, Some, None, is_some, is_none, length, get_or, take, drop, map, refl, sym, ap, subst, ◌∙◌, cond, arith}
+use Rattle.std.proofs.lemmas.List.{get_or-drop, get_or_default, map_more, take_more}
+use Rattle.std.proofs.lemmas.List.Sums.{fold-append}
+use Rattle.std.proofs.lemmas.List.Elements.{All-nil, All-cons, All-tail, All-take}
 use Rattle.std.specs.List.{filter, fold}
-use Rattle.std.proofs.lemmas.List.{get_or-drop, get_or-map}
 use Rattle.osm_elements.specs.declared.name.Name.{Name}
 use Rattle.osm_elements.specs.declared.element.Element.{Element}
 use Rattle.osm_elements.specs.Rows.{AreInOrder, row_at, without_row}
-use Rattle.osm_elements.specs.Facts.Rows.{same_names, row_at-put_row, AreInOrder-put_row, AreInOrder-without_row}
-use Rattle.osm_elements.specs.Maps.{Rows, is_same, is_among}
+use Rattle.osm_elements.specs.Facts.Dropped.{row_at-rows_but, AreInOrder-rows_but}
+use Rattle.osm_elements.specs.Facts.Rows.{same_names, same_rows, without_row_is_filter}
+use Rattle.osm_elements.specs.Maps.{Rows, is_same, is_among, rows_but}
 use Rattle.osm_changes.specs.declared.change.Change.{Change}
-use Rattle.osm_changes.specs.Changes.{changed, changed_names, are_rising, AreFrom}
-use Rattle.osm_changes.specs.Inner.Applying.{is_new, rewritten, with_new, without_new, replaced, AreThere}
-use Rattle.osm_changes.specs.Facts.Changing.{AreInOrder-changed}
-use Rattle.osm_changes.proofs.Between.{Between, at_start, at_end, back_at_start, told_otherwise, one_put, one_out, one_back, after_out}
-use Rattle.osm_changes.proofs.Found.{kept, reached, earlier, cut_at}
+use Rattle.osm_changes.specs.declared.row_after.RowAfter.{RowAfter}
+use Rattle.osm_changes.specs.Changes.{changed, changed_names, are_rising, row_in, rows_after}
+use Rattle.osm_changes.specs.Inner.Applying.{is_new, with_told, AreNew, NoneIsNew}
+use Rattle.osm_changes.specs.Facts.Changing.{AreInOrder-changed, kept}
+use Rattle.osm_changes.proofs.RowsTold.{AreOf, names_told, names-rows_in, AreOf-rows_in, AreOf-filter, AreInOrder-told, row_at-told, row_at-untold, earlier}
 
-or_assoc : (a b c : Bool) → (a || (b || c)) ≡ ((b || a) || c)
-or_assoc true true c = refl
-or_assoc true false c = refl
-or_assoc false true c = refl
-or_assoc false false c = refl
-
-or_false : (a b : Bool) → (a || b) ≡ false → (a ≡ false) × (b ≡ false)
-or_false true b e = absurd (cc)
-or_false false b e = (refl, e)
-
-none_and : (a b : Bool) → b ≡ a → (not a && b) ≡ false
-none_and true b e = refl
-none_and false b e = e
-
-not_both : (a b p : Bool) → (not a && (not b && p)) ≡ (not (b || a) && p)
-not_both true true p = refl
-not_both true false p = refl
-not_both false true p = refl
-not_both false false p = refl
-
--- a copy that waits is still the one for its change
-pub copy_at : {X Y : Type 0} (f : X → Y) (xs : List X) (ys : List Y) (i : ℕ) (d : X) (e : Y) → i < length xs → drop i ys ≡ drop i (map f xs) → get_or ys i e ≡ f (get_or xs i d)
-copy_at f xs ys i d e l same =
+-- what waits in a list that was changed before it is still what waited
+pub waits_still : {X : Type 0} (xs ys : List X) (i : ℕ) (d e : X) → i < length xs → drop i ys ≡ drop i xs
+    → get_or ys i e ≡ get_or xs i d
+waits_still xs ys i d e l same =
     let here : get_or (drop i ys) 0 e ≡ get_or ys (i + 0) e = get_or-drop i ys 0 e in
-    let there : get_or (drop i (map f xs)) 0 e ≡ get_or (map f xs) (i + 0) e = get_or-drop i (map f xs) 0 e in
+    let there : get_or (drop i xs) 0 e ≡ get_or xs (i + 0) e = get_or-drop i xs 0 e in
     let zero_more : i + 0 ≡ i = omega arith in
-    ap (λ k. get_or ys k e) (sym zero_more) ∙ sym here ∙ ap (λ zs. get_or zs 0 e) same ∙ there ∙ ap (λ k. get_or (map f xs) k e) zero_more ∙ get_or-map f xs i d e l
+    ap (λ k. get_or ys k e) (sym zero_more) ∙ sym here ∙ ap (λ zs. get_or zs 0 e) same ∙ there
+    ∙ ap (λ k. get_or xs k e) zero_more ∙ get_or_default xs i e d l
 
 module _ {A : Type 0} where
-  -- each change's name has its row after in n, and its row before in m
-  pub record Leads (m n : Rows A) (c : Change A) : Type 0 where
-    pub from : row_at m c.name ≡ c.before
-    pub target : row_at n c.name ≡ c.after
+  pub told_one_more : (rs : List (RowAfter A)) (i : ℕ) (d : RowAfter A) (m : Rows A) → i < length rs
+      → fold with_told m (take (i + 1) rs) ≡ with_told (fold with_told m (take i rs)) (get_or rs i d)
+  told_one_more rs i d m l = ap (fold with_told m) (take_more rs i d l)
+      ∙ fold-append with_told m (take i rs) (get_or rs i d ∷ [])
 
-  abbrev pub AllLead : Rows A → Rows A → List (Change A) → Type 0
-  AllLead m n [] = Unit {0}
-  AllLead m n (c ∷ cs) = Leads m n c × AllLead m n cs
+  pub out_one_more : (rs : List (RowAfter A)) (i : ℕ) (d : RowAfter A) (m : Rows A) → i < length rs
+      → fold (λ n x. rows_but x n) m (names_told (take (i + 1) rs))
+      ≡ rows_but (get_or rs i d).name (fold (λ n x. rows_but x n) m (names_told (take i rs)))
+  out_one_more rs i d m l =
+      ap (fold (λ n x. rows_but x n) m) (map_more (λ (r : RowAfter A). r.name) rs i d l)
+      ∙ fold-append (λ n x. rows_but x n) m (names_told (take i rs)) ((get_or rs i d).name ∷ [])
 
-  all_lead-take : (m n : Rows A) (i : ℕ) (cs : List (Change A)) → AllLead m n cs → AllLead m n (take i cs)
-  all_lead-take m n zero cs h = tt
-  all_lead-take m n (suc i) [] h = tt
-  all_lead-take m n (suc i) (c ∷ cs) h = (h.0, all_lead-take m n i cs h.1)
+  pub taken_out : (m : Rows A) (x : Name) → AreInOrder m → without_row m x ≡ rows_but x m
+  taken_out = without_row_is_filter
 
-  -- one step of each kind
-  new_step : (m n now : Rows A) (p : Name → Bool) (c : Change A) → Leads m n c → Between m n now p → Between m n (with_new now c) (λ y. (is_new c && is_same y c.name) || p y)
-  new_step m n now p c h b = by c.before c.after refl refl
+  -- ---- the two goes
+
+  either : (p : RowAfter A → Bool) (rs : List (RowAfter A)) (y : Name)
+      → is_among (names_told rs) y ≡
+      (is_among (names_told (filter (λ r. not (p r)) rs)) y || is_among (names_told (filter p rs)) y)
+  either p [] y = refl
+  either p (r ∷ rs) y = ap (λ b. is_same y r.name || b) (either p rs y)
+      ∙ by (p r) (is_same y r.name) (is_among (names_told (filter (λ r. not (p r)) rs)) y)
+      (is_among (names_told (filter p rs)) y)
     where
-      by : (o u : Option (Element A)) → c.before ≡ o → c.after ≡ u → Between m n (cond (is_none o && is_some u) (rewritten now c.name u) now) (λ y. ((is_none o && is_some u) && is_same y c.name) || p y)
-      by None None e f = b
-      by None (Some v) e f = one_put m n now p c.name v (h.target ∙ f) b
-      by (Some w) u e f = b
+      one : Bool → List (RowAfter A) → List (RowAfter A)
+      one b others = cond b (r ∷ others) others
 
-  old_step : (m n now : Rows A) (p : Name → Bool) (c : Change A) → Leads m n c → Between m n now p → Between m n (replaced now c) (λ y. (is_some c.before && is_same y c.name) || p y)
-  old_step m n now p c h b = by c.before c.after refl
+      swap : (s a b : Bool) → (s || (a || b)) ≡ (a || (s || b))
+      swap true true b = refl
+      swap true false b = refl
+      swap false a b = refl
+
+      assoc : (s a b : Bool) → (s || (a || b)) ≡ ((s || a) || b)
+      assoc true a b = refl
+      assoc false a b = refl
+
+      by : (t : Bool) (s a b : Bool)
+          → (is_same y r.name || (is_among (names_told (filter (λ r. not (p r)) rs)) y || is_among
+          (names_told (filter p rs)) y))
+          ≡ (is_among (names_told (cond (not t) (r ∷ filter (λ r. not (p r)) rs)
+          (filter (λ r. not (p r)) rs))) y || is_among (names_told (cond t (r ∷ filter p rs) (filter p rs))) y)
+      by true s a b = swap (is_same y r.name) (is_among (names_told (filter (λ r. not (p r)) rs)) y)
+          (is_among (names_told (filter p rs)) y)
+      by false s a b = assoc (is_same y r.name) (is_among (names_told (filter (λ r. not (p r)) rs)) y)
+          (is_among (names_told (filter p rs)) y)
+
+  module _ (m : Rows A) (order : AreInOrder m) (cs : List (Change A)) where
+    abbrev told : List (RowAfter A)
+    told = rows_after m cs
+
+    abbrev new : List (RowAfter A)
+    new = filter (is_new m) told
+
+    abbrev others : List (RowAfter A)
+    others = filter (λ r. not (is_new m r)) told
+
+    of_target : AreOf (changed m cs) told
+    of_target = AreOf-rows_in (changed m cs) (changed_names cs)
+
+    pub leads_to_changed : fold with_told (fold with_told m new) others ≡ changed m cs
+    leads_to_changed =
+        same_rows (fold with_told (fold with_told m new) others) (changed m cs)
+        (AreInOrder-told others (fold with_told m new) (AreInOrder-told new m order))
+        (AreInOrder-changed m cs order)
+        (λ y. row_at-told (changed m cs) others (fold with_told m new)
+        (AreOf-filter (λ r. not (is_new m r)) (changed m cs) told of_target) y
+        ∙ ap (cond (is_among (names_told others) y) (row_at (changed m cs) y))
+        (row_at-told (changed m cs) new m (AreOf-filter (is_new m) (changed m cs) told of_target) y)
+        ∙ by y (is_among (names_told others) y) refl (is_among (names_told new) y) refl)
+      where
+        by : (y : Name) (a : Bool) → is_among (names_told others) y ≡ a → (b : Bool) → is_among (names_told new) y ≡ b
+            → cond a (row_at (changed m cs) y) (cond b (row_at (changed m cs) y) (row_at m y)) ≡ row_at (changed m cs) y
+        by y true e b f = refl
+        by y false e true f = refl
+        by y false e false f =
+            sym (kept m cs y (ap (λ names. is_among names y) (sym (names-rows_in (changed m cs) (changed_names cs)))
+            ∙ either (is_new m) told y ∙ (λ i. e i || f i)))
+
+    -- after the new rows none of the others is new
+    pub none_is_new : NoneIsNew (fold with_told m new) others
+    none_is_new = over (changed_names cs)
+      where
+        still : (r : RowAfter A) → row_at (changed m cs) r.name ≡ r.element → is_new m r ≡ false
+            → is_new (fold with_told m new) r ≡ false
+        still r is old = by r.element refl old
+          where
+            neither : (o : Option (Element A)) → (is_none o && false) ≡ false
+            neither None = refl
+            neither (Some v) = refl
+
+            here : (b : Bool) (o p : Option (Element A)) → is_some p ≡ true → (is_none o && true) ≡ false
+                → (is_none (cond b p o) && true) ≡ false
+            here true o None e f = absurd (cc)
+            here true o (Some w) e f = refl
+            here false o p e f = f
+
+            by : (o : Option (Element A)) → r.element ≡ o → (is_none (row_at m r.name) && is_some o) ≡ false
+                → (is_none (row_at (fold with_told m new) r.name) && is_some o) ≡ false
+            by None e f = neither (row_at (fold with_told m new) r.name)
+            by (Some v) e f =
+                ap (λ o. is_none o && true) (row_at-told (changed m cs) new m
+                (AreOf-filter (is_new m) (changed m cs) told of_target) r.name)
+                ∙ here (is_among (names_told new) r.name) (row_at m r.name) (row_at (changed m cs) r.name)
+                (ap is_some (is ∙ e)) f
+
+        over : (xs : List Name) → NoneIsNew (fold with_told m new)
+            (filter (λ r. not (is_new m r)) (map (row_in (changed m cs)) xs))
+        over [] = All-nil (λ (r : RowAfter A). is_new (fold with_told m new) r ≡ false)
+        over (x ∷ xs) = by (is_new m (row_in (changed m cs) x)) refl (over xs)
+          where
+            by : (b : Bool) → is_new m (row_in (changed m cs) x) ≡ b
+                → NoneIsNew (fold with_told m new) (filter (λ r. not (is_new m r)) (map (row_in (changed m cs)) xs))
+                → NoneIsNew (fold with_told m new)
+                (cond (not b) (row_in (changed m cs) x ∷ filter (λ r. not (is_new m r))
+                (map (row_in (changed m cs)) xs)) (filter (λ r. not (is_new m r)) (map (row_in (changed m cs)) xs)))
+            by true e i = i
+            by false e i =
+                All-cons (λ (r : RowAfter A). is_new (fold with_told m new) r ≡ false) (row_in (changed m cs) x)
+                (filter (λ r. not (is_new m r)) (map (row_in (changed m cs)) xs))
+                (still (row_in (changed m cs) x) refl e) i
+
+  pub are_new : (m : Rows A) (rs : List (RowAfter A)) → AreNew m (filter (is_new m) rs)
+  are_new m [] = All-nil (λ (r : RowAfter A). is_new m r ≡ true)
+  are_new m (r ∷ rs) = by (is_new m r) refl (are_new m rs)
     where
-      by : (o u : Option (Element A)) → c.after ≡ u → Between m n (cond (is_some o) (rewritten now c.name u) now) (λ y. (is_some o && is_same y c.name) || p y)
-      by None u f = b
-      by (Some w) None f = one_out m n now p c.name (h.target ∙ f) b
-      by (Some w) (Some v) f = one_put m n now p c.name v (h.target ∙ f) b
+      by : (b : Bool) → is_new m r ≡ b → AreNew m (filter (is_new m) rs)
+          → AreNew m (cond b (r ∷ filter (is_new m) rs) (filter (is_new m) rs))
+      by true e i = All-cons (λ (r : RowAfter A). is_new m r ≡ true) r (filter (is_new m) rs) e i
+      by false e i = i
 
-  back_step : (m n now : Rows A) (p : Name → Bool) (c : Change A) → Leads m n c → Between m n now p → Between m n (without_new now c) (λ y. not (is_new c && is_same y c.name) && p y)
-  back_step m n now p c h b = by c.before c.after refl
+  -- a row whose turn it is is no newer than it was, since those before it have other names
+  pub none_newer : (rs : List (RowAfter A)) (now : Rows A) (done : List (RowAfter A)) (r : RowAfter A)
+      (rest : List (RowAfter A)) → rs ≡ done ++ r ∷ rest
+      → T (are_rising (names_told rs)) → is_new (fold with_told now done) r ≡ is_new now r
+  none_newer rs now done r rest is rising =
+      ap (λ o. is_none o && is_some r.element) (row_at-untold done now r.name
+      (earlier (names_told done) r.name (names_told rest)
+      (subst (λ names. T (are_rising names)) (ap names_told is ∙ cut done) rising)))
     where
-      by : (o u : Option (Element A)) → c.before ≡ o → Between m n (cond (is_none o && is_some u) (without_row now c.name) now) (λ y. not ((is_none o && is_some u) && is_same y c.name) && p y)
-      by None None e = b
-      by None (Some v) e = one_back m n now p c.name (h.from ∙ e) b
-      by (Some w) u e = b
+      cut : (xs : List (RowAfter A)) → names_told (xs ++ r ∷ rest) ≡ names_told xs ++ r.name ∷ names_told rest
+      cut [] = refl
+      cut (x ∷ xs) = ap (λ names. x.name ∷ names) (cut xs)
 
-  -- the names of the changes that pass
-  abbrev named_by : (Change A → Bool) → List (Change A) → Name → Bool
-  named_by q cs y = is_among (changed_names (filter q cs)) y
-
-  first_named : (q : Change A → Bool) (c : Change A) (cs : List (Change A)) (y : Name) → named_by q (c ∷ cs) y ≡ ((q c && is_same y c.name) || named_by q cs y)
-  first_named q c cs y = by (q c)
+  -- so where none was new, it is not
+  pub none_is_new_then : (rs : List (RowAfter A)) (now : Rows A) (done : List (RowAfter A)) (r : RowAfter A)
+      (rest : List (RowAfter A)) → rs ≡ done ++ r ∷ rest
+      → T (are_rising (names_told rs)) → NoneIsNew now rs → is_new (fold with_told now done) r ≡ false
+  none_is_new_then rs now done r rest is rising none = none_newer rs now done r rest is rising
+      ∙ among done (subst (NoneIsNew now) is none)
     where
-      by : (b : Bool) → is_among (changed_names (cond b (c ∷ filter q cs) (filter q cs))) y ≡ ((b && is_same y c.name) || named_by q cs y)
-      by true = refl
-      by false = refl
+      among : (xs : List (RowAfter A)) → NoneIsNew now (xs ++ r ∷ rest) → is_new now r ≡ false
+      among [] h = h 0 r (omega arith)
+      among (x ∷ xs) h = among xs (All-tail (λ (s : RowAfter A). is_new now s ≡ false) x (xs ++ r ∷ rest) h)
 
-  news : (m n : Rows A) (cs : List (Change A)) (now : Rows A) (p : Name → Bool) → AllLead m n cs → Between m n now p → Between m n (fold with_new now cs) (λ y. named_by is_new cs y || p y)
-  news m n [] now p h b = b
-  news m n (c ∷ cs) now p h b =
-      told_otherwise m n (fold with_new (with_new now c) cs) _ _ (λ y. or_assoc (named_by is_new cs y) (is_new c && is_same y c.name) (p y) ∙ ap (λ a. a || p y) (sym (first_named is_new c cs y)))
-      (news m n cs (with_new now c) (λ y. (is_new c && is_same y c.name) || p y) h.1 (new_step m n now p c h.0 b))
+  -- ---- what was put is taken out again
 
-  abbrev is_old : Change A → Bool
-  is_old c = is_some c.before
-
-  olds : (m n : Rows A) (cs : List (Change A)) (now : Rows A) (p : Name → Bool) → AllLead m n cs → Between m n now p → Between m n (fold replaced now cs) (λ y. named_by is_old cs y || p y)
-  olds m n [] now p h b = b
-  olds m n (c ∷ cs) now p h b =
-      told_otherwise m n (fold replaced (replaced now c) cs) _ _ (λ y. or_assoc (named_by is_old cs y) (is_old c && is_same y c.name) (p y) ∙ ap (λ a. a || p y) (sym (first_named is_old c cs y)))
-      (olds m n cs (replaced now c) (λ y. (is_old c && is_same y c.name) || p y) h.1 (old_step m n now p c h.0 b))
-
-  backs : (m n : Rows A) (cs : List (Change A)) (now : Rows A) (p : Name → Bool) → AllLead m n cs → Between m n now p → Between m n (fold without_new now cs) (λ y. not (named_by is_new cs y) && p y)
-  backs m n [] now p h b = b
-  backs m n (c ∷ cs) now p h b =
-      told_otherwise m n (fold without_new (without_new now c) cs) _ _ (λ y. not_both (named_by is_new cs y) (is_new c && is_same y c.name) (p y) ∙ ap (λ a. not a && p y) (sym (first_named is_new c cs y)))
-      (backs m n cs (without_new now c) (λ y. not (is_new c && is_same y c.name) && p y) h.1 (back_step m n now p c h.0 b))
-
-  -- a name that no change puts, replaces or takes out has the same row in both
-  others : (m n : Rows A) (cs : List (Change A)) → AllLead m n cs → (y : Name) → (is_among (changed_names cs) y ≡ false → row_at m y ≡ row_at n y)
-      → named_by is_new cs y ≡ false → named_by is_old cs y ≡ false → row_at m y ≡ row_at n y
-  others m n [] h y rest new old = rest refl
-  others m n (c ∷ cs) h y rest new old = by (is_same y c.name) refl (λ r i j. others m n cs h.1 y r i j)
+  row_at-out : (xs : List Name) (now : Rows A) (y : Name)
+      → row_at (fold (λ n x. rows_but x n) now xs) y ≡ cond (is_among xs y) None (row_at now y)
+  row_at-out [] now y = refl
+  row_at-out (x ∷ xs) now y = row_at-out xs (rows_but x now) y
+      ∙ ap (cond (is_among xs y) None) (row_at-rows_but now x y) ∙ by (is_among xs y) (is_same y x)
     where
-      news_of : ((is_new c && is_same y c.name) ≡ false) × (named_by is_new cs y ≡ false)
-      news_of = or_false (is_new c && is_same y c.name) (named_by is_new cs y) (sym (first_named is_new c cs y) ∙ new)
+      by : (a s : Bool) → cond a None (cond s None (row_at now y)) ≡ cond (s || a) None (row_at now y)
+      by true true = refl
+      by true false = refl
+      by false true = refl
+      by false false = refl
 
-      olds_of : ((is_old c && is_same y c.name) ≡ false) × (named_by is_old cs y ≡ false)
-      olds_of = or_false (is_old c && is_same y c.name) (named_by is_old cs y) (sym (first_named is_old c cs y) ∙ old)
+  AreInOrder-out : (xs : List Name) (now : Rows A) → AreInOrder now → AreInOrder (fold (λ n x. rows_but x n) now xs)
+  AreInOrder-out [] now h = h
+  AreInOrder-out (x ∷ xs) now h = AreInOrder-out xs (rows_but x now) (AreInOrder-rows_but now x h)
 
-      neither : (o u : Option (Element A)) → c.before ≡ o → c.after ≡ u → ((is_none o && is_some u) && true) ≡ false → (is_some o && true) ≡ false → row_at m c.name ≡ row_at n c.name
-      neither None None e f i j = h.0.from ∙ e ∙ sym f ∙ sym h.0.target
-      neither None (Some v) e f i j = absurd (cc)
-      neither (Some w) u e f i j = absurd (cc)
-
-      by : (s : Bool) → is_same y c.name ≡ s → ((is_among (changed_names cs) y ≡ false → row_at m y ≡ row_at n y) → named_by is_new cs y ≡ false → named_by is_old cs y ≡ false → row_at m y ≡ row_at n y) → row_at m y ≡ row_at n y
-      by true e go =
-          let same = same_names y c.name e in
-          ap (row_at m) same ∙ neither c.before c.after refl refl (ap (λ s. is_new c && s) (sym e) ∙ news_of.0) (ap (λ s. is_old c && s) (sym e) ∙ olds_of.0) ∙ ap (row_at n) (sym same)
-      by false e go = go (λ i. rest (ap (λ s. s || is_among (changed_names cs) y) e ∙ i)) news_of.1 olds_of.1
-
-  -- from what the map has, by changes whose names rise
-  all_lead : (m : Rows A) (done cs : List (Change A)) → T (are_rising (changed_names (done ++ cs))) → AreFrom m cs → AllLead m (changed m (done ++ cs)) cs
-  all_lead m done [] h from = tt
-  all_lead m done (c ∷ cs) h from = (
-    record { from = sym (from 0 c (omega arith)); target = reached done cs c m h },
-    subst (λ xs. AllLead m (changed m xs) cs) (shift done)
-        (all_lead m (done ++ c ∷ []) cs (subst (λ xs. T (are_rising (changed_names xs))) (sym (shift done)) h) (λ k d l. from (suc k) d (omega (arith, l)))),
-  )
+  absent : (m : Rows A) (rs : List (RowAfter A)) → AreNew m rs → (y : Name) → is_among (names_told rs) y ≡ true
+      → row_at m y ≡ None
+  absent m [] fresh y e = absurd (cc)
+  absent m (r ∷ rs) fresh y e = by (is_same y r.name) refl e
+      (absent m rs (All-tail (λ (r : RowAfter A). is_new m r ≡ true) r rs fresh) y)
     where
-      shift : (xs : List (Change A)) → (xs ++ c ∷ []) ++ cs ≡ xs ++ c ∷ cs
-      shift [] = refl
-      shift (x ∷ xs) = ap (λ ys. x ∷ ys) (shift xs)
+      none : (o p : Option (Element A)) → (is_none o && is_some p) ≡ true → o ≡ None
+      none None p f = refl
+      none (Some v) p f = absurd (cc)
 
-  pub leads_to_changed : (m : Rows A) (cs : List (Change A)) → AreInOrder m → T (are_rising (changed_names cs)) → AreFrom m cs → fold replaced (fold with_new m cs) cs ≡ changed m cs
-  leads_to_changed m cs order rising from =
-      let lead = all_lead m [] cs rising from in
-      let n = changed m cs in
-      at_end m n (fold replaced (fold with_new m cs) cs) _ (AreInOrder-changed cs m order)
-      (olds m n cs (fold with_new m cs) _ lead (news m n cs m (λ y. false) lead (at_start m n order)))
-      (λ y e.
-      let parts = or_false (named_by is_old cs y) (named_by is_new cs y || false) e in
-      others m n cs lead y (λ i. sym (kept cs m y i)) (or_false (named_by is_new cs y) false parts.1).0 parts.0)
+      by : (s : Bool) → is_same y r.name ≡ s → (s || is_among (names_told rs) y) ≡ true
+          → (is_among (names_told rs) y ≡ true → row_at m y ≡ None) → row_at m y ≡ None
+      by true f g later = ap (row_at m) (same_names y r.name f)
+          ∙ none (row_at m r.name) r.element (fresh 0 r (omega arith))
+      by false f g later = later g
 
-  -- what was put is taken out again
-  pub taken_out_again : (m : Rows A) (cs : List (Change A)) (i : ℕ) → AreInOrder m → T (are_rising (changed_names cs)) → AreFrom m cs → fold without_new (fold with_new m (take i cs)) (take i cs) ≡ m
-  taken_out_again m cs i order rising from =
-      let n = changed m cs in
-      let done = take i cs in
-      let lead = all_lead-take m n i cs (all_lead m [] cs rising from) in
-      back_at_start m n (fold without_new (fold with_new m done) done) _ order
-      (backs m n done (fold with_new m done) _ lead (news m n done m (λ y. false) lead (at_start m n order)))
-      (λ y. none_and (named_by is_new done y) (named_by is_new done y || false) (or_nothing (named_by is_new done y)))
+  AreNew-take : (m : Rows A) (i : ℕ) (rs : List (RowAfter A)) → AreNew m rs → AreNew m (take i rs)
+  AreNew-take m i rs = All-take (λ (r : RowAfter A). is_new m r ≡ true) i rs
+
+  pub taken_out_again : (m : Rows A) (rs : List (RowAfter A)) (i : ℕ) → AreInOrder m → AreNew m rs
+      → fold (λ n x. rows_but x n) (fold with_told m (take i rs)) (names_told (take i rs)) ≡ m
+  taken_out_again m rs i order fresh =
+      same_rows (fold (λ n x. rows_but x n) (fold with_told m (take i rs)) (names_told (take i rs))) m
+      (AreInOrder-out (names_told (take i rs)) (fold with_told m (take i rs))
+      (AreInOrder-told (take i rs) m order)) order
+      (λ y. row_at-out (names_told (take i rs)) (fold with_told m (take i rs)) y
+      ∙ by y (is_among (names_told (take i rs)) y) refl)
     where
-      or_nothing : (a : Bool) → (a || false) ≡ a
-      or_nothing true = refl
-      or_nothing false = refl
-
-  -- what is there stays there while rows are put
-  still_there : (cs : List (Change A)) (now : Rows A) (y : Name) → is_some (row_at now y) ≡ true → is_some (row_at (fold with_new now cs) y) ≡ true
-  still_there [] now y h = h
-  still_there (c ∷ cs) now y h = still_there cs (with_new now c) y (by c.before c.after)
-    where
-      by : (o u : Option (Element A)) → is_some (row_at (cond (is_none o && is_some u) (rewritten now c.name u) now) y) ≡ true
-      by None None = h
-      by None (Some v) = ap is_some (row_at-put_row now c.name v y) ∙ either (is_same y c.name)
-        where
-          either : (s : Bool) → is_some (cond s (Some v) (row_at now y)) ≡ true
-          either true = refl
-          either false = h
-      by (Some w) u = h
-
-  pub are_there : (m : Rows A) (cs : List (Change A)) → AreFrom m cs → AreThere (fold with_new m cs) cs
-  are_there m cs from k d l old = still_there cs m (get_or cs k d).name (ap is_some (sym (from k d l)) ∙ old)
-
-  -- a name that was not yet changed keeps its row
-  waiting : (done : List (Change A)) (now : Rows A) (y : Name) → AreInOrder now → is_among (changed_names done) y ≡ false → row_at (fold replaced now done) y ≡ row_at now y
-  waiting [] now y h i = refl
-  waiting (c ∷ done) now y h i = let parts = or_false (is_same y c.name) (is_among (changed_names done) y) i in
-      waiting done (replaced now c) y (ordered c.before c.after) parts.1 ∙ by c.before c.after parts.0
-    where
-      ordered : (o u : Option (Element A)) → AreInOrder (cond (is_some o) (rewritten now c.name u) now)
-      ordered None u = h
-      ordered (Some w) None = AreInOrder-without_row now c.name h
-      ordered (Some w) (Some v) = AreInOrder-put_row now c.name v h
-
-      by : (o u : Option (Element A)) → is_same y c.name ≡ false → row_at (cond (is_some o) (rewritten now c.name u) now) y ≡ row_at now y
-      by None u e = refl
-      by (Some w) None e = after_out now c.name y h ∙ ap (λ s. cond s None (row_at now y)) e
-      by (Some w) (Some v) e = row_at-put_row now c.name v y ∙ ap (λ s. cond s (Some v) (row_at now y)) e
-
-  names-append : (xs ys : List (Change A)) → changed_names (xs ++ ys) ≡ changed_names xs ++ changed_names ys
-  names-append [] ys = refl
-  names-append (x ∷ xs) ys = ap (λ zs. x.name ∷ zs) (names-append xs ys)
-
-  -- the change whose turn it is finds what it replaces
-  pub there_at : (cs : List (Change A)) (now : Rows A) (i : ℕ) (d : Change A) → i < length cs → AreInOrder now → T (are_rising (changed_names cs)) → AreThere now cs
-      → is_some (get_or cs i d).before ≡ true → is_some (row_at (fold replaced now (take i cs)) (get_or cs i d).name) ≡ true
-  there_at cs now i d l order rising there old =
-      let c = get_or cs i d in
-      ap is_some (waiting (take i cs) now c.name order (earlier (changed_names (take i cs)) c.name (changed_names (drop (i + 1) cs))
-      (subst (λ names. T (are_rising names)) (ap changed_names (sym (cut_at cs i d l)) ∙ names-append (take i cs) (c ∷ drop (i + 1) cs)) rising)))
-      ∙ there i d l old
-
-  pub order-with_new : (cs : List (Change A)) (now : Rows A) → AreInOrder now → AreInOrder (fold with_new now cs)
-  order-with_new [] now h = h
-  order-with_new (c ∷ cs) now h = order-with_new cs (with_new now c) (by c.before c.after)
-    where
-      by : (o u : Option (Element A)) → AreInOrder (cond (is_none o && is_some u) (rewritten now c.name u) now)
-      by None None = h
-      by None (Some v) = AreInOrder-put_row now c.name v h
-      by (Some w) u = h
+      by : (y : Name) (b : Bool) → is_among (names_told (take i rs)) y ≡ b
+          → cond b None (row_at (fold with_told m (take i rs)) y) ≡ row_at m y
+      by y true e = sym (absent m (take i rs) (AreNew-take m i rs fresh) y e)
+      by y false e = row_at-untold (take i rs) m y e

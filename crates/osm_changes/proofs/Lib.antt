@@ -1,7 +1,10 @@
+pub mod Applied
 pub mod Applying
-pub mod Between
-pub mod Found
+pub mod ExampleProofs
 pub mod NotesTaken
+pub mod Pushing
 pub mod Restoring
 pub mod RowsNoted
+pub mod RowsTold
+pub mod Told
 pub mod Turning

@@ -1,8 +1,9 @@
 -- Changes taken back one after the other.
-use Rattle.std.proofs.Common.{◌≡◌, ◌≢◌, ◌<◌, ◌≤◌, ◌+◌, ℕ, suc, zero, T, List, [], ◌∷◌, ◌++◌, length, take, drop, get_or, set, All, refl, sym, ap, ◌∙◌, arith, subst}
+use Rattle.std.proofs.Common.{◌≡◌, ◌≢◌, ◌<◌, ◌≤◌, ◌+◌, ℕ, suc, zero, List, [], ◌∷◌, ◌++◌, length, take, drop, get_or, set, All, refl, sym, ap, ◌∙◌, arith, subst}
 use Rattle.std.proofs.lemmas.List.Elements.{All-map}
 use Rattle.osm_changes.specs.declared.change.Change.{Change}
-use Rattle.osm_changes.specs.Changes.{taken_back, inverse, are_rising, changed_names, AreChanges}
+use Rattle.osm_changes.specs.Cells.{IsRising}
+use Rattle.osm_changes.specs.Changes.{cell_of, changed_cells, taken_back, inverse, AreChanges}
 
 module _ {A : Type 0} where
   prefix : (i : ℕ) (cs : List (Change A)) (d : Change A) → i < length cs
@@ -24,12 +25,12 @@ module _ {A : Type 0} where
   pub turned_all : (cs items : List (Change A)) (i : ℕ) → length cs ≤ i → items ≡ inverse (take i cs) ++ drop i cs → items ≡ inverse cs
   turned_all cs items i h is = is ∙ all_of i cs h
 
-  same_names : (cs : List (Change A)) → changed_names (inverse cs) ≡ changed_names cs
-  same_names [] = refl
-  same_names (c ∷ cs) = ap (λ rest. c.name ∷ rest) (same_names cs)
+  same_cells : (cs : List (Change A)) → changed_cells (inverse cs) ≡ changed_cells cs
+  same_cells [] = refl
+  same_cells (c ∷ cs) = ap (λ rest. cell_of c ∷ rest) (same_cells cs)
 
   differ_back : (cs : List (Change A)) → All (λ (c : Change A). c.after ≢ c.before) cs → All (λ (c : Change A). c.after ≢ c.before) (inverse cs)
   differ_back cs h = All-map (λ (c : Change A). c.after ≢ c.before) taken_back cs (λ k d l e. h k d l (sym e))
 
   pub AreChanges-inverse : (cs : List (Change A)) → AreChanges cs → AreChanges (inverse cs)
-  AreChanges-inverse cs h = record { rising = subst (λ names. T (are_rising names)) (sym (same_names cs)) h.rising; differ = differ_back cs h.differ }
+  AreChanges-inverse cs h = record { rising = subst IsRising (sym (same_cells cs)) h.rising; differ = differ_back cs h.differ }

@@ -1,5 +1,5 @@
--- What makes one map of another: the names at which they differ, rising, each with both rows. (Changes as lists of rows before and after are this project's.)
-use Rattle.std.specs.Prelude.{◌≡◌, ◌≢◌, ◌++◌, Bool, not, T, List, [], ◌∷◌, Option, Some, None, All, map}
+-- What makes one map of another: the cells at which they differ, rising, each with both halves. (Changes are this project's.)
+use Rattle.std.specs.Prelude.{◌≡◌, ◌≢◌, ◌++◌, Bool, not, List, [], ◌∷◌, Option, Some, None, All, map, if◌then◌else◌}
 use Rattle.std.specs.List.{filter, flat_map, fold}
 use Rattle.osm_elements.specs.declared.name.Name.{Name}
 use Rattle.osm_elements.specs.declared.element.Element.{Element}
@@ -7,53 +7,98 @@ use Rattle.osm_elements.specs.NameOrder.{name_cmp}
 use Rattle.osm_elements.specs.Rows.{row_at, put_row}
 use Rattle.osm_elements.specs.Maps.{Rows, name_set, names_of, rows_but}
 use Rattle.rising_lists.specs.Rising.{is_rising}
-use Rattle.osm_changes.specs.SameRows.{is_same_row}
+use Rattle.osm_changes.specs.declared.cell.Cell.{Cell}
 use Rattle.osm_changes.specs.declared.change.Change.{Change}
+use Rattle.osm_changes.specs.declared.half.Half.{Half}
+use Rattle.osm_changes.specs.declared.part.Part.{Part}
+use Rattle.osm_changes.specs.declared.part.Part.TheVariants.{Tags, Rest}
+use Rattle.osm_changes.specs.declared.row_after.RowAfter.{RowAfter}
+use Rattle.osm_changes.specs.Cells.{tags_at, rest_at, cells_of, is_same_cell, IsRising, half_at}
+use Rattle.osm_changes.specs.Halves.{half, row_of, are_same_halves}
 
 -- each name comes after the one before it
 abbrev pub are_rising : List Name → Bool
 are_rising names = is_rising name_cmp names
 
 module _ {A : Type 0} where
-  -- the names at which two maps differ, rising
-  abbrev pub differing : Rows A → Rows A → List Name
-  differing m n = filter (λ x. not (is_same_row (row_at m x) (row_at n x))) (name_set (names_of m ++ names_of n))
+  -- the cells at which two maps differ, rising
+  abbrev pub differing : Rows A → Rows A → List Cell
+  differing m n = filter (λ c. not (are_same_halves (half_at m c) (half_at n c)))
+      (cells_of (name_set (names_of m ++ names_of n)))
 
-  -- the changes of a name from one row to another
+  -- the change of a cell from one map to another
+  abbrev pub change_at : Rows A → Rows A → Cell → Change A
+  change_at m n c = record { name = c.name; part = c.part; before = half_at m c; after = half_at n c }
+
+  abbrev pub differences : Rows A → Rows A → List (Change A)
+  differences m n = map (change_at m n) (differing m n)
+
+  -- what becomes of one half of a name's row, when the row becomes another
+  abbrev pub half_change : Name → Option (Element A) → Option (Element A) → Part → Change A
+  half_change x before after p = record { name = x; part = p; before = half p before; after = half p after }
+
+  -- the halves of a change are not the same
+  abbrev pub differs : Change A → Bool
+  differs c = not (are_same_halves c.before c.after)
+
+  -- the changes of a name from one row to another: of those halves that are not the same
   abbrev pub row_changes : Name → Option (Element A) → Option (Element A) → List (Change A)
-  row_changes x before after = record { name = x; before = before; after = after } ∷ []
+  row_changes x before after = filter differs (half_change x before after Tags ∷ half_change x before after Rest ∷ [])
 
   -- the changes of some names, each from its row in the map to its row after
   abbrev pub rows_changes : Rows A → (Name → Option (Element A)) → List Name → List (Change A)
   rows_changes m after names = flat_map (λ x. row_changes x (row_at m x) (after x)) names
 
-  abbrev pub differences : Rows A → Rows A → List (Change A)
-  differences m n = rows_changes m (row_at n) (differing m n)
+  abbrev pub cell_of : Change A → Cell
+  cell_of c = record { name = c.name; part = c.part }
+
+  abbrev pub changed_cells : List (Change A) → List Cell
+  changed_cells cs = map cell_of cs
+
+  -- the names of which changes tell, rising, each once
+  abbrev pub changed_names : List (Change A) → List Name
+  changed_names cs = name_set (map (λ (c : Change A). c.name) cs)
 
   -- a change taken back
   abbrev pub taken_back : Change A → Change A
-  taken_back c = record { name = c.name; before = c.after; after = c.before }
+  taken_back c = record { name = c.name; part = c.part; before = c.after; after = c.before }
 
   abbrev pub inverse : List (Change A) → List (Change A)
   inverse cs = map taken_back cs
+
+  -- what changes make of the half of a cell: what the cell's change tells, and the half itself where none is the cell's
+  abbrev pub half_after : List (Change A) → Cell → Option (Half A) → Option (Half A)
+  half_after [] c h = h
+  half_after (d ∷ ds) c h = if is_same_cell c (cell_of d) then d.after else half_after ds c h
+
+  -- and of a name's row
+  abbrev pub row_after : List (Change A) → Name → Option (Element A) → Option (Element A)
+  row_after cs x o = row_of (half_after cs (tags_at x) (half Tags o)) (half_after cs (rest_at x) (half Rest o))
 
   -- the map with this row, or without it
   abbrev pub with_row : Rows A → Name → Option (Element A) → Rows A
   with_row m x None = rows_but x m
   with_row m x (Some v) = put_row m x v
 
-  -- the map with each row as it is after its change
+  -- the map with each half as it is after its change
   abbrev pub changed : Rows A → List (Change A) → Rows A
-  changed m cs = fold (λ n (c : Change A). with_row n c.name c.after) m cs
+  changed m cs = fold (λ n x. with_row n x (row_after cs x (row_at m x))) m (changed_names cs)
 
-  abbrev pub changed_names : List (Change A) → List Name
-  changed_names cs = map (λ (c : Change A). c.name) cs
+  -- a name with its row in a map, none where it has none
+  abbrev pub row_in : Rows A → Name → RowAfter A
+  row_in m x = record { name = x; element = row_at m x }
 
-  -- names rise, and each has another row after than before
+  -- the changed names, each with its row in the map after the changes
+  abbrev pub rows_after : Rows A → List (Change A) → List (RowAfter A)
+  rows_after m cs = map (row_in (changed m cs)) (changed_names cs)
+
+  -- cells rise, and each has another half after than before
   pub record AreChanges (cs : List (Change A)) : Type 0 where
-    pub rising : T (are_rising (changed_names cs))
+    pub rising : IsRising (changed_cells cs)
     pub differ : All (λ (c : Change A). c.after ≢ c.before) cs
 
-  -- each change is from what the map has
-  abbrev pub AreFrom : Rows A → List (Change A) → Type 0
-  AreFrom m cs = All (λ (c : Change A). c.before ≡ row_at m c.name) cs
+  -- each change is from what the map has, and each name has both parts or none afterwards: the row of the two halves after
+  -- has just these halves
+  pub record AreFrom (m : Rows A) (cs : List (Change A)) : Type 0 where
+    pub before : All (λ (c : Change A). c.before ≡ half_at m (cell_of c)) cs
+    pub whole : (c : Cell) → half c.part (row_after cs c.name (row_at m c.name)) ≡ half_after cs c (half_at m c)

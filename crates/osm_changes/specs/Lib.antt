@@ -1,5 +1,8 @@
+pub mod Cells
 pub mod Changes
+pub mod Examples
 pub mod Facts
+pub mod Halves
 pub mod Inner
 pub mod SameRows
 pub mod Sound

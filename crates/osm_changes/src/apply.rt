@@ -1,131 +1,113 @@
-//! Changes applied to a map: first the rows of names that were absent, which take memory and can be taken out
-//! again, and then all others, which take none.
-ghost use Rattle.std.specs.Prelude.{◌≡◌, T, true, is_some, map, IfOk, OnOk, OnErr};
-ghost use Rattle.std.specs.List.{fold};
-ghost use Rattle.osm_elements.specs.Rows.{row_at, AreInOrder};
-ghost use Rattle.osm_changes.specs.Changes.{changed_names, are_rising, AreFrom};
-ghost use Rattle.osm_changes.specs.Inner.Applying.{AreThere, replacement, with_new, without_new, replaced};
+//! Rows put into a map: first those of names that were absent, which take memory and can be taken out again, and then
+//! all others, which take none.
+ghost use Rattle.std.specs.Prelude.{◌≡◌, true, not, T, map, IfOk, OnOk, OnErr};
+ghost use Rattle.std.specs.List.{fold, filter};
+ghost use Rattle.osm_elements.specs.Maps.{rows_but};
+ghost use Rattle.osm_elements.specs.Rows.{AreInOrder};
+ghost use Rattle.osm_changes.specs.declared.row_after.RowAfter.{RowAfter as Row};
+ghost use Rattle.osm_changes.specs.Changes.{are_rising, with_row};
+ghost use Rattle.osm_changes.specs.Inner.Applying.{is_new, with_told, AreNew, NoneIsNew};
 
-use crate::change::Change;
+use crate::row_after::RowAfter;
 use osm_elements::Memory;
 use osm_elements::element::Element;
 use osm_elements::map::OsmMap;
+use osm_elements::name::Name;
 use std::alloc::Allocator;
 
-/// The elements that take the place of others, copied: one for each change, and none where it puts a row or takes it
-/// out. The one refusal is want of memory.
-pub fn replacements<A: Allocator + Clone>(
+/// Some rows in two lists, each in order: those whose names a map has not and that are there, and all others. The one
+/// refusal is want of memory.
+pub fn part_new<A: Allocator + Clone>(
     alloc: A,
-    changes: &[Change<A>],
-) -> Result<Vec<Option<Element<A>>, A>, Memory>
-    ensures { IfOk result (λ copies. copies.items ≡ map replacement changes.now) }
+    rows: &OsmMap<A>,
+    told: Vec<RowAfter<A>, A>,
+) -> Result<(Vec<RowAfter<A>, A>, Vec<RowAfter<A>, A>), Memory>
+    ensures { IfOk result (λ parts. (parts.0.items ≡ filter (is_new rows.now) told.items)
+        × (parts.1.items ≡ filter (λ r. not (is_new rows.now r)) told.items)) }
 {
-    let mut copies = Vec::new(alloc);
-    for change in changes {
-        copies.push(replacement(change)?)?;
+    let mut new = Vec::new(alloc.clone()?);
+    let mut others = Vec::new(alloc);
+    for row in told {
+        if is_new(rows, &row) {
+            new.push(row)?;
+        } else {
+            others.push(row)?;
+        }
     }
-    Ok(copies)
+    Ok((new, others))
 }
 
-// A copy of the element that takes the place of another.
-fn replacement<A: Allocator + Clone>(change: &Change<A>) -> Result<Option<Element<A>>, Memory>
-    ensures { IfOk result (λ copy. copy ≡ replacement change.now) }
+// Whether a row comes under a name that the map has not.
+fn is_new<A: Allocator>(rows: &OsmMap<A>, row: &RowAfter<A>) -> bool
+    ensures { result ≡ is_new rows.now row.now }
 {
-    match (&change.before, &change.after) {
-        (Some(_), Some(after)) => Ok(Some(after.copy()?)),
-        _ => Ok(None),
-    }
+    rows.get(&row.name).is_none() && row.element.is_some()
 }
 
-/// Puts the rows of the names that were absent, each with a copy of its element. After a refusal, which is want of
-/// memory, the map is as it was.
+/// Puts rows under names that are absent. After a refusal, which is want of memory, the map is as it was.
 pub fn put_new<A: Allocator + Clone>(
     rows: &mut OsmMap<A>,
-    changes: &[Change<A>],
+    mut new: Vec<RowAfter<A>, A>,
 ) -> Result<(), Memory>
     requires order { AreInOrder rows.old }
-    requires rising { T (are_rising (changed_names changes.now)) }
-    requires from { AreFrom rows.old changes.now }
-    ensures ok { OnOk result (rows.new ≡ fold with_new rows.old changes.now) }
+    requires new { AreNew rows.old new.items }
+    ensures ok { OnOk result (rows.new ≡ fold with_told rows.old new.items) }
     ensures err { OnErr result (rows.new ≡ rows.old) }
 {
-    for (place, change) in changes.iter().enumerate() {
-        if let Err(memory) = put_if_new(rows, change) {
-            take_new_out(rows, &changes[..place]);
+    for place in 0..new.len() {
+        let name = new[place].name;
+        let element = new[place].element.take();
+        if let Err(memory) = put(rows, name, element) {
+            take_out(rows, &new[..place]);
             return Err(memory);
         }
     }
     Ok(())
 }
 
-// Puts the row of a name that was absent.
-fn put_if_new<A: Allocator + Clone>(rows: &mut OsmMap<A>, change: &Change<A>) -> Result<(), Memory>
-    ensures ok { OnOk result (rows.new ≡ with_new rows.old change.now) }
+// Gives a name this row, or takes its row out. The one refusal is want of memory for a row that is new; then the map
+// is as it was.
+#[tactic(auto, using(crate::proofs::Applying::taken_out))]
+fn put<A: Allocator + Clone>(
+    rows: &mut OsmMap<A>,
+    name: Name,
+    element: Option<Element<A>>,
+) -> Result<(), Memory>
+    ensures ok { OnOk result (rows.new ≡ with_row rows.old name element) }
     ensures err { OnErr result (rows.new ≡ rows.old) }
+    ensures new { OnErr result (is_new rows.old (record { name = name; element = element }) ≡ true) }
 {
-    match (&change.before, &change.after) {
-        (None, Some(after)) => match rows.put(change.name, after.copy()?) {
+    match element {
+        Some(element) => match rows.put(name, element) {
             Ok(_) => Ok(()),
             Err((_, memory)) => Err(memory),
         },
-        _ => Ok(()),
-    }
-}
-
-// Takes the rows of names that were absent out again.
-fn take_new_out<A: Allocator>(rows: &mut OsmMap<A>, changes: &[Change<A>])
-    ensures { rows.new ≡ fold without_new rows.old changes.now }
-{
-    for change in changes {
-        take_out_if_new(rows, change);
-    }
-}
-
-fn take_out_if_new<A: Allocator>(rows: &mut OsmMap<A>, change: &Change<A>)
-    ensures { rows.new ≡ without_new rows.old change.now }
-{
-    if change.before.is_none() && change.after.is_some() {
-        let _ = rows.take_out(&change.name);
-    }
-}
-
-/// Replaces the rows of the names that were there by the copies, or takes them out. It takes no memory.
-pub fn replace<A: Allocator + Clone>(
-    rows: &mut OsmMap<A>,
-    changes: &[Change<A>],
-    mut copies: Vec<Option<Element<A>>, A>,
-)
-    requires order { AreInOrder rows.old }
-    requires rising { T (are_rising (changed_names changes.now)) }
-    requires copies { copies.items ≡ map replacement changes.now }
-    requires there { AreThere rows.old changes.now }
-    ensures { rows.new ≡ fold replaced rows.old changes.now }
-{
-    for (place, change) in changes.iter().enumerate() {
-        let copy = copies[place].take();
-        replace_one(rows, change, copy);
-    }
-}
-
-// Replaces the row of a name that was there by the copy, or takes it out.
-fn replace_one<A: Allocator + Clone>(
-    rows: &mut OsmMap<A>,
-    change: &Change<A>,
-    copy: Option<Element<A>>,
-)
-    requires copy { copy ≡ replacement change.now }
-    requires there { is_some change.now.before ≡ true → is_some (row_at rows.old change.now.name) ≡ true }
-    ensures { rows.new ≡ replaced rows.old change.now }
-{
-    match copy {
-        Some(element) => match rows.put(change.name, element) {
-            Ok(_) => {}
-            Err(_) => unreachable!(),
-        },
         None => {
-            if change.before.is_some() {
-                let _ = rows.take_out(&change.name);
-            }
+            let _ = rows.take_out(&name);
+            Ok(())
+        }
+    }
+}
+
+// Takes the rows of some names out.
+fn take_out<A: Allocator>(rows: &mut OsmMap<A>, told: &[RowAfter<A>])
+    ensures { rows.new ≡ fold (λ n x. rows_but x n) rows.old (map (λ (r : Row A). r.name) told.now) }
+{
+    for row in told {
+        let _ = rows.take_out(&row.name);
+    }
+}
+
+/// Gives names, each another, their rows, or takes their rows out, where none is new. It takes no memory.
+pub fn replace<A: Allocator + Clone>(rows: &mut OsmMap<A>, told: Vec<RowAfter<A>, A>)
+    requires rising { T (are_rising (map (λ (r : Row A). r.name) told.items)) }
+    requires there { NoneIsNew rows.old told.items }
+    ensures { rows.new ≡ fold with_told rows.old told.items }
+{
+    for row in told {
+        match put(rows, row.name, row.element) {
+            Ok(()) => {}
+            Err(_) => unreachable!(),
         }
     }
 }

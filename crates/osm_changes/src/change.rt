@@ -1,24 +1,37 @@
-//! What a change does to one name.
+//! What a change does to one cell.
 ghost use Rattle.std.specs.Prelude.{◌≡◌, IfOk};
-ghost use Rattle.osm_changes.specs.Changes.{taken_back};
+ghost use Rattle.osm_changes.specs.Changes.{cell_of, taken_back};
 
+use crate::cell::Cell;
+use crate::half::{Half, copy_of};
+use crate::part::Part;
 use osm_elements::Memory;
-use osm_elements::element::Element;
 use osm_elements::name::Name;
 use std::alloc::{AllocError, Allocator};
 use std::mem::swap;
 
-/// The element of a name before a change and after it; none where no element has the name.
+/// One half of the row of a name before a change and after it; none where no element has the name.
 #[derive(Drop)]
 #[derive_where(Debug)]
 pub struct Change<A: Allocator> {
     pub name: Name,
-    pub before: Option<Element<A>>,
-    pub after: Option<Element<A>>,
+    pub part: Part,
+    pub before: Option<Half<A>>,
+    pub after: Option<Half<A>>,
 }
 
 impl<A: Allocator> Change<A> {
-    // Takes the change back: exchanges the elements before and after.
+    /// The cell that is changed.
+    pub fn cell(&self) -> Cell
+        ensures { result ≡ cell_of self.now }
+    {
+        Cell {
+            name: self.name,
+            part: self.part,
+        }
+    }
+
+    // Takes the change back: exchanges the halves before and after.
     pub(crate) fn take_back(&mut self)
         ensures { self.new ≡ taken_back self.old }
     {
@@ -43,20 +56,9 @@ impl<A: Allocator + Clone> Clone for Change<A> {
         let after = copy_of(&self.after)?;
         Ok(Change {
             name: self.name,
+            part: self.part,
             before,
             after,
         })
-    }
-}
-
-/// An equal element, where there is one. The one refusal is want of memory.
-pub(crate) fn copy_of<A: Allocator + Clone>(
-    element: &Option<Element<A>>,
-) -> Result<Option<Element<A>>, Memory>
-    ensures { IfOk result (λ copy. copy ≡ element.now) }
-{
-    match element {
-        Some(element) => Ok(Some(element.copy()?)),
-        None => Ok(None),
     }
 }

@@ -1,9 +1,11 @@
 //! Laws of changes, each the contract of a function that does nothing.
 ghost use Rattle.std.specs.Prelude.{◌≡◌, List};
 ghost use Rattle.osm_elements.specs.Maps.{Rows};
-ghost use Rattle.osm_elements.specs.Rows.{AreInOrder};
+ghost use Rattle.osm_elements.specs.declared.name.Name.{Name};
+ghost use Rattle.osm_elements.specs.Rows.{AreInOrder, row_at};
 ghost use Rattle.osm_changes.specs.declared.change.Change.{Change};
-ghost use Rattle.osm_changes.specs.Changes.{changed, differences, inverse, AreChanges, AreFrom};
+ghost use Rattle.osm_changes.specs.Changes.{changed, differences, inverse, row_after, AreChanges, AreFrom};
+ghost use Rattle.osm_changes.specs.Examples.{retagged, come_and_gone, moved, both_parts};
 
 use std::alloc::Allocator;
 
@@ -13,14 +15,31 @@ pub fn changes_lead_there_and_back<A: Allocator>()
     ensures back { (m n : Rows A) → AreInOrder m → AreInOrder n → changed n (inverse (differences m n)) ≡ m }
 {}
 
-/// The changes between two maps are changes from the one: their names rise, and each has another row after than before.
+/// The changes between two maps are changes from the one: their cells rise, and each has another half after than
+/// before.
 pub fn differences_are_changes<A: Allocator>()
     ensures changes { (m n : Rows A) → AreChanges (differences m n) }
     ensures from { (m n : Rows A) → AreFrom m (differences m n) }
 {}
 
-/// Changes from a map, applied and then taken back, give the map again: the inverse is from the map after them, and leads back.
+/// Changes from a map, applied and then taken back, give the map again: the inverse is from the map after them, and
+/// leads back.
 pub fn an_inverse_restores<A: Allocator>()
-    ensures from { (m : Rows A) (cs : List (Change A)) → AreInOrder m → AreChanges cs → AreFrom m cs → AreFrom (changed m cs) (inverse cs) }
-    ensures map { (m : Rows A) (cs : List (Change A)) → AreInOrder m → AreChanges cs → AreFrom m cs → changed (changed m cs) (inverse cs) ≡ m }
+    ensures from { (m : Rows A) (cs : List (Change A)) → AreInOrder m → AreChanges cs → AreFrom m cs
+        → AreFrom (changed m cs) (inverse cs) }
+    ensures map { (m : Rows A) (cs : List (Change A)) → AreInOrder m → AreChanges cs → AreFrom m cs
+        → changed (changed m cs) (inverse cs) ≡ m }
+{}
+
+/// What changes make of a name's row is made of its two halves at once, whichever else they change.
+pub fn a_row_is_made_of_its_halves<A: Allocator>()
+    ensures { (m : Rows A) (cs : List (Change A)) (x : Name) → row_at (changed m cs) x ≡ row_after cs x (row_at m x) }
+{}
+
+/// What the definitions say of the worked examples is what was worked out by hand.
+pub fn examples_are_as_worked()
+    ensures retagged { retagged }
+    ensures come_and_gone { come_and_gone }
+    ensures moved { moved }
+    ensures both_parts { both_parts }
 {}

@@ -2,9 +2,15 @@
 #![tactic(auto)]
 
 mod apply;
+pub mod cell;
 pub mod change;
 pub mod changes;
+pub mod half;
+mod halving;
 pub mod laws;
 mod noting;
+pub mod part;
+pub mod row_after;
+mod rows;
 pub mod same;
 pub mod store;

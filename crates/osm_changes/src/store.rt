@@ -1,20 +1,21 @@
 //! The store of a room: a sound map with its users.
-ghost use Rattle.std.specs.Prelude.{◌≡◌, [], T, true, map, IfOk, OnOk, OnErr};
-ghost use Rattle.std.specs.List.{fold};
+ghost use Rattle.std.specs.Prelude.{◌≡◌, [], T, true, not, map, IfOk, OnOk, OnErr};
+ghost use Rattle.std.specs.List.{fold, filter};
 ghost use Rattle.osm_elements.specs.Rows.{AreInOrder};
 ghost use Rattle.osm_refs.specs.Tables.{table_of};
-ghost use Rattle.osm_changes.specs.Changes.{changed, changed_names, are_rising, AreFrom};
+ghost use Rattle.osm_changes.specs.Changes.{changed, are_rising, rows_after, AreFrom};
 ghost use Rattle.osm_changes.specs.Sound.{is_sound};
 ghost use Rattle.osm_changes.specs.Stores.{applied_to, users_of};
-ghost use Rattle.osm_changes.specs.Inner.Applying.{replacement, with_new};
+ghost use Rattle.osm_changes.specs.declared.row_after.RowAfter.{RowAfter as Row};
+ghost use Rattle.osm_changes.specs.Inner.Applying.{is_new, with_told};
 ghost use Rattle.osm_changes.specs.Inner.Stores.{notes_of};
 
-use crate::apply::{put_new, replace, replacements};
-use crate::change::Change;
+use crate::apply::{part_new, put_new, replace};
 use crate::changes::Changes;
 use crate::noting::{note, ready, users_of};
+use crate::row_after::{RowAfter, RowsAfter};
+use crate::rows::rows_after;
 use osm_elements::Memory;
-use osm_elements::element::Element;
 use osm_elements::map::OsmMap;
 use osm_refs::users::Users;
 use std::alloc::{AllocError, Allocator};
@@ -59,8 +60,8 @@ impl<A: Allocator> Store<A> {
         }
     }
 
-    /// A store of a sound map, to which no change was applied. It costs the map's references, times a logarithm, and copies
-    /// no element. The one refusal is want of memory.
+    /// A store of a sound map, to which no change was applied. It costs the map's references, times a logarithm, and
+    /// copies no element. The one refusal is want of memory.
     pub fn from_map(alloc: A, map: OsmMap<A>) -> Result<Store<A>, Memory>
     where
         A: Copy,
@@ -98,10 +99,23 @@ impl<A: Allocator> Store<A> {
         self.applied
     }
 
-    /// Applies changes, each from what the map has, to a map that stays sound: each name has the element that it has
-    /// after its change, and the count is higher by the number of changes. All that asks for memory is done before
-    /// the first change that cannot be taken back, so after a refusal, which is want of memory, the store is as it
-    /// was. It costs the changed elements and the references that come and go, times a logarithm, and never the map.
+    /// The names that some changes tell of, in their order, each with its row in the map after the changes; the store
+    /// stays as it is. The one refusal is want of memory. It costs a copy of these rows, and for each a look-up in the
+    /// map and two in the changes.
+    pub fn rows_after(&self, alloc: A, changes: &Changes<A>) -> Result<RowsAfter<A>, Memory>
+    where
+        A: Clone,
+        ensures { IfOk result (λ rows. rows ≡ rows_after self.now.rows changes.now) }
+    {
+        let rows = rows_after(alloc, &self.map, changes.rows())?;
+        Ok(RowsAfter::from_vec(rows))
+    }
+
+    /// Applies changes, each from what the map has, to a map that stays sound: each cell has the half that it has
+    /// after its change, each name both of its halves or none, and the count is higher by the number of changes. All
+    /// that asks for memory is done before the first change that cannot be taken back, so after a refusal, which is
+    /// want of memory, the store is as it was. It costs the rows of the changed names and the references that come and
+    /// go, times a logarithm, and never the map.
     pub fn apply(&mut self, alloc: A, changes: &Changes<A>) -> Result<(), Memory>
     where
         A: Clone,
@@ -110,10 +124,11 @@ impl<A: Allocator> Store<A> {
         ensures ok { OnOk result (self.new ≡ applied_to self.old changes.now) }
         ensures err { OnErr result (self.new ≡ self.old) }
     {
-        let changes = changes.rows();
-        let copies = make_room(&mut self.map, &mut self.users, alloc, changes)?;
-        replace(&mut self.map, changes, copies);
-        note(&mut self.users, changes);
+        let rows = rows_after(alloc.clone()?, &self.map, changes.rows())?;
+        let count = rows.len();
+        let others = make_room(&mut self.map, &mut self.users, alloc, rows)?;
+        replace(&mut self.map, others);
+        note(&mut self.users, count);
         self.applied = self.applied.saturating_add(changes.len() as u128);
         Ok(())
     }
@@ -144,25 +159,24 @@ impl<A: Allocator + Clone> Clone for Store<A> {
     }
 }
 
-// Does all of some changes that asks for memory: makes room among the users, copies the elements, and puts the rows of
-// the names that were absent. After a refusal map and users are as they were.
+// Does all of some changes that asks for memory: makes room among the users, and puts the rows of the names that were
+// absent. It answers the other rows. After a refusal map and users are as they were.
 fn make_room<A: Allocator + Clone>(
     rows: &mut OsmMap<A>,
     users: &mut Users<A>,
     alloc: A,
-    changes: &[Change<A>],
-) -> Result<Vec<Option<Element<A>>, A>, Memory>
+    told: Vec<RowAfter<A>, A>,
+) -> Result<Vec<RowAfter<A>, A>, Memory>
     requires order { AreInOrder rows.old }
-    requires rising { T (are_rising (changed_names changes.now)) }
-    requires from { AreFrom rows.old changes.now }
+    requires rising { T (are_rising (map (λ (r : Row A). r.name) told.items)) }
     requires users { users.old ≡ users_of rows.old }
-    ensures ok { IfOk result (λ copies. (copies.items ≡ map replacement changes.now)
-        × (rows.new ≡ fold with_new rows.old changes.now)
-        × (users.new ≡ record { references = table_of rows.old; waiting = notes_of changes.now })) }
+    ensures ok { IfOk result (λ others. (others.items ≡ filter (λ r. not (is_new rows.old r)) told.items)
+        × (rows.new ≡ fold with_told rows.old (filter (is_new rows.old) told.items))
+        × (users.new ≡ record { references = table_of rows.old; waiting = notes_of told.items })) }
     ensures err { OnErr result ((rows.new ≡ rows.old) × (users.new ≡ users.old)) }
 {
-    match prepare(rows, users, alloc, changes) {
-        Ok(copies) => Ok(copies),
+    match prepare(rows, users, alloc, told) {
+        Ok(others) => Ok(others),
         Err(memory) => {
             users.forget();
             Err(memory)
@@ -174,19 +188,18 @@ fn prepare<A: Allocator + Clone>(
     rows: &mut OsmMap<A>,
     users: &mut Users<A>,
     alloc: A,
-    changes: &[Change<A>],
-) -> Result<Vec<Option<Element<A>>, A>, Memory>
+    told: Vec<RowAfter<A>, A>,
+) -> Result<Vec<RowAfter<A>, A>, Memory>
     requires order { AreInOrder rows.old }
-    requires rising { T (are_rising (changed_names changes.now)) }
-    requires from { AreFrom rows.old changes.now }
+    requires rising { T (are_rising (map (λ (r : Row A). r.name) told.items)) }
     requires users { users.old ≡ users_of rows.old }
-    ensures ok { IfOk result (λ copies. (copies.items ≡ map replacement changes.now)
-        × (rows.new ≡ fold with_new rows.old changes.now)
-        × (users.new ≡ record { references = table_of rows.old; waiting = notes_of changes.now })) }
+    ensures ok { IfOk result (λ others. (others.items ≡ filter (λ r. not (is_new rows.old r)) told.items)
+        × (rows.new ≡ fold with_told rows.old (filter (is_new rows.old) told.items))
+        × (users.new ≡ record { references = table_of rows.old; waiting = notes_of told.items })) }
     ensures err { OnErr result ((rows.new ≡ rows.old) × (users.new.references ≡ table_of rows.old)) }
 {
-    ready(users, rows, changes)?;
-    let copies = replacements(alloc, changes)?;
-    put_new(rows, changes)?;
-    Ok(copies)
+    ready(users, rows, &told)?;
+    let (new, others) = part_new(alloc, rows, told)?;
+    put_new(rows, new)?;
+    Ok(others)
 }

@@ -1,11 +1,11 @@
 -- Changes that are made in turn, those of one rising name after the other.
-use Rattle.std.proofs.Common.{◌≡◌, ◌≢◌, ◌<◌, ◌+◌, ◌||◌, ℕ, zero, suc, Bool, true, false, T, List, [], ◌∷◌, ◌++◌, Option, length, take, get_or, sym, subst}
+use Rattle.std.proofs.Common.{◌≡◌, ◌<◌, ◌+◌, ℕ, zero, suc, T, List, [], ◌∷◌, ◌++◌, Option, length, take, get_or, sym, subst}
 use Rattle.std.specs.Ordering.{is_lt}
 use Rattle.std.specs.FinMap.Entries.{is_sorted, below_all}
 use Rattle.osm_elements.specs.declared.name.Name.{Name}
 use Rattle.osm_elements.specs.declared.element.Element.{Element}
 use Rattle.osm_elements.specs.NameOrder.{name_cmp}
-use Rattle.osm_elements.specs.Maps.{Rows, is_same, is_among}
+use Rattle.osm_elements.specs.Maps.{Rows}
 use Rattle.osm_elements.specs.Rows.{row_at}
 use Rattle.osm_elements.specs.Facts.Entries.{both, first, second}
 use Rattle.osm_refs.specs.Rising.{IsRising}
@@ -30,19 +30,10 @@ IsRising-take (y ∷ ys) (suc i) h =
     both (below_all name_cmp y (bare_rows (take i ys))) (is_sorted name_cmp (bare_rows (take i ys))) (below-take y ys i (first (below_all name_cmp y (bare_rows ys)) (is_sorted name_cmp (bare_rows ys)) h))
     (IsRising-take ys i (second (below_all name_cmp y (bare_rows ys)) (is_sorted name_cmp (bare_rows ys)) h))
 
-is_among-take : (xs : List Name) (i : ℕ) (y : Name) → is_among (take i xs) y ≡ true → is_among xs y ≡ true
-is_among-take xs zero y h = absurd (cc)
-is_among-take [] (suc i) y h = absurd (cc)
-is_among-take (x ∷ xs) (suc i) y h = by (is_same y x) h (is_among-take xs i y)
-  where
-    by : (b : Bool) → (b || is_among (take i xs) y) ≡ true → (is_among (take i xs) y ≡ true → is_among xs y ≡ true) → (b || is_among xs y) ≡ true
-    by true g rest = g
-    by false g rest = rest g
-
 module _ {A : Type 0} (m : Rows A) (after : Name → Option (Element A)) where
   -- the changes of the next name go behind those before it
-  pub one_fits : (xs : List Name) (i : ℕ) (x : Name) → i < length xs → x ≡ get_or xs i x → IsRising xs → ((y : Name) → is_among xs y ≡ true → after y ≢ row_at m y)
+  pub one_fits : (xs : List Name) (i : ℕ) (x : Name) → i < length xs → x ≡ get_or xs i x → IsRising xs
       → (cs : List (Change A)) (o p : Option (Element A)) → cs ≡ rows_changes m after (take i xs) → o ≡ row_at m x → p ≡ after x → AreChanges (cs ++ row_changes x o p)
-  one_fits xs i x l is rising apart cs o p e f g =
+  one_fits xs i x l is rising cs o p e f g =
       subst (λ ds. AreChanges ds) (sym (more-rows_changes m after xs i x l is cs o p e f g))
-      (AreChanges-rows_changes m after (take (i + 1) xs) (IsRising-take xs (i + 1) rising) (λ y k. apart y (is_among-take xs (i + 1) y k)))
+      (AreChanges-rows_changes m after (take (i + 1) xs) (IsRising-take xs (i + 1) rising))

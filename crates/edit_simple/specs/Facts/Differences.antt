@@ -11,16 +11,15 @@ use Rattle.osm_elements.specs.Facts.Dropped.{same_either_way}
 use Rattle.osm_refs.specs.Facts.RisingNames.{is_among-passing, same_rising, IsRising-filter, IsRising-name_set}
 use Rattle.osm_refs.specs.Rising.{IsRising}
 use Rattle.osm_changes.specs.SameRows.{is_same_row}
-use Rattle.osm_changes.specs.Changes.{differing, row_changes, rows_changes, differences}
-use Rattle.osm_changes.specs.Facts.Differing.{same_row}
-use Rattle.osm_changes.specs.Facts.RowChanges.{same-rows_changes}
-use Rattle.osm_changes.specs.Facts.SameElements.{told_same_row}
+use Rattle.osm_changes.specs.Changes.{row_changes, rows_changes, differences}
+use Rattle.osm_changes.specs.Facts.RowChanges.{differing_names, differences-rows, same-rows_changes}
+use Rattle.osm_changes.specs.Facts.SameElements.{same_row, told_same_row}
 use Rattle.edit_simple.specs.Contents.{each_row, at_name}
 use Rattle.edit_simple.specs.Facts.EachRow.{row_at-each_row}
 
 module _ {A : Type 0} where
-  pub is_among-differing : (m n : Rows A) (x : Name) → is_among (differing m n) x ≡ not (is_same_row (row_at m x) (row_at n x))
-  is_among-differing m n x = is_among-passing (λ y. not (is_same_row (row_at m y) (row_at n y))) (name_set (names_of m ++ names_of n)) x ∙ by (is_same_row (row_at m x) (row_at n x)) refl
+  pub is_among-differing_names : (m n : Rows A) (x : Name) → is_among (differing_names m n) x ≡ not (is_same_row (row_at m x) (row_at n x))
+  is_among-differing_names m n x = is_among-passing (λ y. not (is_same_row (row_at m y) (row_at n y))) (name_set (names_of m ++ names_of n)) x ∙ by (is_same_row (row_at m x) (row_at n x)) refl
     where
       there : is_among (name_set (names_of m ++ names_of n)) x ≡ (is_present m x || is_present n x)
       there = is_among-name_set x (names_of m ++ names_of n) ∙ is_among-append x (names_of m) (names_of n)
@@ -36,22 +35,24 @@ module _ {A : Type 0} where
       by false e = there ∙ one (row_at m x) (row_at n x) e
 
   -- rising names that are those at which two maps differ
-  pub differing_are : (m n : Rows A) (names : List Name) → IsRising names → ((y : Name) → is_among names y ≡ not (is_same_row (row_at m y) (row_at n y))) → names ≡ differing m n
+  pub differing_are : (m n : Rows A) (names : List Name) → IsRising names → ((y : Name) → is_among names y ≡ not (is_same_row (row_at m y) (row_at n y))) → names ≡ differing_names m n
   differing_are m n names rising are =
-      same_rising names (differing m n) rising (IsRising-filter (λ y. not (is_same_row (row_at m y) (row_at n y))) (name_set (names_of m ++ names_of n)) (IsRising-name_set (names_of m ++ names_of n)))
-      (λ y. are y ∙ sym (is_among-differing m n y))
+      same_rising names (differing_names m n) rising (IsRising-filter (λ y. not (is_same_row (row_at m y) (row_at n y))) (name_set (names_of m ++ names_of n)) (IsRising-name_set (names_of m ++ names_of n)))
+      (λ y. are y ∙ sym (is_among-differing_names m n y))
 
   -- the changes of rising names to their rows in another map, which differs at these alone
   pub rows_differing : (m n : Rows A) (after : Name → Option (Element A)) (names : List Name) → IsRising names → ((y : Name) → is_among names y ≡ not (is_same_row (row_at m y) (row_at n y)))
       → ((y : Name) → is_among names y ≡ true → after y ≡ row_at n y) → rows_changes m after names ≡ differences m n
   rows_differing m n after names rising are becomes =
       same-rows_changes m m after (row_at n) names (λ y i. (refl, becomes y i)) ∙ ap (rows_changes m (row_at n)) (differing_are m n names rising are)
+      ∙ sym (differences-rows m n)
 
   -- two maps that differ at one name alone
   pub one_difference : (m n : Rows A) (x : Name) → is_same_row (row_at m x) (row_at n x) ≡ false → ((y : Name) → is_same y x ≡ false → row_at n y ≡ row_at m y)
       → row_changes x (row_at m x) (row_at n x) ≡ differences m n
   one_difference m n x other rest =
       sym (append-nil (row_changes x (row_at m x) (row_at n x))) ∙ ap (rows_changes m (row_at n)) (differing_are m n (x ∷ []) tt (λ y. by y (is_same y x) refl))
+      ∙ sym (differences-rows m n)
     where
       by : (y : Name) (b : Bool) → is_same y x ≡ b → (b || false) ≡ not (is_same_row (row_at m y) (row_at n y))
       by y true e = sym (ap (λ z. not (is_same_row (row_at m z) (row_at n z))) (same_names y x e) ∙ ap not other)

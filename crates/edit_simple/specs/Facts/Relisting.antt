@@ -14,7 +14,7 @@ use Rattle.osm_elements.specs.TagRows.{Pairs, are_tags}
 use Rattle.osm_elements.specs.Facts.Tests.{both_true, first_true, second_true}
 use Rattle.osm_changes.specs.SameRows.{are_same_names, are_same_members, are_same_tags}
 use Rattle.osm_changes.specs.Sound.{is_sound, most_nodes, most_members}
-use Rattle.osm_changes.specs.Facts.Differing.{same_element}
+use Rattle.osm_changes.specs.Facts.SameElements.{same_element}
 use Rattle.edit_simple.specs.declared.refusal.Refusal.{Refusal}
 use Rattle.edit_simple.specs.declared.refusal.Refusal.TheVariants.{Absent, WrongKind, TooFew, TooMany, Nothing}
 use Rattle.edit_simple.specs.Checks.{first_that_holds, the_least}

@@ -23,7 +23,7 @@ use Rattle.osm_elements.specs.Facts.KeyedRows.{sorted_rows, each_row-put, each_r
 use Rattle.osm_elements.specs.Facts.Tests.{both_true, first_true, second_true}
 use Rattle.osm_changes.specs.SameRows.{are_same_tags, are_same_names}
 use Rattle.osm_changes.specs.Sound.{is_sound}
-use Rattle.osm_changes.specs.Facts.Differing.{same_element}
+use Rattle.osm_changes.specs.Facts.SameElements.{same_element}
 use Rattle.osm_changes.specs.Facts.SoundRows.{is_true}
 use Rattle.edit_simple.specs.declared.refusal.Refusal.{Refusal}
 use Rattle.edit_simple.specs.declared.refusal.Refusal.TheVariants.{Absent, TooMany, Nothing}

@@ -1,72 +1,198 @@
--- The changes between two maps lead from the one to the other, and taken back to the one again.
-use Rattle.std.proofs.Common.{◌≡◌, ◌||◌, Bool, true, false, not, List, [], ◌∷◌, ◌++◌, Option, Some, None, is_some, refl, sym, ap, ◌∙◌, cond}
+-- Which cells of two maps differ, what changes make of halves and rows, and that those between two maps lead there and back.
+use Rattle.std.proofs.Common.{◌≡◌, ◌||◌, ◌&&◌, Bool, true, false, not, List, [], ◌∷◌, ◌++◌, Option, Some, None, is_some, map, refl, sym, ap, ◌∙◌, cond}
+use Rattle.std.specs.List.{fold}
 use Rattle.osm_elements.specs.declared.name.Name.{Name}
 use Rattle.osm_elements.specs.declared.element.Element.{Element}
 use Rattle.osm_elements.specs.Rows.{AreInOrder, row_at}
+use Rattle.osm_elements.specs.Facts.Among.{is_among-name_set, is_among-append, is_among-names_of}
+use Rattle.osm_elements.specs.Facts.Dropped.{row_at-rows_but, AreInOrder-rows_but}
 use Rattle.osm_elements.specs.Facts.Rows.{same_names, row_at-put_row, AreInOrder-put_row, same_rows}
 use Rattle.osm_elements.specs.Maps.{Rows, is_same, is_among, is_present, name_set, names_of}
+use Rattle.osm_refs.specs.Facts.RisingNames.{IsRising-name_set}
+use Rattle.osm_changes.specs.declared.cell.Cell.{Cell}
 use Rattle.osm_changes.specs.declared.change.Change.{Change}
-use Rattle.osm_changes.specs.SameRows.{is_same_row}
-use Rattle.osm_changes.specs.Changes.{differing, rows_changes, differences, inverse, with_row, changed}
-use Rattle.osm_elements.specs.Facts.Dropped.{row_at-rows_but, AreInOrder-rows_but}
-use Rattle.osm_elements.specs.Facts.Among.{is_among-name_set, is_among-append, is_among-filter, is_among-names_of}
-use Rattle.osm_changes.specs.Facts.RowChanges.{changed-rows_changes, inverse-rows_changes}
-use Rattle.osm_changes.specs.Facts.SameElements.{told_same_row}
+use Rattle.osm_changes.specs.declared.half.Half.{Half}
+use Rattle.osm_changes.specs.declared.part.Part.{Part}
+use Rattle.osm_changes.specs.declared.part.Part.TheVariants.{Tags, Rest}
+use Rattle.osm_changes.specs.declared.row_after.RowAfter.{RowAfter}
+use Rattle.osm_changes.specs.Cells.{tags_at, rest_at, cells_of, is_same_cell, has, IsRising, half_at}
+use Rattle.osm_changes.specs.Changes.{differing, change_at, differences, cell_of, changed_cells, changed_names, inverse, half_after, row_after, with_row, changed, row_in, rows_after}
+use Rattle.osm_changes.specs.Halves.{half, row_of, are_same_halves}
+use Rattle.osm_changes.specs.Facts.Cells.{same_cells, other_cell, has-cells_of, has-passing, IsRising-filter, IsRising-cells_of}
+use Rattle.osm_changes.specs.Facts.Halves.{row_of-halves, told_same_halves}
 
 module _ {A : Type 0} where
-  pub row_at-with_row : (m : Rows A) (y : Name) (o : Option (Element A)) (x : Name) → row_at (with_row m y o) x ≡ cond (is_same x y) o (row_at m x)
+  pub row_at-with_row : (m : Rows A) (y : Name) (o : Option (Element A)) (x : Name)
+      → row_at (with_row m y o) x ≡ cond (is_same x y) o (row_at m x)
   row_at-with_row m y None x = row_at-rows_but m y x
   row_at-with_row m y (Some v) x = row_at-put_row m y v x
 
-  pub AreInOrder-with_row : (m : Rows A) (y : Name) (o : Option (Element A)) → AreInOrder m → AreInOrder (with_row m y o)
+  pub AreInOrder-with_row : (m : Rows A) (y : Name) (o : Option (Element A)) → AreInOrder m
+      → AreInOrder (with_row m y o)
   AreInOrder-with_row m y None h = AreInOrder-rows_but m y h
   AreInOrder-with_row m y (Some v) h = AreInOrder-put_row m y v h
 
-  pub AreInOrder-changed : (cs : List (Change A)) (m : Rows A) → AreInOrder m → AreInOrder (changed m cs)
-  AreInOrder-changed [] m h = h
-  AreInOrder-changed (c ∷ cs) m h = AreInOrder-changed cs (with_row m c.name c.after) (AreInOrder-with_row m c.name c.after h)
+  -- ---- which cells differ
 
-  row_at-changed : (from target : Rows A) (x : Name) (names : List Name) (m : Rows A) → row_at (changed m (rows_changes from (row_at target) names)) x ≡ cond (is_among names x) (row_at target x) (row_at m x)
-  row_at-changed from target x [] m = refl
-  row_at-changed from target x (y ∷ ys) m =
-      ap (λ n. row_at n x) (changed-rows_changes m from (row_at target) y ys) ∙ row_at-changed from target x ys (with_row m y (row_at target y))
-      ∙ ap (λ o. cond (is_among ys x) (row_at target x) o) (row_at-with_row m y (row_at target y) x) ∙ by (is_same x y) refl (is_among ys x)
+  pub has-differing : (m n : Rows A) (c : Cell)
+      → has (differing m n) c ≡ not (are_same_halves (half_at m c) (half_at n c))
+  has-differing m n c = has-passing (λ d. not (are_same_halves (half_at m d) (half_at n d)))
+      (cells_of (name_set (names_of m ++ names_of n))) c ∙ by (are_same_halves (half_at m c) (half_at n c)) refl
     where
-      by : (s : Bool) → is_same x y ≡ s → (a : Bool) → cond a (row_at target x) (cond s (row_at target y) (row_at m x)) ≡ cond (s || a) (row_at target x) (row_at m x)
+      there : has (cells_of (name_set (names_of m ++ names_of n))) c ≡ (is_present m c.name || is_present n c.name)
+      there =
+          has-cells_of (name_set (names_of m ++ names_of n)) c ∙ is_among-name_set c.name (names_of m ++ names_of n)
+          ∙ is_among-append c.name (names_of m) (names_of n)
+          ∙ ap (λ b. b || is_among (names_of n) c.name) (is_among-names_of m c.name)
+          ∙ ap (λ b. is_present m c.name || b) (is_among-names_of n c.name)
+
+      one : (o p : Option (Element A)) → are_same_halves (half c.part o) (half c.part p) ≡ false
+          → (is_some o || is_some p) ≡ true
+      one None None e = absurd (cc)
+      one None (Some w) e = refl
+      one (Some v) p e = refl
+
+      by : (b : Bool) → are_same_halves (half_at m c) (half_at n c) ≡ b
+          → (not b && has (cells_of (name_set (names_of m ++ names_of n))) c) ≡ not b
+      by true e = refl
+      by false e = there ∙ one (row_at m c.name) (row_at n c.name) e
+
+  -- where two maps don't differ, they have the same half
+  pub not_differing : (m n : Rows A) (c : Cell) → has (differing m n) c ≡ false → half_at m c ≡ half_at n c
+  not_differing m n c h = by (are_same_halves (half_at m c) (half_at n c)) refl (sym (has-differing m n c) ∙ h)
+    where
+      by : (b : Bool) → are_same_halves (half_at m c) (half_at n c) ≡ b → not b ≡ false → half_at m c ≡ half_at n c
+      by true e f = told_same_halves (half_at m c) (half_at n c) e
+      by false e f = absurd (cc)
+
+  pub IsRising-differing : (m n : Rows A) → IsRising (differing m n)
+  IsRising-differing m n = IsRising-filter (λ c. not (are_same_halves (half_at m c) (half_at n c)))
+      (cells_of (name_set (names_of m ++ names_of n)))
+      (IsRising-cells_of (name_set (names_of m ++ names_of n)) (IsRising-name_set (names_of m ++ names_of n)))
+
+  cells_back : (m n : Rows A) (cells : List Cell) → changed_cells (map (change_at m n) cells) ≡ cells
+  cells_back m n [] = refl
+  cells_back m n (c ∷ cs) = ap (λ l. c ∷ l) (cells_back m n cs)
+
+  pub cells-differences : (m n : Rows A) → changed_cells (differences m n) ≡ differing m n
+  cells-differences m n = cells_back m n (differing m n)
+
+  -- ---- what changes make of halves
+
+  -- what the changes at some cells make of a half
+  half_after-map : (m n : Rows A) (cells : List Cell) (c : Cell) (h : Option (Half A))
+      → half_after (map (change_at m n) cells) c h ≡ cond (has cells c) (half_at n c) h
+  half_after-map m n [] c h = refl
+  half_after-map m n (d ∷ ds) c h = by (is_same_cell c d) refl (half_after-map m n ds c h)
+    where
+      by : (b : Bool) → is_same_cell c d ≡ b → half_after (map (change_at m n) ds) c h ≡ cond (has ds c) (half_at n c) h
+          → cond b (half_at n d) (half_after (map (change_at m n) ds) c h) ≡ cond (b || has ds c) (half_at n c) h
+      by true e i = ap (half_at n) (sym (same_cells c d e))
+      by false e i = i
+
+  chosen : (b : Bool) (h k : Option (Half A)) → (b ≡ false → k ≡ h) → cond b h k ≡ h
+  chosen true h k e = refl
+  chosen false h k e = e refl
+
+  pub half_after-differences : (m n : Rows A) (c : Cell) → half_after (differences m n) c (half_at m c) ≡ half_at n c
+  half_after-differences m n c = half_after-map m n (differing m n) c (half_at m c)
+      ∙ chosen (has (differing m n) c) (half_at n c) (half_at m c) (not_differing m n c)
+
+  inverse-map : (m n : Rows A) (cells : List Cell) → inverse (map (change_at m n) cells) ≡ map (change_at n m) cells
+  inverse-map m n [] = refl
+  inverse-map m n (c ∷ cs) = ap (λ l. change_at n m c ∷ l) (inverse-map m n cs)
+
+  pub half_after-inverse : (m n : Rows A) (c : Cell)
+      → half_after (inverse (differences m n)) c (half_at n c) ≡ half_at m c
+  half_after-inverse m n c =
+      ap (λ cs. half_after cs c (half_at n c)) (inverse-map m n (differing m n))
+      ∙ half_after-map n m (differing m n) c (half_at n c)
+      ∙ chosen (has (differing m n) c) (half_at m c) (half_at n c) (λ e. sym (not_differing m n c e))
+
+  -- a half of which no change tells
+  untold : (cs : List (Change A)) (x : Name) (p : Part) (h : Option (Half A))
+      → is_among (map (λ (d : Change A). d.name) cs) x ≡ false → half_after cs (record { name = x; part = p }) h ≡ h
+  untold [] x p h e = refl
+  untold (d ∷ ds) x p h e = by (is_same x d.name) refl e (untold ds x p h)
+    where
+      by : (b : Bool) → is_same x d.name ≡ b → (b || is_among (map (λ (d : Change A). d.name) ds) x) ≡ false
+          → (is_among (map (λ (d : Change A). d.name) ds) x ≡ false
+          → half_after ds (record { name = x; part = p }) h ≡ h)
+          → cond (is_same_cell (record { name = x; part = p }) (cell_of d)) d.after
+          (half_after ds (record { name = x; part = p }) h) ≡ h
+      by true e f rest = absurd (cc)
+      by false e f rest = ap (λ b. cond b d.after (half_after ds (record { name = x; part = p }) h))
+          (other_cell x d.name p d.part e) ∙ rest f
+
+  -- ---- what changes make of rows
+
+  -- some names given rows
+  row_at-fold : (f : Name → Option (Element A)) (names : List Name) (n : Rows A) (x : Name)
+      → row_at (fold (λ k y. with_row k y (f y)) n names) x ≡ cond (is_among names x) (f x) (row_at n x)
+  row_at-fold f [] n x = refl
+  row_at-fold f (y ∷ ys) n x = row_at-fold f ys (with_row n y (f y)) x
+      ∙ ap (cond (is_among ys x) (f x)) (row_at-with_row n y (f y) x) ∙ by (is_same x y) refl (is_among ys x)
+    where
+      by : (s : Bool) → is_same x y ≡ s → (a : Bool)
+          → cond a (f x) (cond s (f y) (row_at n x)) ≡ cond (s || a) (f x) (row_at n x)
       by true e true = refl
-      by true e false = ap (row_at target) (sym (same_names x y e))
+      by true e false = ap f (sym (same_names x y e))
       by false e a = refl
 
-  -- the rows at a name that isn't listed are the same
-  unlisted : (m n : Rows A) (x : Name) → is_among (differing m n) x ≡ false → row_at m x ≡ row_at n x
-  unlisted m n x h = by (is_same_row (row_at m x) (row_at n x)) refl
+  AreInOrder-fold : (f : Name → Option (Element A)) (names : List Name) (n : Rows A) → AreInOrder n
+      → AreInOrder (fold (λ k y. with_row k y (f y)) n names)
+  AreInOrder-fold f [] n h = h
+  AreInOrder-fold f (y ∷ ys) n h = AreInOrder-fold f ys (with_row n y (f y)) (AreInOrder-with_row n y (f y) h)
+
+  pub AreInOrder-changed : (m : Rows A) (cs : List (Change A)) → AreInOrder m → AreInOrder (changed m cs)
+  AreInOrder-changed m cs h = AreInOrder-fold (λ x. row_after cs x (row_at m x)) (changed_names cs) m h
+
+  -- the row at any name after changes is what they make of its row
+  pub row_at-changed : (m : Rows A) (cs : List (Change A)) (x : Name)
+      → row_at (changed m cs) x ≡ row_after cs x (row_at m x)
+  row_at-changed m cs x =
+      row_at-fold (λ y. row_after cs y (row_at m y)) (changed_names cs) m x
+      ∙ ap (λ b. cond b (row_after cs x (row_at m x)) (row_at m x))
+      (is_among-name_set x (map (λ (d : Change A). d.name) cs))
+      ∙ by (is_among (map (λ (d : Change A). d.name) cs) x) refl
     where
-      there : is_same_row (row_at m x) (row_at n x) ≡ false → (is_present m x || is_present n x) ≡ false
-      there e =
-          ap (λ b. b || is_present n x) (sym (is_among-names_of m x)) ∙ ap (λ b. is_among (names_of m) x || b) (sym (is_among-names_of n x))
-          ∙ sym (is_among-append x (names_of m) (names_of n)) ∙ sym (is_among-name_set x (names_of m ++ names_of n))
-          ∙ sym (is_among-filter (λ y. not (is_same_row (row_at m y) (row_at n y))) x (ap not e) (name_set (names_of m ++ names_of n))) ∙ h
+      by : (b : Bool) → is_among (map (λ (d : Change A). d.name) cs) x ≡ b
+          → cond b (row_after cs x (row_at m x)) (row_at m x) ≡ row_after cs x (row_at m x)
+      by true e = refl
+      by false e = sym ((λ i. row_of (untold cs x Tags (half Tags (row_at m x)) e i)
+          (untold cs x Rest (half Rest (row_at m x)) e i)) ∙ row_of-halves (row_at m x))
 
-      neither : (o p : Option (Element A)) → (is_some o || is_some p) ≡ false → o ≡ p
-      neither None None e = refl
-      neither None (Some w) e = absurd (cc)
-      neither (Some v) p e = absurd (cc)
+  -- a name that no change tells of keeps its row
+  pub kept : (m : Rows A) (cs : List (Change A)) (x : Name) → is_among (changed_names cs) x ≡ false
+      → row_at (changed m cs) x ≡ row_at m x
+  kept m cs x e = row_at-fold (λ y. row_after cs y (row_at m y)) (changed_names cs) m x
+      ∙ ap (λ b. cond b (row_after cs x (row_at m x)) (row_at m x)) e
 
-      by : (b : Bool) → is_same_row (row_at m x) (row_at n x) ≡ b → row_at m x ≡ row_at n x
-      by true e = told_same_row (row_at m x) (row_at n x) e
-      by false e = neither (row_at m x) (row_at n x) (there e)
+  -- a map that is told the rows after changes becomes the map after them
+  pub with_rows_after : (m : Rows A) (cs : List (Change A))
+      → fold (λ n (r : RowAfter A). with_row n r.name r.element) m (rows_after m cs) ≡ changed m cs
+  with_rows_after m cs = over (changed_names cs) m
+    where
+      over : (xs : List Name) (n : Rows A)
+          → fold (λ n (r : RowAfter A). with_row n r.name r.element) n (map (row_in (changed m cs)) xs)
+          ≡ fold (λ n x. with_row n x (row_after cs x (row_at m x))) n xs
+      over [] n = refl
+      over (x ∷ xs) n =
+          over xs (with_row n x (row_at (changed m cs) x))
+          ∙ ap (λ o. fold (λ n y. with_row n y (row_after cs y (row_at m y))) (with_row n x o) xs)
+          (row_at-changed m cs x)
 
-  chosen : (b : Bool) (o p : Option (Element A)) → (b ≡ false → p ≡ o) → cond b o p ≡ o
-  chosen true o p e = refl
-  chosen false o p e = e refl
+  -- ---- there and back
 
   pub changed-differences : (m n : Rows A) → AreInOrder m → AreInOrder n → changed m (differences m n) ≡ n
-  changed-differences m n g h =
-      same_rows (changed m (differences m n)) n (AreInOrder-changed (differences m n) m g) h
-      (λ x. row_at-changed m n x (differing m n) m ∙ chosen (is_among (differing m n) x) (row_at n x) (row_at m x) (unlisted m n x))
+  changed-differences m n g h = same_rows (changed m (differences m n)) n (AreInOrder-changed m (differences m n) g) h
+      (λ x. row_at-changed m (differences m n) x
+      ∙ (λ i. row_of (half_after-differences m n (tags_at x) i) (half_after-differences m n (rest_at x) i))
+      ∙ row_of-halves (row_at n x))
 
   pub changed-inverse : (m n : Rows A) → AreInOrder m → AreInOrder n → changed n (inverse (differences m n)) ≡ m
-  changed-inverse m n g h =
-      ap (changed n) (inverse-rows_changes m n (differing m n))
-      ∙ same_rows (changed n (rows_changes n (row_at m) (differing m n))) m (AreInOrder-changed (rows_changes n (row_at m) (differing m n)) n h) g
-      (λ x. row_at-changed n m x (differing m n) n ∙ chosen (is_among (differing m n) x) (row_at m x) (row_at n x) (λ e. sym (unlisted m n x e)))
+  changed-inverse m n g h = same_rows (changed n (inverse (differences m n))) m
+      (AreInOrder-changed n (inverse (differences m n)) h) g
+      (λ x. row_at-changed n (inverse (differences m n)) x
+      ∙ (λ i. row_of (half_after-inverse m n (tags_at x) i) (half_after-inverse m n (rest_at x) i))
+      ∙ row_of-halves (row_at m x))

@@ -1,18 +1,30 @@
--- The changes of one row, and of some rows.
-use Rattle.std.proofs.Common.{◌≡◌, ◌≢◌, ◌<◌, ◌+◌, ◌||◌, ◌&&◌, ℕ, zero, suc, Bool, true, false, T, All, List, [], ◌∷◌, ◌++◌, Option, length, take, get_or, refl, sym, ap, subst, ◌∙◌, arith}
+-- The changes of one row, and of some rows; and the changes between two maps, row by row.
+use Rattle.std.proofs.Common.{◌≡◌, ◌≢◌, ◌<◌, ◌+◌, ◌||◌, ℕ, Bool, true, false, not, cond, T, All, List, [], ◌∷◌, ◌++◌, Option, length, map, take, get_or, refl, sym, ap, subst, ◌∙◌}
 use Rattle.std.proofs.lemmas.Grind.{flat_map-append}
-use Rattle.std.proofs.lemmas.List.{map-append, take_more, append-nil}
-use Rattle.std.proofs.lemmas.List.Elements.{All-nil, All-append}
-use Rattle.std.proofs.lemmas.List.Sums.{fold-append}
+use Rattle.std.proofs.lemmas.List.{take_more, append-nil}
+use Rattle.std.proofs.lemmas.List.Elements.{All-nil, All-cons}
+use Rattle.std.specs.FinMap.Entries.{below_all}
+use Rattle.std.specs.List.{filter}
 use Rattle.std.specs.Ordering.{is_lt}
 use Rattle.osm_elements.specs.declared.name.Name.{Name}
 use Rattle.osm_elements.specs.declared.element.Element.{Element}
 use Rattle.osm_elements.specs.NameOrder.{name_cmp}
 use Rattle.osm_elements.specs.Rows.{row_at}
 use Rattle.osm_elements.specs.Facts.Rows.{is_eq-name_cmp_itself}
-use Rattle.osm_elements.specs.Maps.{Rows, is_same, is_among}
+use Rattle.osm_elements.specs.Maps.{Rows, is_same, is_among, name_set, names_of}
+use Rattle.rising_lists.specs.Rising.{bare_rows}
+use Rattle.rising_lists.specs.Facts.Sorted.{both, first, second}
+use Rattle.osm_changes.specs.declared.cell.Cell.{Cell}
 use Rattle.osm_changes.specs.declared.change.Change.{Change}
-use Rattle.osm_changes.specs.Changes.{are_rising, row_changes, rows_changes, taken_back, inverse, with_row, changed, changed_names, AreChanges, AreFrom}
+use Rattle.osm_changes.specs.declared.part.Part.{Part}
+use Rattle.osm_changes.specs.declared.part.Part.TheVariants.{Tags, Rest}
+use Rattle.osm_changes.specs.SameRows.{is_same_row}
+use Rattle.osm_changes.specs.Cells.{cells_of, cell_cmp, half_at, tags_at, rest_at, IsRising}
+use Rattle.osm_changes.specs.Changes.{are_rising, differences, change_at, half_change, differs, row_changes, rows_changes, changed_cells, AreChanges}
+use Rattle.osm_changes.specs.Halves.{half, are_same_halves}
+use Rattle.osm_changes.specs.Facts.Cells.{lesser_cell, tags_first}
+use Rattle.osm_changes.specs.Facts.Halves.{same_itself, not_same_halves}
+use Rattle.osm_changes.specs.Facts.SameElements.{told_same_row}
 
 -- a name is among those that it is the first of, and among more than it is already among
 own : (x : Name) (xs : List Name) → is_among (x ∷ xs) x ≡ true
@@ -22,90 +34,107 @@ among_more : (a b : Bool) → b ≡ true → (a || b) ≡ true
 among_more true b e = refl
 among_more false b e = e
 
+not_true : (b : Bool) → not b ≡ true → b ≡ false
+not_true true e = absurd (cc)
+not_true false e = refl
+
 module _ {A : Type 0} where
-  -- ---- one row
+  -- the changes of those halves that are chosen, and others behind them
+  abbrev chosen : Bool → Bool → Change A → Change A → List (Change A) → List (Change A)
+  chosen t u c d rest = cond t (c ∷ cond u (d ∷ []) []) (cond u (d ∷ []) []) ++ rest
 
-  -- they are of its name
-  names-row_changes : (x : Name) (o p : Option (Element A)) → changed_names (row_changes x o p) ≡ x ∷ []
-  names-row_changes x o p = refl
+  -- the cell of a name and a part is below those of changes
+  abbrev IsBelow : Name → Part → List (Change A) → Type 0
+  IsBelow x p cs = T (below_all cell_cmp (record { name = x; part = p }) (bare_rows (changed_cells cs)))
 
-  -- each has another row after than before, where the row has
-  differ-row_changes : (x : Name) (o p : Option (Element A)) → p ≢ o → All (λ (c : Change A). c.after ≢ c.before) (row_changes x o p)
-  differ-row_changes x o p apart zero d l = apart
-  differ-row_changes x o p apart (suc k) d l = absurd (omega (arith, l))
+  below_row : (x y : Name) (p : Part) (o q : Option (Element A)) (cs : List (Change A)) → T (is_lt (name_cmp x y))
+      → IsBelow x p cs → IsBelow x p (row_changes y o q ++ cs)
+  below_row x y p o q cs low h = by (differs (half_change y o q Tags)) (differs (half_change y o q Rest))
+    where
+      by : (t u : Bool) → IsBelow x p (chosen t u (half_change y o q Tags) (half_change y o q Rest) cs)
+      by true true = both _ _ (lesser_cell x y p Tags low) (both _ _ (lesser_cell x y p Rest low) h)
+      by true false = both _ _ (lesser_cell x y p Tags low) h
+      by false true = both _ _ (lesser_cell x y p Rest low) h
+      by false false = h
+
+  rising_row : (x : Name) (o q : Option (Element A)) (cs : List (Change A)) → ((p : Part) → IsBelow x p cs)
+      → IsRising (changed_cells cs) → IsRising (changed_cells (row_changes x o q ++ cs))
+  rising_row x o q cs low h = by (differs (half_change x o q Tags)) (differs (half_change x o q Rest))
+    where
+      by : (t u : Bool) → IsRising (changed_cells (chosen t u (half_change x o q Tags) (half_change x o q Rest) cs))
+      by true true = both _ _ (both _ _ (tags_first x) (low Tags)) (both _ _ (low Rest) h)
+      by true false = both _ _ (low Tags) h
+      by false true = both _ _ (low Rest) h
+      by false false = h
+
+  abbrev Differ : List (Change A) → Type 0
+  Differ cs = All (λ (c : Change A). c.after ≢ c.before) cs
+
+  differ_row : (x : Name) (o q : Option (Element A)) (cs : List (Change A)) → Differ cs
+      → Differ (row_changes x o q ++ cs)
+  differ_row x o q cs h = by (differs (half_change x o q Tags)) refl (differs (half_change x o q Rest)) refl
+    where
+      other : (p : Part) → differs (half_change x o q p) ≡ true → half p q ≢ half p o
+      other p e = not_same_halves (half p o) (half p q) (not_true (are_same_halves (half p o) (half p q)) e)
+
+      by : (t : Bool) → differs (half_change x o q Tags) ≡ t → (u : Bool) → differs (half_change x o q Rest) ≡ u
+          → Differ (chosen t u (half_change x o q Tags) (half_change x o q Rest) cs)
+      by true e true f =
+          All-cons (λ (c : Change A). c.after ≢ c.before) (half_change x o q Tags) (half_change x o q Rest ∷ cs)
+          (other Tags e)
+          (All-cons (λ (c : Change A). c.after ≢ c.before) (half_change x o q Rest) cs (other Rest f) h)
+      by true e false f = All-cons (λ (c : Change A). c.after ≢ c.before) (half_change x o q Tags) cs (other Tags e) h
+      by false e true f = All-cons (λ (c : Change A). c.after ≢ c.before) (half_change x o q Rest) cs (other Rest f) h
+      by false e false f = h
+
+  -- ---- one row, and two
+
+  alone : (x : Name) (o q : Option (Element A)) → row_changes x o q ++ [] ≡ row_changes x o q
+  alone x o q = append-nil (row_changes x o q)
 
   -- they are a list of changes by themselves
-  pub AreChanges-row_changes : (x : Name) (o p : Option (Element A)) → p ≢ o → AreChanges (row_changes x o p)
-  AreChanges-row_changes x o p apart = record { rising = subst (λ names. T (are_rising names)) (sym (names-row_changes x o p)) tt; differ = differ-row_changes x o p apart }
-
-  -- they lead from what the map has
-  AreFrom-row_changes : (m : Rows A) (x : Name) (p : Option (Element A)) → AreFrom m (row_changes x (row_at m x) p)
-  AreFrom-row_changes m x p zero d l = refl
-  AreFrom-row_changes m x p (suc k) d l = absurd (omega (arith, l))
-
-  -- the map with them is the map with the row after
-  changed-row_changes : (m : Rows A) (x : Name) (o p : Option (Element A)) → changed m (row_changes x o p) ≡ with_row m x p
-  changed-row_changes m x o p = refl
-
-  -- taken back they are those from the row after to the row before
-  inverse-row_changes : (x : Name) (o p : Option (Element A)) → inverse (row_changes x o p) ≡ row_changes x p o
-  inverse-row_changes x o p = refl
-
-  names-append : (cs ds : List (Change A)) → changed_names (cs ++ ds) ≡ changed_names cs ++ changed_names ds
-  names-append cs ds = map-append (λ (c : Change A). c.name) cs ds
+  pub AreChanges-row_changes : (x : Name) (o q : Option (Element A)) → AreChanges (row_changes x o q)
+  AreChanges-row_changes x o q = record {
+    rising = subst (λ cs. IsRising (changed_cells cs)) (alone x o q) (rising_row x o q [] (λ p. tt) tt);
+    differ = subst Differ (alone x o q) (differ_row x o q [] (All-nil (λ (c : Change A). c.after ≢ c.before)));
+  }
 
   -- those of a row go behind those of another, whose name comes before
-  pub AreChanges-two_rows : (x y : Name) (o p q r : Option (Element A)) → is_lt (name_cmp x y) ≡ true → p ≢ o → r ≢ q → AreChanges (row_changes x o p ++ row_changes y q r)
-  AreChanges-two_rows x y o p q r lt first second = record {
-    rising = subst (λ names. T (are_rising names)) (sym (names-append (row_changes x o p) (row_changes y q r) ∙ (λ i. names-row_changes x o p i ++ names-row_changes y q r i)))
-        (subst (λ b. T ((b && true) && true)) (sym lt) tt);
-    differ = All-append (λ (c : Change A). c.after ≢ c.before) (row_changes x o p) (row_changes y q r) (differ-row_changes x o p first) (differ-row_changes y q r second);
-  }
+  pub AreChanges-two_rows : (x y : Name) (o p q r : Option (Element A)) → is_lt (name_cmp x y) ≡ true
+      → AreChanges (row_changes x o p ++ row_changes y q r)
+  AreChanges-two_rows x y o p q r lt =
+      let later = AreChanges-row_changes y q r in
+      record {
+        rising = rising_row x o p (row_changes y q r)
+            (λ k. subst (IsBelow x k) (alone y q r) (below_row x y k q r [] (subst T (sym lt) tt) tt)) later.rising;
+        differ = differ_row x o p (row_changes y q r) later.differ;
+      }
 
   -- ---- some rows
 
-  pub names-rows_changes : (m : Rows A) (after : Name → Option (Element A)) (names : List Name) → changed_names (rows_changes m after names) ≡ names
-  names-rows_changes m after [] = refl
-  names-rows_changes m after (x ∷ xs) =
-      names-append (row_changes x (row_at m x) (after x)) (rows_changes m after xs)
-      ∙ (λ i. names-row_changes x (row_at m x) (after x) i ++ names-rows_changes m after xs i)
+  below_rows : (m : Rows A) (after : Name → Option (Element A)) (x : Name) (p : Part) (names : List Name)
+      → T (below_all name_cmp x (bare_rows names)) → IsBelow x p (rows_changes m after names)
+  below_rows m after x p [] h = tt
+  below_rows m after x p (y ∷ ys) h = below_row x y p (row_at m y) (after y) (rows_changes m after ys) (first _ _ h)
+      (below_rows m after x p ys (second _ _ h))
 
-  differ-rows_changes : (m : Rows A) (after : Name → Option (Element A)) (names : List Name) → ((y : Name) → is_among names y ≡ true → after y ≢ row_at m y)
-      → All (λ (c : Change A). c.after ≢ c.before) (rows_changes m after names)
-  differ-rows_changes m after [] apart = All-nil (λ (c : Change A). c.after ≢ c.before)
-  differ-rows_changes m after (x ∷ xs) apart =
-      All-append (λ (c : Change A). c.after ≢ c.before) (row_changes x (row_at m x) (after x)) (rows_changes m after xs)
-      (differ-row_changes x (row_at m x) (after x) (apart x (own x xs)))
-      (differ-rows_changes m after xs (λ y i. apart y (among_more (is_same y x) (is_among xs y) i)))
-
-  -- of rising names, each of which gets another row, they are a list of changes
-  pub AreChanges-rows_changes : (m : Rows A) (after : Name → Option (Element A)) (names : List Name) → T (are_rising names) → ((y : Name) → is_among names y ≡ true → after y ≢ row_at m y)
-      → AreChanges (rows_changes m after names)
-  AreChanges-rows_changes m after names rising apart =
-      record { rising = subst (λ xs. T (are_rising xs)) (sym (names-rows_changes m after names)) rising; differ = differ-rows_changes m after names apart }
-
-  pub AreFrom-rows_changes : (m : Rows A) (after : Name → Option (Element A)) (names : List Name) → AreFrom m (rows_changes m after names)
-  AreFrom-rows_changes m after [] = All-nil (λ (c : Change A). c.before ≡ row_at m c.name)
-  AreFrom-rows_changes m after (x ∷ xs) =
-      All-append (λ (c : Change A). c.before ≡ row_at m c.name) (row_changes x (row_at m x) (after x)) (rows_changes m after xs)
-      (AreFrom-row_changes m x (after x)) (AreFrom-rows_changes m after xs)
-
-  -- the map with the changes of the first row, and then with those of the others
-  pub changed-rows_changes : (n m : Rows A) (after : Name → Option (Element A)) (x : Name) (xs : List Name)
-      → changed n (rows_changes m after (x ∷ xs)) ≡ changed (with_row n x (after x)) (rows_changes m after xs)
-  changed-rows_changes n m after x xs =
-      fold-append (λ r (c : Change A). with_row r c.name c.after) n (row_changes x (row_at m x) (after x)) (rows_changes m after xs)
-      ∙ ap (λ r. changed r (rows_changes m after xs)) (changed-row_changes n x (row_at m x) (after x))
-
-  pub inverse-rows_changes : (m n : Rows A) (names : List Name) → inverse (rows_changes m (row_at n) names) ≡ rows_changes n (row_at m) names
-  inverse-rows_changes m n [] = refl
-  inverse-rows_changes m n (x ∷ xs) =
-      map-append taken_back (row_changes x (row_at m x) (row_at n x)) (rows_changes m (row_at n) xs)
-      ∙ (λ i. inverse-row_changes x (row_at m x) (row_at n x) i ++ inverse-rows_changes m n xs i)
+  -- of rising names they are a list of changes
+  pub AreChanges-rows_changes : (m : Rows A) (after : Name → Option (Element A)) (names : List Name)
+      → T (are_rising names) → AreChanges (rows_changes m after names)
+  AreChanges-rows_changes m after [] rising =
+      record { rising = tt; differ = All-nil (λ (c : Change A). c.after ≢ c.before) }
+  AreChanges-rows_changes m after (x ∷ xs) rising =
+      let later = AreChanges-rows_changes m after xs (second _ _ rising) in
+      record {
+        rising = rising_row x (row_at m x) (after x) (rows_changes m after xs)
+            (λ p. below_rows m after x p xs (first _ _ rising)) later.rising;
+        differ = differ_row x (row_at m x) (after x) (rows_changes m after xs) later.differ;
+      }
 
   -- the same rows before and after have the same changes
   pub same-rows_changes : (m n : Rows A) (after other : Name → Option (Element A)) (names : List Name)
-      → ((y : Name) → is_among names y ≡ true → (row_at m y ≡ row_at n y) × (after y ≡ other y)) → rows_changes m after names ≡ rows_changes n other names
+      → ((y : Name) → is_among names y ≡ true → (row_at m y ≡ row_at n y) × (after y ≡ other y))
+      → rows_changes m after names ≡ rows_changes n other names
   same-rows_changes m n after other [] same = refl
   same-rows_changes m n after other (x ∷ xs) same =
       let first = same x (own x xs) in
@@ -113,11 +142,72 @@ module _ {A : Type 0} where
       λ i. row_changes x (first.0 i) (first.1 i) ++ rest i
 
   -- the changes of one name more stand behind those before it
-  pub more-rows_changes : (m : Rows A) (after : Name → Option (Element A)) (names : List Name) (k : ℕ) (x : Name) → k < length names → x ≡ get_or names k x
-      → (cs : List (Change A)) (o p : Option (Element A)) → cs ≡ rows_changes m after (take k names) → o ≡ row_at m x → p ≡ after x
+  pub more-rows_changes : (m : Rows A) (after : Name → Option (Element A)) (names : List Name) (k : ℕ) (x : Name)
+      → k < length names → x ≡ get_or names k x
+      → (cs : List (Change A)) (o p : Option (Element A)) → cs ≡ rows_changes m after (take k names) → o ≡ row_at m x
+      → p ≡ after x
       → cs ++ row_changes x o p ≡ rows_changes m after (take (k + 1) names)
   more-rows_changes m after names k x l is cs o p before from target =
       (λ i. before i ++ row_changes x (from i) (target i))
       ∙ ap (λ ds. rows_changes m after (take k names) ++ ds) (sym (append-nil (row_changes x (row_at m x) (after x))))
       ∙ sym (flat_map-append (λ y. row_changes y (row_at m y) (after y)) (take k names) (x ∷ []))
-      ∙ ap (λ y. rows_changes m after (take k names ++ y ∷ [])) is ∙ ap (rows_changes m after) (sym (take_more names k x l))
+      ∙ ap (λ y. rows_changes m after (take k names ++ y ∷ [])) is
+      ∙ ap (rows_changes m after) (sym (take_more names k x l))
+
+  -- ---- the changes between two maps
+
+  -- a row that stays has no change
+  stays : (x : Name) (o q : Option (Element A)) → is_same_row o q ≡ true → row_changes x o q ≡ []
+  stays x o q e = ap (row_changes x o) (sym (told_same_row o q e))
+      ∙ (λ i. none (same_itself (half Tags o) i) (same_itself (half Rest o) i))
+    where
+      none : Bool → Bool → List (Change A)
+      none t u = cond (not t) (half_change x o o Tags ∷ cond (not u) (half_change x o o Rest ∷ []) [])
+          (cond (not u) (half_change x o o Rest ∷ []) [])
+
+  -- the cells of some names at which two maps differ
+  abbrev differing_of : Rows A → Rows A → List Name → List Cell
+  differing_of m n names = filter (λ c. not (are_same_halves (half_at m c) (half_at n c))) (cells_of names)
+
+  -- the changes between two maps are those of the rows of both
+  pub differences-all_rows : (m n : Rows A)
+      → differences m n ≡ rows_changes m (row_at n) (name_set (names_of m ++ names_of n))
+  differences-all_rows m n = over (name_set (names_of m ++ names_of n))
+    where
+      over : (xs : List Name) → map (change_at m n) (differing_of m n xs) ≡ rows_changes m (row_at n) xs
+      over [] = refl
+      over (x ∷ xs) = by (differs (change_at m n (tags_at x))) (differs (change_at m n (rest_at x))) (over xs)
+        where
+          by : (t u : Bool) → map (change_at m n) (differing_of m n xs) ≡ rows_changes m (row_at n) xs
+              → map (change_at m n)
+              (cond t (tags_at x ∷ cond u (rest_at x ∷ differing_of m n xs) (differing_of m n xs))
+              (cond u (rest_at x ∷ differing_of m n xs) (differing_of m n xs)))
+              ≡ chosen t u (change_at m n (tags_at x)) (change_at m n (rest_at x)) (rows_changes m (row_at n) xs)
+          by true true i = ap (λ l. change_at m n (tags_at x) ∷ change_at m n (rest_at x) ∷ l) i
+          by true false i = ap (λ l. change_at m n (tags_at x) ∷ l) i
+          by false true i = ap (λ l. change_at m n (rest_at x) ∷ l) i
+          by false false i = i
+
+  -- those of some names at which two maps have other rows
+  abbrev others_of : Rows A → Rows A → List Name → List Name
+  others_of m n names = filter (λ x. not (is_same_row (row_at m x) (row_at n x))) names
+
+  -- the names at which two maps differ, rising
+  abbrev pub differing_names : Rows A → Rows A → List Name
+  differing_names m n = filter (λ x. not (is_same_row (row_at m x) (row_at n x))) (name_set (names_of m ++ names_of n))
+
+  -- and so they are those of the rows that differ
+  pub differences-rows : (m n : Rows A) → differences m n ≡ rows_changes m (row_at n) (differing_names m n)
+  differences-rows m n = differences-all_rows m n ∙ over (name_set (names_of m ++ names_of n))
+    where
+      over : (xs : List Name) → rows_changes m (row_at n) xs ≡ rows_changes m (row_at n) (others_of m n xs)
+      over [] = refl
+      over (x ∷ xs) = by (is_same_row (row_at m x) (row_at n x)) refl (over xs)
+        where
+          by : (b : Bool) → is_same_row (row_at m x) (row_at n x) ≡ b
+              → rows_changes m (row_at n) xs ≡ rows_changes m (row_at n) (others_of m n xs)
+              → row_changes x (row_at m x) (row_at n x) ++ rows_changes m (row_at n) xs
+              ≡ rows_changes m (row_at n) (cond (not b) (x ∷ others_of m n xs) (others_of m n xs))
+          by true e i =
+              ap (λ l. l ++ rows_changes m (row_at n) xs) (stays x (row_at m x) (row_at n x) e) ∙ i
+          by false e i = ap (λ l. row_changes x (row_at m x) (row_at n x) ++ l) i

@@ -1,22 +1,25 @@
--- What the tests of equality tell.
-use Rattle.std.proofs.Common.{◌≡◌, ◌&&◌, Bool, true, ℕ, ℤ, List, [], ◌∷◌, Option, Some, None, refl, sym, ap}
-use Rattle.std.specs.Ordering.{int_eq, int_cmp}
+-- What the tests of equality tell, and that they pass a value with itself.
+use Rattle.std.proofs.Common.{◌≡◌, ◌&&◌, Bool, true, ℕ, ℤ, List, [], ◌∷◌, Option, Some, None, refl, sym, ap, arith, nat_eq}
+use Rattle.std.proofs.lemmas.Bool.Decides.{nat_tests}
+use Rattle.std.specs.Cmp.{tied_itself, int_cmp_total}
+use Rattle.std.specs.Ordering.{is_eq, int_eq, int_cmp}
 use Rattle.std.specs.Cmp.Lexicographic.{pointwise, same_text}
 use Rattle.std.specs.FinMap.{int_cmp-IsAntisymmetric}
 use Rattle.osm_elements.specs.declared.name.Name.{Name}
 use Rattle.osm_elements.specs.declared.element.Element.{Element}
 use Rattle.osm_elements.specs.declared.element.Element.TheVariants.{Node, Way, Relation}
-use Rattle.osm_elements.specs.Facts.Rows.{same, same_names}
+use Rattle.osm_elements.specs.Facts.Rows.{same, same_names, is_eq-name_cmp_itself}
 use Rattle.osm_elements.specs.TagRows.{Pairs}
 use Rattle.osm_elements.specs.Texts.{is_same_text}
-use Rattle.osm_elements.specs.Facts.Tests.{first_true, second_true}
+use Rattle.osm_elements.specs.Facts.Tests.{both_true, first_true, second_true}
 use Rattle.osm_elements.specs.Maps.{is_same}
 use Rattle.osm_changes.specs.SameRows.{are_same_names, are_same_members, are_same_tags, is_same_element, is_same_row}
 
-same_ints : (y z : ℤ) → int_eq y z ≡ true → y ≡ z
+pub same_ints : (y z : ℤ) → int_eq y z ≡ true → y ≡ z
 same_ints y z e = int_cmp-IsAntisymmetric y z (same (int_cmp y z) e)
 
-same_lists : {X : Type 0} (E : X → X → Bool) → ((x y : X) → E x y ≡ true → x ≡ y) → (xs ys : List X) → pointwise E xs ys ≡ true → xs ≡ ys
+same_lists : {X : Type 0} (E : X → X → Bool) → ((x y : X) → E x y ≡ true → x ≡ y) → (xs ys : List X)
+    → pointwise E xs ys ≡ true → xs ≡ ys
 same_lists E told [] [] e = refl
 same_lists E told [] (y ∷ ys) e = absurd (cc)
 same_lists E told (x ∷ xs) [] e = absurd (cc)
@@ -25,10 +28,13 @@ same_lists E told (x ∷ xs) (y ∷ ys) e =
     let tail = same_lists E told xs ys (second_true (E x y) (pointwise E xs ys) e) in
     λ i. head i ∷ tail i
 
+pub same_name_lists : (xs ys : List Name) → are_same_names xs ys ≡ true → xs ≡ ys
+same_name_lists = same_lists is_same same_names
+
 pub same_texts : (s t : List ℕ) → is_same_text s t ≡ true → s ≡ t
 same_texts s t e = same_text s t (sym e)
 
-same_tags : (p q : Pairs) → are_same_tags p q ≡ true → p ≡ q
+pub same_tags : (p q : Pairs) → are_same_tags p q ≡ true → p ≡ q
 same_tags p q e = same_lists _ told p q e
   where
     told : (x y : List ℕ × List ℕ) → (is_same_text x.0 y.0 && is_same_text x.1 y.1) ≡ true → x ≡ y
@@ -37,7 +43,7 @@ same_tags p q e = same_lists _ told p q e
         let value = same_texts x.1 y.1 (second_true (is_same_text x.0 y.0) (is_same_text x.1 y.1) h) in
         λ i. (key i, value i)
 
-same_members : (p q : List (Name × List ℕ)) → are_same_members p q ≡ true → p ≡ q
+pub same_members : (p q : List (Name × List ℕ)) → are_same_members p q ≡ true → p ≡ q
 same_members p q e = same_lists _ told p q e
   where
     told : (x y : Name × List ℕ) → (is_same x.0 y.0 && is_same_text x.1 y.1) ≡ true → x ≡ y
@@ -61,11 +67,13 @@ module _ {A : Type 0} where
   same_elements (Relation members tags) (Node lat2 lon2 tags2) e = absurd (cc)
   same_elements (Relation members tags) (Way nodes2 tags2) e = absurd (cc)
   same_elements (Relation members tags) (Relation members2 tags2) e =
-      let lists = same_members members members2 (first_true (are_same_members members members2) (are_same_tags tags tags2) e) in
+      let lists = same_members members members2
+      (first_true (are_same_members members members2) (are_same_tags tags tags2) e) in
       let both = same_tags tags tags2 (second_true (are_same_members members members2) (are_same_tags tags tags2) e) in
       λ i. Relation (lists i) (both i)
   same_elements (Way nodes tags) (Way nodes2 tags2) e =
-      let lists = same_lists is_same same_names nodes nodes2 (first_true (are_same_names nodes nodes2) (are_same_tags tags tags2) e) in
+      let lists = same_name_lists nodes nodes2
+      (first_true (are_same_names nodes nodes2) (are_same_tags tags tags2) e) in
       let both = same_tags tags tags2 (second_true (are_same_names nodes nodes2) (are_same_tags tags tags2) e) in
       λ i. Way (lists i) (both i)
 
@@ -74,3 +82,42 @@ module _ {A : Type 0} where
   told_same_row None (Some w) e = absurd (cc)
   told_same_row (Some v) None e = absurd (cc)
   told_same_row (Some v) (Some w) e = ap Some (same_elements v w e)
+
+-- ---- a value with itself
+
+list_itself : {X : Type 0} (E : X → X → Bool) → ((x : X) → E x x ≡ true) → (xs : List X) → pointwise E xs xs ≡ true
+list_itself E told [] = refl
+list_itself E told (x ∷ xs) = both_true (E x x) (pointwise E xs xs) (told x) (list_itself E told xs)
+
+number_itself : (n : ℕ) → nat_eq n n ≡ true
+number_itself n = grind (arith, nat_tests)
+
+pub int_itself : (z : ℤ) → int_eq z z ≡ true
+int_itself z = ap is_eq (tied_itself int_cmp_total z)
+
+pub names_itself : (names : List Name) → are_same_names names names ≡ true
+names_itself = list_itself is_same is_eq-name_cmp_itself
+
+pub tags_itself : (tags : Pairs) → are_same_tags tags tags ≡ true
+tags_itself = list_itself (λ p q. is_same_text p.0 q.0 && is_same_text p.1 q.1)
+    (λ p. both_true (is_same_text p.0 p.0) (is_same_text p.1 p.1) (list_itself nat_eq number_itself p.0)
+    (list_itself nat_eq number_itself p.1))
+
+pub members_itself : (members : List (Name × List ℕ)) → are_same_members members members ≡ true
+members_itself = list_itself (λ p q. is_same p.0 q.0 && is_same_text p.1 q.1)
+    (λ p. both_true (is_same p.0 p.0) (is_same_text p.1 p.1) (is_eq-name_cmp_itself p.0)
+    (list_itself nat_eq number_itself p.1))
+
+module _ {A : Type 0} where
+  pub same_element : (v : Element A) → is_same_element v v ≡ true
+  same_element (Node lat lon tags) =
+      both_true (int_eq lat lat) (int_eq lon lon && are_same_tags tags tags) (int_itself lat)
+      (both_true (int_eq lon lon) (are_same_tags tags tags) (int_itself lon) (tags_itself tags))
+  same_element (Way nodes tags) = both_true (are_same_names nodes nodes) (are_same_tags tags tags)
+      (names_itself nodes) (tags_itself tags)
+  same_element (Relation members tags) = both_true (are_same_members members members) (are_same_tags tags tags)
+      (members_itself members) (tags_itself tags)
+
+  pub same_row : (o : Option (Element A)) → is_same_row o o ≡ true
+  same_row None = refl
+  same_row (Some v) = same_element v

@@ -6,4 +6,4 @@ use Rattle.edit_simple.proofs.changing.one_change.Goals as goal
 pub push_row-requires : goal.push_row-requires
 push_row-requires g c =
     subst (λ cs. AreChanges (cs ++ row_changes c.args.name.now c.args.before c.args.after)) (sym c.empty-changes.ensures)
-    (AreChanges-row_changes c.args.name.now c.args.before c.args.after c.requires)
+    (AreChanges-row_changes c.args.name.now c.args.before c.args.after)

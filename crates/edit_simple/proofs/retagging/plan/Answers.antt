@@ -1,11 +1,7 @@
 use Rattle.std.proofs.Common.{sym, ◌∙◌}
 use Rattle.osm_changes.specs.SameRows.{are_same_tags}
-use Rattle.edit_simple.proofs.RetagPlans.{tags_apart, retag_planned}
+use Rattle.edit_simple.proofs.RetagPlans.{retag_planned}
 use Rattle.edit_simple.proofs.retagging.plan.Goals as goal
-
-pub one_change-requires : goal.one_change-requires
-one_change-requires g c =
-    tags_apart c.in-Some.element.now c.in_ok-before.before c.in_ok-after.after c.tags-2.result.now c.in_ok-tags.tags c.in_ok-before.ensures c.in_ok-after.ensures c.tags-2.ensures c.if-are_same_tags.ensures
 
 pub returns : goal.returns
 returns g c =

@@ -8,7 +8,7 @@ use Rattle.edit_topology.proofs.join.change_all.Goals as goal
 pub push_row-requires : goal.push_row-requires
 push_row-requires g c =
     one_fits c.args.rows.now (row_joined c.args.rows.now c.args.name.now c.args.other.now (Some c.args.joined)) c.args.names.now c.loop-changing.changing-index c.changing-item.result c.loop-changing-test.true c.changing-item.is
-    c.requires.rising c.requires.apart c.loop-changing.changes (Some c.in_ok-before.before) c.in_ok-before.after c.loop-changing.invariant.0 c.in_ok-before.ensures.row.0
+    c.requires.rising c.loop-changing.changes (Some c.in_ok-before.before) c.in_ok-before.after c.loop-changing.invariant.0 c.in_ok-before.ensures.row.0
     (c.in_ok-before.ensures.row.1
     ∙ same_row c.args.rows.now c.args.name.now c.args.other.now c.args.joined c.args.names.now c.loop-changing.changing-index c.changing-item.result c.loop-changing-test.true c.changing-item.is
     c.requires.rising c.loop-changing.joined c.loop-changing.invariant.1)

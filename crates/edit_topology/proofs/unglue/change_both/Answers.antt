@@ -1,7 +1,7 @@
-use Rattle.std.proofs.Common.{◌++◌, None, Some, sym, ap, ◌∙◌}
+use Rattle.std.proofs.Common.{◌++◌, None, Some, ap, ◌∙◌}
 use Rattle.osm_elements.specs.declared.element.Element.TheVariants.{Way}
 use Rattle.osm_changes.specs.Changes.{row_changes}
-use Rattle.edit_topology.proofs.UngluePlans.{other_nodes, first_fits, second_fits}
+use Rattle.edit_topology.proofs.UngluePlans.{first_fits, second_fits}
 use Rattle.edit_topology.proofs.unglue.change_both.Goals as goal
 
 pub push_row-requires : goal.push_row-requires
@@ -9,7 +9,5 @@ push_row-requires g c = first_fits c.args.into.now c.in_ok-copy.field-0 c.empty-
 
 pub push_row-requires-2 : goal.push_row-requires-2
 push_row-requires-2 g c =
-    second_fits c.args.into.now c.args.name.now c.in_ok-copy.field-0 (Way c.unglued-2.inside.names.items c.in_ok-copy-4.field-0) (Way c.args.nodes.now c.args.tags.now) (Way c.in_ok-copy-2.field-0 c.in_ok-copy-3.field-0) c.requires.rising
-    (other_nodes c.unglued-2.inside.names.items c.args.nodes.now c.in_ok-copy-4.field-0 c.args.tags.now (λ e. c.requires.other (sym c.unglued-2.view_is ∙ e))) c.push_row.new.self
+    second_fits c.args.into.now c.args.name.now c.in_ok-copy.field-0 (Way c.unglued-2.inside.names.items c.in_ok-copy-4.field-0) (Way c.in_ok-copy-2.field-0 c.in_ok-copy-3.field-0) c.requires c.push_row.new.self
     (c.in_ok-push_row.ensures.ok ∙ ap (λ l. l ++ row_changes c.args.into.now None (Some c.in_ok-copy.field-0)) c.empty-changes.ensures)
-    (λ i. Way (c.in_ok-copy-2.ensures i) (c.in_ok-copy-3.ensures i))

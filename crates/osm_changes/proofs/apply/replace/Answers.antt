@@ -1,15 +1,15 @@
-use Rattle.std.proofs.Common.{◌∙◌, ap, sym}
-use Rattle.osm_changes.specs.Inner.Applying.{replacement}
-use Rattle.osm_changes.proofs.Applying.{copy_at, there_at}
+use Rattle.std.proofs.Common.{◌≡◌, ◌++◌, true, false, sym, ap, ◌∙◌}
+use Rattle.std.specs.Vec.Iter.{into_iter_items}
+use Rattle.osm_changes.specs.Inner.Applying.{is_new}
+use Rattle.osm_changes.proofs.Applying.{none_is_new_then}
 use Rattle.osm_changes.proofs.apply.replace.Goals as goal
 
-pub replace_one-requires-clause-copy : goal.replace_one-requires-clause-copy
-replace_one-requires-clause-copy g c =
-    c.take-copy.ensures.value ∙ c.index_mut.ensures.value
-    ∙ copy_at replacement c.args.changes.now c.loop-place.copies.items c.loop-place.place c.index-changes-place.result _ c.loop-place-test.true c.loop-place.invariant.1
-    ∙ ap replacement (sym c.index-changes-place.is)
-
-pub replace_one-requires-clause-there : goal.replace_one-requires-clause-there
-replace_one-requires-clause-there g c =
-    rw (c.loop-place.invariant.0, c.index-changes-place.is)
-    (there_at c.args.changes.now c.args.rows.now c.loop-place.place c.index-changes-place.result c.loop-place-test.true c.requires.order c.requires.rising c.requires.there)
+pub unreachable-requires : goal.unreachable-requires
+unreachable-requires g c =
+    let r = c.in-Some.row in
+    let done = c.loop-row.yielded in
+    let cut = sym c.loop-row.invariant.all ∙ ap (λ rest. done ++ rest) c.in-Some.ensures.steps.0 in
+    let clash : true ≡ false =
+    sym c.in-Err.ensures.new ∙ ap (λ m. is_new m r) c.loop-row.invariant.rows_are
+    ∙ none_is_new_then c.args.told.items c.args.rows.now done r (into_iter_items c.next.new.self) cut c.requires.rising c.requires.there in
+    absurd (cc)

@@ -1,22 +1,18 @@
 use Rattle.std.proofs.Common.{◌∙◌, ap, sym, take}
-use Rattle.osm_elements.specs.Maps.{name_set}
-use Rattle.osm_elements.specs.Rows.{row_at}
-use Rattle.osm_changes.specs.Changes.{changed}
+use Rattle.osm_elements.specs.Maps.{is_among, name_set}
 use Rattle.osm_refs.specs.References.{row_references}
 use Rattle.osm_refs.specs.Tables.{references_at, noted, UsersState}
-use Rattle.osm_changes.proofs.Found.{waits_at}
-use Rattle.osm_changes.proofs.NotesTaken.{referred}
+use Rattle.osm_changes.proofs.NotesTaken.{referred, waits_at}
+use Rattle.osm_changes.proofs.RowsTold.{names_told}
 use Rattle.osm_changes.proofs.noting.ready.Goals as goal
 
 pub ready-requires : goal.ready-requires
 ready-requires g c =
-    let cs = c.args.changes.now in
+    let rs = c.args.told.now in
     let m = c.args.rows.now in
-    let i = c.loop-change.change-index in
-    let x = c.change-item.result.name in
-    let here = c.change-item.is in
-    let waits = waits_at cs i c.change-item.result m c.loop-change-test.true c.requires.rising in
-    let from = c.requires.from i c.change-item.result c.loop-change-test.true in
-    ap (λ o. name_set (row_references o)) (c.as_ref.ensures.value ∙ ap (λ d. d.before) here ∙ from ∙ sym waits ∙ ap (λ d. row_at (changed m (take i cs)) d.name) (sym here))
-    ∙ sym (referred (take i cs) m x c.requires.order)
-    ∙ ap (λ (u : UsersState). references_at (noted u.references u.waiting) x) (sym c.loop-change.invariant)
+    let done = take c.loop-row.row-index rs in
+    let r = c.row-item.result in
+    let waits = ap (λ s. is_among (names_told done) s.name) c.row-item.is ∙ waits_at rs c.loop-row.row-index r c.loop-row-test.true c.requires.rising in
+    ap (λ o. name_set (row_references o)) c.get.ensures
+    ∙ sym (referred done m r.name c.requires.order waits)
+    ∙ ap (λ (u : UsersState). references_at (noted u.references u.waiting) r.name) (sym c.loop-row.invariant)

@@ -18,4 +18,4 @@ invariant_of-result g c =
     let end : length c.args.self ≤ c.loop-change.change-index = omega (arith, test, same) in
     let all : c.loop-change.change-items ≡ inverse c.args.self = turned_all c.args.self c.loop-change.change-items c.loop-change.change-index end c.loop-change.invariant in
     let len = c.loop-change.auto.change-items ∙ c.deref_mut-change-items.ensures.len in
-    subst AreChanges (sym (take_at c.loop-change.change-items (drop (length c.loop-change.change-items) c.self.inside.rows.items) c.self.inside.rows.len len)) (subst AreChanges (sym all) (AreChanges-inverse c.args.self (subst AreChanges c.self.view_is c.self.invariant)))
+    subst AreChanges (sym (take_at c.loop-change.change-items (drop (length c.loop-change.change-items) c.self.inside.changes.items) c.self.inside.changes.len len)) (subst AreChanges (sym all) (AreChanges-inverse c.args.self (subst AreChanges c.self.view_is c.self.invariant)))

@@ -1,0 +1,74 @@
+-- What an accepted retag changes: the tags of its name alone.
+use Rattle.std.proofs.Common.{◌≡◌, ◌≢◌, Bool, true, false, not, cond, None, Some, List, [], ◌∷◌, refl, sym, ap, ◌∙◌}
+use Rattle.osm_elements.specs.declared.name.Name.{Name}
+use Rattle.osm_elements.specs.declared.element.Element.{Element}
+use Rattle.osm_elements.specs.declared.element.Element.TheVariants.{Node, Way, Relation}
+use Rattle.osm_elements.specs.Elements.{tags_of}
+use Rattle.osm_elements.specs.Maps.{Rows, is_absent, is_present}
+use Rattle.osm_elements.specs.Rows.{row_at}
+use Rattle.osm_elements.specs.TagRows.{Pairs}
+use Rattle.osm_changes.specs.declared.change.Change.{Change}
+use Rattle.osm_changes.specs.declared.part.Part.TheVariants.{Tags, Rest}
+use Rattle.osm_changes.specs.SameRows.{are_same_tags}
+use Rattle.osm_changes.specs.Cells.{tags_at}
+use Rattle.osm_changes.specs.Changes.{changed_cells, differences, half_change, row_changes}
+use Rattle.osm_changes.specs.Halves.{half, are_same_halves}
+use Rattle.osm_changes.specs.Facts.Halves.{same_itself}
+use Rattle.osm_changes.specs.Facts.SameElements.{tags_itself}
+use Rattle.edit_simple.specs.declared.refusal.Refusal.{Refusal}
+use Rattle.edit_simple.specs.declared.refusal.Refusal.TheVariants.{Absent, Nothing}
+use Rattle.edit_simple.specs.Checks.{first_that_holds}
+use Rattle.edit_simple.specs.Contents.{row_tags, with_tags}
+use Rattle.edit_simple.specs.Retag.{retag_checks, after_retag}
+use Rattle.edit_simple.specs.Tagging.{GivenTags, retagged}
+use Rattle.edit_simple.specs.Facts.Checked.{nones, not_so, from_false}
+use Rattle.edit_simple.specs.Facts.Differences.{one_rewritten}
+use Rattle.edit_simple.specs.Facts.Retagging.{is_there, tags_of-with_tags}
+
+module _ {A : Type 0} where
+  rest_stays : (f : Pairs → Pairs) (v : Element A) → half Rest (Some (with_tags f v)) ≡ half Rest (Some v)
+  rest_stays f (Node lat lon tags) = refl
+  rest_stays f (Way nodes tags) = refl
+  rest_stays f (Relation members tags) = refl
+
+  -- an element that gets other tags changes in this cell alone
+  tags_alone : (x : Name) (f : Pairs → Pairs) (v : Element A) → are_same_tags (tags_of v) (f (tags_of v)) ≡ false
+      → changed_cells (row_changes x (Some v) (Some (with_tags f v))) ≡ tags_at x ∷ []
+  tags_alone x f v other =
+      λ i. changed_cells (cond (not (tags i)) (half_change x (Some v) (Some (with_tags f v)) Tags ∷ rest_if (rest i))
+      (rest_if (rest i)))
+    where
+      rest_if : Bool → List (Change A)
+      rest_if b = cond (not b) (half_change x (Some v) (Some (with_tags f v)) Rest ∷ []) []
+
+      tags : are_same_halves (half Tags (Some v)) (half Tags (Some (with_tags f v))) ≡ false
+      tags = ap (are_same_tags (tags_of v)) (tags_of-with_tags f v) ∙ other
+
+      rest : are_same_halves (half Rest (Some v)) (half Rest (Some (with_tags f v))) ≡ true
+      rest = ap (are_same_halves (half Rest (Some v))) (rest_stays f v) ∙ same_itself (half Rest (Some v))
+
+  pub retag_tells : (m : Rows A) (x : Name) (given : GivenTags) → first_that_holds (retag_checks m x given) ≡ None
+      → changed_cells (differences m (after_retag m x given)) ≡ tags_at x ∷ []
+  retag_tells m x given ok = ap changed_cells (sym (one_rewritten m x (with_tags f) row.0 row.1 apart))
+      ∙ tags_alone x f row.0 other
+    where
+      f : Pairs → Pairs
+      f tags = retagged tags given
+
+      row : (v : Element A) × (row_at m x ≡ Some v)
+      row = is_there m x (from_false (is_present m x)
+          (not_so {X = Refusal A} (is_absent m x) (Absent x) (nones (retag_checks m x given) ok).0))
+
+      other : are_same_tags (tags_of row.0) (f (tags_of row.0)) ≡ false
+      other =
+          (λ i. are_same_tags (tags_in i) (f (tags_in i)))
+          ∙ not_so {X = Refusal A} (are_same_tags (row_tags (row_at m x)) (f (row_tags (row_at m x)))) Nothing
+          (nones (retag_checks m x given) ok).1.1.0
+        where
+          tags_in : tags_of row.0 ≡ row_tags (row_at m x)
+          tags_in = ap row_tags (sym row.1)
+
+      apart : Some (with_tags f row.0) ≢ Some row.0
+      apart e =
+          cc (sym (tags_itself (tags_of row.0))
+          ∙ ap (are_same_tags (tags_of row.0)) (sym (ap row_tags e) ∙ tags_of-with_tags f row.0) ∙ other)

@@ -1,0 +1,114 @@
+-- What is found in a map that is told rows one by one.
+use Rattle.std.proofs.Common.{◌≡◌, ◌||◌, Bool, true, false, T, List, [], ◌∷◌, ◌++◌, map, refl, sym, ap, ◌∙◌, cond}
+use Rattle.std.specs.List.{filter, fold}
+use Rattle.std.specs.Ordering.{is_lt, is_eq}
+use Rattle.std.specs.declared.cmp.Ordering.{Ordering}
+use Rattle.std.specs.declared.cmp.Ordering.TheVariants.{Less, Equal, Greater}
+use Rattle.std.specs.FinMap.Entries.{below_all}
+use Rattle.osm_elements.specs.declared.name.Name.{Name}
+use Rattle.osm_elements.specs.NameOrder.{name_cmp}
+use Rattle.osm_elements.specs.Rows.{AreInOrder, row_at}
+use Rattle.osm_elements.specs.Facts.Dropped.{same_either_way}
+use Rattle.osm_elements.specs.Facts.Rows.{same_names}
+use Rattle.osm_elements.specs.Maps.{Rows, is_same, is_among}
+use Rattle.rising_lists.specs.Rising.{bare_rows}
+use Rattle.rising_lists.specs.Facts.Sorted.{both, first, second}
+use Rattle.osm_changes.specs.declared.row_after.RowAfter.{RowAfter}
+use Rattle.osm_changes.specs.Changes.{are_rising, row_in}
+use Rattle.osm_changes.specs.Inner.Applying.{with_told}
+use Rattle.osm_changes.specs.Facts.Changing.{row_at-with_row, AreInOrder-with_row}
+
+pub or_false : (a b : Bool) → (a || b) ≡ false → (a ≡ false) × (b ≡ false)
+or_false true b e = absurd (cc)
+or_false false b e = (refl, e)
+
+pub below_is_other : (o : Ordering) → T (is_lt o) → is_eq o ≡ false
+below_is_other Less h = refl
+below_is_other Equal h = absurd h
+below_is_other Greater h = absurd h
+
+-- of rising names one that stands before is not among those after it
+pub earlier : (done : List Name) (x : Name) (rest : List Name) → T (are_rising (done ++ x ∷ rest))
+    → is_among done x ≡ false
+earlier [] x rest h = refl
+earlier (y ∷ ys) x rest h = ap (λ b. b || is_among ys x) (sym (same_either_way y x) ∙ apart ys (first _ _ h))
+    ∙ earlier ys x rest (second _ _ h)
+  where
+    apart : (zs : List Name) → T (below_all name_cmp y (bare_rows (zs ++ x ∷ rest))) → is_same y x ≡ false
+    apart [] t = below_is_other (name_cmp y x) (first _ _ t)
+    apart (z ∷ zs) t = apart zs (second _ _ t)
+
+module _ {A : Type 0} where
+  abbrev pub names_told : List (RowAfter A) → List Name
+  names_told rs = map (λ (r : RowAfter A). r.name) rs
+
+  -- the rows are told as they are in a map
+  abbrev pub AreOf : Rows A → List (RowAfter A) → Type 0
+  AreOf n [] = Unit {0}
+  AreOf n (r ∷ rs) = (row_at n r.name ≡ r.element) × AreOf n rs
+
+  pub names-rows_in : (n : Rows A) (xs : List Name) → names_told (map (row_in n) xs) ≡ xs
+  names-rows_in n [] = refl
+  names-rows_in n (x ∷ xs) = ap (λ rest. x ∷ rest) (names-rows_in n xs)
+
+  pub AreOf-rows_in : (n : Rows A) (xs : List Name) → AreOf n (map (row_in n) xs)
+  AreOf-rows_in n [] = tt
+  AreOf-rows_in n (x ∷ xs) = (refl, AreOf-rows_in n xs)
+
+  pub AreInOrder-told : (rs : List (RowAfter A)) (now : Rows A) → AreInOrder now → AreInOrder (fold with_told now rs)
+  AreInOrder-told [] now h = h
+  AreInOrder-told (r ∷ rs) now h = AreInOrder-told rs (with_told now r) (AreInOrder-with_row now r.name r.element h)
+
+  -- a name that is told has the row of the map that is told, and any other keeps its row
+  pub row_at-told : (n : Rows A) (rs : List (RowAfter A)) (now : Rows A) → AreOf n rs → (y : Name)
+      → row_at (fold with_told now rs) y ≡ cond (is_among (names_told rs) y) (row_at n y) (row_at now y)
+  row_at-told n [] now are y = refl
+  row_at-told n (r ∷ rs) now are y =
+      row_at-told n rs (with_told now r) are.1 y
+      ∙ ap (cond (is_among (names_told rs) y) (row_at n y)) (row_at-with_row now r.name r.element y)
+      ∙ by (is_same y r.name) refl (is_among (names_told rs) y)
+    where
+      by : (s : Bool) → is_same y r.name ≡ s → (a : Bool)
+          → cond a (row_at n y) (cond s r.element (row_at now y)) ≡ cond (s || a) (row_at n y) (row_at now y)
+      by true e true = refl
+      by true e false = sym are.0 ∙ ap (row_at n) (sym (same_names y r.name e))
+      by false e a = refl
+
+  pub row_at-untold : (rs : List (RowAfter A)) (now : Rows A) (y : Name) → is_among (names_told rs) y ≡ false
+      → row_at (fold with_told now rs) y ≡ row_at now y
+  row_at-untold [] now y e = refl
+  row_at-untold (r ∷ rs) now y e =
+      let parts = or_false (is_same y r.name) (is_among (names_told rs) y) e in
+      row_at-untold rs (with_told now r) y parts.1 ∙ row_at-with_row now r.name r.element y
+      ∙ ap (λ s. cond s r.element (row_at now y)) parts.0
+
+  -- ---- those rows that pass a test
+
+  pub AreOf-filter : (p : RowAfter A → Bool) (n : Rows A) (rs : List (RowAfter A)) → AreOf n rs → AreOf n (filter p rs)
+  AreOf-filter p n [] are = tt
+  AreOf-filter p n (r ∷ rs) are = by (p r) (AreOf-filter p n rs are.1)
+    where
+      by : (b : Bool) → AreOf n (filter p rs) → AreOf n (cond b (r ∷ filter p rs) (filter p rs))
+      by true i = (are.0, i)
+      by false i = i
+
+  below_filter : (p : RowAfter A → Bool) (x : Name) (rs : List (RowAfter A))
+      → T (below_all name_cmp x (bare_rows (names_told rs)))
+      → T (below_all name_cmp x (bare_rows (names_told (filter p rs))))
+  below_filter p x [] h = tt
+  below_filter p x (r ∷ rs) h = by (p r) (below_filter p x rs (second _ _ h))
+    where
+      by : (b : Bool) → T (below_all name_cmp x (bare_rows (names_told (filter p rs))))
+          → T (below_all name_cmp x (bare_rows (names_told (cond b (r ∷ filter p rs) (filter p rs)))))
+      by true i = both _ _ (first _ _ h) i
+      by false i = i
+
+  pub rising_filter : (p : RowAfter A → Bool) (rs : List (RowAfter A)) → T (are_rising (names_told rs))
+      → T (are_rising (names_told (filter p rs)))
+  rising_filter p [] h = tt
+  rising_filter p (r ∷ rs) h = by (p r) (rising_filter p rs (second _ _ h))
+    where
+      by : (b : Bool) → T (are_rising (names_told (filter p rs)))
+          → T (are_rising (names_told (cond b (r ∷ filter p rs) (filter p rs))))
+      by true i = both _ _ (below_filter p r.name rs (first _ _ h)) i
+      by false i = i

@@ -1,0 +1,103 @@
+//! What changes make of the rows of a map.
+ghost use Rattle.std.specs.Prelude.{◌≡◌, IfOk, map};
+ghost use Rattle.std.specs.Option.{option_copied};
+ghost use Rattle.osm_changes.specs.Cells.{IsRising};
+ghost use Rattle.osm_changes.specs.Changes.{changed, changed_cells, changed_names, half_after, row_in, rows_after};
+ghost use Rattle.osm_changes.specs.Halves.{half};
+
+use crate::cell::Cell;
+use crate::change::Change;
+use crate::half::{Half, copy_of};
+use crate::halving::{half_of, row_of};
+use crate::part::Part;
+use crate::row_after::RowAfter;
+use osm_elements::Memory;
+use osm_elements::element::Element;
+use osm_elements::map::OsmMap;
+use osm_elements::name::Name;
+use std::alloc::Allocator;
+
+/// The names that some changes tell of, in their order, each with its row in the map after the changes. The one
+/// refusal is want of memory. It costs a copy of these rows, and for each a look-up in the map and two in the changes.
+pub fn rows_after<A: Allocator + Clone>(
+    alloc: A,
+    rows: &OsmMap<A>,
+    changes: &[Change<A>],
+) -> Result<Vec<RowAfter<A>, A>, Memory>
+    requires { IsRising (changed_cells changes.now) }
+    ensures { IfOk result (λ told. told.items ≡ rows_after rows.now changes.now) }
+{
+    let names = changed_names(alloc.clone()?, changes)?;
+    rows_of(alloc, rows, changes, &names)
+}
+
+// The names that some changes tell of, each once.
+fn changed_names<A: Allocator>(alloc: A, changes: &[Change<A>]) -> Result<Vec<Name, A>, Memory>
+    requires { IsRising (changed_cells changes.now) }
+    ensures { IfOk result (λ names. names.items ≡ changed_names changes.now) }
+{
+    let mut names = Vec::new(alloc);
+    for change in changes {
+        names.push(change.name)?;
+    }
+    names.dedup();
+    Ok(names)
+}
+
+// Some names, each with its row after changes.
+fn rows_of<A: Allocator + Clone>(
+    alloc: A,
+    rows: &OsmMap<A>,
+    changes: &[Change<A>],
+    names: &[Name],
+) -> Result<Vec<RowAfter<A>, A>, Memory>
+    requires { IsRising (changed_cells changes.now) }
+    ensures { IfOk result (λ told. told.items ≡ map (row_in (changed rows.now changes.now)) names.now) }
+{
+    let mut told = Vec::new(alloc);
+    for name in names {
+        told.push(row_after(rows, changes, name)?)?;
+    }
+    Ok(told)
+}
+
+// A name with its row after changes.
+fn row_after<A: Allocator + Clone>(
+    rows: &OsmMap<A>,
+    changes: &[Change<A>],
+    name: &Name,
+) -> Result<RowAfter<A>, Memory>
+    requires { IsRising (changed_cells changes.now) }
+    ensures { IfOk result (λ told. told ≡ row_in (changed rows.now changes.now) name.now) }
+{
+    let row = rows.get(name);
+    let name = *name;
+    let tags = Cell {
+        name,
+        part: Part::Tags,
+    };
+    let rest = Cell {
+        name,
+        part: Part::Rest,
+    };
+    let element = row_of(
+        half_after(changes, tags, row)?,
+        half_after(changes, rest, row)?,
+    );
+    Ok(RowAfter { name, element })
+}
+
+// A copy of what changes make of a cell's half of a name's row.
+fn half_after<A: Allocator + Clone>(
+    changes: &[Change<A>],
+    cell: Cell,
+    row: Option<&Element<A>>,
+) -> Result<Option<Half<A>>, Memory>
+    requires { IsRising (changed_cells changes.now) }
+    ensures { IfOk result (λ h. h ≡ half_after changes.now cell (half cell.part (option_copied row.entry))) }
+{
+    match changes.binary_search_by(|change| change.cell().cmp(&cell)) {
+        Ok(place) => copy_of(&changes[place].after),
+        Err(_) => half_of(cell.part, row),
+    }
+}
