@@ -1,7 +1,7 @@
 -- The worked examples, by evaluation.
 use Rattle.std.proofs.Common.{refl}
 use Rattle.osm_elements.specs.NameOrder.{name_cmp}
-use Rattle.edit_footprint.specs.Examples.{created, retagged, moved, reversed, nodes_given, members_given, deleted, purged, split, joined, merged, unglued, ceased}
+use Rattle.edit_footprint.specs.Examples.{created, retagged, moved, reversed, nodes_given, members_given, deleted, purged, split, joined, merged, unglued, ceased, by_parts}
 
 pub created_lem : created
 unfolding created name_cmp
@@ -49,8 +49,12 @@ merged_lem = (refl, refl, refl)
 
 pub unglued_lem : unglued
 unfolding unglued name_cmp
-unglued_lem = (refl, (refl, refl))
+unglued_lem = (refl, (refl, refl, refl))
 
 pub ceased_lem : ceased
 unfolding ceased name_cmp
 ceased_lem = (refl, refl, refl)
+
+pub by_parts_lem : by_parts
+unfolding by_parts name_cmp
+by_parts_lem = (refl, refl, refl, refl, refl)

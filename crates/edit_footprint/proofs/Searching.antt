@@ -12,13 +12,10 @@ use Rattle.std.specs.Ordering.{is_lt, nat_cmp}
 use Rattle.std.specs.Slice.{IsItemAt}
 use Rattle.osm_elements.specs.declared.name.Name.{Name}
 use Rattle.osm_elements.specs.NameOrder.{name_cmp}
-use Rattle.osm_elements.specs.Maps as maps
-use Rattle.osm_elements.specs.Maps.{is_same}
-use Rattle.osm_elements.specs.Facts.Among.{is_among-append}
 use Rattle.osm_elements.specs.Facts.Entries.{first, second}
-use Rattle.osm_elements.specs.Facts.Names.{name_cmp_total}
-use Rattle.osm_elements.specs.Facts.Rows.{same_names, is_eq-name_cmp_itself}
-use Rattle.osm_refs.specs.Rising.{IsRising}
+use Rattle.osm_changes.specs.declared.cell.Cell.{Cell}
+use Rattle.osm_changes.specs.Cells.{cell_cmp, is_same_cell, has, IsRising}
+use Rattle.osm_changes.specs.Facts.Cells.{cell_cmp_total, same_cells, is_same_cell-itself, has-append}
 use Rattle.rising_lists.specs.Rising as rising
 use Rattle.rising_lists.specs.Facts.Searching.{below_at}
 use Rattle.edit_footprint.specs.Facts.Meeting.{not_less, not_less_itself}
@@ -52,88 +49,94 @@ pub lent_at : {X : Type 0} (xs : List X) (i : ℕ) (r : Option (Bor X)) → IsIt
 lent_at xs i None item = sym (slice_get_past xs i item.3)
 lent_at xs i (Some x) item = ap Some (item.3.1 x.now) ∙ sym (slice_get-get_or xs i x.now item.3.0)
 
--- a name is less than none of some
-abbrev pub IsPast : List Name → Name → Type 0
-IsPast xs x = (y : Name) → maps.is_among xs y ≡ true → is_lt (name_cmp x y) ≡ false
+-- a cell has a lesser name than none of some
+abbrev pub IsPast : List Cell → Cell → Type 0
+IsPast cs c = (d : Cell) → has cs d ≡ true → is_lt (name_cmp c.name d.name) ≡ false
 
--- each of rising names is past those before it
-pub past_before : (names : List Name) (i : ℕ) (x : Name) → IsRising names → i < length names → x ≡ get_or names i x → IsPast (take i names) x
-past_before [] i x r within is y there = absurd (omega arith)
-past_before (z ∷ zs) zero x r within is y there = absurd (cc)
-past_before (z ∷ zs) (suc i) x r within is y there = by (is_same y z) refl there (past_before zs i x (second _ _ r) (omega arith) is y)
+-- each of rising cells is past those before it
+pub past_before : (cells : List Cell) (i : ℕ) (c : Cell) → IsRising cells → i < length cells → c ≡ get_or cells i c → IsPast (take i cells) c
+past_before [] i c r within is d there = absurd (omega arith)
+past_before (z ∷ zs) zero c r within is d there = absurd (cc)
+past_before (z ∷ zs) (suc i) c r within is d there = by (is_same_cell d z) refl there (past_before zs i c (second _ _ r) (omega arith) is d)
   where
-    above : T (is_lt (name_cmp z x))
-    above = subst (λ o. T (is_lt o)) (sym (ap (name_cmp z) is ∙ below_at name_cmp name_cmp_total z zs i x (first _ _ r) (omega arith))) tt
+    above : T (is_lt (cell_cmp z c))
+    above = subst (λ o. T (is_lt o)) (sym (ap (cell_cmp z) is ∙ below_at cell_cmp cell_cmp_total z zs i c (first _ _ r) (omega arith))) tt
 
-    by : (b : Bool) → is_same y z ≡ b → (b || maps.is_among (take i zs) y) ≡ true → (maps.is_among (take i zs) y ≡ true → is_lt (name_cmp x y) ≡ false) → is_lt (name_cmp x y) ≡ false
-    by true e f go = ap (λ w. is_lt (name_cmp x w)) (same_names y z e) ∙ not_less z x above
+    by : (b : Bool) → is_same_cell d z ≡ b → (b || has (take i zs) d) ≡ true → (has (take i zs) d ≡ true → is_lt (name_cmp c.name d.name) ≡ false) → is_lt (name_cmp c.name d.name) ≡ false
+    by true e f go = ap (λ (q : Cell). is_lt (name_cmp c.name q.name)) (same_cells d z e) ∙ not_less z c above
     by false e f go = go f
 
-pub next : (names : List Name) (i : ℕ) (x : Name) → i < length names → x ≡ get_or names i x → take (i + 1) names ≡ take i names ++ x ∷ []
-next names i x within is = take_more names i x within ∙ ap (λ z. take i names ++ z ∷ []) (sym is)
+pub next : (cells : List Cell) (i : ℕ) (c : Cell) → i < length cells → c ≡ get_or cells i c → take (i + 1) cells ≡ take i cells ++ c ∷ []
+next cells i c within is = take_more cells i c within ∙ ap (λ z. take i cells ++ z ∷ []) (sym is)
 
-module _ (held : Held) (xs : List Name) (x : Name) (seq : ℕ) (past : IsPast xs x) (rises : rising.IsRising nat_cmp (holding held x)) where
-  -- an entry that holds one of the names holds one of those before the last, or the last
-  split : {P : Type 0} (n : ℕ) (y : Name) → (Meets held xs seq n y → P) → (y ≡ x → holds held x n ≡ true → P) → Meets held (xs ++ x ∷ []) seq n y → P
-  split {P} n y before last meets = by (maps.is_among xs y) refl (is_same y x) refl (sym (is_among-append y xs (x ∷ [])) ∙ meets.1)
+module _ (held : Held) (cs : List Cell) (c : Cell) (seq : ℕ) (past : IsPast cs c) (rises : rising.IsRising nat_cmp (holding held c)) where
+  -- an entry that holds one of the cells holds one of those before the last, or the last
+  split : {P : Type 0} (n : ℕ) (d : Cell) → (Meets held cs seq n d → P) → (d ≡ c → holds held c n ≡ true → P) → Meets held (cs ++ c ∷ []) seq n d → P
+  split {P} n d before last meets = by (has cs d) refl (is_same_cell d c) refl (sym (has-append d cs (c ∷ [])) ∙ meets.1)
     where
-      by : (a : Bool) → maps.is_among xs y ≡ a → (b : Bool) → is_same y x ≡ b → (a || (b || false)) ≡ true → P
+      by : (a : Bool) → has cs d ≡ a → (b : Bool) → is_same_cell d c ≡ b → (a || (b || false)) ≡ true → P
       by true e b f g = before (meets.0, e, meets.2)
-      by false e true f g = let same = same_names y x f in last same (ap (λ z. holds held z n) (sym same) ∙ meets.2)
+      by false e true f g = let same = same_cells d c f in last same (ap (λ z. holds held z n) (sym same) ∙ meets.2)
       by false e false f g = absurd (cc)
 
-  more : (n : ℕ) (y : Name) → Meets held xs seq n y → Meets held (xs ++ x ∷ []) seq n y
-  more n y meets = (meets.0, is_among-append y xs (x ∷ []) ∙ ap (λ b. b || maps.is_among (x ∷ []) y) meets.1, meets.2)
+  more : (n : ℕ) (d : Cell) → Meets held cs seq n d → Meets held (cs ++ c ∷ []) seq n d
+  more n d meets = (meets.0, has-append d cs (c ∷ []) ∙ ap (λ b. b || has (c ∷ []) d) meets.1, meets.2)
 
-  here : (n : ℕ) → seq < n → holds held x n ≡ true → Meets held (xs ++ x ∷ []) seq n x
-  here n up there = (up, is_among-append x xs (x ∷ []) ∙ ap (λ b. maps.is_among xs x || (b || false)) (is_eq-name_cmp_itself x) ∙ or_true (maps.is_among xs x), there)
+  here : (n : ℕ) → seq < n → holds held c n ≡ true → Meets held (cs ++ c ∷ []) seq n c
+  here n up there = (up, has-append c cs (c ∷ []) ∙ ap (λ b. has cs c || (b || false)) (is_same_cell-itself c) ∙ or_true (has cs c), there)
     where
       or_true : (b : Bool) → (b || (true || false)) ≡ true
       or_true true = refl
       or_true false = refl
 
-  not_less_same : (y : Name) → y ≡ x → is_lt (name_cmp y x) ≡ false
-  not_less_same y same = not_less_itself y x (ap (λ z. is_same z x) same ∙ is_eq-name_cmp_itself x)
+  not_less_same : (d : Cell) → d ≡ c → is_lt (name_cmp d.name c.name) ≡ false
+  not_less_same d same = ap (λ (q : Cell). is_lt (name_cmp q.name c.name)) same ∙ not_less_itself c.name
 
-  -- the next of the names has no number behind the other, or a first
-  pub step : (found : Option (ℕ × Name)) → IsFirstAfter held xs seq found → IsFirstAfter held (xs ++ x ∷ []) seq (sooner found (find (nat_lt seq) (holding held x)) x)
-  step found first = by (find (nat_lt seq) (holding held x)) refl found first
+  -- the next of the cells has no number behind the other, or a first
+  pub step : (found : Option (ℕ × Name)) → IsFirstAfter held cs seq found → IsFirstAfter held (cs ++ c ∷ []) seq (sooner found (find (nat_lt seq) (holding held c)) c.name)
+  step found first = by (find (nat_lt seq) (holding held c)) refl found first
     where
-      none : (n : ℕ) (y : Name) → find (nat_lt seq) (holding held x) ≡ None → Meets held (xs ++ x ∷ []) seq n y → holds held x n ≡ true → ⊥
-      none n y e meets there = none_above seq (holding held x) e n meets.0 there
+      none : (n : ℕ) (d : Cell) → find (nat_lt seq) (holding held c) ≡ None → Meets held (cs ++ c ∷ []) seq n d → holds held c n ≡ true → ⊥
+      none n d e meets there = none_above seq (holding held c) e n meets.0 there
 
-      least : (m n : ℕ) (y : Name) → find (nat_lt seq) (holding held x) ≡ Some m → Meets held (xs ++ x ∷ []) seq n y → holds held x n ≡ true → m ≤ n
-      least m n y e meets there = least_above seq (holding held x) m rises e n meets.0 there
+      least : (m n : ℕ) (d : Cell) → find (nat_lt seq) (holding held c) ≡ Some m → Meets held (cs ++ c ∷ []) seq n d → holds held c n ≡ true → m ≤ n
+      least m n d e meets there = least_above seq (holding held c) m rises e n meets.0 there
 
-      chosen : (m : ℕ) (f : ℕ × Name) → find (nat_lt seq) (holding held x) ≡ Some m → IsFirst held xs seq f.0 f.1 → (b : Bool) → nat_lt m f.0 ≡ b → IsFirstAfter held (xs ++ x ∷ []) seq (cond b (Some (m, x)) (Some f))
+      -- the number of this cell is the first
+      alone : (m : ℕ) → find (nat_lt seq) (holding held c) ≡ Some m → ((n : ℕ) (d : Cell) → Meets held cs seq n d → m ≤ n)
+          → ((d : Cell) → Meets held cs seq m d → is_lt (name_cmp d.name c.name) ≡ false) → IsFirst held (cs ++ c ∷ []) seq m c.name
+      alone m e sooner less =
+          let at = first_above seq (holding held c) m e in
+          record {
+            cell = c;
+            name = refl;
+            meets = here m at.0 at.1;
+            none_sooner = λ n d meets. split n d (sooner n d) (λ same there. least m n d e meets there) meets;
+            none_less = λ d meets. split m d (less d) (λ same there. not_less_same d same) meets;
+          }
+
+      -- the first of those before stays it
+      kept : (f : ℕ × Name) → IsFirst held cs seq f.0 f.1 → ((n : ℕ) (d : Cell) → Meets held (cs ++ c ∷ []) seq n d → holds held c n ≡ true → f.0 ≤ n) → IsFirst held (cs ++ c ∷ []) seq f.0 f.1
+      kept f first later = record {
+        cell = first.cell;
+        name = first.name;
+        meets = more f.0 first.cell first.meets;
+        none_sooner = λ n d meets. split n d (first.none_sooner n d) (λ same there. later n d meets there) meets;
+        none_less = λ d meets. split f.0 d (first.none_less d)
+            (λ same there. ap (λ (q : Cell). is_lt (name_cmp q.name f.1)) same ∙ ap (λ x. is_lt (name_cmp c.name x)) (sym first.name) ∙ past first.cell first.meets.1) meets;
+      }
+
+      chosen : (m : ℕ) (f : ℕ × Name) → find (nat_lt seq) (holding held c) ≡ Some m → IsFirst held cs seq f.0 f.1 → (b : Bool) → nat_lt m f.0 ≡ b
+          → IsFirstAfter held (cs ++ c ∷ []) seq (cond b (Some (m, c.name)) (Some f))
       chosen m f e first true below =
           let low : m < f.0 = grind (arith, nat_tests) in
-          let at = first_above seq (holding held x) m e in
-          record {
-            meets = here m at.0 at.1;
-            none_sooner = λ n y meets. split n y (λ k. let up = first.none_sooner n y k in omega (arith, up, low)) (λ same there. least m n y e meets there) meets;
-            none_less = λ y meets. split m y (λ k. absurd (let up = first.none_sooner m y k in omega (arith, up, low))) (λ same there. not_less_same y same) meets;
-          }
+          alone m e (λ n d k. let up = first.none_sooner n d k in omega (arith, up, low)) (λ d k. absurd (let up = first.none_sooner m d k in omega (arith, up, low)))
       chosen m f e first false below =
           let low : f.0 ≤ m = grind (arith, nat_tests) in
-          record {
-            meets = more f.0 f.1 first.meets;
-            none_sooner = λ n y meets. split n y (first.none_sooner n y) (λ same there. let up = least m n y e meets there in omega (arith, up, low)) meets;
-            none_less = λ y meets. split f.0 y (first.none_less y) (λ same there. ap (λ z. is_lt (name_cmp z f.1)) same ∙ past f.1 first.meets.1) meets;
-          }
+          kept f first (λ n d meets there. let up = least m n d e meets there in omega (arith, up, low))
 
-      by : (o : Option ℕ) → find (nat_lt seq) (holding held x) ≡ o → (f : Option (ℕ × Name)) → IsFirstAfter held xs seq f → IsFirstAfter held (xs ++ x ∷ []) seq (sooner f o x)
-      by None e None first = λ n y meets. split n y (first n y) (λ same there. none n y e meets there) meets
-      by None e (Some f) first = record {
-        meets = more f.0 f.1 first.meets;
-        none_sooner = λ n y meets. split n y (first.none_sooner n y) (λ same there. absurd (none n y e meets there)) meets;
-        none_less = λ y meets. split f.0 y (first.none_less y) (λ same there. absurd (none f.0 y e meets there)) meets;
-      }
-      by (Some m) e None first =
-          let at = first_above seq (holding held x) m e in
-          record {
-            meets = here m at.0 at.1;
-            none_sooner = λ n y meets. split n y (λ k. absurd (first n y k)) (λ same there. least m n y e meets there) meets;
-            none_less = λ y meets. split m y (λ k. absurd (first m y k)) (λ same there. not_less_same y same) meets;
-          }
+      by : (o : Option ℕ) → find (nat_lt seq) (holding held c) ≡ o → (f : Option (ℕ × Name)) → IsFirstAfter held cs seq f → IsFirstAfter held (cs ++ c ∷ []) seq (sooner f o c.name)
+      by None e None first = λ n d meets. split n d (first n d) (λ same there. none n d e meets there) meets
+      by None e (Some f) first = kept f first (λ n d meets there. absurd (none n d e meets there))
+      by (Some m) e None first = alone m e (λ n d k. absurd (first n d k)) (λ d k. absurd (first m d k))
       by (Some m) e (Some f) first = chosen m f e first (nat_lt m f.0) refl

@@ -1,11 +1,12 @@
--- When two maps agree at some names. (Footprints are this project's.)
+-- When two maps agree at some cells. (Footprints are this project's.)
 use Rattle.std.specs.Prelude.{◌≡◌, true, List}
 use Rattle.osm_elements.specs.declared.name.Name.{Name}
-use Rattle.osm_elements.specs.Maps.{Rows, is_among}
-use Rattle.osm_elements.specs.Rows.{row_at}
+use Rattle.osm_elements.specs.Maps.{Rows}
 use Rattle.osm_refs.specs.References.{users}
+use Rattle.osm_changes.specs.declared.cell.Cell.{Cell}
+use Rattle.osm_changes.specs.Cells.{rest_at, half_at, has}
 
--- at each of the names both maps have the same row, or none, and the same users
-pub record Agree {A : Type 0} (m n : Rows A) (names : List Name) : Type 0 where
-  pub same_row : (e : Name) → is_among names e ≡ true → row_at m e ≡ row_at n e
-  pub same_users : (e : Name) → is_among names e ≡ true → users m e ≡ users n e
+-- at each of the cells both maps have the same half, or none, and a name whose rest is among them has the same users in both
+pub record Agree {A : Type 0} (m n : Rows A) (cells : List Cell) : Type 0 where
+  pub same_half : (c : Cell) → has cells c ≡ true → half_at m c ≡ half_at n c
+  pub same_users : (e : Name) → has cells (rest_at e) ≡ true → users m e ≡ users n e

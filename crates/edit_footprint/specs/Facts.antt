@@ -2,9 +2,12 @@
 pub mod AcceptedAlike
 pub mod Agreeing
 pub mod Becoming
+pub mod CellSets
 pub mod Commutation
 pub mod Differences
 pub mod Footprints
+pub mod Halfwise
+pub mod Halves
 pub mod Holding
 pub mod Joining
 pub mod Leaving
@@ -12,7 +15,6 @@ pub mod Locality
 pub mod Meeting
 pub mod Merging
 pub mod Moving
-pub mod Names
 pub mod Naming
 pub mod NonePassing
 pub mod Numbers

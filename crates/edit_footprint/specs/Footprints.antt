@@ -1,14 +1,15 @@
--- The footprint of an action on a map. (Footprints are this project's.)
-use Rattle.std.specs.Prelude.{◌++◌, not, List, [], ◌∷◌, Option, None}
+-- The footprint of an action on a map, cell by cell. (Footprints are this project's.)
+use Rattle.std.specs.Prelude.{◌≡◌, ◌++◌, true, not, List, [], ◌∷◌, Option, Some, None, map}
 use Rattle.std.specs.List.{filter, find, flat_map, slice_get}
-use Rattle.std.specs.Option.{option_and_then, option_to_list}
-use Rattle.osm_elements.specs.declared.element.Element.{Element}
+use Rattle.std.specs.Option.{option_and_then, option_map, option_to_list}
 use Rattle.osm_elements.specs.declared.name.Name.{Name}
-use Rattle.osm_elements.specs.Maps.{Rows, is_among, is_same, name_set}
-use Rattle.osm_refs.specs.References.{row_references}
+use Rattle.osm_elements.specs.Maps.{Rows, is_among}
+use Rattle.osm_changes.specs.declared.cell.Cell.{Cell}
 use Rattle.osm_changes.specs.declared.change.Change.{Change}
-use Rattle.osm_changes.specs.Changes.{changed_names}
-use Rattle.edit_simple.specs.Contents.{nodes_of}
+use Rattle.osm_changes.specs.declared.half.Half.{Half}
+use Rattle.osm_changes.specs.declared.half.Half.TheVariants as halves
+use Rattle.osm_changes.specs.Cells.{tags_at, rest_at, both_at, is_same_cell, has, cell_set}
+use Rattle.osm_changes.specs.Changes.{cell_of, changed_cells}
 use Rattle.edit_actions.specs.declared.action.Action.{Action}
 use Rattle.edit_actions.specs.declared.action.Action.TheVariants.{Create, Retag, Move, Reverse, Nodes, Members, Delete, Purge, Split, Join, Merge, Unglue}
 use Rattle.edit_actions.specs.After.{changes}
@@ -17,43 +18,61 @@ use Rattle.edit_actions.specs.After.{changes}
 abbrev pub names_but : List Name → List Name → List Name
 names_but names others = filter (λ e. not (is_among others e)) names
 
--- the least name that two footprints share
-abbrev pub meets : List Name → List Name → Option Name
-meets one other = find (is_among other) one
+-- the least name of a cell that two footprints share
+abbrev pub meets : List Cell → List Cell → Option Name
+meets one other = option_map (λ (c : Cell). c.name) (find (has other) one)
+
+-- a cell of a name is in both
+pub record Shares (one two : List Cell) (x : Name) : Type 0 where
+  pub cell : Cell
+  pub name : cell.name ≡ x
+  pub in_one : has one cell ≡ true
+  pub in_two : has two cell ≡ true
 
 module _ {A : Type 0} where
-  -- the names that an action is about; a given list of nodes or members is not among them
-  abbrev pub subjects : Action A → List Name
-  subjects (Create x v) = x ∷ []
-  subjects (Retag x given) = x ∷ []
-  subjects (Move list dlat dlon) = list
-  subjects (Reverse w) = w ∷ []
-  subjects (Nodes w list) = w ∷ []
-  subjects (Members r list) = r ∷ []
-  subjects (Delete x) = x ∷ []
-  subjects (Purge x) = x ∷ []
-  subjects (Split w i v) = w ∷ v ∷ []
-  subjects (Join w v) = w ∷ v ∷ []
-  subjects (Merge k g) = k ∷ g ∷ []
-  subjects (Unglue w i v) = w ∷ v ∷ []
+  -- what a half names: the nodes of a way, the members of a relation
+  abbrev pub half_references : Option (Half A) → List Name
+  half_references (Some (halves.Nodes nodes)) = nodes
+  half_references (Some (halves.Members members)) = map (λ m. m.0) members
+  half_references _ = []
 
-  -- what a row names before a change and not after it, or after it and not before
+  -- the nodes of a way's half; none of another
+  abbrev pub half_nodes : Option (Half A) → List Name
+  half_nodes (Some (halves.Nodes nodes)) = nodes
+  half_nodes _ = []
+
+  -- the cells that an action is about: an element's tags, its rest, or both; a given list of nodes or members is not among them
+  abbrev pub subjects : Action A → List Cell
+  subjects (Create x v) = both_at x
+  subjects (Retag x given) = tags_at x ∷ []
+  subjects (Move list dlat dlon) = map rest_at list
+  subjects (Reverse w) = rest_at w ∷ []
+  subjects (Nodes w list) = rest_at w ∷ []
+  subjects (Members r list) = rest_at r ∷ []
+  subjects (Delete x) = both_at x
+  subjects (Purge x) = both_at x
+  subjects (Split w i v) = both_at w ++ both_at v
+  subjects (Join w v) = both_at w ++ both_at v
+  subjects (Merge k g) = both_at k ++ both_at g
+  subjects (Unglue w i v) = both_at w ++ both_at v
+
+  -- what a half names before a change and not after it, or after it and not before
   abbrev pub begun_or_ceased : Change A → List Name
-  begun_or_ceased c = names_but (row_references c.before) (row_references c.after) ++ names_but (row_references c.after) (row_references c.before)
+  begun_or_ceased c = names_but (half_references c.before) (half_references c.after) ++ names_but (half_references c.after) (half_references c.before)
 
-  -- the row that a name had before changes, none where they don't tell it
-  abbrev pub row_before : List (Change A) → Name → Option (Element A)
-  row_before cs x = option_and_then (λ (c : Change A). c.before) (find (λ (c : Change A). is_same x c.name) cs)
+  -- the half that a cell had before changes, none where they don't tell it
+  abbrev pub half_before : List (Change A) → Cell → Option (Half A)
+  half_before cs c = option_and_then (λ (d : Change A). d.before) (find (λ (d : Change A). is_same_cell c (cell_of d)) cs)
 
   -- the node that an unglue takes the way from: it stood at the position in the list that the way had before
   abbrev pub unglued_from : Action A → List (Change A) → Option Name
-  unglued_from (Unglue w i v) cs = slice_get (nodes_of (row_before cs w)) i
+  unglued_from (Unglue w i v) cs = slice_get (half_nodes (half_before cs (rest_at w))) i
   unglued_from a cs = None
 
-  -- the subjects of an action, the names that it changes, what their rows cease or begin to name, and the node that it unglues a way from, rising, each once
-  abbrev pub footprint_of : Action A → List (Change A) → List Name
-  footprint_of a cs = name_set (subjects a ++ changed_names cs ++ flat_map begun_or_ceased cs ++ option_to_list (unglued_from a cs))
+  -- the subjects of an action, the cells that it changes, the rest of what their halves cease or begin to name, and both cells of the node that it unglues a way from, rising, each once
+  abbrev pub footprint_of : Action A → List (Change A) → List Cell
+  footprint_of a cs = cell_set (subjects a ++ changed_cells cs ++ map rest_at (flat_map begun_or_ceased cs) ++ flat_map both_at (option_to_list (unglued_from a cs)))
 
   -- the footprint of an action on a map
-  abbrev pub footprint : Rows A → Action A → List Name
+  abbrev pub footprint : Rows A → Action A → List Cell
   footprint m a = footprint_of a (changes m a)

@@ -1,4 +1,4 @@
-//! Which standing entries hold a name.
+//! Which standing entries hold a cell.
 ghost use Rattle.std.specs.Prelude.{◌≡◌, [], nat_lt, OnOk, OnErr};
 ghost use Rattle.std.specs.List.{find};
 ghost use Rattle.std.specs.Ordering.{nat_cmp};
@@ -7,23 +7,24 @@ ghost use Rattle.edit_footprint.specs.Holding.{IsNext, HoldsOnly, IsFirstAfter, 
 ghost use Rattle.edit_footprint.specs.Inner.Searching as inner;
 
 use crate::footprint::Footprint;
+use osm_changes::cell::Cell;
 use osm_elements::Memory;
 use osm_elements::name::Name;
 use rising_lists::lists::RisingLists;
 use std::alloc::Allocator;
 use std::marker::Model;
 
-/// The entries that stand, by the names of their footprints: for each name that any of them has their numbers,
+/// The entries that stand, by the cells of their footprints: for each cell that any of them has their numbers,
 /// rising. The footprints themselves are kept by whoever lets an entry stand, and are lent when it falls.
 #[derive(Drop)]
 #[derive_where(Debug)]
 pub struct Holders<A: Allocator> {
     #[derive_where(skip)]
     alloc: A,
-    lists: RisingLists<Name, u64, A>,
+    lists: RisingLists<Cell, u64, A>,
 }
 
-// Holders are seen as the list of the names that are held, in their order, each with the numbers that hold it. No
+// Holders are seen as the list of the cells that are held, in their order, each with the numbers that hold it. No
 // number is awaited.
 impl<A: Allocator> Model for Holders<A> {
     ghost use Rattle.rising_lists.specs.Tables.{as_table};
@@ -51,7 +52,7 @@ impl<A: Allocator> Holders<A> {
     }
 
     /// Lets an entry stand whose number comes after those of all others, or refuses with `Memory` and leaves all as
-    /// it was. It takes time logarithmic in the number of held names for each name of the footprint.
+    /// it was. It takes time logarithmic in the number of held cells for each cell of the footprint.
     pub fn stand(&mut self, footprint: &Footprint<A>, seq: u64) -> Result<(), Memory>
     where
         A: Clone,
@@ -59,32 +60,32 @@ impl<A: Allocator> Holders<A> {
         ensures ok { OnOk result (self.new ≡ standing self.old footprint.now seq) }
         ensures err { OnErr result (self.new ≡ self.old) }
     {
-        let names = footprint.names();
-        self.lists.await_all(&self.alloc, names)?;
-        self.lists.add_all(names, seq);
+        let cells = footprint.cells();
+        self.lists.await_all(&self.alloc, cells)?;
+        self.lists.add_all(cells, seq);
         Ok(())
     }
 
-    /// Lets an entry fall that holds the names of its footprint alone. A name that no other entry holds leaves
-    /// nothing behind. It takes no memory, and for each name of the footprint time logarithmic in the number of held
-    /// names, and what it takes to move the later numbers of that name.
+    /// Lets an entry fall that holds the cells of its footprint alone. A cell that no other entry holds leaves
+    /// nothing behind. It takes no memory, and for each cell of the footprint time logarithmic in the number of held
+    /// cells, and what it takes to move the later numbers of that cell.
     pub fn fall(&mut self, footprint: &Footprint<A>, seq: u64)
         requires { HoldsOnly self.old footprint.now seq }
         ensures { self.new ≡ fallen self.old seq }
     {
-        self.lists.take_out_all(footprint.names(), &seq);
+        self.lists.take_out_all(footprint.cells(), &seq);
     }
 
-    /// The first entry behind a number that holds one of a footprint's names, and the least of these names that it
-    /// holds; or none, where there is no such entry. For each name of the footprint it takes time logarithmic in the
-    /// number of held names and in how many entries hold the name.
+    /// The first entry behind a number that holds one of a footprint's cells, and the least name of those of them that
+    /// it holds; or none, where there is no such entry. For each cell of the footprint it takes time logarithmic in the
+    /// number of held cells and in how many entries hold the cell.
     pub fn first_after(&self, footprint: &Footprint<A>, seq: u64) -> Option<(u64, Name)>
         ensures { IsFirstAfter self.now footprint.now seq result }
     {
-        let names = footprint.names();
+        let cells = footprint.cells();
         let mut first = None;
-        for name in names {
-            first = sooner(first, next(self.lists.of(name), seq), *name);
+        for cell in cells {
+            first = sooner(first, next(self.lists.of(cell), seq), cell.name);
         }
         first
     }
@@ -99,7 +100,7 @@ fn next(numbers: &[u64], seq: u64) -> Option<u64>
     numbers.get(after).copied()
 }
 
-// The sooner of a first number with its name and the number of another name.
+// The sooner of a first number with its name and the number of a cell of another name, or of the same.
 fn sooner(first: Option<(u64, Name)>, number: Option<u64>, name: Name) -> Option<(u64, Name)>
     ensures { result ≡ inner.sooner first number name }
 {

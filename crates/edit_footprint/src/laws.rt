@@ -3,8 +3,9 @@ ghost use Rattle.std.specs.Prelude.{◌≡◌, true, false, List, Some, None};
 ghost use Rattle.std.specs.Ordering.{is_lt};
 ghost use Rattle.osm_elements.specs.declared.name.Name.{Name};
 ghost use Rattle.osm_elements.specs.NameOrder.{name_cmp};
-ghost use Rattle.osm_elements.specs.Maps.{Rows, is_among};
-ghost use Rattle.osm_refs.specs.Rising.{IsRising};
+ghost use Rattle.osm_elements.specs.Maps.{Rows};
+ghost use Rattle.osm_changes.specs.declared.cell.Cell.{Cell};
+ghost use Rattle.osm_changes.specs.Cells.{has, IsRising};
 ghost use Rattle.osm_changes.specs.Sound.{is_sound};
 ghost use Rattle.edit_actions.specs.declared.action.Action.{Action};
 ghost use Rattle.edit_actions.specs.After.{after};
@@ -12,43 +13,45 @@ ghost use Rattle.edit_actions.specs.MadeActions.{is_made_action};
 ghost use Rattle.edit_actions.specs.Refusals.{refusal};
 ghost use Rattle.edit_footprint.specs.Agreement.{Agree};
 ghost use Rattle.edit_footprint.specs.Commutation.{ChangePlaces};
-ghost use Rattle.edit_footprint.specs.Examples.{created, retagged, moved, reversed, nodes_given, members_given, deleted, purged, split, joined, merged, unglued, ceased};
-ghost use Rattle.edit_footprint.specs.Footprints.{footprint, meets};
+ghost use Rattle.edit_footprint.specs.Examples.{created, retagged, moved, reversed, nodes_given, members_given, deleted, purged, split, joined, merged, unglued, ceased, by_parts};
+ghost use Rattle.edit_footprint.specs.Footprints.{footprint, meets, Shares};
 ghost use Rattle.edit_footprint.specs.Locality.{LeavesTheRest, AcceptedAlike};
 
 use std::alloc::Allocator;
 
-/// An action, accepted or not, leaves each name outside its footprint as it is: the row that it has, and the users.
+/// An action, accepted or not, leaves each cell outside its footprint as it is: the half that stands there, and, of a
+/// name whose rest is outside, the users.
 pub fn leaves_the_rest<A: Allocator>()
     ensures { (m : Rows A) (a : Action A) → is_sound m ≡ true → LeavesTheRest m a }
 {}
 
-/// An action looks at its footprint alone: accepted in one sound map, it is accepted in each that has the same rows and
-/// the same users there, with the same changes and the same footprint.
+/// An action looks at its footprint alone: accepted in one sound map, it is accepted in each that has the same halves
+/// and the same users there, with the same changes and the same footprint.
 pub fn locality<A: Allocator>()
     ensures { (m n : Rows A) (a : Action A) → is_sound m ≡ true → is_sound n ≡ true → refusal m a ≡ None → Agree m n (footprint m a)
         → AcceptedAlike m n a }
 {}
 
-/// Two actions, accepted one after the other, change places where their footprints share no name: each is accepted, with
-/// its changes and its footprint as they were, and both orders lead to the same map.
+/// Two actions, accepted one after the other, change places where their footprints share no cell: each is accepted,
+/// with its changes and its footprint as they were, and both orders lead to the same map.
 pub fn commutation<A: Allocator>()
     ensures { (m : Rows A) (a b : Action A) → is_sound m ≡ true → is_made_action a ≡ true → is_made_action b ≡ true → refusal m a ≡ None → refusal (after m a) b ≡ None
         → meets (footprint m a) (footprint (after m a) b) ≡ None → ChangePlaces m a b }
 {}
 
-/// What two footprints share first is the least name that both have, and nothing exactly where no name is in both. So
-/// which of the two is asked does not matter.
+/// What two footprints share first is the least name of a cell that both have, and nothing exactly where no cell is in
+/// both. So which of the two is asked does not matter.
 pub fn footprints_meet_in_their_least()
-    ensures shared { (one two : List Name) (x : Name) → meets one two ≡ Some x → (is_among one x ≡ true) × (is_among two x ≡ true) }
-    ensures least { (one two : List Name) (x y : Name) → IsRising one → meets one two ≡ Some x → is_among one y ≡ true → is_among two y ≡ true
-        → is_lt (name_cmp y x) ≡ false }
-    ensures none { (one two : List Name) (x : Name) → meets one two ≡ None → is_among one x ≡ true → is_among two x ≡ true → ⊥ }
-    ensures either_way { (one two : List Name) → IsRising one → IsRising two → meets one two ≡ meets two one }
+    ensures shared { (one two : List Cell) (x : Name) → meets one two ≡ Some x → Shares one two x }
+    ensures least { (one two : List Cell) (x : Name) (c : Cell) → IsRising one → meets one two ≡ Some x
+        → has one c ≡ true → has two c ≡ true
+        → is_lt (name_cmp c.name x) ≡ false }
+    ensures none { (one two : List Cell) (c : Cell) → meets one two ≡ None → has one c ≡ true → has two c ≡ true → ⊥ }
+    ensures either_way { (one two : List Cell) → IsRising one → IsRising two → meets one two ≡ meets two one }
 {}
 
-/// What the definitions say of the worked examples, one or more of each action and of what two share, is what was worked
-/// out by hand.
+/// What the definitions say of the worked examples, one or more of each action and of what two share, is what was
+/// worked out by hand.
 pub fn examples_are_as_worked()
     ensures created { created }
     ensures retagged { retagged }
@@ -63,4 +66,5 @@ pub fn examples_are_as_worked()
     ensures merged { merged }
     ensures unglued { unglued }
     ensures ceased { ceased }
+    ensures by_parts { by_parts }
 {}

@@ -2,6 +2,7 @@
 #![tactic(auto)]
 
 pub mod footprint;
+mod half_refs;
 pub mod holders;
 pub mod laws;
 pub mod touching;

@@ -1,46 +1,47 @@
 //! What an action touches.
-ghost use Rattle.std.specs.Prelude.{◌≡◌, ◌++◌, find, IfOk, OnOk};
-ghost use Rattle.std.specs.List.{slice_get};
+ghost use Rattle.std.specs.Prelude.{◌≡◌, ◌++◌, find, map, IfOk, OnOk};
+ghost use Rattle.std.specs.List.{flat_map, slice_get};
 ghost use Rattle.std.specs.Option.{option_copied, option_to_list};
 ghost use Rattle.osm_elements.specs.Maps;
-ghost use Rattle.osm_elements.specs.Maps.{is_same, name_set};
-ghost use Rattle.osm_refs.specs.References.{row_references};
 ghost use Rattle.osm_refs.specs.Rising.{IsRising};
-ghost use Rattle.osm_changes.specs.Changes.{changed_names};
-ghost use Rattle.edit_simple.specs.Contents.{nodes_of};
-ghost use Rattle.edit_footprint.specs.Footprints.{subjects, footprint_of, names_but, row_before, unglued_from};
+ghost use Rattle.osm_changes.specs.Cells.{tags_at, rest_at, both_at, is_same_cell};
+ghost use Rattle.osm_changes.specs.Changes.{cell_of, changed_cells};
+ghost use Rattle.edit_footprint.specs.Footprints.{subjects, footprint_of, half_nodes, names_but, half_before, unglued_from};
 ghost use Rattle.edit_footprint.specs.Inner.Touching.{begun_or_ceased_once, all_begun_or_ceased};
 
 use crate::footprint::Footprint;
+use crate::half_refs::half_refs;
 use edit_actions::action::Action;
 use edit_actions::each_action;
+use osm_changes::cell::Cell;
 use osm_changes::change::Change;
 use osm_changes::changes::Changes;
+use osm_changes::half::Half;
+use osm_changes::part::Part;
 use osm_elements::Memory;
-use osm_elements::element::Element;
 use osm_elements::name::Name;
-use osm_elements::names::{Names, is_same};
-use osm_refs::refs::refs_of;
 use std::alloc::Allocator;
 
 // What an action is about, by the list of the actions.
 macro_rules! about {
-    (($action:expr, $alloc:expr) $($variant:ident $word:literal { $($field:ident: $how:ident from $source:ident $(by $name:ident)?),* } by $plan:ident about $way:ident [$($subject:ident),*];)*) => {
+    (($action:expr, $alloc:expr) $($variant:ident $word:literal { $($field:ident: $how:ident from $source:ident $(by $name:ident)?),* } by $plan:ident about $part:ident $way:ident [$($subject:ident),*];)*) => {
         match $action {
-            $(Action::$variant { $($subject,)* .. } => listed!($way $alloc, $($subject),*),)*
+            $(Action::$variant { $($subject,)* .. } => listed!($part $way $alloc, $($subject),*),)*
         }
     };
 }
 
-// Names as a list of their own.
+// The cells of a part of some names, or of both parts, as a list.
 macro_rules! listed {
-    (each $alloc:expr, $names:ident) => { Ok(Vec::from_slice($alloc, $names.as_slice())?) };
-    (names $alloc:expr, $($name:ident),*) => { Ok(vec![in $alloc; $(*$name),*]?) };
+    (rest each $alloc:expr, $names:ident) => { rests_of($alloc, $names.as_slice()) };
+    (tags names $alloc:expr, $($name:ident),*) => { Ok(vec![in $alloc; $(tags_of($name)),*]?) };
+    (rest names $alloc:expr, $($name:ident),*) => { Ok(vec![in $alloc; $(rest_of($name)),*]?) };
+    (both names $alloc:expr, $($name:ident),*) => { Ok(vec![in $alloc; $(tags_of($name), rest_of($name)),*]?) };
 }
 
-/// The footprint of an action with its changes, or `Memory`: the names that the action is about, those that it changes,
-/// what their rows begin or cease to name, and the node that it unglues a way from. It takes time `n log n` for changes that
-/// name `n` elements.
+/// The footprint of an action with its changes, or `Memory`: the cells that the action is about, those that it changes,
+/// the rest of what their halves begin or cease to name, and both cells of the node that it unglues a way from. It
+/// takes time `n log n` for changes that name `n` elements.
 pub fn footprint<A: Allocator + Clone>(
     alloc: A,
     action: &Action<A>,
@@ -48,80 +49,101 @@ pub fn footprint<A: Allocator + Clone>(
 ) -> Result<Footprint<A>, Memory>
     ensures { IfOk result (λ f. f ≡ footprint_of action.now changes.now) }
 {
-    let mut names = subjects(alloc.clone()?, action)?;
-    push_changed(&mut names, changes.rows())?;
-    push_all_begun_or_ceased(&alloc, &mut names, changes.rows())?;
-    push_unglued_from(&mut names, action, changes.rows())?;
-    Ok(Footprint::of(names))
+    let mut cells = subjects(alloc.clone()?, action)?;
+    push_changed(&mut cells, changes.rows())?;
+    push_all_begun_or_ceased(&alloc, &mut cells, changes.rows())?;
+    push_unglued_from(&mut cells, action, changes.rows())?;
+    Ok(Footprint::of(cells))
 }
 
-// The names that an action is about.
-fn subjects<A: Allocator>(alloc: A, action: &Action<A>) -> Result<Vec<Name, A>, Memory>
-    ensures { IfOk result (λ names. names.items ≡ subjects action.now) }
+// The cells that an action is about.
+fn subjects<A: Allocator>(alloc: A, action: &Action<A>) -> Result<Vec<Cell, A>, Memory>
+    ensures { IfOk result (λ cells. cells.items ≡ subjects action.now) }
 {
     each_action!(about(action, alloc))
 }
 
-// Puts the names of changes behind other names.
-fn push_changed<A: Allocator>(names: &mut Vec<Name, A>, rows: &[Change<A>]) -> Result<(), Memory>
-    ensures { OnOk result (names.new.items ≡ names.old.items ++ changed_names rows.now) }
+// The tags of a name.
+fn tags_of(name: &Name) -> Cell
+    ensures { result ≡ tags_at name.now }
+{
+    Cell {
+        name: *name,
+        part: Part::Tags,
+    }
+}
+
+// The rest of a name.
+fn rest_of(name: &Name) -> Cell
+    ensures { result ≡ rest_at name.now }
+{
+    Cell {
+        name: *name,
+        part: Part::Rest,
+    }
+}
+
+// The rest of each of some names.
+fn rests_of<A: Allocator>(alloc: A, names: &[Name]) -> Result<Vec<Cell, A>, Memory>
+    ensures { IfOk result (λ cells. cells.items ≡ map rest_at names.now) }
+{
+    let mut cells = Vec::with_capacity(alloc, names.len())?;
+    for name in names {
+        cells.push(rest_of(name))?;
+    }
+    Ok(cells)
+}
+
+// Puts the cells of changes behind other cells.
+fn push_changed<A: Allocator>(cells: &mut Vec<Cell, A>, rows: &[Change<A>]) -> Result<(), Memory>
+    ensures { OnOk result (cells.new.items ≡ cells.old.items ++ changed_cells rows.now) }
 {
     for change in rows {
-        names.push(change.name)?;
+        cells.push(change.cell())?;
     }
     Ok(())
 }
 
-// Puts what rows begin or cease to name behind other names.
+// Puts the rest of what halves begin or cease to name behind other cells.
 fn push_all_begun_or_ceased<A: Allocator + Clone>(
     alloc: &A,
-    names: &mut Vec<Name, A>,
+    cells: &mut Vec<Cell, A>,
     rows: &[Change<A>],
 ) -> Result<(), Memory>
-    ensures { OnOk result (names.new.items ≡ names.old.items ++ all_begun_or_ceased rows.now) }
+    ensures { OnOk result (cells.new.items ≡ cells.old.items ++ map rest_at (all_begun_or_ceased rows.now)) }
 {
     for change in rows {
-        push_begun_or_ceased(alloc, names, change)?;
+        push_begun_or_ceased(alloc, cells, change)?;
     }
     Ok(())
 }
 
-// Puts what a row begins or ceases to name behind other names.
+// Puts the rest of what a half begins or ceases to name behind other cells.
 fn push_begun_or_ceased<A: Allocator + Clone>(
     alloc: &A,
-    names: &mut Vec<Name, A>,
+    cells: &mut Vec<Cell, A>,
     change: &Change<A>,
 ) -> Result<(), Memory>
-    ensures { OnOk result (names.new.items ≡ names.old.items ++ begun_or_ceased_once change.now) }
+    ensures { OnOk result (cells.new.items ≡ cells.old.items ++ map rest_at (begun_or_ceased_once change.now)) }
 {
-    let before = row_refs(alloc.clone()?, &change.before)?;
-    let after = row_refs(alloc.clone()?, &change.after)?;
-    push_but(names, before.as_slice(), after.as_slice())?;
-    push_but(names, after.as_slice(), before.as_slice())
+    let before = half_refs(alloc.clone()?, &change.before)?;
+    let after = half_refs(alloc.clone()?, &change.after)?;
+    push_but(cells, before.as_slice(), after.as_slice())?;
+    push_but(cells, after.as_slice(), before.as_slice())
 }
 
-// What a row refers to, rising: nothing where there is no element.
-fn row_refs<A: Allocator>(alloc: A, row: &Option<Element<A>>) -> Result<Names<A>, Memory>
-    ensures { IfOk result (λ names. names ≡ name_set (row_references row.now)) }
-{
-    match row {
-        Some(element) => refs_of(alloc, element),
-        None => Ok(Names::empty(alloc)),
-    }
-}
-
-// Puts those of some names behind other names that are not among a third list, which rises.
+// Puts the rest of those of some names behind other cells that are not among a third list, which rises.
 fn push_but<A: Allocator>(
-    names: &mut Vec<Name, A>,
+    cells: &mut Vec<Cell, A>,
     from: &[Name],
     others: &[Name],
 ) -> Result<(), Memory>
     requires { IsRising others.now }
-    ensures { OnOk result (names.new.items ≡ names.old.items ++ names_but from.now others.now) }
+    ensures { OnOk result (cells.new.items ≡ cells.old.items ++ map rest_at (names_but from.now others.now)) }
 {
     for name in from {
         if !is_among(others, name) {
-            names.push(*name)?;
+            cells.push(rest_of(name))?;
         }
     }
     Ok(())
@@ -135,16 +157,18 @@ fn is_among(names: &[Name], name: &Name) -> bool
     names.binary_search(name).is_ok()
 }
 
-// Puts the node that an action unglues a way from behind other names, if it does that.
+// Puts both cells of the node that an action unglues a way from behind other cells, if it does that.
 fn push_unglued_from<A: Allocator>(
-    names: &mut Vec<Name, A>,
+    cells: &mut Vec<Cell, A>,
     action: &Action<A>,
     rows: &[Change<A>],
 ) -> Result<(), Memory>
-    ensures { OnOk result (names.new.items ≡ names.old.items ++ option_to_list (unglued_from action.now rows.now)) }
+    ensures { OnOk result (cells.new.items
+        ≡ cells.old.items ++ flat_map both_at (option_to_list (unglued_from action.now rows.now))) }
 {
     if let Some(node) = unglued_from(action, rows) {
-        names.push(node)?;
+        cells.push(tags_of(&node))?;
+        cells.push(rest_of(&node))?;
     }
     Ok(())
 }
@@ -161,27 +185,35 @@ fn unglued_from<A: Allocator>(action: &Action<A>, rows: &[Change<A>]) -> Option<
 
 // The node that stood at a place of a way before changes.
 fn node_before<A: Allocator>(rows: &[Change<A>], way: &Name, place: u32) -> Option<Name>
-    ensures { result ≡ slice_get (nodes_of (row_before rows.now way.now)) place }
+    ensures { result ≡ slice_get (half_nodes (half_before rows.now (rest_at way.now))) place }
 {
-    match row_before(rows, way) {
-        Some(Element::Way { nodes, .. }) => nodes.names().get(place as usize).copied(),
+    match half_before(rows, &rest_of(way)) {
+        Some(Half::Nodes(nodes)) => nodes.names().get(place as usize).copied(),
         _ => None,
     }
 }
 
-// The row that a name had before changes, none where they don't tell it.
-fn row_before<'c, A: Allocator>(rows: &'c [Change<A>], name: &Name) -> Option<&'c Element<A>>
-    ensures { option_copied result ≡ row_before rows.now name.now }
+// The half that a cell had before changes, none where they don't tell it.
+fn half_before<'c, A: Allocator>(rows: &'c [Change<A>], cell: &Cell) -> Option<&'c Half<A>>
+    ensures { option_copied result ≡ half_before rows.now cell.now }
 {
-    match change_of(rows, name) {
+    match change_of(rows, cell) {
         Some(change) => change.before.as_ref(),
         None => None,
     }
 }
 
-// The change of a name, if there is one.
-fn change_of<'c, A: Allocator>(rows: &'c [Change<A>], name: &Name) -> Option<&'c Change<A>>
-    ensures { option_copied result ≡ find (λ c. is_same name.now c.name) rows.now }
+// The change of a cell, if there is one.
+fn change_of<'c, A: Allocator>(rows: &'c [Change<A>], cell: &Cell) -> Option<&'c Change<A>>
+    ensures { option_copied result ≡ find (λ c. is_same_cell cell.now (cell_of c)) rows.now }
 {
-    rows.iter().find(|change| is_same(name, &change.name))
+    rows.iter()
+        .find(|change| is_same_cell(cell, &change.cell()))
+}
+
+// Whether two cells are the same.
+fn is_same_cell(one: &Cell, other: &Cell) -> bool
+    ensures { result ≡ is_same_cell one.now other.now }
+{
+    one == other
 }

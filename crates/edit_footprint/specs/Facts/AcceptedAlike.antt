@@ -2,8 +2,13 @@
 use Rattle.std.proofs.Common.{◌≡◌, true, false, Option, None, sym, ap, ◌∙◌}
 use Rattle.osm_elements.specs.declared.name.Name.{Name}
 use Rattle.osm_elements.specs.declared.element.Element.{Element}
-use Rattle.osm_elements.specs.Maps.{Rows, is_among}
+use Rattle.osm_elements.specs.Maps.{Rows}
 use Rattle.osm_elements.specs.Rows.{row_at}
+use Rattle.osm_changes.specs.declared.cell.Cell.{Cell}
+use Rattle.osm_changes.specs.declared.part.Part.{Part}
+use Rattle.osm_changes.specs.declared.part.Part.TheVariants.{Tags, Rest}
+use Rattle.osm_changes.specs.Cells.{half_at, has}
+use Rattle.osm_changes.specs.Halves.{half}
 use Rattle.osm_changes.specs.Sound.{is_sound}
 use Rattle.edit_simple.specs.Checks.{first_that_holds}
 use Rattle.edit_actions.specs.declared.action.Action.{Action}
@@ -14,23 +19,32 @@ use Rattle.edit_footprint.specs.Footprints.{footprint_of, footprint}
 use Rattle.edit_footprint.specs.Locality.{AcceptedAlike}
 use Rattle.edit_footprint.specs.Facts.Becoming.{becomes, row_at-after}
 use Rattle.edit_footprint.specs.Facts.Differences.{same_differences}
-use Rattle.edit_footprint.specs.Facts.Footprints.{rows_outside}
+use Rattle.edit_footprint.specs.Facts.Halfwise.{becomes_halfwise}
+use Rattle.edit_footprint.specs.Facts.Footprints.{halves_outside}
 
 module _ {A : Type 0} where
   -- accepted in a sound map, the action is accepted alike in each sound map that agrees at its footprint
   abbrev pub IsLocal : Action A → Type 0
   IsLocal a = (m n : Rows A) → is_sound m ≡ true → is_sound n ≡ true → refusal m a ≡ None → Agree m n (footprint m a) → AcceptedAlike m n a
 
-  -- it is, where it reads the same of both maps, keeps the rows of n outside, and has the same checks
-  pub accepted_alike : (m n : Rows A) (a : Action A) → Agree m n (footprint m a)
-      → ((y : Name) (o : Option (Element A)) → becomes n a y o ≡ becomes m a y o)
-      → ((y : Name) → is_among (footprint m a) y ≡ false → row_at (after n a) y ≡ row_at n y)
+  -- a half of each row of n stays, where its cell is outside
+  abbrev pub Keeps : Part → Rows A → Rows A → Action A → Type 0
+  Keeps p m n a = (y : Name) → has (footprint m a) (record { name = y; part = p }) ≡ false → half p (row_at (after n a) y) ≡ half p (row_at n y)
+
+  -- it is, where it reads the same of both maps, keeps the halves of n outside, and has the same checks
+  pub accepted_alike : (m n : Rows A) (a : Action A) → Agree m n (footprint m a) → ((y : Name) (o : Option (Element A)) → becomes n a y o ≡ becomes m a y o) → Keeps Tags m n a → Keeps Rest m n a
       → checks n a ≡ checks m a → refusal m a ≡ None → AcceptedAlike m n a
-  accepted_alike m n a agree reads kept same ok =
+  accepted_alike m n a agree reads kept_tags kept_rest same ok =
       record { accepted = ap first_that_holds same ∙ ok; same_changes = changes_alike; same_footprint = ap (footprint_of a) changes_alike }
     where
-      inside : (y : Name) → is_among (footprint m a) y ≡ true → row_at (after n a) y ≡ row_at (after m a) y
-      inside y i = row_at-after n a y ∙ reads y (row_at n y) ∙ ap (becomes m a y) (sym (agree.same_row y i)) ∙ sym (row_at-after m a y)
+      inside : (c : Cell) → has (footprint m a) c ≡ true → half_at (after n a) c ≡ half_at (after m a) c
+      inside c i =
+          ap (half c.part) (row_at-after n a c.name ∙ reads c.name (row_at n c.name)) ∙ becomes_halfwise m a c.name c.part (row_at n c.name) (row_at m c.name) (sym (agree.same_half c i))
+          ∙ ap (half c.part) (sym (row_at-after m a c.name))
+
+      kept : (p : Part) → Keeps p m n a
+      kept Tags = kept_tags
+      kept Rest = kept_rest
 
       changes_alike : changes n a ≡ changes m a
-      changes_alike = same_differences m (after m a) n (after n a) (footprint m a) (λ y i. (sym (agree.same_row y i), inside y i)) (rows_outside m a) kept
+      changes_alike = same_differences m (after m a) n (after n a) (footprint m a) (λ c i. (sym (agree.same_half c i), inside c i)) (halves_outside m a) (λ c out. kept c.part c.name out)

@@ -1,47 +1,62 @@
 -- A join looks at its footprint alone.
-use Rattle.std.proofs.Common.{◌≡◌, false, Option, None, refl, sym, ap, cond}
+use Rattle.std.proofs.Common.{◌≡◌, false, Option, None, refl, sym, ap, ◌∙◌, cond}
 use Rattle.std.specs.Option.{option_map}
 use Rattle.osm_elements.specs.declared.name.Name.{Name}
 use Rattle.osm_elements.specs.declared.element.Element.{Element}
-use Rattle.osm_elements.specs.Maps.{is_same, is_among}
+use Rattle.osm_elements.specs.Maps.{Rows, is_same, is_among}
 use Rattle.osm_elements.specs.Rows.{row_at}
+use Rattle.osm_elements.specs.Facts.Dropped.{same_either_way}
 use Rattle.osm_refs.specs.References.{row_references}
+use Rattle.osm_changes.specs.declared.part.Part.TheVariants.{Tags, Rest}
+use Rattle.osm_changes.specs.Cells.{rest_at, has}
+use Rattle.osm_changes.specs.Halves.{half}
 use Rattle.edit_simple.specs.Contents.{nodes_of, row_tags, with_nodes, with_tags, with_members, at_name}
 use Rattle.edit_topology.specs.BothTags.{both_tags}
-use Rattle.edit_topology.specs.Join.{end_to_end, joined_members}
+use Rattle.edit_topology.specs.Join.{end_to_end, joined_members, lengthened, join_row, after_join}
 use Rattle.edit_topology.specs.Facts.Changing.{join_changes}
+use Rattle.edit_topology.specs.Facts.EachBut.{row_at-each_but}
 use Rattle.edit_topology.specs.Facts.Staying.{join_leaves}
 use Rattle.edit_actions.specs.declared.action.Action.{Action}
 use Rattle.edit_actions.specs.declared.action.Action.TheVariants.{Join}
 use Rattle.edit_actions.specs.Refusals.{checks}
 use Rattle.edit_footprint.specs.Footprints.{footprint}
 use Rattle.edit_footprint.specs.Facts.AcceptedAlike.{IsLocal, accepted_alike}
-use Rattle.edit_footprint.specs.Facts.Agreeing.{same_subject, not_named}
+use Rattle.edit_footprint.specs.Facts.Agreeing.{same_row_of_subject, not_named}
 use Rattle.edit_footprint.specs.Facts.Footprints.{subjects_inside}
+use Rattle.edit_footprint.specs.Facts.Halfwise.{keeps_members, keeps_both, keeps_unless, tags_kept}
 use Rattle.edit_footprint.specs.Facts.Subjects.{first, second, another}
 
 module _ {A : Type 0} where
+  -- every row but those of the two ways keeps its tags
+  join_tags : (m : Rows A) (w v y : Name) → is_same w y ≡ false → is_same y v ≡ false → half Tags (row_at (after_join m w v) y) ≡ half Tags (row_at m y)
+  join_tags m w v y not_w not_v =
+      ap (half Tags) (row_at-each_but m v (join_row m w v) y ∙ ap (λ b. option_map (join_row m w v y) (cond b None (row_at m y))) not_v)
+      ∙ tags_kept (join_row m w v y)
+      (keeps_both (with_members (joined_members w v)) (at_name w (lengthened m v) y) (keeps_members (joined_members w v)) (keeps_unless (is_same w y) (lengthened m v) not_w)) (row_at m y)
+
   pub join_local : (w v : Name) → IsLocal {A = A} (Join w v)
   join_local w v m n sound sound_n ok agree =
       accepted_alike m n a agree (λ y o. ap (λ r. option_map (joined r y) (cond (is_same y v) None o)) (sym row_v))
-      (λ y out. join_leaves n w v y (another m a w y (first w v) out) (another m a v y (second w v) out) (unnamed y out)) same ok
+      (λ y out. join_tags n w v y (same_either_way w y ∙ another m a Tags w y (first Tags w v) out) (another m a Tags v y (second Tags w v) out))
+      (λ y out. ap (half Rest) (join_leaves n w v y (another m a Rest w y (first Rest w v) out) (another m a Rest v y (second Rest w v) out) (unnamed y out))) same ok
     where
       a : Action A
       a = Join w v
 
       row_w : row_at m w ≡ row_at n w
-      row_w = same_subject m n a agree w (first w v)
+      row_w = same_row_of_subject m n a agree w (λ p. first p w v)
 
       row_v : row_at m v ≡ row_at n v
-      row_v = same_subject m n a agree v (second w v)
+      row_v = same_row_of_subject m n a agree v (λ p. second p w v)
 
       -- what a join makes of an element, by v's row
       joined : Option (Element A) → Name → Element A → Element A
       joined r y e = with_members (joined_members w v) (at_name w (λ u. with_nodes (λ list. end_to_end list (nodes_of r)) (with_tags (λ tags. both_tags tags (row_tags r)) u)) y e)
 
-      -- a row outside does not name v, for all that do change
-      unnamed : (y : Name) → is_among (footprint m a) y ≡ false → is_among (row_references (row_at n y)) v ≡ false
-      unnamed = not_named m n a agree sound sound_n v (subjects_inside m a v (second w v)) (λ y. join_changes m w v y sound ok)
+      -- a row whose rest is outside does not name v, for all that do change
+      unnamed : (y : Name) → has (footprint m a) (rest_at y) ≡ false → is_among (row_references (row_at n y)) v ≡ false
+      unnamed = not_named m n a agree sound sound_n v (subjects_inside m a (rest_at v) (second Rest w v)) (λ y. join_changes m w v y sound ok)
+          (λ y out. join_tags m w v y (same_either_way w y ∙ another m a Rest w y (first Rest w v) out) (another m a Rest v y (second Rest w v) out))
 
       same : checks n a ≡ checks m a
       same = rw (← row_w, ← row_v) refl

@@ -1,85 +1,81 @@
 -- What two footprints share, in plain words.
 use Rattle.std.proofs.Common.{◌≡◌, ◌||◌, Bool, true, false, T, List, [], ◌∷◌, Option, Some, None, refl, sym, ap, ◌∙◌, cond}
 use Rattle.std.specs.List.{find}
-use Rattle.std.specs.Ordering.{is_eq, is_lt, ordering_reverse}
+use Rattle.std.specs.Option.{option_map}
+use Rattle.std.specs.Ordering.{is_lt, ordering_then, ordering_reverse, nat_cmp}
+use Rattle.std.specs.Cmp.{tied_itself}
 use Rattle.std.specs.FinMap.Entries.{below_all}
 use Rattle.std.specs.declared.cmp.Ordering.{Ordering}
 use Rattle.std.specs.declared.cmp.Ordering.TheVariants.{Less, Equal, Greater}
 use Rattle.osm_elements.specs.declared.name.Name.{Name}
 use Rattle.osm_elements.specs.NameOrder.{name_cmp}
-use Rattle.osm_elements.specs.Maps.{is_same, is_among}
 use Rattle.osm_elements.specs.Facts.Entries.{first, second}
 use Rattle.osm_elements.specs.Facts.Names.{name_cmp_total, name_cmp-IsAntisymmetric}
-use Rattle.osm_elements.specs.Facts.Rows.{same_names, is_eq-name_cmp_itself}
-use Rattle.osm_refs.specs.Rising.{IsRising}
+use Rattle.osm_changes.specs.declared.cell.Cell.{Cell}
+use Rattle.osm_changes.specs.Cells.{part_rank, cell_cmp, is_same_cell, has, IsRising}
+use Rattle.osm_changes.specs.Facts.Cells.{same_cells}
 use Rattle.rising_lists.specs.Rising.{bare_rows}
-use Rattle.edit_footprint.specs.Footprints.{meets}
+use Rattle.edit_footprint.specs.Footprints.{meets, Shares}
+use Rattle.edit_footprint.specs.Facts.CellSets.{has-own, has-more}
 
--- where two lists share no name, a name of the one is none of the other
-pub apart : (one two : List Name) → meets one two ≡ None → (e : Name) → is_among one e ≡ true → is_among two e ≡ true → ⊥
-apart [] two none e i k = absurd (cc)
-apart (x ∷ xs) two none e i k = by (is_among two x) refl none (is_same e x) refl i (λ n h. apart xs two n e h k)
+-- where two lists share no cell, a cell of the one is none of the other
+pub apart : (one two : List Cell) → meets one two ≡ None → (c : Cell) → has one c ≡ true → has two c ≡ true → ⊥
+apart [] two none c i k = absurd (cc)
+apart (x ∷ xs) two none c i k = by (has two x) refl none (is_same_cell c x) refl i (λ n h. apart xs two n c h k)
   where
-    by : (b : Bool) → is_among two x ≡ b → cond b (Some x) (find (is_among two) xs) ≡ None → (s : Bool) → is_same e x ≡ s → (s || is_among xs e) ≡ true
-        → (find (is_among two) xs ≡ None → is_among xs e ≡ true → ⊥) → ⊥
+    by : (b : Bool) → has two x ≡ b → option_map (λ (z : Cell). z.name) (cond b (Some x) (find (has two) xs)) ≡ None → (s : Bool) → is_same_cell c x ≡ s → (s || has xs c) ≡ true
+        → (meets xs two ≡ None → has xs c ≡ true → ⊥) → ⊥
     by true g n s f j go = absurd (cc)
-    by false g n true f j go = cc (sym k ∙ ap (is_among two) (same_names e x f) ∙ g)
+    by false g n true f j go = cc (sym k ∙ ap (has two) (same_cells c x f) ∙ g)
     by false g n false f j go = go n j
 
-or_else : (a b : Bool) → b ≡ true → (a || b) ≡ true
-or_else true b e = refl
-or_else false b e = e
-
--- what two lists share first is in both
-pub both_have : (one two : List Name) (x : Name) → meets one two ≡ Some x → (is_among one x ≡ true) × (is_among two x ≡ true)
+-- what two lists share first is a cell of both
+pub both_have : (one two : List Cell) (x : Name) → meets one two ≡ Some x → Shares one two x
 both_have [] two x h = absurd (cc)
-both_have (y ∷ ys) two x h = by (is_among two y) refl h (both_have ys two x)
+both_have (y ∷ ys) two x h = by (has two y) refl h (both_have ys two x)
   where
-    own : is_among (y ∷ ys) y ≡ true
-    own = ap (λ b. b || is_among ys y) (is_eq-name_cmp_itself y)
+    by : (b : Bool) → has two y ≡ b → option_map (λ (z : Cell). z.name) (cond b (Some y) (find (has two) ys)) ≡ Some x → (meets ys two ≡ Some x → Shares ys two x) → Shares (y ∷ ys) two x
+    by true e f go = let same : y.name ≡ x = cc in record { cell = y; name = same; in_one = has-own y ys; in_two = e }
+    by false e f go = let found = go f in record { cell = found.cell; name = found.name; in_one = has-more found.cell y ys found.in_one; in_two = found.in_two }
 
-    by : (b : Bool) → is_among two y ≡ b → cond b (Some y) (find (is_among two) ys) ≡ Some x → (find (is_among two) ys ≡ Some x → (is_among ys x ≡ true) × (is_among two x ≡ true))
-        → (is_among (y ∷ ys) x ≡ true) × (is_among two x ≡ true)
-    by true e f go = let same : y ≡ x = cc in (ap (is_among (y ∷ ys)) (sym same) ∙ own, ap (is_among two) (sym same) ∙ e)
-    by false e f go = let r = go f in (or_else (is_same x y) (is_among ys x) r.0, r.1)
-
--- a name above another is not less than it
-pub not_less : (y x : Name) → T (is_lt (name_cmp y x)) → is_lt (name_cmp x y) ≡ false
-not_less y x h = ap is_lt (name_cmp_total.antisymm x y) ∙ by (name_cmp y x) h
+-- a cell behind another has no lesser name
+pub not_less : (c d : Cell) → T (is_lt (cell_cmp c d)) → is_lt (name_cmp d.name c.name) ≡ false
+not_less c d h = ap is_lt (name_cmp_total.antisymm d.name c.name) ∙ by (name_cmp c.name d.name) h
   where
-    by : (o : Ordering) → T (is_lt o) → is_lt (ordering_reverse o) ≡ false
+    by : (o : Ordering) → T (is_lt (ordering_then o (nat_cmp (part_rank c.part) (part_rank d.part)))) → is_lt (ordering_reverse o) ≡ false
     by Less h = refl
-    by Equal h = absurd h
+    by Equal h = refl
     by Greater h = absurd h
 
-pub not_less_itself : (x y : Name) → is_same x y ≡ true → is_lt (name_cmp x y) ≡ false
-not_less_itself x y h = by (name_cmp x y) h
-  where
-    by : (o : Ordering) → is_eq o ≡ true → is_lt o ≡ false
-    by Less h = absurd (cc)
-    by Equal h = refl
-    by Greater h = refl
+pub not_less_itself : (x : Name) → is_lt (name_cmp x x) ≡ false
+not_less_itself x = ap is_lt (tied_itself name_cmp_total x)
 
--- a name below others is not above any of them
-not_less_among : (y : Name) (ys : List Name) → T (below_all name_cmp y (bare_rows ys)) → (x : Name) → is_among ys x ≡ true → is_lt (name_cmp x y) ≡ false
-not_less_among y [] low x h = absurd (cc)
-not_less_among y (z ∷ zs) low x h = by (is_same x z) refl h (not_less_among y zs (second _ _ low) x)
+not_less_among : (c : Cell) (cs : List Cell) → T (below_all cell_cmp c (bare_rows cs)) → (d : Cell) → has cs d ≡ true → is_lt (name_cmp d.name c.name) ≡ false
+not_less_among c [] low d h = absurd (cc)
+not_less_among c (z ∷ zs) low d h = by (is_same_cell d z) refl h (not_less_among c zs (second _ _ low) d)
   where
-    by : (b : Bool) → is_same x z ≡ b → (b || is_among zs x) ≡ true → (is_among zs x ≡ true → is_lt (name_cmp x y) ≡ false) → is_lt (name_cmp x y) ≡ false
-    by true e h go = ap (λ n. is_lt (name_cmp n y)) (same_names x z e) ∙ not_less y z (first _ _ low)
+    by : (b : Bool) → is_same_cell d z ≡ b → (b || has zs d) ≡ true → (has zs d ≡ true → is_lt (name_cmp d.name c.name) ≡ false) → is_lt (name_cmp d.name c.name) ≡ false
+    by true e h go = ap (λ (q : Cell). is_lt (name_cmp q.name c.name)) (same_cells d z e) ∙ not_less c z (first _ _ low)
     by false e h go = go h
 
--- no lesser name than the one that is met first is in both
-pub none_lesser : (one two : List Name) (e : Name) → IsRising one → meets one two ≡ Some e → (x : Name) → is_among one x ≡ true → is_among two x ≡ true → is_lt (name_cmp x e) ≡ false
-none_lesser [] two e rise h x i k = absurd (cc)
-none_lesser (y ∷ ys) two e rise h x i k = by (is_among two y) refl h (is_same x y) refl i (λ m g. none_lesser ys two e (second _ _ rise) m x g k)
+-- the first of rising cells has the least name
+pub first_is_least : (c : Cell) (cs : List Cell) → IsRising (c ∷ cs) → (d : Cell) → has (c ∷ cs) d ≡ true → is_lt (name_cmp d.name c.name) ≡ false
+first_is_least c cs rise d h = by (is_same_cell d c) refl h
   where
-    by : (b : Bool) → is_among two y ≡ b → cond b (Some y) (find (is_among two) ys) ≡ Some e → (s : Bool) → is_same x y ≡ s → (s || is_among ys x) ≡ true
-        → (find (is_among two) ys ≡ Some e → is_among ys x ≡ true → is_lt (name_cmp x e) ≡ false) → is_lt (name_cmp x e) ≡ false
-    by true g m true f i go = let same : y ≡ e = cc in ap (λ n. is_lt (name_cmp x n)) (sym same) ∙ not_less_itself x y f
-    by true g m false f i go = let same : y ≡ e = cc in ap (λ n. is_lt (name_cmp x n)) (sym same) ∙ not_less_among y ys (first _ _ rise) x i
-    by false g m true f i go = absurd (cc (sym k ∙ ap (is_among two) (same_names x y f) ∙ g))
-    by false g m false f i go = go m i
+    by : (b : Bool) → is_same_cell d c ≡ b → (b || has cs d) ≡ true → is_lt (name_cmp d.name c.name) ≡ false
+    by true e h = ap (λ (q : Cell). is_lt (name_cmp q.name c.name)) (same_cells d c e) ∙ not_less_itself c.name
+    by false e h = not_less_among c cs (first _ _ rise) d h
+
+-- no cell of a lesser name than the one that is met first is in both
+pub none_lesser : (one two : List Cell) (e : Name) → IsRising one → meets one two ≡ Some e → (c : Cell) → has one c ≡ true → has two c ≡ true → is_lt (name_cmp c.name e) ≡ false
+none_lesser [] two e rise h c i k = absurd (cc)
+none_lesser (y ∷ ys) two e rise h c i k = by (has two y) refl h (is_same_cell c y) refl i (λ m g. none_lesser ys two e (second _ _ rise) m c g k)
+  where
+    by : (b : Bool) → has two y ≡ b → option_map (λ (z : Cell). z.name) (cond b (Some y) (find (has two) ys)) ≡ Some e → (s : Bool) → is_same_cell c y ≡ s → (s || has ys c) ≡ true
+        → (meets ys two ≡ Some e → has ys c ≡ true → is_lt (name_cmp c.name e) ≡ false) → is_lt (name_cmp c.name e) ≡ false
+    by true g m s f j go = let same : y.name ≡ e = cc in ap (λ n. is_lt (name_cmp c.name n)) (sym same) ∙ first_is_least y ys rise c i
+    by false g m true f j go = absurd (cc (sym k ∙ ap (has two) (same_cells c y f) ∙ g))
+    by false g m false f j go = go m j
 
 -- names of which neither is less are the same
 pub neither_less : (x y : Name) → is_lt (name_cmp x y) ≡ false → is_lt (name_cmp y x) ≡ false → x ≡ y
@@ -91,14 +87,15 @@ neither_less x y low high = by (name_cmp x y) refl low
     by Greater e f = absurd (cc (sym high ∙ ap is_lt (name_cmp_total.antisymm y x ∙ ap ordering_reverse e)))
 
 -- which of two footprints is asked does not matter
-pub either_way : (one two : List Name) → IsRising one → IsRising two → meets one two ≡ meets two one
+pub either_way : (one two : List Cell) → IsRising one → IsRising two → meets one two ≡ meets two one
 either_way one two r s = by (meets one two) refl (meets two one) refl
   where
     by : (o : Option Name) → meets one two ≡ o → (p : Option Name) → meets two one ≡ p → o ≡ p
     by None e None f = refl
-    by None e (Some y) f = let have = both_have two one y f in absurd (apart one two e y have.1 have.0)
-    by (Some x) e None f = let have = both_have one two x e in absurd (apart two one f x have.1 have.0)
+    by None e (Some y) f = let have = both_have two one y f in absurd (apart one two e have.cell have.in_two have.in_one)
+    by (Some x) e None f = let have = both_have one two x e in absurd (apart two one f have.cell have.in_two have.in_one)
     by (Some x) e (Some y) f =
         let here = both_have one two x e in
         let there = both_have two one y f in
-        ap Some (neither_less x y (none_lesser two one y s f x here.1 here.0) (none_lesser one two x r e y there.1 there.0))
+        ap Some (neither_less x y (ap (λ n. is_lt (name_cmp n y)) (sym here.name) ∙ none_lesser two one y s f here.cell here.in_two here.in_one)
+        (ap (λ n. is_lt (name_cmp n x)) (sym there.name) ∙ none_lesser one two x r e there.cell there.in_two there.in_one))

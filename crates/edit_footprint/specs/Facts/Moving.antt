@@ -1,5 +1,5 @@
 -- A move looks at its footprint alone.
-use Rattle.std.proofs.Common.{◌≡◌, ◌&&◌, ◌||◌, ℤ, pos, Bool, true, false, not, List, [], ◌∷◌, Option, Some, None, is_some, length, nat_eq, refl, sym, ap, ◌∙◌, cond}
+use Rattle.std.proofs.Common.{◌≡◌, ◌&&◌, ◌||◌, ℤ, pos, Bool, true, false, not, List, [], ◌∷◌, Option, Some, None, length, nat_eq, refl, sym, ap, ◌∙◌, cond}
 use Rattle.std.proofs.lemmas.Bool.{or_from, false_from_ne_true, and_left, and_right}
 use Rattle.std.specs.List.{filter, list_any}
 use Rattle.std.specs.Option.{option_map}
@@ -13,7 +13,13 @@ use Rattle.osm_elements.specs.Rows.{row_at}
 use Rattle.osm_elements.specs.TagRows.{Pairs}
 use Rattle.osm_elements.specs.Facts.Tests.{first_true}
 use Rattle.osm_refs.specs.References.{row_references}
+use Rattle.osm_changes.specs.declared.half.Half.{Half}
+use Rattle.osm_changes.specs.declared.half.Half.TheVariants.{Place}
+use Rattle.osm_changes.specs.declared.part.Part.TheVariants.{Tags, Rest}
+use Rattle.osm_changes.specs.Cells.{rest_at, has}
+use Rattle.osm_changes.specs.Halves.{half, rest_of}
 use Rattle.osm_changes.specs.Sound.{is_sound}
+use Rattle.osm_changes.specs.Facts.Halves.{same_whole, same_presence}
 use Rattle.osm_changes.specs.Facts.SoundRows.{sound_in_order}
 use Rattle.edit_simple.specs.declared.refusal.Refusal.{Refusal}
 use Rattle.edit_simple.specs.declared.refusal.Refusal.TheVariants.{Absent, OutOfRange, Nothing}
@@ -27,12 +33,16 @@ use Rattle.edit_simple.specs.Facts.Relisting.{all_present}
 use Rattle.edit_topology.specs.Facts.Fitting.{none_named}
 use Rattle.edit_actions.specs.declared.action.Action.{Action}
 use Rattle.edit_actions.specs.declared.action.Action.TheVariants.{Move}
+use Rattle.edit_actions.specs.After.{after}
 use Rattle.edit_actions.specs.Refusals.{checks, refusal}
 use Rattle.edit_footprint.specs.Footprints.{footprint}
 use Rattle.edit_footprint.specs.Facts.AcceptedAlike.{IsLocal, accepted_alike}
 use Rattle.edit_footprint.specs.Facts.Agreeing.{same_subject}
 use Rattle.edit_footprint.specs.Facts.Becoming.{row_at-after}
-use Rattle.edit_footprint.specs.Facts.Footprints.{no_subject, rows_outside}
+use Rattle.edit_footprint.specs.Facts.CellSets.{has-rests}
+use Rattle.edit_footprint.specs.Facts.Footprints.{no_subject, halves_outside}
+use Rattle.edit_footprint.specs.Facts.Halfwise.{keeps_moved, keeps_if, tags_kept}
+use Rattle.edit_footprint.specs.Facts.Halves.{same_nodes_of}
 use Rattle.edit_footprint.specs.Facts.Naming.{named_there, none_of_nodes}
 use Rattle.edit_footprint.specs.Facts.NonePassing.{none_of_list, none_of_map}
 
@@ -49,10 +59,24 @@ none_at_all : (p : Name → Bool) (list : List Name) → ((e : Name) → p e ≡
 none_at_all p [] h = refl
 none_at_all p (x ∷ xs) h = or_from (p x) (list_any p xs) (h x) (none_at_all p xs h)
 
+some_inside : {X : Type 0} (x y : X) → Some x ≡ Some y → x ≡ y
+some_inside x y e = cc
+
 module _ {A : Type 0} where
+  -- a move keeps the tags of every row
+  tags_stay : (m : Rows A) (list : List Name) (dlat dlon : ℤ) (y : Name) → half Tags (row_at (after m (Move list dlat dlon)) y) ≡ half Tags (row_at m y)
+  tags_stay m list dlat dlon y =
+      ap (half Tags) (row_at-after m (Move list dlat dlon) y)
+      ∙ tags_kept (moves m list dlat dlon y) (keeps_if (is_moved m list y) (moved_by dlat dlon) (keeps_moved dlat dlon)) (row_at m y)
+
+  -- so a row whose rest is outside stays
+  row_stays : (m : Rows A) (list : List Name) (dlat dlon : ℤ) (y : Name) → has (footprint m (Move list dlat dlon)) (rest_at y) ≡ false → row_at (after m (Move list dlat dlon)) y ≡ row_at m y
+  row_stays m list dlat dlon y out =
+      let a : Action A = Move list dlat dlon in same_whole (row_at (after m a) y) (row_at m y) (tags_stay m list dlat dlon y) (halves_outside m a (rest_at y) out)
+
   -- a moved node that is there is elsewhere afterwards, so its row changes
   moved_away : (m : Rows A) (list : List Name) (dlat dlon : ℤ) → is_sound m ≡ true → refusal m (Move list dlat dlon) ≡ None
-      → (y : Name) → is_node y.kind ≡ true → is_present m y ≡ true → is_moved m list y ≡ true → is_among (footprint m (Move list dlat dlon)) y ≡ false → ⊥
+      → (y : Name) → is_node y.kind ≡ true → is_present m y ≡ true → is_moved m list y ≡ true → has (footprint m (Move list dlat dlon)) (rest_at y) ≡ false → ⊥
   moved_away m list dlat dlon sound ok y node here moved out = let row = node_there m y sound node here in still row.0 row.1 row.2 row.3
     where
       a : Action A
@@ -65,11 +89,11 @@ module _ {A : Type 0} where
       still : (lat lon : ℤ) (tags : Pairs) → row_at m y ≡ Some (elements.Node lat lon tags) → ⊥
       still lat lon tags is = elsewhere lat lon dlat dlon tags some_distance
           (ap (λ b. Some (cond b (moved_by dlat dlon (elements.Node lat lon tags)) (elements.Node lat lon tags))) (sym moved)
-          ∙ ap (option_map (moves m list dlat dlon y)) (sym is) ∙ sym (row_at-after m a y) ∙ rows_outside m a y out ∙ is)
+          ∙ ap (option_map (moves m list dlat dlon y)) (sym is) ∙ sym (row_at-after m a y) ∙ row_stays m list dlat dlon y out ∙ is)
 
-  -- so no name outside is moved
+  -- so no name whose rest is outside is moved
   none_moved : (m : Rows A) (list : List Name) (dlat dlon : ℤ) → is_sound m ≡ true → refusal m (Move list dlat dlon) ≡ None
-      → (y : Name) → is_among (footprint m (Move list dlat dlon)) y ≡ false → is_moved m list y ≡ false
+      → (y : Name) → has (footprint m (Move list dlat dlon)) (rest_at y) ≡ false → is_moved m list y ≡ false
   none_moved m list dlat dlon sound ok y out = false_from_ne_true (is_moved m list y) (λ moved. by (is_present m y) refl moved)
     where
       in_a_way : Name → Bool
@@ -82,28 +106,43 @@ module _ {A : Type 0} where
       by : (b : Bool) → is_present m y ≡ b → is_moved m list y ≡ true → ⊥
       by true here moved = moved_away m list dlat dlon sound ok y (first_true (is_node y.kind) (is_among list y || list_any in_a_way list) moved) here moved out
       by false gone moved = cc (sym moved
-          ∙ and_right (is_node y.kind) (is_among list y || list_any in_a_way list) (or_from (is_among list y) (list_any in_a_way list) (no_subject m (Move list dlat dlon) y out) (none_at_all in_a_way list (in_none gone))))
+          ∙ and_right (is_node y.kind) (is_among list y || list_any in_a_way list)
+          (or_from (is_among list y) (list_any in_a_way list) (sym (has-rests list y) ∙ no_subject m (Move list dlat dlon) (rest_at y) out) (none_at_all in_a_way list (in_none gone))))
+
+  -- whether an element leaves the range is told by its rest
+  abbrev is_far : ℤ → ℤ → Half A → Bool
+  is_far dlat dlon (Place lat lon) = let bare : Element A = elements.Node lat lon [] in is_out_of_range (moved_by dlat dlon bare)
+  is_far dlat dlon h = false
+
+  far_by_rest : (dlat dlon : ℤ) (u : Element A) → is_out_of_range (moved_by dlat dlon u) ≡ is_far dlat dlon (rest_of u)
+  far_by_rest dlat dlon (elements.Node lat lon tags) = refl
+  far_by_rest dlat dlon (elements.Way nodes tags) = refl
+  far_by_rest dlat dlon (elements.Relation members tags) = refl
 
   pub move_local : (list : List Name) (dlat dlon : ℤ) → IsLocal {A = A} (Move list dlat dlon)
   move_local list dlat dlon m n sound sound_n ok agree =
       accepted_alike m n a agree (λ y o. ap (λ b. option_map (λ v. cond b (moved_by dlat dlon v) v) o) (same_moved y))
-      (λ y out. row_at-after n a y ∙ ap (λ b. option_map (λ v. cond b (moved_by dlat dlon v) v) (row_at n y)) (same_moved y ∙ stays y out) ∙ as_it_was (row_at n y))
+      (λ y out. tags_stay n list dlat dlon y)
+      (λ y out. ap (half Rest) (row_at-after n a y ∙ ap (λ b. option_map (λ v. cond b (moved_by dlat dlon v) v) (row_at n y)) (same_moved y ∙ stays y out) ∙ as_it_was (row_at n y)))
       same ok
     where
       a : Action A
       a = Move list dlat dlon
 
-      stays : (y : Name) → is_among (footprint m a) y ≡ false → is_moved m list y ≡ false
+      stays : (y : Name) → has (footprint m a) (rest_at y) ≡ false → is_moved m list y ≡ false
       stays = none_moved m list dlat dlon sound ok
 
       as_it_was : (o : Option (Element A)) → option_map (λ v. v) o ≡ o
       as_it_was None = refl
       as_it_was (Some v) = refl
 
-      -- the same nodes are moved, for what is listed has the same rows
+      same_rest : (w : Name) → is_among list w ≡ true → half Rest (row_at m w) ≡ half Rest (row_at n w)
+      same_rest w i = same_subject m n a agree Rest w (has-rests list w ∙ i)
+
+      -- the same nodes are moved, for what is listed has the same nodes
       same_moved : (y : Name) → is_moved n list y ≡ is_moved m list y
       same_moved y = ap (λ b. is_node y.kind && (is_among list y || b))
-          (any_alike (λ w. is_among (nodes_of (row_at n w)) y) (λ w. is_among (nodes_of (row_at m w)) y) list (λ w i. ap (λ o. is_among (nodes_of o) y) (sym (same_subject m n a agree w i))))
+          (any_alike (λ w. is_among (nodes_of (row_at n w)) y) (λ w. is_among (nodes_of (row_at m w)) y) list (λ w i. ap (λ l. is_among l y) (sym (same_nodes_of (row_at m w) (row_at n w) (same_rest w i)))))
 
       -- what is listed is in both maps
       here : filter (is_absent m) list ≡ []
@@ -111,7 +150,7 @@ module _ {A : Type 0} where
 
       here_too : filter (is_absent n) list ≡ []
       here_too = none_of_list (is_absent n) list
-          (λ e i. ap (λ o. not (is_some o)) (sym (same_subject m n a agree e i)) ∙ ap not (all_present m list (nones (checks m a) ok).1.0 e i))
+          (λ e i. ap not (sym (same_presence Rest (row_at m e) (row_at n e) (same_rest e i))) ∙ ap not (all_present m list (nones (checks m a) ok).1.0 e i))
 
       -- no moved node leaves the range in either map
       within : left_range m list dlat dlon ≡ []
@@ -119,10 +158,17 @@ module _ {A : Type 0} where
 
       within_too : left_range n list dlat dlon ≡ []
       within_too = none_of_map (λ r. is_moved n list r.0 && is_out_of_range (moved_by dlat dlon r.1)) n (sound_in_order n sound_n)
-          (λ y v is. ap (λ b. b && is_out_of_range (moved_by dlat dlon v)) (same_moved y) ∙ by y v is (is_among (footprint m a) y) refl)
+          (λ y v is. ap (λ b. b && is_out_of_range (moved_by dlat dlon v)) (same_moved y) ∙ by y v is (has (footprint m a) (rest_at y)) refl)
         where
-          by : (y : Name) (v : Element A) → row_at n y ≡ Some v → (b : Bool) → is_among (footprint m a) y ≡ b → (is_moved m list y && is_out_of_range (moved_by dlat dlon v)) ≡ false
-          by y v is true i = none_named (λ z u. is_moved m list z && is_out_of_range (moved_by dlat dlon u)) m within y v (agree.same_row y i ∙ is)
+          -- m has a row there with the same rest
+          alike : (y : Name) (v : Element A) (o : Option (Element A)) → row_at m y ≡ o → half Rest o ≡ Some (rest_of v) → (is_moved m list y && is_out_of_range (moved_by dlat dlon v)) ≡ false
+          alike y v None is e = absurd (cc)
+          alike y v (Some u) is e =
+              ap (λ b. is_moved m list y && b) (far_by_rest dlat dlon v ∙ ap (is_far dlat dlon) (sym (some_inside (rest_of u) (rest_of v) e)) ∙ sym (far_by_rest dlat dlon u))
+              ∙ none_named (λ z w. is_moved m list z && is_out_of_range (moved_by dlat dlon w)) m within y u is
+
+          by : (y : Name) (v : Element A) → row_at n y ≡ Some v → (b : Bool) → has (footprint m a) (rest_at y) ≡ b → (is_moved m list y && is_out_of_range (moved_by dlat dlon v)) ≡ false
+          by y v is true i = alike y v (row_at m y) refl (agree.same_half (rest_at y) i ∙ ap (half Rest) is)
           by y v is false out = and_left (is_moved m list y) (is_out_of_range (moved_by dlat dlon v)) (stays y out)
 
       same : checks n a ≡ checks m a

@@ -10,6 +10,10 @@ use Rattle.osm_elements.specs.Maps.{Rows, is_same, is_among}
 use Rattle.osm_elements.specs.Rows.{row_at}
 use Rattle.osm_elements.specs.Facts.Dropped.{same_either_way}
 use Rattle.osm_refs.specs.References.{row_references}
+use Rattle.osm_changes.specs.declared.part.Part.{Part}
+use Rattle.osm_changes.specs.declared.part.Part.TheVariants.{Tags, Rest}
+use Rattle.osm_changes.specs.Cells.{rest_at, has}
+use Rattle.osm_changes.specs.Halves.{half}
 use Rattle.osm_changes.specs.Sound.{is_sound}
 use Rattle.edit_simple.specs.Contents.{nodes_of, with_nodes, with_members}
 use Rattle.edit_simple.specs.Purge.{without, falls_short, goes, what_is_left, after_purge}
@@ -20,10 +24,12 @@ use Rattle.edit_actions.specs.declared.action.Action.TheVariants.{Purge}
 use Rattle.edit_actions.specs.Refusals.{checks}
 use Rattle.edit_footprint.specs.Footprints.{footprint}
 use Rattle.edit_footprint.specs.Facts.AcceptedAlike.{IsLocal, accepted_alike}
-use Rattle.edit_footprint.specs.Facts.Agreeing.{same_subject, not_named}
-use Rattle.edit_footprint.specs.Facts.Footprints.{rows_outside}
+use Rattle.edit_footprint.specs.Facts.Agreeing.{same_row_of_subject, not_named}
+use Rattle.edit_footprint.specs.Facts.Footprints.{halves_outside}
+use Rattle.edit_footprint.specs.Facts.Halfwise.{keeps_nodes, keeps_members, keeps_both, tags_kept}
+use Rattle.edit_footprint.specs.Facts.Halves.{same_nodes_of}
 use Rattle.edit_footprint.specs.Facts.Naming.{named_there, none_of_nodes}
-use Rattle.edit_footprint.specs.Facts.Subjects.{alone, another}
+use Rattle.edit_footprint.specs.Facts.Subjects.{either, another}
 
 -- members of which none goes
 members_stay : (go : Name → Bool) (members : List (Name × List ℕ)) → ((e : Name) → go e ≡ true → is_among (map (λ r. r.0) members) e ≡ false) → filter (λ r. not (go r.0)) members ≡ members
@@ -49,39 +55,50 @@ module _ {A : Type 0} where
       let there = named_there (after_purge m x) (purge_sound m x sound) y e (ap (λ o. is_among (row_references o) e) kept ∙ named) in
       cc (sym there ∙ ap is_some (is_gone m x e go))
 
-  -- what is outside stays: it is not the subject, and a way that went would have changed
-  stays_outside : (m : Rows A) (x y : Name) → is_among (footprint m (Purge x)) y ≡ false → goes m x y ≡ false
-  stays_outside m x y out = false_from_ne_true (goes m x y) (λ go. by (row_at m y) (sym (rows_outside m (Purge x) y out) ∙ is_gone m x y go) go)
+  -- a name with a cell outside stays: it is not the subject, and a way that went would have changed in both halves
+  stays_outside : (m : Rows A) (x : Name) (p : Part) (y : Name) → has (footprint m (Purge x)) (record { name = y; part = p }) ≡ false → goes m x y ≡ false
+  stays_outside m x p y out =
+      false_from_ne_true (goes m x y) (λ go. by (row_at m y) (sym (halves_outside m (Purge x) (record { name = y; part = p }) out) ∙ ap (half p) (is_gone m x y go)) go)
     where
-      by : (o : Option (Element A)) → o ≡ None → (is_same x y || falls_short x (nodes_of o)) ≡ true → ⊥
-      by None is go = cc (sym go ∙ or_from (is_same x y) false (same_either_way x y ∙ another m (Purge x) x y (alone x) out) refl)
+      by : (o : Option (Element A)) → half p o ≡ None → (is_same x y || falls_short x (nodes_of o)) ≡ true → ⊥
+      by None is go = cc (sym go ∙ or_from (is_same x y) false (same_either_way x y ∙ another m (Purge x) p x y (either p x []) out) refl)
       by (Some v) is go = cc
+
+  -- what does not go keeps its tags
+  tags_stay : (m : Rows A) (x y : Name) → goes m x y ≡ false → half Tags (row_at (after_purge m x) y) ≡ half Tags (row_at m y)
+  tags_stay m x y stays =
+      ap (half Tags) (row_at-after_purge m x y ∙ ap (λ b. cond b None (option_map (what_is_left m x) (row_at m y))) stays)
+      ∙ tags_kept (what_is_left m x) (keeps_both (with_nodes (without x)) (with_members left) (keeps_nodes (without x)) (keeps_members left)) (row_at m y)
+    where
+      left : List (Name × List ℕ) → List (Name × List ℕ)
+      left members = filter (λ r. not (goes m x r.0)) members
 
   pub purge_local : (x : Name) → IsLocal {A = A} (Purge x)
   purge_local x m n sound sound_n ok agree =
       accepted_alike m n a agree (λ y o. ap (λ (go : Name → Bool). cond (go y) None (option_map (λ v. with_nodes (without x) (with_members (filter (λ r. not (go r.0))) v)) o)) same_goes)
-      (λ y out. purge_leaves n x y (ap (λ go. go y) same_goes ∙ stays_outside m x y out) (λ e go. unnamed e (sym (ap (λ f. f e) same_goes) ∙ go) y out)) same ok
+      (λ y out. tags_stay n x y (ap (λ go. go y) same_goes ∙ stays_outside m x Tags y out))
+      (λ y out. ap (half Rest) (purge_leaves n x y (ap (λ go. go y) same_goes ∙ stays_outside m x Rest y out) (λ e go. unnamed e (sym (ap (λ f. f e) same_goes) ∙ go) y out))) same ok
     where
       a : Action A
       a = Purge x
 
-      -- a row outside names nothing that goes, for all that do change
-      unnamed : (e : Name) → goes m x e ≡ true → (y : Name) → is_among (footprint m a) y ≡ false → is_among (row_references (row_at n y)) e ≡ false
-      unnamed e go = not_named m n a agree sound sound_n e inside (purge_changes m x e sound go)
+      -- a row whose rest is outside names nothing that goes, for all that do change
+      unnamed : (e : Name) → goes m x e ≡ true → (y : Name) → has (footprint m a) (rest_at y) ≡ false → is_among (row_references (row_at n y)) e ≡ false
+      unnamed e go = not_named m n a agree sound sound_n e inside (purge_changes m x e sound go) (λ y out. tags_stay m x y (stays_outside m x Rest y out))
         where
-          inside : is_among (footprint m a) e ≡ true
-          inside = true_from_ne_false (is_among (footprint m a) e) (λ out. cc (sym go ∙ stays_outside m x e out))
+          inside : has (footprint m a) (rest_at e) ≡ true
+          inside = true_from_ne_false (has (footprint m a) (rest_at e)) (λ out. cc (sym go ∙ stays_outside m x Rest e out))
 
       -- the same goes in both maps
       same_goes : goes n x ≡ goes m x
-      same_goes j y = by (is_among (footprint m a) y) refl j
+      same_goes j y = by (has (footprint m a) (rest_at y)) refl j
         where
-          by : (b : Bool) → is_among (footprint m a) y ≡ b → goes n x y ≡ goes m x y
-          by true inside = ap (λ o. is_same x y || falls_short x (nodes_of o)) (sym (agree.same_row y inside))
+          by : (b : Bool) → has (footprint m a) (rest_at y) ≡ b → goes n x y ≡ goes m x y
+          by true inside = ap (λ l. is_same x y || falls_short x l) (sym (same_nodes_of (row_at m y) (row_at n y) (agree.same_half (rest_at y) inside)))
           by false out =
-              or_from (is_same x y) (falls_short x (nodes_of (row_at n y))) (same_either_way x y ∙ another m a x y (alone x) out)
+              or_from (is_same x y) (falls_short x (nodes_of (row_at n y))) (same_either_way x y ∙ another m a Rest x y (either Rest x []) out)
               (and_left (is_among (nodes_of (row_at n y)) x) (nat_lt (length (without x (nodes_of (row_at n y)))) 2) (none_of_nodes (row_at n y) x (unnamed x (x_goes m x) y out)))
-              ∙ sym (stays_outside m x y out)
+              ∙ sym (stays_outside m x Rest y out)
 
       same : checks n a ≡ checks m a
-      same = let row = same_subject m n a agree x (alone x) in rw (← row) refl
+      same = let row = same_row_of_subject m n a agree x (λ p. either p x []) in rw (← row) refl

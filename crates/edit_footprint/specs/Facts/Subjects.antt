@@ -1,24 +1,35 @@
--- The names that are subjects of an action, and those that are not.
-use Rattle.std.proofs.Common.{◌≡◌, true, false, [], ◌∷◌, sym, ap, ◌∙◌}
+-- The cells that are subjects of an action, and those that are not.
+use Rattle.std.proofs.Common.{◌≡◌, true, false, List, [], ◌∷◌, ◌++◌, sym, ap, ◌∙◌}
 use Rattle.std.proofs.lemmas.Bool.{false_from_ne_true}
 use Rattle.osm_elements.specs.declared.name.Name.{Name}
-use Rattle.osm_elements.specs.Maps.{Rows, is_same, is_among}
+use Rattle.osm_elements.specs.Maps.{Rows, is_same}
 use Rattle.osm_elements.specs.Facts.Rows.{same_names}
-use Rattle.edit_simple.specs.Facts.Lists.{or_right, is_among_own}
+use Rattle.osm_changes.specs.declared.cell.Cell.{Cell}
+use Rattle.osm_changes.specs.declared.part.Part.{Part}
+use Rattle.osm_changes.specs.declared.part.Part.TheVariants.{Tags, Rest}
+use Rattle.osm_changes.specs.Cells.{tags_at, rest_at, both_at, has}
 use Rattle.edit_actions.specs.declared.action.Action.{Action}
 use Rattle.edit_footprint.specs.Footprints.{subjects, footprint}
+use Rattle.edit_footprint.specs.Facts.CellSets.{has-own, has-more}
 use Rattle.edit_footprint.specs.Facts.Footprints.{no_subject}
 
--- the one of one, and the first and the second of two
-pub alone : (x : Name) → is_among (x ∷ []) x ≡ true
-alone x = is_among_own x []
+-- the one of one, either of both of a name, and of both of two names
+pub alone : (c : Cell) → has (c ∷ []) c ≡ true
+alone c = has-own c []
 
-pub first : (x y : Name) → is_among (x ∷ y ∷ []) x ≡ true
-first x y = is_among_own x (y ∷ [])
+pub either : (p : Part) (x : Name) (cs : List Cell) → has (tags_at x ∷ rest_at x ∷ cs) (record { name = x; part = p }) ≡ true
+either Tags x cs = has-own (tags_at x) (rest_at x ∷ cs)
+either Rest x cs = has-more (rest_at x) (tags_at x) (rest_at x ∷ cs) (has-own (rest_at x) cs)
 
-pub second : (x y : Name) → is_among (x ∷ y ∷ []) y ≡ true
-second x y = or_right (is_same y x) (is_among (y ∷ []) y) (alone y)
+pub first : (p : Part) (x y : Name) → has (both_at x ++ both_at y) (record { name = x; part = p }) ≡ true
+first p x y = either p x (both_at y)
 
--- a name outside is another than a subject
-pub another : {A : Type 0} (m : Rows A) (a : Action A) (x y : Name) → is_among (subjects a) x ≡ true → is_among (footprint m a) y ≡ false → is_same y x ≡ false
-another m a x y own out = false_from_ne_true (is_same y x) (λ same. cc (sym own ∙ ap (is_among (subjects a)) (sym (same_names y x same)) ∙ no_subject m a y out))
+pub second : (p : Part) (x y : Name) → has (both_at x ++ both_at y) (record { name = y; part = p }) ≡ true
+second p x y =
+    has-more (record { name = y; part = p }) (tags_at x) (rest_at x ∷ both_at y) (has-more (record { name = y; part = p }) (rest_at x) (both_at y) (either p y []))
+
+-- a name with a cell outside is another than that of a subject of this part
+pub another : {A : Type 0} (m : Rows A) (a : Action A) (p : Part) (x y : Name) → has (subjects a) (record { name = x; part = p }) ≡ true → has (footprint m a) (record { name = y; part = p }) ≡ false → is_same y x ≡ false
+another m a p x y own out =
+    false_from_ne_true (is_same y x)
+    (λ same. cc (sym own ∙ ap (λ (z : Name). has (subjects a) (record { name = z; part = p })) (sym (same_names y x same)) ∙ no_subject m a (record { name = y; part = p }) out))

@@ -1,75 +1,91 @@
 -- An unglue looks at its footprint alone.
-use Rattle.std.proofs.Common.{◌≡◌, ℕ, Bool, true, false, ◌||◌, List, [], ◌∷◌, ◌++◌, Option, Some, None, refl, sym, ap, ◌∙◌, cond}
+use Rattle.std.proofs.Common.{◌≡◌, ◌||◌, ℕ, Bool, true, false, List, [], ◌∷◌, map, set, Some, None, refl, sym, ap, ◌∙◌, cond}
 use Rattle.std.proofs.lemmas.Bool.{true_from_ne_false}
-use Rattle.std.specs.List.{find, slice_get}
+use Rattle.std.specs.List.{find, flat_map, slice_get}
 use Rattle.std.specs.Option.{option_and_then, option_map, option_to_list}
 use Rattle.osm_elements.specs.declared.name.Name.{Name}
-use Rattle.osm_elements.specs.declared.element.Element.{Element}
-use Rattle.osm_elements.specs.Maps.{Rows, is_same, is_among}
+use Rattle.osm_elements.specs.Maps.{Rows, is_same}
 use Rattle.osm_elements.specs.Rows.{row_at}
-use Rattle.osm_elements.specs.Facts.Rows.{same_names}
+use Rattle.osm_changes.specs.declared.cell.Cell.{Cell}
 use Rattle.osm_changes.specs.declared.change.Change.{Change}
-use Rattle.osm_changes.specs.Changes.{differing, row_changes, rows_changes}
+use Rattle.osm_changes.specs.declared.part.Part.{Part}
+use Rattle.osm_changes.specs.declared.part.Part.TheVariants.{Tags, Rest}
+use Rattle.osm_changes.specs.Cells.{tags_at, rest_at, both_at, is_same_cell, half_at, has}
+use Rattle.osm_changes.specs.Changes.{differing, change_at, cell_of}
+use Rattle.osm_changes.specs.Halves.{half}
 use Rattle.osm_changes.specs.Sound.{is_sound}
-use Rattle.edit_simple.specs.Contents.{nodes_of}
-use Rattle.edit_simple.specs.Facts.Lists.{is_among_own}
-use Rattle.edit_topology.specs.Unglue.{row_standing}
+use Rattle.osm_changes.specs.Facts.Changing.{not_differing}
+use Rattle.osm_changes.specs.Facts.Cells.{same_cells}
+use Rattle.osm_changes.specs.Facts.Halves.{same_whole}
+use Rattle.edit_simple.specs.Contents.{nodes_of, with_nodes}
+use Rattle.edit_topology.specs.Unglue.{row_standing, after_unglue}
 use Rattle.edit_topology.specs.Facts.Changing.{unglue_changes}
 use Rattle.edit_topology.specs.Facts.Staying.{unglue_leaves}
-use Rattle.edit_topology.specs.Facts.Ungluing.{Unglues, unglues, row_standing_is, unglue_row}
+use Rattle.edit_topology.specs.Facts.Ungluing.{Unglues, unglues, row_standing_is, unglue_row, row_at-after_unglue, not_new}
 use Rattle.edit_actions.specs.declared.action.Action.{Action}
 use Rattle.edit_actions.specs.declared.action.Action.TheVariants.{Unglue}
 use Rattle.edit_actions.specs.After.{after, changes}
 use Rattle.edit_actions.specs.Refusals.{checks, refusal}
-use Rattle.edit_footprint.specs.Footprints.{row_before, footprint}
+use Rattle.edit_footprint.specs.Footprints.{half_nodes, half_before, footprint}
 use Rattle.edit_footprint.specs.Facts.AcceptedAlike.{IsLocal, accepted_alike}
-use Rattle.edit_footprint.specs.Facts.Agreeing.{same_subject}
-use Rattle.edit_footprint.specs.Facts.Differences.{not_differing}
+use Rattle.edit_footprint.specs.Facts.Agreeing.{same_row_of_subject}
 use Rattle.edit_footprint.specs.Facts.Footprints.{from_inside}
-use Rattle.edit_footprint.specs.Facts.Subjects.{first, second, another}
+use Rattle.edit_footprint.specs.Facts.Halfwise.{keeps_if, keeps_nodes, tags_kept}
+use Rattle.edit_footprint.specs.Facts.Halves.{nodes_by_half}
+use Rattle.edit_footprint.specs.Facts.Subjects.{either, first, second, another}
 
 module _ {A : Type 0} where
-  first_before : (c : Change A) (cs : List (Change A)) (x : Name) → row_before (c ∷ cs) x ≡ cond (is_same x c.name) c.before (row_before cs x)
-  first_before c cs x = by (is_same x c.name)
+  first_before : (d : Change A) (cs : List (Change A)) (c : Cell) → half_before (d ∷ cs) c ≡ cond (is_same_cell c (cell_of d)) d.before (half_before cs c)
+  first_before d cs c = by (is_same_cell c (cell_of d))
     where
-      by : (b : Bool) → option_and_then (λ (d : Change A). d.before) (cond b (Some c) (find (λ (d : Change A). is_same x d.name) cs)) ≡ cond b c.before (row_before cs x)
+      by : (b : Bool) → option_and_then (λ (e : Change A). e.before) (cond b (Some d) (find (λ (e : Change A). is_same_cell c (cell_of e)) cs)) ≡ cond b d.before (half_before cs c)
       by true = refl
       by false = refl
 
-  -- the changes of a row, with others behind them, have the row that its name had
-  row_before-row_changes : (y : Name) (o p : Option (Element A)) (cs : List (Change A)) (x : Name) → row_before (row_changes y o p ++ cs) x ≡ cond (is_same x y) o (row_before cs x)
-  row_before-row_changes y o p cs x = first_before _ cs x
-
-  -- where changes tell a name, they have the row that it had before
-  row_before-rows_changes : (m : Rows A) (after : Name → Option (Element A)) (names : List Name) (x : Name) → row_before (rows_changes m after names) x ≡ cond (is_among names x) (row_at m x) None
-  row_before-rows_changes m after [] x = refl
-  row_before-rows_changes m after (y ∷ ys) x =
-      row_before-row_changes y (row_at m y) (after y) (rows_changes m after ys) x
-      ∙ ap (λ o. cond (is_same x y) (row_at m y) o) (row_before-rows_changes m after ys x) ∙ by (is_same x y) refl
+  -- where changes tell a cell, they have the half that it had before
+  half_before-map : (m n : Rows A) (cells : List Cell) (c : Cell) → half_before (map (change_at m n) cells) c ≡ cond (has cells c) (half_at m c) None
+  half_before-map m n [] c = refl
+  half_before-map m n (d ∷ ds) c =
+      first_before (change_at m n d) (map (change_at m n) ds) c ∙ ap (λ h. cond (is_same_cell c d) (half_at m d) h) (half_before-map m n ds c) ∙ by (is_same_cell c d) refl
     where
-      by : (b : Bool) → is_same x y ≡ b → cond b (row_at m y) (cond (is_among ys x) (row_at m x) None) ≡ cond (b || is_among ys x) (row_at m x) None
-      by true e = ap (row_at m) (sym (same_names x y e))
+      by : (b : Bool) → is_same_cell c d ≡ b → cond b (half_at m d) (cond (has ds c) (half_at m c) None) ≡ cond (b || has ds c) (half_at m c) None
+      by true e = ap (half_at m) (sym (same_cells c d e))
       by false e = refl
 
-  -- the node that stood there is in the footprint
-  stood_inside : (m : Rows A) (w : Name) (i : ℕ) (v : Name) → is_sound m ≡ true → refusal m (Unglue w i v) ≡ None → (s : Unglues m w i v) → is_among (footprint m (Unglue w i v)) s.stood.name ≡ true
-  stood_inside m w i v sound ok s =
-      from_inside m (Unglue w i v) s.stood.name
-      (ap (λ o. is_among (option_to_list (slice_get (nodes_of o) i)) s.stood.name) (before ∙ s.row) ∙ ap (λ o. is_among (option_to_list o) s.stood.name) s.stood.at ∙ is_among_own s.stood.name [])
+  -- every row but the new one keeps its tags
+  unglue_tags : (m : Rows A) (w : Name) (i : ℕ) (v y : Name) → is_same y v ≡ false → half Tags (row_at (after_unglue m w i v) y) ≡ half Tags (row_at m y)
+  unglue_tags m w i v y other =
+      ap (half Tags) (row_at-after_unglue m w i v y ∙ ap (λ b. cond b (row_standing m w i) (option_map (unglue_row w i v y) (row_at m y))) other)
+      ∙ tags_kept (unglue_row w i v y) (keeps_if (is_same w y) (with_nodes (λ list. set list i v)) (keeps_nodes (λ list. set list i v))) (row_at m y)
+
+  -- both cells of the node that stood there are in the footprint
+  stood_inside : (m : Rows A) (w : Name) (i : ℕ) (v : Name) → is_sound m ≡ true → refusal m (Unglue w i v) ≡ None → (s : Unglues m w i v)
+      → (p : Part) → has (footprint m (Unglue w i v)) (record { name = s.stood.name; part = p }) ≡ true
+  stood_inside m w i v sound ok s p =
+      from_inside m (Unglue w i v) stood
+      (ap (λ h. has (flat_map both_at (option_to_list (slice_get (half_nodes h) i))) stood) before
+      ∙ ap (λ l. has (flat_map both_at (option_to_list (slice_get l i))) stood) (sym (nodes_by_half (row_at m w)) ∙ ap nodes_of s.row)
+      ∙ ap (λ o. has (flat_map both_at (option_to_list o)) stood) s.stood.at ∙ either p s.stood.name [])
     where
       k : Rows A
       k = after m (Unglue w i v)
 
-      changed : is_among (differing m k) w ≡ true
-      changed = true_from_ne_false (is_among (differing m k) w) (λ out. unglue_changes m w i v sound ok (sym (not_differing m k w out)))
+      stood : Cell
+      stood = record { name = s.stood.name; part = p }
 
-      before : row_before (changes m (Unglue w i v)) w ≡ row_at m w
-      before = row_before-rows_changes m (row_at k) (differing m k) w ∙ ap (λ b. cond b (row_at m w) None) changed
+      -- w's list changes, for w's row does and keeps its tags
+      changed : has (differing m k) (rest_at w) ≡ true
+      changed = true_from_ne_false (has (differing m k) (rest_at w))
+          (λ out. unglue_changes m w i v sound ok (same_whole (row_at k w) (row_at m w) (unglue_tags m w i v w (not_new m w i v s)) (sym (not_differing m k (rest_at w) out))))
+
+      before : half_before (changes m (Unglue w i v)) (rest_at w) ≡ half_at m (rest_at w)
+      before = half_before-map m k (differing m k) (rest_at w) ∙ ap (λ b. cond b (half_at m (rest_at w)) None) changed
 
   pub unglue_local : (w : Name) (i : ℕ) (v : Name) → IsLocal {A = A} (Unglue w i v)
   unglue_local w i v m n sound sound_n ok agree =
       accepted_alike m n a agree (λ y o. ap (λ r. cond (is_same y v) r (option_map (unglue_row w i v y) o)) same_standing)
-      (λ y out. unglue_leaves n w i v y (another m a w y (first w v) out) (another m a v y (second w v) out)) same ok
+      (λ y out. unglue_tags n w i v y (another m a Tags v y (second Tags w v) out))
+      (λ y out. ap (half Rest) (unglue_leaves n w i v y (another m a Rest w y (first Rest w v) out) (another m a Rest v y (second Rest w v) out))) same ok
     where
       a : Action A
       a = Unglue w i v
@@ -78,13 +94,16 @@ module _ {A : Type 0} where
       s = unglues m w i v sound ok
 
       row_w : row_at m w ≡ row_at n w
-      row_w = same_subject m n a agree w (first w v)
+      row_w = same_row_of_subject m n a agree w (λ p. first p w v)
+
+      row_stood : row_at m s.stood.name ≡ row_at n s.stood.name
+      row_stood = same_whole (row_at m s.stood.name) (row_at n s.stood.name) (agree.same_half (tags_at s.stood.name) (stood_inside m w i v sound ok s Tags))
+          (agree.same_half (rest_at s.stood.name) (stood_inside m w i v sound ok s Rest))
 
       -- the new node gets the same row in both
       same_standing : row_standing n w i ≡ row_standing m w i
       same_standing =
-          ap (λ o. option_and_then (row_at n) (slice_get (nodes_of o) i)) (sym row_w ∙ s.row) ∙ ap (option_and_then (row_at n)) s.stood.at
-          ∙ sym (agree.same_row s.stood.name (stood_inside m w i v sound ok s)) ∙ sym (row_standing_is m w i v s)
+          ap (λ o. option_and_then (row_at n) (slice_get (nodes_of o) i)) (sym row_w ∙ s.row) ∙ ap (option_and_then (row_at n)) s.stood.at ∙ sym row_stood ∙ sym (row_standing_is m w i v s)
 
       same : checks n a ≡ checks m a
-      same = let row_v = same_subject m n a agree v (second w v) in rw (← row_w, ← row_v) refl
+      same = let row_v = same_row_of_subject m n a agree v (λ p. second p w v) in rw (← row_w, ← row_v) refl

@@ -3,14 +3,13 @@ use Rattle.std.specs.Prelude.{◌++◌, List}
 use Rattle.std.specs.List.{flat_map}
 use Rattle.osm_elements.specs.declared.name.Name.{Name}
 use Rattle.osm_elements.specs.Maps.{name_set}
-use Rattle.osm_refs.specs.References.{row_references}
 use Rattle.osm_changes.specs.declared.change.Change.{Change}
-use Rattle.edit_footprint.specs.Footprints.{names_but}
+use Rattle.edit_footprint.specs.Footprints.{names_but, half_references}
 
 module _ {A : Type 0} where
-  -- what a row begins or ceases to name, by the sets of its references before and after
+  -- what a half begins or ceases to name, by the sets of its references before and after
   abbrev pub begun_or_ceased_once : Change A → List Name
-  begun_or_ceased_once c = names_but (name_set (row_references c.before)) (name_set (row_references c.after)) ++ names_but (name_set (row_references c.after)) (name_set (row_references c.before))
+  begun_or_ceased_once c = names_but (name_set (half_references c.before)) (name_set (half_references c.after)) ++ names_but (name_set (half_references c.after)) (name_set (half_references c.before))
 
   -- the same of each of some changes
   abbrev pub all_begun_or_ceased : List (Change A) → List Name

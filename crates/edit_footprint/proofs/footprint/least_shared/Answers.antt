@@ -1,14 +1,14 @@
 use Rattle.std.proofs.Common.{drop, sym, ◌∙◌, arith}
-use Rattle.osm_elements.specs.Facts.NameOrder.{name_cmp_is}
-use Rattle.edit_footprint.proofs.Walking.{passes_name, passes_other, meets_here, no_others_left}
+use Rattle.osm_changes.specs.Facts.Cells.{cell_cmp_is}
+use Rattle.edit_footprint.proofs.Walking.{passes_cell, passes_other, meets_here, no_others_left}
 use Rattle.edit_footprint.proofs.footprint.least_shared.Goals as goal
 
 pub loop-at-preserved-in-Less : goal.loop-at-preserved-in-Less
 loop-at-preserved-in-Less c = (
   omega arith,
   omega arith,
-  passes_name c.args.names.now c.args.others.now c.requires.names c.requires.others c.loop-at.at c.loop-at.place c.index-names-at.result c.index-others-place.result (omega arith) (omega arith)
-      c.index-names-at.is c.index-others-place.is _ name_cmp_is (sym c.in-Less.ensures)
+  passes_cell c.args.cells.now c.args.others.now c.requires.cells c.requires.others c.loop-at.at c.loop-at.place c.index-cells-at.result c.index-others-place.result (omega arith) (omega arith)
+      c.index-cells-at.is c.index-others-place.is _ cell_cmp_is (sym c.in-Less.ensures)
       ∙ c.loop-at.invariant.2,
 )
 
@@ -16,16 +16,16 @@ pub loop-at-preserved : goal.loop-at-preserved
 loop-at-preserved c = (
   omega arith,
   omega arith,
-  passes_other c.args.names.now c.args.others.now c.requires.names c.requires.others c.loop-at.at c.loop-at.place c.index-names-at.result c.index-others-place.result (omega arith) (omega arith)
-      c.index-names-at.is c.index-others-place.is _ name_cmp_is (sym c.in-Greater.ensures)
+  passes_other c.args.cells.now c.args.others.now c.requires.cells c.requires.others c.loop-at.at c.loop-at.place c.index-cells-at.result c.index-others-place.result (omega arith) (omega arith)
+      c.index-cells-at.is c.index-others-place.is _ cell_cmp_is (sym c.in-Greater.ensures)
       ∙ c.loop-at.invariant.2,
 )
 
 pub returns-in-Equal : goal.returns-in-Equal
 returns-in-Equal c =
-    meets_here c.args.names.now c.args.others.now c.requires.names c.requires.others c.loop-at.at c.loop-at.place c.index-names-at.result c.index-others-place.result (omega arith) (omega arith)
-    c.index-names-at.is c.index-others-place.is _ name_cmp_is (sym c.in-Equal.ensures)
+    meets_here c.args.cells.now c.args.others.now c.requires.cells c.requires.others c.loop-at.at c.loop-at.place c.index-cells-at.result c.index-others-place.result (omega arith) (omega arith)
+    c.index-cells-at.is c.index-others-place.is _ cell_cmp_is (sym c.in-Equal.ensures)
     ∙ c.loop-at.invariant.2
 
 pub returns-else-place-others : goal.returns-else-place-others
-returns-else-place-others c = sym (no_others_left (drop c.loop-at.at c.args.names.now) c.args.others.now c.loop-at.place c.if-place-others.false) ∙ c.loop-at.invariant.2
+returns-else-place-others c = sym (no_others_left (drop c.loop-at.at c.args.cells.now) c.args.others.now c.loop-at.place c.if-place-others.false) ∙ c.loop-at.invariant.2

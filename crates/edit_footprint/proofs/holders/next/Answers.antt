@@ -7,5 +7,8 @@ pub returns : goal.returns
 returns c =
     let xs = c.args.numbers.now in
     let parted = IsPartitionedBy-leb (λ y. y) xs c.args.seq (never_falling xs c.requires) in
-    let point = IsPartitionPoint-from_clause (λ y. leb y c.args.seq) xs c.partition_point-after.result c.partition_point-after.ensures.partitioned parted (λ a r q k. search rules) in
-    c.copied.ensures ∙ lent_at xs c.partition_point-after.result c.get.result c.get.ensures.lookup ∙ sym (first_at_point c.args.seq xs c.partition_point-after.result point)
+    let point = IsPartitionPoint-from_clause
+    (λ y. leb y c.args.seq) xs c.partition_point-after.result c.partition_point-after.ensures.partitioned parted
+    (λ a r q k. search rules) in
+    c.copied.ensures ∙ lent_at xs c.partition_point-after.result c.get.result c.get.ensures.lookup
+    ∙ sym (first_at_point c.args.seq xs c.partition_point-after.result point)

@@ -1,4 +1,4 @@
-use Rattle.edit_footprint.proofs.ExampleProofs.{created_lem, retagged_lem, moved_lem, reversed_lem, nodes_given_lem, members_given_lem, deleted_lem, purged_lem, split_lem, joined_lem, merged_lem, unglued_lem, ceased_lem}
+use Rattle.edit_footprint.proofs.ExampleProofs.{created_lem, retagged_lem, moved_lem, reversed_lem, nodes_given_lem, members_given_lem, deleted_lem, purged_lem, split_lem, joined_lem, merged_lem, unglued_lem, ceased_lem, by_parts_lem}
 use Rattle.edit_footprint.proofs.laws.examples_are_as_worked.Goals as goal
 
 pub returns-clause-created : goal.returns-clause-created
@@ -39,3 +39,6 @@ returns-clause-unglued c = unglued_lem
 
 pub returns-clause-ceased : goal.returns-clause-ceased
 returns-clause-ceased c = ceased_lem
+
+pub returns-clause-by_parts : goal.returns-clause-by_parts
+returns-clause-by_parts c = by_parts_lem

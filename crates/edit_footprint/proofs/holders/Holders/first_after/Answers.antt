@@ -2,12 +2,13 @@ use Rattle.std.proofs.Common.{◌≡◌, ◌+◌, ◌<◌, ℕ, Option, List, le
 use Rattle.std.specs.List.{find}
 use Rattle.std.specs.Ordering.{nat_cmp}
 use Rattle.osm_elements.specs.declared.name.Name.{Name}
-use Rattle.osm_elements.specs.NameOrder.{name_cmp}
-use Rattle.osm_refs.specs.Rising as names
-use Rattle.osm_refs.specs.Facts.InNameOrder.{in_name_order}
+use Rattle.osm_changes.specs.declared.cell.Cell.{Cell}
+use Rattle.osm_changes.specs.Cells as cells
+use Rattle.osm_changes.specs.Cells.{cell_cmp}
 use Rattle.rising_lists.specs.Rising.{IsRising}
 use Rattle.rising_lists.specs.Lists.{AreLists, values_at}
 use Rattle.rising_lists.specs.Facts.Tables.{listed-as_table}
+use Rattle.edit_footprint.proofs.InCellOrder.{in_cell_order}
 use Rattle.edit_footprint.specs.Holding.{Held, holding, IsFirstAfter}
 use Rattle.edit_footprint.specs.Inner.Searching.{sooner}
 use Rattle.edit_footprint.proofs.Searching.{next, past_before, step}
@@ -16,25 +17,25 @@ use Rattle.edit_footprint.proofs.holders.Holders.first_after.Goals as goal
 pub next-requires : goal.next-requires
 next-requires g c =
     let lists = c.self.inside.lists.lists.entries in
-    let kept = in_name_order (λ order. AreLists order nat_cmp lists) c.self.inside.lists.kept in
-    subst (IsRising nat_cmp) (sym (in_name_order (λ order. c.of.result.now ≡ values_at order lists c.name-item.result) c.of.ensures)) (kept.rising c.name-item.result)
+    let kept = in_cell_order (λ order. AreLists order nat_cmp lists) c.self.inside.lists.kept in
+    subst (IsRising nat_cmp) (sym (in_cell_order (λ order. c.of.result.now ≡ values_at order lists c.cell-item.result) c.of.ensures)) (kept.rising c.cell-item.result)
 
-pub loop-name-preserved : goal.loop-name-preserved
-loop-name-preserved g c =
-    let within : c.loop-name.name-index < length c.names-names.result.now = search rules in
-    let x = c.name-item.result in
+pub loop-cell-preserved : goal.loop-cell-preserved
+loop-cell-preserved g c =
+    let within : c.loop-cell.cell-index < length c.cells-cells.result.now = search rules in
+    let cell = c.cell-item.result in
     let lists = c.self.inside.lists.lists.entries in
     let held = c.args.self.now in
-    let kept = in_name_order (λ order. AreLists order nat_cmp lists) c.self.inside.lists.kept in
-    let told = listed-as_table name_cmp lists x in
-    let numbers : values_at name_cmp lists x ≡ holding held x = sym told ∙ ap (λ (h : Held). holding h x) c.self.view_is in
-    let own : c.of.result.now ≡ holding held x = in_name_order (λ order. c.of.result.now ≡ values_at order lists x) c.of.ensures ∙ numbers in
-    let rises = subst (IsRising nat_cmp) numbers (kept.rising x) in
-    let names_rise = subst names.IsRising (sym c.names-names.ensures.names) c.names-names.ensures.rising in
-    let is : c.sooner-first.result ≡ sooner c.loop-name.first (find (nat_lt c.args.seq) (holding held x)) x =
-    c.sooner-first.ensures ∙ ap (λ (o : Option ℕ). sooner c.loop-name.first o x) (c.next.ensures ∙ ap (find (nat_lt c.args.seq)) own) in
-    subst (λ (f : Option (ℕ × Name)). IsFirstAfter held (take (c.loop-name.name-index + 1) c.names-names.result.now) c.args.seq f) (sym is)
-    (subst (λ (l : List Name). IsFirstAfter held l c.args.seq (sooner c.loop-name.first (find (nat_lt c.args.seq) (holding held x)) x))
-    (sym (next c.names-names.result.now c.loop-name.name-index x within c.name-item.is))
-    (step held (take c.loop-name.name-index c.names-names.result.now) x c.args.seq
-    (past_before c.names-names.result.now c.loop-name.name-index x names_rise within c.name-item.is) rises c.loop-name.first c.loop-name.invariant))
+    let kept = in_cell_order (λ order. AreLists order nat_cmp lists) c.self.inside.lists.kept in
+    let told = listed-as_table cell_cmp lists cell in
+    let numbers : values_at cell_cmp lists cell ≡ holding held cell = sym told ∙ ap (λ (h : Held). holding h cell) c.self.view_is in
+    let own : c.of.result.now ≡ holding held cell = in_cell_order (λ order. c.of.result.now ≡ values_at order lists cell) c.of.ensures ∙ numbers in
+    let rises = subst (IsRising nat_cmp) numbers (kept.rising cell) in
+    let cells_rise = subst cells.IsRising (sym c.cells-cells.ensures.cells) c.cells-cells.ensures.rising in
+    let is : c.sooner-first.result ≡ sooner c.loop-cell.first (find (nat_lt c.args.seq) (holding held cell)) cell.name =
+    c.sooner-first.ensures ∙ ap (λ (o : Option ℕ). sooner c.loop-cell.first o cell.name) (c.next.ensures ∙ ap (find (nat_lt c.args.seq)) own) in
+    subst (λ (f : Option (ℕ × Name)). IsFirstAfter held (take (c.loop-cell.cell-index + 1) c.cells-cells.result.now) c.args.seq f) (sym is)
+    (subst (λ (l : List Cell). IsFirstAfter held l c.args.seq (sooner c.loop-cell.first (find (nat_lt c.args.seq) (holding held cell)) cell.name))
+    (sym (next c.cells-cells.result.now c.loop-cell.cell-index cell within c.cell-item.is))
+    (step held (take c.loop-cell.cell-index c.cells-cells.result.now) cell c.args.seq
+    (past_before c.cells-cells.result.now c.loop-cell.cell-index cell cells_rise within c.cell-item.is) rises c.loop-cell.first c.loop-cell.invariant))

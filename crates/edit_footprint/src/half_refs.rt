@@ -1,0 +1,53 @@
+//! The names that halves refer to.
+ghost use Rattle.std.specs.Prelude.{◌≡◌, map, Some, IfOk};
+ghost use Rattle.osm_elements.specs.Maps.{name_set};
+ghost use Rattle.edit_footprint.specs.Footprints.{half_references};
+
+use osm_changes::half::Half;
+use osm_elements::Memory;
+use osm_elements::member::Member;
+use osm_elements::name::Name;
+use osm_elements::names::Names;
+use std::alloc::Allocator;
+
+// What a half refers to, rising, each once: nothing where there is none. The names are sorted.
+pub(crate) fn half_refs<A: Allocator>(alloc: A, half: &Option<Half<A>>) -> Result<Names<A>, Memory>
+    ensures { IfOk result (λ names. names ≡ name_set (half_references half.now)) }
+{
+    match half {
+        Some(half) => refs_of(alloc, half),
+        None => Ok(Names::empty(alloc)),
+    }
+}
+
+// What a half that is there refers to, rising, each once.
+fn refs_of<A: Allocator>(alloc: A, half: &Half<A>) -> Result<Names<A>, Memory>
+    ensures { IfOk result (λ names. names ≡ name_set (half_references (Some half.now))) }
+{
+    let mut names = named(alloc, half)?;
+    names.sort_unstable();
+    names.dedup();
+    Ok(Names::from_vec(names))
+}
+
+// The names in a half's own order.
+fn named<A: Allocator>(alloc: A, half: &Half<A>) -> Result<Vec<Name, A>, Memory>
+    ensures { IfOk result (λ names. names.items ≡ half_references (Some half.now)) }
+{
+    match half {
+        Half::Tags(_) | Half::Place { .. } => Ok(Vec::new(alloc)),
+        Half::Nodes(nodes) => Vec::from_slice(alloc, nodes.names()),
+        Half::Members(members) => member_names(alloc, members.as_slice()),
+    }
+}
+
+// The names of members, in their order.
+fn member_names<A: Allocator>(alloc: A, members: &[Member<A>]) -> Result<Vec<Name, A>, Memory>
+    ensures { IfOk result (λ names. names.items ≡ map (λ m. m.name) members.now) }
+{
+    let mut names = Vec::with_capacity(alloc, members.len())?;
+    for member in members {
+        names.push(member.name)?;
+    }
+    Ok(names)
+}
