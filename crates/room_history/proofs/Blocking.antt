@@ -5,7 +5,8 @@ use Rattle.std.specs.Ordering.{is_lt}
 use Rattle.osm_elements.specs.declared.name.Name.{Name}
 use Rattle.osm_elements.specs.NameOrder.{name_cmp}
 use Rattle.osm_elements.specs.Maps.{Rows}
-use Rattle.osm_refs.specs.Rising.{IsRising}
+use Rattle.osm_changes.specs.declared.cell.Cell.{Cell}
+use Rattle.osm_changes.specs.Cells.{IsRising}
 use Rattle.edit_footprint.specs.Facts.Footprints.{IsRising-footprint_of}
 use Rattle.edit_footprint.specs.Facts.Meeting.{apart, both_have, none_lesser}
 use Rattle.room_history.specs.Holdings.{first_meeting}
@@ -16,24 +17,24 @@ use Rattle.room_history.specs.Journals.{standing, is_standing}
 use Rattle.room_history.specs.Replays.{past}
 use Rattle.room_history.proofs.FirstMeeting.{First, none_met, first_met}
 use Rattle.room_history.proofs.Growing.{Rise-standing_from}
-use Rattle.room_history.proofs.HeldEntries.{with_names, blocker_is}
+use Rattle.room_history.proofs.HeldEntries.{with_cells, blocker_is}
 use Rattle.room_history.proofs.Leading.{IsLed}
 use Rattle.room_history.proofs.RisingNumbers.{is_in, above, is_above, Rise-filter, into_filter, out_of_filter}
 use Rattle.room_history.proofs.Works.{one_of}
 
 module _ {A : Type 0} (base : Rows A) (j : List (Entry A)) (s : ℕ) (stands : is_standing j s ≡ true) where
-  abbrev footprint_at : ℕ → List Name
+  abbrev footprint_at : ℕ → List Cell
   footprint_at = recorded_footprint (past base j)
 
   abbrev behind_s : List ℕ
   behind_s = filter (nat_lt s) (standing j)
 
-  is : blocker (past base j) j s ≡ first_meeting (footprint_at s) (with_names footprint_at behind_s)
+  is : blocker (past base j) j s ≡ first_meeting (footprint_at s) (with_cells footprint_at behind_s)
   is = blocker_is (past base j) j s stands
 
   -- no blocker, and no entry blocks
   pub nothing_blocks : blocker (past base j) j s ≡ None → (t : ℕ) (e : Name) → Blocks base j s t e → ⊥
-  nothing_blocks none t e b = apart (footprint_at s) (footprint_at t) (none_met (footprint_at s) footprint_at behind_s (sym is ∙ none) t (into_filter (nat_lt s) t (standing j) (above s t b.0) b.1)) e b.2.0 b.2.1
+  nothing_blocks none t e b = apart (footprint_at s) (footprint_at t) (none_met (footprint_at s) footprint_at behind_s (sym is ∙ none) t (into_filter (nat_lt s) t (standing j) (above s t b.0) b.1)) b.2.cell b.2.in_one b.2.in_two
 
   -- a footprint that is recorded of an entry that stands rises
   pub rising : IsLed base j → IsRising (footprint_at s)
@@ -50,8 +51,8 @@ module _ {A : Type 0} (base : Rows A) (j : List (Entry A)) (s : ℕ) (stands : i
   pub first_blocks : IsLed base j → (b : ℕ) (e : Name) → blocker (past base j) j s ≡ Some (b, e) → IsFirst b e
   first_blocks led b e h = record {
     blocks = (is_above s b later.0, later.1, both_have (footprint_at s) (footprint_at b) e at.shares);
-    none_before = λ t x k. at.none_before t x (into_filter (nat_lt s) t (standing j) (above s t k.0) k.1) k.2.0 k.2.1;
-    none_less = λ x k. none_lesser (footprint_at s) (footprint_at b) e (rising led) at.shares x k.0 k.1;
+    none_before = λ t x k. at.none_before t k.2.cell (into_filter (nat_lt s) t (standing j) (above s t k.0) k.1) k.2.in_one k.2.in_two;
+    none_less = λ x k. ap (λ y. is_lt (name_cmp y e)) (sym k.name) ∙ none_lesser (footprint_at s) (footprint_at b) e (rising led) at.shares k.cell k.in_one k.in_two;
   }
     where
       at : First (footprint_at s) footprint_at behind_s (b, e)

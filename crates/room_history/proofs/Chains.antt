@@ -1,7 +1,7 @@
--- Actions accepted one after another. One that shares no name with later ones can be taken out of the middle.
+-- Actions accepted one after another. One that shares no cell with later ones can be taken out of the middle.
 use Rattle.std.proofs.Common.{◌≡◌, ◌++◌, true, List, [], ◌∷◌, Some, None, is_none, map, refl, sym, ap, subst, ◌∙◌, cond}
-use Rattle.osm_elements.specs.declared.name.Name.{Name}
 use Rattle.osm_elements.specs.Maps.{Rows}
+use Rattle.osm_changes.specs.declared.cell.Cell.{Cell}
 use Rattle.osm_changes.specs.declared.change.Change.{Change}
 use Rattle.osm_changes.specs.Changes.{changed, inverse}
 use Rattle.osm_changes.specs.Sound.{is_sound}
@@ -24,7 +24,7 @@ pub record Work (A : Type 0) : Type 0 where
 
 module _ {A : Type 0} where
   -- the recorded footprint
-  abbrev pub touched : Work A → List Name
+  abbrev pub touched : Work A → List Cell
   touched w = footprint_of w.action w.changes
 
   -- the action is accepted, with the changes that were recorded
@@ -38,7 +38,7 @@ module _ {A : Type 0} where
   Leads m [] end = m ≡ end
   Leads m (w ∷ ws) end = Accepts m w × Leads (after m w.action) ws end
 
-  -- none of the others shares a name with this one
+  -- none of the others shares a cell with this one
   abbrev pub IsApart : Work A → List (Work A) → Type 0
   IsApart w [] = Unit {0}
   IsApart w (v ∷ vs) = (meets (touched w) (touched v) ≡ None) × IsApart w vs
@@ -69,7 +69,7 @@ module _ {A : Type 0} where
   replays m (w ∷ ws) end h =
       ap (λ o. cond (is_none o) (replay (after m w.action) (map (λ (v : Work A). v.action) ws)) None) h.0.accepted ∙ replays (after m w.action) ws end h.1
 
-  -- two that share no name change places
+  -- two that share no cell change places
   swapped : (m : Rows A) (w v : Work A) → is_sound m ≡ true → Accepts m w → Accepts (after m w.action) v → meets (touched w) (touched v) ≡ None → ChangePlaces m w.action v.action
   swapped m w v sound first next apart = commutation m w.action v.action sound first.made next.made first.accepted next.accepted
       (ap (λ cs. meets (footprint_of w.action cs) (footprint (after m w.action) v.action)) first.same_changes ∙ ap (λ cs. meets (touched w) (footprint_of v.action cs)) next.same_changes ∙ apart)

@@ -1,14 +1,15 @@
 -- What an entry of a journal changed are changes from the map before it.
-use Rattle.std.proofs.Common.{◌≡◌, ◌≢◌, ◌⊎◌, ◌++◌, ℕ, suc, true, T, List, [], ◌∷◌, All, Option, Some, None, inl, inr, refl, sym, ap, subst, ◌∙◌, arith}
+use Rattle.std.proofs.Common.{◌≡◌, ◌≢◌, ◌⊎◌, ◌++◌, ℕ, suc, true, List, [], ◌∷◌, All, Option, Some, None, inl, inr, refl, sym, ap, subst, ◌∙◌, arith}
 use Rattle.std.specs.List.{fold}
 use Rattle.std.proofs.lemmas.List.Elements.{All-cons, All-map, All-nil}
 use Rattle.edit_actions.specs.declared.action.Action.{Action}
 use Rattle.edit_actions.specs.After.{after, changes}
 use Rattle.edit_actions.specs.Facts.Accepted.{AreInOrder-after}
 use Rattle.osm_elements.specs.Maps.{Rows}
-use Rattle.osm_elements.specs.Rows.{AreInOrder, row_at}
+use Rattle.osm_elements.specs.Rows.{AreInOrder}
 use Rattle.osm_changes.specs.declared.change.Change.{Change}
-use Rattle.osm_changes.specs.Changes.{taken_back, inverse, changed, changed_names, are_rising, differences, AreChanges, AreFrom}
+use Rattle.osm_changes.specs.Cells.{IsRising, half_at}
+use Rattle.osm_changes.specs.Changes.{cell_of, changed_cells, taken_back, inverse, changed, differences, AreChanges, AreFrom}
 use Rattle.osm_changes.specs.Sound.{is_sound}
 use Rattle.osm_changes.specs.Facts.Changing.{changed-differences}
 use Rattle.osm_changes.specs.Facts.SoundRows.{sound_in_order}
@@ -27,23 +28,23 @@ use Rattle.room_history.proofs.Outcomes.{Appended, Left, outcome}
 use Rattle.room_history.proofs.TakingBack.{Undone}
 
 module _ {A : Type 0} where
-  names_back : (cs : List (Change A)) → changed_names (inverse cs) ≡ changed_names cs
-  names_back [] = refl
-  names_back (c ∷ cs) = ap (λ rest. c.name ∷ rest) (names_back cs)
+  cells_back : (cs : List (Change A)) → changed_cells (inverse cs) ≡ changed_cells cs
+  cells_back [] = refl
+  cells_back (c ∷ cs) = ap (λ rest. cell_of c ∷ rest) (cells_back cs)
 
   AreChanges-inverse : (cs : List (Change A)) → AreChanges cs → AreChanges (inverse cs)
   AreChanges-inverse cs h = record {
-    rising = subst (λ names. T (are_rising names)) (sym (names_back cs)) h.rising;
+    rising = subst IsRising (sym (cells_back cs)) h.rising;
     differ = All-map (λ (c : Change A). c.after ≢ c.before) taken_back cs (λ k d l e. h.differ k d l (sym e));
   }
 
-  -- each name has the row that its change leads to
+  -- each cell has the half that its change leads to
   abbrev pub LeadTo : Rows A → List (Change A) → Type 0
-  LeadTo m cs = All (λ (c : Change A). c.after ≡ row_at m c.name) cs
+  LeadTo m cs = All (λ (c : Change A). c.after ≡ half_at m (cell_of c)) cs
 
-  lead_back : (m : Rows A) (cs : List (Change A)) → AreFrom m (inverse cs) → LeadTo m cs
-  lead_back m [] h = All-nil (λ (c : Change A). c.after ≡ row_at m c.name)
-  lead_back m (c ∷ cs) h = All-cons (λ (c : Change A). c.after ≡ row_at m c.name) c cs (h 0 c (omega arith)) (lead_back m cs (λ k d l. h (suc k) d (omega (arith, l))))
+  lead_back : (m : Rows A) (cs : List (Change A)) → All (λ (c : Change A). c.before ≡ half_at m (cell_of c)) (inverse cs) → LeadTo m cs
+  lead_back m [] h = All-nil (λ (c : Change A). c.after ≡ half_at m (cell_of c))
+  lead_back m (c ∷ cs) h = All-cons (λ (c : Change A). c.after ≡ half_at m (cell_of c)) c cs (h 0 c (omega arith)) (lead_back m cs (λ k d l. h (suc k) d (omega (arith, l))))
 
   -- what the next entry records are changes from the map as it is, and lead to the one after it
   pub record IsChange (p : Past A) (k : EntryKind A) : Type 0 where
@@ -70,7 +71,7 @@ module _ {A : Type 0} where
   module _ (differ : (m n : Rows A) → AreChanges (differences m n)) (from : (m n : Rows A) → AreFrom m (differences m n))
       (back : (m : Rows A) (cs : List (Change A)) → AreInOrder m → AreChanges cs → AreFrom m cs → AreFrom (changed m cs) (inverse cs)) (base : Rows A) (sound : is_sound base ≡ true) where
     from_to : (p : Past A) (k : EntryKind A) → AreInOrder p.map → AreChanges (recorded_next p k).changes → AreFrom p.map (recorded_next p k).changes → IsChange p k
-    from_to p k order are from = let cs = (recorded_next p k).changes in record { changes = are; from = from; leads = lead_back (changed p.map cs) cs (back p.map cs order are from) }
+    from_to p k order are from = let cs = (recorded_next p k).changes in record { changes = are; from = from; leads = lead_back (changed p.map cs) cs (back p.map cs order are from).before }
 
     -- an action that is done, or done again
     done : (p : Past A) (k : EntryKind A) (a : Action A) → AreInOrder p.map → recorded_next p k ≡ recorded_of p.map a → IsChange p k
@@ -125,6 +126,6 @@ module _ {A : Type 0} where
     pub entry_changes : (limit : ℕ) (i k : List (Entry A)) (e : Entry A) → IsJournal base limit (i ++ e ∷ k) → IsChange (past base i) e.kind
     entry_changes limit i k e h = step_at (record { map = base; entries = [] }) i k e (journal_steps limit (i ++ e ∷ k) h)
 
-    -- each changed name has the row in the map after an entry that its change leads to
+    -- each changed cell has the half in the map after an entry that its change leads to
     pub entry_leads : (limit : ℕ) (i k : List (Entry A)) (e : Entry A) → IsJournal base limit (i ++ e ∷ k) → LeadTo (mapof base (i ++ e ∷ [])) (recorded_next (past base i) e.kind).changes
     entry_leads limit i k e h = let cs = (recorded_next (past base i) e.kind).changes in subst (λ m. LeadTo m cs) (sym (mapof-append base i e)) (entry_changes limit i k e h).leads

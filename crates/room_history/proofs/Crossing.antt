@@ -17,7 +17,7 @@ use Rattle.edit_footprint.specs.contracts.footprint.Footprint as Footprint
 use Rattle.std.specs.declared.alloc.Allocator as alloc
 use Rattle.std.specs.declared.clone.Clone as clone
 use Rattle.osm_changes.proofs.store.Store.TheSendSync as store
-use Rattle.osm_changes.proofs.changes.Changes.TheSendSync as changes
+use Rattle.room_history.proofs.kept.Kept.TheSendSync as kept
 use Rattle.edit_footprint.proofs.footprint.Footprint.TheSendSync as footprint
 use Rattle.edit_footprint.proofs.holders.Holders.TheSendSync as holders
 use Rattle.room_stacks.proofs.stacks.Stacks.TheSendSync as stacks
@@ -38,7 +38,7 @@ footprint_send : (A : RattleType) (g : alloc.Ghosts A.Denot) → IsSend A → Fr
 footprint_send A g a f = search (sendable, crosses, footprint.the_send) depth 14
 
 pub room_send : (A : RattleType) (g : alloc.Ghosts A.Denot) → IsSend A → Frees g g.dealloc_token → IsSend (Room.the_row A g)
-room_send A g a f = search (sendable, crosses, store.the_send, changes.the_send, footprint_send, holders.the_send, stacks.the_send, entry.the_send, vec.the_send) depth 16
+room_send A g a f = search (sendable, crosses, store.the_send, kept.the_send, footprint_send, holders.the_send, stacks.the_send, entry.the_send, vec.the_send) depth 16
 
 module _ (A : RattleType) (g : alloc.Ghosts A.Denot) (own : Dict) (k : clone.Ghosts A.Denot) (copy : Dict) where
   pub seat_send : IsSend A → Frees g g.dealloc_token → IsSend (Seat.the_row (Room.the_row A g) (RoomCall.the_row A g) (RoomReply.the_row A g) (Entry.the_row A g) (Opening.the_row A g) (turned.ghosts A g own k copy))

@@ -3,7 +3,7 @@ use Rattle.std.proofs.Common.{refl}
 use Rattle.std.specs.Str.{chars}
 use Rattle.osm_elements.specs.NameOrder.{name_cmp}
 use Rattle.osm_elements.specs.Texts.{is_long}
-use Rattle.room_history.specs.Examples.{first_run, range_ends, limit_one, limit_zero, strangers, in_use, taken_back_way, refusals_in_turn, relations_in_turn, redo_at_once, redo_refused, redo_order, redo_again, unglued_node}
+use Rattle.room_history.specs.Examples.{first_run, range_ends, limit_one, limit_zero, strangers, in_use, taken_back_way, refusals_in_turn, relations_in_turn, redo_at_once, redo_refused, redo_order, redo_again, unglued_node, blocker_goes_by_parts, both_moved, two_blockers_by_parts, split_over_retag}
 
 pub first_run_lem : first_run
 unfolding first_run name_cmp
@@ -60,3 +60,19 @@ redo_again_lem = (refl, refl, refl, refl)
 pub unglued_node_lem : unglued_node
 unfolding unglued_node name_cmp
 unglued_node_lem = (refl, refl, refl, refl)
+
+pub blocker_goes_by_parts_lem : blocker_goes_by_parts
+unfolding blocker_goes_by_parts name_cmp
+blocker_goes_by_parts_lem = (refl, refl, refl, refl)
+
+pub both_moved_lem : both_moved
+unfolding both_moved name_cmp
+both_moved_lem = (refl, refl)
+
+pub two_blockers_by_parts_lem : two_blockers_by_parts
+unfolding two_blockers_by_parts name_cmp
+two_blockers_by_parts_lem = refl
+
+pub split_over_retag_lem : split_over_retag
+unfolding split_over_retag name_cmp
+split_over_retag_lem = (refl, refl)

@@ -8,6 +8,7 @@ use Rattle.std.proofs.lemmas.List.{map-append}
 use Rattle.std.proofs.lemmas.List.Elements.{All-cons}
 use Rattle.osm_elements.specs.declared.name.Name.{Name}
 use Rattle.osm_elements.specs.Maps.{Rows}
+use Rattle.osm_changes.specs.declared.cell.Cell.{Cell}
 use Rattle.edit_actions.specs.declared.action.Action.{Action}
 use Rattle.edit_footprint.specs.Facts.Numbers.{tied}
 use Rattle.edit_footprint.specs.Footprints.{footprint, meets}
@@ -23,48 +24,48 @@ use Rattle.room_history.proofs.Growing.{numbered_within, Rise, Rise-standing_fro
 use Rattle.room_history.proofs.RisingNumbers.{is_in, below_end}
 use Rattle.room_history.proofs.Works.{IsRecorded, AreRecorded}
 
-module _ (f : ℕ → List Name) where
+module _ (f : ℕ → List Cell) where
   -- numbers, each with its footprint
-  abbrev pub with_names : List ℕ → Holdings
-  with_names ss = map (λ s. (s, f s)) ss
+  abbrev pub with_cells : List ℕ → Holdings
+  with_cells ss = map (λ s. (s, f s)) ss
 
-  found_there : (s : ℕ) (ss : List ℕ) → is_in s ss ≡ true → find nat_cmp s (with_names ss) ≡ Some (f s)
+  found_there : (s : ℕ) (ss : List ℕ) → is_in s ss ≡ true → find nat_cmp s (with_cells ss) ≡ Some (f s)
   found_there s [] h = absurd (cc)
-  found_there s (x ∷ xs) h = ap (λ b. cond b (Some (f x)) (find nat_cmp s (with_names xs))) (tied s x) ∙ by (nat_eq x s) refl h (found_there s xs)
+  found_there s (x ∷ xs) h = ap (λ b. cond b (Some (f x)) (find nat_cmp s (with_cells xs))) (tied s x) ∙ by (nat_eq x s) refl h (found_there s xs)
     where
-      by : (b : Bool) → nat_eq x s ≡ b → (b || is_in s xs) ≡ true → (is_in s xs ≡ true → find nat_cmp s (with_names xs) ≡ Some (f s)) → cond b (Some (f x)) (find nat_cmp s (with_names xs)) ≡ Some (f s)
+      by : (b : Bool) → nat_eq x s ≡ b → (b || is_in s xs) ≡ true → (is_in s xs ≡ true → find nat_cmp s (with_cells xs) ≡ Some (f s)) → cond b (Some (f x)) (find nat_cmp s (with_cells xs)) ≡ Some (f s)
       by true e h go = ap (λ t. Some (f t)) (equal_numbers x s e)
       by false e h go = go h
 
-  behind_is : (s : ℕ) (ss : List ℕ) → behind (with_names ss) s ≡ with_names (filter (nat_lt s) ss)
+  behind_is : (s : ℕ) (ss : List ℕ) → behind (with_cells ss) s ≡ with_cells (filter (nat_lt s) ss)
   behind_is s [] = refl
   behind_is s (x ∷ xs) = by (nat_lt s x) (behind_is s xs)
     where
-      by : (b : Bool) → behind (with_names xs) s ≡ with_names (filter (nat_lt s) xs) → cond b ((x, f x) ∷ behind (with_names xs) s) (behind (with_names xs) s) ≡ with_names (cond b (x ∷ filter (nat_lt s) xs) (filter (nat_lt s) xs))
+      by : (b : Bool) → behind (with_cells xs) s ≡ with_cells (filter (nat_lt s) xs) → cond b ((x, f x) ∷ behind (with_cells xs) s) (behind (with_cells xs) s) ≡ with_cells (cond b (x ∷ filter (nat_lt s) xs) (filter (nat_lt s) xs))
       by true h = ap (λ l. (x, f x) ∷ l) h
       by false h = h
 
-  without_is : (s : ℕ) (ss : List ℕ) → without (with_names ss) s ≡ with_names (filter (λ t. not (nat_eq t s)) ss)
+  without_is : (s : ℕ) (ss : List ℕ) → without (with_cells ss) s ≡ with_cells (filter (λ t. not (nat_eq t s)) ss)
   without_is s [] = refl
   without_is s (x ∷ xs) = by (nat_eq x s) (without_is s xs)
     where
-      by : (b : Bool) → without (with_names xs) s ≡ with_names (filter (λ t. not (nat_eq t s)) xs)
-          → cond (not b) ((x, f x) ∷ without (with_names xs) s) (without (with_names xs) s) ≡ with_names (cond (not b) (x ∷ filter (λ t. not (nat_eq t s)) xs) (filter (λ t. not (nat_eq t s)) xs))
+      by : (b : Bool) → without (with_cells xs) s ≡ with_cells (filter (λ t. not (nat_eq t s)) xs)
+          → cond (not b) ((x, f x) ∷ without (with_cells xs) s) (without (with_cells xs) s) ≡ with_cells (cond (not b) (x ∷ filter (λ t. not (nat_eq t s)) xs) (filter (λ t. not (nat_eq t s)) xs))
       by true h = h
       by false h = ap (λ l. (x, f x) ∷ l) h
 
-  all_below : (n m : ℕ) (ss : List ℕ) (end : ℕ) → Rise m ss end → end ≤ n → All (λ h. h.0 < n) (with_names ss)
+  all_below : (n m : ℕ) (ss : List ℕ) (end : ℕ) → Rise m ss end → end ≤ n → All (λ h. h.0 < n) (with_cells ss)
   all_below n m [] end r h = λ k d w. absurd (omega arith)
   all_below n m (x ∷ xs) end r h = All-cons (λ h. h.0 < n) _ _ (below_end n x xs end r.1 h) (all_below n (x + 1) xs end r.1 h)
 
 -- numbers below an end, of which two functions give the same
-same_below : (f g : ℕ → List Name) (n m : ℕ) (ss : List ℕ) (end : ℕ) → Rise m ss end → end ≤ n → ((t : ℕ) → t < n → g t ≡ f t) → with_names g ss ≡ with_names f ss
+same_below : (f g : ℕ → List Cell) (n m : ℕ) (ss : List ℕ) (end : ℕ) → Rise m ss end → end ≤ n → ((t : ℕ) → t < n → g t ≡ f t) → with_cells g ss ≡ with_cells f ss
 same_below f g n m [] end r h same = refl
 same_below f g n m (x ∷ xs) end r h same = (λ i. (x, same x (below_end n x xs end r.1 h) i) ∷ same_below f g n (x + 1) xs end r.1 h same i)
 
 module _ {A : Type 0} where
   -- the blocker of an entry that stands
-  pub blocker_is : (p : Past A) (j : List (Entry A)) (s : ℕ) → is_standing j s ≡ true → blocker p j s ≡ first_meeting (recorded_footprint p s) (with_names (recorded_footprint p) (filter (nat_lt s) (standing j)))
+  pub blocker_is : (p : Past A) (j : List (Entry A)) (s : ℕ) → is_standing j s ≡ true → blocker p j s ≡ first_meeting (recorded_footprint p s) (with_cells (recorded_footprint p) (filter (nat_lt s) (standing j)))
   blocker_is p j s stands =
       ap (λ o. first_meeting (unwrap_or o []) (behind (held p j) s)) (found_there (recorded_footprint p) s (standing j) stands)
       ∙ ap (first_meeting (recorded_footprint p s)) (behind_is (recorded_footprint p) s (standing j))
@@ -75,14 +76,14 @@ module _ {A : Type 0} where
 
   -- where no later one meets it, a work is apart from the later ones
   pub is_apart : (p : Past A) (s : ℕ) (w : Work A) (later : List ℕ) (ws : List (Work A)) → IsRecorded p.entries s w → AreRecorded p.entries later ws
-      → first_meeting (recorded_footprint p s) (with_names (recorded_footprint p) later) ≡ None → IsApart w ws
+      → first_meeting (recorded_footprint p s) (with_cells (recorded_footprint p) later) ≡ None → IsApart w ws
   is_apart p s w [] [] is are none = tt
   is_apart p s w [] (v ∷ vs) is are none = absurd are
   is_apart p s w (t ∷ ts) [] is are none = absurd are
   is_apart p s w (t ∷ ts) (v ∷ vs) is are none = by (meets (recorded_footprint p s) (recorded_footprint p t)) refl none (is_apart p s w ts vs is are.1)
     where
       rest : Option (ℕ × Name)
-      rest = first_meeting (recorded_footprint p s) (with_names (recorded_footprint p) ts)
+      rest = first_meeting (recorded_footprint p s) (with_cells (recorded_footprint p) ts)
 
       by : (o : Option Name) → meets (recorded_footprint p s) (recorded_footprint p t) ≡ o → option_or (option_map (λ e. (t, e)) o) rest ≡ None → (rest ≡ None → IsApart w vs) → IsApart w (v ∷ vs)
       by None e none go = (ap (meets (touched w)) (sym (footprint_is p t v are.0)) ∙ ap (λ l. meets l (recorded_footprint p t)) (sym (footprint_is p s w is)) ∙ e, go none)
@@ -95,7 +96,7 @@ module _ {A : Type 0} (base : Rows A) (j : List (Entry A)) where
       ap (λ (p : Past A). recorded_footprint p t) (past-append base j e)
       ∙ ap footprint_of_recorded (numbered_within (past base j).entries (recorded_next (past base j) e.kind) t (let same = recorded_each base j in omega (arith, low, same)))
 
-  same_held : (e : Entry A) → with_names (recorded_footprint (past base (j ++ e ∷ []))) (standing j) ≡ held (past base j) j
+  same_held : (e : Entry A) → with_cells (recorded_footprint (past base (j ++ e ∷ []))) (standing j) ≡ held (past base j) j
   same_held e = same_below (recorded_footprint (past base j)) (recorded_footprint (past base (j ++ e ∷ []))) (1 + length j) 1 (standing j) (1 + length j) (Rise-standing_from 1 j) (omega arith) (earlier_stay e)
 
   -- the next entry's number comes after all
@@ -106,11 +107,11 @@ module _ {A : Type 0} (base : Rows A) (j : List (Entry A)) where
   pub held-work : (e : Entry A) (a : Action A) → is_work e.kind ≡ true → recorded_next (past base j) e.kind ≡ recorded_of (mapof base j) a
       → held (past base (j ++ e ∷ [])) (j ++ e ∷ []) ≡ held (past base j) j ++ (length j + 1, footprint (mapof base j) a) ∷ []
   held-work e a work records =
-      ap (with_names f) (standing-work j e work) ∙ map-append (λ s. (s, f s)) (standing j) ((1 + length j) ∷ []) ∙ ap (λ l. l ++ (1 + length j, f (1 + length j)) ∷ []) (same_held e)
+      ap (with_cells f) (standing-work j e work) ∙ map-append (λ s. (s, f s)) (standing j) ((1 + length j) ∷ []) ∙ ap (λ l. l ++ (1 + length j, f (1 + length j)) ∷ []) (same_held e)
       ∙ ap (λ n. held (past base j) j ++ (1 + length j, f n) ∷ []) next ∙ ap (λ o. held (past base j) j ++ (1 + length j, footprint_of_recorded o) ∷ []) (recorded-last base j e ∙ ap Some records)
       ∙ ap (λ n. held (past base j) j ++ (n, footprint (mapof base j) a) ∷ []) number
     where
-      f : ℕ → List Name
+      f : ℕ → List Cell
       f = recorded_footprint (past base (j ++ e ∷ []))
 
       next : 1 + length j ≡ suc (length j)
@@ -122,7 +123,7 @@ module _ {A : Type 0} (base : Rows A) (j : List (Entry A)) where
   -- what an undo takes back falls
   pub held-undo : (e : Entry A) (s : ℕ) → e.kind ≡ Undo s → held (past base (j ++ e ∷ [])) (j ++ e ∷ []) ≡ without (held (past base j) j) s
   held-undo e s k =
-      ap (with_names f) (standing-undo j e s k) ∙ sym (without_is f s (standing j)) ∙ ap (λ h. without h s) (same_held e)
+      ap (with_cells f) (standing-undo j e s k) ∙ sym (without_is f s (standing j)) ∙ ap (λ h. without h s) (same_held e)
     where
-      f : ℕ → List Name
+      f : ℕ → List Cell
       f = recorded_footprint (past base (j ++ e ∷ []))

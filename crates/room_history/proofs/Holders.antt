@@ -6,9 +6,8 @@ use Rattle.std.proofs.lemmas.Bool.Decides.{nat_tests}
 use Rattle.std.proofs.lemmas.List.Elements.{All-tail}
 use Rattle.std.proofs.lemmas.List.Sums.{fold-append}
 use Rattle.osm_elements.specs.declared.name.Name.{Name}
-use Rattle.osm_elements.specs.Maps as maps
-use Rattle.osm_elements.specs.Maps.{Rows}
-use Rattle.osm_refs.specs.Rising.{IsRising}
+use Rattle.osm_changes.specs.declared.cell.Cell.{Cell}
+use Rattle.osm_changes.specs.Cells.{has, IsRising}
 use Rattle.rising_lists.specs.Rising.{is_among, but}
 use Rattle.edit_footprint.specs.Facts.Holding.{same_holders, holding-standing, AreHeld-standing, holding-fallen, AreHeld-fallen}
 use Rattle.edit_footprint.specs.Facts.Meeting.{apart, both_have, none_lesser}
@@ -17,12 +16,12 @@ use Rattle.edit_footprint.specs.Holding.{Held, AreHeld, holding, holds, standing
 use Rattle.room_history.specs.Holdings.{Holdings, without, first_meeting, holders_of}
 use Rattle.room_history.proofs.FirstMeeting.{First, none_met, first_met}
 use Rattle.room_history.proofs.Growing.{Rise}
-use Rattle.room_history.proofs.HeldEntries.{with_names}
+use Rattle.room_history.proofs.HeldEntries.{with_cells}
 use Rattle.room_history.proofs.RisingNumbers.{is_in, above, is_above, Rise-filter, into_filter, out_of_filter}
 
--- the numbers of the entries that have a name
-abbrev having : Holdings → Name → List ℕ
-having held q = map (λ h. h.0) (filter (λ h. maps.is_among h.1 q) held)
+-- the numbers of the entries that have a cell
+abbrev having : Holdings → Cell → List ℕ
+having held q = map (λ h. h.0) (filter (λ h. has h.1 q) held)
 
 abbrev AreRising : Holdings → Type 0
 AreRising [] = Unit {0}
@@ -32,15 +31,15 @@ AreRising (h ∷ hs) = IsRising h.1 × AreRising hs
 abbrev each_stands : Held → Holdings → Held
 each_stands holders held = fold (λ (l : Held) h. stands l h.1 h.0) holders held
 
-holding-each : (held : Holdings) → AreRising held → (holders : Held) (q : Name) → holding (each_stands holders held) q ≡ holding holders q ++ having held q
+holding-each : (held : Holdings) → AreRising held → (holders : Held) (q : Cell) → holding (each_stands holders held) q ≡ holding holders q ++ having held q
 holding-each [] r holders q = sym (append-nil (holding holders q))
-holding-each (h ∷ hs) r holders q = holding-each hs r.1 (stands holders h.1 h.0) q ∙ ap (λ l. l ++ having hs q) (holding-standing holders h.1 h.0 q r.0) ∙ by (maps.is_among h.1 q)
+holding-each (h ∷ hs) r holders q = holding-each hs r.1 (stands holders h.1 h.0) q ∙ ap (λ l. l ++ having hs q) (holding-standing holders h.1 h.0 q r.0) ∙ by (has h.1 q)
   where
-    by : (b : Bool) → cond b (holding holders q ++ h.0 ∷ []) (holding holders q) ++ having hs q ≡ holding holders q ++ map (λ e. e.0) (cond b (h ∷ filter (λ e. maps.is_among e.1 q) hs) (filter (λ e. maps.is_among e.1 q) hs))
+    by : (b : Bool) → cond b (holding holders q ++ h.0 ∷ []) (holding holders q) ++ having hs q ≡ holding holders q ++ map (λ e. e.0) (cond b (h ∷ filter (λ e. has e.1 q) hs) (filter (λ e. has e.1 q) hs))
     by true = append_assoc (holding holders q) (h.0 ∷ []) (having hs q)
     by false = refl
 
-holding-holders_of : (held : Holdings) → AreRising held → (q : Name) → holding (holders_of held) q ≡ having held q
+holding-holders_of : (held : Holdings) → AreRising held → (q : Cell) → holding (holders_of held) q ≡ having held q
 holding-holders_of held r q = holding-each held r [] q
 
 AreHeld-each : (held : Holdings) (holders : Held) → AreHeld holders → AreHeld (each_stands holders held)
@@ -51,25 +50,25 @@ pub AreHeld-holders_of : (held : Holdings) → AreHeld (holders_of held)
 AreHeld-holders_of held = AreHeld-each held [] (tt, tt)
 
 -- one more entry stands
-pub holders_of-last : (held : Holdings) (s : ℕ) (names : List Name) → holders_of (held ++ (s, names) ∷ []) ≡ stands (holders_of held) names s
-holders_of-last held s names = fold-append (λ (l : Held) h. stands l h.1 h.0) [] held ((s, names) ∷ [])
+pub holders_of-last : (held : Holdings) (s : ℕ) (cells : List Cell) → holders_of (held ++ (s, cells) ∷ []) ≡ stands (holders_of held) cells s
+holders_of-last held s cells = fold-append (λ (l : Held) h. stands l h.1 h.0) [] held ((s, cells) ∷ [])
 
-having-without : (held : Holdings) (s : ℕ) (q : Name) → having (without held s) q ≡ but nat_cmp s (having held q)
+having-without : (held : Holdings) (s : ℕ) (q : Cell) → having (without held s) q ≡ but nat_cmp s (having held q)
 having-without [] s q = refl
-having-without (h ∷ hs) s q = by (nat_eq h.0 s) refl (maps.is_among h.1 q) refl (having-without hs s q)
+having-without (h ∷ hs) s q = by (nat_eq h.0 s) refl (has h.1 q) refl (having-without hs s q)
   where
     here : (b : Bool) → nat_eq h.0 s ≡ b → but nat_cmp s (h.0 ∷ having hs q) ≡ cond (not b) (h.0 ∷ but nat_cmp s (having hs q)) (but nat_cmp s (having hs q))
     here b e = ap (λ c. cond (not c) (h.0 ∷ but nat_cmp s (having hs q)) (but nat_cmp s (having hs q))) (tied s h.0 ∙ e)
 
-    by : (a : Bool) → nat_eq h.0 s ≡ a → (b : Bool) → maps.is_among h.1 q ≡ b → having (without hs s) q ≡ but nat_cmp s (having hs q)
-        → having (cond (not a) (h ∷ without hs s) (without hs s)) q ≡ but nat_cmp s (map (λ e. e.0) (cond b (h ∷ filter (λ e. maps.is_among e.1 q) hs) (filter (λ e. maps.is_among e.1 q) hs)))
+    by : (a : Bool) → nat_eq h.0 s ≡ a → (b : Bool) → has h.1 q ≡ b → having (without hs s) q ≡ but nat_cmp s (having hs q)
+        → having (cond (not a) (h ∷ without hs s) (without hs s)) q ≡ but nat_cmp s (map (λ e. e.0) (cond b (h ∷ filter (λ e. has e.1 q) hs) (filter (λ e. has e.1 q) hs)))
     by true e true f i = i ∙ sym (here true e)
     by true e false f i = i
     by false e true f i =
-        ap (λ b. map (λ r. r.0) (cond b (h ∷ filter (λ r. maps.is_among r.1 q) (without hs s)) (filter (λ r. maps.is_among r.1 q) (without hs s)))) f
+        ap (λ b. map (λ r. r.0) (cond b (h ∷ filter (λ r. has r.1 q) (without hs s)) (filter (λ r. has r.1 q) (without hs s)))) f
         ∙ ap (λ l. h.0 ∷ l) i ∙ sym (here false e)
     by false e false f i =
-        ap (λ b. map (λ r. r.0) (cond b (h ∷ filter (λ r. maps.is_among r.1 q) (without hs s)) (filter (λ r. maps.is_among r.1 q) (without hs s)))) f ∙ i
+        ap (λ b. map (λ r. r.0) (cond b (h ∷ filter (λ r. has r.1 q) (without hs s)) (filter (λ r. has r.1 q) (without hs s)))) f ∙ i
 
 AreRising-without : (held : Holdings) (s : ℕ) → AreRising held → AreRising (without held s)
 AreRising-without [] s r = tt
@@ -86,9 +85,9 @@ holders_of-without held s r =
     same_holders (holders_of (without held s)) (fallen (holders_of held) s) (AreHeld-holders_of (without held s)) (AreHeld-fallen (holders_of held) s sorted)
     (λ q. holding-holders_of (without held s) (AreRising-without held s r) q ∙ having-without held s q ∙ ap (but nat_cmp s) (sym (holding-holders_of held r q)) ∙ sym (holding-fallen (holders_of held) s q sorted))
 
-having_below : (held : Holdings) (n : ℕ) (q : Name) → All (λ h. h.0 < n) held → (m : ℕ) → is_among nat_cmp (having held q) m ≡ true → m < n
+having_below : (held : Holdings) (n : ℕ) (q : Cell) → All (λ h. h.0 < n) held → (m : ℕ) → is_among nat_cmp (having held q) m ≡ true → m < n
 having_below [] n q low m there = absurd (cc)
-having_below (h ∷ hs) n q low m there = by (maps.is_among h.1 q) there (having_below hs n q (All-tail (λ e. e.0 < n) _ _ low) m)
+having_below (h ∷ hs) n q low m there = by (has h.1 q) there (having_below hs n q (All-tail (λ e. e.0 < n) _ _ low) m)
   where
     first : h.0 < n
     first = low 0 h (omega arith)
@@ -97,31 +96,31 @@ having_below (h ∷ hs) n q low m there = by (maps.is_among h.1 q) there (having
     on true e f go = let same = same_number m h.0 e in omega (arith, same, first)
     on false e f go = go f
 
-    by : (b : Bool) → is_among nat_cmp (map (λ e. e.0) (cond b (h ∷ filter (λ e. maps.is_among e.1 q) hs) (filter (λ e. maps.is_among e.1 q) hs))) m ≡ true → (is_among nat_cmp (having hs q) m ≡ true → m < n) → m < n
+    by : (b : Bool) → is_among nat_cmp (map (λ e. e.0) (cond b (h ∷ filter (λ e. has e.1 q) hs) (filter (λ e. has e.1 q) hs))) m ≡ true → (is_among nat_cmp (having hs q) m ≡ true → m < n) → m < n
     by true f go = on (is_eq (nat_cmp m h.0)) refl f go
     by false f go = go f
 
 -- a number after those of all entries comes after all that are held
 pub IsNext-holders_of : (held : Holdings) (n : ℕ) → AreRising held → All (λ h. h.0 < n) held → IsNext (holders_of held) n
-IsNext-holders_of held n r low x m there = having_below held n x low m (ap (λ l. is_among nat_cmp l m) (sym (holding-holders_of held r x)) ∙ there)
+IsNext-holders_of held n r low c m there = having_below held n c low m (ap (λ l. is_among nat_cmp l m) (sym (holding-holders_of held r c)) ∙ there)
 
 among_is_in : (ss : List ℕ) (n : ℕ) → is_among nat_cmp ss n ≡ is_in n ss
 among_is_in [] n = refl
 among_is_in (x ∷ xs) n = λ i. tied n x i || among_is_in xs n i
 
-module _ (f : ℕ → List Name) where
-  having-with_names : (ss : List ℕ) (q : Name) → having (with_names f ss) q ≡ filter (λ s. maps.is_among (f s) q) ss
-  having-with_names [] q = refl
-  having-with_names (s ∷ ss) q = by (maps.is_among (f s) q) (having-with_names ss q)
+module _ (f : ℕ → List Cell) where
+  having-with_cells : (ss : List ℕ) (q : Cell) → having (with_cells f ss) q ≡ filter (λ s. has (f s) q) ss
+  having-with_cells [] q = refl
+  having-with_cells (s ∷ ss) q = by (has (f s) q) (having-with_cells ss q)
     where
-      by : (b : Bool) → having (with_names f ss) q ≡ filter (λ t. maps.is_among (f t) q) ss
-          → map (λ e. e.0) (cond b ((s, f s) ∷ filter (λ e. maps.is_among e.1 q) (with_names f ss)) (filter (λ e. maps.is_among e.1 q) (with_names f ss))) ≡ cond b (s ∷ filter (λ t. maps.is_among (f t) q) ss) (filter (λ t. maps.is_among (f t) q) ss)
+      by : (b : Bool) → having (with_cells f ss) q ≡ filter (λ t. has (f t) q) ss
+          → map (λ e. e.0) (cond b ((s, f s) ∷ filter (λ e. has e.1 q) (with_cells f ss)) (filter (λ e. has e.1 q) (with_cells f ss))) ≡ cond b (s ∷ filter (λ t. has (f t) q) ss) (filter (λ t. has (f t) q) ss)
       by true i = ap (λ l. s ∷ l) i
       by false i = i
 
-  pub AreRising-with_names : (ss : List ℕ) → ((t : ℕ) → is_in t ss ≡ true → IsRising (f t)) → AreRising (with_names f ss)
-  AreRising-with_names [] h = tt
-  AreRising-with_names (s ∷ ss) h = (h s (ap (λ b. b || is_in s ss) itself), AreRising-with_names ss (λ t e. h t (or_else (nat_eq s t) (is_in t ss) e)))
+  pub AreRising-with_cells : (ss : List ℕ) → ((t : ℕ) → is_in t ss ≡ true → IsRising (f t)) → AreRising (with_cells f ss)
+  AreRising-with_cells [] h = tt
+  AreRising-with_cells (s ∷ ss) h = (h s (ap (λ b. b || is_in s ss) itself), AreRising-with_cells ss (λ t e. h t (or_else (nat_eq s t) (is_in t ss) e)))
     where
       itself : nat_eq s s ≡ true
       itself = grind (arith, nat_tests)
@@ -131,34 +130,36 @@ module _ (f : ℕ → List Name) where
       or_else false b e = e
 
   module _ (ss : List ℕ) (rises : (t : ℕ) → is_in t ss ≡ true → IsRising (f t)) where
-    holds_is : (x : Name) (n : ℕ) → holds (holders_of (with_names f ss)) x n ≡ is_in n (filter (λ t. maps.is_among (f t) x) ss)
-    holds_is x n = ap (λ l. is_among nat_cmp l n) (holding-holders_of (with_names f ss) (AreRising-with_names ss rises) x ∙ having-with_names ss x) ∙ among_is_in (filter (λ t. maps.is_among (f t) x) ss) n
+    holds_is : (c : Cell) (n : ℕ) → holds (holders_of (with_cells f ss)) c n ≡ is_in n (filter (λ t. has (f t) c) ss)
+    holds_is c n = ap (λ l. is_among nat_cmp l n) (holding-holders_of (with_cells f ss) (AreRising-with_cells ss rises) c ∙ having-with_cells ss c) ∙ among_is_in (filter (λ t. has (f t) c) ss) n
 
-    -- an entry that stands holds just its own names
-    out_of : (x : Name) (n : ℕ) → holds (holders_of (with_names f ss)) x n ≡ true → (maps.is_among (f n) x ≡ true) × (is_in n ss ≡ true)
-    out_of x n there = out_of_filter (λ t. maps.is_among (f t) x) n ss (sym (holds_is x n) ∙ there)
+    -- an entry that stands holds just its own cells
+    out_of : (c : Cell) (n : ℕ) → holds (holders_of (with_cells f ss)) c n ≡ true → (has (f n) c ≡ true) × (is_in n ss ≡ true)
+    out_of c n there = out_of_filter (λ t. has (f t) c) n ss (sym (holds_is c n) ∙ there)
 
-    into : (x : Name) (n : ℕ) → maps.is_among (f n) x ≡ true → is_in n ss ≡ true → holds (holders_of (with_names f ss)) x n ≡ true
-    into x n own there = holds_is x n ∙ into_filter (λ t. maps.is_among (f t) x) n ss own there
+    into : (c : Cell) (n : ℕ) → has (f n) c ≡ true → is_in n ss ≡ true → holds (holders_of (with_cells f ss)) c n ≡ true
+    into c n own there = holds_is c n ∙ into_filter (λ t. has (f t) c) n ss own there
 
-    pub HoldsOnly-holders_of : (s : ℕ) → HoldsOnly (holders_of (with_names f ss)) (f s) s
-    HoldsOnly-holders_of s x there = (out_of x s there).0
+    pub HoldsOnly-holders_of : (s : ℕ) → HoldsOnly (holders_of (with_cells f ss)) (f s) s
+    HoldsOnly-holders_of s c there = (out_of c s there).0
 
     -- the first behind an entry among the holders is the first of the entries behind it that meets it
-    pub IsFirstAfter-holders_of : (names : List Name) (s end : ℕ) → IsRising names → Rise 1 ss end → IsFirstAfter (holders_of (with_names f ss)) names s (first_meeting names (with_names f (filter (nat_lt s) ss)))
-    IsFirstAfter-holders_of names s end r rise = by (first_meeting names (with_names f (filter (nat_lt s) ss))) refl
+    pub IsFirstAfter-holders_of : (cells : List Cell) (s end : ℕ) → IsRising cells → Rise 1 ss end → IsFirstAfter (holders_of (with_cells f ss)) cells s (first_meeting cells (with_cells f (filter (nat_lt s) ss)))
+    IsFirstAfter-holders_of cells s end r rise = by (first_meeting cells (with_cells f (filter (nat_lt s) ss))) refl
       where
         behind : List ℕ
         behind = filter (nat_lt s) ss
 
-        by : (o : Option (ℕ × Name)) → first_meeting names (with_names f behind) ≡ o → IsFirstAfter (holders_of (with_names f ss)) names s o
-        by None e = λ n x m. let h = out_of x n m.2 in apart names (f n) (none_met names f behind e n (into_filter (nat_lt s) n ss (above s n m.0) h.1)) x m.1 h.0
+        by : (o : Option (ℕ × Name)) → first_meeting cells (with_cells f behind) ≡ o → IsFirstAfter (holders_of (with_cells f ss)) cells s o
+        by None e = λ n c m. let h = out_of c n m.2 in apart cells (f n) (none_met cells f behind e n (into_filter (nat_lt s) n ss (above s n m.0) h.1)) c m.1 h.0
         by (Some b) e =
-            let at : First names f behind b = first_met names f 1 behind end (Rise-filter (nat_lt s) 1 ss end rise) b e in
+            let at : First cells f behind b = first_met cells f 1 behind end (Rise-filter (nat_lt s) 1 ss end rise) b e in
             let later = out_of_filter (nat_lt s) b.0 ss at.there in
-            let both = both_have names (f b.0) b.1 at.shares in
+            let both = both_have cells (f b.0) b.1 at.shares in
             record {
-              meets = (is_above s b.0 later.0, both.0, into b.1 b.0 both.1 later.1);
-              none_sooner = λ n x m. let h = out_of x n m.2 in at.none_before n x (into_filter (nat_lt s) n ss (above s n m.0) h.1) m.1 h.0;
-              none_less = λ x m. let h = out_of x b.0 m.2 in none_lesser names (f b.0) b.1 r at.shares x m.1 h.0;
+              cell = both.cell;
+              name = both.name;
+              meets = (is_above s b.0 later.0, both.in_one, into both.cell b.0 both.in_two later.1);
+              none_sooner = λ n c m. let h = out_of c n m.2 in at.none_before n c (into_filter (nat_lt s) n ss (above s n m.0) h.1) m.1 h.0;
+              none_less = λ c m. let h = out_of c b.0 m.2 in none_lesser cells (f b.0) b.1 r at.shares c m.1 h.0;
             }

@@ -8,7 +8,8 @@ use Rattle.std.proofs.lemmas.Bool.Decides.{nat_tests}
 use Rattle.std.proofs.lemmas.List.Folds.{list_any-append}
 use Rattle.osm_elements.specs.declared.name.Name.{Name}
 use Rattle.osm_elements.specs.Maps.{Rows}
-use Rattle.osm_refs.specs.Rising.{IsRising}
+use Rattle.osm_changes.specs.declared.cell.Cell.{Cell}
+use Rattle.osm_changes.specs.Cells.{IsRising}
 use Rattle.edit_actions.specs.declared.action.Action.{Action}
 use Rattle.edit_actions.specs.After.{changes}
 use Rattle.edit_footprint.specs.Footprints.{footprint}
@@ -24,8 +25,8 @@ use Rattle.room_history.specs.Journals.{numbered, is_work, standing, is_standing
 use Rattle.room_history.specs.Replays.{Past, past, mapof, recorded_of, recorded_next}
 use Rattle.room_history.proofs.Appending.{recorded-last, standing-work, standing-undo}
 use Rattle.room_history.proofs.Growing.{numbered_within, numbered_next, Rise, Rise-standing_from, equal_numbers}
-use Rattle.room_history.proofs.HeldEntries.{with_names, blocker_is, earlier_stay, held-work, held-undo, is_next}
-use Rattle.room_history.proofs.Holders.{AreHeld-holders_of, holders_of-last, holders_of-without, AreRising-with_names, IsNext-holders_of, HoldsOnly-holders_of, IsFirstAfter-holders_of}
+use Rattle.room_history.proofs.HeldEntries.{with_cells, blocker_is, earlier_stay, held-work, held-undo, is_next}
+use Rattle.room_history.proofs.Holders.{AreHeld-holders_of, holders_of-last, holders_of-without, AreRising-with_cells, IsNext-holders_of, HoldsOnly-holders_of, IsFirstAfter-holders_of}
 use Rattle.room_history.proofs.RisingNumbers.{is_in, at_least, out_of_filter}
 
 -- rising numbers are below their end
@@ -113,7 +114,7 @@ module _ {A : Type 0} where
       let high = within s 1 (standing j) (1 + length j) (Rise-standing_from 1 j) there in
       (low, omega (arith, high))
 
-  module _ (p : Past A) (j : List (Entry A)) (footprints : List (Option (List Name))) (holders : Held) (kept : AreHolders p j footprints holders) where
+  module _ (p : Past A) (j : List (Entry A)) (footprints : List (Option (List Cell))) (holders : Held) (kept : AreHolders p j footprints holders) where
     -- the footprint of an entry that stands is kept
     pub kept_of_standing : (s : ℕ) → is_standing j s ≡ true → numbered footprints s ≡ Some (Some (recorded_footprint p s))
     kept_of_standing s there =
@@ -121,39 +122,39 @@ module _ {A : Type 0} where
         kept.footprints_are.each s at.0 at.1 ∙ ap (λ b. Some (cond b (Some (recorded_footprint p s)) None)) there
 
     -- what the holders find behind an entry that stands is its blocker
-    pub blocker_found : (s : ℕ) (found : Option (ℕ × Name)) → is_standing j s ≡ true → ((names : List Name) → numbered footprints s ≡ Some (Some names) → IsFirstAfter holders names s found) → found ≡ blocker p j s
+    pub blocker_found : (s : ℕ) (found : Option (ℕ × Name)) → is_standing j s ≡ true → ((cells : List Cell) → numbered footprints s ≡ Some (Some cells) → IsFirstAfter holders cells s found) → found ≡ blocker p j s
     blocker_found s found there told =
-        let names = recorded_footprint p s in
-        let first = IsFirstAfter-holders_of (recorded_footprint p) (standing j) kept.rising names s (1 + length j) (kept.rising s there) (Rise-standing_from 1 j) in
-        just_one holders names s found (blocker p j s) (told names (kept_of_standing s there))
-        (subst (λ (o : Option (ℕ × Name)). IsFirstAfter holders names s o) (sym (blocker_is p j s there)) (subst (λ (h : Held). IsFirstAfter h names s (first_meeting names (with_names (recorded_footprint p) (filter (nat_lt s) (standing j))))) (sym kept.holders_are) first))
+        let cells = recorded_footprint p s in
+        let first = IsFirstAfter-holders_of (recorded_footprint p) (standing j) kept.rising cells s (1 + length j) (kept.rising s there) (Rise-standing_from 1 j) in
+        just_one holders cells s found (blocker p j s) (told cells (kept_of_standing s there))
+        (subst (λ (o : Option (ℕ × Name)). IsFirstAfter holders cells s o) (sym (blocker_is p j s there)) (subst (λ (h : Held). IsFirstAfter h cells s (first_meeting cells (with_cells (recorded_footprint p) (filter (nat_lt s) (standing j))))) (sym kept.holders_are) first))
 
     pub holders_held : AreHeld holders
     holders_held = subst AreHeld (sym kept.holders_are) (AreHeld-holders_of (held p j))
 
-    -- an entry that stands holds just the names of its footprint
-    pub holds_own : (s : ℕ) → is_standing j s ≡ true → (names : List Name) → numbered footprints s ≡ Some (Some names) → HoldsOnly holders names s
-    holds_own s there names is =
-        let same : recorded_footprint p s ≡ names = cc (sym (kept_of_standing s there) ∙ is) in
+    -- an entry that stands holds just the cells of its footprint
+    pub holds_own : (s : ℕ) → is_standing j s ≡ true → (cells : List Cell) → numbered footprints s ≡ Some (Some cells) → HoldsOnly holders cells s
+    holds_own s there cells is =
+        let same : recorded_footprint p s ≡ cells = cc (sym (kept_of_standing s there) ∙ is) in
         subst (λ l. HoldsOnly holders l s) same (subst (λ (h : Held). HoldsOnly h (recorded_footprint p s) s) (sym kept.holders_are) (HoldsOnly-holders_of (recorded_footprint p) (standing j) kept.rising s))
 
-  module _ (base : Rows A) (j : List (Entry A)) (footprints : List (Option (List Name))) (holders : Held) (kept : AreHolders (past base j) j footprints holders) where
+  module _ (base : Rows A) (j : List (Entry A)) (footprints : List (Option (List Cell))) (holders : Held) (kept : AreHolders (past base j) j footprints holders) where
     -- the next entry's number comes after all that are held
     pub holders_next : IsNext holders (length j + 1)
     holders_next =
         subst (λ (h : Held). IsNext h (length j + 1)) (sym kept.holders_are)
-        (IsNext-holders_of (held (past base j) j) (length j + 1) (AreRising-with_names (recorded_footprint (past base j)) (standing j) kept.rising) (is_next base j))
+        (IsNext-holders_of (held (past base j) j) (length j + 1) (AreRising-with_cells (recorded_footprint (past base j)) (standing j) kept.rising) (is_next base j))
 
     -- an entry that does an action stands with the footprint that the action has on the map
-    pub AreHolders-work : (e : Entry A) (a : Action A) (footprints' : List (Option (List Name))) (holders' : Held) (names : List Name) → is_work e.kind ≡ true → recorded_next (past base j) e.kind ≡ recorded_of (mapof base j) a
-        → names ≡ footprint (mapof base j) a → footprints' ≡ footprints ++ Some names ∷ [] → holders' ≡ stands holders names (length j + 1) → AreHolders (past base (j ++ e ∷ [])) (j ++ e ∷ []) footprints' holders'
-    AreHolders-work e a footprints' holders' names work records is footprints_is holders_is = record {
+    pub AreHolders-work : (e : Entry A) (a : Action A) (footprints' : List (Option (List Cell))) (holders' : Held) (cells : List Cell) → is_work e.kind ≡ true → recorded_next (past base j) e.kind ≡ recorded_of (mapof base j) a
+        → cells ≡ footprint (mapof base j) a → footprints' ≡ footprints ++ Some cells ∷ [] → holders' ≡ stands holders cells (length j + 1) → AreHolders (past base (j ++ e ∷ [])) (j ++ e ∷ []) footprints' holders'
+    AreHolders-work e a footprints' holders' cells work records is footprints_is holders_is = record {
       rising = λ s there. rises s (nat_eq (1 + length j) s) refl (sym (now_standing s) ∙ there);
       footprints_are = record {
-        count = ap length footprints_is ∙ length-append footprints (Some names ∷ []) ∙ ap (λ n. n + 1) kept.footprints_are.count ∙ sym (length-append j (e ∷ []));
+        count = ap length footprints_is ∙ length-append footprints (Some cells ∷ []) ∙ ap (λ n. n + 1) kept.footprints_are.count ∙ sym (length-append j (e ∷ []));
         each = λ s low high. ap (λ l. numbered l s) footprints_is ∙ each s low (omega (arith, high, longer)) (nat_eq (1 + length j) s) refl ∙ ap (λ b. Some (cond b (Some (recorded_footprint (past base (j ++ e ∷ [])) s)) None)) (sym (now_standing s));
       };
-      holders_are = holders_is ∙ ap (λ h. stands h names (length j + 1)) kept.holders_are ∙ ap (λ l. stands (holders_of (held (past base j) j)) l (length j + 1)) is
+      holders_are = holders_is ∙ ap (λ h. stands h cells (length j + 1)) kept.holders_are ∙ ap (λ l. stands (holders_of (held (past base j) j)) l (length j + 1)) is
           ∙ sym (holders_of-last (held (past base j) j) (length j + 1) (footprint (mapof base j) a)) ∙ ap holders_of (sym (held-work base j e a work records));
     }
       where
@@ -163,33 +164,33 @@ module _ {A : Type 0} where
         now_standing : (s : ℕ) → is_standing (j ++ e ∷ []) s ≡ (is_standing j s || (nat_eq (1 + length j) s || false))
         now_standing s = ap (is_in s) (standing-work j e work) ∙ list_any-append (λ t. nat_eq t s) (standing j) ((1 + length j) ∷ [])
 
-        last_footprint : recorded_footprint (past base (j ++ e ∷ [])) (1 + length j) ≡ names
+        last_footprint : recorded_footprint (past base (j ++ e ∷ [])) (1 + length j) ≡ cells
         last_footprint = ap (recorded_footprint (past base (j ++ e ∷ []))) next ∙ ap footprint_of_recorded (recorded-last base j e ∙ ap Some records) ∙ sym is
           where
             next : 1 + length j ≡ suc (length j)
             next = omega arith
 
-        names_rise : IsRising names
-        names_rise = subst IsRising (sym is) (IsRising-footprint_of a (changes (mapof base j) a))
+        cells_rise : IsRising cells
+        cells_rise = subst IsRising (sym is) (IsRising-footprint_of a (changes (mapof base j) a))
 
         rises : (s : ℕ) (b : Bool) → nat_eq (1 + length j) s ≡ b → (is_standing j s || (b || false)) ≡ true → IsRising (recorded_footprint (past base (j ++ e ∷ [])) s)
-        rises s true f there = subst IsRising (sym (ap (recorded_footprint (past base (j ++ e ∷ []))) (sym (equal_numbers (1 + length j) s f)) ∙ last_footprint)) names_rise
+        rises s true f there = subst IsRising (sym (ap (recorded_footprint (past base (j ++ e ∷ []))) (sym (equal_numbers (1 + length j) s f)) ∙ last_footprint)) cells_rise
         rises s false f there =
             let stood = sym (or_false (is_standing j s)) ∙ there in
             let at = stands_within j s stood in
             subst IsRising (sym (earlier_stay base j e s (omega (arith, at.1)))) (kept.rising s stood)
 
         each : (s : ℕ) → 1 ≤ s → s ≤ length j + 1 → (b : Bool) → nat_eq (1 + length j) s ≡ b
-            → numbered (footprints ++ Some names ∷ []) s ≡ Some (cond (is_standing j s || (b || false)) (Some (recorded_footprint (past base (j ++ e ∷ [])) s)) None)
+            → numbered (footprints ++ Some cells ∷ []) s ≡ Some (cond (is_standing j s || (b || false)) (Some (recorded_footprint (past base (j ++ e ∷ [])) s)) None)
         each s low high true f =
             let same : s ≡ suc (length footprints) = let n = equal_numbers (1 + length j) s f in let c = kept.footprints_are.count in omega (arith, n, c) in
-            ap (numbered (footprints ++ Some names ∷ [])) same ∙ numbered_next footprints (Some names)
+            ap (numbered (footprints ++ Some cells ∷ [])) same ∙ numbered_next footprints (Some cells)
             ∙ ap (λ l. Some (Some l)) (sym last_footprint ∙ ap (recorded_footprint (past base (j ++ e ∷ []))) (equal_numbers (1 + length j) s f))
             ∙ ap (λ b. Some (cond b (Some (recorded_footprint (past base (j ++ e ∷ [])) s)) None)) (sym (or_true (is_standing j s)))
         each s low high false f =
             let c = kept.footprints_are.count in
             let other : s ≤ length j = inside in
-            numbered_within footprints (Some names) s (omega (arith, other, c)) ∙ kept.footprints_are.each s low other
+            numbered_within footprints (Some cells) s (omega (arith, other, c)) ∙ kept.footprints_are.each s low other
             ∙ ap (λ l. Some (cond (is_standing j s) (Some l) None)) (sym (earlier_stay base j e s (omega (arith, other))))
             ∙ ap (λ b. Some (cond b (Some (recorded_footprint (past base (j ++ e ∷ [])) s)) None)) (sym (or_false (is_standing j s)))
           where
@@ -197,7 +198,7 @@ module _ {A : Type 0} where
             inside = grind (arith, nat_tests)
 
     -- what an undo takes back falls
-    pub AreHolders-undo : (e : Entry A) (s : ℕ) (footprints' : List (Option (List Name))) (holders' : Held) → e.kind ≡ Undo s → is_standing j s ≡ true
+    pub AreHolders-undo : (e : Entry A) (s : ℕ) (footprints' : List (Option (List Cell))) (holders' : Held) → e.kind ≡ Undo s → is_standing j s ≡ true
         → footprints' ≡ slice_set (footprints ++ None ∷ []) (s - 1) None → holders' ≡ fallen holders s → AreHolders (past base (j ++ e ∷ [])) (j ++ e ∷ []) footprints' holders'
     AreHolders-undo e s footprints' holders' k there footprints_is holders_is = record {
       rising = λ t stays. rises t (out_of_filter (λ u. not (nat_eq u s)) t (standing j) (sym (ap (is_in t) (standing-undo j e s k)) ∙ stays)).1;
@@ -206,7 +207,7 @@ module _ {A : Type 0} where
         each = λ t low high. ap (λ l. numbered l t) footprints_is ∙ numbered-set (footprints ++ None ∷ []) s None t at.0 room low ∙ each t low (omega (arith, high, longer)) (nat_eq t s) refl
             ∙ ap (λ b. Some (cond b (Some (recorded_footprint (past base (j ++ e ∷ [])) t)) None)) (sym (now_standing t));
       };
-      holders_are = holders_is ∙ ap (λ h. fallen h s) kept.holders_are ∙ sym (holders_of-without (held (past base j) j) s (AreRising-with_names (recorded_footprint (past base j)) (standing j) kept.rising))
+      holders_are = holders_is ∙ ap (λ h. fallen h s) kept.holders_are ∙ sym (holders_of-without (held (past base j) j) s (AreRising-with_cells (recorded_footprint (past base j)) (standing j) kept.rising))
           ∙ ap holders_of (sym (held-undo base j e s k));
     }
       where

@@ -1,10 +1,12 @@
 -- One step of a room.
-use Rattle.std.proofs.Common.{◌≡◌, Result, OnOk, OnErr, IfOk, IfErr, ◌<◌, ◌≤◌, ◌+◌, ◌++◌, ◌∷◌, ℕ, true, false, List, [], Option, Some, None, Ok, Err, length, refl, sym, ap, subst, ◌∙◌, arith, ◌-◌, length-append, ◌⊎◌, inl, inr, zero, suc, map, nat_le}
+use Rattle.std.proofs.Common.{◌≡◌, Result, OnOk, OnErr, IfOk, IfErr, ◌<◌, ◌≤◌, ◌+◌, ◌++◌, ◌∷◌, ℕ, true, false, List, [], Option, Some, None, Ok, Err, length, refl, sym, ap, subst, ◌∙◌, arith, ◌-◌, length-append, ◌⊎◌, inl, inr, zero, suc, map, fold, nat_le}
 use Rattle.std.specs.Bool.{then_some}
+use Rattle.std.specs.Result.{IsErr}
 use Rattle.std.specs.Prelude.{slice_set}
 use Rattle.std.specs.Option.{option_map, option_and_then}
 use Rattle.std.proofs.lemmas.Bool.Decides.{nat_tests}
 use Rattle.std.proofs.lemmas.List.{map-append, length-map}
+use Rattle.std.proofs.lemmas.List.Sums.{fold-append}
 use Rattle.edit_actions.specs.declared.action.Action.{Action}
 use Rattle.room_stacks.specs.declared.author.Author.{Author}
 use Rattle.room_history.specs.declared.call.Call.{Call}
@@ -16,15 +18,15 @@ use Rattle.room_history.specs.declared.entry.EntryKind.TheVariants.{Do, Undo, Re
 use Rattle.edit_simple.specs.declared.refusal.Refusal.{Refusal}
 use Rattle.room_history.specs.declared.reply.Reply.{Reply}
 use Rattle.room_history.specs.declared.reply.Reply.TheVariants.{Undid, Repeat, Full, NothingToRedo, Refused, Memory}
-use Rattle.osm_elements.specs.declared.name.Name.{Name}
+use Rattle.osm_changes.specs.declared.cell.Cell.{Cell}
 use Rattle.osm_elements.specs.Maps.{Rows}
-use Rattle.osm_refs.specs.Rising.{IsRising}
+use Rattle.osm_changes.specs.Cells.{IsRising}
 use Rattle.osm_changes.specs.Sound.{is_sound}
 use Rattle.edit_actions.specs.After.{after, changes}
 use Rattle.edit_actions.specs.Refusals.{checks, refusal}
 use Rattle.edit_simple.specs.Checks.{first_that_holds}
 use Rattle.room_history.specs.Journals.{is_work, numbered, last, redos}
-use Rattle.room_history.specs.Replays.{Past, Recorded, past, mapof, action_at, recorded_of, recorded_next, done_again, taken_back}
+use Rattle.room_history.specs.Replays.{Past, Recorded, past, past_after, mapof, action_at, recorded_of, recorded_next, done_again, taken_back}
 use Rattle.room_history.specs.Answers.{spent, asked, meant, undo_refusal, redo_refusal, kind_refusal, meaning_refusal, accepted, with_entry, answer_by, answer}
 use Rattle.room_history.specs.LegalJournals.{IsJournal, is_made_request, opened, called}
 use Rattle.room_history.specs.Runs.{IsStep}
@@ -47,7 +49,9 @@ use Rattle.edit_simple.specs.Plans.{IsPlan}
 use Rattle.room_history.specs.Inner.Refusing.{refusal_reply}
 use Rattle.room_history.specs.Inner.Undoing.{undone_or, asked_or}
 use Rattle.room_history.specs.Inner.Rooms.{IsRoom, MayAppend, MayWork}
-use Rattle.room_history.specs.Inner.Telling.{recorded_changes}
+use Rattle.room_history.specs.declared.kept.Kept.{Kept}
+use Rattle.room_history.specs.Inner.Telling.{recorded_changes, kept_of, kept_from, kept}
+use Rattle.room_history.proofs.Telling.{kept_of_each}
 use Rattle.room_history.proofs.BinarySearching.{last_is}
 use Rattle.room_history.proofs.Deciding.{unspent}
 use Rattle.room_history.proofs.Keeping.{journal_led}
@@ -97,6 +101,11 @@ within_numbered [] (suc i) x e = absurd (cc)
 within_numbered (y ∷ ys) (suc zero) x e = omega arith
 within_numbered (y ∷ ys) (suc (suc i)) x e = let h = within_numbered ys (suc i) x e in omega (arith, h)
 
+-- of a call that was refused nothing is asked of what it gives
+pub on_ok : {X E : Type 0} (r : Result X E) (P : X → Type 0) → IsErr r → IfOk r P
+on_ok (Ok x) P e = absurd (cc)
+on_ok (Err e) P is = tt
+
 -- what holds holds where a call was refused
 pub on_err : {X E : Type 0} (r : Result X E) (P : Type 0) → P → OnErr r P
 on_err (Ok x) P p = tt
@@ -121,7 +130,7 @@ pub changed_again : {A F E : Type 0} (m : Rows A) (o : Option (Action A)) (a : A
 changed_again m o a (Ok x) acts e = e ∙ sym (ap (λ q. (done_again m q).changes) acts)
 changed_again m o a (Err x) acts e = tt
 
-pub touched_again : {A C E : Type 0} (m : Rows A) (o : Option (Action A)) (a : Action A) (r : Result (C × List Name) E) → o ≡ Some a → IfOk r (λ p. p.1 ≡ footprint_of a (changes m a)) → IfOk r (λ p. p.1 ≡ (done_again m o).footprint)
+pub touched_again : {A C E : Type 0} (m : Rows A) (o : Option (Action A)) (a : Action A) (r : Result (C × List Cell) E) → o ≡ Some a → IfOk r (λ p. p.1 ≡ footprint_of a (changes m a)) → IfOk r (λ p. p.1 ≡ (done_again m o).footprint)
 touched_again m o a (Ok x) acts e = e ∙ sym (ap (λ q. (done_again m q).footprint) acts)
 touched_again m o a (Err x) acts e = tt
 
@@ -215,21 +224,21 @@ module _ {A : Type 0} where
             why (Some p) e = ap (λ q. (q, j)) (cc)
 
   -- a room of a sound map, with an empty journal
-  pub IsRoom-opened : (store : StoreState A) (recorded : List (List (Change A))) (firsts : List ℕ) (footprints : List (Option (List Name))) (holders : Held) (done : List Deed) (base : Rows A) (limit : ℕ) (j : List (Entry A))
+  pub IsRoom-opened : (store : StoreState A) (recorded : List (Kept A)) (firsts : List ℕ) (footprints : List (Option (List Cell))) (holders : Held) (done : List Deed) (base : Rows A) (limit : ℕ) (j : List (Entry A))
       → store.rows ≡ base → store.applied ≡ 0 → recorded ≡ [] → firsts ≡ [] → footprints ≡ [] → holders ≡ [] → done ≡ [] → is_sound base ≡ true → j ≡ [] → IsRoom store recorded firsts footprints holders done base limit j
   IsRoom-opened store recorded firsts footprints holders done base limit j begins none_applied no_changes no_firsts no_footprints no_holders no_deeds sound no_entries = record {
     base_sound = sound;
     journal = subst (λ k. IsJournal base limit k) (sym no_entries) opened;
     rows_are = begins ∙ ap (mapof base) (sym no_entries);
     count_is = none_applied ∙ ap (applied base) (sym no_entries);
-    recorded_are = no_changes ∙ ap (recorded_changes base) (sym no_entries);
+    recorded_are = no_changes ∙ ap (kept base) (sym no_entries);
     firsts_are = no_firsts ∙ ap origins (sym no_entries);
     holders_are = opened_holders;
     deeds_are = no_deeds ∙ ap deeds (sym no_entries);
   }
     where
       none_held : AreHolders (past base []) [] footprints holders
-      none_held = subst (λ (h : Held). AreHolders (past base []) [] footprints h) (sym no_holders) (subst (λ (l : List (Option (List Name))). AreHolders (past base []) [] l []) (sym no_footprints) (AreHolders-opened base))
+      none_held = subst (λ (h : Held). AreHolders (past base []) [] footprints h) (sym no_holders) (subst (λ (l : List (Option (List Cell))). AreHolders (past base []) [] l []) (sym no_footprints) (AreHolders-opened base))
 
       opened_holders : AreHolders (past base j) j footprints holders
       opened_holders = subst (λ k. AreHolders (past base k) k footprints holders) (sym no_entries) none_held
@@ -238,7 +247,35 @@ module _ {A : Type 0} where
   recorded-append : (base : Rows A) (j : List (Entry A)) (e : Entry A) → recorded_changes base (j ++ e ∷ []) ≡ recorded_changes base j ++ (recorded_next (past base j) e.kind).changes ∷ []
   recorded-append base j e = ap (map (λ (r : Recorded A). r.changes)) (ap (λ (p : Past A). p.entries) (past-append base j e)) ∙ map-append (λ (r : Recorded A). r.changes) (past base j).entries (recorded_next (past base j) e.kind ∷ [])
 
-  module _ (store : StoreState A) (recorded : List (List (Change A))) (firsts : List ℕ) (footprints : List (Option (List Name))) (holders : Held) (done : List Deed) (base : Rows A) (limit : ℕ) (j : List (Entry A)) (r : IsRoom store recorded firsts footprints holders done base limit j) where
+  -- what is kept of one more entry
+  kept_from-append : (m : Rows A) (css : List (List (Change A))) (cs : List (Change A)) → kept_from m (css ++ cs ∷ []) ≡ kept_from m css ++ kept_of (fold changed m css) cs ∷ []
+  kept_from-append m [] cs = refl
+  kept_from-append m (ds ∷ css) cs = ap (λ ks. kept_of m ds ∷ ks) (kept_from-append (changed m ds) css cs)
+
+  -- the changes of the entries, one after the other, lead to the map
+  changes_lead_on : (p : Past A) (base : Rows A) (j : List (Entry A)) → p.map ≡ fold changed base (map (λ (r : Recorded A). r.changes) p.entries)
+      → let q = fold (λ (p : Past A) (e : Entry A). past_after p e.kind) p j in q.map ≡ fold changed base (map (λ (r : Recorded A). r.changes) q.entries)
+  changes_lead_on p base [] h = h
+  changes_lead_on p base (e ∷ j) h =
+      let cs = (recorded_next p e.kind).changes in
+      changes_lead_on (past_after p e.kind) base j
+      (ap (λ m. changed m cs) h ∙ sym (fold-append changed base (map (λ (r : Recorded A). r.changes) p.entries) (cs ∷ []))
+      ∙ ap (fold changed base) (sym (map-append (λ (r : Recorded A). r.changes) p.entries (recorded_next p e.kind ∷ []))))
+
+  changes_lead : (base : Rows A) (j : List (Entry A)) → mapof base j ≡ fold changed base (recorded_changes base j)
+  changes_lead base j = changes_lead_on (record { map = base; entries = [] }) base j refl
+
+  kept-append : (base : Rows A) (j : List (Entry A)) (e : Entry A) → kept base (j ++ e ∷ []) ≡ kept base j ++ kept_of (mapof base j) (recorded_next (past base j) e.kind).changes ∷ []
+  kept-append base j e =
+      let cs = (recorded_next (past base j) e.kind).changes in
+      ap (kept_from base) (recorded-append base j e) ∙ kept_from-append base (recorded_changes base j) cs ∙ ap (λ m. kept base j ++ kept_of m cs ∷ []) (sym (changes_lead base j))
+
+  -- the changes of what is kept are those that are recorded
+  changes_kept : (m : Rows A) (css : List (List (Change A))) → map (λ (k : Kept A). k.changes) (kept_from m css) ≡ css
+  changes_kept m [] = refl
+  changes_kept m (cs ∷ css) = ap (λ rest. cs ∷ rest) (changes_kept (changed m cs) css)
+
+  module _ (store : StoreState A) (recorded : List (Kept A)) (firsts : List ℕ) (footprints : List (Option (List Cell))) (holders : Held) (done : List Deed) (base : Rows A) (limit : ℕ) (j : List (Entry A)) (r : IsRoom store recorded firsts footprints holders done base limit j) where
     -- what holds of a room's journal
     room_led : IsLed base j
     room_led = journal_led base r.base_sound limit j r.journal
@@ -272,9 +309,9 @@ module _ {A : Type 0} where
       above_deeds ds n is next = subst (λ d. stacks.IsAboveAll n d) (sym (is ∙ r.deeds_are)) (subst (λ m. stacks.IsAboveAll m (deeds j)) (sym next) (journals.above_deeds j))
 
       -- a room with one more entry
-      grown : (k : EntryKind A) (l : List (Entry A)) (store' : StoreState A) (recorded' : List (List (Change A))) (firsts' : List ℕ) (footprints' : List (Option (List Name))) (holders' : Held) (done' : List Deed) (cs : List (Change A))
+      grown : (k : EntryKind A) (l : List (Entry A)) (store' : StoreState A) (recorded' : List (Kept A)) (firsts' : List ℕ) (footprints' : List (Option (List Cell))) (holders' : Held) (done' : List Deed) (cs : List (Change A))
           → IsJournal base limit (with_entry j author id k) → cs ≡ (recorded_next (past base j) k).changes
-          → store' ≡ applied_to store cs → recorded' ≡ recorded ++ cs ∷ [] → firsts' ≡ firsts ++ origin_next (origins j) k ∷ [] → AreHolders (past base (with_entry j author id k)) (with_entry j author id k) footprints' holders'
+          → store' ≡ applied_to store cs → recorded' ≡ recorded ++ kept_of store.rows cs ∷ [] → firsts' ≡ firsts ++ origin_next (origins j) k ∷ [] → AreHolders (past base (with_entry j author id k)) (with_entry j author id k) footprints' holders'
           → done' ≡ done ++ deed_by (length j + 1) author id k ∷ [] → l ≡ with_entry j author id k
           → IsRoom store' recorded' firsts' footprints' holders' done' base limit l
       grown k l store' recorded' firsts' footprints' holders' done' cs legal is store_is recorded_is firsts_is holders_is deeds_is l_is =
@@ -284,7 +321,7 @@ module _ {A : Type 0} where
             journal = legal;
             rows_are = ap (λ (s : StoreState A). s.rows) store_is ∙ ap (λ m. changed m cs) r.rows_are ∙ ap (changed (mapof base j)) is ∙ sym (mapof-append base j e);
             count_is = ap (λ (s : StoreState A). s.applied) store_is ∙ ap (λ n. counted n cs) r.count_is ∙ ap (counted (applied base j)) is ∙ sym (applied-append base j e);
-            recorded_are = recorded_is ∙ (λ i. r.recorded_are i ++ is i ∷ []) ∙ sym (recorded-append base j e);
+            recorded_are = recorded_is ∙ (λ i. r.recorded_are i ++ kept_of (r.rows_are i) (is i) ∷ []) ∙ sym (kept-append base j e);
             firsts_are = firsts_is ∙ ap (λ os. os ++ origin_next (origins j) k ∷ []) r.firsts_are ∙ sym (origins-append j e);
             holders_are = holders_is;
             deeds_are = deeds_is ∙ ap (λ ds. ds ++ deed_by (length j + 1) author id k ∷ []) r.deeds_are ∙ sym (deeds-append j e);
@@ -326,20 +363,20 @@ module _ {A : Type 0} where
         does = does_of k work ok
 
         -- what it touches rises
-        pub work_rises : (names : List Name) → names ≡ (recorded_next (past base j) k).footprint → IsRising names
-        work_rises names is = subst IsRising (sym (is ∙ ap (λ (w : Recorded A). w.footprint) does.records)) (IsRising-footprint_of does.action (changes (mapof base j) does.action))
+        pub work_rises : (cells : List Cell) → cells ≡ (recorded_next (past base j) k).footprint → IsRising cells
+        work_rises cells is = subst IsRising (sym (is ∙ ap (λ (w : Recorded A). w.footprint) does.records)) (IsRising-footprint_of does.action (changes (mapof base j) does.action))
 
         -- a room after it
-        pub IsRoom-work : (l : List (Entry A)) (store' : StoreState A) (recorded' : List (List (Change A))) (firsts' : List ℕ) (footprints' : List (Option (List Name))) (holders' : Held) (done' : List Deed) (cs : List (Change A)) (names : List Name)
-            → cs ≡ (recorded_next (past base j) k).changes → names ≡ (recorded_next (past base j) k).footprint
-            → store' ≡ applied_to store cs → recorded' ≡ recorded ++ cs ∷ [] → firsts' ≡ firsts ++ origin_next firsts k ∷ [] → footprints' ≡ footprints ++ Some names ∷ [] → holders' ≡ stands holders names (length j + 1)
+        pub IsRoom-work : (l : List (Entry A)) (store' : StoreState A) (recorded' : List (Kept A)) (firsts' : List ℕ) (footprints' : List (Option (List Cell))) (holders' : Held) (done' : List Deed) (cs : List (Change A)) (cells : List Cell)
+            → cs ≡ (recorded_next (past base j) k).changes → cells ≡ (recorded_next (past base j) k).footprint
+            → store' ≡ applied_to store cs → recorded' ≡ recorded ++ kept_of store.rows cs ∷ [] → firsts' ≡ firsts ++ origin_next firsts k ∷ [] → footprints' ≡ footprints ++ Some cells ∷ [] → holders' ≡ stands holders cells (length j + 1)
             → done' ≡ done ++ deed_by (length j + 1) author id k ∷ [] → l ≡ with_entry j author id k
             → IsRoom store' recorded' firsts' footprints' holders' done' base limit l
-        IsRoom-work l store' recorded' firsts' footprints' holders' done' cs names cs_are names_are store_is recorded_is firsts_is footprints_is holders_is deeds_is l_is =
+        IsRoom-work l store' recorded' firsts' footprints' holders' done' cs cells cs_are cells_are store_is recorded_is firsts_is footprints_is holders_is deeds_is l_is =
             grown k l store' recorded' firsts' footprints' holders' done' cs (legal_work k work ok) cs_are store_is recorded_is
             (firsts_is ∙ ap (λ os. firsts ++ origin_next os k ∷ []) r.firsts_are)
-            (AreHolders-work base j footprints holders r.holders_are (record { author = author; id = id; kind = k }) does.action footprints' holders' names does.works does.records
-            (names_are ∙ ap (λ (w : Recorded A). w.footprint) does.records) footprints_is holders_is)
+            (AreHolders-work base j footprints holders r.holders_are (record { author = author; id = id; kind = k }) does.action footprints' holders' cells does.works does.records
+            (cells_are ∙ ap (λ (w : Recorded A). w.footprint) does.records) footprints_is holders_is)
             deeds_is l_is
 
       -- what an undo that is not refused finds in a room
@@ -363,27 +400,39 @@ module _ {A : Type 0} where
             by (suc i) e = omega arith
 
         pub is_recorded : s ≤ length recorded
-        is_recorded = let n : length recorded ≡ length (past base j).entries = ap length r.recorded_are ∙ length-map (past base j).entries (λ (r : Recorded A). r.changes) in omega (arith, n, within_numbered (past base j).entries s finds.was_recorded finds.recorded)
+        is_recorded = let n : length recorded ≡ length (past base j).entries = ap length r.recorded_are ∙ kept_of_each base j ∙ sym (recorded_each base j) in omega (arith, n, within_numbered (past base j).entries s finds.was_recorded finds.recorded)
+
+        -- what is kept of the entry that is taken back
+        kept_there : (k : Kept A) × (numbered recorded s ≡ Some k) × (k.changes ≡ finds.was_recorded.changes)
+        kept_there = by (numbered recorded s) refl
+          where
+            its : option_map (λ (k : Kept A). k.changes) (numbered recorded s) ≡ Some finds.was_recorded.changes
+            its =
+                sym (numbered_mapped (λ (k : Kept A). k.changes) recorded s) ∙ ap (λ ks. numbered (map (λ (k : Kept A). k.changes) ks) s) r.recorded_are
+                ∙ ap (λ css. numbered css s) (changes_kept base (recorded_changes base j)) ∙ numbered_mapped (λ (r : Recorded A). r.changes) (past base j).entries s
+                ∙ ap (option_map (λ (r : Recorded A). r.changes)) finds.recorded
+
+            by : (o : Option (Kept A)) → numbered recorded s ≡ o → (k : Kept A) × (numbered recorded s ≡ Some k) × (k.changes ≡ finds.was_recorded.changes)
+            by None e = absurd (let none : None ≡ Some finds.was_recorded.changes = sym (ap (option_map (λ (k : Kept A). k.changes)) e) ∙ its in cc)
+            by (Some k) e = (k, e, let same : Some k.changes ≡ Some finds.was_recorded.changes = sym (ap (option_map (λ (k : Kept A). k.changes)) e) ∙ its in cc)
 
         -- an undo records the changes of the entry taken back
-        pub next_is : (cs : List (Change A)) → ((rs : List (Change A)) → numbered recorded s ≡ Some rs → cs ≡ inverse rs) → cs ≡ (recorded_next (past base j) (Undo s)).changes
-        next_is cs told =
-            told finds.was_recorded.changes (ap (λ rs. numbered rs s) r.recorded_are ∙ numbered_mapped (λ (r : Recorded A). r.changes) (past base j).entries s ∙ ap (option_map (λ (r : Recorded A). r.changes)) finds.recorded)
-            ∙ ap (λ o. (taken_back o).changes) (sym finds.recorded)
+        pub next_is : (cs : List (Change A)) → ((k : Kept A) → numbered recorded s ≡ Some k → cs ≡ inverse k.changes) → cs ≡ (recorded_next (past base j) (Undo s)).changes
+        next_is cs told = told kept_there.0 kept_there.1 ∙ ap inverse kept_there.2 ∙ ap (λ o. (taken_back o).changes) (sym finds.recorded)
 
         -- its footprint is kept, and stays where the next entry's is put behind it
         kept_within : s ≤ length footprints
         kept_within = let n : length footprints ≡ length j = r.holders_are.footprints_are.count in let m = recorded_each base j in omega (arith, n, m, within_numbered (past base j).entries s finds.was_recorded finds.recorded)
 
-        pub kept_behind_room : (fs : List (Option (List Name))) → fs ≡ footprints ++ None ∷ [] → s ≤ length fs
+        pub kept_behind_room : (fs : List (Option (List Cell))) → fs ≡ footprints ++ None ∷ [] → s ≤ length fs
         kept_behind_room fs is = let n = ap length is ∙ length-append footprints (None ∷ []) in let m = kept_within in omega (arith, n, m)
 
-        kept_behind : (o : Option (List Name)) → numbered footprints s ≡ Some o → numbered (footprints ++ None ∷ []) s ≡ Some o
+        kept_behind : (o : Option (List Cell)) → numbered footprints s ≡ Some o → numbered (footprints ++ None ∷ []) s ≡ Some o
         kept_behind o is = numbered_within footprints None s kept_within ∙ is
 
-        pub holds_just : (fs : List (Option (List Name))) → fs ≡ footprints ++ None ∷ [] → (names : List Name) → numbered fs s ≡ Some (Some names) → HoldsOnly holders names s
-        holds_just fs is names told =
-            holds_own (past base j) j footprints holders r.holders_are s there.there names (sym (numbered_within footprints None s kept_within) ∙ sym (ap (λ l. numbered l s) is) ∙ told)
+        pub holds_just : (fs : List (Option (List Cell))) → fs ≡ footprints ++ None ∷ [] → (cells : List Cell) → numbered fs s ≡ Some (Some cells) → HoldsOnly holders cells s
+        holds_just fs is cells told =
+            holds_own (past base j) j footprints holders r.holders_are s there.there cells (sym (numbered_within footprints None s kept_within) ∙ sym (ap (λ l. numbered l s) is) ∙ told)
 
         after_sound : is_sound (mapof base (with_entry j author id (Undo s))) ≡ true
         after_sound = led_sound base (with_entry j author id (Undo s)) r.base_sound finds.led
@@ -406,10 +455,10 @@ module _ {A : Type 0} where
             ap (λ m. is_sound (changed m (recorded_next (past base j) (Undo s)).changes)) r.rows_are
             ∙ ap is_sound (sym (mapof-append base j (record { author = author; id = id; kind = Undo s }))) ∙ after_sound
 
-        pub IsRoom-undo : (l : List (Entry A)) (store' : StoreState A) (recorded' : List (List (Change A))) (firsts' : List ℕ) (footprints' : List (Option (List Name))) (holders' : Held) (done' : List Deed) (cs : List (Change A))
+        pub IsRoom-undo : (l : List (Entry A)) (store' : StoreState A) (recorded' : List (Kept A)) (firsts' : List ℕ) (footprints' : List (Option (List Cell))) (holders' : Held) (done' : List Deed) (cs : List (Change A))
             → cs ≡ (recorded_next (past base j) (Undo s)).changes
-            → store' ≡ applied_to store cs → recorded' ≡ recorded ++ cs ∷ [] → firsts' ≡ firsts ++ (length j + 1) ∷ [] → footprints' ≡ slice_set (footprints ++ None ∷ []) (s - 1) None
-            → ((names : List Name) → numbered (footprints ++ None ∷ []) s ≡ Some (Some names) → holders' ≡ fallen holders s)
+            → store' ≡ applied_to store cs → recorded' ≡ recorded ++ kept_of store.rows cs ∷ [] → firsts' ≡ firsts ++ (length j + 1) ∷ [] → footprints' ≡ slice_set (footprints ++ None ∷ []) (s - 1) None
+            → ((cells : List Cell) → numbered (footprints ++ None ∷ []) s ≡ Some (Some cells) → holders' ≡ fallen holders s)
             → done' ≡ done ++ Undid author id s (length j + 1) ∷ [] → l ≡ with_entry j author id (Undo s)
             → IsRoom store' recorded' firsts' footprints' holders' done' base limit l
         IsRoom-undo l store' recorded' firsts' footprints' holders' done' cs cs_are store_is recorded_is firsts_is footprints_is holders_is deeds_is l_is =

@@ -1,4 +1,4 @@
--- How many changes of names a journal's entries made. (The count is this project's.)
+-- How many changes of cells a journal's entries made. (The count is this project's.)
 use Rattle.std.specs.Prelude.{ℕ, List}
 use Rattle.std.specs.List.{fold}
 use Rattle.osm_elements.specs.Maps.{Rows}

@@ -1,12 +1,14 @@
 -- What the worked examples say of the definitions.
 use Rattle.std.specs.Prelude.{◌≡◌, ◌++◌, ℕ, [], ◌∷◌, Some, None, true, pos, negsuc, replicate}
-use Rattle.edit_actions.specs.declared.action.Action.TheVariants.{Create, Move, Delete, Unglue}
+use Rattle.edit_actions.specs.declared.action.Action.TheVariants.{Create, Retag, Move, Nodes, Delete, Split, Unglue}
+use Rattle.osm_elements.specs.declared.element.Element.TheVariants.{Node, Way}
+use Rattle.osm_changes.specs.Cells.{tags_at, rest_at, both_at}
 use Rattle.edit_simple.specs.declared.refusal.Refusal.TheVariants.{Absent, Present, WrongKind, TooFew, TooMany, InUse}
 use Rattle.room_history.specs.declared.reply.Reply.TheVariants.{Done, Undid, Redid, Repeat, Full, NothingToUndo, NothingToRedo, NoSuch, NotYours, NotStanding, Conflict, Refused}
 use Rattle.osm_changes.specs.Sound.{is_sound}
 use Rattle.room_history.specs.Replays.{replay, standing_actions}
 use Rattle.room_history.specs.Answers.{answers}
-use Rattle.room_history.specs.Scenes.{n-1, n1, n2, n3, w1, w2, r1, r2, r3, anna, bob, node_at, way_of, relation_of, does, undoes, redoes, replies, map_after, held_after, redos_left}
+use Rattle.room_history.specs.Scenes.{n-1, n1, n2, n3, w1, w2, r1, r2, r3, anna, bob, carl, given, tagged, node_at, way_of, relation_of, does, undoes, redoes, replies, map_after, held_after, redos_left}
 
 abbrev pub ample : ℕ
 ample = 1000000
@@ -47,9 +49,9 @@ strangers =
     ∷ [] in
     (replies ample calls ≡ (Done 1 ∷ Done 2 ∷ Undid 3 1 ∷ NothingToUndo ∷ []))
     × (map_after ample calls ≡ ((n2, node_at (pos 1) (pos 1)) ∷ []))
-    × (held_after ample calls ≡ ((2, n2 ∷ []) ∷ [])))
+    × (held_after ample calls ≡ ((2, both_at n2) ∷ [])))
 
--- a way through both nodes blocks each of them, by that node
+-- a way through both nodes blocks each of them, by the rest of that node
 unfoldable pub in_use : Type 0
 in_use =
     (let calls =
@@ -60,7 +62,7 @@ in_use =
     ∷ undoes bob 3 (Some 2)
     ∷ [] in
     (replies ample calls ≡ (Done 1 ∷ Done 2 ∷ Done 3 ∷ Conflict 3 n1 ∷ Conflict 3 n2 ∷ []))
-    × (held_after ample calls ≡ ((1, n1 ∷ []) ∷ (2, n2 ∷ []) ∷ (3, n1 ∷ n2 ∷ w1 ∷ []) ∷ [])))
+    × (held_after ample calls ≡ ((1, both_at n1) ∷ (2, both_at n2) ∷ (3, rest_at n1 ∷ rest_at n2 ∷ both_at w1) ∷ [])))
 
 -- a way that is taken back blocks no more, and where two entries share several names the least is told
 unfoldable pub taken_back_way : Type 0
@@ -184,7 +186,7 @@ redo_at_once =
     ∷ [] in
     (replies ample calls ≡ (Done 1 ∷ Done 2 ∷ Undid 3 1 ∷ Redid 4 1 ∷ NothingToRedo ∷ []))
     × (map_after ample calls ≡ ((n1, node_at (pos 0) (pos 0)) ∷ (n2, node_at (pos 1) (pos 1)) ∷ []))
-    × (held_after ample calls ≡ ((2, n2 ∷ []) ∷ (4, n1 ∷ []) ∷ []))
+    × (held_after ample calls ≡ ((2, both_at n2) ∷ (4, both_at n1) ∷ []))
     × (redos_left ample calls anna ≡ []))
 
 -- a way cannot be made again while a node of it is away: the redo is refused and stays the next one, until the node is back
@@ -204,7 +206,7 @@ redo_refused =
     × (redos_left ample calls anna ≡ (3 ∷ []))
     × (redos_left ample (calls ++ later) anna ≡ [])
     × (map_after ample (calls ++ later) ≡ ((n1, node_at (pos 0) (pos 0)) ∷ (n2, node_at (pos 1) (pos 1)) ∷ (w1, way_of (n1 ∷ n2 ∷ [])) ∷ []))
-    × (held_after ample (calls ++ later) ≡ ((1, n1 ∷ []) ∷ (2, n2 ∷ []) ∷ (7, n1 ∷ n2 ∷ w1 ∷ []) ∷ [])))
+    × (held_after ample (calls ++ later) ≡ ((1, both_at n1) ∷ (2, both_at n2) ∷ (7, rest_at n1 ∷ rest_at n2 ∷ both_at w1) ∷ [])))
 
 -- of two that were undone the last is redone first
 unfoldable pub redo_order : Type 0
@@ -220,7 +222,7 @@ redo_order =
     × (redos_left ample calls anna ≡ (2 ∷ 1 ∷ []))
     × (map_after ample calls ≡ [])
     × (map_after ample (calls ++ later) ≡ ((n1, node_at (pos 0) (pos 0)) ∷ (n2, node_at (pos 1) (pos 1)) ∷ []))
-    × (held_after ample (calls ++ later) ≡ ((5, n1 ∷ []) ∷ (6, n2 ∷ []) ∷ [])))
+    × (held_after ample (calls ++ later) ≡ ((5, both_at n1) ∷ (6, both_at n2) ∷ [])))
 
 -- a redo is undone and redone under its own number, and the next action empties the stack
 unfoldable pub redo_again : Type 0
@@ -251,5 +253,65 @@ unglued_node =
     let later = undoes anna 4 None ∷ undoes bob 2 None ∷ [] in
     (replies ample (calls ++ later) ≡ (Done 1 ∷ Done 2 ∷ Done 3 ∷ Done 4 ∷ Conflict 4 n1 ∷ Undid 5 4 ∷ Undid 6 3 ∷ []))
     × (map_after ample calls ≡ ((n1, node_at (pos 5) (pos 0)) ∷ (n2, node_at (pos 5) (pos 0)) ∷ (w1, way_of (n1 ∷ n2 ∷ [])) ∷ []))
-    × (held_after ample calls ≡ ((1, n1 ∷ []) ∷ (2, n1 ∷ w1 ∷ []) ∷ (3, n1 ∷ []) ∷ (4, n1 ∷ n2 ∷ w1 ∷ []) ∷ []))
+    × (held_after ample calls ≡ ((1, both_at n1) ∷ (2, rest_at n1 ∷ both_at w1) ∷ (3, rest_at n1 ∷ []) ∷ (4, both_at n1 ++ both_at n2 ++ both_at w1) ∷ []))
     × (map_after ample (calls ++ later) ≡ ((n1, node_at (pos 0) (pos 0)) ∷ (w1, way_of (n1 ∷ n1 ∷ [])) ∷ [])))
+
+-- a move and new tags of one node share no part: each is undone beside the other, and the undo of the move leaves the tags
+unfoldable pub blocker_goes_by_parts : Type 0
+blocker_goes_by_parts =
+    (let calls =
+    does anna 1 (Create n1 (node_at (pos 0) (pos 0)))
+    ∷ does anna 2 (Move (n1 ∷ []) (pos 5) (pos 0))
+    ∷ does bob 1 (Retag n1 given)
+    ∷ undoes anna 3 None
+    ∷ [] in
+    let later = undoes bob 2 None ∷ undoes anna 3 None ∷ [] in
+    (replies ample (calls ++ later) ≡ (Done 1 ∷ Done 2 ∷ Done 3 ∷ Undid 4 2 ∷ Undid 5 3 ∷ Repeat 4 ∷ []))
+    × (map_after ample calls ≡ ((n1, Node (pos 0) (pos 0) tagged) ∷ []))
+    × (held_after ample calls ≡ ((1, both_at n1) ∷ (3, tags_at n1 ∷ []) ∷ []))
+    × (map_after ample (calls ++ later) ≡ ((n1, node_at (pos 0) (pos 0)) ∷ [])))
+
+-- two moves of one node share its rest: the second blocks the first, until it is undone
+unfoldable pub both_moved : Type 0
+both_moved =
+    (let calls =
+    does anna 1 (Create n1 (node_at (pos 0) (pos 0)))
+    ∷ does anna 2 (Move (n1 ∷ []) (pos 5) (pos 0))
+    ∷ does bob 1 (Move (n1 ∷ []) (pos 0) (pos 5))
+    ∷ undoes anna 3 None
+    ∷ undoes bob 2 None
+    ∷ undoes anna 3 None
+    ∷ [] in
+    (replies ample calls ≡ (Done 1 ∷ Done 2 ∷ Done 3 ∷ Conflict 3 n1 ∷ Undid 4 3 ∷ Undid 5 2 ∷ []))
+    × (map_after ample calls ≡ ((n1, node_at (pos 0) (pos 0)) ∷ [])))
+
+-- new tags of a way do not block what was done to its nodes before, but the delete of a node that it does not name since does, by that node
+unfoldable pub two_blockers_by_parts : Type 0
+two_blockers_by_parts =
+    (let calls =
+    does anna 1 (Create n1 (node_at (pos 0) (pos 0)))
+    ∷ does anna 2 (Create n2 (node_at (pos 1) (pos 1)))
+    ∷ does anna 3 (Create n3 (node_at (pos 2) (pos 2)))
+    ∷ does anna 4 (Create w1 (way_of (n1 ∷ n3 ∷ n2 ∷ [])))
+    ∷ does anna 5 (Nodes w1 (n1 ∷ n2 ∷ []))
+    ∷ does bob 1 (Retag w1 given)
+    ∷ does carl 1 (Delete n3)
+    ∷ undoes anna 6 None
+    ∷ undoes bob 2 None
+    ∷ undoes anna 6 None
+    ∷ [] in
+    replies ample calls ≡ (Done 1 ∷ Done 2 ∷ Done 3 ∷ Done 4 ∷ Done 5 ∷ Done 6 ∷ Done 7 ∷ Conflict 7 n3 ∷ Undid 8 6 ∷ Conflict 7 n3 ∷ []))
+
+-- a split copies the tags of its way, so it blocks new tags that came before
+unfoldable pub split_over_retag : Type 0
+split_over_retag =
+    (let calls =
+    does anna 1 (Create n1 (node_at (pos 0) (pos 0)))
+    ∷ does anna 2 (Create n2 (node_at (pos 1) (pos 1)))
+    ∷ does anna 3 (Create w1 (way_of (n1 ∷ n2 ∷ n1 ∷ [])))
+    ∷ does bob 1 (Retag w1 given)
+    ∷ does anna 4 (Split w1 1 w2)
+    ∷ undoes bob 2 None
+    ∷ [] in
+    (replies ample calls ≡ (Done 1 ∷ Done 2 ∷ Done 3 ∷ Done 4 ∷ Done 5 ∷ Conflict 5 w1 ∷ []))
+    × (map_after ample calls ≡ ((n1, node_at (pos 0) (pos 0)) ∷ (n2, node_at (pos 1) (pos 1)) ∷ (w1, Way (n1 ∷ n2 ∷ []) tagged) ∷ (w2, Way (n2 ∷ n1 ∷ []) tagged) ∷ [])))

@@ -10,12 +10,13 @@ use Rattle.room_history.specs.declared.call.Request.TheVariants.{Undo, Redo}
 use Rattle.room_history.specs.declared.entry.Entry.{Entry}
 use Rattle.room_history.specs.declared.reply.Reply.{Reply}
 use Rattle.room_history.specs.declared.reply.Reply.TheVariants.{Done, Undid, Redid, Conflict}
-use Rattle.osm_elements.specs.Maps.{Rows, is_among}
+use Rattle.osm_elements.specs.Maps.{Rows}
 use Rattle.osm_refs.specs.References.{users}
 use Rattle.osm_changes.specs.Sound.{is_sound}
 use Rattle.edit_actions.specs.declared.action.Action.{Action}
 use Rattle.edit_actions.specs.After.{after}
 use Rattle.edit_actions.specs.Refusals.{refusal}
+use Rattle.edit_footprint.specs.Footprints.{Shares}
 use Rattle.room_history.specs.Blockers.{recorded_footprint}
 use Rattle.room_history.specs.Journals.{numbered, standing, is_standing, is_by, is_work, others, redos}
 use Rattle.room_history.specs.Replays.{Past, past, mapof, recorded_of, replay, actions_of, standing_actions}
@@ -30,9 +31,9 @@ module _ {A : Type 0} where
   abbrev pub IsOwn : List (Entry A) → Author → ℕ → Type 0
   IsOwn j author s = is_by author (numbered j s) ≡ true
 
-  -- the recorded footprints of both entries have the name
+  -- some part of the name is in the recorded footprints of both entries
   abbrev pub Share : Rows A → List (Entry A) → ℕ → ℕ → Name → Type 0
-  Share base j s t e = (is_among (recorded_footprint (past base j) s) e ≡ true) × (is_among (recorded_footprint (past base j) t) e ≡ true)
+  Share base j s t e = Shares (recorded_footprint (past base j) s) (recorded_footprint (past base j) t) e
 
   -- t stands, comes after s, and shares the name with it
   abbrev pub Blocks : Rows A → List (Entry A) → ℕ → ℕ → Name → Type 0

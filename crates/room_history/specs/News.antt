@@ -12,7 +12,7 @@ use Rattle.room_history.specs.declared.news.NewsRow.{NewsRow}
 use Rattle.room_history.specs.Replays.{Past, mapof, past, recorded_next}
 
 module _ {A : Type 0} where
-  -- the names that the next entry changes, rising: an undo's those that it puts back
+  -- the names that the next entry changes, rising, each once: an undo's those that it puts back
   abbrev pub names_changed : Past A → EntryKind A → List Name
   names_changed p k = changed_names (recorded_next p k).changes
 

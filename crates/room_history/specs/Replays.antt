@@ -2,7 +2,6 @@
 use Rattle.std.specs.Prelude.{◌++◌, ℕ, List, [], ◌∷◌, Option, Some, None, is_none, if◌then◌else◌}
 use Rattle.std.specs.List.{fold, filter_map}
 use Rattle.std.specs.Option.{option_and_then}
-use Rattle.osm_elements.specs.declared.name.Name.{Name}
 use Rattle.edit_actions.specs.declared.action.Action.{Action}
 use Rattle.room_history.specs.declared.entry.Entry.{Entry}
 use Rattle.room_history.specs.declared.entry.EntryKind.{EntryKind}
@@ -10,6 +9,7 @@ use Rattle.room_history.specs.declared.entry.EntryKind.TheVariants.{Do, Undo, Re
 use Rattle.osm_elements.specs.Maps.{Rows}
 use Rattle.edit_actions.specs.After.{after, changes}
 use Rattle.edit_actions.specs.Refusals.{refusal}
+use Rattle.osm_changes.specs.declared.cell.Cell.{Cell}
 use Rattle.osm_changes.specs.declared.change.Change.{Change}
 use Rattle.osm_changes.specs.Changes.{inverse, changed}
 use Rattle.edit_footprint.specs.Footprints.{footprint}
@@ -19,7 +19,7 @@ use Rattle.room_history.specs.Journals.{numbered, standing}
 pub record Recorded (A : Type 0) : Type 0 where
   pub action : Option (Action A)
   pub changes : List (Change A)
-  pub footprint : List Name
+  pub footprint : List Cell
 
 -- a map, and what is recorded of each entry that led to it
 pub record Past (A : Type 0) : Type 0 where

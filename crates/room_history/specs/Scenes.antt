@@ -1,10 +1,12 @@
 -- People, names, elements and calls of the worked examples.
-use Rattle.std.specs.Prelude.{ℕ, ⊤, List, [], ◌∷◌, map, Option, ℤ, pos, negsuc}
+use Rattle.std.specs.Prelude.{ℕ, ⊤, List, [], ◌∷◌, map, Option, Some, ℤ, pos, negsuc}
 use Rattle.osm_elements.specs.declared.name.Name.{Name}
 use Rattle.osm_elements.specs.declared.name.Kind.TheVariants as kinds
 use Rattle.osm_elements.specs.declared.element.Element.{Element}
 use Rattle.osm_elements.specs.declared.element.Element.TheVariants.{Node, Way, Relation}
 use Rattle.osm_elements.specs.NameTexts.{named}
+use Rattle.osm_elements.specs.TagRows.{Pairs}
+use Rattle.edit_simple.specs.Tagging.{GivenTags}
 use Rattle.edit_actions.specs.declared.action.Action.{Action}
 use Rattle.room_history.specs.Holdings.{Holdings}
 use Rattle.room_stacks.specs.declared.author.Author.{Author}
@@ -48,12 +50,22 @@ r2 = named kinds.Relation (pos 2) tt
 abbrev pub r3 : Name
 r3 = named kinds.Relation (pos 3) tt
 
--- the names "anna" and "bob"
+-- the names "anna", "bob" and "carl"
 abbrev pub anna : Author
 anna = 97 ∷ 110 ∷ 110 ∷ 97 ∷ []
 
 abbrev pub bob : Author
 bob = 98 ∷ 111 ∷ 98 ∷ []
+
+abbrev pub carl : Author
+carl = 99 ∷ 97 ∷ 114 ∷ 108 ∷ []
+
+-- the tag "k" with the value "v", as a retag gives it and as an element has it
+abbrev pub given : GivenTags
+given = (107 ∷ [], Some (118 ∷ [])) ∷ []
+
+abbrev pub tagged : Pairs
+tagged = (107 ∷ [], 118 ∷ []) ∷ []
 
 -- a node with no tags, at so many ten-millionths of a degree
 abbrev pub node_at : ℤ → ℤ → Element Any

@@ -1,17 +1,18 @@
 //! What the parts of a room do for an entry: what it did stands, and what it did is taken back.
 ghost use Rattle.std.specs.Prelude.{◌≡◌, ◌<◌, ◌≤◌, ◌-◌, List, [], ◌∷◌, ◌++◌, Some, None, true, length, slice_set, IfOk, OnOk, OnErr, vec_len, vec_capacity};
-ghost use Rattle.osm_changes.specs.declared.change.Change.{Change};
 ghost use Rattle.osm_changes.specs.Changes.{changed, inverse, AreFrom};
 ghost use Rattle.osm_changes.specs.Sound.{is_sound};
 ghost use Rattle.osm_changes.specs.Stores.{applied_to};
-ghost use Rattle.osm_elements.specs.declared.name.Name.{Name};
-ghost use Rattle.osm_refs.specs.Rising.{IsRising};
+ghost use Rattle.osm_changes.specs.declared.cell.Cell.{Cell};
+ghost use Rattle.osm_changes.specs.Cells.{IsRising};
 ghost use Rattle.edit_footprint.specs.Holding.{AreHeld, IsNext, HoldsOnly, standing, fallen};
 ghost use Rattle.room_stacks.specs.Stacks.{IsAboveAll, spent};
+ghost use Rattle.room_history.specs.declared.kept.Kept.{Kept as AKept};
 ghost use Rattle.room_history.specs.Journals.{numbered};
 ghost use Rattle.room_history.specs.Inner.Deeds.{deed_by, MayNote};
 
 use crate::entry::{Entry, EntryKind};
+use crate::kept::Kept;
 use edit_footprint::footprint::Footprint;
 use edit_footprint::holders::Holders;
 use osm_changes::changes::Changes;
@@ -24,7 +25,7 @@ use std::alloc::Allocator;
 // Makes room for one more entry, an author's, in each list and in the stacks; or refuses. Either way nothing is added.
 pub(crate) fn make_room<A: Allocator + Copy>(
     entries: &mut Vec<Entry<A>, A>,
-    recorded: &mut Vec<Changes<A>, A>,
+    recorded: &mut Vec<Kept<A>, A>,
     origins: &mut Vec<u64, A>,
     footprints: &mut Vec<Option<Footprint<A>>, A>,
     stacks: &mut Stacks<A>,
@@ -48,15 +49,15 @@ pub(crate) fn make_room<A: Allocator + Copy>(
     stacks.ready(author)
 }
 
-// Adds an entry, what it changed, the number of the entry that has its action, and its footprint if it stands, to
-// lists that have room for them.
+// Adds an entry, what is kept of what it changed, the number of the entry that has its action, and its footprint if it
+// stands, to lists that have room for them.
 pub(crate) fn enter<A: Allocator>(
     entries: &mut Vec<Entry<A>, A>,
-    recorded: &mut Vec<Changes<A>, A>,
+    recorded: &mut Vec<Kept<A>, A>,
     origins: &mut Vec<u64, A>,
     footprints: &mut Vec<Option<Footprint<A>>, A>,
     entry: Entry<A>,
-    changes: Changes<A>,
+    kept: Kept<A>,
     origin: u64,
     footprint: Option<Footprint<A>>,
 )
@@ -65,12 +66,12 @@ pub(crate) fn enter<A: Allocator>(
         × (vec_len origins.old < vec_capacity origins.old)
         × (vec_len footprints.old < vec_capacity footprints.old) }
     ensures entries { entries.new.items ≡ entries.old.items ++ entry ∷ [] }
-    ensures recorded { recorded.new.items ≡ recorded.old.items ++ changes ∷ [] }
+    ensures recorded { recorded.new.items ≡ recorded.old.items ++ kept ∷ [] }
     ensures origins { origins.new.items ≡ origins.old.items ++ origin ∷ [] }
     ensures footprints { footprints.new.items ≡ footprints.old.items ++ footprint ∷ [] }
 {
     push_reserved(entries, entry);
-    push_reserved(recorded, changes);
+    push_reserved(recorded, kept);
     push_reserved(origins, origin);
     push_reserved(footprints, footprint);
 }
@@ -140,9 +141,11 @@ pub(crate) fn let_fall<A: Allocator>(
 )
     requires first { 1 ≤ of }
     requires there { of ≤ length footprints.old.items }
-    requires only { (names : List Name) → numbered footprints.old.items of ≡ Some (Some names) → HoldsOnly holders.old names of }
+    requires only { (cells : List Cell) → numbered footprints.old.items of ≡ Some (Some cells)
+        → HoldsOnly holders.old cells of }
     ensures footprints { footprints.new.items ≡ slice_set footprints.old.items (of - 1) None }
-    ensures holders { (names : List Name) → numbered footprints.old.items of ≡ Some (Some names) → holders.new ≡ fallen holders.old of }
+    ensures holders { (cells : List Cell) → numbered footprints.old.items of ≡ Some (Some cells)
+        → holders.new ≡ fallen holders.old of }
 {
     if let Some(footprint) = footprints[of as usize - 1].take() {
         holders.fall(&footprint, of);
@@ -151,12 +154,12 @@ pub(crate) fn let_fall<A: Allocator>(
 
 // The changes that take back those recorded under a number.
 pub(crate) fn taken_back<A: Allocator + Clone>(
-    recorded: &[Changes<A>],
+    recorded: &[Kept<A>],
     of: u64,
 ) -> Result<Changes<A>, Memory>
     requires first { 1 ≤ of }
     requires there { of ≤ length recorded.now }
-    ensures { IfOk result (λ cs. (rs : List (Change A)) → numbered recorded.now of ≡ Some rs → cs ≡ inverse rs) }
+    ensures { IfOk result (λ cs. (k : AKept A) → numbered recorded.now of ≡ Some k → cs ≡ inverse k.changes) }
 {
-    Ok(recorded[of as usize - 1].copy()?.inverse())
+    Ok(recorded[of as usize - 1].changes.copy()?.inverse())
 }

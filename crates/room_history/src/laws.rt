@@ -2,13 +2,14 @@
 ghost use Rattle.std.specs.Prelude.{◌≡◌, ◌++◌, ℕ, true, false, List, [], ◌∷◌, All, take};
 ghost use Rattle.edit_simple.specs.declared.refusal.Refusal.{Refusal};
 ghost use Rattle.osm_elements.specs.declared.name.Name.{Name};
-ghost use Rattle.osm_elements.specs.Rows.{AreInOrder, row_at};
+ghost use Rattle.osm_elements.specs.Rows.{AreInOrder};
 ghost use Rattle.room_history.specs.declared.base.BaseFault.{BaseFault};
 ghost use Rattle.room_history.specs.declared.base.BaseFault.TheVariants.{Memory as OutOfMemory};
 ghost use Rattle.room_history.specs.Bases.{IsBaseFault, IsFirstUnsound, are_of_kinds};
 ghost use Rattle.room_history.specs.declared.entry.Entry.{Entry};
 ghost use Rattle.room_history.specs.declared.turned.Opening.{Opening};
-ghost use Rattle.osm_changes.specs.Changes.{AreChanges, AreFrom};
+ghost use Rattle.osm_changes.specs.Cells.{half_at};
+ghost use Rattle.osm_changes.specs.Changes.{cell_of, AreChanges, AreFrom};
 ghost use Rattle.osm_changes.specs.declared.change.Change.{Change};
 ghost use Rattle.osm_changes.specs.Stores.{counted};
 ghost use Rattle.room_history.specs.Applied.{applied};
@@ -19,7 +20,7 @@ ghost use Rattle.room_history.specs.Turns.{IsTurn};
 ghost use Rattle.turn_desk.specs.History.{History, entries, IsLegal};
 ghost use Rattle.osm_elements.specs.Maps.{Rows};
 ghost use Rattle.osm_changes.specs.Sound.{is_sound};
-ghost use Rattle.room_history.specs.Examples.{first_run, range_ends, limit_one, limit_zero, strangers, in_use, taken_back_way, refusals_in_turn, relations_in_turn, redo_at_once, redo_refused, redo_order, redo_again, unglued_node};
+ghost use Rattle.room_history.specs.Examples.{first_run, range_ends, limit_one, limit_zero, strangers, in_use, taken_back_way, refusals_in_turn, relations_in_turn, redo_at_once, redo_refused, redo_order, redo_again, unglued_node, blocker_goes_by_parts, both_moved, two_blockers_by_parts, split_over_retag};
 
 use osm_changes::laws::{an_inverse_restores, differences_are_changes};
 use std::alloc::Allocator;
@@ -40,8 +41,8 @@ pub fn legal_histories_hold<A: Allocator>()
     ensures holds { (opening : Opening A) (h : History (Entry A)) → is_sound opening.base ≡ true → IsLegal IsTurn opening h → Holds opening.base opening.limit (entries h) }
 {}
 
-/// A room can begin with every sound map, as the map of a room is: the names of its rows rise, each element is of its name's
-/// kind, and all that can refuse it is want of memory.
+/// A room can begin with every sound map, as the map of a room is: the names of its rows rise, each element is of its
+/// name's kind, and all that can refuse it is want of memory.
 pub fn a_sound_map_can_be_a_base<A: Allocator>()
     ensures order { (m : Rows A) → is_sound m ≡ true → AreInOrder m }
     ensures kinds { (m : Rows A) → is_sound m ≡ true → are_of_kinds m ≡ true }
@@ -59,15 +60,16 @@ pub fn entries_are_counted<A: Allocator>()
     ensures { (base : Rows A) (j : List (Entry A)) (e : Entry A) → applied base (j ++ e ∷ []) ≡ counted (applied base j) (recorded_next (past base j) e.kind).changes }
 {}
 
-/// What an entry of a journal changed are changes from the map before it to the map after it: their names rise, and each leads
-/// from the row that the one has there to the row that the other has, which is another.
+/// What an entry of a journal changed are changes from the map before it to the map after it: their cells rise, and
+/// each leads from the half that the one has there to the half that the other has, which is another.
 pub fn entries_change_their_maps<A: Allocator>()
     ensures changes { (base : Rows A) (limit : ℕ) (i k : List (Entry A)) (e : Entry A) → is_sound base ≡ true → IsJournal base limit (i ++ e ∷ k)
         → AreChanges (recorded_next (past base i) e.kind).changes }
     ensures from { (base : Rows A) (limit : ℕ) (i k : List (Entry A)) (e : Entry A) → is_sound base ≡ true → IsJournal base limit (i ++ e ∷ k)
         → AreFrom (mapof base i) (recorded_next (past base i) e.kind).changes }
     ensures leads { (base : Rows A) (limit : ℕ) (i k : List (Entry A)) (e : Entry A) → is_sound base ≡ true → IsJournal base limit (i ++ e ∷ k)
-        → All (λ (c : Change A). c.after ≡ row_at (mapof base (i ++ e ∷ [])) c.name) (recorded_next (past base i) e.kind).changes }
+        → All (λ (c : Change A). c.after ≡ half_at (mapof base (i ++ e ∷ [])) (cell_of c))
+        (recorded_next (past base i) e.kind).changes }
 {
     differences_are_changes::<A>();
     an_inverse_restores::<A>();
@@ -89,4 +91,8 @@ pub fn replies_are_as_worked()
     ensures redo_order { redo_order }
     ensures redo_again { redo_again }
     ensures unglued_node { unglued_node }
+    ensures blocker_goes_by_parts { blocker_goes_by_parts }
+    ensures both_moved { both_moved }
+    ensures two_blockers_by_parts { two_blockers_by_parts }
+    ensures split_over_retag { split_over_retag }
 {}

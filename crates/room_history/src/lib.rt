@@ -7,6 +7,7 @@ pub mod call;
 mod effects;
 pub mod entry;
 mod journal;
+mod kept;
 pub mod laws;
 pub mod news;
 pub mod numbers;

@@ -3,8 +3,8 @@ ghost use Rattle.std.specs.Prelude.{◌≡◌, IfOk, length, map, drop};
 ghost use Rattle.room_history.specs.Inner.Telling.{told_row, told_of, told_from};
 
 use crate::entry::Entry;
-use osm_changes::change::Change;
-use osm_changes::changes::Changes;
+use crate::kept::Kept;
+use osm_changes::row_after::RowAfter;
 use osm_elements::Memory;
 use osm_elements::element::Element;
 use osm_elements::name::Name;
@@ -157,12 +157,12 @@ impl<A: Allocator> NewsList<A> {
     }
 }
 
-/// The news of all entries but the first `from`, in order, from the entries and what each of them changed. The one
-/// refusal is want of memory. It copies what those entries changed.
+/// The news of all entries but the first `from`, in order, from the entries and what is kept of each of them. The one
+/// refusal is want of memory. It copies the rows that those entries changed.
 pub(crate) fn news_past<A: Allocator + Copy>(
     alloc: A,
     entries: &[Entry<A>],
-    recorded: &[Changes<A>],
+    recorded: &[Kept<A>],
     from: u64,
 ) -> Result<NewsList<A>, Memory>
     requires { length recorded.now ≡ length entries.now }
@@ -181,11 +181,11 @@ fn news_of<A: Allocator + Copy>(
     alloc: A,
     seq: u64,
     entry: &Entry<A>,
-    changes: &Changes<A>,
+    kept: &Kept<A>,
 ) -> Result<News<A>, Memory>
-    ensures { IfOk result (λ n. n ≡ told_of seq entry.now changes.now) }
+    ensures { IfOk result (λ n. n ≡ told_of seq entry.now kept.now) }
 {
-    let rows = rows_after(alloc, changes.rows())?;
+    let rows = told_rows(alloc, kept.rows.as_slice())?;
     Ok(News {
         seq,
         author: entry.author,
@@ -193,15 +193,15 @@ fn news_of<A: Allocator + Copy>(
     })
 }
 
-// The changed names, each with a copy of its row after the change.
-fn rows_after<A: Allocator + Copy>(alloc: A, changes: &[Change<A>]) -> Result<NewsRows<A>, Memory>
-    ensures { IfOk result (λ rows. rows ≡ map told_row changes.now) }
+// The changed names, each with a copy of its row after the changes.
+fn told_rows<A: Allocator + Copy>(alloc: A, kept: &[RowAfter<A>]) -> Result<NewsRows<A>, Memory>
+    ensures { IfOk result (λ rows. rows ≡ map told_row kept.now) }
 {
-    let mut rows = Vec::with_capacity(alloc, changes.len())?;
-    for change in changes {
-        let element = copy_of(&change.after)?;
+    let mut rows = Vec::with_capacity(alloc, kept.len())?;
+    for row in kept {
+        let element = copy_of(&row.element)?;
         rows.push(NewsRow {
-            name: change.name,
+            name: row.name,
             element,
         })?;
     }

@@ -15,6 +15,7 @@ use crate::call::{Call, Request};
 use crate::effects::{enter, let_fall, make_room, note, stand, taken_back};
 use crate::entry::{Entry, EntryKind};
 use crate::journal::{action_of, numbered, origin_next};
+use crate::kept::{Kept, kept_of};
 use crate::news::{NewsList, news_past};
 use crate::reply::Reply;
 use crate::undo::undoable;
@@ -38,9 +39,9 @@ use std::snapshot::Snapshot;
 
 mod asking;
 
-/// A room: one map, and the journal of what its authors did to it. It is as good as its base map, which is sound, its limit
-/// and its journal, and contracts see it so. Beside each entry it keeps what that changed and the number of the entry that
-/// has its action, and of each entry that stands its footprint.
+/// A room: one map, and the journal of what its authors did to it. It is as good as its base map, which is sound, its
+/// limit and its journal, and contracts see it so. Beside each entry it keeps what that changed, with the rows after
+/// it, and the number of the entry that has its action, and of each entry that stands its footprint.
 #[derive(Drop)]
 #[derive_where(Debug)]
 pub struct Room<A: Allocator> {
@@ -49,7 +50,7 @@ pub struct Room<A: Allocator> {
     limit: u32,
     store: Store<A>,
     entries: Vec<Entry<A>, A>,
-    recorded: Vec<Changes<A>, A>,
+    recorded: Vec<Kept<A>, A>,
     origins: Vec<u64, A>,
     footprints: Vec<Option<Footprint<A>>, A>,
     holders: Holders<A>,
@@ -92,11 +93,11 @@ impl<A: Allocator + Copy> Room<A> {
         Room::begin(alloc, Store::new(alloc), limit)
     }
 
-    /// A room with the map of these rows, whose journal takes at most `limit` entries. The names have to rise, and each element
-    /// to be of its name's kind, as in every welcome that was read.
+    /// A room with the map of these rows, whose journal takes at most `limit` entries. The names have to rise, and each
+    /// element to be of its name's kind, as in every welcome that was read.
     ///
-    /// It refuses a map that is not sound, with the least name whose row is not and what is wrong with that, and it refuses for
-    /// want of memory. It copies no element, and costs a look-up for each row and each reference.
+    /// It refuses a map that is not sound, with the least name whose row is not and what is wrong with that, and it
+    /// refuses for want of memory. It copies no element, and costs a look-up for each row and each reference.
     pub fn open_on(alloc: A, rows: Rows<A>, limit: u32) -> Result<Room<A>, BaseFault<A>>
         requires order { AreInOrder rows }
         requires kinds { are_of_kinds rows ≡ true }
@@ -130,10 +131,10 @@ impl<A: Allocator + Copy> Room<A> {
         }
     }
 
-    /// Answers a call. The refusals are tested in the order in which `Reply` lists them; after a refusal the
-    /// room is as it was, and the call's id is unspent. It costs what the action's plan does and what it changes, and an
-    /// undo what the entry changed that it takes back, and for each name of that entry's footprint a search among the later
-    /// entries that touched the name, times a logarithm; neither the map nor the journal is walked.
+    /// Answers a call. The refusals are tested in the order in which `Reply` lists them; after a refusal the room is as
+    /// it was, and the call's id is unspent. It costs what the action's plan does and what it changes, and an undo what
+    /// the entry changed that it takes back, and for each cell of that entry's footprint a search among the later
+    /// entries that touched the cell, times a logarithm; neither the map nor the journal is walked.
     pub fn take(&mut self, call: Call<A>) -> Reply<A>
         ensures step { IsStep self.old.base self.old.limit self.old.journal call result self.new.journal }
         ensures base { self.new.base ≡ self.old.base }
@@ -216,8 +217,8 @@ impl<A: Allocator + Copy> Room<A> {
         }
     }
 
-    // Appends the entry of an action that is not refused, done for the first time or again, with what it changes and touches
-    // now, and answers its number.
+    // Appends the entry of an action that is not refused, done for the first time or again, with what it changes and
+    // touches now, and answers its number.
     fn append_work(
         &mut self,
         author: Author,
@@ -246,13 +247,14 @@ impl<A: Allocator + Copy> Room<A> {
             &mut self.stacks,
             &author,
         )?;
+        let kept = kept_of(alloc, &self.store, changes)?;
         let seq = self.entries.len() as u64 + 1;
         let origin = origin_next(&self.origins, &kind);
         stand(
             alloc,
             &mut self.store,
             &mut self.holders,
-            &changes,
+            &kept.changes,
             &footprint,
             seq,
         )?;
@@ -263,7 +265,7 @@ impl<A: Allocator + Copy> Room<A> {
             &mut self.origins,
             &mut self.footprints,
             Entry { author, id, kind },
-            changes,
+            kept,
             origin,
             Some(footprint),
         );
@@ -304,6 +306,7 @@ impl<A: Allocator + Copy> Room<A> {
         ensures err { OnErr result (self.new ≡ self.old) }
     {
         leads_back::<A>();
+        let alloc = *self.entries.allocator();
         make_room(
             &mut self.entries,
             &mut self.recorded,
@@ -313,7 +316,8 @@ impl<A: Allocator + Copy> Room<A> {
             &author,
         )?;
         let changes = taken_back(&self.recorded, of)?;
-        self.store.apply(*self.entries.allocator(), &changes)?;
+        let kept = kept_of(alloc, &self.store, changes)?;
+        self.store.apply(alloc, &kept.changes)?;
         let seq = self.entries.len() as u64 + 1;
         let undo = EntryKind::Undo(of);
         note(&mut self.stacks, author, id, &undo, seq);
@@ -327,7 +331,7 @@ impl<A: Allocator + Copy> Room<A> {
                 id,
                 kind: undo,
             },
-            changes,
+            kept,
             seq,
             None,
         );
@@ -373,16 +377,16 @@ impl<A: Allocator + Copy> Room<A> {
         }
     }
 
-    /// The numbers of an author's entries that stand, rising: those that its undos can take back, where nothing blocks them.
-    /// It takes no memory, and time logarithmic in the number of authors.
+    /// The numbers of an author's entries that stand, rising: those that its undos can take back, where nothing blocks
+    /// them. It takes no memory, and time logarithmic in the number of authors.
     pub fn undos(&self, author: &Author) -> &[u64]
         ensures { result.now ≡ undos self.now.journal author.now }
     {
         self.stacks.standing(author)
     }
 
-    /// The numbers of the entries that an author can redo, the next one last: those that it undid since its last action, but
-    /// those that it redid. It takes no memory, and time logarithmic in the number of authors.
+    /// The numbers of the entries that an author can redo, the next one last: those that it undid since its last
+    /// action, but those that it redid. It takes no memory, and time logarithmic in the number of authors.
     pub fn redos(&self, author: &Author) -> &[u64]
         ensures { result.now ≡ redos self.now.journal author.now }
     {
@@ -412,12 +416,11 @@ impl<A: Allocator + Copy> Room<A> {
         self.store.map().rows(*self.entries.allocator())
     }
 
-    /// The news of all entries but the first `from`, in order. It costs what those entries changed, which it copies; the
-    /// one refusal is want of memory.
+    /// The news of all entries but the first `from`, in order. It copies the rows that those entries changed, which is
+    /// what it costs; the one refusal is want of memory.
     pub fn news(&self, from: u64) -> Result<NewsList<A>, Memory>
         ensures { IfOk result (λ told. told ≡ news self.now.base self.now.journal from) }
     {
-        leads_back::<A>();
         let alloc = *self.entries.allocator();
         news_past(alloc, &self.entries, &self.recorded, from)
     }
@@ -429,8 +432,8 @@ impl<A: Allocator + Copy> Room<A> {
         self.entries.len() as u64
     }
 
-    /// How many changes of names were applied to the map so far, at most 2^128 - 1: those of each entry, and for an undo
-    /// those that it took back.
+    /// How many changes of cells were applied to the map so far, at most 2^128 - 1: those of each entry, and for an
+    /// undo those that it took back.
     pub fn applied(&self) -> u128
         ensures { result ≡ applied self.now.base self.now.journal }
     {

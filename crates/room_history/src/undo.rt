@@ -1,6 +1,6 @@
 //! Which entry an undo takes back, or why none.
 ghost use Rattle.std.specs.Prelude.{◌≡◌, List, Some};
-ghost use Rattle.osm_elements.specs.declared.name.Name.{Name};
+ghost use Rattle.osm_changes.specs.declared.cell.Cell.{Cell};
 ghost use Rattle.edit_footprint.specs.Holding.{IsFirstAfter};
 ghost use Rattle.room_history.specs.Answers.{asked, undo_refusal};
 ghost use Rattle.room_history.specs.Journals.{undos, numbered};
@@ -65,13 +65,14 @@ fn checked<A: Allocator>(
     }
 }
 
-// The first later entry that stands and shares names with one that stands, and the least of these names.
+// The first later entry that stands and shares cells with one that stands, and the least name of these.
 fn first_blocker<A: Allocator>(
     holders: &Holders<A>,
     footprints: &[Option<Footprint<A>>],
     seq: u64,
 ) -> Option<(u64, Name)>
-    ensures { (names : List Name) → numbered footprints.now seq ≡ Some (Some names) → IsFirstAfter holders.now names seq result }
+    ensures { (cells : List Cell) → numbered footprints.now seq ≡ Some (Some cells)
+        → IsFirstAfter holders.now cells seq result }
 {
     match numbered(footprints, seq) {
         Some(Some(footprint)) => holders.first_after(footprint, seq),

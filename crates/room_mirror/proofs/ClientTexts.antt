@@ -9,13 +9,17 @@ use Rattle.std.proofs.Math.Seq.{take-append_seam}
 use Rattle.serde_json.specs.Read.{read}
 use Rattle.osm_elements.specs.declared.name.Name.{Name}
 use Rattle.osm_elements.specs.declared.element.Element.{Element}
-use Rattle.osm_elements.specs.Maps.{Rows, names_of}
+use Rattle.osm_elements.specs.Maps.{Rows, is_same, is_among, names_of}
 use Rattle.osm_elements.specs.NameOrder.{name_cmp}
 use Rattle.osm_elements.specs.Rows.{row_at}
 use Rattle.osm_changes.specs.declared.change.Change.{Change}
-use Rattle.osm_changes.specs.Changes.{AreFrom, are_rising, changed_names}
+use Rattle.osm_changes.specs.declared.half.Half.{Half}
+use Rattle.osm_changes.specs.Cells.{half_at}
+use Rattle.osm_changes.specs.Changes.{are_rising, cell_of, changed_names}
+use Rattle.osm_changes.specs.Facts.Halves.{there_by_half}
 use Rattle.osm_changes.specs.Facts.SoundRows.{is_true, sound_in_order}
 use Rattle.osm_changes.specs.Sound.{is_sound}
+use Rattle.edit_simple.specs.Facts.Lists.{or_right, is_among_own}
 use Rattle.room_history.specs.declared.entry.Entry.{Entry}
 use Rattle.room_history.specs.declared.news.News.{News}
 use Rattle.room_history.specs.declared.news.NewsRow.{NewsRow}
@@ -28,7 +32,7 @@ use Rattle.room_wire.specs.WellFormed.{IsNumber}
 use Rattle.room_mirror.specs.declared.fault.MirrorFault.{MirrorFault}
 use Rattle.room_mirror.specs.Clients.{IsBrought, SpellNews, followed, taken}
 use Rattle.room_mirror.specs.Mirrors.{MirrorState, fault, taken_in_turn, taken_or, with_news}
-use Rattle.room_mirror.proofs.Following.{IsStep, AreSteps, LeadTo}
+use Rattle.room_mirror.proofs.Following.{IsStep, AreSteps, LeadTo, StartFrom, names_rise, of_changed_names}
 use Rattle.room_mirror.proofs.NamesKept.{HaveIds}
 use Rattle.room_mirror.proofs.WholeRows.{map_rows, row_under}
 
@@ -63,13 +67,19 @@ is_welcome id n m number few sound ids = record {
 
 -- the news of an entry that leads from a map whose names have ids to such a sound map
 module _ (m n : Rows Global) (before : HaveIds m) (after : HaveIds n) (sound : is_sound n ≡ true) where
-  id_of : (c : Change Global) → c.after ≢ c.before → c.before ≡ row_at m c.name → c.after ≡ row_at n c.name → HasId c.name
+  id_of : (c : Change Global) → c.after ≢ c.before → c.before ≡ half_at m (cell_of c) → c.after ≡ half_at n (cell_of c) → HasId c.name
   id_of c differ from leads = by c.before c.after refl refl
     where
-      by : (o p : Option (Element Global)) → c.before ≡ o → c.after ≡ p → HasId c.name
-      by (Some v) p e f = before c.name (ap is_some (sym from ∙ e))
-      by None (Some v) e f = after c.name (ap is_some (sym leads ∙ f))
+      by : (h k : Option (Half Global)) → c.before ≡ h → c.after ≡ k → HasId c.name
+      by (Some v) k e f = before c.name (there_by_half c.part (row_at m c.name) ∙ ap is_some (sym from ∙ e))
+      by None (Some v) e f = after c.name (there_by_half c.part (row_at n c.name) ∙ ap is_some (sym leads ∙ f))
       by None None e f = absurd (differ (f ∙ sym e))
+
+  ids_of : (cs : List (Change Global)) → All (λ (c : Change Global). c.after ≢ c.before) cs → StartFrom m cs → LeadTo n cs → All (λ (c : Change Global). HasId c.name) cs
+  ids_of [] differ from leads = All-nil (λ (c : Change Global). HasId c.name)
+  ids_of (c ∷ cs) differ from leads =
+      All-cons (λ (c : Change Global). HasId c.name) c cs (id_of c (differ 0 c (omega arith)) (from 0 c (omega arith)) (leads 0 c (omega arith)))
+      (ids_of cs (λ k d l. differ (suc k) d (omega (arith, l))) (λ k d l. from (suc k) d (omega (arith, l))) (λ k d l. leads (suc k) d (omega (arith, l))))
 
   element_under : (x : Name) → IfSome (row_at n x) (λ element. IsUnder x element)
   element_under x = by (row_at n x) refl
@@ -78,12 +88,10 @@ module _ (m n : Rows Global) (before : HaveIds m) (after : HaveIds n) (sound : i
       by None e = tt
       by (Some v) e = row_under n after sound x v e
 
-  rows_read : (cs : List (Change Global)) → All (λ (c : Change Global). c.after ≢ c.before) cs → AreFrom m cs → LeadTo n cs → All (λ r. IsNewsRow r) (map (news_row n) (changed_names cs))
-  rows_read [] differ from leads = All-nil (λ (r : NewsRow Global). IsNewsRow r)
-  rows_read (c ∷ cs) differ from leads =
-      All-cons (λ (r : NewsRow Global). IsNewsRow r) (news_row n c.name) (map (news_row n) (changed_names cs))
-      (id_of c (differ 0 c (omega arith)) (from 0 c (omega arith)) (leads 0 c (omega arith)), element_under c.name)
-      (rows_read cs (λ k d l. differ (suc k) d (omega (arith, l))) (λ k d l. from (suc k) d (omega (arith, l))) (λ k d l. leads (suc k) d (omega (arith, l))))
+  rows_read : (names : List Name) → ((x : Name) → is_among names x ≡ true → HasId x) → All (λ r. IsNewsRow r) (map (news_row n) names)
+  rows_read [] ids = All-nil (λ (r : NewsRow Global). IsNewsRow r)
+  rows_read (x ∷ xs) ids =
+      All-cons (λ (r : NewsRow Global). IsNewsRow r) (news_row n x) (map (news_row n) xs) (ids x (is_among_own x xs), element_under x) (rows_read xs (λ y i. ids y (or_right (is_same y x) (is_among xs y) i)))
 
 names_told : (n : Rows Global) (names : List Name) → map (λ (r : NewsRow Global). r.name) (map (news_row n) names) ≡ names
 names_told n [] = refl
@@ -111,8 +119,9 @@ module _ (base : Rows Global) (limit : ℕ) (j : List (Entry Global)) (few : len
       let names : map (λ (r : NewsRow Global). r.name) (map (news_row n) (changed_names cs)) ≡ changed_names cs = names_told n (changed_names cs) in
       record {
         author = b.0;
-        rising = ap are_rising names ∙ is_true (are_rising (changed_names cs)) step.are.rising;
-        rows = rows_read (mapof base i) n (ids_front i (e ∷ k) is) (ids_front (i ++ e ∷ []) k whole) (sound_front (i ++ e ∷ []) k whole) cs step.are.differ step.from step.leads;
+        rising = ap are_rising names ∙ names_rise cs;
+        rows = rows_read (mapof base i) n (ids_front i (e ∷ k) is) (ids_front (i ++ e ∷ []) k whole) (sound_front (i ++ e ∷ []) k whole) (changed_names cs)
+            (of_changed_names HasId cs (ids_of (mapof base i) n (ids_front i (e ∷ k) is) (ids_front (i ++ e ∷ []) k whole) (sound_front (i ++ e ∷ []) k whole) cs step.are.differ step.from.before step.leads));
         number = (omega arith, omega (arith, long, few));
       }
 

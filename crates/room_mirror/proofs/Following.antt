@@ -1,21 +1,30 @@
 -- A mirror that takes the news of a room in turn.
-use Rattle.std.proofs.Common.{◌≡◌, ◌≢◌, ◌+◌, ◌-◌, ◌≤◌, ◌++◌, ℕ, zero, suc, Bool, true, false, not, List, [], ◌∷◌, None, Ok, All, length, drop, take, map, nat_eq, refl, sym, ap, subst, ◌∙◌, append_assoc, append-nil, length-append, length-drop, arith}
+use Rattle.std.proofs.Common.{◌≡◌, ◌≢◌, ◌+◌, ◌-◌, ◌≤◌, ◌++◌, ℕ, zero, suc, Bool, true, false, not, ◌||◌, List, [], ◌∷◌, None, Ok, All, length, drop, take, map, nat_eq, refl, sym, ap, subst, ◌∙◌, append_assoc, append-nil, length-append, length-drop, arith}
 use Rattle.std.specs.Bool.{then_some}
-use Rattle.std.specs.List.{list_all}
+use Rattle.std.specs.List.{fold, list_all}
 use Rattle.std.proofs.lemmas.Bool.Decides.{nat_tests}
 use Rattle.std.proofs.lemmas.List.{length-take-le, take-append-drop}
+use Rattle.std.proofs.lemmas.List.Elements.{All-cons, All-nil}
 use Rattle.std.proofs.lemmas.List.Sums.{fold-append}
 use Rattle.std.proofs.Math.Seq.{take-add}
-use Rattle.osm_elements.specs.Maps.{Rows}
+use Rattle.osm_elements.specs.declared.name.Name.{Name}
+use Rattle.osm_elements.specs.Maps.{Rows, is_same, is_among}
 use Rattle.osm_elements.specs.Rows.{row_at}
+use Rattle.osm_elements.specs.Facts.Among.{is_among-name_set}
+use Rattle.osm_elements.specs.Facts.Rows.{same_names}
 use Rattle.osm_elements.specs.Facts.Tests.{both_true}
+use Rattle.osm_refs.specs.Facts.RisingNames.{IsRising-name_set}
 use Rattle.osm_changes.specs.declared.change.Change.{Change}
-use Rattle.osm_changes.specs.Changes.{AreChanges, AreFrom, are_rising, changed, changed_names, with_row}
+use Rattle.osm_changes.specs.Cells.{half_at}
+use Rattle.osm_changes.specs.Changes.{AreChanges, AreFrom, are_rising, cell_of, changed, changed_names, row_after, with_row}
+use Rattle.osm_changes.specs.Halves.{half}
 use Rattle.osm_changes.specs.SameRows.{is_same_row}
 use Rattle.osm_changes.specs.Sound.{is_sound}
+use Rattle.osm_changes.specs.Facts.Changing.{row_at-changed}
 use Rattle.osm_changes.specs.Facts.SameElements.{told_same_row}
 use Rattle.osm_changes.specs.Facts.SoundRows.{is_true}
 use Rattle.edit_simple.specs.Checks.{first_that_holds}
+use Rattle.edit_simple.specs.Facts.Lists.{or_right, is_among_own}
 use Rattle.room_history.specs.declared.entry.Entry.{Entry}
 use Rattle.room_history.specs.declared.news.News.{News}
 use Rattle.room_history.specs.LegalJournals.{IsJournal}
@@ -29,53 +38,75 @@ same_number : (n : ℕ) → nat_eq n n ≡ true
 same_number n = grind (arith, nat_tests)
 
 module _ {A : Type 0} where
-  -- a changed name, told with its row after the change
-  abbrev told_row : Change A → NewsRow A
-  told_row c = record { name = c.name; element = c.after }
+  names_told : (k : Rows A) (names : List Name) → told_names (map (news_row k) names) ≡ names
+  names_told k [] = refl
+  names_told k (x ∷ xs) = ap (λ rest. x ∷ rest) (names_told k xs)
 
-  names_told : (cs : List (Change A)) → told_names (map told_row cs) ≡ changed_names cs
-  names_told [] = refl
-  names_told (c ∷ cs) = ap (λ rest. c.name ∷ rest) (names_told cs)
+  -- a map that takes the rows of some names has them
+  rows_taken : (k m : Rows A) (cs : List (Change A)) → ((x : Name) → row_at k x ≡ row_after cs x (row_at m x)) → (names : List Name) (n : Rows A)
+      → mirrored n (map (news_row k) names) ≡ fold (λ n x. with_row n x (row_after cs x (row_at m x))) n names
+  rows_taken k m cs is [] n = refl
+  rows_taken k m cs is (x ∷ xs) n = rows_taken k m cs is xs (with_row n x (row_at k x)) ∙ ap (λ o. fold (λ n x. with_row n x (row_after cs x (row_at m x))) (with_row n x o) xs) (is x)
 
-  mirrored_is : (cs : List (Change A)) (m : Rows A) → mirrored m (map told_row cs) ≡ changed m cs
-  mirrored_is [] m = refl
-  mirrored_is (c ∷ cs) m = mirrored_is cs (with_row m c.name c.after)
+  mirrored_is : (m : Rows A) (cs : List (Change A)) → mirrored m (map (news_row (changed m cs)) (changed_names cs)) ≡ changed m cs
+  mirrored_is m cs = rows_taken (changed m cs) m cs (row_at-changed m cs) (changed_names cs) m
 
-  -- each name has the row that its change leads to
+  -- each cell has the half that its change leads to
   abbrev pub LeadTo : Rows A → List (Change A) → Type 0
-  LeadTo m cs = All (λ (c : Change A). c.after ≡ row_at m c.name) cs
+  LeadTo n cs = All (λ (c : Change A). c.after ≡ half_at n (cell_of c)) cs
 
-  -- so the rows of the map after changes are what the changes tell
-  rows_told : (m : Rows A) (cs : List (Change A)) → LeadTo m cs → map (news_row m) (changed_names cs) ≡ map told_row cs
-  rows_told m [] h = refl
-  rows_told m (c ∷ cs) h =
-      let here : row_at m c.name ≡ c.after = sym (h 0 c (omega arith)) in
-      ap (λ o. record { name = c.name; element = o } ∷ map (news_row m) (changed_names cs)) here
-      ∙ ap (λ rows. told_row c ∷ rows) (rows_told m cs (λ k d l. h (suc k) d (omega (arith, l))))
+  -- each cell has the half that its change is from
+  abbrev pub StartFrom : Rows A → List (Change A) → Type 0
+  StartFrom m cs = All (λ (c : Change A). c.before ≡ half_at m (cell_of c)) cs
 
-  another : (m : Rows A) (c : Change A) → c.after ≢ c.before → c.before ≡ row_at m c.name → tells_another m (told_row c) ≡ true
-  another m c differ from = by (is_same_row c.after (row_at m c.name)) refl
+  -- what holds of the name of each change holds of each changed name
+  pub of_changed_names : (P : Name → Type 0) (cs : List (Change A)) → All (λ (c : Change A). P c.name) cs → (x : Name) → is_among (changed_names cs) x ≡ true → P x
+  of_changed_names P cs each x there = in_names cs each (sym (is_among-name_set x (map (λ (c : Change A). c.name) cs)) ∙ there)
     where
-      by : (b : Bool) → is_same_row c.after (row_at m c.name) ≡ b → not b ≡ true
-      by true e = absurd (differ (told_same_row c.after (row_at m c.name) e ∙ sym from))
+      in_names : (cs : List (Change A)) → All (λ (c : Change A). P c.name) cs → is_among (map (λ (c : Change A). c.name) cs) x ≡ true → P x
+      in_names [] each i = absurd (cc)
+      in_names (c ∷ cs) each i = by (is_same x c.name) refl i (in_names cs (λ k d l. each (suc k) d (omega (arith, l))))
+        where
+          by : (b : Bool) → is_same x c.name ≡ b → (b || is_among (map (λ (c : Change A). c.name) cs) x) ≡ true → (is_among (map (λ (c : Change A). c.name) cs) x ≡ true → P x) → P x
+          by true e i rest = subst P (sym (same_names x c.name e)) (each 0 c (omega arith))
+          by false e i rest = rest i
+
+  -- a changed name has another row in the map after changes than in the map before
+  other_rows : (m n : Rows A) (cs : List (Change A)) → All (λ (c : Change A). c.after ≢ c.before) cs → StartFrom m cs → LeadTo n cs → All (λ (c : Change A). row_at n c.name ≢ row_at m c.name) cs
+  other_rows m n [] differ from leads = All-nil (λ (c : Change A). row_at n c.name ≢ row_at m c.name)
+  other_rows m n (c ∷ cs) differ from leads =
+      All-cons (λ (c : Change A). row_at n c.name ≢ row_at m c.name) c cs (λ same. differ 0 c (omega arith) (leads 0 c (omega arith) ∙ ap (half c.part) same ∙ sym (from 0 c (omega arith))))
+      (other_rows m n cs (λ k d l. differ (suc k) d (omega (arith, l))) (λ k d l. from (suc k) d (omega (arith, l))) (λ k d l. leads (suc k) d (omega (arith, l))))
+
+  another : (m n : Rows A) (x : Name) → row_at n x ≢ row_at m x → tells_another m (news_row n x) ≡ true
+  another m n x differ = by (is_same_row (row_at n x) (row_at m x)) refl
+    where
+      by : (b : Bool) → is_same_row (row_at n x) (row_at m x) ≡ b → not b ≡ true
+      by true e = absurd (differ (told_same_row (row_at n x) (row_at m x) e))
       by false e = refl
 
-  others : (m : Rows A) (cs : List (Change A)) → All (λ (c : Change A). c.after ≢ c.before) cs → AreFrom m cs → list_all (tells_another m) (map told_row cs) ≡ true
-  others m [] differ from = refl
-  others m (c ∷ cs) differ from =
-      both_true (tells_another m (told_row c)) (list_all (tells_another m) (map told_row cs)) (another m c (differ 0 c (omega arith)) (from 0 c (omega arith)))
-      (others m cs (λ k d l. differ (suc k) d (omega (arith, l))) (λ k d l. from (suc k) d (omega (arith, l))))
+  others : (m n : Rows A) (names : List Name) → ((x : Name) → is_among names x ≡ true → row_at n x ≢ row_at m x) → list_all (tells_another m) (map (news_row n) names) ≡ true
+  others m n [] differ = refl
+  others m n (x ∷ xs) differ =
+      both_true (tells_another m (news_row n x)) (list_all (tells_another m) (map (news_row n) xs)) (another m n x (differ x (is_among_own x xs)))
+      (others m n xs (λ y i. differ y (or_right (is_same y x) (is_among xs y) i)))
 
-  -- changes from a map fit it
-  fit : (m : Rows A) (cs : List (Change A)) → AreChanges cs → AreFrom m cs → fits m (map told_row cs) ≡ true
-  fit m cs are from =
-      both_true (are_rising (told_names (map told_row cs))) (list_all (tells_another m) (map told_row cs))
-      (ap are_rising (names_told cs) ∙ is_true (are_rising (changed_names cs)) are.rising) (others m cs are.differ from)
+  -- the changed names rise, each once
+  pub names_rise : (cs : List (Change A)) → are_rising (changed_names cs) ≡ true
+  names_rise cs = is_true (are_rising (changed_names cs)) (IsRising-name_set (map (λ (c : Change A). c.name) cs))
 
-  no_fault : (n : ℕ) (m : Rows A) (e : Entry A) (cs : List (Change A)) → AreChanges cs → AreFrom m cs → fault (record { seq = n; rows = m }) (record { seq = n + 1; author = e.author; rows = map told_row cs }) ≡ None
-  no_fault n m e cs are from = λ i. first_that_holds (
-      then_some (not (same_number (n + 1) i)) (Gap (due_after n) (n + 1))
-      ∷ then_some (not (fit m cs are from i)) Mismatch
+  -- the rows after changes from a map fit it
+  fit : (m n : Rows A) (cs : List (Change A)) → AreChanges cs → AreFrom m cs → LeadTo n cs → fits m (map (news_row n) (changed_names cs)) ≡ true
+  fit m n cs are from leads =
+      both_true (are_rising (told_names (map (news_row n) (changed_names cs)))) (list_all (tells_another m) (map (news_row n) (changed_names cs)))
+      (ap are_rising (names_told n (changed_names cs)) ∙ names_rise cs)
+      (others m n (changed_names cs) (of_changed_names (λ x. row_at n x ≢ row_at m x) cs (other_rows m n cs are.differ from.before leads)))
+
+  no_fault : (seq : ℕ) (m n : Rows A) (e : Entry A) (cs : List (Change A)) → AreChanges cs → AreFrom m cs → LeadTo n cs
+      → fault (record { seq = seq; rows = m }) (record { seq = seq + 1; author = e.author; rows = map (news_row n) (changed_names cs) }) ≡ None
+  no_fault seq m n e cs are from leads = λ i. first_that_holds (
+      then_some (not (same_number (seq + 1) i)) (Gap (due_after seq) (seq + 1))
+      ∷ then_some (not (fit m n cs are from leads i)) Mismatch
       ∷ [])
 
   -- an entry changes the map before it to the map after it
@@ -99,9 +130,10 @@ module _ {A : Type 0} where
   takes_one base i e later s =
       let cs = (recorded_next (past base i) e.kind).changes in
       let m = mapof base i in
-      ap (λ rows. taken_in_turn (record { seq = length i; rows = m }) (record { seq = length i + 1; author = e.author; rows = rows } ∷ later)) (rows_told (mapof base (i ++ e ∷ [])) cs s.leads)
-      ∙ ap (λ o. taken_or o (taken_in_turn (record { seq = length i + 1; rows = mirrored m (map told_row cs) }) later)) (no_fault (length i) m e cs s.are s.from)
-      ∙ ap (λ rows. taken_in_turn (record { seq = length i + 1; rows = rows }) later) (mirrored_is cs m ∙ sym (mapof-next base i e))
+      let n = mapof base (i ++ e ∷ []) in
+      ap (λ o. taken_or o (taken_in_turn (record { seq = length i + 1; rows = mirrored m (map (news_row n) (changed_names cs)) }) later)) (no_fault (length i) m n e cs s.are s.from s.leads)
+      ∙ ap (λ rows. taken_in_turn (record { seq = length i + 1; rows = rows }) later)
+      (ap (λ k. mirrored m (map (news_row k) (changed_names cs))) (mapof-next base i e) ∙ mirrored_is m cs ∙ sym (mapof-next base i e))
 
   -- and of more in turn
   follows : (base : Rows A) (i : List (Entry A)) (d : ℕ) (k : List (Entry A)) → AreSteps base i k → d ≤ length k

@@ -1,5 +1,5 @@
 -- The names of a room's map have ids where those of its base and of its actions have.
-use Rattle.std.proofs.Common.{◌≡◌, ◌||◌, ℕ, zero, suc, Bool, true, false, List, [], ◌∷◌, Option, Some, None, All, IfSome, is_some, is_none, cond, option_map, slice_get, refl, sym, ap, subst, ◌∙◌, arith}
+use Rattle.std.proofs.Common.{◌≡◌, ◌||◌, ℕ, zero, suc, Bool, true, false, List, [], ◌∷◌, Option, Some, None, All, IfSome, is_some, is_none, cond, map, option_map, slice_get, refl, sym, ap, subst, ◌∙◌, arith}
 use Rattle.std.specs.List.{cons_option, fold}
 use Rattle.std.specs.Option.{option_and_then}
 use Rattle.std.specs.declared.alloc.Global.{Global}
@@ -10,6 +10,7 @@ use Rattle.osm_elements.specs.Maps.{Rows, is_among, is_present, is_same, names_o
 use Rattle.osm_elements.specs.Rows.{row_at}
 use Rattle.osm_elements.specs.Facts.Among.{is_among-names_of}
 use Rattle.osm_elements.specs.Facts.Rows.{same_names}
+use Rattle.osm_changes.specs.declared.cell.Cell.{Cell}
 use Rattle.edit_simple.specs.Purge.{goes}
 use Rattle.edit_topology.specs.Join.{join_row}
 use Rattle.edit_topology.specs.Merge.{merge_row}
@@ -30,13 +31,14 @@ use Rattle.room_history.specs.Replays.{Past, Recorded, action_at, actions_of, do
 use Rattle.room_wire.specs.ReadBack.{HasId}
 use Rattle.room_mirror.specs.Clients.{HasSubjectIds, IsBrought}
 
-first_false : (a : Bool) → (a || false) ≡ false → a ≡ false
+first_false : (a : Bool) → (a || (a || false)) ≡ false → a ≡ false
 first_false true e = absurd (cc)
 first_false false e = refl
 
-second_false : (a b : Bool) → (a || (b || false)) ≡ false → b ≡ false
+second_false : (a b : Bool) → (a || (a || (b || (b || false)))) ≡ false → b ≡ false
 second_false true b e = absurd (cc)
-second_false false b e = first_false b e
+second_false false true e = absurd (cc)
+second_false false false e = refl
 
 not_chosen : {X : Type 0} (b : Bool) (o : Option X) → b ≡ false → cond b o None ≡ None
 not_chosen true o e = absurd (cc)
@@ -46,8 +48,12 @@ none_chosen : {X : Type 0} (b : Bool) (o : Option X) → o ≡ None → cond b N
 none_chosen true o e = refl
 none_chosen false o e = e
 
+-- the names of the cells that an action is about
+abbrev subject_names : Action Global → List Name
+subject_names a = map (λ (c : Cell). c.name) (subjects a)
+
 -- a name that has no row and that an action is not about has none after it
-none_of : (m : Rows Global) (y : Name) (a : Action Global) → is_among (subjects a) y ≡ false → becomes m a y None ≡ None
+none_of : (m : Rows Global) (y : Name) (a : Action Global) → is_among (subject_names a) y ≡ false → becomes m a y None ≡ None
 none_of m y (Create x v) out = not_chosen (is_same y x) (Some v) (first_false (is_same y x) out)
 none_of m y (Retag x given) out = refl
 none_of m y (Move list dlat dlon) out = refl
@@ -76,18 +82,26 @@ among_has (x ∷ xs) y h is = by (is_same y x) refl is (among_has xs y (λ k d l
 pub ids_of_base : (m : Rows Global) → All HasId (names_of m) → HaveIds m
 ids_of_base m h y there = among_has (names_of m) y h (is_among-names_of m y ∙ there)
 
-ids_after : (m : Rows Global) (a : Action Global) → HaveIds m → All HasId (subjects a) → HaveIds (after m a)
-ids_after m a h s y there = by (row_at m y) refl (is_among (subjects a) y) refl
+subjects_have : (cells : List Cell) (y : Name) → All (λ (c : Cell). HasId c.name) cells → is_among (map (λ (c : Cell). c.name) cells) y ≡ true → HasId y
+subjects_have [] y h is = absurd (cc)
+subjects_have (c ∷ cs) y h is = by (is_same y c.name) refl is (subjects_have cs y (λ k d l. h (suc k) d (omega (arith, l))))
   where
-    by : (o : Option (Element Global)) → row_at m y ≡ o → (b : Bool) → is_among (subjects a) y ≡ b → HasId y
+    by : (b : Bool) → is_same y c.name ≡ b → (b || is_among (map (λ (c : Cell). c.name) cs) y) ≡ true → (is_among (map (λ (c : Cell). c.name) cs) y ≡ true → HasId y) → HasId y
+    by true e f later = subst HasId (sym (same_names y c.name e)) (h 0 c (omega arith))
+    by false e f later = later f
+
+ids_after : (m : Rows Global) (a : Action Global) → HaveIds m → All (λ (c : Cell). HasId c.name) (subjects a) → HaveIds (after m a)
+ids_after m a h s y there = by (row_at m y) refl (is_among (subject_names a) y) refl
+  where
+    by : (o : Option (Element Global)) → row_at m y ≡ o → (b : Bool) → is_among (subject_names a) y ≡ b → HasId y
     by (Some v) e b f = h y (ap is_some e)
-    by None e true f = among_has (subjects a) y s f
+    by None e true f = subjects_have (subjects a) y s f
     by None e false f = let gone : row_at (after m a) y ≡ None = row_at-after m a y ∙ ap (becomes m a y) e ∙ none_of m y a f in absurd (cc (sym there ∙ ap is_some gone))
 
 -- each action is about names with ids
 abbrev AreOfIds : List (Action Global) → Type 0
 AreOfIds [] = Unit {0}
-AreOfIds (a ∷ rest) = All HasId (subjects a) × AreOfIds rest
+AreOfIds (a ∷ rest) = All (λ (c : Cell). HasId c.name) (subjects a) × AreOfIds rest
 
 ids_replayed : (rest : List (Action Global)) (m n : Rows Global) → HaveIds m → AreOfIds rest → replay m rest ≡ Some n → HaveIds n
 ids_replayed [] m n h s is = let same : m ≡ n = cc in subst HaveIds same h
@@ -99,14 +113,14 @@ ids_replayed (a ∷ rest) m n h s is = by (is_none (refusal m a)) is (ids_replay
 
 -- what is recorded of an entry is an action about names with ids, or none
 abbrev IsOfIds : Recorded Global → Type 0
-IsOfIds r = IfSome r.action (λ a. All HasId (subjects a))
+IsOfIds r = IfSome r.action (λ a. All (λ (c : Cell). HasId c.name) (subjects a))
 
-of_ids_at : (rs : List (Recorded Global)) (i : ℕ) → All IsOfIds rs → IfSome (option_and_then (λ (r : Recorded Global). r.action) (slice_get rs i)) (λ a. All HasId (subjects a))
+of_ids_at : (rs : List (Recorded Global)) (i : ℕ) → All IsOfIds rs → IfSome (option_and_then (λ (r : Recorded Global). r.action) (slice_get rs i)) (λ a. All (λ (c : Cell). HasId c.name) (subjects a))
 of_ids_at [] i h = tt
 of_ids_at (r ∷ rs) zero h = h 0 r (omega arith)
 of_ids_at (r ∷ rs) (suc i) h = of_ids_at rs i (λ k d l. h (suc k) d (omega (arith, l)))
 
-action_of_ids : (p : Past Global) (s : ℕ) → All IsOfIds p.entries → IfSome (action_at p s) (λ a. All HasId (subjects a))
+action_of_ids : (p : Past Global) (s : ℕ) → All IsOfIds p.entries → IfSome (action_at p s) (λ a. All (λ (c : Cell). HasId c.name) (subjects a))
 action_of_ids p zero h = tt
 action_of_ids p (suc i) h = of_ids_at p.entries i h
 
@@ -119,7 +133,7 @@ next_of_ids p (Undo t) h s = by (numbered p.entries t)
     by (Some r) = tt
 next_of_ids p (Redo t) h s = by (action_at p t) (action_of_ids p t h)
   where
-    by : (o : Option (Action Global)) → IfSome o (λ a. All HasId (subjects a)) → IsOfIds (done_again p.map o)
+    by : (o : Option (Action Global)) → IfSome o (λ a. All (λ (c : Cell). HasId c.name) (subjects a)) → IsOfIds (done_again p.map o)
     by None f = tt
     by (Some a) f = f
 
@@ -136,7 +150,7 @@ actions_of_ids : (p : Past Global) (ss : List ℕ) → All IsOfIds p.entries →
 actions_of_ids p [] h = tt
 actions_of_ids p (s ∷ ss) h = by (action_at p s) (action_of_ids p s h) (actions_of_ids p ss h)
   where
-    by : (o : Option (Action Global)) → IfSome o (λ a. All HasId (subjects a)) → AreOfIds (actions_of p ss) → AreOfIds (cons_option o (actions_of p ss))
+    by : (o : Option (Action Global)) → IfSome o (λ a. All (λ (c : Cell). HasId c.name) (subjects a)) → AreOfIds (actions_of p ss) → AreOfIds (cons_option o (actions_of p ss))
     by None f rest = rest
     by (Some a) f rest = (f, rest)
 

@@ -5,6 +5,7 @@ use Rattle.std.specs.Result.{result_ok}
 use Rattle.std.specs.declared.alloc.Global.{Global}
 use Rattle.serde_json.specs.Read.{read}
 use Rattle.osm_elements.specs.Maps.{Rows}
+use Rattle.osm_changes.specs.declared.cell.Cell.{Cell}
 use Rattle.edit_footprint.specs.Footprints.{subjects}
 use Rattle.room_history.specs.declared.entry.Entry.{Entry}
 use Rattle.room_history.specs.declared.entry.EntryKind.{EntryKind}
@@ -46,7 +47,7 @@ mirror_made welcome texts = option_and_then (λ (w : Welcome). followed (record 
 
 -- what an action is about has ids as messages have them
 abbrev pub HasSubjectIds : EntryKind Global → Type 0
-HasSubjectIds (Do a) = All HasId (subjects a)
+HasSubjectIds (Do a) = All (λ (c : Cell). HasId c.name) (subjects a)
 HasSubjectIds (Undo s) = Unit {0}
 HasSubjectIds (Redo s) = Unit {0}
 

@@ -26,8 +26,8 @@ pub fn a_room_can_be_mirrored<A: Allocator>()
     journals_hold::<A>();
 }
 
-/// A mirror that has the map of a room's first `a` entries, and takes the news from `a + 1` to `b`, each once and in order,
-/// refuses none of them, and has the map of the first `b` entries then.
+/// A mirror that has the map of a room's first `a` entries, and takes the news from `a + 1` to `b`, each once and in
+/// order, refuses none of them, and has the map of the first `b` entries then.
 pub fn mirrors_follow<A: Allocator>()
     ensures { (base : Rows A) (limit : ℕ) (j : List (Entry A)) (a b : ℕ) → is_sound base ≡ true → IsJournal base limit j → a ≤ b → b ≤ length j
         → taken_in_turn (mirror_of base j a) (take (b - a) (news base j a)) ≡ Ok (mirror_of base j b) }
@@ -35,11 +35,11 @@ pub fn mirrors_follow<A: Allocator>()
     entries_change_their_maps::<A>();
 }
 
-/// From bytes to bytes: a client reads the text of a welcome to a room after `a` entries, and then the text of the news of each
-/// entry from `a + 1` to `b`, in turn, and keeps a mirror. None of the texts is refused, and the mirror has the room's map
-/// after `b` entries. Each text may be any that has the tree, as those that the room's session writes have. The names of the
-/// base, and those that the actions are about, have ids as messages have them (`i64`), the entries' authors have authors' names,
-/// and the journal has at most 2^53 - 1 entries, since numbers beyond are not read back.
+/// From bytes to bytes: a client reads the text of a welcome to a room after `a` entries, and then the text of the news
+/// of each entry from `a + 1` to `b`, in turn, and keeps a mirror. None of the texts is refused, and the mirror has the
+/// room's map after `b` entries. Each text may be any that has the tree, as those that the room's session writes have.
+/// The names of the base, and those that the actions are about, have ids as messages have them (`i64`), the entries'
+/// authors have authors' names, and the journal has at most 2^53 - 1 entries, since numbers beyond are not read back.
 pub fn a_client_has_the_rooms_map()
     ensures { (base : Rows Global) (limit : ℕ) (j : List (Entry Global)) (id a b : ℕ) (welcome : List ℕ) (texts : List (List ℕ))
         → is_sound base ≡ true → IsJournal base limit j

@@ -25,7 +25,7 @@ use std::alloc::Global;
 
 // The action of a word, with the fields that it has.
 macro_rules! read_by {
-    (($alloc:expr, $word:expr, $message:expr) $($variant:ident $text:literal { $($field:ident: $how:ident from $source:ident $(by $name:ident)?),* } by $plan:ident about $way:ident [$($subject:ident),*];)*) => {
+    (($alloc:expr, $word:expr, $message:expr) $($variant:ident $text:literal { $($field:ident: $how:ident from $source:ident $(by $name:ident)?),* } by $plan:ident about $part:ident $way:ident [$($subject:ident),*];)*) => {
         match $word {
             $($text => {
                 $(let $field = field!($source ($alloc, $message) $($name)?)?;)*

@@ -1,5 +1,7 @@
 //! Elements, changes and stores as texts.
-use osm_changes::change::Change;
+use edit_footprint::footprint::Footprint;
+use osm_changes::changes::Changes;
+use osm_changes::row_after::RowAfter;
 use osm_changes::store::Store;
 use osm_elements::element::Element;
 use osm_elements::map::{Row, Rows};
@@ -73,11 +75,11 @@ fn put_element(
     put_tags(text, element.tags())
 }
 
-// Writes an element that there is before a change or after it, or that there is none.
+// Writes an element that there is before changes or after them, or that there is none.
 fn put_side(
     alloc: Global,
     text: &mut String,
-    element: &Option<Element<Global>>,
+    element: Option<&Element<Global>>,
 ) -> Result<(), AllocError> {
     match element {
         Some(element) => put_element(alloc, text, element),
@@ -85,12 +87,18 @@ fn put_side(
     }
 }
 
-fn put_change(alloc: Global, text: &mut String, change: &Change<Global>) -> Result<(), AllocError> {
-    put_name(alloc, text, &change.name)?;
+// Writes a changed name with its element before, if there is one, and after.
+fn put_change(
+    alloc: Global,
+    text: &mut String,
+    before: Option<&Element<Global>>,
+    row: &RowAfter<Global>,
+) -> Result<(), AllocError> {
+    put_name(alloc, text, &row.name)?;
     text.push(':')?;
-    put_side(alloc, text, &change.before)?;
+    put_side(alloc, text, before)?;
     text.push_str(" ->")?;
-    put_side(alloc, text, &change.after)?;
+    put_side(alloc, text, row.element.as_ref())?;
     text.push(';')
 }
 
@@ -109,15 +117,6 @@ fn put_row(
     text.push(';')
 }
 
-// Writes a copy of a change.
-fn put_change_copied(
-    alloc: Global,
-    text: &mut String,
-    change: &Change<Global>,
-) -> Result<(), AllocError> {
-    put_change(alloc, text, &change.copy()?)
-}
-
 // Writes a copy of a row, and the names that refer to it.
 fn put_row_copied(
     alloc: Global,
@@ -128,18 +127,31 @@ fn put_row_copied(
     put_row(alloc, text, &row.copy()?, users.of(&row.name))
 }
 
-/// Names as a text, each after a space.
-pub fn names_shown(alloc: Global, names: &[Name]) -> Result<String, AllocError> {
+/// The names of a footprint as a text, each once and after a space.
+pub fn touched_shown(alloc: Global, touched: &Footprint<Global>) -> Result<String, AllocError> {
+    let mut names: Vec<Name> = Vec::new(alloc);
+    for cell in touched.cells() {
+        match names.last() {
+            Some(last) if *last == cell.name => {}
+            _ => names.push(cell.name)?,
+        }
+    }
     let mut text = String::new(alloc);
-    put_names(alloc, &mut text, names)?;
+    put_names(alloc, &mut text, &names)?;
     Ok(text)
 }
 
-/// Changes as a text, each as `w1: n1 n2 -> n2 n1;` after a space, and `none` where there is no element.
-pub fn changes_shown(alloc: Global, changes: &[Change<Global>]) -> Result<String, AllocError> {
+/// A copy of changes of a store as a text: each changed name once, with its whole element before and after, as
+/// `w1: n1 n2 -> n2 n1;` after a space, and `none` where there is no element.
+pub fn changes_shown(
+    alloc: Global,
+    store: &Store<Global>,
+    changes: &Changes<Global>,
+) -> Result<String, AllocError> {
+    let rows = store.rows_after(alloc, &changes.copy()?)?;
     let mut text = String::new(alloc);
-    for change in changes {
-        put_change_copied(alloc, &mut text, change)?;
+    for row in rows.as_slice() {
+        put_change(alloc, &mut text, store.map().get(&row.name), row)?;
     }
     Ok(text)
 }

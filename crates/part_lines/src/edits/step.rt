@@ -5,7 +5,7 @@ ghost use Rattle.part_lines.specs.Applying.{MayApply};
 use crate::edits::applying::{apply, plan_of};
 use crate::edits::outcome::Outcome;
 use crate::edits::reading::action;
-use crate::edits::shown::{changes_shown, names_shown, store_shown};
+use crate::edits::shown::{changes_shown, store_shown, touched_shown};
 use crate::edits::unread::Unread;
 use edit_actions::action::Action;
 use edit_footprint::touching::footprint;
@@ -23,7 +23,7 @@ pub fn step(alloc: Global, store: &mut Store<Global>, line: &str) -> Result<Outc
     let action = action(alloc, text)?.copy()?;
     match plan_of(alloc, store, &action) {
         Ok(changes) if is_done => done(alloc, store, &action, changes),
-        Ok(changes) => planned(alloc, &action, &changes),
+        Ok(changes) => planned(alloc, store, &action, &changes),
         Err(refusal) => Ok(Outcome::Refused(refusal)),
     }
 }
@@ -31,11 +31,12 @@ pub fn step(alloc: Global, store: &mut Store<Global>, line: &str) -> Result<Outc
 // Tells what an action would change.
 fn planned(
     alloc: Global,
+    store: &Store<Global>,
     action: &Action<Global>,
     changes: &Changes<Global>,
 ) -> Result<Outcome, Unread> {
     Ok(Outcome::Planned {
-        changes: changes_shown(alloc, changes.copy()?.rows())?,
+        changes: changes_shown(alloc, store, changes)?,
         touched: touched(alloc, action, changes)?,
     })
 }
@@ -50,7 +51,7 @@ fn done(
     requires { MayApply store.old.rows changes }
 {
     let touched = touched(alloc, action, &changes)?;
-    let shown = changes_shown(alloc, changes.copy()?.rows())?;
+    let shown = changes_shown(alloc, store, &changes)?;
     let before = store_shown(alloc, store)?;
     let back = apply(alloc, store, changes)?;
     let map = store_shown(alloc, &store.copy()?)?;
@@ -71,7 +72,7 @@ fn touched(
     changes: &Changes<Global>,
 ) -> Result<String, Unread> {
     let touched = footprint(alloc, action, changes)?.copy()?;
-    Ok(names_shown(alloc, touched.names())?)
+    Ok(touched_shown(alloc, &touched)?)
 }
 
 // Takes changes back and applies them again, and tells where that did not lead to the map before them and to that after them.

@@ -9,9 +9,9 @@ loop-place-preserved g c =
     let recorded = c.args.recorded.now in
     let place = c.loop-place.place in
     let entry = c.index-entries-place.result in
-    let changes = c.index-recorded-place.result in
+    let kept = c.index-recorded-place.result in
     ap (λ items. items ++ drop (place + 1) (told_from 1 entries recorded)) c.in_ok-push.ensures.items
-    ∙ one_more_told place entries recorded c.loop-place.told.items (drop c.args.from (told_from 1 entries recorded)) entry entry changes changes c.in_ok-news.news c.loop-place-test.true c.requires
+    ∙ one_more_told place entries recorded c.loop-place.told.items (drop c.args.from (told_from 1 entries recorded)) entry entry kept kept c.in_ok-news.news c.loop-place-test.true c.requires
     c.index-entries-place.is c.index-recorded-place.is c.in_ok-news.ensures c.loop-place.invariant
 
 pub returns : goal.returns

@@ -2,8 +2,10 @@ use Rattle.std.proofs.Common.{◌≡◌, ◌+◌, ◌-◌, ◌++◌, ◌∷◌, 
 use Rattle.std.specs.Prelude.{slice_set}
 use Rattle.osm_changes.specs.Changes.{changed, AreFrom}
 use Rattle.osm_changes.specs.Sound.{is_sound}
+use Rattle.osm_changes.specs.Stores.{applied_to}
 use Rattle.room_stacks.specs.declared.deed.Deed.TheVariants.{Undid}
 use Rattle.room_history.specs.declared.entry.EntryKind.TheVariants.{Undo}
+use Rattle.room_history.specs.declared.kept.Kept.{Kept}
 use Rattle.room_history.specs.Answers.{undo_refusal}
 use Rattle.room_history.specs.Journals.{numbered}
 use Rattle.room_history.specs.Replays.{past}
@@ -33,7 +35,7 @@ apply-requires-clause-from g c =
     let ok = ap (λ s. undo_refusal (past s.base s.journal) s.journal c.args.author c.args.of) c.self.view_is ∙ c.requires.accepted in
     let told = rw (c.deref.ensures.value ∙ c.make_room.ensures.recorded) at c.in_ok-changes.ensures in
     let next = next_is room.store room.recorded.items room.origins.items room.footprints.items room.holders room.stacks.deeds room.base.value room.limit room.entries.items c.self.invariant c.args.author c.args.id may c.args.of ok c.in_ok-changes.changes told in
-    subst (λ cs. AreFrom room.store.rows cs) (sym next) (undo_from room.store room.recorded.items room.origins.items room.footprints.items room.holders room.stacks.deeds room.base.value room.limit room.entries.items c.self.invariant c.args.author c.args.id may c.args.of ok c.leads_back.ensures.differ c.leads_back.ensures.from c.leads_back.ensures.back)
+    subst (λ (k : Kept _). AreFrom room.store.rows k.changes) (sym c.in_ok-kept.ensures) (subst (λ cs. AreFrom room.store.rows cs) (sym next) (undo_from room.store room.recorded.items room.origins.items room.footprints.items room.holders room.stacks.deeds room.base.value room.limit room.entries.items c.self.invariant c.args.author c.args.id may c.args.of ok c.leads_back.ensures.differ c.leads_back.ensures.from c.leads_back.ensures.back))
 
 pub apply-requires-clause-sound : goal.apply-requires-clause-sound
 apply-requires-clause-sound g c =
@@ -42,7 +44,7 @@ apply-requires-clause-sound g c =
     let ok = ap (λ s. undo_refusal (past s.base s.journal) s.journal c.args.author c.args.of) c.self.view_is ∙ c.requires.accepted in
     let told = rw (c.deref.ensures.value ∙ c.make_room.ensures.recorded) at c.in_ok-changes.ensures in
     let next = next_is room.store room.recorded.items room.origins.items room.footprints.items room.holders room.stacks.deeds room.base.value room.limit room.entries.items c.self.invariant c.args.author c.args.id may c.args.of ok c.in_ok-changes.changes told in
-    ap (λ cs. is_sound (changed room.store.rows cs)) next ∙ undo_sound room.store room.recorded.items room.origins.items room.footprints.items room.holders room.stacks.deeds room.base.value room.limit room.entries.items c.self.invariant c.args.author c.args.id may c.args.of ok
+    ap (λ (k : Kept _). is_sound (changed room.store.rows k.changes)) c.in_ok-kept.ensures ∙ ap (λ cs. is_sound (changed room.store.rows cs)) next ∙ undo_sound room.store room.recorded.items room.origins.items room.footprints.items room.holders room.stacks.deeds room.base.value room.limit room.entries.items c.self.invariant c.args.author c.args.id may c.args.of ok
 
 pub invariant_of-self-in_err-apply : goal.invariant_of-self-in_err-apply
 invariant_of-self-in_err-apply g c =
@@ -103,10 +105,10 @@ invariant_of-self-2 g c =
     let count : c.len.result ≡ length room.entries.items = search rules in
     IsRoom-undo room.store room.recorded.items room.origins.items room.footprints.items room.holders room.stacks.deeds room.base.value room.limit room.entries.items c.self.invariant c.args.author c.args.id may c.args.of ok c.enter.new.entries.items c.apply.new.self c.enter.new.recorded.items c.enter.new.origins.items c.let_fall.new.footprints.items c.let_fall.new.holders c.note.new.stacks.deeds c.in_ok-changes.changes
     next
-    c.in_ok-apply.ensures.ok
-    (c.enter.ensures.recorded ∙ ap (λ rs. rs ++ c.in_ok-changes.changes ∷ []) c.make_room.ensures.recorded)
+    (c.in_ok-apply.ensures.ok ∙ ap (λ (k : Kept _). applied_to room.store k.changes) c.in_ok-kept.ensures)
+    (c.enter.ensures.recorded ∙ (λ i. c.make_room.ensures.recorded i ++ c.in_ok-kept.ensures i ∷ []))
     (c.enter.ensures.origins ∙ ap (λ os. os ++ (c.len.result + 1) ∷ []) c.make_room.ensures.origins ∙ ap (λ n. room.origins.items ++ (n + 1) ∷ []) count)
     (c.let_fall.ensures.footprints ∙ ap (λ fs. slice_set fs (c.args.of - 1) None) (c.enter.ensures.footprints ∙ ap (λ fs. fs ++ None ∷ []) c.make_room.ensures.footprints))
-    (λ names told. c.let_fall.ensures.holders names (ap (λ fs. numbered fs c.args.of) (c.enter.ensures.footprints ∙ ap (λ fs. fs ++ None ∷ []) c.make_room.ensures.footprints) ∙ told))
+    (λ cells told. c.let_fall.ensures.holders cells (ap (λ fs. numbered fs c.args.of) (c.enter.ensures.footprints ∙ ap (λ fs. fs ++ None ∷ []) c.make_room.ensures.footprints) ∙ told))
     (c.note.ensures ∙ (λ i. c.make_room.ensures.deeds i ++ Undid c.args.author c.args.id c.args.of (count i + 1) ∷ []))
     (c.enter.ensures.entries ∙ ap (λ es. es ++ record { author = c.args.author; id = c.args.id; kind = Undo c.args.of } ∷ []) c.make_room.ensures.entries)

@@ -1,12 +1,15 @@
 use Rattle.std.proofs.Common.{◌≡◌, ◌+◌, ◌++◌, ◌∷◌, [], Some, length, sym, ap, subst, ◌∙◌, rules}
-use Rattle.osm_changes.specs.Changes.{AreFrom}
+use Rattle.osm_changes.specs.Changes.{changed, AreFrom}
+use Rattle.osm_changes.specs.Sound.{is_sound}
+use Rattle.osm_changes.specs.Stores.{applied_to}
 use Rattle.edit_footprint.specs.Holding.{standing}
+use Rattle.room_history.specs.declared.kept.Kept.{Kept}
 use Rattle.room_history.specs.Answers.{kind_refusal}
 use Rattle.room_history.specs.Replays.{past, mapof, recorded_next}
 use Rattle.room_history.specs.Inner.Deeds.{deed_by}
 use Rattle.room_history.specs.Inner.Origins.{origin_next}
 use Rattle.room_history.specs.Inner.Rooms.{MayAppend, MayWork}
-use Rattle.room_history.proofs.Stepping.{IsRoom-work, may_stand, stands_next, unspent_deed, above_deeds, work_rises, work_noted, on_err}
+use Rattle.room_history.proofs.Stepping.{IsRoom-work, may_stand, stands_next, unspent_deed, above_deeds, work_rises, work_noted, on_err, on_ok}
 use Rattle.room_history.proofs.room.Room.append_work.Goals as goal
 
 pub stand-requires-clause-next : goal.stand-requires-clause-next
@@ -31,8 +34,22 @@ stand-requires-clause-rising g c =
 
 pub stand-requires-clause-from : goal.stand-requires-clause-from
 stand-requires-clause-from g c =
+    let room = c.self.inside in
     let here = sym (ap (λ s. mapof s.base s.journal) c.self.view_is) ∙ sym c.self.invariant.rows_are in
-    subst (λ m. AreFrom m c.args.changes) here c.requires.from
+    subst (λ (k : Kept _). AreFrom room.store.rows k.changes) (sym c.in_ok-kept.ensures) (subst (λ m. AreFrom m c.args.changes) here c.requires.from)
+
+pub stand-requires-clause-sound : goal.stand-requires-clause-sound
+stand-requires-clause-sound g c =
+    let room = c.self.inside in
+    ap (λ (k : Kept _). is_sound (changed room.store.rows k.changes)) c.in_ok-kept.ensures ∙ ap (λ m. is_sound (changed m c.args.changes)) c.self.invariant.rows_are
+    ∙ ap (λ s. is_sound (changed (mapof s.base s.journal) c.args.changes)) c.self.view_is ∙ c.requires.sound
+
+pub returns-in_err-kept-clause-err : goal.returns-in_err-kept-clause-err
+returns-in_err-kept-clause-err g c =
+    on_err c.from_residual-in_err-kept.result _ (ap (λ es. record { base = c.self.inside.base.value; limit = c.self.inside.limit; journal = es }) c.make_room.ensures.entries ∙ c.self.view_is)
+
+pub returns-in_err-stand-clause-ok : goal.returns-in_err-stand-clause-ok
+returns-in_err-stand-clause-ok g c = on_ok c.from_residual-in_err-stand.result _ c.from_residual-in_err-stand.ensures.0
 
 pub returns-in_err-stand-clause-err : goal.returns-in_err-stand-clause-err
 returns-in_err-stand-clause-err g c =
@@ -69,8 +86,8 @@ invariant_of-self-2 g c =
     c.enter.new.entries.items c.stand.new.store c.enter.new.recorded.items c.enter.new.origins.items c.enter.new.footprints.items c.stand.new.holders c.note.new.stacks.deeds c.args.changes c.args.footprint
     (c.requires.changes ∙ sym (ap (λ s. (recorded_next (past s.base s.journal) c.args.kind).changes) c.self.view_is))
     (c.requires.footprint ∙ sym (ap (λ s. (recorded_next (past s.base s.journal) c.args.kind).footprint) c.self.view_is))
-    c.in_ok-stand.ensures.ok.0
-    (c.enter.ensures.recorded ∙ ap (λ rs. rs ++ c.args.changes ∷ []) c.make_room.ensures.recorded)
+    (c.in_ok-stand.ensures.ok.0 ∙ ap (λ (k : Kept _). applied_to room.store k.changes) c.in_ok-kept.ensures)
+    (c.enter.ensures.recorded ∙ (λ i. c.make_room.ensures.recorded i ++ c.in_ok-kept.ensures i ∷ []))
     (c.enter.ensures.origins ∙ (λ i. c.make_room.ensures.origins i ++ (c.origin_next-origin.ensures ∙ ap (λ os. origin_next os c.args.kind) (c.deref.ensures.value ∙ c.make_room.ensures.origins)) i ∷ []))
     (c.enter.ensures.footprints ∙ ap (λ fs. fs ++ Some c.args.footprint ∷ []) c.make_room.ensures.footprints)
     (c.in_ok-stand.ensures.ok.1 ∙ ap (λ n. standing room.holders c.args.footprint (n + 1)) count)

@@ -1,5 +1,6 @@
-use Rattle.std.proofs.Common.{sym, ap, subst, ◌∙◌, Err}
-use Rattle.osm_changes.specs.Changes.{AreFrom}
+use Rattle.std.proofs.Common.{◌≡◌, true, sym, ap, subst, ◌∙◌, Err}
+use Rattle.osm_changes.specs.Changes.{AreFrom, changed}
+use Rattle.osm_changes.specs.Sound.{is_sound}
 use Rattle.edit_actions.specs.After.{after, changes}
 use Rattle.edit_actions.specs.Refusals.{checks, refusal}
 use Rattle.edit_footprint.specs.Footprints.{footprint_of}
@@ -27,6 +28,11 @@ pub returns-in-Ok-footprint-clause-from : goal.returns-in-Ok-footprint-clause-fr
 returns-in-Ok-footprint-clause-from g c =
     let here = sym (ap (λ s. mapof s.base s.journal) c.self.view_is) ∙ sym c.self.invariant.rows_are in
     subst (λ m. AreFrom m c.in-Ok.changes) (sym here) c.in-Ok.ensures.from
+
+pub returns-in-Ok-footprint-clause-sound : goal.returns-in-Ok-footprint-clause-sound
+returns-in-Ok-footprint-clause-sound g c =
+    let here = sym (ap (λ s. mapof s.base s.journal) c.self.view_is) ∙ sym c.self.invariant.rows_are in
+    subst (λ m. is_sound (changed m c.in-Ok.changes) ≡ true) (sym here) c.in-Ok.ensures.sound
 
 pub returns-in-Err-clause-refused : goal.returns-in-Err-clause-refused
 returns-in-Err-clause-refused g c =
