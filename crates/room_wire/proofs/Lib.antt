@@ -8,12 +8,10 @@ pub mod FaultProofs
 pub mod FaultsToldOn
 pub mod Found
 pub mod ItemLists
-pub mod MapTexts
 pub mod MemberPairs
 pub mod NeverMemory
 pub mod NewsBackProofs
 pub mod NewsExampleProofs
-pub mod NoFloats
 pub mod Numerals
 pub mod Prefixes
 pub mod ReadBackProofs
@@ -24,6 +22,8 @@ pub mod Shallow
 pub mod SpelledForms
 pub mod SpelledMade
 pub mod SpelledMessages
-pub mod TagMembers
+pub mod Texts
+pub mod ToldParts
 pub mod TreesInOrder
 pub mod WellFormedProofs
+pub mod Written

@@ -1,4 +1,3 @@
 -- What the code's own functions say of one another. No public call's contract cites these, and no definition beside this folder reads them.
-pub mod Maps
-pub mod Readable
 pub mod Rising
+pub mod Writing

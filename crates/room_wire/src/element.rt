@@ -1,124 +1,192 @@
-//! The trees of elements.
-ghost use Rattle.std.specs.Prelude.{◌≡◌, All, IfOk, OnOk};
-ghost use Rattle.serde_json.specs.Data.{string};
-ghost use Rattle.serde_json.specs.View.{view};
+//! The writing of elements (OpenStreetMap wiki, "Elements").
+ghost use Rattle.std.specs.Prelude.{◌≡◌, true, OnOk};
+ghost use Rattle.serde_json.specs.Data.{boolean, string};
 ghost use Rattle.std.specs.Str.{IsAscii};
-ghost use Rattle.room_wire.specs.Trees.{name_tree, id_tree, nodes_tree, member_tree, members_tree, tags_tree, element_tree};
 ghost use Rattle.osm_elements.specs.Members.{member_pair};
-ghost use Rattle.osm_elements.specs.TagRows.{AreTagRows};
-ghost use Rattle.room_wire.specs.Inner.Readable.{IsReadable};
+ghost use Rattle.room_wire.specs.Inner.Writing.{Tells, part_tree};
 ghost use Rattle.room_wire.specs.ReadBack.{HasId};
+ghost use Rattle.room_wire.specs.News.{gone_tree};
+ghost use Rattle.room_wire.specs.Trees.{name_tree, id_tree, member_tree, tags_tree, element_tree};
 
-use osm_coords::COORDINATE_LENGTH;
+use crate::told::{Told, ToldMember, write_array, write_object};
+use json::Writer;
+use osm_coords::{COORDINATE_LENGTH, Lat, Lon};
 use osm_elements::Memory;
 use osm_elements::element::Element;
 use osm_elements::member::Member;
 use osm_elements::members::Members;
 use osm_elements::name::{NAME_LENGTH, Name};
 use osm_elements::nodes::Nodes;
-use osm_elements::tags::Tags;
-use serde_json::{Map, Value, json};
+use osm_elements::tags::{Tag, Tags};
 use std::alloc::Global;
 use std::str;
 
-// An element under its name.
-pub fn element_tree(alloc: Global, name: Name, element: &Element<Global>) -> Result<Value, Memory>
-    ensures tree { IfOk result (λ v. view v ≡ element_tree name element.now) }
-    ensures readable { OnOk result (IsReadable (element_tree name element.now)) }
-{
-    match element {
-        Element::Node { lat, lon, tags } => {
-            let mut buffer = [0; COORDINATE_LENGTH];
-            let length = lat.write(&mut buffer);
-            let lat = ascii_tree(alloc, &buffer[..length])?;
-            let length = lon.write(&mut buffer);
-            let lon = ascii_tree(alloc, &buffer[..length])?;
-            let el = name_tree(alloc, name)?;
-            let tags = tags_tree(alloc, tags)?;
-            json!(in alloc; {"el": el, "lat": lat, "lon": lon, "tags": tags})
-        }
-        Element::Way { nodes, tags } => {
-            let el = name_tree(alloc, name)?;
-            let nodes = nodes_tree(alloc, nodes)?;
-            let tags = tags_tree(alloc, tags)?;
-            json!(in alloc; {"el": el, "nodes": nodes, "tags": tags})
-        }
-        Element::Relation { members, tags } => {
-            let el = name_tree(alloc, name)?;
-            let members = members_tree(alloc, members)?;
-            let tags = tags_tree(alloc, tags)?;
-            json!(in alloc; {"el": el, "members": members, "tags": tags})
+// What stands behind a key of a row of a map or of news.
+#[derive(Clone, Copy)]
+pub enum Part<'a> {
+    Name(Name),
+    Lat(Lat),
+    Lon(Lon),
+    Nodes(&'a Nodes<Global>),
+    Members(&'a Members<Global>),
+    Tags(&'a Tags<Global>),
+    Gone,
+}
+
+impl Told for Part<'_> {
+    ghost tree = { part_tree };
+
+    fn write(&self, out: &mut Writer) -> Result<(), Memory> {
+        match self {
+            Part::Name(name) => write_name(out, *name),
+            Part::Lat(lat) => write_lat(out, *lat),
+            Part::Lon(lon) => write_lon(out, *lon),
+            Part::Nodes(nodes) => write_array(out, nodes.names()),
+            Part::Members(members) => write_array(out, members.as_slice()),
+            Part::Tags(tags) => write_tags(out, tags),
+            Part::Gone => write_true(out),
         }
     }
 }
 
-// A name as its text.
-pub fn name_tree(alloc: Global, name: Name) -> Result<Value, Memory>
-    ensures { IfOk result (λ v. view v ≡ name_tree name) }
+// Writes an element under its name.
+pub fn write_element(out: &mut Writer, name: Name, element: &Element<Global>) -> Result<(), Memory>
+    ensures { OnOk result (Tells out.old out.new (element_tree name element.now)) }
+{
+    let el = Part::Name(name);
+    match element {
+        Element::Node { lat, lon, tags } => write_object(
+            out,
+            &[
+                ("el", el),
+                ("lat", Part::Lat(*lat)),
+                ("lon", Part::Lon(*lon)),
+                ("tags", Part::Tags(tags)),
+            ],
+        ),
+        Element::Way { nodes, tags } => write_object(
+            out,
+            &[
+                ("el", el),
+                ("nodes", Part::Nodes(nodes)),
+                ("tags", Part::Tags(tags)),
+            ],
+        ),
+        Element::Relation { members, tags } => write_object(
+            out,
+            &[
+                ("el", el),
+                ("members", Part::Members(members)),
+                ("tags", Part::Tags(tags)),
+            ],
+        ),
+    }
+}
+
+// Writes that the row of a name is gone.
+pub fn write_gone(out: &mut Writer, name: Name) -> Result<(), Memory>
+    ensures { OnOk result (Tells out.old out.new (gone_tree name)) }
+{
+    write_object(out, &[("el", Part::Name(name)), ("gone", Part::Gone)])
+}
+
+// Writes that something is so.
+fn write_true(out: &mut Writer) -> Result<(), Memory>
+    ensures { OnOk result (Tells out.old out.new (boolean true)) }
+{
+    out.boolean(true)?;
+    Ok(())
+}
+
+// Writes a name as its text.
+pub fn write_name(out: &mut Writer, name: Name) -> Result<(), Memory>
+    ensures { OnOk result (Tells out.old out.new (name_tree name)) }
 {
     let mut buffer = [0; NAME_LENGTH];
     let length = name.write(&mut buffer);
-    ascii_tree(alloc, &buffer[..length])
+    write_ascii(out, &buffer[..length])
 }
 
-// A text of ASCII characters.
-fn ascii_tree(alloc: Global, text: &[u8]) -> Result<Value, Memory>
+// Writes a latitude in degrees, with its seven decimals.
+fn write_lat(out: &mut Writer, lat: Lat) -> Result<(), Memory>
+    ensures { OnOk result (Tells out.old out.new (part_tree (Part.Lat lat))) }
+{
+    let mut buffer = [0; COORDINATE_LENGTH];
+    let length = lat.write(&mut buffer);
+    write_ascii(out, &buffer[..length])
+}
+
+// Writes a longitude in degrees, with its seven decimals.
+fn write_lon(out: &mut Writer, lon: Lon) -> Result<(), Memory>
+    ensures { OnOk result (Tells out.old out.new (part_tree (Part.Lon lon))) }
+{
+    let mut buffer = [0; COORDINATE_LENGTH];
+    let length = lon.write(&mut buffer);
+    write_ascii(out, &buffer[..length])
+}
+
+// Writes a text of ASCII characters.
+fn write_ascii(out: &mut Writer, text: &[u8]) -> Result<(), Memory>
     requires { IsAscii text.now }
-    ensures { IfOk result (λ v. view v ≡ string text.now) }
+    ensures { OnOk result (Tells out.old out.new (string text.now)) }
 {
     let text = str::from_utf8(text).unwrap();
-    Value::try_from_str(alloc, text)
+    write_text(out, text)
 }
 
-// The ids of a way's nodes.
-fn nodes_tree(alloc: Global, nodes: &Nodes<Global>) -> Result<Value, Memory>
-    ensures tree { IfOk result (λ v. view v ≡ nodes_tree nodes.now) }
-    ensures ids { OnOk result (All HasId nodes.now) }
+// Writes a text.
+pub fn write_text(out: &mut Writer, text: &str) -> Result<(), Memory>
+    ensures { OnOk result (Tells out.old out.new (string text.now)) }
 {
-    let mut items = Vec::new(alloc);
-    for node in nodes.names() {
-        items.push(id_tree(node))?;
+    out.string(text)?;
+    Ok(())
+}
+
+// A node of a way is its id.
+impl Told for Name {
+    ghost tree = { id_tree };
+
+    fn write(&self, out: &mut Writer) -> Result<(), Memory> {
+        out.i64(id_of(self))?;
+        Ok(())
     }
-    Ok(Value::Array(items))
 }
 
-// The id of a node.
-fn id_tree(node: &Name) -> Value
-    ensures tree { view result ≡ id_tree node.now }
-    ensures id { HasId node.now }
+// The id of a name, which is an i64.
+fn id_of(name: &Name) -> i64
+    ensures value { result ≡ name.now.id }
+    ensures fits { HasId name.now }
 {
-    Value::from(node.id())
+    name.id()
 }
 
-// The members of a relation.
-fn members_tree(alloc: Global, members: &Members<Global>) -> Result<Value, Memory>
-    ensures { IfOk result (λ v. view v ≡ members_tree members.now) }
-{
-    let mut items = Vec::new(alloc);
-    for member in members.as_slice() {
-        items.push(member_tree(alloc, member)?)?;
+// A member of a relation is an array of its name and its role.
+impl Told for Member<Global> {
+    ghost tree = { λ m. member_tree (member_pair m) };
+
+    fn write(&self, out: &mut Writer) -> Result<(), Memory> {
+        out.begin_array()?;
+        write_name(out, self.name)?;
+        out.string(self.role.as_str())?;
+        out.end_array()?;
+        Ok(())
     }
-    Ok(Value::Array(items))
 }
 
-// A member of a relation, as its name and its role.
-fn member_tree(alloc: Global, member: &Member<Global>) -> Result<Value, Memory>
-    ensures { IfOk result (λ v. view v ≡ member_tree (member_pair member.now)) }
+// Writes an object with a member for each tag.
+fn write_tags(out: &mut Writer, tags: &Tags<Global>) -> Result<(), Memory>
+    ensures { OnOk result (Tells out.old out.new (tags_tree tags.now)) }
 {
-    let name = name_tree(alloc, member.name)?;
-    let role = member.role.as_str();
-    json!(in alloc; [name, role])
+    write_object(out, tags.rows())
 }
 
-// An object with a member for each tag.
-fn tags_tree(alloc: Global, tags: &Tags<Global>) -> Result<Value, Memory>
-    ensures tree { IfOk result (λ v. view v ≡ tags_tree tags.now) }
-    ensures rows { AreTagRows tags.now }
-{
-    let mut members = Map::new(alloc);
-    for tag in tags.rows() {
-        let value = Value::try_from_str(alloc, tag.value.as_str())?;
-        serde_json::put(&mut members, alloc, tag.key.as_str(), value)?;
+// The value of a tag stands behind its key.
+impl ToldMember for Tag<Global> {
+    ghost pair = { λ t. (t.key, string t.value) };
+
+    fn write(&self, out: &mut Writer) -> Result<(), Memory> {
+        out.key(self.key.as_str())?;
+        write_text(out, self.value.as_str())?;
+        Ok(())
     }
-    Ok(Value::Object(members))
 }

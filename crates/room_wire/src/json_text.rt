@@ -1,7 +1,14 @@
 //! Texts of JSON.
-ghost use Rattle.std.specs.Prelude.{◌≡◌};
+ghost use Rattle.std.specs.Prelude.{◌≡◌, [], IfOk};
+ghost use Rattle.json.specs.Print.{print};
 
+use json::Writer;
+use osm_elements::Memory;
+use std::alloc::Global;
 use std::marker::Model;
+
+// The bytes that most replies fit.
+const SHORT_REPLY: usize = 128;
 
 /// A JSON text without needless space (RFC 8259).
 #[derive(Debug, Drop)]
@@ -20,13 +27,22 @@ impl Model for Json {
 }
 
 impl Json {
-    ghost use Rattle.std.specs.String.{string_bytes};
-
-    /// The text as it is. It takes no memory.
-    pub(crate) fn from_string(text: String) -> Json
-        ensures { result ≡ string_bytes text }
+    // What writes a text, of which nothing is written. It has room for a short reply.
+    pub(crate) fn begin(alloc: Global) -> Result<Writer, Memory>
+        ensures { IfOk result (λ out. (out.before ≡ []) × (out.tokens ≡ [])) }
     {
-        Json { text }
+        Ok(Writer::new(Vec::with_capacity(alloc, SHORT_REPLY)?))
+    }
+
+    // The text that was written. It takes no memory.
+    pub(crate) fn from_writer(out: Writer) -> Json
+        requires { out.before ≡ [] }
+        ensures { result ≡ print out.tokens }
+    {
+        match String::from_utf8(out.into_inner()) {
+            Ok(text) => Json { text },
+            Err(_) => unreachable!(),
+        }
     }
 
     /// The text.
