@@ -14,7 +14,7 @@ from lib.talk import serve_next, serving, talk, welcome
 from lib.websocket import BINARY, Client, head_of_request, make_key
 
 # The page that tells the sessions of two clients.
-PAGE = f"{TOP}/docs/SERVER.md"
+PAGE = f"{TOP}/docs/CLIENT.md"
 
 
 @case
@@ -441,6 +441,6 @@ def help_for_words():
 
 
 each_case(told_sessions, {
-    "the page docs/SERVER.md": sessions_of_page,
+    "the page docs/CLIENT.md": sessions_of_page,
     **{f"sessions/{name}": functools.partial(texts.read, path) for name, path in texts.files_in("sessions").items()},
 })
