@@ -28,7 +28,6 @@ use Rattle.edit_simple.specs.Facts.Lists.{or_right, is_among_own}
 use Rattle.room_history.specs.declared.entry.Entry.{Entry}
 use Rattle.room_history.specs.declared.news.News.{News}
 use Rattle.room_history.specs.LegalJournals.{IsJournal}
-use Rattle.room_history.specs.declared.news.NewsRow.{NewsRow}
 use Rattle.room_history.specs.News.{news_row, news_of, news_behind, news, mirrored}
 use Rattle.room_history.specs.Replays.{Past, past, past_after, mapof, recorded_next}
 use Rattle.room_mirror.specs.declared.fault.MirrorFault.TheVariants.{Gap, Mismatch}
