@@ -1,4 +1,4 @@
-// Counts the bytes that the program which it is loaded into holds, and tells them on standard error where a read of its standard
+// Counts the bytes that the program which it is loaded into holds, and how often it asked for memory, and tells both on standard error where a read of its standard
 // input gives the end. Counted is what the allocator sets aside for each block. The C library is named by hand, since the kit has
 // no headers.
 
@@ -14,17 +14,19 @@ int dprintf(int file, const char *form, ...);
 // What the allocator keeps beside each block.
 enum { HEAD = sizeof(size_t) };
 
-static long held;
+static long held, asked;
 
 static long size_of(void *block) { return block ? (long)malloc_usable_size(block) + HEAD : 0; }
 
 void *malloc(size_t size) {
+  asked++;
   void *block = __libc_malloc(size);
   held += size_of(block);
   return block;
 }
 
 void *realloc(void *block, size_t size) {
+  asked++;
   long before = size_of(block);
   void *moved = __libc_realloc(block, size);
   if (moved)
@@ -40,6 +42,6 @@ void free(void *block) {
 long read(int file, void *bytes, size_t count) {
   long given = __read(file, bytes, count);
   if (file == 0 && given == 0)
-    dprintf(2, "%ld bytes held\n", held);
+    dprintf(2, "%ld bytes held, memory asked for %ld times\n", held, asked);
   return given;
 }
