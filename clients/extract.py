@@ -76,7 +76,8 @@ def is_deleted(element):
 
 
 def degrees(element, key, note):
-    """The latitude or longitude of a node, with seven decimals."""
+    """The latitude or longitude of a node, with seven decimals, rounded to even where it is half way. That it was
+    rounded is noted, and no ground for `--strict`; an unmoved node is written back with the digits that it had."""
     text = element.get(key)
     if text is None:
         raise LeftOut(f"it has no {key}")
@@ -153,7 +154,8 @@ def names_in(row):
 
 
 class Rows:
-    """Rows of one kind by their ids, kept as texts: millions take little more memory than these."""
+    """Rows of one kind by their ids, kept as texts in one array of bytes and found by halves: millions take little more
+    memory than these, while map_to_osm reads the extract a second time."""
 
     def __init__(self):
         self.ids, self.ends, self.texts = array("q"), array("Q"), bytearray()
@@ -182,7 +184,8 @@ class Rows:
         return None if place is None else self.text_at(place)
 
     def risen(self, tell_second):
-        """These rows with ids that rise. Of several of one id the first is kept; the others are told, by id."""
+        """These rows with ids that rise. Of several of one id the first is kept, since Overpass prints nodes that it
+        found before those that ways need, which lack their tags; the others are told, by id."""
         before = None
         if all(one < other for one, other in zip(self.ids, self.ids[1:])):
             return self

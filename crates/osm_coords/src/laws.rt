@@ -7,6 +7,8 @@ ghost use Rattle.osm_coords.specs.Longitude.{longitude_of, IsLongitude};
 ghost use Rattle.osm_coords.specs.Written.{written};
 
 /// A text is read as a value exactly where it has a coordinate's form and its parts say that value.
+/// So the definition that computes a text's value is tied to a relation on the text's parts, and is
+/// not just the code told again.
 pub fn exactly_the_form_is_read()
     ensures { (text : List ℕ) (z : ℤ) → (coordinate text ≡ Some z) ↔ SaysCoordinate text z }
 {}

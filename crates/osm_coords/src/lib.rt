@@ -6,7 +6,8 @@
 //! `-1800000000..=1800000000`. No call of this crate takes memory, rounds, wraps or clamps.
 //!
 //! A coordinate's text is an optional `-`, one to three ASCII digits, and optionally a `.` and one
-//! to seven digits, with nothing before or after.
+//! to seven digits, with nothing before or after. There is no `FromStr` and no `Display`: the error
+//! of the first would say no more than `None`.
 #![tactic(auto)]
 
 mod decimal;

@@ -12,7 +12,8 @@ const LIMIT: u32 = 1_800_000_000;
 
 /// A longitude: whole ten-millionths of a degree, from -180 to 180 degrees.
 ///
-/// Contracts see it as that whole number.
+/// Contracts see it as that whole number. Longitudes do not wrap: 180 and -180 are different
+/// values, and a move past either end gives `None` ([`Lon::moved`]).
 #[derive(Clone, Copy, Debug, PartialEq, Eq, PartialOrd, Ord, Hash)]
 pub struct Lon {
     ten_millionths: i32,

@@ -39,7 +39,8 @@ pub(crate) fn news_alone<R: Rooms, W: Wait>(
     catch_up(alloc, rt, rooms, room, author, told, Texts::empty(alloc))
 }
 
-// The texts, and after them the news of all that has come to the room past the entry that was told last.
+// The texts, and after them the news of all that has come to the room past the entry that was told last. The number
+// that was told is set when all texts of the event are made.
 pub(crate) fn catch_up<R: Rooms, W: Wait>(
     alloc: Global,
     rt: &W,

@@ -11,7 +11,8 @@ pub trait Rooms {
     // what is known of them
     ghost known: { Self → Known };
 
-    // what no call changes of them beside where each name stands
+    // what no call changes of them beside where each name stands. Over desks it is which seats they are; so who lends
+    // rooms to a session is promised to get them back. Rooms with nothing of the kind have the type with one value
     ghost Kept: { Type 0 } = { Unit {0} };
 
     ghost kept: { Self → Self.Kept };

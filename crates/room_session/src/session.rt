@@ -133,8 +133,8 @@ impl Session {
         Ok(self.go(alloc, next))
     }
 
-    /// Takes a message that is no text, and closes the session: a close with 1003 goes out. It takes no memory.
-    /// Refused where the session is closed.
+    /// Takes a message that is no text, and closes the session: a close with 1003 goes out. It takes no memory: the
+    /// allocator makes the list of texts, an empty one. Refused where the session is closed.
     pub fn on_binary(&mut self, alloc: Global) -> Result<Sent, Ended>
         ensures ok { IfOk result (λ sent. (sent ≡ closing 1003) × (self.old ≢ Closed)) }
         ensures err { OnErr result (self.old ≡ Closed) }
@@ -144,8 +144,9 @@ impl Session {
         Ok(Sent::closing(alloc, UNSUPPORTED_DATA))
     }
 
-    /// Takes it that the client has closed the connection, or that the connection failed, and closes the session: nothing
-    /// goes out. It takes no memory. Refused where the session is closed.
+    /// Takes it that the client has closed the connection, or that the connection failed, and closes the session:
+    /// nothing goes out. It takes no memory: the allocator makes the list of texts, an empty one. Refused where the
+    /// session is closed.
     pub fn on_close(&mut self, alloc: Global) -> Result<Sent, Ended>
         ensures ok { IfOk result (λ sent. (sent ≡ only []) × (self.old ≢ Closed)) }
         ensures err { OnErr result (self.old ≡ Closed) }

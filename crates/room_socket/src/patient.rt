@@ -51,7 +51,8 @@ enum Line {
 }
 
 impl Line {
-    // Goes on by some bytes, and says whether an empty line was among them: a head ends with one.
+    // Goes on by some bytes, and says whether an empty line was among them: a head ends with one. An empty line may end
+    // in LF alone, as RFC 9112, section 2.2 lets a recipient read it.
     fn ends_head(&mut self, bytes: &[u8]) -> bool {
         let mut ended = false;
         for byte in bytes {

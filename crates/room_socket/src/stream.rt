@@ -28,8 +28,9 @@ use tungstenite::{CloseCode, accept};
 /// memory (1011); where the handshake, the stream or the protocol fails (nothing more goes out); and after `turns` reads of a
 /// message (1000). Before the first write at most `turns` quiet reads are passed over.
 ///
-/// The stream's reads have to end: one that waits for ever keeps the session waiting. What no call of the rooms changes is the
-/// same afterwards.
+/// The stream's reads have to end: one that waits for ever keeps the session waiting. What no call of the rooms changes
+/// is the same afterwards. How often the stream is read for a message is the library's: a client that sends a frame in
+/// pieces, each sooner than a read waits, gets no news meanwhile, nor does one that pings so often.
 pub fn serve<S: Read + Write + Drop, R: Rooms, G: Gate, W: Wait + Clock>(
     rt: &W,
     alloc: Global,

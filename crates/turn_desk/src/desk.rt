@@ -37,6 +37,8 @@ impl<R: Turned, A: Allocator> Model for Desk<R, A> {
 impl<R: Turned, A: Allocator> Desk<R, A> {
     /// Opens a desk over a room whose list is empty, and gives it with its first seat, whose number is 0.
     /// Where memory is refused, the room is dropped.
+    /// The fixed part is that of the room, which is kept as a value for proofs alone (`about`).
+    /// The allocator is cloned for the list of slots, and for nothing else.
     pub fn open(alloc: A, room: R) -> Result<(Desk<R, A>, Seat<R>), Memory>
     where
         A: Clone,
@@ -57,6 +59,7 @@ impl<R: Turned, A: Allocator> Desk<R, A> {
     /// The first is the seat with fewer parts. The second has made no call, looked at no length and met no seat.
     /// It has a number that no seat of the desk ever had, and a 64th of the parts, at least one:
     /// so the first seat of a desk can be split more than two thousand times, and so can each of the new ones.
+    /// The numbers of a seat that was met into another are lost, which costs nothing: numbers exist in proofs alone.
     pub fn split(&self, seat: Seat<R>) -> (Seat<R>, Seat<R>)
         requires seat { IsAt self.now seat }
         requires parts { 2 ≤ seat.parts }

@@ -35,6 +35,7 @@ impl<R: Turned> Play<Option<R>, View<R::Entry, R::Fixed>> for Ask {
 }
 
 /// The step that enters an event into the history.
+/// It is a look at the length, too, as [`Look`] says.
 pub(crate) struct Store;
 
 impl<R: Turned> Play<Option<R>, View<R::Entry, R::Fixed>> for Store {
@@ -53,6 +54,8 @@ impl<R: Turned> Play<Option<R>, View<R::Entry, R::Fixed>> for PassOn {
 }
 
 /// The step that looks at the length of the history.
+/// That a look is the length of the whole history is said by this step and by [`Store`], and not by the rule:
+/// a fact about one state cannot tell a stale look from a true one.
 pub(crate) struct Look;
 
 impl<R: Turned> Play<Option<R>, View<R::Entry, R::Fixed>> for Look {
