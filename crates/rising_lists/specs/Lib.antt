@@ -1,4 +1,5 @@
 pub mod Facts
+pub mod Inner
 pub mod Lists
 pub mod Rising
 pub mod Tables

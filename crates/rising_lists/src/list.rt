@@ -1,68 +1,73 @@
 //! A list of values that rises.
-ghost use Rattle.std.specs.Prelude.{◌≡◌, ◌+◌, ◌-◌, ◌<◌, ◌≤◌, [], IfOk, OnOk, OnErr, vec_len, vec_capacity};
-ghost use Rattle.std.specs.List.{insert};
+ghost use Rattle.std.specs.Prelude.{◌≡◌, ◌+◌, ◌-◌, ◌<◌, [], OnOk, OnErr};
+ghost use Rattle.std.specs.Mem.{FitsInMemory};
 ghost use Rattle.rising_lists.specs.Rising.{IsRising, with_value, but};
 
+use crate::place::Place;
 use std::alloc::{AllocError, Allocator};
 use std::marker::Model;
 
 /// Values, each of them once and in their order, with room for those that are awaited. A value is found in time
-/// logarithmic in their number, and those behind one that comes or goes are moved.
+/// logarithmic in their number, and those behind one that comes or goes are moved. One value takes no memory.
 #[derive(Drop)]
 #[derive_where(Debug; V)]
 pub struct RisingList<V: Ord + Copy, A: Allocator> {
-    values: Vec<V, A>,
+    values: Place<V, A>,
     awaited: usize,
 }
 
 // A list is seen as its values and how many are awaited. It has room for both.
 impl<V: Ord + Copy, A: Allocator> Model for RisingList<V, A> {
-    ghost use Rattle.std.specs.Prelude.{◌+◌, ◌≤◌, vec_len, vec_capacity};
+    ghost use Rattle.std.specs.Prelude.{◌+◌, ◌≤◌, length};
     ghost use Rattle.rising_lists.specs.Lists.{Listed};
+    ghost use Rattle.rising_lists.specs.Inner.Places.{items_of, room_of};
 
     ghost Value = { Listed V };
 
-    ghost view = { λ l. record { values = l.values.items; awaited = l.awaited } };
+    ghost view = { λ l. record { values = items_of l.values; awaited = l.awaited } };
 
-    ghost invariant = { λ l. vec_len l.values + l.awaited ≤ vec_capacity l.values };
+    ghost invariant = { λ l. length (items_of l.values) + l.awaited ≤ room_of l.values };
 }
 
 impl<V: Ord + Copy, A: Allocator> RisingList<V, A> {
     ghost use Rattle.rising_lists.specs.Lists.{is_idle};
 
     /// A list with no value, for which none is awaited. It takes no memory.
-    pub fn new(alloc: A) -> RisingList<V, A>
+    pub fn new() -> RisingList<V, A>
         ensures { result ≡ record { values = []; awaited = 0 } }
     {
         RisingList {
-            values: Vec::new(alloc),
+            values: Place::Here(None),
             awaited: 0,
         }
     }
 
-    /// The values.
+    /// The values. `V` has to be of fewer than 2^63 bytes.
     pub fn as_slice(&self) -> &[V]
+        requires { FitsInMemory V.row }
         ensures { result.now ≡ self.now.values }
     {
-        &self.values
+        self.values.as_slice()
     }
 
     /// Whether there is no value, and none is awaited.
     pub fn is_idle(&self) -> bool
         ensures { result ≡ is_idle self.now }
     {
-        self.values.is_empty() && self.awaited == 0
+        self.values.len() == 0 && self.awaited == 0
     }
 
     /// Makes room for one more value, or refuses where there is no memory and leaves the list as it was.
-    pub fn await_one(&mut self) -> Result<(), AllocError>
+    pub fn await_one(&mut self, alloc: &A) -> Result<(), AllocError>
+    where
+        A: Clone,
         ensures ok { OnOk result (self.new ≡ record self.old { awaited = self.old.awaited + 1 }) }
         ensures err { OnErr result (self.new ≡ self.old) }
     {
         let Some(awaited) = self.awaited.checked_add(1) else {
             return Err(AllocError);
         };
-        self.values.try_reserve(awaited)?;
+        self.values.reserve(alloc, awaited)?;
         self.awaited = awaited;
         Ok(())
     }
@@ -82,10 +87,7 @@ impl<V: Ord + Copy, A: Allocator> RisingList<V, A> {
         ensures { self.new ≡ record { values = with_value V.cmp value self.old.values; awaited = self.old.awaited - 1 } }
     {
         self.awaited -= 1;
-        match self.values.binary_search(&value) {
-            Ok(_) => {}
-            Err(at) => insert_reserved(&mut self.values, at, value),
-        }
+        self.values.add(value);
     }
 
     /// Takes the value out that is equal to another, if there is one. Its room stays, and it takes no memory.
@@ -93,12 +95,7 @@ impl<V: Ord + Copy, A: Allocator> RisingList<V, A> {
         requires { IsRising V.cmp self.old.values }
         ensures { self.new ≡ record self.old { values = but V.cmp value.now self.old.values } }
     {
-        match self.values.binary_search(value) {
-            Ok(at) => {
-                let _ = self.values.remove(at);
-            }
-            Err(_) => {}
-        }
+        self.values.take_out(value);
     }
 }
 
@@ -107,25 +104,10 @@ impl<V: Ord + Copy, A: Allocator + Clone> Clone for RisingList<V, A> {
 
     // The room that the awaited values have is made for the copy too.
     fn clone(&self) -> Result<RisingList<V, A>, AllocError> {
-        let mut values = Vec::from_slice(self.values.allocator().clone()?, &self.values)?;
-        values.try_reserve(self.awaited)?;
+        let values = self.values.copy(self.awaited)?;
         Ok(RisingList {
             values,
             awaited: self.awaited,
         })
-    }
-}
-
-// Puts an item in at a place of a list that has room for it.
-fn insert_reserved<T: Drop, A: Allocator>(list: &mut Vec<T, A>, at: usize, item: T)
-    requires place { at ≤ vec_len list.old }
-    requires room { vec_len list.old < vec_capacity list.old }
-    ensures items { list.new.items ≡ insert list.old.items at item }
-    ensures len { vec_len list.new ≡ vec_len list.old + 1 }
-    ensures capacity { vec_capacity list.new ≡ vec_capacity list.old }
-{
-    match list.insert(at, item) {
-        Ok(()) => {}
-        Err(_) => unreachable!(),
     }
 }

@@ -1,5 +1,6 @@
 //! The lists of all keys.
 ghost use Rattle.std.specs.Prelude.{◌≡◌, ◌<◌, [], ◌∷◌, IfOk, OnOk, OnErr};
+ghost use Rattle.std.specs.Mem.{FitsInMemory};
 ghost use Rattle.rising_lists.specs.Lists.{AreLists, values_at, awaited_at, SameValues, SameAwaited, AwaitsMore, AwaitsLess, Gains, Loses, AreAwaited};
 
 use crate::list::RisingList;
@@ -25,8 +26,9 @@ impl<K: Ord + Copy, V: Ord + Copy, A: Allocator> RisingLists<K, V, A> {
         }
     }
 
-    /// The values of a key, rising.
+    /// The values of a key, rising. `V` has to be of fewer than 2^63 bytes, which no bound says.
     pub fn of(&self, key: &K) -> &[V]
+        requires { FitsInMemory V.row }
         ensures { result.now ≡ values_at K.cmp self.now.lists.entries key.now }
     {
         match self.lists.get(key) {
@@ -87,7 +89,8 @@ impl<K: Ord + Copy, V: Ord + Copy, A: Allocator> RisingLists<K, V, A> {
     }
 
     /// The same lists once more, or a refusal where there is no memory. The room that the awaited values have is made
-    /// for the copy too.
+    /// for the copy too. No bound says that a clone of a key is equal to it; so this is a call with a condition, and no
+    /// `Clone`.
     pub fn copy(&self) -> Result<RisingLists<K, V, A>, AllocError>
     where
         A: Clone,
@@ -107,10 +110,10 @@ impl<K: Ord + Copy, V: Ord + Copy, A: Allocator> RisingLists<K, V, A> {
         ensures err { OnErr result (SameAwaited K.cmp self.old.lists.entries self.new.lists.entries) }
     {
         match self.lists.get_mut(key) {
-            Some(list) => list.await_one(),
+            Some(list) => list.await_one(alloc),
             None => {
-                let mut list = RisingList::new(alloc.clone()?);
-                list.await_one()?;
+                let mut list = RisingList::new();
+                list.await_one(alloc)?;
                 self.lists.insert(*key, list)?;
                 Ok(())
             }
