@@ -9,6 +9,7 @@ use osm_elements::members::Members;
 use osm_elements::name::Name;
 use osm_elements::names::Names;
 use osm_elements::nodes::Nodes;
+use osm_elements::shared::Shared;
 use std::alloc::{AllocError, Allocator};
 
 // An action with the same fields, each copied.
@@ -59,14 +60,14 @@ pub enum Action<A: Allocator> {
         /// The name of the way.
         name: Name,
         /// Its nodes afterwards.
-        list: Nodes<A>,
+        list: Shared<Nodes<A>, A>,
     },
     /// Gives a relation other members.
     Members {
         /// The name of the relation.
         name: Name,
         /// Its members afterwards.
-        list: Members<A>,
+        list: Shared<Members<A>, A>,
     },
     /// Takes an element away that nothing refers to.
     Delete {
@@ -82,7 +83,8 @@ pub enum Action<A: Allocator> {
     Split {
         /// The name of the way.
         name: Name,
-        /// The position among its nodes, counted from 0, at which it is split.
+        /// The position among its nodes, counted from 0, at which it is split. A `u32`, as `at` of a message is: a way
+        /// has far fewer nodes, and a position beyond its list is refused with `BadPosition`.
         place: u32,
         /// The name of the new way.
         into: Name,

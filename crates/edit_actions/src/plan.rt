@@ -79,7 +79,8 @@ fn keeps<A: Allocator>(store: &Store<A>, action: &Action<A>)
     keeps_values(action);
 }
 
-/// What holds of every action, by the types of its values. It does nothing.
+/// What holds of every action, by the types of its values. It does nothing. It is public, since a room that is shared
+/// by turns has to tell it of each call, and written by hand, since most actions have nothing to say.
 pub fn keeps_values<A: Allocator>(action: &Action<A>)
     ensures { is_made_action action.now ≡ true }
 {

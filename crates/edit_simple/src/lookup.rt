@@ -1,4 +1,5 @@
-//! What plans look up in a map.
+//! What plans look up in a map. It is public, as `ways` and `kinds` are, so that the plans of `edit_topology` say it by
+//! the same functions.
 ghost use Rattle.std.specs.Prelude.{◌≡◌, map};
 ghost use Rattle.std.specs.List.{filter};
 ghost use Rattle.osm_elements.specs.Maps.{is_present, least};

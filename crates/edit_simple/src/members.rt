@@ -24,7 +24,8 @@ use osm_elements::element::Element;
 use osm_elements::map::OsmMap;
 use osm_elements::members::Members;
 use osm_elements::name::Name;
-use osm_elements::tags::Tags;
+use osm_elements::shared::Shared;
+use osm_elements::shared_tags::SharedTags;
 use std::alloc::Allocator;
 
 /// Plans to give a relation other members.
@@ -32,7 +33,7 @@ pub fn plan<A: Allocator + Clone>(
     alloc: A,
     rows: &OsmMap<A>,
     name: &Name,
-    list: &Members<A>,
+    list: &Shared<Members<A>, A>,
 ) -> Result<Changes<A>, Refusal<A>>
     requires { is_sound rows.now ≡ true }
     ensures { IsPlan rows.now (members_checks rows.now name.now list.now) (after_members rows.now name.now list.now) result }
@@ -51,7 +52,7 @@ pub fn plan<A: Allocator + Clone>(
 fn relation_at<'m, A: Allocator>(
     rows: &'m OsmMap<A>,
     name: &Name,
-) -> Result<(&'m Members<A>, &'m Tags<A>), Refusal<A>>
+) -> Result<(&'m Shared<Members<A>, A>, &'m SharedTags<A>), Refusal<A>>
     requires { is_sound rows.now ≡ true }
     ensures { MatchResult result
         (λ relation. (is_relation name.now.kind ≡ true) × (row_at rows.now name.now ≡ Some (Relation relation.0.now relation.1.now)))
@@ -73,9 +74,9 @@ fn relation_at<'m, A: Allocator>(
 fn change_members<A: Allocator + Clone>(
     alloc: A,
     name: &Name,
-    members: &Members<A>,
-    tags: &Tags<A>,
-    others: &Members<A>,
+    members: &Shared<Members<A>, A>,
+    tags: &SharedTags<A>,
+    others: &Shared<Members<A>, A>,
 ) -> Result<Changes<A>, Refusal<A>>
     ensures { MatchResult result
         (λ cs. (are_same_members members.now others.now ≡ false)

@@ -13,6 +13,7 @@ use osm_changes::changes::Changes;
 use osm_elements::map::OsmMap;
 use osm_elements::name::Name;
 use osm_elements::nodes::Nodes;
+use osm_elements::shared::Shared;
 use std::alloc::Allocator;
 
 /// Plans to give a way other nodes.
@@ -20,7 +21,7 @@ pub fn plan<A: Allocator + Clone>(
     alloc: A,
     rows: &OsmMap<A>,
     name: &Name,
-    list: &Nodes<A>,
+    list: &Shared<Nodes<A>, A>,
 ) -> Result<Changes<A>, Refusal<A>>
     requires { is_sound rows.now ≡ true }
     ensures { IsPlan rows.now (nodes_checks rows.now name.now list.now) (after_nodes rows.now name.now list.now) result }

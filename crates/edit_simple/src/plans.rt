@@ -2,6 +2,9 @@
 //!
 //! A plan answers the changes that lead to the map after the action, the first of the action's checks that holds, or
 //! `Memory` in place of any answer. It leaves the store alone.
+//!
+//! Plans take the allocator first, since a store hands out none. What is compared for `Nothing` are the element's own
+//! tags, nodes or members, and not two maps: no plan looks at the whole map.
 ghost use Rattle.edit_simple.specs.Create.{create_checks, after_create};
 ghost use Rattle.edit_simple.specs.Delete.{delete_checks, after_delete};
 ghost use Rattle.edit_simple.specs.Members.{members_checks, after_members};
@@ -21,6 +24,7 @@ use osm_elements::element::Element;
 use osm_elements::members::Members;
 use osm_elements::name::Name;
 use osm_elements::nodes::Nodes;
+use osm_elements::shared::Shared;
 use std::alloc::Allocator;
 
 /// Plans to make an element under a name. It refuses `WrongKind` where the element is not of the name's kind, `Present`
@@ -89,7 +93,7 @@ pub fn plan_nodes<A: Allocator + Clone>(
     alloc: A,
     store: &Store<A>,
     name: &Name,
-    list: &Nodes<A>,
+    list: &Shared<Nodes<A>, A>,
 ) -> Result<Changes<A>, Refusal<A>>
     ensures { IsPlan store.now.rows (nodes_checks store.now.rows name.now list.now) (after_nodes store.now.rows name.now list.now) result }
 {
@@ -103,7 +107,7 @@ pub fn plan_members<A: Allocator + Clone>(
     alloc: A,
     store: &Store<A>,
     name: &Name,
-    list: &Members<A>,
+    list: &Shared<Members<A>, A>,
 ) -> Result<Changes<A>, Refusal<A>>
     ensures { IsPlan store.now.rows (members_checks store.now.rows name.now list.now) (after_members store.now.rows name.now list.now) result }
 {

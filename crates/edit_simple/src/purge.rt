@@ -25,6 +25,7 @@ use osm_elements::members::Members;
 use osm_elements::name::Name;
 use osm_elements::names::is_same;
 use osm_elements::nodes::Nodes;
+use osm_elements::shared::Shared;
 use osm_refs::users::Users;
 use std::alloc::Allocator;
 use std::collections::BTreeSet;
@@ -200,11 +201,17 @@ fn element_left<A: Allocator + Clone>(
     match element {
         Element::Node { .. } => element.copy(),
         Element::Way { nodes, tags } => Ok(Element::Way {
-            nodes: nodes_left(alloc.clone()?, nodes.names(), purged)?,
+            nodes: Shared::new(
+                alloc.clone()?,
+                nodes_left(alloc.clone()?, nodes.names(), purged)?,
+            )?,
             tags: tags.copy()?,
         }),
         Element::Relation { members, tags } => Ok(Element::Relation {
-            members: members_left(alloc.clone()?, members.as_slice(), gone)?,
+            members: Shared::new(
+                alloc.clone()?,
+                members_left(alloc.clone()?, members.as_slice(), gone)?,
+            )?,
             tags: tags.copy()?,
         }),
     }

@@ -43,6 +43,14 @@ impl<A: Allocator> Retag<A> {
         }
     }
 
+    /// No keys, with room for so many, or `Memory`.
+    pub fn with_capacity(alloc: A, count: usize) -> Result<Retag<A>, Memory>
+        ensures { IfOk result (λ t. t ≡ []) }
+    {
+        let rows = KeyedRows::with_capacity(alloc, count)?;
+        Ok(Retag { rows })
+    }
+
     /// The keys in the order of their bytes, each with what it is given.
     pub fn rows(&self) -> &[Given<A>]
         ensures rows { map given_pair result.now ≡ self.now }

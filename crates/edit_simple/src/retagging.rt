@@ -22,6 +22,7 @@ use osm_elements::element::Element;
 use osm_elements::fault::TextFault;
 use osm_elements::map::OsmMap;
 use osm_elements::name::Name;
+use osm_elements::shared_tags::SharedTags;
 use osm_elements::tags::Tags;
 use std::alloc::Allocator;
 
@@ -38,7 +39,7 @@ pub fn plan<A: Allocator + Clone>(
     let Some(element) = rows.get(name) else {
         return Err(Refusal::Absent(*name));
     };
-    let tags = retagged(name, element.tags(), given)?;
+    let tags = retagged(alloc.clone()?, name, element.tags(), given)?;
     if are_same_tags(element.tags(), &tags) {
         return Err(Refusal::Nothing);
     }
@@ -49,22 +50,23 @@ pub fn plan<A: Allocator + Clone>(
 
 // The tags after each key valued its value or removed it, or the refusal of more than 1,000.
 fn retagged<A: Allocator + Clone>(
+    alloc: A,
     name: &Name,
-    tags: &Tags<A>,
+    tags: &SharedTags<A>,
     given: &Retag<A>,
-) -> Result<Tags<A>, Refusal<A>>
+) -> Result<SharedTags<A>, Refusal<A>>
     ensures { MatchResult result
         (λ new. (nat_lt most_tags (length (retagged tags.now given.now)) ≡ false) × (new ≡ retagged tags.now given.now))
         (λ r. ((nat_lt most_tags (length (retagged tags.now given.now)) ≡ true) × (r ≡ TooMany name.now)) ⊎ (r ≡ OutOfMemory)) }
 {
     let _ = tags.rows();
-    let mut new = tags.copy()?;
+    let mut new = tags.own(alloc.clone()?)?;
     remove_tags(&mut new, given.rows());
     let _ = new.rows();
     match put_values(&mut new, given.rows()) {
         Ok(()) => {
             let _ = new.rows();
-            Ok(new)
+            Ok(SharedTags::new(alloc, new)?)
         }
         Err(TextFault::TooManyTags) => Err(Refusal::TooMany(*name)),
         Err(_) => Err(Refusal::Memory),
@@ -110,7 +112,7 @@ fn put_value<A: Allocator + Clone>(tags: &mut Tags<A>, row: &Given<A>) -> Result
 // The element with these tags.
 fn with_tags<A: Allocator + Clone>(
     element: &Element<A>,
-    tags: Tags<A>,
+    tags: SharedTags<A>,
 ) -> Result<Element<A>, Memory>
     ensures { IfOk result (λ v. v ≡ with_tags (λ _. tags) element.now) }
 {

@@ -12,6 +12,7 @@ use osm_elements::Memory;
 use osm_elements::map::OsmMap;
 use osm_elements::name::Name;
 use osm_elements::nodes::Nodes;
+use osm_elements::shared::Shared;
 use std::alloc::Allocator;
 
 /// Plans to turn a way round.
@@ -27,7 +28,7 @@ pub fn plan<A: Allocator + Clone>(
         return Err(Refusal::WrongKind(*name));
     }
     let (nodes, tags) = way_at(rows, name)?;
-    let turned = reversed(nodes)?;
+    let turned = Shared::new(alloc.clone()?, reversed(nodes)?)?;
     change_nodes(alloc, name, nodes, tags, turned)
 }
 

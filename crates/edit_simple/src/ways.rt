@@ -17,14 +17,15 @@ use osm_elements::element::Element;
 use osm_elements::map::OsmMap;
 use osm_elements::name::Name;
 use osm_elements::nodes::Nodes;
-use osm_elements::tags::Tags;
+use osm_elements::shared::Shared;
+use osm_elements::shared_tags::SharedTags;
 use std::alloc::Allocator;
 
 /// The nodes and tags of a way, in time logarithmic in the size of the map, or `Absent` where it is not there.
 pub fn way_at<'m, A: Allocator>(
     rows: &'m OsmMap<A>,
     name: &Name,
-) -> Result<(&'m Nodes<A>, &'m Tags<A>), Refusal<A>>
+) -> Result<(&'m Shared<Nodes<A>, A>, &'m SharedTags<A>), Refusal<A>>
     requires sound { is_sound rows.now ≡ true }
     requires kind { is_way name.now.kind ≡ true }
     ensures { MatchResult result
@@ -44,9 +45,9 @@ pub fn way_at<'m, A: Allocator>(
 pub fn change_nodes<A: Allocator + Clone>(
     alloc: A,
     name: &Name,
-    nodes: &Nodes<A>,
-    tags: &Tags<A>,
-    others: Nodes<A>,
+    nodes: &Shared<Nodes<A>, A>,
+    tags: &SharedTags<A>,
+    others: Shared<Nodes<A>, A>,
 ) -> Result<Changes<A>, Refusal<A>>
     ensures { MatchResult result
         (λ cs. (are_same_names nodes.now others ≡ false)

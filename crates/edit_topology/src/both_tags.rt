@@ -12,12 +12,17 @@ ghost use Rattle.edit_topology.specs.BothTags.{both_tags, is_another, conflict};
 use edit_simple::refusal::Refusal;
 use osm_elements::fault::TextFault;
 use osm_elements::name::Name;
+use osm_elements::shared_tags::SharedTags;
 use osm_elements::tags::{Tag, Tags};
 use osm_elements::text::{Text, is_same_text};
 use std::alloc::Allocator;
 
-/// The least key that has a value in both and not the same one; none where there is no such key.
-pub fn conflict<'a, A: Allocator>(tags: &'a Tags<A>, others: &Tags<A>) -> Option<&'a Text<A>>
+/// The least key that has a value in both and not the same one; none where there is no such key. It is the first of the
+/// one's tags to which the other gives another value; keys rise, so it is the least.
+pub fn conflict<'a, A: Allocator>(
+    tags: &'a SharedTags<A>,
+    others: &SharedTags<A>,
+) -> Option<&'a Text<A>>
     ensures { option_copied result ≡ conflict tags.now others.now }
 {
     for tag in tags.rows() {
@@ -29,7 +34,7 @@ pub fn conflict<'a, A: Allocator>(tags: &'a Tags<A>, others: &Tags<A>) -> Option
 }
 
 // Whether the tags have another value at a tag's key.
-fn has_another<A: Allocator>(tags: &Tags<A>, tag: &Tag<A>) -> bool
+fn has_another<A: Allocator>(tags: &SharedTags<A>, tag: &Tag<A>) -> bool
     ensures { result ≡ is_another (value_at tags.now tag.now.key) tag.now.value }
 {
     match tags.get(tag.key.as_str()) {
@@ -40,20 +45,21 @@ fn has_another<A: Allocator>(tags: &Tags<A>, tag: &Tag<A>) -> bool
 
 /// The tags of both: the other's value where both have a key. It refuses `TooMany` with the name for more than 1,000.
 pub fn both_tags<A: Allocator + Clone>(
+    alloc: A,
     name: &Name,
-    tags: &Tags<A>,
-    others: &Tags<A>,
-) -> Result<Tags<A>, Refusal<A>>
+    tags: &SharedTags<A>,
+    others: &SharedTags<A>,
+) -> Result<SharedTags<A>, Refusal<A>>
     ensures { MatchResult result
         (λ new. (nat_lt most_tags (length (both_tags tags.now others.now)) ≡ false) × (new ≡ both_tags tags.now others.now))
         (λ r. ((nat_lt most_tags (length (both_tags tags.now others.now)) ≡ true) × (r ≡ TooMany name.now)) ⊎ (r ≡ OutOfMemory)) }
 {
     let _ = tags.rows();
-    let mut both = tags.copy()?;
+    let mut both = tags.own(alloc.clone()?)?;
     match put_all(&mut both, others.rows()) {
         Ok(()) => {
             let _ = both.rows();
-            Ok(both)
+            Ok(SharedTags::new(alloc, both)?)
         }
         Err(TextFault::TooManyTags) => Err(Refusal::TooMany(*name)),
         Err(_) => Err(Refusal::Memory),

@@ -32,7 +32,8 @@ use osm_elements::members::Members;
 use osm_elements::name::Name;
 use osm_elements::names::is_same;
 use osm_elements::nodes::Nodes;
-use osm_elements::tags::Tags;
+use osm_elements::shared::Shared;
+use osm_elements::shared_tags::SharedTags;
 use osm_elements::text::is_same_text;
 use std::alloc::Allocator;
 
@@ -48,13 +49,15 @@ pub fn plan<A: Allocator + Clone>(
     requires users { its_users.now ≡ users rows.now other.now }
     ensures { IsPlan rows.now (join_checks rows.now name.now other.now) (after_join rows.now name.now other.now) result }
 {
-    let joined = way_of_both(rows, name, other)?;
+    let joined = way_of_both(alloc.clone()?, rows, name, other)?;
     let names = subjects_and_users(alloc.clone()?, &[*name, *other], its_users)?;
     Ok(change_all(alloc, rows, name, other, joined, &names)?)
 }
 
-// The way that both become, or the refusal of two that can't be joined.
+// The way that both become, or the refusal of two that can't be joined. The whole way is made before any change, with
+// the checks in their order. It is then handed over, and never copied.
 fn way_of_both<A: Allocator + Clone>(
+    alloc: A,
     rows: &OsmMap<A>,
     name: &Name,
     other: &Name,
@@ -69,8 +72,8 @@ fn way_of_both<A: Allocator + Clone>(
     let (other_nodes, other_tags) = way_at(rows, other)?;
     check_lists(name, nodes.names(), other_nodes.names())?;
     check_tags(tags, other_tags)?;
-    let tags = both_tags(name, tags, other_tags)?;
-    let nodes = end_to_end(nodes, other_nodes)?;
+    let tags = both_tags(alloc.clone()?, name, tags, other_tags)?;
+    let nodes = Shared::new(alloc, end_to_end(nodes, other_nodes)?)?;
     Ok(Element::Way { nodes, tags })
 }
 
@@ -114,7 +117,10 @@ fn meet_end_to_end(nodes: &[Name], others: &[Name]) -> bool
 }
 
 // The refusal of tags of which a key has two values.
-fn check_tags<A: Allocator + Clone>(tags: &Tags<A>, others: &Tags<A>) -> Result<(), Refusal<A>>
+fn check_tags<A: Allocator + Clone>(
+    tags: &SharedTags<A>,
+    others: &SharedTags<A>,
+) -> Result<(), Refusal<A>>
     ensures { MatchResult result
         (λ _. conflict tags.now others.now ≡ None)
         (λ r. (option_map TagConflict (conflict tags.now others.now) ≡ Some r) ⊎ (r ≡ OutOfMemory)) }
@@ -197,7 +203,10 @@ fn renamed<A: Allocator + Clone>(
 {
     match element {
         Element::Relation { members, tags } => Ok(Element::Relation {
-            members: joined_members(alloc.clone()?, name, other, members.as_slice())?,
+            members: Shared::new(
+                alloc.clone()?,
+                joined_members(alloc.clone()?, name, other, members.as_slice())?,
+            )?,
             tags: tags.copy()?,
         }),
         _ => element.copy(),

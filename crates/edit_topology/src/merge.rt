@@ -26,7 +26,8 @@ use osm_elements::element::Element;
 use osm_elements::map::OsmMap;
 use osm_elements::name::Name;
 use osm_elements::names::is_same;
-use osm_elements::tags::Tags;
+use osm_elements::shared::Shared;
+use osm_elements::shared_tags::SharedTags;
 use std::alloc::Allocator;
 
 /// Plans to merge another node into a node.
@@ -51,7 +52,9 @@ pub fn plan<A: Allocator + Clone>(
     if let Some(way) = first_cut_short(rows, its_users, name, other) {
         return Err(Refusal::TooFew(way));
     }
-    let tags = united(name, kept.tags(), gone.tags())?;
+    let tags = united(alloc.clone()?, name, kept.tags(), gone.tags())?;
+    // Where there is no conflict, the tags of the node that stays change exactly where both have more together than it
+    // had.
     let gains = tags.len() > kept.tags().len();
     let changed = all_changed(alloc.clone()?, its_users, name, other, gains)?;
     Ok(change_all(alloc, rows, name, other, &tags, &changed)?)
@@ -73,7 +76,8 @@ fn check_names<A: Allocator>(name: &Name, other: &Name) -> Result<(), Refusal<A>
     Ok(())
 }
 
-// The first of the other's users that is a way with no nodes but the two.
+// The first of the other's users that is a way with no nodes but the two. The definition looks at every row, and finds
+// ways that name the other, which are among its users. Users rise, so the first that is found is the least.
 fn first_cut_short<A: Allocator>(
     rows: &OsmMap<A>,
     its_users: &[Name],
@@ -111,10 +115,11 @@ fn are_either(names: &[Name], name: &Name, other: &Name) -> bool
 
 // The tags of both nodes, or the refusal of a key with two values or of more than 1,000 tags.
 fn united<A: Allocator + Clone>(
+    alloc: A,
     name: &Name,
-    tags: &Tags<A>,
-    others: &Tags<A>,
-) -> Result<Tags<A>, Refusal<A>>
+    tags: &SharedTags<A>,
+    others: &SharedTags<A>,
+) -> Result<SharedTags<A>, Refusal<A>>
     ensures { MatchResult result
         (λ new. (first_that_holds (tag_checks {A = A} name.now tags.now others.now) ≡ None) × (new ≡ both_tags tags.now others.now))
         (λ r. (first_that_holds (tag_checks {A = A} name.now tags.now others.now) ≡ Some r) ⊎ (r ≡ OutOfMemory)) }
@@ -122,7 +127,7 @@ fn united<A: Allocator + Clone>(
     if let Some(key) = conflict(tags, others) {
         return Err(Refusal::TagConflict(key.copy()?));
     }
-    both_tags(name, tags, others)
+    both_tags(alloc, name, tags, others)
 }
 
 // The names whose rows change, rising: the node's where it gains a tag, the other's, and those of the other's users.
@@ -148,7 +153,7 @@ fn change_all<A: Allocator + Clone>(
     rows: &OsmMap<A>,
     name: &Name,
     other: &Name,
-    both: &Tags<A>,
+    both: &SharedTags<A>,
     changed: &[Name],
 ) -> Result<Changes<A>, Memory>
     requires { MayMerge rows.now name.now other.now both.now changed.now }
@@ -169,7 +174,7 @@ fn rows_of<A: Allocator + Clone>(
     rows: &OsmMap<A>,
     name: &Name,
     other: &Name,
-    both: &Tags<A>,
+    both: &SharedTags<A>,
     changing: &Name,
 ) -> Result<(Element<A>, Option<Element<A>>), Memory>
     requires node { is_node name.now.kind ≡ true }
@@ -190,7 +195,7 @@ fn merged_row<A: Allocator + Clone>(
     alloc: &A,
     name: &Name,
     other: &Name,
-    both: &Tags<A>,
+    both: &SharedTags<A>,
     changing: &Name,
     element: &Element<A>,
 ) -> Result<Option<Element<A>>, Memory>
@@ -208,7 +213,7 @@ fn merged_element<A: Allocator + Clone>(
     alloc: &A,
     name: &Name,
     other: &Name,
-    both: &Tags<A>,
+    both: &SharedTags<A>,
     element: &Element<A>,
 ) -> Result<Element<A>, Memory>
     requires { is_node name.now.kind ≡ true }
@@ -221,11 +226,17 @@ fn merged_element<A: Allocator + Clone>(
             tags: both.copy()?,
         }),
         Element::Way { nodes, tags } => Ok(Element::Way {
-            nodes: replaced(alloc.clone()?, nodes.names(), name, other)?,
+            nodes: Shared::new(
+                alloc.clone()?,
+                replaced(alloc.clone()?, nodes.names(), name, other)?,
+            )?,
             tags: tags.copy()?,
         }),
         Element::Relation { members, tags } => Ok(Element::Relation {
-            members: renamed_members(alloc.clone()?, members.as_slice(), name, other)?,
+            members: Shared::new(
+                alloc.clone()?,
+                renamed_members(alloc.clone()?, members.as_slice(), name, other)?,
+            )?,
             tags: tags.copy()?,
         }),
     }

@@ -27,6 +27,7 @@ use osm_elements::members::Members;
 use osm_elements::name::Name;
 use osm_elements::names::is_same;
 use osm_elements::nodes::Nodes;
+use osm_elements::shared::Shared;
 use std::alloc::Allocator;
 
 /// Plans to split a way in two.
@@ -86,7 +87,9 @@ fn is_inside(place: u32, nodes: &[Name]) -> bool
     0 < place && place + 1 < nodes.len()
 }
 
-// The first of the way's users that would have more than 32,000 members.
+// The first of the way's users that would have more than 32,000 members. The definition looks at every relation; on a
+// sound map only one that names the way can get too long (`specs/Facts/Refusing.antt`). Users rise, so the first that
+// is found is the least.
 fn first_overfull<A: Allocator>(rows: &OsmMap<A>, its_users: &[Name], way: &Name) -> Option<Name>
     ensures { result ≡ find (is_overfull rows.now way.now) its_users.now }
 {
@@ -182,7 +185,7 @@ fn new_way<A: Allocator + Clone>(
         unreachable!()
     };
     Ok(Element::Way {
-        nodes: nodes_from(alloc, nodes, place)?,
+        nodes: Shared::new(alloc.clone()?, nodes_from(alloc, nodes, place)?)?,
         tags: tags.copy()?,
     })
 }
@@ -200,11 +203,14 @@ fn split_element<A: Allocator + Clone>(
     match element {
         Element::Node { .. } => element.copy(),
         Element::Way { nodes, tags } => Ok(Element::Way {
-            nodes: nodes_up_to(alloc, nodes, place)?,
+            nodes: Shared::new(alloc.clone()?, nodes_up_to(alloc, nodes, place)?)?,
             tags: tags.copy()?,
         }),
         Element::Relation { members, tags } => Ok(Element::Relation {
-            members: split_members(alloc, members.as_slice(), way, into)?,
+            members: Shared::new(
+                alloc.clone()?,
+                split_members(alloc, members.as_slice(), way, into)?,
+            )?,
             tags: tags.copy()?,
         }),
     }

@@ -23,7 +23,8 @@ use osm_elements::element::Element;
 use osm_elements::map::OsmMap;
 use osm_elements::name::Name;
 use osm_elements::nodes::Nodes;
-use osm_elements::tags::Tags;
+use osm_elements::shared::Shared;
+use osm_elements::shared_tags::SharedTags;
 use std::alloc::Allocator;
 
 /// Plans to unglue a way from a node.
@@ -41,7 +42,7 @@ pub fn plan<A: Allocator + Clone>(
     let Some(node) = node_at(rows, nodes, place) else {
         return Err(Refusal::BadPosition);
     };
-    let unglued = with_node(nodes, place, into)?;
+    let unglued = Shared::new(alloc.clone()?, with_node(nodes, place, into)?)?;
     Ok(change_both(alloc, into, node, name, nodes, tags, unglued)?)
 }
 
@@ -51,7 +52,7 @@ fn way_to_unglue<'m, A: Allocator>(
     rows: &'m OsmMap<A>,
     name: &Name,
     into: &Name,
-) -> Result<(&'m Nodes<A>, &'m Tags<A>), Refusal<A>>
+) -> Result<(&'m Shared<Nodes<A>, A>, &'m SharedTags<A>), Refusal<A>>
     requires { is_sound rows.now ≡ true }
     ensures { MatchResult result
         (λ way. (first_that_holds (name_checks rows.now name.now into.now) ≡ None) × (row_at rows.now name.now ≡ Some (Way way.0.now way.1.now)))
@@ -96,15 +97,16 @@ fn with_node<A: Allocator + Clone>(
     Ok(Nodes::from_vec(names))
 }
 
-// The changes of both: the new node is as the one that stood there, and the way gets the other nodes.
+// The changes of both: the new node is as the one that stood there, and the way gets the other nodes. The new node's
+// change comes first, since names of nodes come before those of ways.
 fn change_both<A: Allocator + Clone>(
     alloc: A,
     into: &Name,
     node: &Element<A>,
     name: &Name,
-    nodes: &Nodes<A>,
-    tags: &Tags<A>,
-    unglued: Nodes<A>,
+    nodes: &Shared<Nodes<A>, A>,
+    tags: &SharedTags<A>,
+    unglued: Shared<Nodes<A>, A>,
 ) -> Result<Changes<A>, Memory>
     requires { is_lt (name_cmp into.now name.now) ≡ true }
     ensures { IfOk result (λ cs. cs

@@ -2,6 +2,7 @@ pub mod Applied
 pub mod Applying
 pub mod ExampleProofs
 pub mod NotesTaken
+pub mod Parting
 pub mod Pushing
 pub mod Restoring
 pub mod RowsNoted

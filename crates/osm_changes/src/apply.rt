@@ -15,23 +15,23 @@ use osm_elements::map::OsmMap;
 use osm_elements::name::Name;
 use std::alloc::Allocator;
 
-/// Some rows in two lists, each in order: those whose names a map has not and that are there, and all others. The one
+/// Copies of some rows in two lists, each in order: those whose names a map has not and that are there, and all others. The one
 /// refusal is want of memory.
 pub fn part_new<A: Allocator + Clone>(
     alloc: A,
     rows: &OsmMap<A>,
-    told: Vec<RowAfter<A>, A>,
+    told: &[RowAfter<A>],
 ) -> Result<(Vec<RowAfter<A>, A>, Vec<RowAfter<A>, A>), Memory>
-    ensures { IfOk result (λ parts. (parts.0.items ≡ filter (is_new rows.now) told.items)
-        × (parts.1.items ≡ filter (λ r. not (is_new rows.now r)) told.items)) }
+    ensures { IfOk result (λ parts. (parts.0.items ≡ filter (is_new rows.now) told.now)
+        × (parts.1.items ≡ filter (λ r. not (is_new rows.now r)) told.now)) }
 {
     let mut new = Vec::new(alloc.clone()?);
     let mut others = Vec::new(alloc);
     for row in told {
-        if is_new(rows, &row) {
-            new.push(row)?;
+        if is_new(rows, row) {
+            new.push(row.copy()?)?;
         } else {
-            others.push(row)?;
+            others.push(row.copy()?)?;
         }
     }
     Ok((new, others))

@@ -80,7 +80,7 @@ impl<A: Allocator> Changes<A> {
         ensures ok { OnOk result (self.new ≡ self.old ++ row_changes name before after) }
         ensures err { OnErr result (self.new ≡ self.old) }
     {
-        self.changes.try_reserve(2)?;
+        reserve_row(&mut self.changes)?;
         let (tags_before, rest_before) = halves(before);
         let (tags_after, rest_after) = halves(after);
         push_if_other(
@@ -132,6 +132,20 @@ impl<A: Allocator + Clone> Clone for Changes<A> {
         let changes = self.changes.clone()?;
         Ok(Changes { changes })
     }
+}
+
+// Makes room for the changes of one more row: for no more than these, where they are the first.
+fn reserve_row<A: Allocator>(changes: &mut Vec<Change<A>, A>) -> Result<(), Memory>
+    ensures items { changes.new.items ≡ changes.old.items }
+    ensures len { vec_len changes.new ≡ vec_len changes.old }
+    ensures room { OnOk result (vec_len changes.new + 2 ≤ vec_capacity changes.new) }
+{
+    if changes.is_empty() {
+        changes.try_reserve_exact(2)?;
+    } else {
+        changes.try_reserve(2)?;
+    }
+    Ok(())
 }
 
 // Puts a change at the end of others that have room for it, if its halves are not the same.

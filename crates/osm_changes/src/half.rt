@@ -7,7 +7,8 @@ use osm_coords::{Lat, Lon};
 use osm_elements::Memory;
 use osm_elements::members::Members;
 use osm_elements::nodes::Nodes;
-use osm_elements::tags::Tags;
+use osm_elements::shared::Shared;
+use osm_elements::shared_tags::SharedTags;
 use std::alloc::{AllocError, Allocator};
 
 /// What stands in one part of a row: the tags, or the rest of a node, a way or a relation.
@@ -15,13 +16,13 @@ use std::alloc::{AllocError, Allocator};
 #[derive_where(Debug)]
 pub enum Half<A: Allocator> {
     /// The tags of any element.
-    Tags(Tags<A>),
+    Tags(SharedTags<A>),
     /// The position of a node.
     Place { lat: Lat, lon: Lon },
     /// The nodes of a way.
-    Nodes(Nodes<A>),
+    Nodes(Shared<Nodes<A>, A>),
     /// The members of a relation.
-    Members(Members<A>),
+    Members(Shared<Members<A>, A>),
 }
 
 impl<A: Allocator> Half<A> {

@@ -7,7 +7,7 @@ use crate::half::Half;
 use crate::part::Part;
 use osm_elements::Memory;
 use osm_elements::element::Element;
-use osm_elements::tags::Tags;
+use osm_elements::shared_tags::SharedTags;
 use std::alloc::Allocator;
 
 /// The tags of a row and its rest; neither where there is no row. It takes no memory.
@@ -84,7 +84,7 @@ pub fn row_of<A: Allocator>(tags: Option<Half<A>>, rest: Option<Half<A>>) -> Opt
 }
 
 // The element with these tags and this rest; none where the rest is tags too.
-fn element_of<A: Allocator>(tags: Tags<A>, rest: Half<A>) -> Option<Element<A>>
+fn element_of<A: Allocator>(tags: SharedTags<A>, rest: Half<A>) -> Option<Element<A>>
     ensures { result ≡ element_of tags rest }
 {
     match rest {

@@ -1,6 +1,7 @@
 //! The rows of changed names.
-ghost use Rattle.std.specs.Prelude.{◌≡◌};
+ghost use Rattle.std.specs.Prelude.{◌≡◌, IfOk};
 
+use osm_elements::Memory;
 use osm_elements::element::Element;
 use osm_elements::name::Name;
 use std::alloc::Allocator;
@@ -14,6 +15,24 @@ pub struct RowAfter<A: Allocator> {
     pub name: Name,
     /// Its element after the changes.
     pub element: Option<Element<A>>,
+}
+
+impl<A: Allocator> RowAfter<A> {
+    /// An equal row, or `Memory`.
+    pub fn copy(&self) -> Result<RowAfter<A>, Memory>
+    where
+        A: Clone,
+        ensures { IfOk result (λ r. r ≡ self.now) }
+    {
+        let element = match &self.element {
+            Some(element) => Some(element.copy()?),
+            None => None,
+        };
+        Ok(RowAfter {
+            name: self.name,
+            element,
+        })
+    }
 }
 
 /// The rows of the names that some changes tell of, as they are after them, in the order of the names.

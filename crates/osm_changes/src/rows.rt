@@ -36,7 +36,7 @@ fn changed_names<A: Allocator>(alloc: A, changes: &[Change<A>]) -> Result<Vec<Na
     requires { IsRising (changed_cells changes.now) }
     ensures { IfOk result (λ names. names.items ≡ changed_names changes.now) }
 {
-    let mut names = Vec::new(alloc);
+    let mut names = Vec::with_capacity(alloc, changes.len())?;
     for change in changes {
         names.push(change.name)?;
     }
@@ -54,7 +54,7 @@ fn rows_of<A: Allocator + Clone>(
     requires { IsRising (changed_cells changes.now) }
     ensures { IfOk result (λ told. told.items ≡ map (row_in (changed rows.now changes.now)) names.now) }
 {
-    let mut told = Vec::new(alloc);
+    let mut told = Vec::with_capacity(alloc, names.len())?;
     for name in names {
         told.push(row_after(rows, changes, name)?)?;
     }

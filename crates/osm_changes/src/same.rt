@@ -12,7 +12,8 @@ use osm_elements::member::Member;
 use osm_elements::members::Members;
 use osm_elements::name::Name;
 use osm_elements::names::is_same;
-use osm_elements::tags::{Tag, Tags};
+use osm_elements::shared_tags::SharedTags;
+use osm_elements::tags::Tag;
 use osm_elements::text::is_same_text;
 use std::alloc::Allocator;
 
@@ -68,7 +69,7 @@ pub fn are_same_names(one: &[Name], other: &[Name]) -> bool
 }
 
 /// Whether two lists of tags are the same.
-pub fn are_same_tags<A: Allocator>(one: &Tags<A>, other: &Tags<A>) -> bool
+pub fn are_same_tags<A: Allocator>(one: &SharedTags<A>, other: &SharedTags<A>) -> bool
     ensures { result ≡ are_same_tags one.now other.now }
 {
     one.len() == other.len() && tags_begin_alike(one.rows(), other.rows())

@@ -47,7 +47,8 @@ impl<A: Allocator> Model for Store<A> {
 }
 
 impl<A: Allocator> Store<A> {
-    /// A store of the empty map. It takes no memory.
+    /// A store of the empty map. It takes no memory. `A` is `Copy`, since a map and its users are made, and a `Clone`
+    /// may fail.
     pub fn new(alloc: A) -> Store<A>
     where
         A: Copy,
@@ -124,11 +125,29 @@ impl<A: Allocator> Store<A> {
         ensures ok { OnOk result (self.new ≡ applied_to self.old changes.now) }
         ensures err { OnErr result (self.new ≡ self.old) }
     {
-        let rows = rows_after(alloc.clone()?, &self.map, changes.rows())?;
-        let count = rows.len();
-        let others = make_room(&mut self.map, &mut self.users, alloc, rows)?;
+        let rows = self.rows_after(alloc.clone()?, changes)?;
+        self.apply_told(alloc, changes, &rows)
+    }
+
+    /// Applies changes as [`apply`](Store::apply) does, where the rows after them are told: they are not worked out again.
+    pub fn apply_told(
+        &mut self,
+        alloc: A,
+        changes: &Changes<A>,
+        rows: &RowsAfter<A>,
+    ) -> Result<(), Memory>
+    where
+        A: Clone,
+        requires from { AreFrom self.old.rows changes.now }
+        requires sound { is_sound (changed self.old.rows changes.now) ≡ true }
+        requires rows { rows.now ≡ rows_after self.old.rows changes.now }
+        ensures ok { OnOk result (self.new ≡ applied_to self.old changes.now) }
+        ensures err { OnErr result (self.new ≡ self.old) }
+    {
+        let told = rows.as_slice();
+        let others = reserve(&mut self.map, &mut self.users, alloc, told)?;
         replace(&mut self.map, others);
-        note(&mut self.users, count);
+        note(&mut self.users, told.len());
         self.applied = self.applied.saturating_add(changes.len() as u128);
         Ok(())
     }
@@ -159,20 +178,20 @@ impl<A: Allocator + Clone> Clone for Store<A> {
     }
 }
 
-// Does all of some changes that asks for memory: makes room among the users, and puts the rows of the names that were
+// Does all of some changes that asks for memory: reserves room among the users, and puts the rows of the names that were
 // absent. It answers the other rows. After a refusal map and users are as they were.
-fn make_room<A: Allocator + Clone>(
+fn reserve<A: Allocator + Clone>(
     rows: &mut OsmMap<A>,
     users: &mut Users<A>,
     alloc: A,
-    told: Vec<RowAfter<A>, A>,
+    told: &[RowAfter<A>],
 ) -> Result<Vec<RowAfter<A>, A>, Memory>
     requires order { AreInOrder rows.old }
-    requires rising { T (are_rising (map (λ (r : Row A). r.name) told.items)) }
+    requires rising { T (are_rising (map (λ (r : Row A). r.name) told.now)) }
     requires users { users.old ≡ users_of rows.old }
-    ensures ok { IfOk result (λ others. (others.items ≡ filter (λ r. not (is_new rows.old r)) told.items)
-        × (rows.new ≡ fold with_told rows.old (filter (is_new rows.old) told.items))
-        × (users.new ≡ record { references = table_of rows.old; waiting = notes_of told.items })) }
+    ensures ok { IfOk result (λ others. (others.items ≡ filter (λ r. not (is_new rows.old r)) told.now)
+        × (rows.new ≡ fold with_told rows.old (filter (is_new rows.old) told.now))
+        × (users.new ≡ record { references = table_of rows.old; waiting = notes_of told.now })) }
     ensures err { OnErr result ((rows.new ≡ rows.old) × (users.new ≡ users.old)) }
 {
     match prepare(rows, users, alloc, told) {
@@ -188,17 +207,17 @@ fn prepare<A: Allocator + Clone>(
     rows: &mut OsmMap<A>,
     users: &mut Users<A>,
     alloc: A,
-    told: Vec<RowAfter<A>, A>,
+    told: &[RowAfter<A>],
 ) -> Result<Vec<RowAfter<A>, A>, Memory>
     requires order { AreInOrder rows.old }
-    requires rising { T (are_rising (map (λ (r : Row A). r.name) told.items)) }
+    requires rising { T (are_rising (map (λ (r : Row A). r.name) told.now)) }
     requires users { users.old ≡ users_of rows.old }
-    ensures ok { IfOk result (λ others. (others.items ≡ filter (λ r. not (is_new rows.old r)) told.items)
-        × (rows.new ≡ fold with_told rows.old (filter (is_new rows.old) told.items))
-        × (users.new ≡ record { references = table_of rows.old; waiting = notes_of told.items })) }
+    ensures ok { IfOk result (λ others. (others.items ≡ filter (λ r. not (is_new rows.old r)) told.now)
+        × (rows.new ≡ fold with_told rows.old (filter (is_new rows.old) told.now))
+        × (users.new ≡ record { references = table_of rows.old; waiting = notes_of told.now })) }
     ensures err { OnErr result ((rows.new ≡ rows.old) × (users.new.references ≡ table_of rows.old)) }
 {
-    ready(users, rows, &told)?;
+    ready(users, rows, told)?;
     let (new, others) = part_new(alloc, rows, told)?;
     put_new(rows, new)?;
     Ok(others)

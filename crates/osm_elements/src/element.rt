@@ -5,7 +5,8 @@ use crate::Memory;
 use crate::members::Members;
 use crate::name::Kind;
 use crate::nodes::Nodes;
-use crate::tags::Tags;
+use crate::shared::Shared;
+use crate::shared_tags::SharedTags;
 use osm_coords::{Lat, Lon};
 use std::alloc::{AllocError, Allocator};
 
@@ -14,11 +15,21 @@ use std::alloc::{AllocError, Allocator};
 #[derive_where(Debug)]
 pub enum Element<A: Allocator> {
     /// A point with a position.
-    Node { lat: Lat, lon: Lon, tags: Tags<A> },
+    Node {
+        lat: Lat,
+        lon: Lon,
+        tags: SharedTags<A>,
+    },
     /// An ordered list of nodes.
-    Way { nodes: Nodes<A>, tags: Tags<A> },
+    Way {
+        nodes: Shared<Nodes<A>, A>,
+        tags: SharedTags<A>,
+    },
     /// An ordered list of members, each with a role.
-    Relation { members: Members<A>, tags: Tags<A> },
+    Relation {
+        members: Shared<Members<A>, A>,
+        tags: SharedTags<A>,
+    },
 }
 
 impl<A: Allocator> Element<A> {
@@ -62,7 +73,7 @@ impl<A: Allocator> Element<A> {
     }
 
     /// The tags of the element.
-    pub fn tags(&self) -> &Tags<A>
+    pub fn tags(&self) -> &SharedTags<A>
         ensures { result.now ≡ tags_of self.now }
     {
         match self {
@@ -72,7 +83,8 @@ impl<A: Allocator> Element<A> {
         }
     }
 
-    /// A second element that is equal to this one, or `Memory`.
+    /// A second element that is equal to this one: it shares its tags and its list, and takes no memory. `Memory` is
+    /// answered where one of these has 2^63 owners.
     pub fn copy(&self) -> Result<Element<A>, Memory>
     where
         A: Clone,

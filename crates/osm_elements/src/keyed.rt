@@ -67,6 +67,14 @@ impl<V: KeyedValue, A: Allocator> KeyedRows<V, A> {
         }
     }
 
+    /// No rows, with room for so many, or `Memory`.
+    pub fn with_capacity(alloc: A, count: usize) -> Result<KeyedRows<V, A>, Memory>
+        ensures { IfOk result (λ t. t ≡ []) }
+    {
+        let rows = Vec::with_capacity(alloc, count)?;
+        Ok(KeyedRows { rows })
+    }
+
     /// The value at a key, or none where no row has it, in time logarithmic in the number of rows.
     pub fn get(&self, key: &str) -> Option<&V>
         ensures { option_copied result ≡ value_at self.now key.now }

@@ -2,6 +2,10 @@
 //!
 //! The types are generic in their allocator. What grows answers [`Memory`] where a growth was refused,
 //! and then leaves everything as it was.
+//!
+//! There is no `==` of texts, tags and elements. Each place that compares some has a function whose
+//! contract says it by what contracts see of them; those of two names and of two texts stand here
+//! ([`names::is_same`], [`text::is_same_text`]).
 #![tactic(auto)]
 
 pub mod element;
@@ -15,6 +19,8 @@ pub mod members;
 pub mod name;
 pub mod names;
 pub mod nodes;
+pub mod shared;
+pub mod shared_tags;
 pub mod tags;
 pub mod text;
 

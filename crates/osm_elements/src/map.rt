@@ -171,7 +171,7 @@ impl<A: Allocator> OsmMap<A> {
         self.elements.is_empty()
     }
 
-    /// The rows in name order.
+    /// The rows in name order. It copies nothing, so neither does a search of all rows.
     pub fn iter(&self) -> btree_map::Iter<'_, Name, Element<A>>
         ensures rest { result ≡ self.now }
         // What holds of every map.

@@ -35,6 +35,14 @@ impl<A: Allocator> Members<A> {
         }
     }
 
+    /// No members, with room for so many, or `Memory`.
+    pub fn with_capacity(alloc: A, count: usize) -> Result<Members<A>, Memory>
+        ensures { IfOk result (λ m. m ≡ []) }
+    {
+        let members = Vec::with_capacity(alloc, count)?;
+        Ok(Members { members })
+    }
+
     /// Takes the members of a vector and gives them as a list, in their order. It takes no memory.
     pub fn from_vec(members: Vec<Member<A>, A>) -> Members<A>
         ensures { result ≡ map member_pair members.items }

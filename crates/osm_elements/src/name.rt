@@ -119,7 +119,8 @@ fn split_letter(text: &str) -> Option<(Kind, &str)>
     }
 }
 
-// The number that is written so in decimal.
+// The number that is written so in decimal. Accepted is a number whose own text is this one: that
+// is shorter than a reader of digits, and says at once that a name has one text.
 fn read_id(digits: &str) -> Option<i64>
     ensures { MatchOption result ((id : ℤ) → FitsSigned w64 id → digits.now ≢ signed_decimal id)
         (λ id. FitsSigned w64 id × (digits.now ≡ signed_decimal id)) }

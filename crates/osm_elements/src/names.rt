@@ -34,6 +34,14 @@ impl<A: Allocator> Names<A> {
         }
     }
 
+    /// No names, with room for so many, or `Memory`.
+    pub fn with_capacity(alloc: A, count: usize) -> Result<Names<A>, Memory>
+        ensures { IfOk result (λ n. n ≡ []) }
+    {
+        let names = Vec::with_capacity(alloc, count)?;
+        Ok(Names { names })
+    }
+
     /// Takes the names of a vector and gives them as a list, in their order. It takes no memory.
     pub fn from_vec(names: Vec<Name, A>) -> Names<A>
         ensures { result ≡ names.items }

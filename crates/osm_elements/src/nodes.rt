@@ -39,6 +39,14 @@ impl<A: Allocator> Nodes<A> {
         }
     }
 
+    /// No nodes, with room for so many, or `Memory`.
+    pub fn with_capacity(alloc: A, count: usize) -> Result<Nodes<A>, Memory>
+        ensures { IfOk result (λ n. n ≡ []) }
+    {
+        let names = Vec::with_capacity(alloc, count)?;
+        Ok(Nodes { names })
+    }
+
     /// Takes the names of a vector, each of kind node, and gives them as a list, in their order. It takes no
     /// memory.
     pub fn from_vec(names: Vec<Name, A>) -> Nodes<A>

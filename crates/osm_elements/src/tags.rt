@@ -47,6 +47,14 @@ impl<A: Allocator> Tags<A> {
         }
     }
 
+    /// No tags, with room for so many, or `Memory`.
+    pub fn with_capacity(alloc: A, count: usize) -> Result<Tags<A>, Memory>
+        ensures { IfOk result (λ t. t ≡ []) }
+    {
+        let rows = KeyedRows::with_capacity(alloc, count)?;
+        Ok(Tags { rows })
+    }
+
     /// How many tags there are, at most 1,000.
     pub fn len(&self) -> usize
         ensures { result ≡ length self.now }
@@ -77,10 +85,11 @@ impl<A: Allocator> Tags<A> {
     }
 
     /// Gives a key its value: a new tag, or a new value of the tag that has the key. It refuses
-    /// `EmptyKey`; then `TooManyTags` where the key is a new one and there are 1,000 tags; then `Memory`
-    /// where a new tag asks for it. A new value of a tag that is there takes no memory. After a refusal
-    /// the tags are as before. The key is found in time logarithmic in the number of tags, and the tags
-    /// behind a new one are moved: none, where keys come in their order.
+    /// `EmptyKey`; then `TooManyTags` where the key is a new one and there are 1,000 tags; then
+    /// `Memory`, never in the place of these two, where a new tag asks for it. A new value of a tag that
+    /// is there takes no memory. After a refusal the tags are as before. The key is found in time
+    /// logarithmic in the number of tags, and the tags behind a new one are moved: none, where keys come
+    /// in their order.
     pub fn set(&mut self, key: Text<A>, value: Text<A>) -> Result<(), TextFault>
         ensures ok { OnOk result ((set_refusal self.old key ≡ None) × (self.new ≡ put text_cmp key value self.old)) }
         ensures err { IfErr result (λ e. (self.new ≡ self.old) × refuses (set_refusal self.old key) e) }

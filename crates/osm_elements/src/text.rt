@@ -1,5 +1,6 @@
 //! Texts of tags.
 ghost use Rattle.std.specs.Prelude.{◌≡◌, false, MatchResult, IfOk};
+ghost use Rattle.std.specs.String.{string_bytes};
 ghost use Rattle.osm_elements.specs.Refused.{refuses};
 ghost use Rattle.osm_elements.specs.declared.fault.TextFault.{TextFault};
 ghost use Rattle.osm_elements.specs.Texts.{is_long, text_refusal, is_same_text};
@@ -47,6 +48,19 @@ impl<A: Allocator> Text<A> {
         }
         let inside = String::from_str(alloc, text)?;
         Ok(Text { inside })
+    }
+
+    /// A text of the characters of a string, whose memory it takes over. It refuses `TextTooLong` where there are more
+    /// than 255 characters, and never for want of memory.
+    pub fn from_string(text: String<A>) -> Result<Text<A>, TextFault>
+        ensures text { MatchResult result
+            (λ t. (text_refusal (string_bytes text) ≡ None) × (t ≡ string_bytes text))
+            (λ e. text_refusal (string_bytes text) ≡ Some e) }
+    {
+        if is_too_long(text.as_str()) {
+            return Err(TextFault::TextTooLong);
+        }
+        Ok(Text { inside: text })
     }
 
     /// The text, which has at most 255 characters.

@@ -21,6 +21,8 @@ use std::marker::Model;
 #[derive(Drop)]
 #[derive_where(Debug)]
 pub struct Users<A: Allocator> {
+    // What contracts see, read the other way round: for each name that is used the rising list of its users, with room
+    // for those that waiting notes will bring. A name that nobody uses and nobody waits for leaves nothing behind.
     lists: RisingLists<Name, Name, A>,
     waiting: VecDeque<KeptNote<A>, A>,
 }
@@ -41,7 +43,8 @@ impl<A: Allocator> Model for Users<A> {
 }
 
 impl<A: Allocator> Users<A> {
-    /// No users, of an empty map. They take no memory.
+    /// No users, of an empty map. They take no memory. `A` is `Copy`, since two collections are made, and a `Clone` may
+    /// fail.
     pub fn new(alloc: A) -> Users<A>
     where
         A: Copy,

@@ -1,4 +1,5 @@
--- A room, a seat at one and a reference to its desk may go to another thread where the allocator may, and where any thread may give blocks back to that.
+-- A room, a seat at one and a reference to its desk may go to another thread where the allocator may, which threads may share too, since rooms share
+-- values, and where any thread may give blocks back to that.
 -- Rattle proves it by itself of each type of this crate but the room, since it writes no such proof of a type with a `Snapshot` in it.
 use mathlib.Core.List.{List, [], ◌∷◌}
 use Prim.Native.Nat.{ℕ}
@@ -37,15 +38,15 @@ use Rattle.room_history.specs.contracts.turned.RoomTurned.TheImpl as turned
 footprint_send : (A : RattleType) (g : alloc.Ghosts A.Denot) → IsSend A → Frees g g.dealloc_token → IsSend (Option.the_row (Footprint.the_row A g))
 footprint_send A g a f = search (sendable, crosses, footprint.the_send) depth 14
 
-pub room_send : (A : RattleType) (g : alloc.Ghosts A.Denot) → IsSend A → Frees g g.dealloc_token → IsSend (Room.the_row A g)
-room_send A g a f = search (sendable, crosses, store.the_send, kept.the_send, footprint_send, holders.the_send, stacks.the_send, entry.the_send, vec.the_send) depth 16
+pub room_send : (A : RattleType) (g : alloc.Ghosts A.Denot) → IsSend A → IsSync A → Frees g g.dealloc_token → IsSend (Room.the_row A g)
+room_send A g a s f = search (sendable, crosses, store.the_send, kept.the_send, footprint_send, holders.the_send, stacks.the_send, entry.the_send, vec.the_send) depth 16
 
 module _ (A : RattleType) (g : alloc.Ghosts A.Denot) (own : Dict) (k : clone.Ghosts A.Denot) (copy : Dict) where
-  pub seat_send : IsSend A → Frees g g.dealloc_token → IsSend (Seat.the_row (Room.the_row A g) (RoomCall.the_row A g) (RoomReply.the_row A g) (Entry.the_row A g) (Opening.the_row A g) (turned.ghosts A g own k copy))
-  seat_send a f = seat.the_send (Room.the_row A g) (RoomCall.the_row A g) (RoomReply.the_row A g) (Entry.the_row A g) (Opening.the_row A g) (turned.ghosts A g own k copy) (room_send A g a f)
+  pub seat_send : IsSend A → IsSync A → Frees g g.dealloc_token → IsSend (Seat.the_row (Room.the_row A g) (RoomCall.the_row A g) (RoomReply.the_row A g) (Entry.the_row A g) (Opening.the_row A g) (turned.ghosts A g own k copy))
+  seat_send a s f = seat.the_send (Room.the_row A g) (RoomCall.the_row A g) (RoomReply.the_row A g) (Entry.the_row A g) (Opening.the_row A g) (turned.ghosts A g own k copy) (room_send A g a s f)
 
   pub desk_sync : IsSend A → IsSync A → Frees g g.dealloc_token → IsSync (Desk.the_row (Room.the_row A g) A (RoomCall.the_row A g) (RoomReply.the_row A g) (Entry.the_row A g) (Opening.the_row A g) (turned.ghosts A g own k copy) g)
-  desk_sync a s f = desk.the_sync (Room.the_row A g) A (RoomCall.the_row A g) (RoomReply.the_row A g) (Entry.the_row A g) (Opening.the_row A g) (turned.ghosts A g own k copy) g (room_send A g a f) a s f
+  desk_sync a s f = desk.the_sync (Room.the_row A g) A (RoomCall.the_row A g) (RoomReply.the_row A g) (Entry.the_row A g) (Opening.the_row A g) (turned.ghosts A g own k copy) g (room_send A g a s f) a s f
 
 -- a closure may go to another thread where each thing that it takes with it may
 all_parts : (Ts : List RattleType) → AllSend Ts → AllSend (rows (parts Ts))

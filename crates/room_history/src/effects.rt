@@ -1,6 +1,6 @@
 //! What the parts of a room do for an entry: what it did stands, and what it did is taken back.
 ghost use Rattle.std.specs.Prelude.{◌≡◌, ◌<◌, ◌≤◌, ◌-◌, List, [], ◌∷◌, ◌++◌, Some, None, true, length, slice_set, IfOk, OnOk, OnErr, vec_len, vec_capacity};
-ghost use Rattle.osm_changes.specs.Changes.{changed, inverse, AreFrom};
+ghost use Rattle.osm_changes.specs.Changes.{changed, inverse, rows_after, AreFrom};
 ghost use Rattle.osm_changes.specs.Sound.{is_sound};
 ghost use Rattle.osm_changes.specs.Stores.{applied_to};
 ghost use Rattle.osm_changes.specs.declared.cell.Cell.{Cell};
@@ -23,7 +23,7 @@ use room_stacks::stacks::Stacks;
 use std::alloc::Allocator;
 
 // Makes room for one more entry, an author's, in each list and in the stacks; or refuses. Either way nothing is added.
-pub(crate) fn make_room<A: Allocator + Copy>(
+pub(crate) fn reserve<A: Allocator + Copy>(
     entries: &mut Vec<Entry<A>, A>,
     recorded: &mut Vec<Kept<A>, A>,
     origins: &mut Vec<u64, A>,
@@ -108,25 +108,26 @@ pub(crate) fn note<A: Allocator>(
     }
 }
 
-// Lets an entry stand and applies its changes; or refuses, and both are as they were.
+// Lets an entry stand and applies what is kept of its changes; or refuses, and both are as they were.
 pub(crate) fn stand<A: Allocator + Copy>(
     alloc: A,
     store: &mut Store<A>,
     holders: &mut Holders<A>,
-    changes: &Changes<A>,
+    kept: &Kept<A>,
     footprint: &Footprint<A>,
     seq: u64,
 ) -> Result<(), Memory>
     requires held { AreHeld holders.old }
     requires rising { IsRising footprint.now }
     requires next { IsNext holders.old seq }
-    requires from { AreFrom store.old.rows changes.now }
-    requires sound { is_sound (changed store.old.rows changes.now) ≡ true }
-    ensures ok { OnOk result ((store.new ≡ applied_to store.old changes.now) × (holders.new ≡ standing holders.old footprint.now seq)) }
+    requires from { AreFrom store.old.rows kept.now.changes }
+    requires sound { is_sound (changed store.old.rows kept.now.changes) ≡ true }
+    requires rows { kept.now.rows ≡ rows_after store.old.rows kept.now.changes }
+    ensures ok { OnOk result ((store.new ≡ applied_to store.old kept.now.changes) × (holders.new ≡ standing holders.old footprint.now seq)) }
     ensures err { OnErr result ((store.new ≡ store.old) × (holders.new ≡ holders.old)) }
 {
     holders.stand(footprint, seq)?;
-    if let Err(refused) = store.apply(alloc, changes) {
+    if let Err(refused) = store.apply_told(alloc, &kept.changes, &kept.rows) {
         holders.fall(footprint, seq);
         return Err(refused);
     }
@@ -152,7 +153,8 @@ pub(crate) fn let_fall<A: Allocator>(
     }
 }
 
-// The changes that take back those recorded under a number.
+// The changes that take back those recorded under a number. They are a copy, since the entry's own news may still be
+// asked for.
 pub(crate) fn taken_back<A: Allocator + Clone>(
     recorded: &[Kept<A>],
     of: u64,

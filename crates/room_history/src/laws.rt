@@ -36,6 +36,7 @@ pub fn journals_begin<A: Allocator>()
 {}
 
 /// Every legal history that a desk tells of a room, over a sound base, is a journal that calls lead to, and so holds.
+/// It stands here, since the desk knows nothing of rooms, and whoever has a seat at a room's desk has both.
 pub fn legal_histories_hold<A: Allocator>()
     ensures journal { (opening : Opening A) (h : History (Entry A)) → IsLegal IsTurn opening h → IsJournal opening.base opening.limit (entries h) }
     ensures holds { (opening : Opening A) (h : History (Entry A)) → is_sound opening.base ≡ true → IsLegal IsTurn opening h → Holds opening.base opening.limit (entries h) }

@@ -7,7 +7,8 @@ use osm_elements::name::Name;
 use std::alloc::Allocator;
 use std::marker::Model;
 
-/// The answer to a call. After each of those from `Repeat` on the room is as it was before the call.
+/// The answer to a call. After each of those from `Repeat` on the room is as it was before the call. It is not `Copy`,
+/// and has the allocator's parameter, since a refusal can name a key of tags.
 #[derive(Drop)]
 #[derive_where(Debug)]
 pub enum Reply<A: Allocator> {

@@ -12,7 +12,7 @@ ghost use Rattle.room_history.specs.Journals.{numbered};
 
 use crate::base::{BaseFault, first_unsound};
 use crate::call::{Call, Request};
-use crate::effects::{enter, let_fall, make_room, note, stand, taken_back};
+use crate::effects::{enter, let_fall, note, reserve, stand, taken_back};
 use crate::entry::{Entry, EntryKind};
 use crate::journal::{action_of, numbered, origin_next};
 use crate::kept::{Kept, kept_of};
@@ -45,15 +45,22 @@ mod asking;
 #[derive(Drop)]
 #[derive_where(Debug)]
 pub struct Room<A: Allocator> {
+    // Proofs alone see it. A room keeps that it is sound, which is all that the theorem asks of a base; so each
+    // statement is the same over the empty map and over given rows.
     #[derive_where(skip)]
     base: Snapshot<OsmMap<A>>,
     limit: u32,
     store: Store<A>,
     entries: Vec<Entry<A>, A>,
     recorded: Vec<Kept<A>, A>,
+    // The number of the entry that has the action of each: so a redo of a redo of a redo finds it in one step, and it
+    // is held once.
     origins: Vec<u64, A>,
+    // Of an entry that was undone none is kept: nothing asks for it, and a later work of the same action has its own.
     footprints: Vec<Option<Footprint<A>>, A>,
     holders: Holders<A>,
+    // An author may stay ready for a deed that never comes. No contract of the room sees it, and the next change asks
+    // anew.
     stacks: Stacks<A>,
 }
 
@@ -94,7 +101,8 @@ impl<A: Allocator + Copy> Room<A> {
     }
 
     /// A room with the map of these rows, whose journal takes at most `limit` entries. The names have to rise, and each
-    /// element to be of its name's kind, as in every welcome that was read.
+    /// element to be of its name's kind, as in every welcome that was read. These are conditions and no faults, since
+    /// the form of a welcome leaves neither to be found.
     ///
     /// It refuses a map that is not sound, with the least name whose row is not and what is wrong with that, and it
     /// refuses for want of memory. It copies no element, and costs a look-up for each row and each reference.
@@ -218,7 +226,9 @@ impl<A: Allocator + Copy> Room<A> {
     }
 
     // Appends the entry of an action that is not refused, done for the first time or again, with what it changes and
-    // touches now, and answers its number.
+    // touches now, and answers its number. All memory is taken before the store changes: room in the four lists and in
+    // the stacks, what is kept, the footprint among the holders; and `Store::apply` takes its own before its first
+    // change.
     fn append_work(
         &mut self,
         author: Author,
@@ -239,7 +249,7 @@ impl<A: Allocator + Copy> Room<A> {
         ensures err { OnErr result (self.new ≡ self.old) }
     {
         let alloc = *self.entries.allocator();
-        make_room(
+        reserve(
             &mut self.entries,
             &mut self.recorded,
             &mut self.origins,
@@ -254,7 +264,7 @@ impl<A: Allocator + Copy> Room<A> {
             alloc,
             &mut self.store,
             &mut self.holders,
-            &kept.changes,
+            &kept,
             &footprint,
             seq,
         )?;
@@ -307,7 +317,7 @@ impl<A: Allocator + Copy> Room<A> {
     {
         leads_back::<A>();
         let alloc = *self.entries.allocator();
-        make_room(
+        reserve(
             &mut self.entries,
             &mut self.recorded,
             &mut self.origins,
@@ -317,7 +327,7 @@ impl<A: Allocator + Copy> Room<A> {
         )?;
         let changes = taken_back(&self.recorded, of)?;
         let kept = kept_of(alloc, &self.store, changes)?;
-        self.store.apply(alloc, &kept.changes)?;
+        self.store.apply_told(alloc, &kept.changes, &kept.rows)?;
         let seq = self.entries.len() as u64 + 1;
         let undo = EntryKind::Undo(of);
         note(&mut self.stacks, author, id, &undo, seq);
@@ -362,7 +372,9 @@ impl<A: Allocator + Copy> Room<A> {
         }
     }
 
-    // What the action of an entry changes and touches on the map as it is, or the reply that refuses it.
+    // What the action of an entry changes and touches on the map as it is, or the reply that refuses it. In a journal
+    // that calls lead to, an entry on top of what can be redone has an action (`top_acts` of `proofs/Redoable.antt`);
+    // `NothingToRedo` is what the definition answers of others.
     fn plan_again(&self, of: u64) -> Result<(Changes<A>, Footprint<A>), Reply<A>>
         ensures accepted { OnOk result (redo_refusal (mapof self.now.base self.now.journal) (action_at (past self.now.base self.now.journal) of) ≡ None) }
         ensures changes { IfOk result (λ p. p.0 ≡ (recorded_next (past self.now.base self.now.journal) (Redo of)).changes) }
@@ -433,7 +445,8 @@ impl<A: Allocator + Copy> Room<A> {
     }
 
     /// How many changes of cells were applied to the map so far, at most 2^128 - 1: those of each entry, and for an
-    /// undo those that it took back.
+    /// undo those that it took back. It tells an undo that takes back its own changes from one that builds the map
+    /// anew.
     pub fn applied(&self) -> u128
         ensures { result ≡ applied self.now.base self.now.journal }
     {

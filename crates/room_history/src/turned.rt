@@ -47,7 +47,8 @@ impl<A: Allocator + Copy> Turned for Room<A> {
     }
 }
 
-// What holds of all that a room is asked, by the types of its values. It does nothing.
+// What holds of all that a room is asked, by the types of its values. It does nothing. `IsTurn` asks it, since a legal
+// history speaks of calls as plain values, and could else have entries that no program can make.
 fn keeps<A: Allocator>(call: &RoomCall<A>)
     ensures { is_made_room_call call.now ≡ true }
 {

@@ -38,8 +38,9 @@ pub fn mirrors_follow<A: Allocator>()
 /// From bytes to bytes: a client reads the text of a welcome to a room after `a` entries, and then the text of the news
 /// of each entry from `a + 1` to `b`, in turn, and keeps a mirror. None of the texts is refused, and the mirror has the
 /// room's map after `b` entries. Each text may be any that has the tree, as those that the room's session writes have.
-/// The names of the base, and those that the actions are about, have ids as messages have them (`i64`), the entries'
-/// authors have authors' names, and the journal has at most 2^53 - 1 entries, since numbers beyond are not read back.
+/// The names of the base, and those that the actions are about, have ids as messages have them (`i64`; to a contract an
+/// id is any whole number, and an accepted action makes no other), the entries' authors have authors' names, and the
+/// journal has at most 2^53 - 1 entries, since numbers beyond are not read back.
 pub fn a_client_has_the_rooms_map()
     ensures { (base : Rows Global) (limit : ℕ) (j : List (Entry Global)) (id a b : ℕ) (welcome : List ℕ) (texts : List (List ℕ))
         → is_sound base ≡ true → IsJournal base limit j

@@ -37,7 +37,7 @@ impl<A: Allocator + Copy> Mirror<A> {
     ghost use Rattle.room_mirror.specs.Mirrors.{fault, with_news, IsRefused};
 
     /// A mirror of these rows, whose names rise, as they were after the entry of this number. The one refusal is want
-    /// of memory.
+    /// of memory. It is generic in its allocator, as a room is; [`Mirror::from_welcome`] is not.
     pub fn from_rows(alloc: A, seq: u64, rows: Rows<A>) -> Result<Mirror<A>, Memory>
         requires { AreInOrder rows }
         ensures { IfOk result (λ m. m ≡ record { seq = seq; rows = rows }) }
@@ -48,7 +48,9 @@ impl<A: Allocator + Copy> Mirror<A> {
 
     /// Takes the news that come next. It refuses `Gap` where they have another number than the one after its own; then
     /// `Mismatch` where their names do not rise, or it has one of their rows already; then `Memory`. After a refusal it
-    /// is as it was. It costs what the news tell, times a logarithm, and never the map.
+    /// is as it was. It costs what the news tell, times a logarithm, and never the map. Rows that it has already are
+    /// refused, so that news which are told to the wrong mirror, or twice under new numbers, are found out where they
+    /// can be. It does not ask that its map be sound.
     pub fn take(&mut self, news: &News<A>) -> Result<(), MirrorFault>
         ensures ok { OnOk result ((fault self.old news.now ≡ None) × (self.new ≡ with_news self.old news.now)) }
         ensures err { IfErr result (λ f. IsRefused (fault self.old news.now) f × (self.new ≡ self.old)) }

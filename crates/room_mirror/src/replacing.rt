@@ -1,5 +1,8 @@
 //! News put into a map: first each name that is absent gets a row, which takes memory and can be taken out again, and then
 //! each row is replaced or taken out, which takes none.
+//!
+//! A mirror that changed a copy of its map would cost the map for each news. That a row was only there to make room
+//! cannot be seen, since each such name is told.
 ghost use Rattle.std.specs.Prelude.{◌≡◌, T, true, map, IfOk, OnOk, OnErr};
 ghost use Rattle.std.specs.List.{fold};
 ghost use Rattle.osm_elements.specs.Maps.{is_absent, is_present};
@@ -14,7 +17,8 @@ use osm_elements::element::Element;
 use osm_elements::map::OsmMap;
 use osm_elements::members::Members;
 use osm_elements::name::Name;
-use osm_elements::tags::Tags;
+use osm_elements::shared::Shared;
+use osm_elements::shared_tags::SharedTags;
 use room_history::news::{NewsRow, NewsRows};
 use std::alloc::Allocator;
 
@@ -32,7 +36,7 @@ pub fn replace<A: Allocator + Copy>(
     let copies = told.copy()?;
     let absent = absent_names(alloc, rows, told.as_slice())?;
     keeps_order(rows);
-    make_room(rows, alloc, &absent)?;
+    reserve(rows, alloc, &absent)?;
     keeps_order(rows);
     replace_all(rows, copies.into_vec());
     Ok(())
@@ -70,7 +74,7 @@ fn is_absent<A: Allocator>(rows: &OsmMap<A>, name: &Name) -> bool
 }
 
 // Puts an empty relation at each of some absent names. After a refusal, which is want of memory, the map is as it was.
-fn make_room<A: Allocator + Copy>(
+fn reserve<A: Allocator + Copy>(
     rows: &mut OsmMap<A>,
     alloc: A,
     absent: &[Name],
@@ -89,14 +93,14 @@ fn make_room<A: Allocator + Copy>(
     Ok(())
 }
 
-// Puts an empty relation, which itself takes no memory, at a name.
+// Puts an empty relation at a name.
 fn put_empty<A: Allocator + Copy>(rows: &mut OsmMap<A>, alloc: A, name: Name) -> Result<(), Memory>
     ensures ok { OnOk result (rows.new ≡ with_empty rows.old name) }
     ensures err { OnErr result (rows.new ≡ rows.old) }
 {
     let empty = Element::Relation {
-        members: Members::empty(alloc),
-        tags: Tags::empty(alloc),
+        members: Shared::new(alloc, Members::empty(alloc))?,
+        tags: SharedTags::empty(),
     };
     match rows.put(name, empty) {
         Ok(_) => Ok(()),

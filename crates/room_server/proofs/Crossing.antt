@@ -41,7 +41,7 @@ pub table_sync : IsSync RoomTable.the_row
 table_sync = view_sync RoomTable.TheInside.the_row _ _ _ _ inside
 
 seat : IsSend (Seat.the_row (Room.the_row Heap.the_row heap.ghosts) (RoomCall.the_row Heap.the_row heap.ghosts) (RoomReply.the_row Heap.the_row heap.ghosts) (Entry.the_row Heap.the_row heap.ghosts) (Opening.the_row Heap.the_row heap.ghosts) (turned.ghosts Heap.the_row heap.ghosts no_dict (cloning.ghosts Heap.the_row) no_dict))
-seat = seat_send Heap.the_row heap.ghosts no_dict (cloning.ghosts Heap.the_row) no_dict send frees
+seat = seat_send Heap.the_row heap.ghosts no_dict (cloning.ghosts Heap.the_row) no_dict send sync frees
 
 pub seats_send : IsSend (Vec.the_row (Seat.the_row (Room.the_row Heap.the_row heap.ghosts) (RoomCall.the_row Heap.the_row heap.ghosts) (RoomReply.the_row Heap.the_row heap.ghosts) (Entry.the_row Heap.the_row heap.ghosts) (Opening.the_row Heap.the_row heap.ghosts) (turned.ghosts Heap.the_row heap.ghosts no_dict (cloning.ghosts Heap.the_row) no_dict)) Heap.the_row heap.ghosts)
 seats_send = vec.the_send _ _ _ seat send frees

@@ -32,7 +32,9 @@ pub(crate) fn accept_all<R: Wait + Log>(
     }
 }
 
-// Accepts a connection whose reads and writes end. That a write goes out at once is asked, and not needed.
+// Accepts a connection whose reads and writes end. That a write goes out at once is asked, and not needed. A stream
+// that takes no time limit is a failed accept. An accept that a signal interrupts is made again by the system's
+// library, and is no session.
 fn accept(listener: &TcpListener) -> io::Result<TcpStream> {
     let (stream, _) = listener.accept()?;
     stream.set_read_timeout(Some(Duration::from_millis(QUIET_MILLIS)))?;

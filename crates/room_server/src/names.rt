@@ -11,7 +11,8 @@ use room_stacks::author::Author;
 use std::alloc::Global;
 use std::marker::Model;
 
-/// Names of rooms in their order, each once.
+/// Names of rooms in their order, each once. They are read apart, so that names are tested before the base is read: who
+/// misspells one is told at once, and not behind a long line.
 #[derive(Drop)]
 pub struct RoomNames {
     pub(crate) names: IndexSet<Author>,

@@ -71,7 +71,7 @@ impl From<BaseFault<Global>> for TableFault {
     }
 }
 
-/// Rooms under names, each at a desk.
+/// Rooms under names, each at a desk. These are two lists, so that the desks can be taken out without memory.
 #[derive(Drop)]
 pub struct RoomTable {
     names: IndexSet<Author>,
@@ -127,7 +127,8 @@ impl RoomTable {
         Ok(opened)
     }
 
-    /// As [`RoomTable::open_on`], under names that were read before.
+    /// As [`RoomTable::open_on`], under names that were read before. Where there is no name the base is tested all the
+    /// same, so that what the table is refused for does not hang on how many names there are.
     pub fn begin(
         alloc: Global,
         names: RoomNames,

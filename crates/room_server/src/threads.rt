@@ -45,8 +45,9 @@ pub(crate) struct Joined {
     pub(crate) fault: Option<PoolFault>,
 }
 
-/// Runs a worker for each set of seats, each in a thread of its own, hands them the connections that are accepted meanwhile, tells
-/// them to stop, and gives the sets of all that were started back. Where a thread is not started no connection is accepted.
+/// Runs a worker for each set of seats, each in a thread of its own, hands them the connections that are accepted
+/// meanwhile, tells them to stop, and gives the sets of all that were started back. Where a thread is not started no
+/// connection is accepted. The threads borrow the table and the queue (a scope): no count of references, no copy.
 pub(crate) fn run_threads<R: Threads + Wait + Clock + Log + Sync, G: Gate + Sync>(
     rt: &R,
     alloc: Global,

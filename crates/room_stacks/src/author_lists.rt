@@ -57,7 +57,7 @@ impl<A: Allocator> AuthorLists<A> {
     }
 
     /// Makes room for the next number of an author, or refuses with `Memory`. Room that was there stays.
-    pub fn make_room(&mut self, alloc: &A, author: &Author) -> Result<(), Memory>
+    pub fn reserve(&mut self, alloc: &A, author: &Author) -> Result<(), Memory>
     where
         A: Clone,
         ensures same { SameStacks self.old self.new }
@@ -65,10 +65,10 @@ impl<A: Allocator> AuthorLists<A> {
         ensures ok { OnOk result (has_room_at self.new author.now ≡ true) }
     {
         match self.by_author.get_mut(author) {
-            Some(stacks) => stacks.make_room(),
+            Some(stacks) => stacks.reserve(),
             None => {
                 let mut stacks = AuthorStacks::new(alloc)?;
-                stacks.make_room()?;
+                stacks.reserve()?;
                 self.by_author.insert(*author, stacks)?;
                 Ok(())
             }

@@ -57,7 +57,7 @@ impl<A: Allocator> AuthorStacks<A> {
     }
 
     /// Makes room for one more number in each list, or refuses with `Memory`. Room that was there stays.
-    pub fn make_room(&mut self) -> Result<(), Memory>
+    pub fn reserve(&mut self) -> Result<(), Memory>
         ensures standing { self.new.standing ≡ self.old.standing }
         ensures redo { self.new.redo ≡ self.old.redo }
         ensures ok { OnOk result (self.new.has_room ≡ true) }

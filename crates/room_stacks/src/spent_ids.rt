@@ -45,6 +45,8 @@ impl Work {
 #[derive(Drop)]
 #[derive_where(Debug)]
 pub struct SpentIds<A: Allocator> {
+    // An `IndexMap`, since its entries stay in the order in which they came: so the deeds can be read off it. Its hash
+    // has a fixed seed.
     works: IndexMap<Spending, Work, BuildHasherDefault<FoldHasher>, A>,
 }
 
@@ -88,7 +90,7 @@ impl<A: Allocator> SpentIds<A> {
     }
 
     /// Makes room for one more id, or refuses with `Memory`.
-    pub fn make_room(&mut self) -> Result<(), Memory>
+    pub fn reserve(&mut self) -> Result<(), Memory>
         ensures deeds { self.new.deeds ≡ self.old.deeds }
         ensures ok { OnOk result (0 < self.new.room) }
         ensures room { self.old.room ≤ self.new.room }

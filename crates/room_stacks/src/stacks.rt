@@ -35,7 +35,8 @@ impl<A: Allocator> Model for Stacks<A> {
 }
 
 impl<A: Allocator> Stacks<A> {
-    /// Stacks of a room in which nobody did anything. They take no memory.
+    /// Stacks of a room in which nobody did anything. They take no memory. `A` is `Copy`, since two collections are
+    /// made, and a `Clone` may fail.
     pub fn new(alloc: A) -> Stacks<A>
     where
         A: Copy,
@@ -83,8 +84,8 @@ impl<A: Allocator> Stacks<A> {
         ensures err { OnErr result (self.new ≡ self.old) }
     {
         let alloc = self.ids.allocator().clone()?;
-        self.ids.make_room()?;
-        self.lists.make_room(&alloc, author)?;
+        self.ids.reserve()?;
+        self.lists.reserve(&alloc, author)?;
         self.ready = Some(*author);
         Ok(())
     }
@@ -118,9 +119,10 @@ impl<A: Allocator> Stacks<A> {
         self.ready = None;
     }
 
-    /// Enters that an author, who is ready, did the action of the entry of the number `of` again, under an id, by the entry
-    /// of the number `seq`, which then stands. `of` is the last that [`Stacks::redo`] tells. It takes what [`Stacks::did`]
-    /// takes, and no memory.
+    /// Enters that an author, who is ready, did the action of the entry of the number `of` again, under an id, by the
+    /// entry of the number `seq`, which then stands. `of` is the last that [`Stacks::redo`] tells. It takes what
+    /// [`Stacks::did`] takes, and no memory. It takes off the top, whatever number it is told; `on_top` is asked so
+    /// that no list of deeds tells a redo that could not be made. An undo of the redo pushes the redo's number.
     pub fn redid(&mut self, author: Author, id: u64, of: u64, seq: u64)
         requires ready { self.old.ready ≡ Some author }
         requires unspent { spent self.old.deeds author id ≡ None }

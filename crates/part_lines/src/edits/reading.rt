@@ -5,11 +5,13 @@ use edit_actions::action::Action;
 use osm_coords::{Lat, Lon};
 use osm_elements::element::Element;
 use osm_elements::name::{Kind, Name};
+use osm_elements::shared::Shared;
+use osm_elements::shared_tags::SharedTags;
 use std::alloc::Global;
 
 /// The element of a kind that some words write.
 pub fn element(alloc: Global, kind: Kind, words: &str) -> Result<Element<Global>, Unread> {
-    let tags = tags(alloc, words)?;
+    let tags = SharedTags::new(alloc, tags(alloc, words)?)?;
     match kind {
         Kind::Node => {
             let (lat, lon) = pair(words)?;
@@ -18,11 +20,11 @@ pub fn element(alloc: Global, kind: Kind, words: &str) -> Result<Element<Global>
             Ok(Element::Node { lat, lon, tags })
         }
         Kind::Way => {
-            let nodes = nodes(alloc, words)?;
+            let nodes = Shared::new(alloc, nodes(alloc, words)?)?;
             Ok(Element::Way { nodes, tags })
         }
         Kind::Relation => {
-            let members = members(alloc, words)?;
+            let members = Shared::new(alloc, members(alloc, words)?)?;
             Ok(Element::Relation { members, tags })
         }
     }
@@ -63,11 +65,11 @@ fn named_action(
         }
         "reverse" => Ok(Action::Reverse { name }),
         "nodes" => {
-            let list = nodes(alloc, rest)?;
+            let list = Shared::new(alloc, nodes(alloc, rest)?)?;
             Ok(Action::Nodes { name, list })
         }
         "members" => {
-            let list = members(alloc, rest)?;
+            let list = Shared::new(alloc, members(alloc, rest)?)?;
             Ok(Action::Members { name, list })
         }
         "delete" => Ok(Action::Delete { name }),

@@ -7,7 +7,8 @@ use osm_elements::element::Element;
 use osm_elements::map::{Row, Rows};
 use osm_elements::member::Member;
 use osm_elements::name::Name;
-use osm_elements::tags::{Tag, Tags};
+use osm_elements::shared_tags::SharedTags;
+use osm_elements::tags::Tag;
 use osm_refs::users::Users;
 use std::alloc::{AllocError, Global};
 
@@ -39,7 +40,7 @@ fn put_members(
     Ok(())
 }
 
-fn put_tags(text: &mut String, tags: &Tags<Global>) -> Result<(), AllocError> {
+fn put_tags(text: &mut String, tags: &SharedTags<Global>) -> Result<(), AllocError> {
     for tag in tags.rows() {
         put_tag_copied(text, tag)?;
     }

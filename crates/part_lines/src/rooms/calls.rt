@@ -3,7 +3,7 @@ use edit_actions::action::Action;
 use osm_coords::{Lat, Lon};
 use osm_elements::element::Element;
 use osm_elements::name::{Kind, Name};
-use osm_elements::tags::Tags;
+use osm_elements::shared_tags::SharedTags;
 use room_history::ask::RoomCall;
 use room_history::call::{Call, Request};
 use room_stacks::author::Author;
@@ -24,7 +24,7 @@ pub fn node(id: i64) -> io::Result<Name> {
 pub fn creation(alloc: Global, author: Author, id: u64, name: Name) -> Option<Call<Global>> {
     let lat = Lat::new(0)?;
     let lon = Lon::new(0)?;
-    let tags = Tags::empty(alloc);
+    let tags = SharedTags::empty();
     let element = Element::Node { lat, lon, tags };
     Some(call(author, id, Request::Do(Action::Create { name, element })))
 }

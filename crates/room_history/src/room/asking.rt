@@ -19,6 +19,7 @@ impl<A: Allocator + Copy> Room<A> {
 
     /// Answers what the room is asked, in the form of what it was asked: a call as [`Room::take`] does, a query with
     /// copies of what the map holds. Where a growth was refused the reply tells it, and the room is as it was.
+    /// `replay`, where nobody waits, makes the answer to a query from what the room lends, and does not ask this.
     pub fn ask(&mut self, call: RoomCall<A>) -> RoomReply<A>
         ensures answer { IsAnswered self.old.base self.old.limit self.old.journal call result self.new.journal }
         ensures base { self.new.base ≡ self.old.base }

@@ -1,14 +1,14 @@
-use Rattle.std.proofs.Common.{length, ◌≤◌, sym, subst}
+use Rattle.std.proofs.Common.{length, ◌≤◌, sym, subst, ◌∙◌}
 use Rattle.osm_changes.specs.Sound.{most_nodes}
 use Rattle.edit_topology.proofs.JoinWays.{has_one, has_few}
 use Rattle.edit_topology.proofs.join.way_of_both.Goals as goal
 
 pub check_lists-requires : goal.check_lists-requires
 check_lists-requires g c = record {
-  some = subst (λ l. 1 ≤ length l) (sym c.names-2.ensures.names) (has_one c.args.rows.now c.args.other.now c.in_ok-other_nodes.other_nodes.now c.in_ok-other_nodes.other_tags.now c.requires c.in_ok-other_nodes.ensures);
-  few = subst (λ l. length l ≤ most_nodes) (sym c.names.ensures.names) (has_few c.args.rows.now c.args.name.now c.in_ok-nodes.nodes.now c.in_ok-nodes.tags.now c.requires c.in_ok-nodes.ensures);
-  other_few = subst (λ l. length l ≤ most_nodes) (sym c.names-2.ensures.names) (has_few c.args.rows.now c.args.other.now c.in_ok-other_nodes.other_nodes.now c.in_ok-other_nodes.other_tags.now c.requires c.in_ok-other_nodes.ensures);
+  some = subst (λ l. 1 ≤ length l) (sym (c.names-2.ensures.names ∙ c.deref-2.ensures)) (has_one c.args.rows.now c.args.other.now c.in_ok-other_nodes.other_nodes.now c.in_ok-other_nodes.other_tags.now c.requires c.in_ok-other_nodes.ensures);
+  few = subst (λ l. length l ≤ most_nodes) (sym (c.names.ensures.names ∙ c.deref.ensures)) (has_few c.args.rows.now c.args.name.now c.in_ok-nodes.nodes.now c.in_ok-nodes.tags.now c.requires c.in_ok-nodes.ensures);
+  other_few = subst (λ l. length l ≤ most_nodes) (sym (c.names-2.ensures.names ∙ c.deref-2.ensures)) (has_few c.args.rows.now c.args.other.now c.in_ok-other_nodes.other_nodes.now c.in_ok-other_nodes.other_tags.now c.requires c.in_ok-other_nodes.ensures);
 }
 
 pub end_to_end-requires : goal.end_to_end-requires
-end_to_end-requires g c = has_one c.args.rows.now c.args.other.now c.in_ok-other_nodes.other_nodes.now c.in_ok-other_nodes.other_tags.now c.requires c.in_ok-other_nodes.ensures
+end_to_end-requires g c = subst (λ l. 1 ≤ length l) (sym c.deref-4.ensures) (has_one c.args.rows.now c.args.other.now c.in_ok-other_nodes.other_nodes.now c.in_ok-other_nodes.other_tags.now c.requires c.in_ok-other_nodes.ensures)

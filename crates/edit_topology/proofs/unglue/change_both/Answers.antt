@@ -9,5 +9,5 @@ push_row-requires g c = first_fits c.args.into.now c.in_ok-copy.field-0 c.empty-
 
 pub push_row-requires-2 : goal.push_row-requires-2
 push_row-requires-2 g c =
-    second_fits c.args.into.now c.args.name.now c.in_ok-copy.field-0 (Way c.unglued-2.inside.names.items c.in_ok-copy-4.field-0) (Way c.in_ok-copy-2.field-0 c.in_ok-copy-3.field-0) c.requires c.push_row.new.self
+    second_fits c.args.into.now c.args.name.now c.in_ok-copy.field-0 (Way c.unglued-2.inside.inside.value c.in_ok-copy-4.field-0) (Way c.in_ok-copy-2.field-0 c.in_ok-copy-3.field-0) c.requires c.push_row.new.self
     (c.in_ok-push_row.ensures.ok ∙ ap (λ l. l ++ row_changes c.args.into.now None (Some c.in_ok-copy.field-0)) c.empty-changes.ensures)

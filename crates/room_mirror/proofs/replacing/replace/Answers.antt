@@ -8,11 +8,11 @@ use Rattle.room_mirror.proofs.ReplacedRows.{room_is_filled}
 use Rattle.room_mirror.proofs.Rooming.{absent_are, all_present}
 use Rattle.room_mirror.proofs.replacing.replace.Goals as goal
 
-pub make_room-requires-clause-order : goal.make_room-requires-clause-order
-make_room-requires-clause-order g c = c.keeps_order.ensures
+pub reserve-requires-clause-order : goal.reserve-requires-clause-order
+reserve-requires-clause-order g c = c.keeps_order.ensures
 
-pub make_room-requires-clause-absent : goal.make_room-requires-clause-absent
-make_room-requires-clause-absent g c =
+pub reserve-requires-clause-absent : goal.reserve-requires-clause-absent
+reserve-requires-clause-absent g c =
     let m = c.args.rows.now in
     let names = c.deref.ensures.value ∙ c.in_ok-absent.ensures ∙ ap (λ rs. absent_names m (told_names rs)) c.as_slice.ensures in
     subst (AreAbsent m) (sym names) (absent_are m (told_names c.args.told.now))
@@ -27,7 +27,7 @@ pub replace_all-requires-clause-present : goal.replace_all-requires-clause-prese
 replace_all-requires-clause-present g c =
     let m = c.args.rows.now in
     let names = c.deref.ensures.value ∙ c.in_ok-absent.ensures ∙ ap (λ rs. absent_names m (told_names rs)) c.as_slice.ensures in
-    let room = c.in_ok-make_room.ensures.ok ∙ ap (fold with_empty m) names in
+    let room = c.in_ok-reserve.ensures.ok ∙ ap (fold with_empty m) names in
     subst (λ n. ArePresent n (told_names c.into_vec.result.items)) (sym room)
     (subst (λ rs. ArePresent (fold with_empty m (absent_names m (told_names c.args.told.now))) (told_names rs)) (sym (c.into_vec.ensures ∙ c.in_ok-copies.ensures)) (all_present m (told_names c.args.told.now)))
 
@@ -35,6 +35,6 @@ pub returns-clause-ok : goal.returns-clause-ok
 returns-clause-ok g c =
     let m = c.args.rows.now in
     let names = c.deref.ensures.value ∙ c.in_ok-absent.ensures ∙ ap (λ rs. absent_names m (told_names rs)) c.as_slice.ensures in
-    let room = c.in_ok-make_room.ensures.ok ∙ ap (fold with_empty m) names in
+    let room = c.in_ok-reserve.ensures.ok ∙ ap (fold with_empty m) names in
     let copied = c.into_vec.ensures ∙ c.in_ok-copies.ensures in
     c.replace_all.ensures ∙ (λ k. mirrored (room k) (copied k)) ∙ room_is_filled m c.args.told.now c.keeps_order.ensures

@@ -19,11 +19,11 @@ join-one-requires-send-F g c κs within =
       (
         shr_send (named 7) κs.1.1.1.1.1.1.1.0 _ (desk_sync Heap.the_row heap.ghosts no_dict (cloning.ghosts Heap.the_row) no_dict send sync frees),
         (
-          seat_send Heap.the_row heap.ghosts no_dict (cloning.ghosts Heap.the_row) no_dict send frees,
+          seat_send Heap.the_row heap.ghosts no_dict (cloning.ghosts Heap.the_row) no_dict send sync frees,
           (shr_send (named 8) κs.1.1.1.1.1.1.1.1.0 _ work.the_sync, tt),
         ),
       ),
     )
 
 pub join-one-requires-send-A : goal.join-one-requires-send-A
-join-one-requires-send-A g c κs within = param_send 3 _ (arg_send _ yes _ (seat_send Heap.the_row heap.ghosts no_dict (cloning.ghosts Heap.the_row) no_dict send frees))
+join-one-requires-send-A g c κs within = param_send 3 _ (arg_send _ yes _ (seat_send Heap.the_row heap.ghosts no_dict (cloning.ghosts Heap.the_row) no_dict send sync frees))

@@ -1,5 +1,5 @@
 use Rattle.std.proofs.Common.{◌≡◌, ◌+◌, ◌++◌, ◌∷◌, [], Some, length, sym, ap, subst, ◌∙◌, rules}
-use Rattle.osm_changes.specs.Changes.{changed, AreFrom}
+use Rattle.osm_changes.specs.Changes.{changed, AreFrom, rows_after}
 use Rattle.osm_changes.specs.Sound.{is_sound}
 use Rattle.osm_changes.specs.Stores.{applied_to}
 use Rattle.edit_footprint.specs.Holding.{standing}
@@ -46,34 +46,34 @@ stand-requires-clause-sound g c =
 
 pub returns-in_err-kept-clause-err : goal.returns-in_err-kept-clause-err
 returns-in_err-kept-clause-err g c =
-    on_err c.from_residual-in_err-kept.result _ (ap (λ es. record { base = c.self.inside.base.value; limit = c.self.inside.limit; journal = es }) c.make_room.ensures.entries ∙ c.self.view_is)
+    on_err c.from_residual-in_err-kept.result _ (ap (λ es. record { base = c.self.inside.base.value; limit = c.self.inside.limit; journal = es }) c.reserve.ensures.entries ∙ c.self.view_is)
 
 pub returns-in_err-stand-clause-ok : goal.returns-in_err-stand-clause-ok
 returns-in_err-stand-clause-ok g c = on_ok c.from_residual-in_err-stand.result _ c.from_residual-in_err-stand.ensures.0
 
 pub returns-in_err-stand-clause-err : goal.returns-in_err-stand-clause-err
 returns-in_err-stand-clause-err g c =
-    on_err c.from_residual-in_err-stand.result _ (ap (λ es. record { base = c.self.inside.base.value; limit = c.self.inside.limit; journal = es }) c.make_room.ensures.entries ∙ c.self.view_is)
+    on_err c.from_residual-in_err-stand.result _ (ap (λ es. record { base = c.self.inside.base.value; limit = c.self.inside.limit; journal = es }) c.reserve.ensures.entries ∙ c.self.view_is)
 
 pub note-requires-clause-unspent : goal.note-requires-clause-unspent
 note-requires-clause-unspent g c =
     let room = c.self.inside in
     let may = subst (λ s. MayAppend s.limit s.journal c.args.author c.args.id) (sym c.self.view_is) c.requires.may in
-    unspent_deed room.store room.recorded.items room.origins.items room.footprints.items room.holders room.stacks.deeds room.base.value room.limit room.entries.items c.self.invariant c.args.author c.args.id may c.make_room.new.stacks.deeds c.make_room.ensures.deeds
+    unspent_deed room.store room.recorded.items room.origins.items room.footprints.items room.holders room.stacks.deeds room.base.value room.limit room.entries.items c.self.invariant c.args.author c.args.id may c.reserve.new.stacks.deeds c.reserve.ensures.deeds
 
 pub note-requires-clause-may : goal.note-requires-clause-may
 note-requires-clause-may g c =
     let room = c.self.inside in
     let may = subst (λ s. MayAppend s.limit s.journal c.args.author c.args.id) (sym c.self.view_is) c.requires.may in
     let work = subst (λ s. MayWork s.journal c.args.author c.args.kind) (sym c.self.view_is) c.requires.work in
-    work_noted room.store room.recorded.items room.origins.items room.footprints.items room.holders room.stacks.deeds room.base.value room.limit room.entries.items c.self.invariant c.args.author c.args.id may c.args.kind work c.make_room.new.stacks.deeds c.make_room.ensures.deeds
+    work_noted room.store room.recorded.items room.origins.items room.footprints.items room.holders room.stacks.deeds room.base.value room.limit room.entries.items c.self.invariant c.args.author c.args.id may c.args.kind work c.reserve.new.stacks.deeds c.reserve.ensures.deeds
 
 pub note-requires-clause-last : goal.note-requires-clause-last
 note-requires-clause-last g c =
     let room = c.self.inside in
     let count : c.len.result ≡ length room.entries.items = search rules in
     let may = subst (λ s. MayAppend s.limit s.journal c.args.author c.args.id) (sym c.self.view_is) c.requires.may in
-    above_deeds room.store room.recorded.items room.origins.items room.footprints.items room.holders room.stacks.deeds room.base.value room.limit room.entries.items c.self.invariant c.args.author c.args.id may c.make_room.new.stacks.deeds (c.len.result + 1) c.make_room.ensures.deeds (ap (λ n. n + 1) count)
+    above_deeds room.store room.recorded.items room.origins.items room.footprints.items room.holders room.stacks.deeds room.base.value room.limit room.entries.items c.self.invariant c.args.author c.args.id may c.reserve.new.stacks.deeds (c.len.result + 1) c.reserve.ensures.deeds (ap (λ n. n + 1) count)
 
 pub invariant_of-self-2 : goal.invariant_of-self-2
 invariant_of-self-2 g c =
@@ -87,17 +87,22 @@ invariant_of-self-2 g c =
     (c.requires.changes ∙ sym (ap (λ s. (recorded_next (past s.base s.journal) c.args.kind).changes) c.self.view_is))
     (c.requires.footprint ∙ sym (ap (λ s. (recorded_next (past s.base s.journal) c.args.kind).footprint) c.self.view_is))
     (c.in_ok-stand.ensures.ok.0 ∙ ap (λ (k : Kept _). applied_to room.store k.changes) c.in_ok-kept.ensures)
-    (c.enter.ensures.recorded ∙ (λ i. c.make_room.ensures.recorded i ++ c.in_ok-kept.ensures i ∷ []))
-    (c.enter.ensures.origins ∙ (λ i. c.make_room.ensures.origins i ++ (c.origin_next-origin.ensures ∙ ap (λ os. origin_next os c.args.kind) (c.deref.ensures.value ∙ c.make_room.ensures.origins)) i ∷ []))
-    (c.enter.ensures.footprints ∙ ap (λ fs. fs ++ Some c.args.footprint ∷ []) c.make_room.ensures.footprints)
+    (c.enter.ensures.recorded ∙ (λ i. c.reserve.ensures.recorded i ++ c.in_ok-kept.ensures i ∷ []))
+    (c.enter.ensures.origins ∙ (λ i. c.reserve.ensures.origins i ++ (c.origin_next-origin.ensures ∙ ap (λ os. origin_next os c.args.kind) (c.deref.ensures.value ∙ c.reserve.ensures.origins)) i ∷ []))
+    (c.enter.ensures.footprints ∙ ap (λ fs. fs ++ Some c.args.footprint ∷ []) c.reserve.ensures.footprints)
     (c.in_ok-stand.ensures.ok.1 ∙ ap (λ n. standing room.holders c.args.footprint (n + 1)) count)
-    (c.note.ensures ∙ (λ i. c.make_room.ensures.deeds i ++ deed_by (count i + 1) c.args.author c.args.id c.args.kind ∷ []))
-    (c.enter.ensures.entries ∙ ap (λ es. es ++ record { author = c.args.author; id = c.args.id; kind = c.args.kind } ∷ []) c.make_room.ensures.entries)
+    (c.note.ensures ∙ (λ i. c.reserve.ensures.deeds i ++ deed_by (count i + 1) c.args.author c.args.id c.args.kind ∷ []))
+    (c.enter.ensures.entries ∙ ap (λ es. es ++ record { author = c.args.author; id = c.args.id; kind = c.args.kind } ∷ []) c.reserve.ensures.entries)
 
-pub returns-in_err-make_room-clause-err : goal.returns-in_err-make_room-clause-err
-returns-in_err-make_room-clause-err g c =
-    on_err c.from_residual.result _ (ap (λ es. record { base = c.self.inside.base.value; limit = c.self.inside.limit; journal = es }) c.make_room.ensures.entries ∙ c.self.view_is)
+pub returns-in_err-reserve-clause-err : goal.returns-in_err-reserve-clause-err
+returns-in_err-reserve-clause-err g c =
+    on_err c.from_residual.result _ (ap (λ es. record { base = c.self.inside.base.value; limit = c.self.inside.limit; journal = es }) c.reserve.ensures.entries ∙ c.self.view_is)
 
 pub invariant_of-self-in_err-stand : goal.invariant_of-self-in_err-stand
 invariant_of-self-in_err-stand g c =
-    rw (c.in_err-stand.ensures.err.0, c.in_err-stand.ensures.err.1, c.make_room.ensures.recorded, c.make_room.ensures.origins, c.make_room.ensures.footprints, c.make_room.ensures.deeds, c.make_room.ensures.entries) c.self.invariant
+    rw (c.in_err-stand.ensures.err.0, c.in_err-stand.ensures.err.1, c.reserve.ensures.recorded, c.reserve.ensures.origins, c.reserve.ensures.footprints, c.reserve.ensures.deeds, c.reserve.ensures.entries) c.self.invariant
+
+pub stand-requires-clause-rows : goal.stand-requires-clause-rows
+stand-requires-clause-rows g c =
+    let e = c.in_ok-kept.ensures in
+    ap (λ (k : Kept _). k.rows) e ∙ ap (rows_after c.self.inside.store.rows) (sym (ap (λ (k : Kept _). k.changes) e))

@@ -1,7 +1,7 @@
 use Rattle.std.proofs.Common.{◌≡◌, take}
 use Rattle.std.specs.List.{fold}
 use Rattle.room_mirror.specs.Inner.Replacing.{with_empty}
-use Rattle.room_mirror.proofs.replacing.make_room.Given as goal
+use Rattle.room_mirror.proofs.replacing.reserve.Given as goal
 
 abbrev pub invariant-loop-place : goal.invariant-loop-place
 invariant-loop-place g l = l.rows ≡ fold with_empty l.fn.rows (take l.place l.absent)

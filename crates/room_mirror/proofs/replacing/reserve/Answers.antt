@@ -2,7 +2,7 @@ use Rattle.std.proofs.Common.{◌∙◌, ap, take}
 use Rattle.std.specs.List.{fold}
 use Rattle.osm_elements.specs.Rows.{without_row}
 use Rattle.room_mirror.proofs.Rooming.{taken_out_again}
-use Rattle.room_mirror.proofs.replacing.make_room.Goals as goal
+use Rattle.room_mirror.proofs.replacing.reserve.Goals as goal
 
 pub returns-in-Err-clause-err : goal.returns-in-Err-clause-err
 returns-in-Err-clause-err g c =
