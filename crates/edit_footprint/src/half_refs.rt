@@ -10,7 +10,8 @@ use osm_elements::name::Name;
 use osm_elements::names::Names;
 use std::alloc::Allocator;
 
-// What a half refers to, rising, each once: nothing where there is none. The names are sorted.
+// What a half refers to, rising, each once: nothing where there is none. The names are sorted. A change has no whole
+// row, so `refs_of` of `osm_refs`, which tells the same of a row, cannot be asked.
 pub(crate) fn half_refs<A: Allocator>(alloc: A, half: &Option<Half<A>>) -> Result<Names<A>, Memory>
     ensures { IfOk result (λ names. names ≡ name_set (half_references half.now)) }
 {

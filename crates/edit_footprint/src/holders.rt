@@ -39,7 +39,7 @@ impl<A: Allocator> Model for Holders<A> {
 }
 
 impl<A: Allocator> Holders<A> {
-    /// No entries. They take no memory.
+    /// No entries. They take no memory. `A` is `Copy`, since it is kept beside the lists too, and a `Clone` may fail.
     pub fn new(alloc: A) -> Holders<A>
     where
         A: Copy,
@@ -51,8 +51,9 @@ impl<A: Allocator> Holders<A> {
         }
     }
 
-    /// Lets an entry stand whose number comes after those of all others, or refuses with `Memory` and leaves all as
-    /// it was. It takes time logarithmic in the number of held cells for each cell of the footprint.
+    /// Lets an entry stand whose number comes after those of all others, or refuses with `Memory` and leaves all as it
+    /// was. It takes time logarithmic in the number of held cells for each cell of the footprint. An entry can stand
+    /// before the store changes, and fall again where that is refused.
     pub fn stand(&mut self, footprint: &Footprint<A>, seq: u64) -> Result<(), Memory>
     where
         A: Clone,
@@ -78,7 +79,8 @@ impl<A: Allocator> Holders<A> {
 
     /// The first entry behind a number that holds one of a footprint's cells, and the least name of those of them that
     /// it holds; or none, where there is no such entry. For each cell of the footprint it takes time logarithmic in the
-    /// number of held cells and in how many entries hold the cell.
+    /// number of held cells and in how many entries hold the cell. It tells a name and not a cell, since a refusal says
+    /// which element it is. There is just one such answer (`just_one` of `specs/Facts/Holding.antt`).
     pub fn first_after(&self, footprint: &Footprint<A>, seq: u64) -> Option<(u64, Name)>
         ensures { IsFirstAfter self.now footprint.now seq result }
     {

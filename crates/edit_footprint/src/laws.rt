@@ -26,14 +26,17 @@ pub fn leaves_the_rest<A: Allocator>()
 {}
 
 /// An action looks at its footprint alone: accepted in one sound map, it is accepted in each that has the same halves
-/// and the same users there, with the same changes and the same footprint.
+/// and the same users there, with the same changes and the same footprint. Nothing is asked of the action's own values.
+/// Users of a name are a matter of its rest: they are asked to be the same only at names whose rest is in the
+/// footprint.
 pub fn locality<A: Allocator>()
     ensures { (m n : Rows A) (a : Action A) → is_sound m ≡ true → is_sound n ≡ true → refusal m a ≡ None → Agree m n (footprint m a)
         → AcceptedAlike m n a }
 {}
 
 /// Two actions, accepted one after the other, change places where their footprints share no cell: each is accepted,
-/// with its changes and its footprint as they were, and both orders lead to the same map.
+/// with its changes and its footprint as they were, and both orders lead to the same map. The actions' own values are
+/// as their types keep them, since the map after the first has to be sound.
 pub fn commutation<A: Allocator>()
     ensures { (m : Rows A) (a b : Action A) → is_sound m ≡ true → is_made_action a ≡ true → is_made_action b ≡ true → refusal m a ≡ None → refusal (after m a) b ≡ None
         → meets (footprint m a) (footprint (after m a) b) ≡ None → ChangePlaces m a b }

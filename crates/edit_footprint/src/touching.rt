@@ -24,19 +24,19 @@ use std::alloc::Allocator;
 
 // What an action is about, by the list of the actions.
 macro_rules! about {
-    (($action:expr, $alloc:expr) $($variant:ident $word:literal { $($field:ident: $how:ident from $source:ident $(by $name:ident)?),* } by $plan:ident about $part:ident $way:ident [$($subject:ident),*];)*) => {
+    (($action:expr, $alloc:expr, $more:expr) $($variant:ident $word:literal { $($field:ident: $how:ident from $source:ident $(by $name:ident)?),* } by $plan:ident about $part:ident $way:ident [$($subject:ident),*];)*) => {
         match $action {
-            $(Action::$variant { $($subject,)* .. } => listed!($part $way $alloc, $($subject),*),)*
+            $(Action::$variant { $($subject,)* .. } => listed!($part $way $alloc, $more, $($subject),*),)*
         }
     };
 }
 
-// The cells of a part of some names, or of both parts, as a list.
+// The cells of a part of some names, or of both parts, as a list with room for some more.
 macro_rules! listed {
-    (rest each $alloc:expr, $names:ident) => { rests_of($alloc, $names.as_slice()) };
-    (tags names $alloc:expr, $($name:ident),*) => { Ok(vec![in $alloc; $(tags_of($name)),*]?) };
-    (rest names $alloc:expr, $($name:ident),*) => { Ok(vec![in $alloc; $(rest_of($name)),*]?) };
-    (both names $alloc:expr, $($name:ident),*) => { Ok(vec![in $alloc; $(tags_of($name), rest_of($name)),*]?) };
+    (rest each $alloc:expr, $more:expr, $names:ident) => { rests_of($alloc, $names.as_slice(), $more) };
+    (tags names $alloc:expr, $more:expr, $($name:ident),*) => { list_of($alloc, &[$(tags_of($name)),*], $more) };
+    (rest names $alloc:expr, $more:expr, $($name:ident),*) => { list_of($alloc, &[$(rest_of($name)),*], $more) };
+    (both names $alloc:expr, $more:expr, $($name:ident),*) => { list_of($alloc, &[$(tags_of($name), rest_of($name)),*], $more) };
 }
 
 /// The footprint of an action with its changes, or `Memory`: the cells that the action is about, those that it changes,
@@ -49,18 +49,27 @@ pub fn footprint<A: Allocator + Clone>(
 ) -> Result<Footprint<A>, Memory>
     ensures { IfOk result (λ f. f ≡ footprint_of action.now changes.now) }
 {
-    let mut cells = subjects(alloc.clone()?, action)?;
+    let mut cells = subjects(alloc.clone()?, action, changes.len())?;
     push_changed(&mut cells, changes.rows())?;
     push_all_begun_or_ceased(&alloc, &mut cells, changes.rows())?;
     push_unglued_from(&mut cells, action, changes.rows())?;
     Ok(Footprint::of(cells))
 }
 
-// The cells that an action is about.
-fn subjects<A: Allocator>(alloc: A, action: &Action<A>) -> Result<Vec<Cell, A>, Memory>
+// The cells that an action is about, with room for so many more.
+fn subjects<A: Allocator>(alloc: A, action: &Action<A>, more: usize) -> Result<Vec<Cell, A>, Memory>
     ensures { IfOk result (λ cells. cells.items ≡ subjects action.now) }
 {
-    each_action!(about(action, alloc))
+    each_action!(about(action, alloc, more))
+}
+
+// These cells, with room for so many more.
+fn list_of<A: Allocator>(alloc: A, cells: &[Cell], more: usize) -> Result<Vec<Cell, A>, Memory>
+    ensures { IfOk result (λ list. list.items ≡ cells.now) }
+{
+    let mut list = Vec::with_capacity(alloc, cells.len().saturating_add(more))?;
+    list.extend_from_slice(cells)?;
+    Ok(list)
 }
 
 // The tags of a name.
@@ -83,11 +92,11 @@ fn rest_of(name: &Name) -> Cell
     }
 }
 
-// The rest of each of some names.
-fn rests_of<A: Allocator>(alloc: A, names: &[Name]) -> Result<Vec<Cell, A>, Memory>
+// The rest of each of some names, with room for so many cells more.
+fn rests_of<A: Allocator>(alloc: A, names: &[Name], more: usize) -> Result<Vec<Cell, A>, Memory>
     ensures { IfOk result (λ cells. cells.items ≡ map rest_at names.now) }
 {
-    let mut cells = Vec::with_capacity(alloc, names.len())?;
+    let mut cells = Vec::with_capacity(alloc, names.len().saturating_add(more))?;
     for name in names {
         cells.push(rest_of(name))?;
     }
