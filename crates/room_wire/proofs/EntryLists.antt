@@ -29,6 +29,9 @@ module _ {V : Type 0} (reading : Data → Option V) where
   pub entries_in-some : (front : List (List ℕ × V)) (t : List ℕ × V) (k : List ℕ) (d : Data) (ms : Members) → entry_of reading k d ≡ Some t → with_front front (member k d ms) ≡ with_front (front ++ t ∷ []) ms
   entries_in-some front t k d ms h = rw h (one_more front t (entries_in reading ms))
 
+  pub entries_in-none : (front : List (List ℕ × V)) (k : List ℕ) (d : Data) (ms : Members) → entry_of reading k d ≡ None → with_front front (member k d ms) ≡ None
+  entries_in-none front k d ms h = rw h refl
+
   pub entries_in-nil : (front : List (List ℕ × V)) → with_front front no_members ≡ Some front
   entries_in-nil front = ap Some (append-nil front)
 

@@ -17,7 +17,8 @@ use osm_elements::member::Member;
 use osm_elements::members::Members;
 use osm_elements::name::{NAME_LENGTH, Name};
 use osm_elements::nodes::Nodes;
-use osm_elements::tags::{Tag, Tags};
+use osm_elements::shared_tags::SharedTags;
+use osm_elements::tags::Tag;
 use std::alloc::Global;
 use std::str;
 
@@ -29,7 +30,7 @@ pub enum Part<'a> {
     Lon(Lon),
     Nodes(&'a Nodes<Global>),
     Members(&'a Members<Global>),
-    Tags(&'a Tags<Global>),
+    Tags(&'a SharedTags<Global>),
     Gone,
 }
 
@@ -174,7 +175,7 @@ impl Told for Member<Global> {
 }
 
 // Writes an object with a member for each tag.
-fn write_tags(out: &mut Writer, tags: &Tags<Global>) -> Result<(), Memory>
+fn write_tags(out: &mut Writer, tags: &SharedTags<Global>) -> Result<(), Memory>
     ensures { OnOk result (Tells out.old out.new (tags_tree tags.now)) }
 {
     write_object(out, tags.rows())

@@ -21,6 +21,7 @@ use osm_elements::members::Members;
 use osm_elements::name::{Kind, Name};
 use osm_elements::names::Names;
 use osm_elements::nodes::Nodes;
+use osm_elements::shared::Shared;
 use osm_elements::text::Text;
 use room_stacks::author::Author;
 use serde_json::Value;
@@ -95,7 +96,7 @@ pub fn els_of(alloc: Global, message: &Value) -> Result<Names<Global>, Fault>
 fn names_in(alloc: Global, items: &[Value]) -> Result<Names<Global>, Fault>
     ensures { Gives result (or_fault (BadField field.Els) (names_in (items_view items.now))) }
 {
-    let mut names = Names::empty(alloc);
+    let mut names = Names::with_capacity(alloc, items.len())?;
     for item in items {
         match name_item(item) {
             Some(name) => names.push(name)?,
@@ -141,21 +142,21 @@ pub fn lon_of(message: &Value) -> Result<Lon, Fault>
 }
 
 // The nodes of a way.
-pub fn nodes_of(alloc: Global, message: &Value) -> Result<Nodes<Global>, Fault>
+pub fn nodes_of(alloc: Global, message: &Value) -> Result<Shared<Nodes<Global>, Global>, Fault>
     ensures { Gives result (nodes_at (view message.now)) }
 {
     let items = message
         .get(Field::Nodes.as_str())
         .and_then(Value::as_array)
         .ok_or(Fault::BadField(Field::Nodes))?;
-    nodes_in(alloc, items)
+    Ok(Shared::new(alloc, nodes_in(alloc, items)?)?)
 }
 
 // The nodes with these ids.
 fn nodes_in(alloc: Global, items: &[Value]) -> Result<Nodes<Global>, Fault>
     ensures { Gives result (or_fault (BadField field.Nodes) (nodes_in (items_view items.now))) }
 {
-    let mut nodes = Nodes::empty(alloc);
+    let mut nodes = Nodes::with_capacity(alloc, items.len())?;
     for item in items {
         match node_of(item) {
             Some(node) => nodes.push(node)?,
@@ -182,21 +183,21 @@ fn node_with(id: i64) -> Option<Name>
 }
 
 // The members of a relation.
-pub fn members_of(alloc: Global, message: &Value) -> Result<Members<Global>, Fault>
+pub fn members_of(alloc: Global, message: &Value) -> Result<Shared<Members<Global>, Global>, Fault>
     ensures { Gives result (members_at (view message.now)) }
 {
     let items = message
         .get(Field::Members.as_str())
         .and_then(Value::as_array)
         .ok_or(Fault::BadField(Field::Members))?;
-    members_in(alloc, items)
+    Ok(Shared::new(alloc, members_in(alloc, items)?)?)
 }
 
 // The members with these names and roles.
 fn members_in(alloc: Global, items: &[Value]) -> Result<Members<Global>, Fault>
     ensures { Gives result (or_fault (BadField field.Members) (members_in (items_view items.now))) }
 {
-    let mut members = Members::empty(alloc);
+    let mut members = Members::with_capacity(alloc, items.len())?;
     for item in items {
         let (name, role) = member_of(alloc, item)?;
         members.push(Member::new(name, role))?;
@@ -265,10 +266,10 @@ pub fn fault_in(field: Field, fault: TextFault) -> Fault
 }
 
 // A field that is an object.
-pub fn object_at(message: &Value, field: Field) -> Result<&Value, Fault>
-    ensures { result_map_both (λ v. view v.now) (λ f. f) result ≡ object_at field (view message.now) }
+pub fn object_at(message: &mut Value, field: Field) -> Result<&mut Value, Fault>
+    ensures { result_map_both (λ v. view v.now) (λ f. f) result ≡ object_at field (view message.old) }
 {
-    match message.get(field.as_str()) {
+    match message.get_mut(field.as_str()) {
         Some(value) => {
             if value.is_object() {
                 Ok(value)

@@ -1,9 +1,12 @@
 //! Rows whose names rise, read from an array.
 ghost use Rattle.std.specs.Prelude.{◌≡◌, true, map, IfOk};
 ghost use Rattle.std.specs.Result.{result_map_both, result_ok};
+ghost use Rattle.std.specs.Option.{option_and_then, option_map};
+ghost use Rattle.serde_json.specs.Find.{as_array, get};
 ghost use Rattle.serde_json.specs.View.{view, items_view};
 ghost use Rattle.osm_changes.specs.Changes.{are_rising};
 ghost use Rattle.room_wire.specs.declared.bad.Fault.TheVariants.{BadField};
+ghost use Rattle.room_wire.specs.Fields.{field_text};
 ghost use Rattle.room_wire.specs.Lists.{in_list, row_at, rows_at, rows_in};
 ghost use Rattle.room_wire.specs.Reading.{Gives, or_fault};
 
@@ -24,30 +27,27 @@ pub trait Listed: Named + Drop {
 
     ghost reads: { Data → Result Self Fault };
 
-    fn read(alloc: Global, item: &Value) -> Result<Self, Fault>
-        ensures { Gives result (reads (view item.now)) };
+    fn read(alloc: Global, item: Value) -> Result<Self, Fault>
+        ensures { Gives result (reads (view item)) };
 }
 
 // An element under its name.
 impl Listed for Row<Global> {
     ghost reads = { row_at };
 
-    fn read(alloc: Global, item: &Value) -> Result<Row<Global>, Fault> {
-        let name = el_of(item)?;
-        let element = element_of(alloc, name.kind(), item)?;
+    fn read(alloc: Global, mut item: Value) -> Result<Row<Global>, Fault> {
+        let name = el_of(&item)?;
+        let element = element_of(alloc, name.kind(), &mut item)?;
         Ok(Row { name, element })
     }
 }
 
-// The rows of a field, whose names rise.
-pub fn rows_of<T: Listed>(alloc: Global, field: Field, message: &Value) -> Result<Vec<T>, Fault>
-    ensures read { Gives (result_map_both (λ v. v.items) (λ f. f) result) (rows_at T.reads T.named field (view message.now)) }
+// The rows of a field, whose names rise. They are taken out of the message, and keep its texts.
+pub fn rows_of<T: Listed>(alloc: Global, field: Field, message: &mut Value) -> Result<Vec<T>, Fault>
+    ensures read { Gives (result_map_both (λ v. v.items) (λ f. f) result) (rows_at T.reads T.named field (view message.old)) }
     ensures rising { IfOk result (λ v. are_rising (map T.named v.items) ≡ true) }
 {
-    let items = message
-        .get(field.as_str())
-        .and_then(Value::as_array)
-        .ok_or(Fault::BadField(field))?;
+    let items = items_at(field, message).ok_or(Fault::BadField(field))?;
     let rows = rows_in::<T>(alloc, field, items)?;
     if are_rising(&rows) {
         Ok(rows)
@@ -56,9 +56,19 @@ pub fn rows_of<T: Listed>(alloc: Global, field: Field, message: &Value) -> Resul
     }
 }
 
+// The items of a field that is an array, taken out of the message.
+fn items_at(field: Field, message: &mut Value) -> Option<Vec<Value>>
+    ensures { option_map (λ v. items_view v.items) result ≡ option_and_then as_array (get (field_text field) (view message.old)) }
+{
+    match message.get_mut(field.as_str())?.take() {
+        Value::Array(items) => Some(items),
+        _ => None,
+    }
+}
+
 // The rows that some items are.
-fn rows_in<T: Listed>(alloc: Global, field: Field, items: &[Value]) -> Result<Vec<T>, Fault>
-    ensures { Gives (result_map_both (λ v. v.items) (λ f. f) result) (or_fault (BadField field) (rows_in T.reads T.named (items_view items.now))) }
+fn rows_in<T: Listed>(alloc: Global, field: Field, items: Vec<Value>) -> Result<Vec<T>, Fault>
+    ensures { Gives (result_map_both (λ v. v.items) (λ f. f) result) (or_fault (BadField field) (rows_in T.reads T.named (items_view items.items))) }
 {
     let mut rows = Vec::new(alloc);
     for item in items {
@@ -72,8 +82,8 @@ fn rows_in<T: Listed>(alloc: Global, field: Field, items: &[Value]) -> Result<Ve
 }
 
 // The row that an item is, whose faults are those of its list.
-fn row_in<T: Listed>(alloc: Global, field: Field, item: &Value) -> Result<T, Fault>
-    ensures { Gives result (or_fault (BadField field) (result_ok (T.reads (view item.now)))) }
+fn row_in<T: Listed>(alloc: Global, field: Field, item: Value) -> Result<T, Fault>
+    ensures { Gives result (or_fault (BadField field) (result_ok (T.reads (view item)))) }
 {
     match T::read(alloc, item) {
         Ok(row) => Ok(row),

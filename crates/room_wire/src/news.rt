@@ -41,13 +41,13 @@ fn news_in(alloc: Global, text: &str) -> Result<News<Global>, Fault>
     ensures exact { Gives result (news_told (read text.now)) }
     ensures memory { IfErr result (λ f. f ≡ Memory → 0 < length text.now) }
 {
-    let message = parse(alloc, text)?;
-    news_of(alloc, &message)
+    let mut message = parse(alloc, text)?;
+    news_of(alloc, &mut message)
 }
 
 // The news of a message.
-fn news_of(alloc: Global, message: &Value) -> Result<News<Global>, Fault>
-    ensures { Gives result (news_at (view message.now)) }
+fn news_of(alloc: Global, message: &mut Value) -> Result<News<Global>, Fault>
+    ensures { Gives result (news_at (view message.old)) }
 {
     if !message.is_object() {
         return Err(Fault::NotObject);
@@ -56,13 +56,15 @@ fn news_of(alloc: Global, message: &Value) -> Result<News<Global>, Fault>
     told_of(alloc, told)
 }
 
-// The news that an object tells.
-fn told_of(alloc: Global, told: &Value) -> Result<News<Global>, Fault>
-    ensures { Gives result (told_at (view told.now)) }
+// The news that an object tells. The number is looked for before the rows, since these are taken out, and where both are
+// amiss the rows are told.
+fn told_of(alloc: Global, told: &mut Value) -> Result<News<Global>, Fault>
+    ensures { Gives result (told_at (view told.old)) }
 {
     let author = author_at(told, Field::By)?;
+    let seq = number_of(told);
     let rows = rows_of::<NewsRow<Global>>(alloc, Field::Rows, told)?;
-    let seq = number_of(told)?;
+    let seq = seq?;
     let rows = NewsRows::from_vec(rows);
     Ok(News { seq, author, rows })
 }
@@ -80,9 +82,9 @@ fn number_of(told: &Value) -> Result<u64, Fault>
 impl Listed for NewsRow<Global> {
     ghost reads = { news_row_at };
 
-    fn read(alloc: Global, item: &Value) -> Result<NewsRow<Global>, Fault> {
-        if is_gone(item) {
-            let name = el_of(item)?;
+    fn read(alloc: Global, item: Value) -> Result<NewsRow<Global>, Fault> {
+        if is_gone(&item) {
+            let name = el_of(&item)?;
             let element = None;
             return Ok(NewsRow { name, element });
         }

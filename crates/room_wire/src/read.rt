@@ -1,8 +1,9 @@
 //! Messages, read from their texts.
-ghost use Rattle.std.specs.Prelude.{◌≡◌, ◌⊎◌, ◌<◌, length, Some, None, IfOk, OnOk, IfErr};
+ghost use Rattle.std.specs.Prelude.{◌≡◌, ◌⊎◌, ◌<◌, length, Some, None, Err, IfOk, OnOk, IfErr, IfSome, IfNone};
+ghost use Rattle.serde_json.specs.Data.{Data};
 ghost use Rattle.serde_json.specs.Read.{read};
 ghost use Rattle.serde_json.specs.View.{view};
-ghost use Rattle.room_wire.specs.declared.bad.Fault.TheVariants.{NotJson, Memory};
+ghost use Rattle.room_wire.specs.declared.bad.Fault.TheVariants.{NotJson, Memory, UnknownDo};
 ghost use Rattle.room_wire.specs.Reading.{Gives, GivesMessage, under};
 ghost use Rattle.room_wire.specs.Spelling.{spells, incoming, id_at, body_at, body_by, hello_at, action_by, element_at};
 
@@ -32,6 +33,17 @@ macro_rules! read_by {
                 Ok(Action::$variant { $($field),* })
             })*
             _ => Err(Fault::UnknownDo),
+        }
+    };
+}
+
+// A word that is one of some, or that of an action.
+macro_rules! word_among {
+    (($word:expr, $($other:literal),*) $($variant:ident $text:literal { $($field:ident: $how:ident from $source:ident $(by $name:ident)?),* } by $plan:ident about $part:ident $way:ident [$($subject:ident),*];)*) => {
+        match $word {
+            $($other => Some($other),)*
+            $($text => Some($text),)*
+            _ => None,
         }
     };
 }
@@ -92,9 +104,9 @@ pub fn read_request(alloc: Global, text: &str) -> Result<Incoming, Bad>
     ensures exact { GivesMessage result (spells text.now) }
     ensures memory { IfErr result (λ bad. bad.fault ≡ Memory → 0 < length text.now) }
 {
-    let message = parse(alloc, text).map_err(Bad::unread)?;
+    let mut message = parse(alloc, text).map_err(Bad::unread)?;
     let id = id_of(&message).map_err(Bad::unread)?;
-    incoming_of(alloc, id, &message)
+    incoming_of(alloc, id, &mut message)
 }
 
 // The tree of a text.
@@ -119,8 +131,8 @@ pub fn id_of(message: &Value) -> Result<u64, Fault>
 }
 
 // What a message asks for, under its id.
-fn incoming_of(alloc: Global, id: u64, message: &Value) -> Result<Incoming, Bad>
-    ensures exact { GivesMessage result (under incoming id (body_at (view message.now))) }
+fn incoming_of(alloc: Global, id: u64, message: &mut Value) -> Result<Incoming, Bad>
+    ensures exact { GivesMessage result (under incoming id (body_at (view message.old))) }
 {
     match body_of(alloc, message) {
         Ok(body) => Ok(Incoming { id, body }),
@@ -129,19 +141,30 @@ fn incoming_of(alloc: Global, id: u64, message: &Value) -> Result<Incoming, Bad>
 }
 
 // What a message asks for.
-fn body_of(alloc: Global, message: &Value) -> Result<Body, Fault>
-    ensures { Gives result (body_at (view message.now)) }
+fn body_of(alloc: Global, message: &mut Value) -> Result<Body, Fault>
+    ensures { Gives result (body_at (view message.old)) }
 {
     let word = message
         .get("do")
         .and_then(Value::as_str)
         .ok_or(Fault::UnknownDo)?;
-    body_by(alloc, word, message)
+    match known(word) {
+        Some(word) => body_by(alloc, word, message),
+        None => Err(Fault::UnknownDo),
+    }
+}
+
+// The word as it stands here, so that the message is not borrowed, or none where no message has it.
+fn known(word: &str) -> Option<&'static str>
+    ensures known { IfSome result (λ w. w.now ≡ word.now) }
+    ensures unknown { IfNone result ((d : Data) → body_by word.now d ≡ Err UnknownDo) }
+{
+    each_action!(word_among(word, "hello", "undo", "redo", "undos", "get", "map"))
 }
 
 // What a message with this word asks for.
-fn body_by(alloc: Global, word: &str, message: &Value) -> Result<Body, Fault>
-    ensures { Gives result (body_by word.now (view message.now)) }
+fn body_by(alloc: Global, word: &str, message: &mut Value) -> Result<Body, Fault>
+    ensures { Gives result (body_by word.now (view message.old)) }
 {
     match word {
         "hello" => hello_of(message),
@@ -165,15 +188,16 @@ fn hello_of(message: &Value) -> Result<Body, Fault>
 
 // The action that a message with this word asks for. Its fields are read in the order of the list of actions, up to the
 // first fault.
-fn action_by(alloc: Global, word: &str, message: &Value) -> Result<Action<Global>, Fault>
-    ensures { Gives result (action_by word.now (view message.now)) }
+fn action_by(alloc: Global, word: &str, message: &mut Value) -> Result<Action<Global>, Fault>
+    ensures { Gives result (action_by word.now (view message.old)) }
 {
     each_action!(read_by(alloc, word, message))
 }
 
-// The element of a `create`, by the kind of its name.
-pub fn element_of(alloc: Global, kind: Kind, message: &Value) -> Result<Element<Global>, Fault>
-    ensures { Gives result (element_at kind (view message.now)) }
+// The element of a `create`, by the kind of its name. Its tags are taken out of the message, whose other fields are read
+// before.
+pub fn element_of(alloc: Global, kind: Kind, message: &mut Value) -> Result<Element<Global>, Fault>
+    ensures { Gives result (element_at kind (view message.old)) }
 {
     match kind {
         Kind::Node => {

@@ -1,57 +1,59 @@
 //! The tags of a message: those of an element, and what a retag gives its keys.
 ghost use Rattle.std.specs.Prelude.{◌≡◌, ◌≢◌, ◌<◌, [], length, OnOk, IfErr};
 ghost use Rattle.std.specs.FinMap.Entries.{put};
+ghost use Rattle.std.specs.String.{string_bytes};
 ghost use Rattle.serde_json.specs.View.{view, members_view};
 ghost use Rattle.room_wire.specs.Reading.{Gives, or_fault};
-ghost use Rattle.room_wire.specs.Spelling.{key_of, value_of, given_of, entry_of, tags_of, tags_at, given_tags_of, given_tags_at};
+ghost use Rattle.room_wire.specs.Spelling.{key_of, value_of, given_of, entry_of, tags_of, tags_at, given_tags_of, given_tags_at, text_of};
 ghost use Rattle.osm_elements.specs.KeyedRows.{text_cmp};
 ghost use Rattle.room_wire.specs.declared.bad.Fault.TheVariants.{BadField, Memory};
 ghost use Rattle.room_wire.specs.declared.field.Field.TheVariants as field;
 
 use crate::bad::Fault;
 use crate::field::Field;
-use crate::forms::{fault_in, text_of};
+use crate::forms::fault_in;
 use edit_simple::retag::Retag;
+use osm_elements::shared_tags::SharedTags;
 use osm_elements::tags::{MOST_TAGS, Tags};
 use osm_elements::text::Text;
 use serde_json::{Map, Value};
 use std::alloc::Global;
 
-// The tags of an element, which may be missing.
-pub fn tags_of(alloc: Global, message: &Value) -> Result<Tags<Global>, Fault>
-    ensures { Gives result (tags_at (view message.now)) }
+// The tags of an element, which may be missing. They are taken out of the message, and keep its texts.
+pub fn tags_of(alloc: Global, message: &mut Value) -> Result<SharedTags<Global>, Fault>
+    ensures { Gives result (tags_at (view message.old)) }
 {
-    match message.get(Field::Tags.as_str()) {
-        None => Ok(Tags::empty(alloc)),
-        Some(value) => {
-            let members = value.as_object().ok_or(Fault::BadField(Field::Tags))?;
-            tags_in(alloc, members)
-        }
+    match message.get_mut(Field::Tags.as_str()) {
+        None => Ok(SharedTags::empty()),
+        Some(value) => match value.take() {
+            Value::Object(members) => Ok(SharedTags::new(alloc, tags_in(alloc, members)?)?),
+            _ => Err(Fault::BadField(Field::Tags)),
+        },
     }
 }
 
-// The tags with these keys and values.
-fn tags_in(alloc: Global, members: &Map<String, Value>) -> Result<Tags<Global>, Fault>
+// The tags with these keys and values, whose texts they keep.
+fn tags_in(alloc: Global, members: Map<String, Value>) -> Result<Tags<Global>, Fault>
     ensures { Gives result
-        (or_fault (BadField field.Tags) (tags_of (members_view members.now.entries))) }
+        (or_fault (BadField field.Tags) (tags_of (members_view members.entries))) }
 {
     if members.len() > MOST_TAGS {
         return Err(Fault::BadField(Field::Tags));
     }
-    let mut tags = Tags::empty(alloc);
+    let mut tags = Tags::with_capacity(alloc, members.len())?;
     for (key, value) in members {
-        let (key, value) = tag_of(alloc, key.as_str(), value)?;
+        let (key, value) = tag_of(key, value)?;
         put_tag(&mut tags, key, value)?;
     }
     Ok(tags)
 }
 
 // The key and the value of a tag.
-fn tag_of(alloc: Global, key: &str, value: &Value) -> Result<(Text<Global>, Text<Global>), Fault>
-    ensures { Gives result (or_fault (BadField field.Tags) (entry_of value_of key.now (view value.now))) }
+fn tag_of(key: String, value: Value) -> Result<(Text<Global>, Text<Global>), Fault>
+    ensures { Gives result (or_fault (BadField field.Tags) (entry_of value_of (string_bytes key) (view value))) }
 {
-    let key = key_of(alloc, key)?;
-    let value = value_of(alloc, value)?;
+    let key = key_of(key)?;
+    let value = value_of(value)?;
     Ok((key, value))
 }
 
@@ -66,43 +68,41 @@ fn put_tag(tags: &mut Tags<Global>, key: Text<Global>, value: Text<Global>) -> R
         .map_err(|fault| fault_in(Field::Tags, fault))
 }
 
-// What a retag gives its keys.
-pub fn given_tags_of(alloc: Global, message: &Value) -> Result<Retag<Global>, Fault>
-    ensures { Gives result (given_tags_at (view message.now)) }
+// What a retag gives its keys. It is taken out of the message, and keeps its texts.
+pub fn given_tags_of(alloc: Global, message: &mut Value) -> Result<Retag<Global>, Fault>
+    ensures { Gives result (given_tags_at (view message.old)) }
 {
-    let members = message
-        .get(Field::Tags.as_str())
-        .and_then(Value::as_object)
-        .ok_or(Fault::BadField(Field::Tags))?;
-    given_tags_in(alloc, members)
+    match message.get_mut(Field::Tags.as_str()) {
+        None => Err(Fault::BadField(Field::Tags)),
+        Some(value) => match value.take() {
+            Value::Object(members) => given_tags_in(alloc, members),
+            _ => Err(Fault::BadField(Field::Tags)),
+        },
+    }
 }
 
-// What these keys are given.
-fn given_tags_in(alloc: Global, members: &Map<String, Value>) -> Result<Retag<Global>, Fault>
+// What these keys are given, whose texts it keeps.
+fn given_tags_in(alloc: Global, members: Map<String, Value>) -> Result<Retag<Global>, Fault>
     ensures { Gives result
-        (or_fault (BadField field.Tags) (given_tags_of (members_view members.now.entries))) }
+        (or_fault (BadField field.Tags) (given_tags_of (members_view members.entries))) }
 {
     if members.len() > MOST_TAGS {
         return Err(Fault::BadField(Field::Tags));
     }
-    let mut given_tags = Retag::empty(alloc);
+    let mut given_tags = Retag::with_capacity(alloc, members.len())?;
     for (key, value) in members {
-        let (key, given) = given_tag_of(alloc, key.as_str(), value)?;
+        let (key, given) = given_tag_of(key, value)?;
         put_given_tag(&mut given_tags, key, given)?;
     }
     Ok(given_tags)
 }
 
 // A key, and the value that it is given, if it is.
-fn given_tag_of(
-    alloc: Global,
-    key: &str,
-    value: &Value,
-) -> Result<(Text<Global>, Option<Text<Global>>), Fault>
-    ensures { Gives result (or_fault (BadField field.Tags) (entry_of given_of key.now (view value.now))) }
+fn given_tag_of(key: String, value: Value) -> Result<(Text<Global>, Option<Text<Global>>), Fault>
+    ensures { Gives result (or_fault (BadField field.Tags) (entry_of given_of (string_bytes key) (view value))) }
 {
-    let key = key_of(alloc, key)?;
-    let given = given_of(alloc, value)?;
+    let key = key_of(key)?;
+    let given = given_of(value)?;
     Ok((key, given))
 }
 
@@ -123,30 +123,39 @@ fn put_given_tag(
 }
 
 // A key.
-fn key_of(alloc: Global, key: &str) -> Result<Text<Global>, Fault>
-    ensures { Gives result (or_fault (BadField field.Tags) (key_of key.now)) }
+fn key_of(key: String) -> Result<Text<Global>, Fault>
+    ensures { Gives result (or_fault (BadField field.Tags) (key_of (string_bytes key))) }
 {
     if key.is_empty() {
         return Err(Fault::BadField(Field::Tags));
     }
-    text_of(alloc, Field::Tags, key)
+    text_in(key)
 }
 
 // The value of a tag.
-fn value_of(alloc: Global, value: &Value) -> Result<Text<Global>, Fault>
-    ensures { Gives result (or_fault (BadField field.Tags) (value_of (view value.now))) }
+fn value_of(value: Value) -> Result<Text<Global>, Fault>
+    ensures { Gives result (or_fault (BadField field.Tags) (value_of (view value))) }
 {
-    let value = value.as_str().ok_or(Fault::BadField(Field::Tags))?;
-    text_of(alloc, Field::Tags, value)
+    match value {
+        Value::String(text) => text_in(text),
+        _ => Err(Fault::BadField(Field::Tags)),
+    }
 }
 
 // What a key is given: a value, or none where it is null.
-fn given_of(alloc: Global, value: &Value) -> Result<Option<Text<Global>>, Fault>
-    ensures { Gives result (or_fault (BadField field.Tags) (given_of (view value.now))) }
+fn given_of(value: Value) -> Result<Option<Text<Global>>, Fault>
+    ensures { Gives result (or_fault (BadField field.Tags) (given_of (view value))) }
 {
     if value.is_null() {
         return Ok(None);
     }
-    let value = value_of(alloc, value)?;
+    let value = value_of(value)?;
     Ok(Some(value))
+}
+
+// A key or a value, which keeps the string's memory.
+fn text_in(text: String) -> Result<Text<Global>, Fault>
+    ensures { Gives result (or_fault (BadField field.Tags) (text_of (string_bytes text))) }
+{
+    Text::from_string(text).map_err(|fault| fault_in(Field::Tags, fault))
 }

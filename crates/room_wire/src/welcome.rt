@@ -45,14 +45,14 @@ pub fn read_welcome(alloc: Global, text: &str) -> Result<Welcome, Bad>
     ensures in_order { IfOk result (λ w. AreInOrder w.rows) }
     ensures kinds { IfOk result (λ w. are_of_kinds w.rows ≡ true) }
 {
-    let reply = parse(alloc, text).map_err(Bad::unread)?;
+    let mut reply = parse(alloc, text).map_err(Bad::unread)?;
     let id = id_of(&reply).map_err(Bad::unread)?;
-    welcomed(alloc, id, &reply)
+    welcomed(alloc, id, &mut reply)
 }
 
 // The welcome of a reply, under its id.
-fn welcomed(alloc: Global, id: u64, reply: &Value) -> Result<Welcome, Bad>
-    ensures exact { GivesUnder (λ w. w.id) result (under welcome id (told_at (view reply.now))) }
+fn welcomed(alloc: Global, id: u64, reply: &mut Value) -> Result<Welcome, Bad>
+    ensures exact { GivesUnder (λ w. w.id) result (under welcome id (told_at (view reply.old))) }
     ensures in_order { IfOk result (λ w. AreInOrder w.rows) }
     ensures kinds { IfOk result (λ w. are_of_kinds w.rows ≡ true) }
 {
@@ -62,21 +62,22 @@ fn welcomed(alloc: Global, id: u64, reply: &Value) -> Result<Welcome, Bad>
     }
 }
 
-// The elements and the number that a reply tells.
-fn told_of(alloc: Global, reply: &Value) -> Result<(Rows<Global>, u64), Fault>
-    ensures exact { Gives result (told_at (view reply.now)) }
+// The elements and the number that a reply tells. The number is looked for first, since the elements are taken out, and
+// where both are amiss the elements are told.
+fn told_of(alloc: Global, reply: &mut Value) -> Result<(Rows<Global>, u64), Fault>
+    ensures exact { Gives result (told_at (view reply.old)) }
     ensures in_order { IfOk result (λ told. AreInOrder told.0) }
 {
     let told = object_at(reply, Field::Ok)?;
+    let seq = count_of(told);
     let rows = map_of(alloc, told)?;
-    let seq = count_of(told)?;
-    Ok((rows, seq))
+    Ok((rows, seq?))
 }
 
 // The elements of a map.
 #[tactic(auto, using(crate::proofs::RowsInOrder::rising_is_in_order))]
-fn map_of(alloc: Global, told: &Value) -> Result<Rows<Global>, Fault>
-    ensures exact { Gives result (map_at (view told.now)) }
+fn map_of(alloc: Global, told: &mut Value) -> Result<Rows<Global>, Fault>
+    ensures exact { Gives result (map_at (view told.old)) }
     ensures in_order { IfOk result (λ rows. AreInOrder rows) }
 {
     let rows = rows_of::<Row<Global>>(alloc, Field::Map, told)?;

@@ -27,7 +27,7 @@ loop-item-preserved c =
     ∙ l.invariant
 
 pub returns-in_err-name : goal.returns-in_err-name
-returns-in_err-name c = told_on c.from_residual.result c.in_err-name.field-0.0 _ c.from_residual.ensures.0 c.from_residual.ensures.1 (by c.in_err-name.ensures)
+returns-in_err-name c = told_on c.from_residual-in_err-name.result c.in_err-name.field-0.0 _ c.from_residual-in_err-name.ensures.0 c.from_residual-in_err-name.ensures.1 (by c.in_err-name.ensures)
   where
     missing : member_of (view c.item-item.result) ≡ None → members_in (items_view c.args.items.now) ≡ None
     missing none =

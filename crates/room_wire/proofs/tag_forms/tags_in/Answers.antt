@@ -1,25 +1,26 @@
-use Rattle.std.proofs.Common.{◌≡◌, [], ◌∷◌, ◌++◌, Some, length, string_bytes, inr, sym, ap, ◌∙◌, subst, arith, append_assoc, length-append}
+use Rattle.std.proofs.Common.{◌≡◌, ◌⊎◌, [], ◌∷◌, ◌++◌, Some, None, Err, length, string_bytes, inl, inr, sym, ap, ◌∙◌, subst, arith, append_assoc, length-append}
 use Rattle.std.specs.List.Sorted.{IsStrictlySortedBy}
 use Rattle.std.specs.Map.{keys_of}
 use Rattle.std.specs.String.{string_cmp}
 use Rattle.serde_json.specs.View.{view, members_view}
 use Rattle.serde_json.proofs.Views.{Entry}
 use Rattle.room_wire.specs.Reading.{or_fault}
-use Rattle.room_wire.specs.Spelling.{entry_of, value_of}
-use Rattle.room_wire.specs.declared.bad.Fault.TheVariants.{BadField}
+use Rattle.room_wire.specs.Spelling.{entry_of, tags_of, value_of}
+use Rattle.room_wire.specs.declared.bad.Fault.TheVariants.{BadField, Memory}
 use Rattle.room_wire.specs.declared.field.Field.TheVariants as field
-use Rattle.room_wire.proofs.EntryLists.{with_front, entries_in-some, entries_in-nil, same_keys_more, same_keys_length, put_last, or_fault_ok, entry_of-key, entries_of-few, entries_of-many}
+use Rattle.room_wire.proofs.EntryLists.{with_front, entries_in-some, entries_in-none, entries_in-nil, same_keys_more, same_keys_length, put_last, or_fault_ok, entry_of-key, entries_of-few, entries_of-many}
+use Rattle.room_wire.proofs.FaultsToldOn.{or_fault_err, told_on}
 use Rattle.room_wire.proofs.tag_forms.tags_in.Goals as goal
 
 pub returns-then-len-gt-MOST_TAGS : goal.returns-then-len-gt-MOST_TAGS
-returns-then-len-gt-MOST_TAGS c = inr (ap (or_fault (BadField field.Tags)) (entries_of-many value_of c.args.members.now.entries (omega (arith, c.len.ensures.len))))
+returns-then-len-gt-MOST_TAGS c = inr (ap (or_fault (BadField field.Tags)) (entries_of-many value_of c.args.members.entries (omega (arith, c.len.ensures.len))))
 
 pub put_tag-requires-clause-room : goal.put_tag-requires-clause-room
 put_tag-requires-clause-room c =
     let l = c.loop-key in
     let done = l.invariant.0 in
-    let e : Entry = (c.in-Some.key.now, c.in-Some.value.now) in
-    let all : c.args.members.now.entries ≡ done ++ e ∷ c.next.new.self = l.invariant.1 ∙ ap (λ es. done ++ es) c.in-Some.ensures.steps in
+    let e : Entry = (c.in-Some.key, c.in-Some.value) in
+    let all : c.args.members.entries ≡ done ++ e ∷ c.next.new.self = l.invariant.1 ∙ ap (λ es. done ++ es) c.in-Some.ensures.steps in
     let same = same_keys_length l.tags done l.invariant.2 in
     omega (arith, c.len.ensures.len, simp length-append at (ap length all), same)
 
@@ -27,14 +28,14 @@ pub loop-key-preserved : goal.loop-key-preserved
 loop-key-preserved c =
     let l = c.loop-key in
     let done = l.invariant.0 in
-    let e : Entry = (c.in-Some.key.now, c.in-Some.value.now) in
+    let e : Entry = (c.in-Some.key, c.in-Some.value) in
     let left = c.next.new.self in
     let step : l.key-iterator ≡ e ∷ left = c.in-Some.ensures.steps in
-    let all : c.args.members.now.entries ≡ done ++ e ∷ left = l.invariant.1 ∙ ap (λ es. done ++ es) step in
+    let all : c.args.members.entries ≡ done ++ e ∷ left = l.invariant.1 ∙ ap (λ es. done ++ es) step in
     let key = c.in_ok-key.key in
     let value = c.in_ok-key.value in
     let read : entry_of value_of (string_bytes e.0) (view e.1) ≡ Some (key, value) =
-    ap (λ k. entry_of value_of k (view e.1)) (sym c.as_str.ensures.value) ∙ or_fault_ok _ _ (key, value) c.in_ok-key.ensures in
+    or_fault_ok _ _ (key, value) c.in_ok-key.ensures in
     let named : key ≡ string_bytes e.0 = entry_of-key value_of (string_bytes e.0) (view e.1) (key, value) read in
     let sorted = subst (λ es. IsStrictlySortedBy string_cmp (keys_of es)) all c.len.ensures.ordered in
     let put_is : c.put_tag.new.tags ≡ l.tags ++ (key, value) ∷ [] =
@@ -49,5 +50,19 @@ loop-key-preserved c =
 pub returns : goal.returns
 returns c =
     let l = c.loop-key in
-    ap (or_fault (BadField field.Tags)) (entries_of-few value_of c.args.members.now.entries (omega (arith, c.len.ensures.len)) ∙ sym l.invariant.3
+    ap (or_fault (BadField field.Tags)) (entries_of-few value_of c.args.members.entries (omega (arith, c.len.ensures.len)) ∙ sym l.invariant.3
     ∙ ap (λ es. with_front value_of l.tags (members_view es)) c.in-None.ensures.steps.0 ∙ entries_in-nil value_of l.tags)
+
+pub returns-in_err-key : goal.returns-in_err-key
+returns-in_err-key c = told_on c.from_residual-in_err-key.result c.in_err-key.field-0.0 _ c.from_residual-in_err-key.ensures.0 c.from_residual-in_err-key.ensures.1 (by c.in_err-key.ensures)
+  where
+    missing : entry_of value_of (string_bytes c.in-Some.key) (view c.in-Some.value) ≡ None → tags_of (members_view c.args.members.entries) ≡ None
+    missing none =
+        let l = c.loop-key in
+        entries_of-few value_of c.args.members.entries (omega (arith, c.len.ensures.len)) ∙ sym l.invariant.3
+        ∙ ap (λ es. with_front value_of l.tags (members_view es)) c.in-Some.ensures.steps
+        ∙ entries_in-none value_of l.tags (string_bytes c.in-Some.key) (view c.in-Some.value) (members_view c.next.new.self) none
+
+    by : (c.in_err-key.field-0.0 ≡ Memory) ⊎ (or_fault (BadField field.Tags) (entry_of value_of (string_bytes c.in-Some.key) (view c.in-Some.value)) ≡ Err c.in_err-key.field-0.0) → (c.in_err-key.field-0.0 ≡ Memory) ⊎ (or_fault (BadField field.Tags) (tags_of (members_view c.args.members.entries)) ≡ Err c.in_err-key.field-0.0)
+    by (inl memory) = inl memory
+    by (inr told) = inr (or_fault_err (BadField field.Tags) c.in_err-key.field-0.0 _ _ told missing)

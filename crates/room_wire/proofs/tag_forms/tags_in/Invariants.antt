@@ -7,5 +7,5 @@ use Rattle.room_wire.proofs.tag_forms.tags_in.Given as goal
 
 abbrev pub invariant-loop-key : goal.invariant-loop-key
 invariant-loop-key l =
-    (done : List Entry) × (l.members.entries ≡ done ++ l.key-iterator) × SameKeys l.tags done
-    × (with_front value_of l.tags (members_view l.key-iterator) ≡ entries_in value_of (members_view l.members.entries))
+    (done : List Entry) × (l.fn.members.entries ≡ done ++ l.key-iterator) × SameKeys l.tags done
+    × (with_front value_of l.tags (members_view l.key-iterator) ≡ entries_in value_of (members_view l.fn.members.entries))
