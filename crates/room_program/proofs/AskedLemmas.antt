@@ -18,7 +18,7 @@ use Rattle.clap.specs.declared.error.kind.ErrorKind.{ErrorKind}
 use Rattle.clap.specs.declared.error.kind.ErrorKind.TheVariants.{MissingSubcommand}
 use Rattle.clap.proofs.CallerReads.{signed_reads}
 use Rattle.clap.proofs.ValueTestLemmas.{accepts-Accepts, Accepts-accepts}
-use Rattle.room_program.specs.Words.{HasNumber, faults, limit_option, number_in, number_of, number_option, program_app, replay_app, rows_asked, subcommand_asked}
+use Rattle.room_program.specs.CommandLine.{HasNumber, faults, limit_option, number_in, number_of, number_option, program_app, replay_app, rows_asked, subcommand_asked}
 use Rattle.room_program.proofs.OptionLemmas.{EachKeeps, IsRead, Keeps, KeepsByDefault, default_read, first_passes, level_good, needed_read, no_default, only_own, own_default, set_good}
 use Rattle.room_program.proofs.WordWalks.{NoHelpMet, below_none, check_none, level_stops, no_second}
 

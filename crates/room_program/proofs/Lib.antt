@@ -2,6 +2,8 @@ pub mod AskedLemmas
 pub mod BlockLemmas
 pub mod CallLemmas
 pub mod CommandLemmas
+pub mod CommandLineExampleProofs
+pub mod CommandLineLemmas
 pub mod FirstLineLemmas
 pub mod LineAnswerLemmas
 pub mod LineLemmas
@@ -13,6 +15,4 @@ pub mod RunLemmas
 pub mod ScriptRooms
 pub mod ServingLemmas
 pub mod StreamLemmas
-pub mod WordExampleProofs
-pub mod WordLemmas
 pub mod WordWalks

@@ -6,7 +6,7 @@ use Rattle.osm_changes.specs.Sound.{is_sound}
 use Rattle.osm_elements.specs.Maps.{Rows}
 use Rattle.room_program.specs.declared.asked.Asked.{Asked}
 use Rattle.room_program.specs.declared.asked.Asked.TheVariants as asked
-use Rattle.room_program.specs.declared.asked.ServeWords.{ServeWords}
+use Rattle.room_program.specs.declared.asked.ServeOptions.{ServeOptions}
 use Rattle.room_program.specs.declared.fault.ProgramFault.TheVariants.{Replay}
 use Rattle.room_program.specs.declared.fault.ReplayFault.{ReplayFault}
 use Rattle.room_program.specs.declared.sink.Sink as sinks
@@ -16,7 +16,7 @@ use Rattle.room_program.specs.Faults.{Takes, fault_line}
 use Rattle.room_program.specs.LineAnswers.{script}
 use Rattle.room_program.specs.Replays.{EndsBy}
 use Rattle.room_program.specs.Streams.{GetsAtMost, WritesAll, WritesFront}
-use Rattle.room_program.specs.Words.{IsTaken, addr_asked, base_asked, limit_asked, rooms_asked, sessions_asked, subcommand_asked, workers_asked}
+use Rattle.room_program.specs.CommandLine.{IsTaken, addr_asked, base_asked, limit_asked, rooms_asked, sessions_asked, subcommand_asked, workers_asked}
 
 -- the words are taken, and ask for a replay with this limit, on a base or not
 pub record AsksForReplay (words : List Text) (limit : ℕ) (base : Bool) : Type 0 where
@@ -26,7 +26,7 @@ pub record AsksForReplay (words : List Text) (limit : ℕ) (base : Bool) : Type 
   pub base_is : base ≡ base_asked words
 
 -- the words are taken, and ask to serve so
-pub record AsksForServe (words : List Text) (serve : ServeWords) : Type 0 where
+pub record AsksForServe (words : List Text) (serve : ServeOptions) : Type 0 where
   pub taken : IsTaken words
   pub subcommand : subcommand_asked words ≡ Some (codes "serve")
   pub addr_is : serve.addr.now ≡ addr_asked words

@@ -1,5 +1,7 @@
 pub mod Bases
 pub mod Calls
+pub mod CommandLine
+pub mod CommandLineExamples
 pub mod Commands
 pub mod Faults
 pub mod Fronts
@@ -14,5 +16,3 @@ pub mod Runs
 pub mod Scripts
 pub mod Servings
 pub mod Streams
-pub mod WordExamples
-pub mod Words

@@ -11,13 +11,14 @@ pub enum Asked<'a> {
         base: bool,
     },
     /// To serve rooms.
-    Serve(ServeWords<'a>),
+    Serve(ServeOptions<'a>),
 }
 
 /// What the words of `serve` say.
 #[derive(Drop)]
-pub struct ServeWords<'a> {
-    /// Where it is to listen, as it is written.
+pub struct ServeOptions<'a> {
+    /// Where it is to listen, as it is written: any text. What is no address, and one at which the system does not
+    /// listen, are one fault (`Listen`), since it is the system's own call that knows.
     pub addr: &'a str,
     /// How many sessions are served at the same time, from 1 to 64.
     pub workers: u32,

@@ -4,10 +4,11 @@ ghost use Rattle.clap.specs.Words.{kind_of};
 ghost use Rattle.room_program.specs.Commands.{AsksForReplay, AsksForServe, Replays};
 ghost use Rattle.room_program.specs.Faults.{Takes, TakesOne, fault_line, fault_status, names_row, unsound_line};
 ghost use Rattle.room_program.specs.Servings.{Serves};
-ghost use Rattle.room_program.specs.declared.asked.ServeWords.{ServeWords};
-ghost use Rattle.room_program.specs.Words.{asks_for_help, has_mistake, is_mistake, is_request};
+ghost use Rattle.room_program.specs.declared.asked.ServeOptions.{ServeOptions};
+ghost use Rattle.room_program.specs.CommandLine.{asks_for_help, has_mistake, is_mistake, is_request};
 
-use crate::asked::{Asked, ServeWords};
+use crate::asked::{Asked, ServeOptions};
+use crate::command_line::read_command_line;
 use crate::fault::{ProgramFault, ReplayFault};
 use crate::lines::LINE_FEED;
 use crate::replay::{replay, replay_on};
@@ -15,7 +16,6 @@ use crate::serve::serve;
 use crate::sink::Sink;
 use crate::source::{MOST_READS, Source};
 use crate::tell::tell;
-use crate::words::read_words;
 use clap::Error;
 use clap::error::ErrorKind;
 use log::Log;
@@ -43,8 +43,9 @@ pub const REFUSED: u8 = 2;
 /// and writes to `output` when they can connect, and at the end how many entries the journal of each room has (status
 /// 0). A fault is told on `errors` by a line (status 1, and 2 where the names of rooms are to blame). Words that are
 /// refused are answered by a text on `errors` (status 2), and words that ask for help or for the version by a text on
-/// `output` (status 0). Where there is no memory to read the words, a line on `errors` says so (status 1). Texts
-/// other than replies are written as far as the streams take them.
+/// `output` (status 0). Where there is no memory to read the words, a line on `errors` says so (status 1). Texts other
+/// than replies are written as far as the streams take them. Where rooms were served to the end nothing is told on
+/// `errors`. That speaks of the stream that is handed in: in the program it goes to the same place as the log.
 pub fn command<R, T: AsStr, S: Source, W: Sink, E: Sink>(
     rt: &R,
     words: &[T],
@@ -64,6 +65,9 @@ where
     requires output_works { W.has_failed output.old ≡ false }
     requires errors_work { E.has_failed errors.old ≡ false }
 
+    // It goes by what the words ask for, and what came of a replay or of serving stands in a record of its own: so one
+    // more subcommand is one more case with one more record, and no sentence of the others changes.
+    //
     // One of these:
     // - the words ask for a replay with a limit, which was run and ended with this status;
     // - they ask to serve rooms, which were served or not, and it ended with this status;
@@ -73,7 +77,7 @@ where
     ensures { let texts = map T.text words.now in
         ((limit : ℕ) × (base : Bool) × AsksForReplay texts limit base
         × Replays S.Source W.Sink E.Sink base limit result input.old input.new output.old output.new errors.old errors.new)
-        ⊎ ((asked : ServeWords) × AsksForServe texts asked
+        ⊎ ((asked : ServeOptions) × AsksForServe texts asked
         × Serves S.Source W.Sink asked.base E.Sink (map (λ room. room.now) asked.rooms.items) asked.limit result
         input.old input.new output.old output.new errors.old errors.new)
         ⊎ ((asks_for_help texts ≡ true) × (result ≡ 0) × (input.new ≡ input.old)
@@ -84,7 +88,7 @@ where
         × Takes E.Sink errors.old errors.new (fault_line ProgramFault.Memory)) }
 {
     let alloc = rt.alloc();
-    match read_words(alloc, words) {
+    match read_command_line(alloc, words) {
         Ok(Asked::Replay { limit, base }) => run(alloc, limit, base, input, output, errors),
         Ok(Asked::Serve(asked)) => run_server(rt, alloc, &asked, input, output, errors),
         Err(error) => answer_error(alloc, &error, output, errors),
@@ -121,7 +125,7 @@ fn run<S: Source, W: Sink, E: Sink>(
 fn run_server<R, S: Source, W: Sink, E: Sink>(
     rt: &R,
     alloc: Global,
-    asked: &ServeWords<'_>,
+    asked: &ServeOptions<'_>,
     input: &mut S,
     output: &mut W,
     errors: &mut E,
@@ -156,7 +160,8 @@ fn fail<E: Sink>(errors: &mut E, fault: &ProgramFault) -> u8
     status_of(fault)
 }
 
-// Tells the name whose row is not sound, on one line.
+// Tells the name whose row is not sound, on one line. Which check it was stands in the fault; a reader of the line
+// looks the element up.
 fn tell_unsound<E: Sink>(errors: &mut E, name: &Name)
     requires { E.has_failed errors.old ≡ false }
     ensures { Takes E.Sink errors.old errors.new (unsound_line name.now) }

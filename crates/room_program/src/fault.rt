@@ -9,7 +9,8 @@ use room_wire::bad::Bad;
 use std::alloc::{AllocError, Global};
 use thiserror::Error;
 
-/// What ends a run over streams before its time.
+/// What ends a run over streams before its time. It is a type of its own, so that the loops over blocks have no case
+/// that cannot come; [`ReplayFault`] has these and the two faults of a base.
 #[derive(Clone, Copy, Debug, PartialEq, Eq, Error)]
 pub enum StreamFault {
     /// The reader failed, or the reads were used up.
@@ -101,7 +102,8 @@ pub enum ProgramFault {
     /// A replay, or the reading of the map that rooms begin with, ended so.
     #[error(transparent)]
     Replay(ReplayFault),
-    /// There was no memory to read the words, or to serve rooms.
+    /// There was no memory to read the words, or to serve rooms. It stands beside the `Memory` of a replay:
+    /// two faults with one line.
     #[error("no memory")]
     Memory,
     /// The system does not listen at the address that the words tell.

@@ -10,10 +10,10 @@ ghost use Rattle.room_program.specs.Scripts.{Loss, room_after};
 ghost use Rattle.room_program.specs.declared.io.Io.{Io};
 ghost use Rattle.room_program.specs.Io.{calls_of};
 ghost use Rattle.room_program.specs.Streams.{Gets, TookNone};
-ghost use Rattle.room_program.specs.Words.{IsTaken, limit_asked, limit_text, subcommand_asked};
-ghost use Rattle.room_program.specs.Words.{sessions_asked, workers_asked};
-ghost use Rattle.room_program.specs.WordExamples.{taken, bad_limit, serve_taken, bad_serve, bad_word};
-ghost use Rattle.room_program.specs.WordExamples.{help_asked, version_asked};
+ghost use Rattle.room_program.specs.CommandLine.{IsTaken, limit_asked, limit_text, subcommand_asked};
+ghost use Rattle.room_program.specs.CommandLine.{sessions_asked, workers_asked};
+ghost use Rattle.room_program.specs.CommandLineExamples.{taken, bad_limit, serve_taken, bad_serve, bad_word};
+ghost use Rattle.room_program.specs.CommandLineExamples.{help_asked, version_asked};
 
 use crate::io::Io;
 use crate::sink::Sink;
@@ -22,7 +22,7 @@ use std::alloc::Global;
 use std::io::{Read, Write};
 
 /// What the definitions say of worked examples of words is what was worked out by hand.
-pub fn words_are_as_worked()
+pub fn command_lines_are_as_worked()
     ensures taken { taken }
     ensures bad_limit { bad_limit }
     ensures serve_taken { serve_taken }

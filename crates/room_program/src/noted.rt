@@ -40,6 +40,9 @@ pub enum Stop {
 }
 
 /// A stream with a note of its calls. Nothing but `read` and `write` calls the stream or changes the note.
+///
+/// That they call the stream once and note that call's answer, and that an interruption is told from a failure
+/// (`stop_of`), rests on these bodies: Rust's traits of streams have nothing that a contract could name.
 #[derive(Drop)]
 pub struct Noted<T> {
     stream: T,

@@ -9,7 +9,7 @@ ghost use Rattle.room_program.specs.Servings.{CanBeServed, IsUnopened, ServesAll
 ghost use Rattle.room_program.specs.Streams.{GetsAtMost};
 ghost use Rattle.room_server.specs.Openings.{Opens};
 
-use crate::asked::ServeWords;
+use crate::asked::ServeOptions;
 use crate::base::read_base;
 use crate::fault::{ProgramFault, ReplayFault};
 use crate::fronts::front_lines;
@@ -30,7 +30,8 @@ use std::time::Clock;
 /// The most rooms that are served.
 pub const MOST_ROOMS: usize = 64;
 
-/// How many messages a session reads at most.
+/// How many messages a session reads at most. It is there so that the call ends by its contract: waits of 50
+/// milliseconds alone reach it after more than a year.
 pub const MOST_TURNS: u64 = 1_000_000_000;
 
 // The line that is printed once clients can connect.
@@ -41,7 +42,9 @@ const LISTENING: &str = "listening\n";
 ///
 /// Once clients can connect, the line `listening` is written, and after the last session a line for each room, in the
 /// order of the words: its name, a space, and how many entries its journal has. They are written as far as the stream
-/// takes them; where it does not take the first line, the others are left out.
+/// takes them; where it does not take the first line, the others are left out, since a stream that failed may not be
+/// written to. That is no fault, since nothing but the text was lost. The lines at the end are made before any is
+/// written.
 ///
 /// - `TooManyRooms`: there are more than 64 rooms. This is told before any other fault.
 /// - `BadName` and `Twice`: a text is no name of a room, or is a name that stands earlier; of several, the first is told.
@@ -52,7 +55,7 @@ const LISTENING: &str = "listening\n";
 pub fn serve<R, S: Source, W: Sink>(
     rt: &R,
     alloc: Global,
-    asked: &ServeWords<'_>,
+    asked: &ServeOptions<'_>,
     input: &mut S,
     output: &mut W,
 ) -> Result<(), ProgramFault>
@@ -92,7 +95,7 @@ where
 // Opens the rooms, if they are not too many, each under a name of its own.
 fn open_table<S: Source>(
     alloc: Global,
-    asked: &ServeWords<'_>,
+    asked: &ServeOptions<'_>,
     input: &mut S,
 ) -> Result<(RoomTable, Vec<RoomSeat>), ProgramFault>
     requires { S.has_failed input.old ≡ false }

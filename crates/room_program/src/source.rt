@@ -5,7 +5,8 @@ ghost use Rattle.room_program.specs.declared.failed.Failed.{Failed};
 
 use crate::failed::Failed;
 
-/// How often the program reads its input at most.
+/// How often the program reads its input at most. It is there so that the call ends by its contract. An input of less
+/// than 2^40 bytes does not reach it, since each read but the last gives some.
 pub const MOST_READS: u64 = 1 << 40;
 
 /// A stream of bytes to read.

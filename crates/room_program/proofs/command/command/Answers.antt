@@ -1,8 +1,8 @@
 -- What the words ask for was done, or an error's kind stands among those that they can be answered by.
 use Rattle.std.proofs.Common.{◌≤◌, ℕ, inl, inr, refl, map, subst, sym}
-use Rattle.room_program.specs.Words.{faults, is_mistake, is_request}
+use Rattle.room_program.specs.CommandLine.{faults, is_mistake, is_request}
 use Rattle.room_program.proofs.AskedLemmas.{workers_number}
-use Rattle.room_program.proofs.WordLemmas.{kind_among}
+use Rattle.room_program.proofs.CommandLineLemmas.{kind_among}
 use Rattle.room_program.proofs.command.command.Goals as goal
 
 pub run_server-requires-clause-workers : goal.run_server-requires-clause-workers

@@ -5,7 +5,7 @@ use Rattle.std.specs.Prelude.{unwrap_or}
 use Rattle.std.specs.Borrow.{Bor}
 use Rattle.clap.specs.Matches.{found_of}
 use Rattle.clap.proofs.WalkLemmas.{raw_values-rows}
-use Rattle.room_program.proofs.words.rooms.Goals as goal
+use Rattle.room_program.proofs.command_line.rooms.Goals as goal
 
 pub returns-in-Some : goal.returns-in-Some
 returns-in-Some c =

@@ -5,7 +5,7 @@ use Rattle.clap.specs.declared.error.kind.ErrorKind.TheVariants.{ArgumentConflic
 use Rattle.clap.specs.declared.error.kind.ErrorKind.TheVariants.{InvalidSubcommand, InvalidValue}
 use Rattle.clap.specs.declared.error.kind.ErrorKind.TheVariants.{MissingRequiredArgument, MissingSubcommand, TooManyValues, UnknownArgument, ValueValidation}
 use Rattle.room_program.specs.Commands.{AsksForReplay}
-use Rattle.room_program.specs.Words.{IsTaken, addr_asked, base_asked, faults, limit_asked, rooms_asked, sessions_asked, subcommand_asked, workers_asked}
+use Rattle.room_program.specs.CommandLine.{IsTaken, addr_asked, base_asked, faults, limit_asked, rooms_asked, sessions_asked, subcommand_asked, workers_asked}
 
 -- the words after the name of the program are taken, and ask for a replay with the limit, on a base or not
 abbrev pub AsksFor : ℕ → Bool → List Text → Type 0

@@ -6,8 +6,8 @@ use Rattle.std.specs.Str.Parse.{ExplainsUnsignedError, HasUnsignedDigitsIfOk, Is
 use Rattle.clap.specs.Matches.{ReadsOne, found_of, one_text}
 use Rattle.clap.specs.Walk.{Text}
 use Rattle.clap.proofs.WalkLemmas.{one_text-rows}
-use Rattle.room_program.specs.Words.{number_of}
-use Rattle.room_program.proofs.words.number.Goals as goal
+use Rattle.room_program.specs.CommandLine.{number_of}
+use Rattle.room_program.proofs.command_line.number.Goals as goal
 
 abbrev IsSmall : Option Text → Type 0
 IsSmall o = IfSome o (λ text. IsNumeral 10 (without_leading_plus text) × (number_of text < 2 ^ 32))

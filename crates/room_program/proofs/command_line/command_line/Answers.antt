@@ -2,7 +2,7 @@
 use Rattle.std.proofs.Common.{rules, ap, ap₂, ◌∙◌, ◌≡◌, true, codes}
 use Rattle.std.proofs.lemmas.Result.{IfOk-weaker}
 use Rattle.clap.specs.Words.{App, app_of, new_app, with_subcommand}
-use Rattle.room_program.proofs.words.command_line.Goals as goal
+use Rattle.room_program.proofs.command_line.command_line.Goals as goal
 
 abbrev needs_subcommand : App → App
 needs_subcommand a = record a { top = record a.top { subcommand_required = true; has_version = true } }

@@ -3,7 +3,7 @@ use Rattle.std.proofs.Common.{rules, ap₂, ◌∙◌, ◌||◌, ◌≡◌, Bool
 use Rattle.std.proofs.lemmas.Result.{IfOk-weaker}
 use Rattle.clap.specs.Words.{app_of, new_app, with_rule}
 use Rattle.clap.specs.declared.builder.command.Command.TheViews.{out-Command as fields_of}
-use Rattle.room_program.proofs.words.serve_line.Goals as goal
+use Rattle.room_program.proofs.command_line.serve_line.Goals as goal
 
 pub returns-clause-shape : goal.returns-clause-shape
 returns-clause-shape c =

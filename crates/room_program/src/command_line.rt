@@ -3,11 +3,11 @@ ghost use Rattle.std.specs.Prelude.{◌≡◌, IfOk, MatchResult, false, map};
 ghost use Rattle.clap.specs.Words.{HasKind, app_of, found_of, rows_of, rule_of};
 ghost use Rattle.clap.specs.declared.builder.command.Command.TheViews.{out-Command as fields_of};
 ghost use Rattle.room_program.specs.Commands.{IsAsked};
-ghost use Rattle.room_program.specs.Words.{HasNumber, addr_in, base_in, faults, number_in, rooms_in};
-ghost use Rattle.room_program.specs.Words.{program_app, replay_app, serve_app};
-ghost use Rattle.room_program.specs.Words as words;
+ghost use Rattle.room_program.specs.CommandLine.{HasNumber, addr_in, base_in, faults, number_in, rooms_in};
+ghost use Rattle.room_program.specs.CommandLine.{program_app, replay_app, serve_app};
+ghost use Rattle.room_program.specs.CommandLine as words;
 
-use crate::asked::{Asked, ServeWords};
+use crate::asked::{Asked, ServeOptions};
 use clap::{Arg, ArgAction, ArgMatches, Command, Error, value_parser};
 use std::alloc::{AllocError, Global};
 use std::convert::AsStr;
@@ -29,13 +29,13 @@ pub const MOST_SESSIONS: u32 = 1_000_000;
 /// The words are taken or refused as the command line below says: where they are refused, and where they ask for a
 /// help or the version, the error tells it. An error of the kind `OutOfMemory` says that there was no memory to read
 /// them.
-pub fn read_words<'a, T: AsStr>(alloc: Global, words: &'a [T]) -> Result<Asked<'a>, Error>
+pub fn read_command_line<'a, T: AsStr>(alloc: Global, words: &'a [T]) -> Result<Asked<'a>, Error>
     ensures { let texts = map T.text words.entry.now in
         MatchResult result (IsAsked texts) (HasKind (faults texts)) }
 {
     let matches = command_line(alloc)?.try_get_matches_from(words)?;
     if let Some(options) = matches.subcommand_matches("serve") {
-        return Ok(Asked::Serve(ServeWords {
+        return Ok(Asked::Serve(ServeOptions {
             addr: addr(options),
             workers: number(options, "workers"),
             sessions: number(options, "sessions"),

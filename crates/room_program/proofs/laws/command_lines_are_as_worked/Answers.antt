@@ -1,5 +1,5 @@
-use Rattle.room_program.proofs.WordExampleProofs.{taken_lem, bad_limit_lem, serve_taken_lem, bad_serve_lem, bad_word_lem, help_asked_lem, version_asked_lem}
-use Rattle.room_program.proofs.laws.words_are_as_worked.Goals as goal
+use Rattle.room_program.proofs.CommandLineExampleProofs.{taken_lem, bad_limit_lem, serve_taken_lem, bad_serve_lem, bad_word_lem, help_asked_lem, version_asked_lem}
+use Rattle.room_program.proofs.laws.command_lines_are_as_worked.Goals as goal
 
 pub returns-clause-taken : goal.returns-clause-taken
 returns-clause-taken c = taken_lem

@@ -1,7 +1,7 @@
 -- The worked examples of words, by evaluation.
 use Rattle.std.proofs.Common.{refl}
 use Rattle.clap.proofs.OnLiterals.{clap_on_literals}
-use Rattle.room_program.specs.WordExamples.{taken, bad_limit, serve_taken, bad_serve, bad_word, help_asked, version_asked}
+use Rattle.room_program.specs.CommandLineExamples.{taken, bad_limit, serve_taken, bad_serve, bad_word, help_asked, version_asked}
 
 pub taken_lem : taken
 unfolding taken clap_on_literals

@@ -1,10 +1,10 @@
 -- What clap's contract says of the matches, at the words.
 use Rattle.std.proofs.Common.{◌∙◌, ap, inl, inr, refl, sym, subst, true≢false, map, codes, is_some}
 use Rattle.clap.specs.Words.{app_of, found_of, rows_of}
-use Rattle.room_program.specs.Words.{HasNumber, addr_in, base_in, number_in, rooms_in}
+use Rattle.room_program.specs.CommandLine.{HasNumber, addr_in, base_in, number_in, rooms_in}
 use Rattle.room_program.proofs.AskedLemmas.{asked_one, limit_number, sessions_number, workers_number}
-use Rattle.room_program.proofs.WordLemmas.{found, name_asked, words_taken}
-use Rattle.room_program.proofs.words.read_words.Goals as goal
+use Rattle.room_program.proofs.CommandLineLemmas.{found, name_asked, words_taken}
+use Rattle.room_program.proofs.command_line.read_command_line.Goals as goal
 
 pub number-requires : goal.number-requires
 number-requires g c =
