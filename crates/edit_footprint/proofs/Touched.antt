@@ -11,7 +11,8 @@ use Rattle.osm_changes.specs.declared.part.Part.{Part}
 use Rattle.osm_changes.specs.declared.part.Part.TheVariants.{Tags, Rest}
 use Rattle.osm_changes.specs.Cells.{tags_at, rest_at, is_same_cell, has, cell_set}
 use Rattle.osm_changes.specs.Facts.Cells.{is_same_cell-itself, tags_rest, has-append, has-cell_set, IsRising-cell_set, same_as_cell_set}
-use Rattle.edit_footprint.specs.Footprints.{names_but, half_references, begun_or_ceased}
+use Rattle.osm_refs.specs.Rising.{names_but}
+use Rattle.edit_footprint.specs.Footprints.{half_references, begun_or_ceased}
 use Rattle.edit_footprint.specs.Facts.CellSets.{has-rests}
 use Rattle.edit_footprint.specs.Inner.Touching.{begun_or_ceased_once, all_begun_or_ceased}
 

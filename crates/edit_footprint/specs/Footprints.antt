@@ -4,6 +4,7 @@ use Rattle.std.specs.List.{filter, find, flat_map, slice_get}
 use Rattle.std.specs.Option.{option_and_then, option_map, option_to_list}
 use Rattle.osm_elements.specs.declared.name.Name.{Name}
 use Rattle.osm_elements.specs.Maps.{Rows, is_among}
+use Rattle.osm_refs.specs.Rising.{names_but}
 use Rattle.osm_changes.specs.declared.cell.Cell.{Cell}
 use Rattle.osm_changes.specs.declared.change.Change.{Change}
 use Rattle.osm_changes.specs.declared.half.Half.{Half}
@@ -13,10 +14,6 @@ use Rattle.osm_changes.specs.Changes.{cell_of, changed_cells}
 use Rattle.edit_actions.specs.declared.action.Action.{Action}
 use Rattle.edit_actions.specs.declared.action.Action.TheVariants.{Create, Retag, Move, Reverse, Nodes, Members, Delete, Purge, Split, Join, Merge, Unglue}
 use Rattle.edit_actions.specs.After.{changes}
-
--- the names that are not among others
-abbrev pub names_but : List Name → List Name → List Name
-names_but names others = filter (λ e. not (is_among others e)) names
 
 -- the least name of a cell that two footprints share
 abbrev pub meets : List Cell → List Cell → Option Name

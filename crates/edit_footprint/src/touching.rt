@@ -2,11 +2,10 @@
 ghost use Rattle.std.specs.Prelude.{◌≡◌, ◌++◌, find, map, IfOk, OnOk};
 ghost use Rattle.std.specs.List.{flat_map, slice_get};
 ghost use Rattle.std.specs.Option.{option_copied, option_to_list};
-ghost use Rattle.osm_elements.specs.Maps;
-ghost use Rattle.osm_refs.specs.Rising.{IsRising};
+ghost use Rattle.osm_refs.specs.Rising.{IsRising, names_but};
 ghost use Rattle.osm_changes.specs.Cells.{tags_at, rest_at, both_at, is_same_cell};
 ghost use Rattle.osm_changes.specs.Changes.{cell_of, changed_cells};
-ghost use Rattle.edit_footprint.specs.Footprints.{subjects, footprint_of, half_nodes, names_but, half_before, unglued_from};
+ghost use Rattle.edit_footprint.specs.Footprints.{subjects, footprint_of, half_nodes, half_before, unglued_from};
 ghost use Rattle.edit_footprint.specs.Inner.Touching.{begun_or_ceased_once, all_begun_or_ceased};
 
 use crate::footprint::Footprint;
@@ -20,6 +19,7 @@ use osm_changes::half::Half;
 use osm_changes::part::Part;
 use osm_elements::Memory;
 use osm_elements::name::Name;
+use osm_refs::but::names_but;
 use std::alloc::Allocator;
 
 // What an action is about, by the list of the actions.
@@ -97,9 +97,7 @@ fn rests_of<A: Allocator>(alloc: A, names: &[Name], more: usize) -> Result<Vec<C
     ensures { IfOk result (λ cells. cells.items ≡ map rest_at names.now) }
 {
     let mut cells = Vec::with_capacity(alloc, names.len().saturating_add(more))?;
-    for name in names {
-        cells.push(rest_of(name))?;
-    }
+    push_rests(&mut cells, names)?;
     Ok(cells)
 }
 
@@ -137,33 +135,33 @@ fn push_begun_or_ceased<A: Allocator + Clone>(
 {
     let before = half_refs(alloc.clone()?, &change.before)?;
     let after = half_refs(alloc.clone()?, &change.after)?;
-    push_but(cells, before.as_slice(), after.as_slice())?;
-    push_but(cells, after.as_slice(), before.as_slice())
+    push_but(alloc, cells, before.as_slice(), after.as_slice())?;
+    push_but(alloc, cells, after.as_slice(), before.as_slice())
 }
 
-// Puts the rest of those of some names behind other cells that are not among a third list, which rises.
-fn push_but<A: Allocator>(
+// Puts the rest of those of some names behind other cells that are not among a third list. Names and list rise.
+fn push_but<A: Allocator + Clone>(
+    alloc: &A,
     cells: &mut Vec<Cell, A>,
     from: &[Name],
     others: &[Name],
 ) -> Result<(), Memory>
-    requires { IsRising others.now }
+    requires from { IsRising from.now }
+    requires others { IsRising others.now }
     ensures { OnOk result (cells.new.items ≡ cells.old.items ++ map rest_at (names_but from.now others.now)) }
 {
-    for name in from {
-        if !is_among(others, name) {
-            cells.push(rest_of(name))?;
-        }
-    }
-    Ok(())
+    let names = names_but(alloc.clone()?, from, others)?;
+    push_rests(cells, names.as_slice())
 }
 
-// Whether a name is among others, which rise.
-fn is_among(names: &[Name], name: &Name) -> bool
-    requires { IsRising names.now }
-    ensures { result ≡ Maps.is_among names.now name.now }
+// Puts the rest of each of some names behind other cells.
+fn push_rests<A: Allocator>(cells: &mut Vec<Cell, A>, names: &[Name]) -> Result<(), Memory>
+    ensures { OnOk result (cells.new.items ≡ cells.old.items ++ map rest_at names.now) }
 {
-    names.binary_search(name).is_ok()
+    for name in names {
+        cells.push(rest_of(name))?;
+    }
+    Ok(())
 }
 
 // Puts both cells of the node that an action unglues a way from behind other cells, if it does that.

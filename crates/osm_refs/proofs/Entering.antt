@@ -9,9 +9,9 @@ use Rattle.osm_elements.specs.Maps.{is_same, is_among}
 use Rattle.osm_refs.specs.declared.note.KeptNote.{KeptNote}
 use Rattle.osm_refs.specs.Tables.{Table, Note, UsersState, references_at, referring, noted, users_in}
 use Rattle.osm_refs.specs.Facts.RisingNames.{same_rising, is_among-passing}
-use Rattle.osm_refs.specs.Rising.{IsRising}
+use Rattle.osm_refs.specs.Rising.{IsRising, names_but}
 use Rattle.osm_refs.specs.Facts.Tables.{IsTable, same_tables, references_at-referring, IsTable-referring}
-use Rattle.osm_refs.specs.Inner.Notes.{IsNote, AreApt, AreKept, brought, note_pair, names_but}
+use Rattle.osm_refs.specs.Inner.Notes.{IsNote, AreApt, AreKept, brought, note_pair}
 use Rattle.osm_refs.specs.Inner.Turned.{user_table, references_of}
 use Rattle.rising_lists.specs.Lists.{Lists, AreLists, values_at, awaited_at, SameValues, SameAwaited, AwaitsMore, AwaitsLess, Gains, Loses, AreAwaited}
 use Rattle.rising_lists.specs.Facts.Tables.{listed-as_table, is_sorted-as_table}

@@ -1,9 +1,15 @@
 -- Lists of names that rise, each once.
-use Rattle.std.specs.Prelude.{List}
+use Rattle.std.specs.Prelude.{not, List}
+use Rattle.std.specs.List.{filter}
 use Rattle.osm_elements.specs.declared.name.Name.{Name}
+use Rattle.osm_elements.specs.Maps.{is_among}
 use Rattle.osm_elements.specs.NameOrder.{name_cmp}
 use Rattle.rising_lists.specs.Rising as lists
 
 -- the names strictly rise
 abbrev pub IsRising : List Name → Type 0
 IsRising names = lists.IsRising name_cmp names
+
+-- the names that are not among others
+abbrev pub names_but : List Name → List Name → List Name
+names_but names others = filter (λ e. not (is_among others e)) names

@@ -1,6 +1,7 @@
 //! What the elements of a map refer to, and which of them refer to a name.
 #![tactic(auto)]
 
+pub mod but;
 pub mod laws;
 mod note;
 pub mod refs;

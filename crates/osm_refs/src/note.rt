@@ -1,12 +1,10 @@
 //! A note of what a name refers to after a change.
 ghost use Rattle.std.specs.Prelude.{◌≡◌, IfOk};
 ghost use Rattle.std.specs.Option.{option_copied};
-ghost use Rattle.osm_elements.specs.Maps;
 ghost use Rattle.osm_elements.specs.Maps.{name_set};
 ghost use Rattle.osm_refs.specs.References.{row_references};
-ghost use Rattle.osm_refs.specs.Rising.{IsRising};
-ghost use Rattle.osm_refs.specs.Inner.Notes;
 
+use crate::but::names_but;
 use crate::refs::refs_of;
 use osm_elements::Memory;
 use osm_elements::element::Element;
@@ -72,26 +70,4 @@ fn row_refs<A: Allocator>(alloc: A, element: Option<&Element<A>>) -> Result<Name
         Some(element) => refs_of(alloc, element),
         None => Ok(Names::empty(alloc)),
     }
-}
-
-// The names that are not among others, which rise.
-fn names_but<A: Allocator>(alloc: A, names: &[Name], others: &[Name]) -> Result<Names<A>, Memory>
-    requires { IsRising others.now }
-    ensures { IfOk result (λ kept. kept ≡ Notes.names_but names.now others.now) }
-{
-    let mut kept = Names::empty(alloc);
-    for name in names {
-        if !is_among(others, name) {
-            kept.push(*name)?;
-        }
-    }
-    Ok(kept)
-}
-
-// Whether a name is among others, which rise.
-fn is_among(names: &[Name], name: &Name) -> bool
-    requires { IsRising names.now }
-    ensures { result ≡ Maps.is_among names.now name.now }
-{
-    names.binary_search(name).is_ok()
 }

@@ -5,3 +5,4 @@ pub mod Searching
 pub mod Sorted
 pub mod Steps
 pub mod Tables
+pub mod Walking

@@ -1,2 +1,2 @@
 -- What inner functions and proofs use.
-pub mod Places
+pub mod States

@@ -29,3 +29,7 @@ module _ {X : Type 0} where
   -- the values that are not equal to x
   abbrev pub but : (X → X → Ordering) → X → List X → List X
   but cmp x xs = filter (λ y. not (is_eq (cmp x y))) xs
+
+  -- the values that are not among others
+  abbrev pub but_all : (X → X → Ordering) → List X → List X → List X
+  but_all cmp xs others = filter (λ x. not (is_among cmp others x)) xs

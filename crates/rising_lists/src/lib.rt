@@ -2,6 +2,7 @@
 //! asked that they are `Ord` and `Copy`, so all is said by their orders.
 #![tactic(auto)]
 
+pub mod but;
 mod list;
 pub mod lists;
-mod place;
+mod many;

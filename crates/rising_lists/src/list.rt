@@ -1,32 +1,45 @@
 //! A list of values that rises.
-ghost use Rattle.std.specs.Prelude.{◌≡◌, ◌+◌, ◌-◌, ◌<◌, [], OnOk, OnErr};
+ghost use Rattle.std.specs.Prelude.{◌≡◌, ◌+◌, ◌-◌, ◌<◌, [], ◌∷◌, IfOk, OnOk, OnErr};
 ghost use Rattle.std.specs.Mem.{FitsInMemory};
 ghost use Rattle.rising_lists.specs.Rising.{IsRising, with_value, but};
+ghost use Rattle.rising_lists.specs.Inner.States.{listed};
 
-use crate::place::Place;
+use crate::many::Many;
 use std::alloc::{AllocError, Allocator};
+use std::array;
 use std::marker::Model;
 
 /// Values, each of them once and in their order, with room for those that are awaited. A value is found in time
-/// logarithmic in their number, and those behind one that comes or goes are moved. One value takes no memory.
+/// logarithmic in their number, and those behind one that comes or goes are moved. Where there is one value, or one is
+/// awaited, that takes no memory: most lists of a map are so.
 #[derive(Drop)]
 #[derive_where(Debug; V)]
 pub struct RisingList<V: Ord + Copy, A: Allocator> {
-    values: Place<V, A>,
-    awaited: usize,
+    state: State<V, A>,
 }
 
-// A list is seen as its values and how many are awaited. It has room for both.
+// What a list is.
+#[derive(Drop)]
+#[derive_where(Debug; V)]
+enum State<V: Ord + Copy, A: Allocator> {
+    /// No value, and none is awaited.
+    Nothing,
+    /// No value, and one is awaited.
+    Awaited,
+    /// One value, and none is awaited.
+    One(V),
+    /// Any number of both.
+    Many(Box<Many<V, A>, A>),
+}
+
+// A list is seen as its values and how many are awaited.
 impl<V: Ord + Copy, A: Allocator> Model for RisingList<V, A> {
-    ghost use Rattle.std.specs.Prelude.{◌+◌, ◌≤◌, length};
     ghost use Rattle.rising_lists.specs.Lists.{Listed};
-    ghost use Rattle.rising_lists.specs.Inner.Places.{items_of, room_of};
+    ghost use Rattle.rising_lists.specs.Inner.States.{listed};
 
     ghost Value = { Listed V };
 
-    ghost view = { λ l. record { values = items_of l.values; awaited = l.awaited } };
-
-    ghost invariant = { λ l. length (items_of l.values) + l.awaited ≤ room_of l.values };
+    ghost view = { λ l. listed l.state };
 }
 
 impl<V: Ord + Copy, A: Allocator> RisingList<V, A> {
@@ -37,8 +50,7 @@ impl<V: Ord + Copy, A: Allocator> RisingList<V, A> {
         ensures { result ≡ record { values = []; awaited = 0 } }
     {
         RisingList {
-            values: Place::Here(None),
-            awaited: 0,
+            state: State::Nothing,
         }
     }
 
@@ -47,14 +59,22 @@ impl<V: Ord + Copy, A: Allocator> RisingList<V, A> {
         requires { FitsInMemory V.row }
         ensures { result.now ≡ self.now.values }
     {
-        self.values.as_slice()
+        match &self.state {
+            State::Nothing | State::Awaited => &[],
+            State::One(value) => array::from_ref(value),
+            State::Many(many) => many.as_slice(),
+        }
     }
 
     /// Whether there is no value, and none is awaited.
     pub fn is_idle(&self) -> bool
         ensures { result ≡ is_idle self.now }
     {
-        self.values.len() == 0 && self.awaited == 0
+        match &self.state {
+            State::Nothing => true,
+            State::Awaited | State::One(_) => false,
+            State::Many(many) => many.is_idle(),
+        }
     }
 
     /// Makes room for one more value, or refuses where there is no memory and leaves the list as it was.
@@ -64,11 +84,12 @@ impl<V: Ord + Copy, A: Allocator> RisingList<V, A> {
         ensures ok { OnOk result (self.new ≡ record self.old { awaited = self.old.awaited + 1 }) }
         ensures err { OnErr result (self.new ≡ self.old) }
     {
-        let Some(awaited) = self.awaited.checked_add(1) else {
-            return Err(AllocError);
-        };
-        self.values.reserve(alloc, awaited)?;
-        self.awaited = awaited;
+        match &mut self.state {
+            State::Nothing => self.state = State::Awaited,
+            State::Awaited => self.state = State::Many(two_awaited(alloc)?),
+            State::One(value) => self.state = State::Many(one_and_one_awaited(alloc, *value)?),
+            State::Many(many) => many.await_one()?,
+        }
         Ok(())
     }
 
@@ -77,7 +98,11 @@ impl<V: Ord + Copy, A: Allocator> RisingList<V, A> {
         requires { 0 < self.old.awaited }
         ensures { self.new ≡ record self.old { awaited = self.old.awaited - 1 } }
     {
-        self.awaited -= 1;
+        match &mut self.state {
+            State::Awaited => self.state = State::Nothing,
+            State::Many(many) => many.release(),
+            State::Nothing | State::One(_) => unreachable!(),
+        }
     }
 
     /// Puts a value that was awaited among the others, where none is equal to it. It takes no memory.
@@ -86,16 +111,27 @@ impl<V: Ord + Copy, A: Allocator> RisingList<V, A> {
         requires rising { IsRising V.cmp self.old.values }
         ensures { self.new ≡ record { values = with_value V.cmp value self.old.values; awaited = self.old.awaited - 1 } }
     {
-        self.awaited -= 1;
-        self.values.add(value);
+        match &mut self.state {
+            State::Awaited => self.state = State::One(value),
+            State::Many(many) => many.add(value),
+            State::Nothing | State::One(_) => unreachable!(),
+        }
     }
 
-    /// Takes the value out that is equal to another, if there is one. Its room stays, and it takes no memory.
+    /// Takes the value out that is equal to another, if there is one. It takes no memory.
     pub fn take_out(&mut self, value: &V)
         requires { IsRising V.cmp self.old.values }
         ensures { self.new ≡ record self.old { values = but V.cmp value.now self.old.values } }
     {
-        self.values.take_out(value);
+        match &mut self.state {
+            State::Nothing | State::Awaited => {}
+            State::One(one) => {
+                if value.cmp(one).is_eq() {
+                    self.state = State::Nothing;
+                }
+            }
+            State::Many(many) => many.take_out(value),
+        }
     }
 }
 
@@ -104,10 +140,57 @@ impl<V: Ord + Copy, A: Allocator + Clone> Clone for RisingList<V, A> {
 
     // The room that the awaited values have is made for the copy too.
     fn clone(&self) -> Result<RisingList<V, A>, AllocError> {
-        let values = self.values.copy(self.awaited)?;
-        Ok(RisingList {
-            values,
-            awaited: self.awaited,
-        })
+        let state = match &self.state {
+            State::Nothing => State::Nothing,
+            State::Awaited => State::Awaited,
+            State::One(value) => State::One(*value),
+            State::Many(many) => {
+                let copy = (**many).clone()?;
+                State::Many(boxed(many.alloc()?, copy)?)
+            }
+        };
+        Ok(RisingList { state })
+    }
+}
+
+// A list that awaits two values.
+fn two_awaited<V: Ord + Copy, A: Allocator + Clone>(
+    alloc: &A,
+) -> Result<Box<Many<V, A>, A>, AllocError>
+    ensures { IfOk result (λ many. many.value ≡ record { values = []; awaited = 2 }) }
+{
+    let mut many = Many::new(alloc.clone()?)?;
+    many.await_one()?;
+    many.await_one()?;
+    boxed(alloc.clone()?, many)
+}
+
+// A list of one value that awaits another.
+fn one_and_one_awaited<V: Ord + Copy, A: Allocator + Clone>(
+    alloc: &A,
+    value: V,
+) -> Result<Box<Many<V, A>, A>, AllocError>
+    ensures { IfOk result (λ many. many.value ≡ record { values = value ∷ []; awaited = 1 }) }
+{
+    let mut many = Many::new(alloc.clone()?)?;
+    many.await_one()?;
+    many.add(value);
+    many.await_one()?;
+    boxed(alloc.clone()?, many)
+}
+
+// A list in memory of its own.
+fn boxed<V: Ord + Copy, A: Allocator>(
+    alloc: A,
+    many: Many<V, A>,
+) -> Result<Box<Many<V, A>, A>, AllocError>
+    ensures { IfOk result (λ boxed. boxed.value ≡ many) }
+{
+    match Box::new(alloc, many) {
+        Ok(boxed) => Ok(boxed),
+        Err(refused) => {
+            drop(refused);
+            Err(AllocError)
+        }
     }
 }

@@ -17,7 +17,8 @@ use Rattle.osm_changes.specs.Facts.Changing.{not_differing, cells-differences}
 use Rattle.osm_changes.specs.Facts.Cells.{same_cells, has-append, has-cell_set, IsRising-cell_set}
 use Rattle.edit_actions.specs.declared.action.Action.{Action}
 use Rattle.edit_actions.specs.After.{after, changes}
-use Rattle.edit_footprint.specs.Footprints.{names_but, half_references, subjects, begun_or_ceased, unglued_from, footprint_of, footprint}
+use Rattle.osm_refs.specs.Rising.{names_but}
+use Rattle.edit_footprint.specs.Footprints.{half_references, subjects, begun_or_ceased, unglued_from, footprint_of, footprint}
 use Rattle.edit_footprint.specs.Facts.Halves.{references_by_half}
 use Rattle.edit_footprint.specs.Facts.CellSets.{has-rests}
 

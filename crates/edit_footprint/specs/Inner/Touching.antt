@@ -4,7 +4,8 @@ use Rattle.std.specs.List.{flat_map}
 use Rattle.osm_elements.specs.declared.name.Name.{Name}
 use Rattle.osm_elements.specs.Maps.{name_set}
 use Rattle.osm_changes.specs.declared.change.Change.{Change}
-use Rattle.edit_footprint.specs.Footprints.{names_but, half_references}
+use Rattle.osm_refs.specs.Rising.{names_but}
+use Rattle.edit_footprint.specs.Footprints.{half_references}
 
 module _ {A : Type 0} where
   -- what a half begins or ceases to name, by the sets of its references before and after

@@ -6,13 +6,9 @@ use Rattle.osm_elements.specs.NameOrder.{name_cmp}
 use Rattle.osm_elements.specs.Maps.{is_among}
 use Rattle.osm_refs.specs.declared.note.KeptNote.{KeptNote}
 use Rattle.osm_refs.specs.Tables.{Table, Note, references_at, referring}
-use Rattle.osm_refs.specs.Rising.{IsRising}
+use Rattle.osm_refs.specs.Rising.{IsRising, names_but}
 use Rattle.osm_refs.specs.Inner.Turned.{references_of}
 use Rattle.rising_lists.specs.Lists.{Lists, awaited_at, times}
-
--- the names that are not among others
-abbrev pub names_but : List Name → List Name → List Name
-names_but names others = filter (λ x. not (is_among others x)) names
 
 module _ {A : Type 0} where
   abbrev pub note_pair : KeptNote A → Note
