@@ -1,20 +1,20 @@
 //! The ids that authors spent.
-ghost use Rattle.std.specs.Prelude.{◌≡◌, ◌<◌, ◌≤◌, ◌++◌, [], ◌∷◌, None, OnOk};
+ghost use Rattle.std.specs.Prelude.{◌≡◌, ◌<◌, ◌≤◌, ◌++◌, [], ◌∷◌, true, None, OnOk};
 ghost use Rattle.room_stacks.specs.Stacks.{spent};
-ghost use Rattle.room_stacks.specs.Inner.SpentIds.{deed_of};
+ghost use Rattle.room_stacks.specs.Inner.SpentIds.{deed_of, is_met, StayMet};
 
 use crate::author::Author;
-use indexmap::IndexMap;
+use indexmap::{IndexMap, IndexSet};
 use osm_elements::Memory;
 use std::alloc::Allocator;
 use std::hash::{BuildHasherDefault, FoldHasher};
 use std::marker::Model;
 
-/// An id of an author. Each author has ids of its own.
+// An id of an author, who stands in it by its number. Each author has ids of its own.
 #[derive(Clone, Copy, Debug, PartialEq, Eq, Hash)]
-pub struct Spending {
-    pub id: u64,
-    pub author: Author,
+struct Spending {
+    id: u64,
+    author: usize,
 }
 
 /// What an id was spent on, under the number `seq`.
@@ -45,20 +45,28 @@ impl Work {
 #[derive(Drop)]
 #[derive_where(Debug)]
 pub struct SpentIds<A: Allocator> {
+    // Each author that was met, once. An author's number is its place here: so a spent id takes a number and no name.
+    authors: IndexSet<Author, BuildHasherDefault<FoldHasher>, A>,
     // An `IndexMap`, since its entries stay in the order in which they came: so the deeds can be read off it. Its hash
     // has a fixed seed.
     works: IndexMap<Spending, Work, BuildHasherDefault<FoldHasher>, A>,
 }
 
-// They are seen as the deeds, and for how many more there is room.
+// They are seen as the deeds, for how many more there is room, and the authors that were met.
 impl<A: Allocator> Model for SpentIds<A> {
     ghost use Rattle.std.specs.Prelude.{map};
     ghost use Rattle.indexmap.specs.IndexMap.{spare};
-    ghost use Rattle.room_stacks.specs.Inner.SpentIds.{Spent, deed_of};
+    ghost use Rattle.room_stacks.specs.Inner.SpentIds.{Spent, deed_at, AreNumbered};
 
     ghost Value = { Spent };
 
-    ghost view = { λ s. record { deeds = map deed_of s.works.entries; room = spare s.works } };
+    ghost view = { λ s. record {
+      deeds = map (deed_at s.authors.keys) s.works.entries;
+      room = spare s.works;
+      authors = s.authors.keys;
+    } };
+
+    ghost invariant = { λ s. AreNumbered s.authors.keys s.works.entries };
 }
 
 impl<A: Allocator> SpentIds<A> {
@@ -69,6 +77,7 @@ impl<A: Allocator> SpentIds<A> {
         ensures { result.deeds ≡ [] }
     {
         SpentIds {
+            authors: IndexSet::new(alloc),
             works: IndexMap::new(alloc),
         }
     }
@@ -78,34 +87,45 @@ impl<A: Allocator> SpentIds<A> {
         self.works.allocator()
     }
 
-    /// The number under which an author spent an id, or none.
+    /// The number under which an author spent an id, or none. It takes a look-up of the author and one of the id.
     pub fn spent(&self, author: &Author, id: u64) -> Option<u64>
         ensures { result ≡ spent self.now.deeds author.now id }
     {
-        let author = *author;
+        let Some(author) = self.authors.get_index_of(author) else {
+            return None;
+        };
         match self.works.get(&Spending { id, author }) {
             Some(work) => Some(work.seq()),
             None => None,
         }
     }
 
-    /// Makes room for one more id, or refuses with `Memory`.
-    pub fn reserve(&mut self) -> Result<(), Memory>
+    /// Makes room for one more id of an author, who is met by that, or refuses with `Memory`. Then the author may be met
+    /// all the same.
+    pub fn reserve(&mut self, author: &Author) -> Result<(), Memory>
         ensures deeds { self.new.deeds ≡ self.old.deeds }
+        ensures met { OnOk result (is_met self.new.authors author.now ≡ true) }
         ensures ok { OnOk result (0 < self.new.room) }
+        ensures stay { StayMet self.old.authors self.new.authors }
         ensures room { self.old.room ≤ self.new.room }
     {
+        self.authors.insert(*author)?;
         self.works.reserve(1)?;
         Ok(())
     }
 
-    /// Spends an id of an author for which there is room. It takes no memory.
-    pub fn spend(&mut self, spending: Spending, work: Work)
-        requires unspent { spent self.old.deeds spending.author spending.id ≡ None }
+    /// Spends an id of an author that was met and for which there is room. It takes no memory, and the look-ups of
+    /// [`SpentIds::spent`].
+    pub fn spend(&mut self, author: &Author, id: u64, work: Work)
+        requires unspent { spent self.old.deeds author.now id ≡ None }
+        requires met { is_met self.old.authors author.now ≡ true }
         requires room { 0 < self.old.room }
-        ensures { self.new.deeds ≡ self.old.deeds ++ deed_of (spending, work) ∷ [] }
+        ensures { self.new.deeds ≡ self.old.deeds ++ deed_of author.now id work ∷ [] }
     {
-        match self.works.insert(spending, work) {
+        let Some(author) = self.authors.get_index_of(author) else {
+            unreachable!()
+        };
+        match self.works.insert(Spending { id, author }, work) {
             Ok(_) => {}
             Err(_) => unreachable!(),
         }

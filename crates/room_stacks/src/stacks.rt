@@ -6,7 +6,7 @@ ghost use Rattle.room_stacks.specs.Stacks.{IsAboveAll, spent, standing, is_stand
 
 use crate::author::Author;
 use crate::author_lists::AuthorLists;
-use crate::spent_ids::{Spending, SpentIds, Work};
+use crate::spent_ids::{SpentIds, Work};
 use osm_elements::Memory;
 use std::alloc::Allocator;
 use std::marker::Model;
@@ -35,8 +35,8 @@ impl<A: Allocator> Model for Stacks<A> {
 }
 
 impl<A: Allocator> Stacks<A> {
-    /// Stacks of a room in which nobody did anything. They take no memory. `A` is `Copy`, since two collections are
-    /// made, and a `Clone` may fail.
+    /// Stacks of a room in which nobody did anything. They take no memory. `A` is `Copy`, since several collections
+    /// are made, and a `Clone` may fail.
     pub fn new(alloc: A) -> Stacks<A>
     where
         A: Copy,
@@ -49,8 +49,9 @@ impl<A: Allocator> Stacks<A> {
         }
     }
 
-    /// The number of the deed that spent an author's id, or none. It takes one look-up by the library's hash: the time is
-    /// constant in the mean, and grows with the spent ids if these were picked so that their hashes agree.
+    /// The number of the deed that spent an author's id, or none. It takes two look-ups by the library's hash, of the
+    /// author and of the id: the time is constant in the mean, and grows with the authors or the spent ids if these were
+    /// picked so that their hashes agree.
     pub fn spent(&self, author: &Author, id: u64) -> Option<u64>
         ensures { result ≡ spent self.now.deeds author.now id }
     {
@@ -75,8 +76,9 @@ impl<A: Allocator> Stacks<A> {
     }
 
     /// Makes room for the next deed of an author, whoever else was ready. Or it refuses with `Memory`, and all is as it
-    /// was. It takes time logarithmic in the number of authors, in the mean over many deeds: now and then it moves all ids
-    /// that were spent, or all numbers of the author.
+    /// was. It takes a look-up of the author as [`Stacks::spent`] does, and time logarithmic in the number of authors, in
+    /// the mean over many deeds: now and then it moves all ids that were spent, all authors, or all numbers of the
+    /// author.
     pub fn ready(&mut self, author: &Author) -> Result<(), Memory>
     where
         A: Clone,
@@ -84,21 +86,21 @@ impl<A: Allocator> Stacks<A> {
         ensures err { OnErr result (self.new ≡ self.old) }
     {
         let alloc = self.ids.allocator().clone()?;
-        self.ids.reserve()?;
+        self.ids.reserve(author)?;
         self.lists.reserve(&alloc, author)?;
         self.ready = Some(*author);
         Ok(())
     }
 
     /// Enters that an author, who is ready, did an action under an id, by the entry of the number `seq`. It takes no
-    /// memory, a look-up of the id as [`Stacks::spent`] does, and time logarithmic in the number of authors.
+    /// memory, the look-ups of [`Stacks::spent`], and time logarithmic in the number of authors.
     pub fn did(&mut self, author: Author, id: u64, seq: u64)
         requires ready { self.old.ready ≡ Some author }
         requires unspent { spent self.old.deeds author id ≡ None }
         requires last { IsAboveAll seq self.old.deeds }
         ensures { self.new ≡ record { deeds = self.old.deeds ++ Did author id seq ∷ []; ready = None } }
     {
-        self.ids.spend(Spending { id, author }, Work::Did { seq });
+        self.ids.spend(&author, id, Work::Did { seq });
         self.lists.did(&author, seq);
         self.ready = None;
     }
@@ -113,8 +115,7 @@ impl<A: Allocator> Stacks<A> {
         requires last { IsAboveAll seq self.old.deeds }
         ensures { self.new ≡ record { deeds = self.old.deeds ++ Undid author id of seq ∷ []; ready = None } }
     {
-        self.ids
-            .spend(Spending { id, author }, Work::Undid { of, seq });
+        self.ids.spend(&author, id, Work::Undid { of, seq });
         self.lists.undid(&author, of);
         self.ready = None;
     }
@@ -130,8 +131,7 @@ impl<A: Allocator> Stacks<A> {
         requires last { IsAboveAll seq self.old.deeds }
         ensures { self.new ≡ record { deeds = self.old.deeds ++ Redid author id of seq ∷ []; ready = None } }
     {
-        self.ids
-            .spend(Spending { id, author }, Work::Redid { of, seq });
+        self.ids.spend(&author, id, Work::Redid { of, seq });
         self.lists.redid(&author, seq);
         self.ready = None;
     }

@@ -1,15 +1,18 @@
-use Rattle.std.proofs.Common.{◌≡◌, ◌++◌, [], ◌∷◌, map, ap, ◌∙◌}
-use Rattle.std.proofs.lemmas.List.{map-append}
-use Rattle.indexmap.proofs.CallerLemmas.{insert_entry-new}
+use Rattle.std.proofs.Common.{◌++◌, [], ◌∷◌, sym, ap, ◌∙◌}
 use Rattle.room_stacks.specs.Inner.SpentIds.{Spent, deed_of}
 use Rattle.room_stacks.specs.Stacks.{spent}
-use Rattle.room_stacks.proofs.Spending.{unspent}
+use Rattle.room_stacks.proofs.Spending.{numbered_more, deeds_more}
 use Rattle.room_stacks.proofs.spent_ids.SpentIds.spend.Goals as goal
+
+pub invariant_of-self : goal.invariant_of-self
+invariant_of-self g c =
+    let s = c.self.inside in
+    numbered_more s.authors.keys c.args.author.now c.args.id c.in-Some.author c.args.work s.works (sym c.in-Some.ensures.index) c.self.invariant
+    (ap (λ (t : Spent). spent t.deeds c.args.author.now c.args.id) c.self.view_is ∙ c.requires.unspent) c.insert.new.self.entries c.in-Ok.ensures.entries
 
 pub returns : goal.returns
 returns g c =
-    let es = c.self.inside.works.entries in
-    let free : spent (map deed_of es) c.args.spending.author c.args.spending.id ≡ _ = ap (λ (s : Spent). spent s.deeds c.args.spending.author c.args.spending.id) c.self.view_is ∙ c.requires.unspent in
-    ap (map deed_of) (c.in-Ok.ensures.entries ∙ insert_entry-new _ c.self.inside.works c.args.spending c.args.work (unspent c.args.spending.author c.args.spending.id es free))
-    ∙ map-append deed_of es ((c.args.spending, c.args.work) ∷ [])
-    ∙ ap (λ (s : Spent). s.deeds ++ deed_of (c.args.spending, c.args.work) ∷ []) c.self.view_is
+    let s = c.self.inside in
+    deeds_more s.authors.keys c.args.author.now c.args.id c.in-Some.author c.args.work s.works (sym c.in-Some.ensures.index) c.self.invariant
+    (ap (λ (t : Spent). spent t.deeds c.args.author.now c.args.id) c.self.view_is ∙ c.requires.unspent) c.insert.new.self.entries c.in-Ok.ensures.entries
+    ∙ ap (λ (t : Spent). t.deeds ++ deed_of c.args.author.now c.args.id c.args.work ∷ []) c.self.view_is
