@@ -7,6 +7,7 @@ pub mod BinarySearching
 pub mod Blocking
 pub mod Chains
 pub mod ChangingEntries
+pub mod Choosing
 pub mod Crossing
 pub mod Deciding
 pub mod Deeds
@@ -18,7 +19,7 @@ pub mod Holders
 pub mod Holding
 pub mod InTurn
 pub mod Keeping
-pub mod KeptFootprints
+pub mod KeptHolders
 pub mod LastItems
 pub mod Leading
 pub mod NewsTold
@@ -28,6 +29,7 @@ pub mod Redoable
 pub mod Redoing
 pub mod RestLeft
 pub mod RisingNumbers
+pub mod SoleRows
 pub mod Stacking
 pub mod Stepping
 pub mod TakingBack

@@ -1,11 +1,10 @@
 -- One step of a room.
-use Rattle.std.proofs.Common.{◌≡◌, Result, OnOk, OnErr, IfOk, IfErr, ◌<◌, ◌≤◌, ◌+◌, ◌++◌, ◌∷◌, ℕ, true, false, List, [], Option, Some, None, Ok, Err, length, refl, sym, ap, subst, ◌∙◌, arith, ◌-◌, length-append, ◌⊎◌, inl, inr, zero, suc, map, fold, nat_le}
+use Rattle.std.proofs.Common.{◌≡◌, Result, OnOk, OnErr, IfOk, IfErr, ◌<◌, ◌≤◌, ◌+◌, ◌++◌, ◌∷◌, ℕ, true, false, List, [], Option, Some, None, Ok, Err, length, refl, sym, ap, subst, ◌∙◌, arith, ◌-◌, get_or, slice_get, ◌⊎◌, inl, inr, zero, suc, map, fold, nat_le}
 use Rattle.std.specs.Bool.{then_some}
 use Rattle.std.specs.Result.{IsErr}
-use Rattle.std.specs.Prelude.{slice_set}
 use Rattle.std.specs.Option.{option_map, option_and_then}
 use Rattle.std.proofs.lemmas.Bool.Decides.{nat_tests}
-use Rattle.std.proofs.lemmas.List.{map-append, length-map}
+use Rattle.std.proofs.lemmas.List.{map-append}
 use Rattle.std.proofs.lemmas.List.Sums.{fold-append}
 use Rattle.edit_actions.specs.declared.action.Action.{Action}
 use Rattle.room_stacks.specs.declared.author.Author.{Author}
@@ -25,7 +24,7 @@ use Rattle.osm_changes.specs.Sound.{is_sound}
 use Rattle.edit_actions.specs.After.{after, changes}
 use Rattle.edit_actions.specs.Refusals.{checks, refusal}
 use Rattle.edit_simple.specs.Checks.{first_that_holds}
-use Rattle.room_history.specs.Journals.{is_work, numbered, last, redos}
+use Rattle.room_history.specs.Journals.{is_work, is_standing, numbered, last, redos, standing}
 use Rattle.room_history.specs.Replays.{Past, Recorded, past, past_after, mapof, action_at, recorded_of, recorded_next, done_again, taken_back}
 use Rattle.room_history.specs.Answers.{spent, asked, meant, undo_refusal, redo_refusal, kind_refusal, meaning_refusal, accepted, with_entry, answer_by, answer}
 use Rattle.room_history.specs.LegalJournals.{IsJournal, is_made_request, opened, called}
@@ -49,8 +48,8 @@ use Rattle.edit_simple.specs.Plans.{IsPlan}
 use Rattle.room_history.specs.Inner.Refusing.{refusal_reply}
 use Rattle.room_history.specs.Inner.Undoing.{undone_or, asked_or}
 use Rattle.room_history.specs.Inner.Rooms.{IsRoom, MayAppend, MayWork}
-use Rattle.room_history.specs.declared.kept.Kept.{Kept}
-use Rattle.room_history.specs.Inner.Telling.{recorded_changes, kept_of, kept_from, kept}
+use Rattle.room_history.specs.declared.kept.Effect.{Effect}
+use Rattle.room_history.specs.Inner.Telling.{recorded_changes, effect_of, kept_from, kept}
 use Rattle.room_history.proofs.Telling.{kept_of_each}
 use Rattle.room_history.proofs.BinarySearching.{last_is}
 use Rattle.room_history.proofs.Deciding.{unspent}
@@ -61,13 +60,14 @@ use Rattle.edit_actions.specs.Facts.Accepted.{AreInOrder-after}
 use Rattle.edit_footprint.specs.Footprints.{footprint_of}
 use Rattle.edit_footprint.specs.Facts.Footprints.{IsRising-footprint_of}
 use Rattle.edit_footprint.specs.Holding.{Held, AreHeld, IsNext, HoldsOnly, standing as stands, fallen}
-use Rattle.room_history.specs.Blockers.{recorded_footprint}
-use Rattle.room_history.proofs.Appending.{past-append, mapof-append, applied-append, recorded-redo, recorded_each}
-use Rattle.room_history.proofs.Growing.{numbered_within}
-use Rattle.room_history.proofs.KeptFootprints.{AreHolders-opened, AreHolders-work, AreHolders-undo, kept_of_standing, holders_held, holds_own, holders_next}
+use Rattle.room_history.specs.Blockers.{footprint_of_recorded, recorded_footprint}
+use Rattle.room_history.proofs.Appending.{past-append, mapof-append, applied-append, recorded-redo}
+use Rattle.room_history.proofs.KeptHolders.{AreHolders-opened, AreHolders-work, AreHolders-undo, stands_within, holders_held, holds_own, holders_next}
 use Rattle.room_history.proofs.Leading.{IsLed, led_sound}
 use Rattle.room_history.proofs.TakingBack.{Undone, undone}
 use Rattle.room_history.proofs.Undoing.{Found, found}
+use Rattle.room_history.proofs.Chains.{Work}
+use Rattle.room_history.proofs.Works.{IsRecorded, one_of}
 
 -- the reply that a refusal becomes: itself, or want of memory
 reply_is : {A : Type 0} (r : Refusal A) → (refusal_reply r ≡ Refused r) ⊎ (refusal_reply r ≡ Memory)
@@ -95,11 +95,27 @@ numbered_mapped f [] (suc i) = refl
 numbered_mapped f (x ∷ xs) (suc zero) = refl
 numbered_mapped f (x ∷ xs) (suc (suc i)) = numbered_mapped f xs (suc i)
 
-within_numbered : {X : Type 0} (xs : List X) (s : ℕ) (x : X) → numbered xs s ≡ Some x → s ≤ length xs
-within_numbered xs zero x e = absurd (cc)
-within_numbered [] (suc i) x e = absurd (cc)
-within_numbered (y ∷ ys) (suc zero) x e = omega arith
-within_numbered (y ∷ ys) (suc (suc i)) x e = let h = within_numbered ys (suc i) x e in omega (arith, h)
+-- each number within a list names an item
+none_there : {X : Type 0} (xs : List X) (s : ℕ) → 1 ≤ s → s ≤ length xs → numbered xs s ≡ None → ⊥
+none_there xs zero low high e = absurd (omega (arith, low))
+none_there [] (suc i) low high e = absurd (omega (arith, high))
+none_there (y ∷ ys) (suc zero) low high e = absurd (cc)
+none_there (y ∷ ys) (suc (suc i)) low high e = none_there ys (suc i) (omega arith) (omega (arith, high)) e
+
+pub numbered_item : {X : Type 0} (xs : List X) (s : ℕ) (k d : X) → numbered xs s ≡ Some k → get_or xs (s - 1) d ≡ k
+numbered_item xs zero k d e = absurd (cc)
+numbered_item {X} xs (suc i) k d e = ap (λ n. get_or xs n d) less ∙ at xs i e
+  where
+    less : suc i - 1 ≡ i
+    less = omega arith
+
+    at : (ys : List X) (n : ℕ) → slice_get ys n ≡ Some k → get_or ys n d ≡ k
+    at [] n e = absurd (cc)
+    at (y ∷ ys) zero e = cc
+    at (y ∷ ys) (suc n) e = at ys n e
+
+injective : {X : Type 0} {x y : X} → Some x ≡ Some y → x ≡ y
+injective e = cc
 
 -- of a call that was refused nothing is asked of what it gives
 pub on_ok : {X E : Type 0} (r : Result X E) (P : X → Type 0) → IsErr r → IfOk r P
@@ -212,7 +228,7 @@ module _ {A : Type 0} where
         let t = taken_by number (asked j author number) s refl e in
         step_accepted (requests.Undo number) (Undo s) (ap (option_map Undo) t.is) t.ok seq is
 
-    pub step_not_undone : (number : Option ℕ) (r : Reply A) → Err r ≡ asked_or (undo_refusal (past base j) j author) (asked j author number) → IsStep base limit j (record { author = author; id = id; request = requests.Undo number }) r j
+    step_not_undone : (number : Option ℕ) (r : Reply A) → Err r ≡ asked_or (undo_refusal (past base j) j author) (asked j author number) → IsStep base limit j (record { author = author; id = id; request = requests.Undo number }) r j
     step_not_undone number r e = inl (sym (answer_is (requests.Undo number) ∙ by (asked j author number) e))
       where
         by : (o : Option ℕ) → Err r ≡ asked_or (undo_refusal (past base j) j author) o → answer_by j (record { author = author; id = id; request = requests.Undo number }) (meaning_refusal (past base j) j (record { author = author; id = id; request = requests.Undo number }) (option_map Undo o)) (option_map Undo o) ≡ (r, j)
@@ -223,10 +239,15 @@ module _ {A : Type 0} where
             why None e = absurd (cc)
             why (Some p) e = ap (λ q. (q, j)) (cc)
 
+    -- or why the undo is refused
+    pub step_undo_refused : (number : Option ℕ) (r : Reply A) → (r ≡ Memory) ⊎ (Err r ≡ asked_or (undo_refusal (past base j) j author) (asked j author number)) → IsStep base limit j (record { author = author; id = id; request = requests.Undo number }) r j
+    step_undo_refused number r (inl is) = inr (is, refl)
+    step_undo_refused number r (inr is) = step_not_undone number r is
+
   -- a room of a sound map, with an empty journal
-  pub IsRoom-opened : (store : StoreState A) (recorded : List (Kept A)) (firsts : List ℕ) (footprints : List (Option (List Cell))) (holders : Held) (done : List Deed) (base : Rows A) (limit : ℕ) (j : List (Entry A))
-      → store.rows ≡ base → store.applied ≡ 0 → recorded ≡ [] → firsts ≡ [] → footprints ≡ [] → holders ≡ [] → done ≡ [] → is_sound base ≡ true → j ≡ [] → IsRoom store recorded firsts footprints holders done base limit j
-  IsRoom-opened store recorded firsts footprints holders done base limit j begins none_applied no_changes no_firsts no_footprints no_holders no_deeds sound no_entries = record {
+  pub IsRoom-opened : (store : StoreState A) (recorded : List (Effect A)) (firsts : List ℕ) (holders : Held) (done : List Deed) (base : Rows A) (limit : ℕ) (j : List (Entry A))
+      → store.rows ≡ base → store.applied ≡ 0 → recorded ≡ [] → firsts ≡ [] → holders ≡ [] → done ≡ [] → is_sound base ≡ true → j ≡ [] → IsRoom store recorded firsts holders done base limit j
+  IsRoom-opened store recorded firsts holders done base limit j begins none_applied no_changes no_firsts no_holders no_deeds sound no_entries = record {
     base_sound = sound;
     journal = subst (λ k. IsJournal base limit k) (sym no_entries) opened;
     rows_are = begins ∙ ap (mapof base) (sym no_entries);
@@ -237,20 +258,20 @@ module _ {A : Type 0} where
     deeds_are = no_deeds ∙ ap deeds (sym no_entries);
   }
     where
-      none_held : AreHolders (past base []) [] footprints holders
-      none_held = subst (λ (h : Held). AreHolders (past base []) [] footprints h) (sym no_holders) (subst (λ (l : List (Option (List Cell))). AreHolders (past base []) [] l []) (sym no_footprints) (AreHolders-opened base))
+      none_held : AreHolders (past base []) [] holders
+      none_held = subst (λ (h : Held). AreHolders (past base []) [] h) (sym no_holders) (AreHolders-opened base)
 
-      opened_holders : AreHolders (past base j) j footprints holders
-      opened_holders = subst (λ k. AreHolders (past base k) k footprints holders) (sym no_entries) none_held
+      opened_holders : AreHolders (past base j) j holders
+      opened_holders = subst (λ k. AreHolders (past base k) k holders) (sym no_entries) none_held
 
   -- what one more entry records
   recorded-append : (base : Rows A) (j : List (Entry A)) (e : Entry A) → recorded_changes base (j ++ e ∷ []) ≡ recorded_changes base j ++ (recorded_next (past base j) e.kind).changes ∷ []
   recorded-append base j e = ap (map (λ (r : Recorded A). r.changes)) (ap (λ (p : Past A). p.entries) (past-append base j e)) ∙ map-append (λ (r : Recorded A). r.changes) (past base j).entries (recorded_next (past base j) e.kind ∷ [])
 
   -- what is kept of one more entry
-  kept_from-append : (m : Rows A) (css : List (List (Change A))) (cs : List (Change A)) → kept_from m (css ++ cs ∷ []) ≡ kept_from m css ++ kept_of (fold changed m css) cs ∷ []
+  kept_from-append : (m : Rows A) (css : List (List (Change A))) (cs : List (Change A)) → kept_from m (css ++ cs ∷ []) ≡ kept_from m css ++ effect_of (fold changed m css) cs ∷ []
   kept_from-append m [] cs = refl
-  kept_from-append m (ds ∷ css) cs = ap (λ ks. kept_of m ds ∷ ks) (kept_from-append (changed m ds) css cs)
+  kept_from-append m (ds ∷ css) cs = ap (λ ks. effect_of m ds ∷ ks) (kept_from-append (changed m ds) css cs)
 
   -- the changes of the entries, one after the other, lead to the map
   changes_lead_on : (p : Past A) (base : Rows A) (j : List (Entry A)) → p.map ≡ fold changed base (map (λ (r : Recorded A). r.changes) p.entries)
@@ -265,32 +286,80 @@ module _ {A : Type 0} where
   changes_lead : (base : Rows A) (j : List (Entry A)) → mapof base j ≡ fold changed base (recorded_changes base j)
   changes_lead base j = changes_lead_on (record { map = base; entries = [] }) base j refl
 
-  kept-append : (base : Rows A) (j : List (Entry A)) (e : Entry A) → kept base (j ++ e ∷ []) ≡ kept base j ++ kept_of (mapof base j) (recorded_next (past base j) e.kind).changes ∷ []
+  kept-append : (base : Rows A) (j : List (Entry A)) (e : Entry A) → kept base (j ++ e ∷ []) ≡ kept base j ++ effect_of (mapof base j) (recorded_next (past base j) e.kind).changes ∷ []
   kept-append base j e =
       let cs = (recorded_next (past base j) e.kind).changes in
-      ap (kept_from base) (recorded-append base j e) ∙ kept_from-append base (recorded_changes base j) cs ∙ ap (λ m. kept base j ++ kept_of m cs ∷ []) (sym (changes_lead base j))
+      ap (kept_from base) (recorded-append base j e) ∙ kept_from-append base (recorded_changes base j) cs ∙ ap (λ m. kept base j ++ effect_of m cs ∷ []) (sym (changes_lead base j))
 
   -- the changes of what is kept are those that are recorded
-  changes_kept : (m : Rows A) (css : List (List (Change A))) → map (λ (k : Kept A). k.changes) (kept_from m css) ≡ css
+  changes_kept : (m : Rows A) (css : List (List (Change A))) → map (λ (k : Effect A). k.changes) (kept_from m css) ≡ css
   changes_kept m [] = refl
   changes_kept m (cs ∷ css) = ap (λ rest. cs ∷ rest) (changes_kept (changed m cs) css)
 
-  module _ (store : StoreState A) (recorded : List (Kept A)) (firsts : List ℕ) (footprints : List (Option (List Cell))) (holders : Held) (done : List Deed) (base : Rows A) (limit : ℕ) (j : List (Entry A)) (r : IsRoom store recorded firsts footprints holders done base limit j) where
+  module _ (store : StoreState A) (recorded : List (Effect A)) (firsts : List ℕ) (holders : Held) (done : List Deed) (base : Rows A) (limit : ℕ) (j : List (Entry A)) (r : IsRoom store recorded firsts holders done base limit j) where
     -- what holds of a room's journal
     room_led : IsLed base j
     room_led = journal_led base r.base_sound limit j r.journal
 
     -- the names of the holders rise, and the next number comes after all that are held
     pub may_stand : AreHeld holders
-    may_stand = holders_held (past base j) j footprints holders r.holders_are
+    may_stand = holders_held (past base j) j holders r.holders_are
 
     pub stands_next : (n : ℕ) → n ≡ length j → IsNext holders (n + 1)
-    stands_next n is = subst (λ m. IsNext holders (m + 1)) (sym is) (holders_next base j footprints holders r.holders_are)
+    stands_next n is = subst (λ m. IsNext holders (m + 1)) (sym is) (holders_next base j holders r.holders_are)
 
     -- the action that the code finds of an entry is the recorded one
     pub action_told : (es : List (Entry A)) (os : List ℕ) (t : ℕ) (o : Option (Action A)) → es ≡ j → os ≡ firsts → o ≡ option_and_then (λ n. done_by (numbered es n)) (numbered os t) → action_at (past base j) t ≡ o
     action_told es os t o entries_are origins_are is =
         action_by_origin base j t ∙ sym (is ∙ (λ i. option_and_then (λ n. done_by (numbered (entries_are i) n)) (numbered ((origins_are ∙ r.firsts_are) i) t)))
+
+    -- an entry that stands: its action, what is kept of what it changed, and its footprint
+    module _ (s : ℕ) (there : is_standing j s ≡ true) where
+      stood : (w : Work A) × IsRecorded (past base j).entries s w
+      stood = one_of (past base j).entries s (standing j) room_led.works room_led.recorded there
+
+      its_action : action_at (past base j) s ≡ Some stood.0.action
+      its_action = ap (option_and_then (λ (r : Recorded A). r.action)) stood.1
+
+      kept_each : length recorded ≡ length j
+      kept_each = ap length r.recorded_are ∙ kept_of_each base j
+
+      pub is_first : 1 ≤ s
+      is_first = (stands_within j s there).0
+
+      pub is_kept : s ≤ length recorded
+      is_kept = let at = (stands_within j s there).1 in let n = kept_each in omega (arith, at, n)
+
+      pub has_action : action_at (past base j) s ≡ None → ⊥
+      has_action none = absurd (cc (sym none ∙ its_action))
+
+      its_changes : (k : Effect A) → numbered recorded s ≡ Some k → k.changes ≡ stood.0.changes
+      its_changes k is = let same : Some k.changes ≡ Some stood.0.changes = sym (ap (option_map (λ (k : Effect A). k.changes)) is) ∙ told in cc
+        where
+          told : option_map (λ (k : Effect A). k.changes) (numbered recorded s) ≡ Some stood.0.changes
+          told =
+              sym (numbered_mapped (λ (k : Effect A). k.changes) recorded s) ∙ ap (λ ks. numbered (map (λ (k : Effect A). k.changes) ks) s) r.recorded_are
+              ∙ ap (λ css. numbered css s) (changes_kept base (recorded_changes base j)) ∙ numbered_mapped (λ (r : Recorded A). r.changes) (past base j).entries s
+              ∙ ap (option_map (λ (r : Recorded A). r.changes)) stood.1
+
+      -- an undo records the changes of the entry taken back
+      pub next_is : (cs : List (Change A)) → ((k : Effect A) → numbered recorded s ≡ Some k → cs ≡ k.changes) → inverse cs ≡ (recorded_next (past base j) (Undo s)).changes
+      next_is cs told = by (numbered recorded s) refl
+        where
+          by : (o : Option (Effect A)) → numbered recorded s ≡ o → inverse cs ≡ (recorded_next (past base j) (Undo s)).changes
+          by None e = absurd (none_there recorded s is_first is_kept e)
+          by (Some k) e = ap inverse (told k e ∙ its_changes k e) ∙ ap (λ o. (taken_back o).changes) (sym stood.1)
+
+      -- the cells that its action touches, with these changes, are its footprint
+      pub touched_is : (a : Action A) → action_at (past base j) s ≡ Some a → (cs : List (Change A)) → ((k : Effect A) → numbered recorded s ≡ Some k → cs ≡ k.changes) → footprint_of a cs ≡ recorded_footprint (past base j) s
+      touched_is a acts cs told = by (numbered recorded s) refl
+        where
+          same : Some a ≡ Some stood.0.action
+          same = sym acts ∙ its_action
+
+          by : (o : Option (Effect A)) → numbered recorded s ≡ o → footprint_of a cs ≡ recorded_footprint (past base j) s
+          by None e = absurd (none_there recorded s is_first is_kept e)
+          by (Some k) e = (λ i. footprint_of (injective same i) ((told k e ∙ its_changes k e) i)) ∙ sym (ap footprint_of_recorded stood.1)
 
     -- what an author can redo is what it can by its deeds
     pub redos_told : (author : Author) → stacks.redo done author ≡ redos j author
@@ -309,19 +378,19 @@ module _ {A : Type 0} where
       above_deeds ds n is next = subst (λ d. stacks.IsAboveAll n d) (sym (is ∙ r.deeds_are)) (subst (λ m. stacks.IsAboveAll m (deeds j)) (sym next) (journals.above_deeds j))
 
       -- a room with one more entry
-      grown : (k : EntryKind A) (l : List (Entry A)) (store' : StoreState A) (recorded' : List (Kept A)) (firsts' : List ℕ) (footprints' : List (Option (List Cell))) (holders' : Held) (done' : List Deed) (cs : List (Change A))
+      grown : (k : EntryKind A) (l : List (Entry A)) (store' : StoreState A) (recorded' : List (Effect A)) (firsts' : List ℕ) (holders' : Held) (done' : List Deed) (cs : List (Change A))
           → IsJournal base limit (with_entry j author id k) → cs ≡ (recorded_next (past base j) k).changes
-          → store' ≡ applied_to store cs → recorded' ≡ recorded ++ kept_of store.rows cs ∷ [] → firsts' ≡ firsts ++ origin_next (origins j) k ∷ [] → AreHolders (past base (with_entry j author id k)) (with_entry j author id k) footprints' holders'
+          → store' ≡ applied_to store cs → recorded' ≡ recorded ++ effect_of store.rows cs ∷ [] → firsts' ≡ firsts ++ origin_next (origins j) k ∷ [] → AreHolders (past base (with_entry j author id k)) (with_entry j author id k) holders'
           → done' ≡ done ++ deed_by (length j + 1) author id k ∷ [] → l ≡ with_entry j author id k
-          → IsRoom store' recorded' firsts' footprints' holders' done' base limit l
-      grown k l store' recorded' firsts' footprints' holders' done' cs legal is store_is recorded_is firsts_is holders_is deeds_is l_is =
+          → IsRoom store' recorded' firsts' holders' done' base limit l
+      grown k l store' recorded' firsts' holders' done' cs legal is store_is recorded_is firsts_is holders_is deeds_is l_is =
           let e : Entry A = record { author = author; id = id; kind = k } in
-          subst (λ l. IsRoom store' recorded' firsts' footprints' holders' done' base limit l) (sym l_is) (record {
+          subst (λ l. IsRoom store' recorded' firsts' holders' done' base limit l) (sym l_is) (record {
             base_sound = r.base_sound;
             journal = legal;
             rows_are = ap (λ (s : StoreState A). s.rows) store_is ∙ ap (λ m. changed m cs) r.rows_are ∙ ap (changed (mapof base j)) is ∙ sym (mapof-append base j e);
             count_is = ap (λ (s : StoreState A). s.applied) store_is ∙ ap (λ n. counted n cs) r.count_is ∙ ap (counted (applied base j)) is ∙ sym (applied-append base j e);
-            recorded_are = recorded_is ∙ (λ i. r.recorded_are i ++ kept_of (r.rows_are i) (is i) ∷ []) ∙ sym (kept-append base j e);
+            recorded_are = recorded_is ∙ (λ i. r.recorded_are i ++ effect_of (r.rows_are i) (is i) ∷ []) ∙ sym (kept-append base j e);
             firsts_are = firsts_is ∙ ap (λ os. os ++ origin_next (origins j) k ∷ []) r.firsts_are ∙ sym (origins-append j e);
             holders_are = holders_is;
             deeds_are = deeds_is ∙ ap (λ ds. ds ++ deed_by (length j + 1) author id k ∷ []) r.deeds_are ∙ sym (deeds-append j e);
@@ -367,16 +436,16 @@ module _ {A : Type 0} where
         work_rises cells is = subst IsRising (sym (is ∙ ap (λ (w : Recorded A). w.footprint) does.records)) (IsRising-footprint_of does.action (changes (mapof base j) does.action))
 
         -- a room after it
-        pub IsRoom-work : (l : List (Entry A)) (store' : StoreState A) (recorded' : List (Kept A)) (firsts' : List ℕ) (footprints' : List (Option (List Cell))) (holders' : Held) (done' : List Deed) (cs : List (Change A)) (cells : List Cell)
+        pub IsRoom-work : (l : List (Entry A)) (store' : StoreState A) (recorded' : List (Effect A)) (firsts' : List ℕ) (holders' : Held) (done' : List Deed) (cs : List (Change A)) (cells : List Cell)
             → cs ≡ (recorded_next (past base j) k).changes → cells ≡ (recorded_next (past base j) k).footprint
-            → store' ≡ applied_to store cs → recorded' ≡ recorded ++ kept_of store.rows cs ∷ [] → firsts' ≡ firsts ++ origin_next firsts k ∷ [] → footprints' ≡ footprints ++ Some cells ∷ [] → holders' ≡ stands holders cells (length j + 1)
+            → store' ≡ applied_to store cs → recorded' ≡ recorded ++ effect_of store.rows cs ∷ [] → firsts' ≡ firsts ++ origin_next firsts k ∷ [] → holders' ≡ stands holders cells (length j + 1)
             → done' ≡ done ++ deed_by (length j + 1) author id k ∷ [] → l ≡ with_entry j author id k
-            → IsRoom store' recorded' firsts' footprints' holders' done' base limit l
-        IsRoom-work l store' recorded' firsts' footprints' holders' done' cs cells cs_are cells_are store_is recorded_is firsts_is footprints_is holders_is deeds_is l_is =
-            grown k l store' recorded' firsts' footprints' holders' done' cs (legal_work k work ok) cs_are store_is recorded_is
+            → IsRoom store' recorded' firsts' holders' done' base limit l
+        IsRoom-work l store' recorded' firsts' holders' done' cs cells cs_are cells_are store_is recorded_is firsts_is holders_is deeds_is l_is =
+            grown k l store' recorded' firsts' holders' done' cs (legal_work k work ok) cs_are store_is recorded_is
             (firsts_is ∙ ap (λ os. firsts ++ origin_next os k ∷ []) r.firsts_are)
-            (AreHolders-work base j footprints holders r.holders_are (record { author = author; id = id; kind = k }) does.action footprints' holders' cells does.works does.records
-            (cells_are ∙ ap (λ (w : Recorded A). w.footprint) does.records) footprints_is holders_is)
+            (AreHolders-work base j holders r.holders_are (record { author = author; id = id; kind = k }) does.action holders' cells does.works does.records
+            (cells_are ∙ ap (λ (w : Recorded A). w.footprint) does.records) holders_is)
             deeds_is l_is
 
       -- what an undo that is not refused finds in a room
@@ -391,48 +460,9 @@ module _ {A : Type 0} where
         pub stands_there : (ds : List Deed) → ds ≡ done → stacks.is_standing ds author s ≡ true
         stands_there ds is = ap (λ d. stacks.is_standing d author s) (is ∙ r.deeds_are) ∙ stands_among j author s there.there there.own
 
-        -- its changes are recorded under its number
-        pub is_first : 1 ≤ s
-        is_first = by s finds.recorded
-          where
-            by : (n : ℕ) → numbered (past base j).entries n ≡ Some finds.was_recorded → 1 ≤ n
-            by zero e = absurd (cc)
-            by (suc i) e = omega arith
-
-        pub is_recorded : s ≤ length recorded
-        is_recorded = let n : length recorded ≡ length (past base j).entries = ap length r.recorded_are ∙ kept_of_each base j ∙ sym (recorded_each base j) in omega (arith, n, within_numbered (past base j).entries s finds.was_recorded finds.recorded)
-
-        -- what is kept of the entry that is taken back
-        kept_there : (k : Kept A) × (numbered recorded s ≡ Some k) × (k.changes ≡ finds.was_recorded.changes)
-        kept_there = by (numbered recorded s) refl
-          where
-            its : option_map (λ (k : Kept A). k.changes) (numbered recorded s) ≡ Some finds.was_recorded.changes
-            its =
-                sym (numbered_mapped (λ (k : Kept A). k.changes) recorded s) ∙ ap (λ ks. numbered (map (λ (k : Kept A). k.changes) ks) s) r.recorded_are
-                ∙ ap (λ css. numbered css s) (changes_kept base (recorded_changes base j)) ∙ numbered_mapped (λ (r : Recorded A). r.changes) (past base j).entries s
-                ∙ ap (option_map (λ (r : Recorded A). r.changes)) finds.recorded
-
-            by : (o : Option (Kept A)) → numbered recorded s ≡ o → (k : Kept A) × (numbered recorded s ≡ Some k) × (k.changes ≡ finds.was_recorded.changes)
-            by None e = absurd (let none : None ≡ Some finds.was_recorded.changes = sym (ap (option_map (λ (k : Kept A). k.changes)) e) ∙ its in cc)
-            by (Some k) e = (k, e, let same : Some k.changes ≡ Some finds.was_recorded.changes = sym (ap (option_map (λ (k : Kept A). k.changes)) e) ∙ its in cc)
-
-        -- an undo records the changes of the entry taken back
-        pub next_is : (cs : List (Change A)) → ((k : Kept A) → numbered recorded s ≡ Some k → cs ≡ inverse k.changes) → cs ≡ (recorded_next (past base j) (Undo s)).changes
-        next_is cs told = told kept_there.0 kept_there.1 ∙ ap inverse kept_there.2 ∙ ap (λ o. (taken_back o).changes) (sym finds.recorded)
-
-        -- its footprint is kept, and stays where the next entry's is put behind it
-        kept_within : s ≤ length footprints
-        kept_within = let n : length footprints ≡ length j = r.holders_are.footprints_are.count in let m = recorded_each base j in omega (arith, n, m, within_numbered (past base j).entries s finds.was_recorded finds.recorded)
-
-        pub kept_behind_room : (fs : List (Option (List Cell))) → fs ≡ footprints ++ None ∷ [] → s ≤ length fs
-        kept_behind_room fs is = let n = ap length is ∙ length-append footprints (None ∷ []) in let m = kept_within in omega (arith, n, m)
-
-        kept_behind : (o : Option (List Cell)) → numbered footprints s ≡ Some o → numbered (footprints ++ None ∷ []) s ≡ Some o
-        kept_behind o is = numbered_within footprints None s kept_within ∙ is
-
-        pub holds_just : (fs : List (Option (List Cell))) → fs ≡ footprints ++ None ∷ [] → (cells : List Cell) → numbered fs s ≡ Some (Some cells) → HoldsOnly holders cells s
-        holds_just fs is cells told =
-            holds_own (past base j) j footprints holders r.holders_are s there.there cells (sym (numbered_within footprints None s kept_within) ∙ sym (ap (λ l. numbered l s) is) ∙ told)
+        -- it holds just the cells of its footprint
+        pub holds_just : HoldsOnly holders (recorded_footprint (past base j) s) s
+        holds_just = holds_own (past base j) j holders r.holders_are s there.there
 
         after_sound : is_sound (mapof base (with_entry j author id (Undo s))) ≡ true
         after_sound = led_sound base (with_entry j author id (Undo s)) r.base_sound finds.led
@@ -455,15 +485,13 @@ module _ {A : Type 0} where
             ap (λ m. is_sound (changed m (recorded_next (past base j) (Undo s)).changes)) r.rows_are
             ∙ ap is_sound (sym (mapof-append base j (record { author = author; id = id; kind = Undo s }))) ∙ after_sound
 
-        pub IsRoom-undo : (l : List (Entry A)) (store' : StoreState A) (recorded' : List (Kept A)) (firsts' : List ℕ) (footprints' : List (Option (List Cell))) (holders' : Held) (done' : List Deed) (cs : List (Change A))
+        pub IsRoom-undo : (l : List (Entry A)) (store' : StoreState A) (recorded' : List (Effect A)) (firsts' : List ℕ) (holders' : Held) (done' : List Deed) (cs : List (Change A))
             → cs ≡ (recorded_next (past base j) (Undo s)).changes
-            → store' ≡ applied_to store cs → recorded' ≡ recorded ++ kept_of store.rows cs ∷ [] → firsts' ≡ firsts ++ (length j + 1) ∷ [] → footprints' ≡ slice_set (footprints ++ None ∷ []) (s - 1) None
-            → ((cells : List Cell) → numbered (footprints ++ None ∷ []) s ≡ Some (Some cells) → holders' ≡ fallen holders s)
+            → store' ≡ applied_to store cs → recorded' ≡ recorded ++ effect_of store.rows cs ∷ [] → firsts' ≡ firsts ++ (length j + 1) ∷ [] → holders' ≡ fallen holders s
             → done' ≡ done ++ Undid author id s (length j + 1) ∷ [] → l ≡ with_entry j author id (Undo s)
-            → IsRoom store' recorded' firsts' footprints' holders' done' base limit l
-        IsRoom-undo l store' recorded' firsts' footprints' holders' done' cs cs_are store_is recorded_is firsts_is footprints_is holders_is deeds_is l_is =
-            grown (Undo s) l store' recorded' firsts' footprints' holders' done' cs (legal base limit j author id may (requests.Undo (Some s)) (Undo s) refl ok r.journal refl) cs_are store_is recorded_is
+            → IsRoom store' recorded' firsts' holders' done' base limit l
+        IsRoom-undo l store' recorded' firsts' holders' done' cs cs_are store_is recorded_is firsts_is holders_is deeds_is l_is =
+            grown (Undo s) l store' recorded' firsts' holders' done' cs (legal base limit j author id may (requests.Undo (Some s)) (Undo s) refl ok r.journal refl) cs_are store_is recorded_is
             (firsts_is ∙ ap (λ n. firsts ++ n ∷ []) own_origin)
-            (AreHolders-undo base j footprints holders r.holders_are (record { author = author; id = id; kind = Undo s }) s footprints' holders' refl there.there footprints_is
-            (holders_is (recorded_footprint (past base j) s) (kept_behind (Some (recorded_footprint (past base j) s)) (kept_of_standing (past base j) j footprints holders r.holders_are s there.there))))
+            (AreHolders-undo base j holders r.holders_are (record { author = author; id = id; kind = Undo s }) s holders' refl there.there holders_is)
             deeds_is l_is

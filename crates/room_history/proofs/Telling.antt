@@ -2,7 +2,7 @@
 use Rattle.std.proofs.Common.{◌≡◌, ◌+◌, ◌<◌, ◌≤◌, ◌++◌, ℕ, zero, suc, List, [], ◌∷◌, length, get_or, drop, refl, sym, ap, ◌∙◌, append_assoc, append-nil, arith}
 use Rattle.std.proofs.lemmas.List.{length-map}
 use Rattle.room_history.specs.declared.entry.Entry.{Entry}
-use Rattle.room_history.specs.declared.kept.Kept.{Kept}
+use Rattle.room_history.specs.declared.kept.Effect.{Effect}
 use Rattle.room_history.specs.declared.news.News.{News}
 use Rattle.osm_elements.specs.Maps.{Rows}
 use Rattle.osm_changes.specs.declared.change.Change.{Change}
@@ -13,7 +13,7 @@ use Rattle.room_history.proofs.Appending.{recorded_each}
 
 module _ {A : Type 0} where
   -- the news that comes next
-  next_told : (n i : ℕ) (es : List (Entry A)) (ks : List (Kept A)) (d : Entry A) (other : Kept A) → i < length es → length ks ≡ length es
+  next_told : (n i : ℕ) (es : List (Entry A)) (ks : List (Effect A)) (d : Entry A) (other : Effect A) → i < length es → length ks ≡ length es
       → drop i (told_from n es ks) ≡ told_of (n + i) (get_or es i d) (get_or ks i other) ∷ drop (i + 1) (told_from n es ks)
   next_told n i [] ks d other l same = absurd (omega (arith, l))
   next_told n i (e ∷ es) [] d other l same = absurd (omega (arith, same))
@@ -26,7 +26,7 @@ module _ {A : Type 0} where
       ∙ ap (λ k. told_of (n + suc i) (get_or es i d) (get_or ks i other) ∷ drop k (told_from n (e ∷ es) (c ∷ ks))) (sym place)
 
   -- what was told, with one news more, and what is still to be told
-  pub one_more_told : (i : ℕ) (es : List (Entry A)) (ks : List (Kept A)) (told all : List (News A)) (e d : Entry A) (c other : Kept A) (new : News A) → i < length es → length ks ≡ length es
+  pub one_more_told : (i : ℕ) (es : List (Entry A)) (ks : List (Effect A)) (told all : List (News A)) (e d : Entry A) (c other : Effect A) (new : News A) → i < length es → length ks ≡ length es
       → e ≡ get_or es i d → c ≡ get_or ks i other → new ≡ told_of (i + 1) e c
       → told ++ drop i (told_from 1 es ks) ≡ all → (told ++ new ∷ []) ++ drop (i + 1) (told_from 1 es ks) ≡ all
   one_more_told i es ks told all e d c other new l same entry changes is before =
@@ -35,7 +35,7 @@ module _ {A : Type 0} where
       ∙ ap (λ x. told ++ x ∷ drop (i + 1) (told_from 1 es ks)) (is ∙ (λ k. told_of (i + 1) (entry k) (changes k)) ∙ ap (λ k. told_of k (get_or es i d) (get_or ks i other)) (sym number))
       ∙ ap (λ rest. told ++ rest) (sym (next_told 1 i es ks d other l same)) ∙ before
 
-  none_left : (n i : ℕ) (es : List (Entry A)) (ks : List (Kept A)) → length es ≤ i → drop i (told_from n es ks) ≡ []
+  none_left : (n i : ℕ) (es : List (Entry A)) (ks : List (Effect A)) → length es ≤ i → drop i (told_from n es ks) ≡ []
   none_left n zero [] ks l = refl
   none_left n (suc i) [] ks l = refl
   none_left n zero (e ∷ es) ks l = absurd (omega (arith, l))
@@ -43,7 +43,7 @@ module _ {A : Type 0} where
   none_left n (suc i) (e ∷ es) (c ∷ ks) l = none_left (n + 1) i es ks (omega (arith, l))
 
   -- all are told
-  pub all_told : (i : ℕ) (es : List (Entry A)) (ks : List (Kept A)) (told all : List (News A)) → length es ≤ i → told ++ drop i (told_from 1 es ks) ≡ all → told ≡ all
+  pub all_told : (i : ℕ) (es : List (Entry A)) (ks : List (Effect A)) (told all : List (News A)) → length es ≤ i → told ++ drop i (told_from 1 es ks) ≡ all → told ≡ all
   all_told i es ks told all l before = sym (append-nil told) ∙ ap (λ rest. told ++ rest) (sym (none_left 1 i es ks l)) ∙ before
 
   kept_of_all : (m : Rows A) (css : List (List (Change A))) → length (kept_from m css) ≡ length css

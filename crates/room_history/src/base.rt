@@ -23,9 +23,9 @@ pub enum BaseFault<A: Allocator> {
     Unsound {
         /// The least name whose row is not.
         name: Name,
-        /// What is wrong with that row, the first of these: `TooFew` for a way of fewer than 2 nodes, `TooMany` for one of more
-        /// than 2,000 and for a relation of more than 32,000 members, `Absent` with the least name that it refers to and that
-        /// the map does not have.
+        /// What is wrong with that row, the first of these: `TooFew` for a way of fewer than 2 nodes, `TooMany` for one
+        /// of more than 2,000 and for a relation of more than 32,000 members, `Absent` with the least name that it
+        /// refers to and that the map does not have.
         why: Refusal<A>,
     },
     /// A growth was refused: there was no memory for it.
@@ -40,8 +40,8 @@ impl<A: Allocator> From<Memory> for BaseFault<A> {
     }
 }
 
-/// The least name of a map whose row is not sound, and why; none where the map is sound. It takes no memory. It goes over the
-/// rows once, and costs a look-up for each reference.
+/// The least name of a map whose row is not sound, and why; none where the map is sound. It takes no memory. It goes
+/// over the rows once, and costs a look-up for each reference.
 pub(crate) fn first_unsound<A: Allocator>(map: &OsmMap<A>) -> Option<(Name, Refusal<A>)>
     requires { are_of_kinds map.now ≡ true }
     ensures none { result ≡ None → is_sound map.now ≡ true }

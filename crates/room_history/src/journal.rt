@@ -18,8 +18,8 @@ pub fn numbered<T>(items: &[T], seq: u64) -> Option<&T>
     }
 }
 
-/// The action of an entry, which stands in the entry that is its origin; none of an undo, and none where no entry has the
-/// number. `origins` has the number of the origin of each entry.
+/// The action of an entry, which stands in the entry that is its origin; none of an undo, and none where no entry has
+/// the number. `origins` has the number of the origin of each entry.
 pub fn action_of<'a, A: Allocator>(
     entries: &'a [Entry<A>],
     origins: &[u64],

@@ -1,30 +1,183 @@
 //! What a room keeps of what an entry changed.
-ghost use Rattle.std.specs.Prelude.{◌≡◌, IfOk};
-ghost use Rattle.room_history.specs.Inner.Telling.{kept_of};
+ghost use Rattle.std.specs.Prelude.{◌≡◌, ◌∷◌, [], IfOk, IfSome, map};
+ghost use Rattle.osm_elements.specs.Rows.{row_at};
+ghost use Rattle.osm_changes.specs.Changes.{AreFrom, row_changes, rows_after};
+ghost use Rattle.room_history.specs.Inner.Kept.{effect_of_row};
+ghost use Rattle.room_history.specs.Inner.Telling.{effect_of, told_row};
 
+use crate::news::{NewsRow, NewsRows, copy_of, told_rows};
 use osm_changes::changes::Changes;
 use osm_changes::row_after::RowsAfter;
 use osm_changes::store::Store;
 use osm_elements::Memory;
+use osm_elements::element::Element;
+use osm_elements::name::Name;
 use std::alloc::Allocator;
+use std::marker::Model;
 
-// The cells that an entry changed, with their halves before and after, and the rows of their names after it. The rows
-// are told in news; the other part of a row is not among the changes.
+// What an entry does to the map: the cells that it changes, with their halves before and after, and the rows of their
+// names after it. The rows are told in news; the other part of a row is not among the changes.
 #[derive(Drop)]
 #[derive_where(Debug)]
-pub(crate) struct Kept<A: Allocator> {
+pub(crate) struct Effect<A: Allocator> {
     pub(crate) changes: Changes<A>,
     pub(crate) rows: RowsAfter<A>,
 }
 
-// Changes with the rows that a store has after them, before they are applied. The one refusal is want of memory.
-pub(crate) fn kept_of<A: Allocator + Clone>(
+// A row that is changed: a name, with its element before and after, or none.
+#[derive(Drop)]
+#[derive_where(Debug)]
+pub(crate) struct ChangedRow<A: Allocator> {
+    pub(crate) name: Name,
+    pub(crate) before: Option<Element<A>>,
+    pub(crate) after: Option<Element<A>>,
+}
+
+// What is kept of an effect. Most entries change one row, and of such a one the row is kept, which takes no memory of
+// its own: it tells the changes.
+#[derive(Drop)]
+#[derive_where(Debug)]
+pub(crate) struct Kept<A: Allocator> {
+    form: Form<A>,
+}
+
+// How an effect is kept.
+#[derive(Drop)]
+#[derive_where(Debug)]
+enum Form<A: Allocator> {
+    /// By its one row.
+    Row(ChangedRow<A>),
+    /// As it is.
+    Whole(Effect<A>),
+}
+
+// What is kept is seen as the effect.
+impl<A: Allocator> Model for Kept<A> {
+    ghost use Rattle.room_history.specs.declared.kept.Effect.{Effect};
+    ghost use Rattle.room_history.specs.Inner.Kept.{kept_effect};
+
+    ghost Value = { Effect A };
+
+    ghost view = { λ k. kept_effect k.form };
+}
+
+// The effect of changes, with the rows that a store has after them, before they are applied. The one refusal is want of
+// memory.
+pub(crate) fn effect_of<A: Allocator + Clone>(
     alloc: A,
     store: &Store<A>,
     changes: Changes<A>,
-) -> Result<Kept<A>, Memory>
-    ensures { IfOk result (λ k. k ≡ kept_of store.now.rows changes) }
+) -> Result<Effect<A>, Memory>
+    ensures { IfOk result (λ e. e ≡ effect_of store.now.rows changes) }
 {
     let rows = store.rows_after(alloc, &changes)?;
-    Ok(Kept { changes, rows })
+    Ok(Effect { changes, rows })
+}
+
+// The row of an effect that is of one alone, before it is applied, with copies of both elements. The one refusal is
+// want of memory.
+pub(crate) fn sole_row<A: Allocator + Clone>(
+    store: &Store<A>,
+    effect: &Effect<A>,
+) -> Result<Option<ChangedRow<A>>, Memory>
+    requires from { AreFrom store.now.rows effect.now.changes }
+    requires rows { effect.now.rows ≡ rows_after store.now.rows effect.now.changes }
+    ensures { IfOk result (λ sole. IfSome sole (λ row. effect_of_row row ≡ effect.now)) }
+{
+    // A row has two cells.
+    let cells = effect.changes.rows().len();
+    let rows = effect.rows.as_slice();
+    if cells > 2 || rows.len() != 1 {
+        return Ok(None);
+    }
+    let row = &rows[0];
+    let before = element_at(store, &row.name)?;
+    let after = copy_of(&row.element)?;
+    Ok(Some(ChangedRow {
+        name: row.name,
+        before,
+        after,
+    }))
+}
+
+// A copy of the element that a name has in a store, if it has one.
+fn element_at<A: Allocator + Clone>(
+    store: &Store<A>,
+    name: &Name,
+) -> Result<Option<Element<A>>, Memory>
+    ensures { IfOk result (λ copy. copy ≡ row_at store.now.rows name.now) }
+{
+    match store.map().get(name) {
+        Some(element) => Ok(Some(element.copy()?)),
+        None => Ok(None),
+    }
+}
+
+impl<A: Allocator> Kept<A> {
+    // Keeps an effect, by its one row where that is told.
+    pub(crate) fn of(effect: Effect<A>, sole: Option<ChangedRow<A>>) -> Kept<A>
+        requires { IfSome sole (λ row. effect_of_row row ≡ effect) }
+        ensures { result ≡ effect }
+    {
+        let form = match sole {
+            Some(row) => Form::Row(row),
+            None => Form::Whole(effect),
+        };
+        Kept { form }
+    }
+
+    // The changes, of which the kept ones are copied, since the entry's own news may still be asked for. The one
+    // refusal is want of memory.
+    pub(crate) fn changes(&self, alloc: A) -> Result<Changes<A>, Memory>
+    where
+        A: Clone,
+        ensures { IfOk result (λ cs. cs ≡ self.now.changes) }
+    {
+        match &self.form {
+            Form::Row(row) => row.changes(alloc),
+            Form::Whole(effect) => effect.changes.copy(),
+        }
+    }
+
+    // The rows as news tell them. The one refusal is want of memory.
+    pub(crate) fn told(&self, alloc: A) -> Result<NewsRows<A>, Memory>
+    where
+        A: Copy,
+        ensures { IfOk result (λ rows. rows ≡ map told_row self.now.rows) }
+    {
+        match &self.form {
+            Form::Row(row) => row.told(alloc),
+            Form::Whole(effect) => told_rows(alloc, effect.rows.as_slice()),
+        }
+    }
+}
+
+impl<A: Allocator> ChangedRow<A> {
+    // The changes of the row's halves.
+    fn changes(&self, alloc: A) -> Result<Changes<A>, Memory>
+    where
+        A: Clone,
+        ensures { IfOk result (λ cs. cs ≡ row_changes self.now.name self.now.before self.now.after) }
+    {
+        let before = copy_of(&self.before)?;
+        let after = copy_of(&self.after)?;
+        let mut changes = Changes::empty(alloc);
+        changes.push_row(self.name, before, after)?;
+        Ok(changes)
+    }
+
+    // The row, as the one that news tell.
+    fn told(&self, alloc: A) -> Result<NewsRows<A>, Memory>
+    where
+        A: Copy,
+        ensures { IfOk result (λ rows. rows ≡ record { name = self.now.name; element = self.now.after } ∷ []) }
+    {
+        let element = copy_of(&self.after)?;
+        let mut rows = Vec::with_capacity(alloc, 1)?;
+        rows.push(NewsRow {
+            name: self.name,
+            element,
+        })?;
+        Ok(NewsRows::from_vec(rows))
+    }
 }

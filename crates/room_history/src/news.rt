@@ -185,7 +185,7 @@ fn news_of<A: Allocator + Copy>(
 ) -> Result<News<A>, Memory>
     ensures { IfOk result (λ n. n ≡ told_of seq entry.now kept.now) }
 {
-    let rows = told_rows(alloc, kept.rows.as_slice())?;
+    let rows = kept.told(alloc)?;
     Ok(News {
         seq,
         author: entry.author,
@@ -194,11 +194,14 @@ fn news_of<A: Allocator + Copy>(
 }
 
 // The changed names, each with a copy of its row after the changes.
-fn told_rows<A: Allocator + Copy>(alloc: A, kept: &[RowAfter<A>]) -> Result<NewsRows<A>, Memory>
-    ensures { IfOk result (λ rows. rows ≡ map told_row kept.now) }
+pub(crate) fn told_rows<A: Allocator + Copy>(
+    alloc: A,
+    rows_after: &[RowAfter<A>],
+) -> Result<NewsRows<A>, Memory>
+    ensures { IfOk result (λ rows. rows ≡ map told_row rows_after.now) }
 {
-    let mut rows = Vec::with_capacity(alloc, kept.len())?;
-    for row in kept {
+    let mut rows = Vec::with_capacity(alloc, rows_after.len())?;
+    for row in rows_after {
         let element = copy_of(&row.element)?;
         rows.push(NewsRow {
             name: row.name,
@@ -209,7 +212,9 @@ fn told_rows<A: Allocator + Copy>(alloc: A, kept: &[RowAfter<A>]) -> Result<News
 }
 
 // An equal element, where there is one.
-fn copy_of<A: Allocator + Clone>(element: &Option<Element<A>>) -> Result<Option<Element<A>>, Memory>
+pub(crate) fn copy_of<A: Allocator + Clone>(
+    element: &Option<Element<A>>,
+) -> Result<Option<Element<A>>, Memory>
     ensures { IfOk result (λ copy. copy ≡ element.now) }
 {
     match element {

@@ -1,5 +1,5 @@
 //! The room.
-ghost use Rattle.std.specs.Prelude.{◌≡◌, ◌+◌, ◌⊎◌, List, [], Some, None, true, length, IfOk, IfErr, OnOk, OnErr};
+ghost use Rattle.std.specs.Prelude.{◌≡◌, ◌+◌, ◌⊎◌, List, [], Some, None, Ok, Err, true, length, IfOk, IfErr, OnOk, OnErr};
 ghost use Rattle.std.specs.Option.{option_copied, option_map};
 ghost use Rattle.osm_changes.specs.declared.change.Change.{Change};
 ghost use Rattle.osm_changes.specs.Changes.{differences, changed, inverse, AreChanges, AreFrom};
@@ -7,18 +7,17 @@ ghost use Rattle.osm_elements.specs.Maps.{Rows};
 ghost use Rattle.osm_elements.specs.Rows.{AreInOrder};
 ghost use Rattle.osm_changes.specs.Sound.{is_sound};
 ghost use Rattle.edit_footprint.specs.Footprints.{footprint_of};
-ghost use Rattle.osm_changes.specs.Stores.{applied_to};
 ghost use Rattle.room_history.specs.Journals.{numbered};
 
 use crate::base::{BaseFault, first_unsound};
 use crate::call::{Call, Request};
-use crate::effects::{enter, let_fall, note, reserve, stand, taken_back};
+use crate::effects::{enter, note, reserve, stand};
 use crate::entry::{Entry, EntryKind};
 use crate::journal::{action_of, numbered, origin_next};
-use crate::kept::{Kept, kept_of};
+use crate::kept::{Kept, effect_of, sole_row};
 use crate::news::{NewsList, news_past};
 use crate::reply::Reply;
-use crate::undo::undoable;
+use crate::undo::{Undoable, asked_for};
 use edit_actions::action::Action;
 use edit_actions::plan::plan;
 use edit_footprint::footprint::Footprint;
@@ -41,7 +40,8 @@ mod asking;
 
 /// A room: one map, and the journal of what its authors did to it. It is as good as its base map, which is sound, its
 /// limit and its journal, and contracts see it so. Beside each entry it keeps what that changed, with the rows after
-/// it, and the number of the entry that has its action, and of each entry that stands its footprint.
+/// it, and the number of the entry that has its action. The footprint of an entry follows from its action and what it
+/// changed, and an undo works it out.
 #[derive(Drop)]
 #[derive_where(Debug)]
 pub struct Room<A: Allocator> {
@@ -56,8 +56,6 @@ pub struct Room<A: Allocator> {
     // The number of the entry that has the action of each: so a redo of a redo of a redo finds it in one step, and it
     // is held once.
     origins: Vec<u64, A>,
-    // Of an entry that was undone none is kept: nothing asks for it, and a later work of the same action has its own.
-    footprints: Vec<Option<Footprint<A>>, A>,
     holders: Holders<A>,
     // An author may stay ready for a deed that never comes. No contract of the room sees it, and the next change asks
     // anew.
@@ -72,16 +70,18 @@ impl<A: Allocator> Model for Room<A> {
 
     ghost view = { λ r. record { base = r.base.value; limit = r.limit; journal = r.entries.items } };
 
-    ghost invariant = { λ r. IsRoom r.store r.recorded.items r.origins.items r.footprints.items r.holders r.stacks.deeds r.base.value r.limit r.entries.items };
+    ghost invariant = { λ r. IsRoom r.store r.recorded.items r.origins.items r.holders r.stacks.deeds r.base.value r.limit r.entries.items };
 }
 
 impl<A: Allocator + Copy> Room<A> {
-    ghost use Rattle.room_history.specs.Answers.{kind_refusal, undo_refusal, redo_refusal, with_entry};
+    ghost use Rattle.room_history.specs.Answers.{asked, kind_refusal, undo_refusal, redo_refusal, with_entry};
     ghost use Rattle.room_history.specs.declared.call.Request.TheVariants as requests;
     ghost use Rattle.room_history.specs.declared.reply.Reply.TheVariants as replies;
     ghost use Rattle.edit_actions.specs.Refusals.{refusal};
     ghost use Rattle.room_history.specs.declared.entry.EntryKind.TheVariants.{Undo, Redo};
-    ghost use Rattle.room_history.specs.Journals.{undos, redos};
+    ghost use Rattle.room_history.specs.Blockers.{recorded_footprint};
+    ghost use Rattle.room_history.specs.Inner.Undoing.{asked_or};
+    ghost use Rattle.room_history.specs.Journals.{is_standing, undos, redos};
     ghost use Rattle.room_history.specs.Replays.{past, mapof, action_at, recorded_next};
     ghost use Rattle.room_history.specs.Applied.{applied};
     ghost use Rattle.edit_actions.specs.After.{changes as changes_of};
@@ -133,7 +133,6 @@ impl<A: Allocator + Copy> Room<A> {
             entries: Vec::new(alloc),
             recorded: Vec::new(alloc),
             origins: Vec::new(alloc),
-            footprints: Vec::new(alloc),
             holders: Holders::new(alloc),
             stacks: Stacks::new(alloc),
         }
@@ -226,8 +225,8 @@ impl<A: Allocator + Copy> Room<A> {
     }
 
     // Appends the entry of an action that is not refused, done for the first time or again, with what it changes and
-    // touches now, and answers its number. All memory is taken before the store changes: room in the four lists and in
-    // the stacks, what is kept, the footprint among the holders; and `Store::apply` takes its own before its first
+    // touches now, and answers its number. All memory is taken before the store changes: room in the three lists and in
+    // the stacks, what is kept, the footprint among the holders; and `Store::apply_told` takes its own before its first
     // change.
     fn append_work(
         &mut self,
@@ -253,18 +252,18 @@ impl<A: Allocator + Copy> Room<A> {
             &mut self.entries,
             &mut self.recorded,
             &mut self.origins,
-            &mut self.footprints,
             &mut self.stacks,
             &author,
         )?;
-        let kept = kept_of(alloc, &self.store, changes)?;
+        let effect = effect_of(alloc, &self.store, changes)?;
+        let sole = sole_row(&self.store, &effect)?;
         let seq = self.entries.len() as u64 + 1;
         let origin = origin_next(&self.origins, &kind);
         stand(
             alloc,
             &mut self.store,
             &mut self.holders,
-            &kept,
+            &effect,
             &footprint,
             seq,
         )?;
@@ -273,11 +272,9 @@ impl<A: Allocator + Copy> Room<A> {
             &mut self.entries,
             &mut self.recorded,
             &mut self.origins,
-            &mut self.footprints,
             Entry { author, id, kind },
-            kept,
+            Kept::of(effect, sole),
             origin,
-            Some(footprint),
         );
         Ok(seq)
     }
@@ -290,44 +287,85 @@ impl<A: Allocator + Copy> Room<A> {
         ensures base { self.new.base ≡ self.old.base }
         ensures limit { self.new.limit ≡ self.old.limit }
     {
-        let own = self.stacks.standing(&author);
-        match undoable(
-            &self.entries,
-            &self.holders,
-            &self.footprints,
-            own,
-            &author,
-            number,
-        ) {
-            Ok(of) => match self.append_undo(author, id, of) {
-                Ok(seq) => Reply::Undid { seq, of },
-                Err(_) => Reply::Memory,
-            },
+        match self.undoable(&author, number) {
+            Ok(undoable) => {
+                let of = undoable.of;
+                match self.append_undo(author, id, undoable) {
+                    Ok(seq) => Reply::Undid { seq, of },
+                    Err(_) => Reply::Memory,
+                }
+            }
             Err(refusal) => refusal,
         }
     }
 
+    // What an undo takes back, if it stands, is the author's own, and no later entry that stands blocks it; or the
+    // reply that refuses it.
+    fn undoable(&self, author: &Author, number: Option<u64>) -> Result<Undoable<A>, Reply<A>>
+        ensures found { IfOk result (λ u. Ok u.of ≡ asked_or (undo_refusal (past self.now.base self.now.journal) self.now.journal author.now) (asked self.now.journal author.now number)) }
+        ensures changes { IfOk result (λ u. inverse u.changes ≡ (recorded_next (past self.now.base self.now.journal) (Undo u.of)).changes) }
+        ensures footprint { IfOk result (λ u. u.footprint ≡ recorded_footprint (past self.now.base self.now.journal) u.of) }
+        ensures refused { IfErr result (λ r. (r ≡ replies.Memory) ⊎ (Err r ≡ asked_or (undo_refusal (past self.now.base self.now.journal) self.now.journal author.now) (asked self.now.journal author.now number))) }
+    {
+        let own = self.stacks.standing(author);
+        let of = asked_for(&self.entries, own, author, number)?;
+        match self.worked_out(of) {
+            Ok((changes, footprint)) => match self.holders.first_after(&footprint, of) {
+                Some((blocker, shared)) => Err(Reply::Conflict { blocker, shared }),
+                None => Ok(Undoable {
+                    of,
+                    changes,
+                    footprint,
+                }),
+            },
+            Err(_) => Err(Reply::Memory),
+        }
+    }
+
+    // What an entry that stands changed, and its footprint, which is worked out of its action and that.
+    fn worked_out(&self, of: u64) -> Result<(Changes<A>, Footprint<A>), Memory>
+        requires { is_standing self.now.journal of ≡ true }
+        ensures changes { IfOk result (λ w. inverse w.0 ≡ (recorded_next (past self.now.base self.now.journal) (Undo of)).changes) }
+        ensures footprint { IfOk result (λ w. w.1 ≡ recorded_footprint (past self.now.base self.now.journal) of) }
+    {
+        let alloc = *self.entries.allocator();
+        match action_of(&self.entries, &self.origins, of) {
+            Some(action) => {
+                let changes = self.recorded[of as usize - 1].changes(alloc)?;
+                let footprint = footprint(alloc, action, &changes)?;
+                Ok((changes, footprint))
+            }
+            None => unreachable!(),
+        }
+    }
+
     // Appends the undo of an entry that nothing blocks, which takes back what that changed, and answers its number.
-    fn append_undo(&mut self, author: Author, id: u64, of: u64) -> Result<u64, Memory>
+    fn append_undo(&mut self, author: Author, id: u64, undoable: Undoable<A>) -> Result<u64, Memory>
         requires may { MayAppend self.old.limit self.old.journal author id }
-        requires accepted { undo_refusal (past self.old.base self.old.journal) self.old.journal author of ≡ None }
+        requires accepted { undo_refusal (past self.old.base self.old.journal) self.old.journal author undoable.of ≡ None }
+        requires changes { inverse undoable.changes ≡ (recorded_next (past self.old.base self.old.journal) (Undo undoable.of)).changes }
+        requires footprint { undoable.footprint ≡ recorded_footprint (past self.old.base self.old.journal) undoable.of }
         ensures ok { IfOk result (λ seq. (seq ≡ length self.old.journal + 1)
-            × (self.new ≡ record self.old { journal = with_entry self.old.journal author id (Undo of) })) }
+            × (self.new ≡ record self.old { journal = with_entry self.old.journal author id (Undo undoable.of) })) }
         ensures err { OnErr result (self.new ≡ self.old) }
     {
         leads_back::<A>();
+        let Undoable {
+            of,
+            changes,
+            footprint,
+        } = undoable;
         let alloc = *self.entries.allocator();
         reserve(
             &mut self.entries,
             &mut self.recorded,
             &mut self.origins,
-            &mut self.footprints,
             &mut self.stacks,
             &author,
         )?;
-        let changes = taken_back(&self.recorded, of)?;
-        let kept = kept_of(alloc, &self.store, changes)?;
-        self.store.apply_told(alloc, &kept.changes, &kept.rows)?;
+        let effect = effect_of(alloc, &self.store, changes.inverse())?;
+        let sole = sole_row(&self.store, &effect)?;
+        self.store.apply_told(alloc, &effect.changes, &effect.rows)?;
         let seq = self.entries.len() as u64 + 1;
         let undo = EntryKind::Undo(of);
         note(&mut self.stacks, author, id, &undo, seq);
@@ -335,17 +373,15 @@ impl<A: Allocator + Copy> Room<A> {
             &mut self.entries,
             &mut self.recorded,
             &mut self.origins,
-            &mut self.footprints,
             Entry {
                 author,
                 id,
                 kind: undo,
             },
-            kept,
+            Kept::of(effect, sole),
             seq,
-            None,
         );
-        let_fall(&mut self.holders, &mut self.footprints, of);
+        self.holders.fall(&footprint, of);
         Ok(seq)
     }
 

@@ -25,8 +25,8 @@ pub fn run<A: Allocator + Copy>(
     answered(alloc, Room::open(alloc, limit), calls)
 }
 
-/// As [`run`], with a room that begins with the map of these rows. What [`Room::open_on`] asks of the rows is asked here, and
-/// what it refuses is refused.
+/// As [`run`], with a room that begins with the map of these rows. What [`Room::open_on`] asks of the rows is asked
+/// here, and what it refuses is refused.
 pub fn run_on<A: Allocator + Copy>(
     alloc: A,
     rows: Rows<A>,

@@ -1,6 +1,5 @@
 -- What a room holds beside its journal.
-use Rattle.std.specs.Prelude.{◌≡◌, ◌<◌, ℕ, true, List, Option, Some, None, length}
-use Rattle.osm_changes.specs.declared.cell.Cell.{Cell}
+use Rattle.std.specs.Prelude.{◌≡◌, ◌<◌, ℕ, true, List, Some, None, length}
 use Rattle.osm_changes.specs.Sound.{is_sound}
 use Rattle.osm_changes.specs.Stores.{StoreState}
 use Rattle.osm_elements.specs.Maps.{Rows}
@@ -12,7 +11,7 @@ use Rattle.room_history.specs.declared.entry.EntryKind.{EntryKind}
 use Rattle.room_history.specs.declared.entry.EntryKind.TheVariants.{Do, Undo, Redo}
 use Rattle.edit_footprint.specs.Holding.{Held}
 use Rattle.room_history.specs.Applied.{applied}
-use Rattle.room_history.specs.declared.kept.Kept.{Kept}
+use Rattle.room_history.specs.declared.kept.Effect.{Effect}
 use Rattle.room_history.specs.Inner.Telling.{kept}
 use Rattle.room_history.specs.Replays.{past, mapof}
 use Rattle.room_history.specs.Answers.{spent}
@@ -23,15 +22,15 @@ use Rattle.room_history.specs.Inner.Holders.{AreHolders}
 use Rattle.room_history.specs.Inner.Origins.{origins}
 
 module _ {A : Type 0} where
-  -- the base is sound, and the journal one that calls lead to; the store, what is kept of what each entry changed, where the actions are, the footprints and the holders of what stands and the deeds are those of its entries
-  pub record IsRoom (store : StoreState A) (recorded : List (Kept A)) (firsts : List ℕ) (footprints : List (Option (List Cell))) (holders : Held) (done : List Deed) (base : Rows A) (limit : ℕ) (j : List (Entry A)) : Type 0 where
+  -- the base is sound, and the journal one that calls lead to; the store, what is kept of what each entry changed, where the actions are, the holders of what stands and the deeds are those of its entries
+  pub record IsRoom (store : StoreState A) (recorded : List (Effect A)) (firsts : List ℕ) (holders : Held) (done : List Deed) (base : Rows A) (limit : ℕ) (j : List (Entry A)) : Type 0 where
     pub base_sound : is_sound base ≡ true
     pub journal : IsJournal base limit j
     pub rows_are : store.rows ≡ mapof base j
     pub count_is : store.applied ≡ applied base j
     pub recorded_are : recorded ≡ kept base j
     pub firsts_are : firsts ≡ origins j
-    pub holders_are : AreHolders (past base j) j footprints holders
+    pub holders_are : AreHolders (past base j) j holders
     pub deeds_are : done ≡ deeds j
 
   -- the id is unspent, and the journal is not full

@@ -5,7 +5,7 @@ use Rattle.osm_changes.specs.declared.change.Change.{Change}
 use Rattle.osm_changes.specs.declared.row_after.RowAfter.{RowAfter}
 use Rattle.osm_changes.specs.Changes.{changed, rows_after}
 use Rattle.room_history.specs.declared.entry.Entry.{Entry}
-use Rattle.room_history.specs.declared.kept.Kept.{Kept}
+use Rattle.room_history.specs.declared.kept.Effect.{Effect}
 use Rattle.room_history.specs.declared.news.News.{News}
 use Rattle.room_history.specs.declared.news.NewsRow.{NewsRow}
 use Rattle.room_history.specs.Replays.{Recorded, past}
@@ -16,16 +16,16 @@ module _ {A : Type 0} where
   recorded_changes base j = map (λ (r : Recorded A). r.changes) (past base j).entries
 
   -- changes, with the rows after them
-  abbrev pub kept_of : Rows A → List (Change A) → Kept A
-  kept_of m cs = record { changes = cs; rows = rows_after m cs }
+  abbrev pub effect_of : Rows A → List (Change A) → Effect A
+  effect_of m cs = record { changes = cs; rows = rows_after m cs }
 
   -- changes that follow one another, each with the rows after them
-  abbrev pub kept_from : Rows A → List (List (Change A)) → List (Kept A)
+  abbrev pub kept_from : Rows A → List (List (Change A)) → List (Effect A)
   kept_from m [] = []
-  kept_from m (cs ∷ css) = kept_of m cs ∷ kept_from (changed m cs) css
+  kept_from m (cs ∷ css) = effect_of m cs ∷ kept_from (changed m cs) css
 
   -- what is kept of each entry
-  abbrev pub kept : Rows A → List (Entry A) → List (Kept A)
+  abbrev pub kept : Rows A → List (Entry A) → List (Effect A)
   kept base j = kept_from base (recorded_changes base j)
 
   -- a row as news tell it
@@ -33,11 +33,11 @@ module _ {A : Type 0} where
   told_row r = record { name = r.name; element = r.element }
 
   -- the news of an entry under its number
-  abbrev pub told_of : ℕ → Entry A → Kept A → News A
+  abbrev pub told_of : ℕ → Entry A → Effect A → News A
   told_of n e k = record { seq = n; author = e.author; rows = map told_row k.rows }
 
   -- the news of entries numbered from n on, each with what is kept of it
-  abbrev pub told_from : ℕ → List (Entry A) → List (Kept A) → List (News A)
+  abbrev pub told_from : ℕ → List (Entry A) → List (Effect A) → List (News A)
   told_from n [] ks = []
   told_from n (e ∷ es) [] = []
   told_from n (e ∷ es) (k ∷ ks) = told_of n e k ∷ told_from (n + 1) es ks

@@ -1,7 +1,12 @@
 -- The choice of what an undo takes back.
-use Rattle.std.specs.Prelude.{ℕ, Option, Some, None, Result, Ok, Err}
+use Rattle.std.specs.Prelude.{ℕ, not, List, [], ◌∷◌, Option, Some, None, is_none, Result, Ok, Err}
+use Rattle.std.specs.Bool.{then_some}
+use Rattle.edit_simple.specs.Checks.{first_that_holds}
+use Rattle.room_stacks.specs.declared.author.Author.{Author}
+use Rattle.room_history.specs.declared.entry.Entry.{Entry}
 use Rattle.room_history.specs.declared.reply.Reply.{Reply}
-use Rattle.room_history.specs.declared.reply.Reply.TheVariants.{NothingToUndo}
+use Rattle.room_history.specs.declared.reply.Reply.TheVariants.{NothingToUndo, NoSuch, NotYours, NotStanding}
+use Rattle.room_history.specs.Journals.{is_by, is_standing, numbered}
 
 -- an entry that can be undone, or the refusal
 abbrev pub undone_or : {A : Type 0} → ℕ → Option (Reply A) → Result ℕ (Reply A)
@@ -11,3 +16,11 @@ undone_or s (Some r) = Err r
 abbrev pub asked_or : {A : Type 0} → (ℕ → Option (Reply A)) → Option ℕ → Result ℕ (Reply A)
 asked_or refused None = Err NothingToUndo
 asked_or refused (Some s) = undone_or s (refused s)
+
+-- why an entry is none that an author did and that stands, by the first check that holds
+abbrev pub standing_refusal : {A : Type 0} → List (Entry A) → Author → ℕ → Option (Reply A)
+standing_refusal j author s = first_that_holds (
+    then_some (is_none (numbered j s)) NoSuch
+    ∷ then_some (not (is_by author (numbered j s))) NotYours
+    ∷ then_some (not (is_standing j s)) NotStanding
+    ∷ [])

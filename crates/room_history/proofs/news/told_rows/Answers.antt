@@ -10,4 +10,4 @@ loop-row-preserved g c =
     c.in_ok-push.ensures.items
     ∙ ap (λ e. c.loop-row.rows.items ++ record { name = row.name; element = e } ∷ []) c.in_ok-element.ensures
     ∙ (λ i. c.loop-row.invariant i ++ told_row (c.row-item.is i) ∷ [])
-    ∙ sym (map_more told_row c.args.kept.now c.loop-row.row-index row c.loop-row-test.true)
+    ∙ sym (map_more told_row c.args.rows_after.now c.loop-row.row-index row c.loop-row-test.true)

@@ -1,9 +1,9 @@
-use Rattle.std.proofs.Common.{◌≡◌, ◌+◌, ◌++◌, ◌∷◌, [], Some, length, sym, ap, subst, ◌∙◌, rules}
+use Rattle.std.proofs.Common.{◌≡◌, ◌+◌, ◌++◌, ◌∷◌, [], length, sym, ap, subst, ◌∙◌, rules}
 use Rattle.osm_changes.specs.Changes.{changed, AreFrom, rows_after}
 use Rattle.osm_changes.specs.Sound.{is_sound}
 use Rattle.osm_changes.specs.Stores.{applied_to}
 use Rattle.edit_footprint.specs.Holding.{standing}
-use Rattle.room_history.specs.declared.kept.Kept.{Kept}
+use Rattle.room_history.specs.declared.kept.Effect.{Effect}
 use Rattle.room_history.specs.Answers.{kind_refusal}
 use Rattle.room_history.specs.Replays.{past, mapof, recorded_next}
 use Rattle.room_history.specs.Inner.Deeds.{deed_by}
@@ -16,12 +16,12 @@ pub stand-requires-clause-next : goal.stand-requires-clause-next
 stand-requires-clause-next g c =
     let room = c.self.inside in
     let count : c.len.result ≡ length room.entries.items = search rules in
-    stands_next room.store room.recorded.items room.origins.items room.footprints.items room.holders room.stacks.deeds room.base.value room.limit room.entries.items c.self.invariant c.len.result count
+    stands_next room.store room.recorded.items room.origins.items room.holders room.stacks.deeds room.base.value room.limit room.entries.items c.self.invariant c.len.result count
 
 pub stand-requires-clause-held : goal.stand-requires-clause-held
 stand-requires-clause-held g c =
     let room = c.self.inside in
-    may_stand room.store room.recorded.items room.origins.items room.footprints.items room.holders room.stacks.deeds room.base.value room.limit room.entries.items c.self.invariant
+    may_stand room.store room.recorded.items room.origins.items room.holders room.stacks.deeds room.base.value room.limit room.entries.items c.self.invariant
 
 pub stand-requires-clause-rising : goal.stand-requires-clause-rising
 stand-requires-clause-rising g c =
@@ -29,24 +29,31 @@ stand-requires-clause-rising g c =
     let may = subst (λ s. MayAppend s.limit s.journal c.args.author c.args.id) (sym c.self.view_is) c.requires.may in
     let work = subst (λ s. MayWork s.journal c.args.author c.args.kind) (sym c.self.view_is) c.requires.work in
     let ok = ap (λ s. kind_refusal (past s.base s.journal) s.journal c.args.author c.args.kind) c.self.view_is ∙ c.requires.accepted in
-    work_rises room.store room.recorded.items room.origins.items room.footprints.items room.holders room.stacks.deeds room.base.value room.limit room.entries.items c.self.invariant c.args.author c.args.id may c.args.kind work ok
+    work_rises room.store room.recorded.items room.origins.items room.holders room.stacks.deeds room.base.value room.limit room.entries.items c.self.invariant c.args.author c.args.id may c.args.kind work ok
     c.args.footprint (c.requires.footprint ∙ sym (ap (λ s. (recorded_next (past s.base s.journal) c.args.kind).footprint) c.self.view_is))
 
 pub stand-requires-clause-from : goal.stand-requires-clause-from
 stand-requires-clause-from g c =
     let room = c.self.inside in
     let here = sym (ap (λ s. mapof s.base s.journal) c.self.view_is) ∙ sym c.self.invariant.rows_are in
-    subst (λ (k : Kept _). AreFrom room.store.rows k.changes) (sym c.in_ok-kept.ensures) (subst (λ m. AreFrom m c.args.changes) here c.requires.from)
+    subst (λ (k : Effect _). AreFrom room.store.rows k.changes) (sym c.in_ok-effect.ensures) (subst (λ m. AreFrom m c.args.changes) here c.requires.from)
 
 pub stand-requires-clause-sound : goal.stand-requires-clause-sound
 stand-requires-clause-sound g c =
     let room = c.self.inside in
-    ap (λ (k : Kept _). is_sound (changed room.store.rows k.changes)) c.in_ok-kept.ensures ∙ ap (λ m. is_sound (changed m c.args.changes)) c.self.invariant.rows_are
+    ap (λ (k : Effect _). is_sound (changed room.store.rows k.changes)) c.in_ok-effect.ensures ∙ ap (λ m. is_sound (changed m c.args.changes)) c.self.invariant.rows_are
     ∙ ap (λ s. is_sound (changed (mapof s.base s.journal) c.args.changes)) c.self.view_is ∙ c.requires.sound
 
-pub returns-in_err-kept-clause-err : goal.returns-in_err-kept-clause-err
-returns-in_err-kept-clause-err g c =
-    on_err c.from_residual-in_err-kept.result _ (ap (λ es. record { base = c.self.inside.base.value; limit = c.self.inside.limit; journal = es }) c.reserve.ensures.entries ∙ c.self.view_is)
+pub returns-in_err-effect-clause-err : goal.returns-in_err-effect-clause-err
+returns-in_err-effect-clause-err g c =
+    on_err c.from_residual-in_err-effect.result _ (ap (λ es. record { base = c.self.inside.base.value; limit = c.self.inside.limit; journal = es }) c.reserve.ensures.entries ∙ c.self.view_is)
+
+pub returns-in_err-sole-clause-ok : goal.returns-in_err-sole-clause-ok
+returns-in_err-sole-clause-ok g c = on_ok c.from_residual-in_err-sole.result _ c.from_residual-in_err-sole.ensures.0
+
+pub returns-in_err-sole-clause-err : goal.returns-in_err-sole-clause-err
+returns-in_err-sole-clause-err g c =
+    on_err c.from_residual-in_err-sole.result _ (ap (λ es. record { base = c.self.inside.base.value; limit = c.self.inside.limit; journal = es }) c.reserve.ensures.entries ∙ c.self.view_is)
 
 pub returns-in_err-stand-clause-ok : goal.returns-in_err-stand-clause-ok
 returns-in_err-stand-clause-ok g c = on_ok c.from_residual-in_err-stand.result _ c.from_residual-in_err-stand.ensures.0
@@ -59,21 +66,21 @@ pub note-requires-clause-unspent : goal.note-requires-clause-unspent
 note-requires-clause-unspent g c =
     let room = c.self.inside in
     let may = subst (λ s. MayAppend s.limit s.journal c.args.author c.args.id) (sym c.self.view_is) c.requires.may in
-    unspent_deed room.store room.recorded.items room.origins.items room.footprints.items room.holders room.stacks.deeds room.base.value room.limit room.entries.items c.self.invariant c.args.author c.args.id may c.reserve.new.stacks.deeds c.reserve.ensures.deeds
+    unspent_deed room.store room.recorded.items room.origins.items room.holders room.stacks.deeds room.base.value room.limit room.entries.items c.self.invariant c.args.author c.args.id may c.reserve.new.stacks.deeds c.reserve.ensures.deeds
 
 pub note-requires-clause-may : goal.note-requires-clause-may
 note-requires-clause-may g c =
     let room = c.self.inside in
     let may = subst (λ s. MayAppend s.limit s.journal c.args.author c.args.id) (sym c.self.view_is) c.requires.may in
     let work = subst (λ s. MayWork s.journal c.args.author c.args.kind) (sym c.self.view_is) c.requires.work in
-    work_noted room.store room.recorded.items room.origins.items room.footprints.items room.holders room.stacks.deeds room.base.value room.limit room.entries.items c.self.invariant c.args.author c.args.id may c.args.kind work c.reserve.new.stacks.deeds c.reserve.ensures.deeds
+    work_noted room.store room.recorded.items room.origins.items room.holders room.stacks.deeds room.base.value room.limit room.entries.items c.self.invariant c.args.author c.args.id may c.args.kind work c.reserve.new.stacks.deeds c.reserve.ensures.deeds
 
 pub note-requires-clause-last : goal.note-requires-clause-last
 note-requires-clause-last g c =
     let room = c.self.inside in
     let count : c.len.result ≡ length room.entries.items = search rules in
     let may = subst (λ s. MayAppend s.limit s.journal c.args.author c.args.id) (sym c.self.view_is) c.requires.may in
-    above_deeds room.store room.recorded.items room.origins.items room.footprints.items room.holders room.stacks.deeds room.base.value room.limit room.entries.items c.self.invariant c.args.author c.args.id may c.reserve.new.stacks.deeds (c.len.result + 1) c.reserve.ensures.deeds (ap (λ n. n + 1) count)
+    above_deeds room.store room.recorded.items room.origins.items room.holders room.stacks.deeds room.base.value room.limit room.entries.items c.self.invariant c.args.author c.args.id may c.reserve.new.stacks.deeds (c.len.result + 1) c.reserve.ensures.deeds (ap (λ n. n + 1) count)
 
 pub invariant_of-self-2 : goal.invariant_of-self-2
 invariant_of-self-2 g c =
@@ -82,14 +89,13 @@ invariant_of-self-2 g c =
     let may = subst (λ s. MayAppend s.limit s.journal c.args.author c.args.id) (sym c.self.view_is) c.requires.may in
     let work = subst (λ s. MayWork s.journal c.args.author c.args.kind) (sym c.self.view_is) c.requires.work in
     let ok = ap (λ s. kind_refusal (past s.base s.journal) s.journal c.args.author c.args.kind) c.self.view_is ∙ c.requires.accepted in
-    IsRoom-work room.store room.recorded.items room.origins.items room.footprints.items room.holders room.stacks.deeds room.base.value room.limit room.entries.items c.self.invariant c.args.author c.args.id may c.args.kind work ok
-    c.enter.new.entries.items c.stand.new.store c.enter.new.recorded.items c.enter.new.origins.items c.enter.new.footprints.items c.stand.new.holders c.note.new.stacks.deeds c.args.changes c.args.footprint
+    IsRoom-work room.store room.recorded.items room.origins.items room.holders room.stacks.deeds room.base.value room.limit room.entries.items c.self.invariant c.args.author c.args.id may c.args.kind work ok
+    c.enter.new.entries.items c.stand.new.store c.enter.new.recorded.items c.enter.new.origins.items c.stand.new.holders c.note.new.stacks.deeds c.args.changes c.args.footprint
     (c.requires.changes ∙ sym (ap (λ s. (recorded_next (past s.base s.journal) c.args.kind).changes) c.self.view_is))
     (c.requires.footprint ∙ sym (ap (λ s. (recorded_next (past s.base s.journal) c.args.kind).footprint) c.self.view_is))
-    (c.in_ok-stand.ensures.ok.0 ∙ ap (λ (k : Kept _). applied_to room.store k.changes) c.in_ok-kept.ensures)
-    (c.enter.ensures.recorded ∙ (λ i. c.reserve.ensures.recorded i ++ c.in_ok-kept.ensures i ∷ []))
+    (c.in_ok-stand.ensures.ok.0 ∙ ap (λ (k : Effect _). applied_to room.store k.changes) c.in_ok-effect.ensures)
+    (c.enter.ensures.recorded ∙ (λ i. c.reserve.ensures.recorded i ++ (c.of.ensures ∙ c.in_ok-effect.ensures) i ∷ []))
     (c.enter.ensures.origins ∙ (λ i. c.reserve.ensures.origins i ++ (c.origin_next-origin.ensures ∙ ap (λ os. origin_next os c.args.kind) (c.deref.ensures.value ∙ c.reserve.ensures.origins)) i ∷ []))
-    (c.enter.ensures.footprints ∙ ap (λ fs. fs ++ Some c.args.footprint ∷ []) c.reserve.ensures.footprints)
     (c.in_ok-stand.ensures.ok.1 ∙ ap (λ n. standing room.holders c.args.footprint (n + 1)) count)
     (c.note.ensures ∙ (λ i. c.reserve.ensures.deeds i ++ deed_by (count i + 1) c.args.author c.args.id c.args.kind ∷ []))
     (c.enter.ensures.entries ∙ ap (λ es. es ++ record { author = c.args.author; id = c.args.id; kind = c.args.kind } ∷ []) c.reserve.ensures.entries)
@@ -100,9 +106,20 @@ returns-in_err-reserve-clause-err g c =
 
 pub invariant_of-self-in_err-stand : goal.invariant_of-self-in_err-stand
 invariant_of-self-in_err-stand g c =
-    rw (c.in_err-stand.ensures.err.0, c.in_err-stand.ensures.err.1, c.reserve.ensures.recorded, c.reserve.ensures.origins, c.reserve.ensures.footprints, c.reserve.ensures.deeds, c.reserve.ensures.entries) c.self.invariant
+    rw (c.in_err-stand.ensures.err.0, c.in_err-stand.ensures.err.1, c.reserve.ensures.recorded, c.reserve.ensures.origins, c.reserve.ensures.deeds, c.reserve.ensures.entries) c.self.invariant
+
+pub sole_row-requires-clause-from : goal.sole_row-requires-clause-from
+sole_row-requires-clause-from g c =
+    let room = c.self.inside in
+    let here = sym (ap (λ s. mapof s.base s.journal) c.self.view_is) ∙ sym c.self.invariant.rows_are in
+    subst (λ (k : Effect _). AreFrom room.store.rows k.changes) (sym c.in_ok-effect.ensures) (subst (λ m. AreFrom m c.args.changes) here c.requires.from)
+
+pub sole_row-requires-clause-rows : goal.sole_row-requires-clause-rows
+sole_row-requires-clause-rows g c =
+    let e = c.in_ok-effect.ensures in
+    ap (λ (k : Effect _). k.rows) e ∙ ap (rows_after c.self.inside.store.rows) (sym (ap (λ (k : Effect _). k.changes) e))
 
 pub stand-requires-clause-rows : goal.stand-requires-clause-rows
 stand-requires-clause-rows g c =
-    let e = c.in_ok-kept.ensures in
-    ap (λ (k : Kept _). k.rows) e ∙ ap (rows_after c.self.inside.store.rows) (sym (ap (λ (k : Kept _). k.changes) e))
+    let e = c.in_ok-effect.ensures in
+    ap (λ (k : Effect _). k.rows) e ∙ ap (rows_after c.self.inside.store.rows) (sym (ap (λ (k : Effect _). k.changes) e))

@@ -1,0 +1,93 @@
+-- Which entry an undo asks for, and what refuses it.
+use Rattle.std.proofs.Common.{◌≡◌, ℕ, Bool, true, false, not, List, [], ◌∷◌, Option, Some, None, Ok, Err, is_none, refl, sym, ap, ◌∙◌}
+use Rattle.std.specs.Bool.{then_some}
+use Rattle.std.specs.Option.{option_map}
+use Rattle.edit_simple.specs.Checks.{first_that_holds}
+use Rattle.room_stacks.specs.declared.author.Author.{Author}
+use Rattle.room_history.specs.declared.entry.Entry.{Entry}
+use Rattle.room_history.specs.declared.reply.Reply.{Reply}
+use Rattle.room_history.specs.declared.reply.Reply.TheVariants.{NoSuch, NotYours, NotStanding}
+use Rattle.room_history.specs.Answers.{conflict, undo_refusal}
+use Rattle.room_history.specs.Blockers.{blocker}
+use Rattle.room_history.specs.Inner.Undoing.{undone_or, asked_or, standing_refusal}
+use Rattle.room_history.specs.Journals.{numbered, is_by, is_standing}
+use Rattle.room_history.specs.Replays.{Past}
+
+-- the fourth of four checks decides where none of the first three holds
+fourth : {X : Type 0} (o p q r : Option X) → first_that_holds (o ∷ p ∷ q ∷ []) ≡ None → first_that_holds (o ∷ p ∷ q ∷ r ∷ []) ≡ r
+fourth None None None None e = refl
+fourth None None None (Some x) e = refl
+fourth None None (Some x) r e = absurd (cc)
+fourth None (Some x) q r e = absurd (cc)
+fourth (Some x) p q r e = absurd (cc)
+
+-- and else the first of them that holds
+sooner : {X : Type 0} (o p q r : Option X) (x : X) → first_that_holds (o ∷ p ∷ q ∷ []) ≡ Some x → first_that_holds (o ∷ p ∷ q ∷ r ∷ []) ≡ Some x
+sooner None None None r x e = absurd (cc)
+sooner None None (Some y) r x e = e
+sooner None (Some y) q r x e = e
+sooner (Some y) p q r x e = e
+
+third : {X : Type 0} (o p q : Option X) → first_that_holds (o ∷ p ∷ q ∷ []) ≡ None → q ≡ None
+third None None None e = refl
+third None None (Some x) e = absurd (cc)
+third None (Some x) q e = absurd (cc)
+third (Some x) p q e = absurd (cc)
+
+passed : {X : Type 0} (b : Bool) (x : X) → then_some (not b) x ≡ None → b ≡ true
+passed true x e = refl
+passed false x e = absurd (cc)
+
+there : {A : Type 0} (author : Author) (o : Option (Entry A)) → is_by author o ≡ true → is_none o ≡ false
+there author None h = absurd (cc)
+there author (Some e) h = refl
+
+module _ {A : Type 0} (j : List (Entry A)) (author : Author) where
+  -- an author's own entry, by whether it stands
+  own_entry : (s : ℕ) (b : Bool) → is_by author (numbered j s) ≡ true → is_standing j s ≡ b → standing_refusal j author s ≡ first_that_holds (then_some (not b) NotStanding ∷ [])
+  own_entry s b own stands =
+      ap (λ c. first_that_holds (then_some c NoSuch ∷ then_some (not (is_by author (numbered j s))) NotYours ∷ then_some (not (is_standing j s)) NotStanding ∷ [])) (there author (numbered j s) own)
+      ∙ ap (λ c. first_that_holds (then_some (not c) NotYours ∷ then_some (not (is_standing j s)) NotStanding ∷ [])) own
+      ∙ ap (λ c. first_that_holds (then_some (not c) NotStanding ∷ [])) stands
+
+  pub own_fallen : (s : ℕ) → is_by author (numbered j s) ≡ true → is_standing j s ≡ false → standing_refusal j author s ≡ Some NotStanding
+  own_fallen s own fallen = own_entry s false own fallen
+
+  pub own_standing : (s : ℕ) → is_by author (numbered j s) ≡ true → is_standing j s ≡ true → standing_refusal j author s ≡ None
+  own_standing s own stands = own_entry s true own stands
+
+  -- the entry that is asked for stands, where nothing else refuses it
+  pub asked_stands : (o : Option ℕ) (s : ℕ) → Ok s ≡ asked_or (standing_refusal j author) o → is_standing j s ≡ true
+  asked_stands None s e = absurd (cc)
+  asked_stands (Some t) s e = by (standing_refusal j author t) refl e
+    where
+      by : (r : Option (Reply A)) → standing_refusal j author t ≡ r → Ok s ≡ undone_or t r → is_standing j s ≡ true
+      by None ok e =
+          let same : t ≡ s = cc in
+          ap (is_standing j) (sym same) ∙ passed (is_standing j t) NotStanding (third (then_some (is_none (numbered j t)) NoSuch) (then_some (not (is_by author (numbered j t))) NotYours) (then_some (not (is_standing j t)) NotStanding) ok)
+      by (Some r) ok e = absurd (cc)
+
+  module _ (p : Past A) where
+    by_blocker : (s : ℕ) → standing_refusal j author s ≡ None → undo_refusal p j author s ≡ option_map conflict (blocker p j s)
+    by_blocker s e = fourth (then_some (is_none (numbered j s)) NoSuch) (then_some (not (is_by author (numbered j s))) NotYours) (then_some (not (is_standing j s)) NotStanding) (option_map conflict (blocker p j s)) e
+
+    before_blocker : (s : ℕ) (r : Reply A) → standing_refusal j author s ≡ Some r → undo_refusal p j author s ≡ Some r
+    before_blocker s r e = sooner (then_some (is_none (numbered j s)) NoSuch) (then_some (not (is_by author (numbered j s))) NotYours) (then_some (not (is_standing j s)) NotStanding) (option_map conflict (blocker p j s)) r e
+
+    -- what refuses the asked entry before its blocker is looked for
+    pub asked_refused : (o : Option ℕ) (r : Reply A) → Err r ≡ asked_or (standing_refusal j author) o → Err r ≡ asked_or (undo_refusal p j author) o
+    asked_refused None r e = e
+    asked_refused (Some t) r e = by (standing_refusal j author t) refl e
+      where
+        by : (o : Option (Reply A)) → standing_refusal j author t ≡ o → Err r ≡ undone_or t o → Err r ≡ undone_or t (undo_refusal p j author t)
+        by None ok e = absurd (cc)
+        by (Some q) ok e = e ∙ ap (undone_or t) (sym (before_blocker t q ok))
+
+    -- and else its blocker decides
+    pub asked_blocked : (o : Option ℕ) (s : ℕ) → Ok s ≡ asked_or (standing_refusal j author) o → undone_or s (option_map conflict (blocker p j s)) ≡ asked_or (undo_refusal p j author) o
+    asked_blocked None s e = absurd (cc)
+    asked_blocked (Some t) s e = by (standing_refusal j author t) refl e
+      where
+        by : (r : Option (Reply A)) → standing_refusal j author t ≡ r → Ok s ≡ undone_or t r → undone_or s (option_map conflict (blocker p j s)) ≡ undone_or t (undo_refusal p j author t)
+        by None ok e = let same : s ≡ t = cc in ap (λ u. undone_or u (option_map conflict (blocker p j u))) same ∙ ap (undone_or t) (sym (by_blocker t ok))
+        by (Some r) ok e = absurd (cc)

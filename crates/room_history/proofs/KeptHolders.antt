@@ -1,0 +1,121 @@
+-- The holders that a room keeps follow its journal.
+use Rattle.std.proofs.Common.{◌≡◌, ◌+◌, ◌-◌, ◌<◌, ◌≤◌, ◌++◌, ◌||◌, ℕ, suc, Bool, true, false, not, List, [], ◌∷◌, Option, Some, length, nat_eq, nat_lt, refl, sym, ap, subst, ◌∙◌, arith}
+use Rattle.std.specs.List.{filter}
+use Rattle.std.proofs.lemmas.List.Folds.{list_any-append}
+use Rattle.osm_elements.specs.declared.name.Name.{Name}
+use Rattle.osm_elements.specs.Maps.{Rows}
+use Rattle.osm_changes.specs.declared.cell.Cell.{Cell}
+use Rattle.osm_changes.specs.Cells.{IsRising}
+use Rattle.edit_actions.specs.declared.action.Action.{Action}
+use Rattle.edit_actions.specs.After.{changes}
+use Rattle.edit_footprint.specs.Footprints.{footprint}
+use Rattle.edit_footprint.specs.Facts.Footprints.{IsRising-footprint_of}
+use Rattle.edit_footprint.specs.Facts.Holding.{just_one}
+use Rattle.edit_footprint.specs.Holding.{Held, AreHeld, IsNext, HoldsOnly, standing as stands, fallen, IsFirstAfter}
+use Rattle.room_history.specs.declared.entry.Entry.{Entry}
+use Rattle.room_history.specs.declared.entry.EntryKind.TheVariants.{Undo}
+use Rattle.room_history.specs.Blockers.{recorded_footprint, footprint_of_recorded, held, blocker}
+use Rattle.room_history.specs.Holdings.{first_meeting, holders_of}
+use Rattle.room_history.specs.Inner.Holders.{AreHolders}
+use Rattle.room_history.specs.Journals.{is_work, standing, is_standing}
+use Rattle.room_history.specs.Replays.{Past, past, mapof, recorded_of, recorded_next}
+use Rattle.room_history.proofs.Appending.{recorded-last, standing-work, standing-undo}
+use Rattle.room_history.proofs.Growing.{Rise, Rise-standing_from, equal_numbers}
+use Rattle.room_history.proofs.HeldEntries.{with_cells, blocker_is, earlier_stay, held-work, held-undo, is_next}
+use Rattle.room_history.proofs.Holders.{AreHeld-holders_of, holders_of-last, holders_of-without, AreRising-with_cells, IsNext-holders_of, HoldsOnly-holders_of, IsFirstAfter-holders_of}
+use Rattle.room_history.proofs.RisingNumbers.{is_in, at_least, out_of_filter}
+
+-- rising numbers are below their end
+within : (s n : ℕ) (ss : List ℕ) (end : ℕ) → Rise n ss end → is_in s ss ≡ true → s < end
+within s n [] end r there = absurd (cc)
+within s n (x ∷ xs) end r there = by (nat_eq x s) refl there (within s (x + 1) xs end r.1)
+  where
+    ends : (m : ℕ) (ys : List ℕ) → Rise m ys end → m ≤ end
+    ends m [] h = h
+    ends m (y ∷ ys) h = let up = ends (y + 1) ys h.1 in omega (arith, up, h.0)
+
+    by : (b : Bool) → nat_eq x s ≡ b → (b || is_in s xs) ≡ true → (is_in s xs ≡ true → s < end) → s < end
+    by true e f go = let same = equal_numbers x s e in let up = ends (x + 1) xs r.1 in omega (arith, same, up)
+    by false e f go = go f
+
+or_false : (a : Bool) → (a || (false || false)) ≡ a
+or_false true = refl
+or_false false = refl
+
+module _ {A : Type 0} where
+  -- a room with an empty journal
+  pub AreHolders-opened : (base : Rows A) → AreHolders (past base []) [] []
+  AreHolders-opened base = record {
+    rising = λ s e. absurd (cc);
+    holders_are = refl;
+  }
+
+  -- the number of an entry that stands
+  pub stands_within : (j : List (Entry A)) (s : ℕ) → is_standing j s ≡ true → (1 ≤ s) × (s ≤ length j)
+  stands_within j s there =
+      let low = at_least 1 s (standing j) (1 + length j) (Rise-standing_from 1 j) there in
+      let high = within s 1 (standing j) (1 + length j) (Rise-standing_from 1 j) there in
+      (low, omega (arith, high))
+
+  module _ (p : Past A) (j : List (Entry A)) (holders : Held) (kept : AreHolders p j holders) where
+    -- what the holders find behind an entry that stands is its blocker
+    pub blocker_found : (s : ℕ) (found : Option (ℕ × Name)) → is_standing j s ≡ true → IsFirstAfter holders (recorded_footprint p s) s found → found ≡ blocker p j s
+    blocker_found s found there told =
+        let cells = recorded_footprint p s in
+        let first = IsFirstAfter-holders_of (recorded_footprint p) (standing j) kept.rising cells s (1 + length j) (kept.rising s there) (Rise-standing_from 1 j) in
+        just_one holders cells s found (blocker p j s) told
+        (subst (λ (o : Option (ℕ × Name)). IsFirstAfter holders cells s o) (sym (blocker_is p j s there)) (subst (λ (h : Held). IsFirstAfter h cells s (first_meeting cells (with_cells (recorded_footprint p) (filter (nat_lt s) (standing j))))) (sym kept.holders_are) first))
+
+    pub holders_held : AreHeld holders
+    holders_held = subst AreHeld (sym kept.holders_are) (AreHeld-holders_of (held p j))
+
+    -- an entry that stands holds just the cells of its footprint
+    pub holds_own : (s : ℕ) → is_standing j s ≡ true → HoldsOnly holders (recorded_footprint p s) s
+    holds_own s there = subst (λ (h : Held). HoldsOnly h (recorded_footprint p s) s) (sym kept.holders_are) (HoldsOnly-holders_of (recorded_footprint p) (standing j) kept.rising s)
+
+  module _ (base : Rows A) (j : List (Entry A)) (holders : Held) (kept : AreHolders (past base j) j holders) where
+    -- the next entry's number comes after all that are held
+    pub holders_next : IsNext holders (length j + 1)
+    holders_next =
+        subst (λ (h : Held). IsNext h (length j + 1)) (sym kept.holders_are)
+        (IsNext-holders_of (held (past base j) j) (length j + 1) (AreRising-with_cells (recorded_footprint (past base j)) (standing j) kept.rising) (is_next base j))
+
+    -- an entry that does an action stands with the footprint that the action has on the map
+    pub AreHolders-work : (e : Entry A) (a : Action A) (holders' : Held) (cells : List Cell) → is_work e.kind ≡ true → recorded_next (past base j) e.kind ≡ recorded_of (mapof base j) a
+        → cells ≡ footprint (mapof base j) a → holders' ≡ stands holders cells (length j + 1) → AreHolders (past base (j ++ e ∷ [])) (j ++ e ∷ []) holders'
+    AreHolders-work e a holders' cells work records is holders_is = record {
+      rising = λ s there. rises s (nat_eq (1 + length j) s) refl (sym (now_standing s) ∙ there);
+      holders_are = holders_is ∙ ap (λ h. stands h cells (length j + 1)) kept.holders_are ∙ ap (λ l. stands (holders_of (held (past base j) j)) l (length j + 1)) is
+          ∙ sym (holders_of-last (held (past base j) j) (length j + 1) (footprint (mapof base j) a)) ∙ ap holders_of (sym (held-work base j e a work records));
+    }
+      where
+        now_standing : (s : ℕ) → is_standing (j ++ e ∷ []) s ≡ (is_standing j s || (nat_eq (1 + length j) s || false))
+        now_standing s = ap (is_in s) (standing-work j e work) ∙ list_any-append (λ t. nat_eq t s) (standing j) ((1 + length j) ∷ [])
+
+        last_footprint : recorded_footprint (past base (j ++ e ∷ [])) (1 + length j) ≡ cells
+        last_footprint = ap (recorded_footprint (past base (j ++ e ∷ []))) next ∙ ap footprint_of_recorded (recorded-last base j e ∙ ap Some records) ∙ sym is
+          where
+            next : 1 + length j ≡ suc (length j)
+            next = omega arith
+
+        cells_rise : IsRising cells
+        cells_rise = subst IsRising (sym is) (IsRising-footprint_of a (changes (mapof base j) a))
+
+        rises : (s : ℕ) (b : Bool) → nat_eq (1 + length j) s ≡ b → (is_standing j s || (b || false)) ≡ true → IsRising (recorded_footprint (past base (j ++ e ∷ [])) s)
+        rises s true f there = subst IsRising (sym (ap (recorded_footprint (past base (j ++ e ∷ []))) (sym (equal_numbers (1 + length j) s f)) ∙ last_footprint)) cells_rise
+        rises s false f there =
+            let stood = sym (or_false (is_standing j s)) ∙ there in
+            let at = stands_within j s stood in
+            subst IsRising (sym (earlier_stay base j e s (omega (arith, at.1)))) (kept.rising s stood)
+
+    -- what an undo takes back falls
+    pub AreHolders-undo : (e : Entry A) (s : ℕ) (holders' : Held) → e.kind ≡ Undo s → is_standing j s ≡ true
+        → holders' ≡ fallen holders s → AreHolders (past base (j ++ e ∷ [])) (j ++ e ∷ []) holders'
+    AreHolders-undo e s holders' k there holders_is = record {
+      rising = λ t stays. rises t (out_of_filter (λ u. not (nat_eq u s)) t (standing j) (sym (ap (is_in t) (standing-undo j e s k)) ∙ stays)).1;
+      holders_are = holders_is ∙ ap (λ h. fallen h s) kept.holders_are ∙ sym (holders_of-without (held (past base j) j) s (AreRising-with_cells (recorded_footprint (past base j)) (standing j) kept.rising))
+          ∙ ap holders_of (sym (held-undo base j e s k));
+    }
+      where
+        rises : (t : ℕ) → is_standing j t ≡ true → IsRising (recorded_footprint (past base (j ++ e ∷ [])) t)
+        rises t stood = let here = stands_within j t stood in subst IsRising (sym (earlier_stay base j e t (omega (arith, here.1)))) (kept.rising t stood)

@@ -1,0 +1,46 @@
+use Rattle.std.proofs.Common.{◌≡◌, ◌-◌, Some, length, ap, ◌∙◌, arith, rules}
+use Rattle.std.specs.Option.{option_copied}
+use Rattle.std.specs.Vec.{vec_len}
+use Rattle.room_history.specs.declared.entry.EntryKind.TheVariants.{Undo}
+use Rattle.room_history.specs.declared.kept.Effect.{Effect}
+use Rattle.room_history.specs.Blockers.{recorded_footprint}
+use Rattle.room_history.specs.Journals.{is_standing, numbered}
+use Rattle.room_history.specs.Replays.{past, recorded_next}
+use Rattle.room_history.proofs.Stepping.{is_first, is_kept, has_action, action_told, next_is, touched_is, numbered_item}
+use Rattle.room_history.proofs.room.Room.worked_out.Goals as goal
+
+pub index-requires : goal.index-requires
+index-requires g c =
+    let room = c.self.inside in
+    let there = ap (λ s. is_standing s.journal c.args.of) c.self.view_is ∙ c.requires in
+    let low = is_first room.store room.recorded.items room.origins.items room.holders room.stacks.deeds room.base.value room.limit room.entries.items c.self.invariant c.args.of there in
+    let high = is_kept room.store room.recorded.items room.origins.items room.holders room.stacks.deeds room.base.value room.limit room.entries.items c.self.invariant c.args.of there in
+    let count : vec_len room.recorded ≡ length room.recorded.items = search rules in
+    omega (arith, low, high, count)
+
+pub unreachable-requires : goal.unreachable-requires
+unreachable-requires g c =
+    let room = c.self.inside in
+    let there = ap (λ s. is_standing s.journal c.args.of) c.self.view_is ∙ c.requires in
+    let found = action_told room.store room.recorded.items room.origins.items room.holders room.stacks.deeds room.base.value room.limit room.entries.items c.self.invariant c.deref.result.now c.deref-2.result.now c.args.of (option_copied c.action_of.result) c.deref.ensures.value c.deref-2.ensures.value c.action_of.ensures in
+    has_action room.store room.recorded.items room.origins.items room.holders room.stacks.deeds room.base.value room.limit room.entries.items c.self.invariant c.args.of there (found ∙ ap option_copied c.in-None.is)
+
+pub returns-clause-changes : goal.returns-clause-changes
+returns-clause-changes g c =
+    let room = c.self.inside in
+    let there = ap (λ s. is_standing s.journal c.args.of) c.self.view_is ∙ c.requires in
+    let told : (k : Effect _) → numbered room.recorded.items c.args.of ≡ Some k → c.in_ok-changes-in-Some.changes ≡ k.changes =
+    λ k is. c.in_ok-changes-in-Some.ensures ∙ ap (λ (e : Effect _). e.changes) (c.index.ensures ∙ numbered_item room.recorded.items c.args.of k c.index.result.now is) in
+    next_is room.store room.recorded.items room.origins.items room.holders room.stacks.deeds room.base.value room.limit room.entries.items c.self.invariant c.args.of there c.in_ok-changes-in-Some.changes told
+    ∙ ap (λ s. (recorded_next (past s.base s.journal) (Undo c.args.of)).changes) c.self.view_is
+
+pub returns-clause-footprint : goal.returns-clause-footprint
+returns-clause-footprint g c =
+    let room = c.self.inside in
+    let there = ap (λ s. is_standing s.journal c.args.of) c.self.view_is ∙ c.requires in
+    let found = action_told room.store room.recorded.items room.origins.items room.holders room.stacks.deeds room.base.value room.limit room.entries.items c.self.invariant c.deref.result.now c.deref-2.result.now c.args.of (option_copied c.action_of.result) c.deref.ensures.value c.deref-2.ensures.value c.action_of.ensures in
+    let told : (k : Effect _) → numbered room.recorded.items c.args.of ≡ Some k → c.in_ok-changes-in-Some.changes ≡ k.changes =
+    λ k is. c.in_ok-changes-in-Some.ensures ∙ ap (λ (e : Effect _). e.changes) (c.index.ensures ∙ numbered_item room.recorded.items c.args.of k c.index.result.now is) in
+    c.in_ok-footprint-in-Some.ensures
+    ∙ touched_is room.store room.recorded.items room.origins.items room.holders room.stacks.deeds room.base.value room.limit room.entries.items c.self.invariant c.args.of there c.in-Some.action.now (found ∙ ap option_copied c.in-Some.is) c.in_ok-changes-in-Some.changes told
+    ∙ ap (λ s. recorded_footprint (past s.base s.journal) c.args.of) c.self.view_is
