@@ -26,6 +26,16 @@ put-more old mid new bytes front rest n e h k = (
   Appends-then old mid new front (take n rest) h k,
 )
 
+-- what was written behind bytes that were written before, where more was to come
+pub put-behind : (old mid new : Option (List ℕ)) (done bytes later whole front rest : List ℕ) → whole ≡ done ++ (bytes ++ later) → Appends old mid done → bytes ≡ front ++ rest → Appends mid new front →
+    (x x' : List ℕ) × (whole ≡ x ++ x') × Appends old new x
+put-behind old mid new done bytes later whole front rest is h e k = (
+  done ++ front,
+  rest ++ later,
+  is ∙ (ap (λ bs. done ++ (bs ++ later)) e ∙ (ap (λ bs. done ++ bs) (append_assoc front rest later) ∙ sym (append_assoc done front (rest ++ later)))),
+  Appends-then old mid new done front h k,
+)
+
 pub Appends-none : (taken : Option (List ℕ)) → Appends taken taken []
 Appends-none None = tt
 Appends-none (Some xs) = sym (append-nil xs)

@@ -1,2 +1,3 @@
 -- Relations that only inner functions and proofs use.
 pub mod FirstLines
+pub mod LongReplies

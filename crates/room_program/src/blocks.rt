@@ -5,7 +5,8 @@ ghost use Rattle.room_program.specs.Scripts.{Loss};
 ghost use Rattle.room_program.specs.Runs.{AnswersFront, AnswersSome};
 
 use crate::answerer::Answerer;
-use crate::lines::{push_line, split_line};
+use crate::lines::split_line;
+use crate::replies::Replies;
 use osm_elements::Memory;
 use std::alloc::Global;
 
@@ -18,13 +19,14 @@ fn answer_line<A: Answerer>(
     answers: &mut A,
     begun: &mut Vec<u8>,
     line: &[u8],
-    replies: &mut Vec<u8>,
+    replies: &mut Replies,
 ) -> Result<(), Memory>
+    requires { length replies.old < BLOCK }
     ensures ok { OnOk result ((loss : Loss) × (text : List ℕ) ×
         (A.answered loss answers.old (begun.old.items ++ line.now) ≡ (text, answers.new))
-        × (replies.new.items ≡ replies.old.items ++ (text ++ 10 ∷ []))) }
+        × (replies.new ≡ replies.old ++ (text ++ 10 ∷ []))) }
     ensures none_held { OnOk result (begun.new.items ≡ []) }
-    ensures err { OnErr result (replies.new.items ≡ replies.old.items) }
+    ensures err { OnErr result (replies.new ≡ replies.old) }
 {
     let reply = if begun.is_empty() {
         answers.answer(alloc, line)?
@@ -32,7 +34,7 @@ fn answer_line<A: Answerer>(
         begun.extend_from_slice(line)?;
         answers.answer(alloc, begun.as_slice())?
     };
-    push_line(replies, reply.as_bytes())?;
+    replies.push(reply)?;
     begun.clear();
     Ok(())
 }
@@ -44,19 +46,19 @@ pub fn answer_lines<'a, A: Answerer>(
     answers: &mut A,
     begun: &mut Vec<u8>,
     block: &'a [u8],
-    replies: &mut Vec<u8>,
+    replies: &mut Replies,
 ) -> Result<&'a [u8], Memory>
     requires held { IsLine begun.old.items }
-    requires empty { replies.old.items ≡ [] }
+    requires empty { replies.old ≡ [] }
     ensures ok { IfOk result (λ rest. AnswersFront A.answered answers.old (begun.old.items ++ block.now)
-        replies.new.items (begun.new.items ++ rest.now) answers.new) }
+        replies.new (begun.new.items ++ rest.now) answers.new) }
     ensures held { OnOk result (IsLine begun.new.items) }
     ensures less { IfOk result (λ rest. (rest.now ≡ []) ⊎ (length rest.now < length block.now)) }
     ensures some { AnswersSome A.answered answers.old (begun.old.items ++ block.now)
-        replies.new.items }
+        replies.new }
 {
     let mut rest = block;
-    while replies.len() < BLOCK {
+    while !replies.is_full() {
         let Some((line, after)) = split_line(rest) else {
             begun.extend_from_slice(rest)?;
             return Ok(&[]);

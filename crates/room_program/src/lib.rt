@@ -20,6 +20,7 @@ pub mod line;
 pub mod lines;
 pub mod noted;
 pub mod replay;
+mod replies;
 pub mod serve;
 pub mod sink;
 pub mod source;

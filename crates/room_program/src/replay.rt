@@ -18,30 +18,11 @@ use crate::base::{FirstLine, read_first_line, rows_of};
 use crate::blocks::{BLOCK, answer_lines};
 use crate::fault::{ReplayFault, StreamFault};
 use crate::lines::LINE_FEED;
+use crate::replies::Replies;
 use crate::sink::Sink;
 use crate::source::Source;
 use room_history::room::Room;
 use std::alloc::Global;
-
-// Writes all the bytes.
-pub(crate) fn put_all<W: Sink>(writer: &mut W, bytes: &[u8]) -> Result<(), StreamFault>
-    requires { W.has_failed writer.old ≡ false }
-    ensures ok { OnOk result (Appends (W.taken writer.old) (W.taken writer.new) bytes.now) }
-    ensures works { OnOk result (W.has_failed writer.new ≡ false) }
-    ensures front { OnErr result ((front rest : List ℕ) × (bytes.now ≡ front ++ rest)
-        × Appends (W.taken writer.old) (W.taken writer.new) front) }
-    ensures fault { OnErr result (result ≡ Err StreamFault.Write) }
-    ensures why { OnErr result ((W.has_failed writer.new ≡ true) ⊎ TookNone W.puts writer.new) }
-{
-    let mut rest = bytes;
-    while !rest.is_empty() {
-        match writer.put(rest) {
-            Ok(count) if count > 0 => rest = &rest[count..],
-            _ => return Err(StreamFault::Write),
-        }
-    }
-    Ok(())
-}
 
 // Answers each line that ends in the block, writes the replies, and holds what comes after the last.
 fn answer_block<A: Answerer, W: Sink>(
@@ -67,11 +48,11 @@ fn answer_block<A: Answerer, W: Sink>(
         → (W.has_failed writer.new ≡ true) ⊎ TookNone W.puts writer.new }
     ensures memory { result ≡ Err StreamFault.Memory → W.has_failed writer.new ≡ false }
 {
-    let mut replies = Vec::new(alloc);
+    let mut replies = Replies::new(alloc);
     let mut rest = block;
     while !rest.is_empty() {
         let answered = answer_lines(alloc, answers, begun, rest, &mut replies);
-        put_all(writer, replies.as_slice())?;
+        replies.write_to(writer)?;
         replies.clear();
         rest = answered?;
     }
@@ -131,8 +112,9 @@ fn replay_blocks<A: Answerer, S: Source, W: Sink>(
 ///
 /// A line is an author's name, a space and a message; a line feed ends it, or the end of the stream. The stream is
 /// read in blocks, and the replies to the lines of a block are written before the next is read, or as soon as they fill
-/// a block themselves. After a read that gives the end no other is made. After a fault the lines that were answered stay
-/// answered, and what was written of their replies stays written.
+/// a block themselves; a reply that is as long as a block is written straight from its own text. After a read that gives
+/// the end no other is made. After a fault the lines that were answered stay answered, and what was written of their
+/// replies stays written.
 ///
 /// - `Read`: the reader failed, or `reads` reads were used up.
 /// - `Write`: the writer failed, or took no byte of those that were left.

@@ -1,9 +1,11 @@
 //! Where bytes go.
-ghost use Rattle.std.specs.Prelude.{◌≡◌, ◌≤◌, ◌<◌, ◌||◌, ℕ, Bool, List, Option, None, Result, IfOk, is_err, length};
-ghost use Rattle.std.specs.Io.KnownBytes.{WriteAppends};
+ghost use Rattle.std.specs.Prelude.{◌≡◌, ◌≤◌, ◌<◌, ◌||◌, ◌⊎◌, ◌++◌, ℕ, Bool, true, false, List, Option, None, Result, Err, IfOk, OnErr, OnOk, is_err, length};
+ghost use Rattle.std.specs.Io.KnownBytes.{Appends, WriteAppends};
 ghost use Rattle.room_program.specs.declared.failed.Failed.{Failed};
+ghost use Rattle.room_program.specs.Streams.{TookNone};
 
 use crate::failed::Failed;
+use crate::fault::StreamFault;
 
 /// A stream of bytes to write.
 pub trait Sink {
@@ -24,4 +26,25 @@ pub trait Sink {
         ensures bytes { WriteAppends (taken self.old) (taken self.new) result bytes.now }
         ensures failed { has_failed self.new ≡ (has_failed self.old || is_err result) }
         ensures puts { puts self.old bytes.now result self.new };
+}
+
+/// Writes all the bytes. The one refusal is `Write`: the writer failed, or took no byte of those that were left. What
+/// was written then stays written.
+pub(crate) fn put_all<W: Sink>(writer: &mut W, bytes: &[u8]) -> Result<(), StreamFault>
+    requires { W.has_failed writer.old ≡ false }
+    ensures ok { OnOk result (Appends (W.taken writer.old) (W.taken writer.new) bytes.now) }
+    ensures works { OnOk result (W.has_failed writer.new ≡ false) }
+    ensures front { OnErr result ((front rest : List ℕ) × (bytes.now ≡ front ++ rest)
+        × Appends (W.taken writer.old) (W.taken writer.new) front) }
+    ensures fault { OnErr result (result ≡ Err StreamFault.Write) }
+    ensures why { OnErr result ((W.has_failed writer.new ≡ true) ⊎ TookNone W.puts writer.new) }
+{
+    let mut rest = bytes;
+    while !rest.is_empty() {
+        match writer.put(rest) {
+            Ok(count) if count > 0 => rest = &rest[count..],
+            _ => return Err(StreamFault::Write),
+        }
+    }
+    Ok(())
 }

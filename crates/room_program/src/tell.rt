@@ -4,8 +4,7 @@ ghost use Rattle.std.specs.Io.KnownBytes.{Appends};
 ghost use Rattle.room_program.specs.Faults.{Takes};
 ghost use Rattle.room_program.specs.Streams.{TookNone};
 
-use crate::replay::put_all;
-use crate::sink::Sink;
+use crate::sink::{Sink, put_all};
 
 /// Writes a text as far as the stream takes it, and tells whether it took all.
 pub(crate) fn tell<W: Sink>(stream: &mut W, text: &[u8]) -> bool

@@ -10,8 +10,8 @@ loop-alloc-preserved g c =
     let said = c.in_ok-answer_line.ensures.ok in
     let shorter = after_shorter c.loop-alloc.rest.now c.in-Some.line.now c.in-Some.after.now c.in-Some.ensures.1 in
     let none_held = c.in_ok-answer_line.ensures.none_held in record {
-      front = front-next g.A.Answerer.answered c.args.answers.now _ c.loop-alloc.replies.items c.loop-alloc.begun.items c.loop-alloc.rest.now c.in-Some.line.now c.in-Some.after.now said.1
-          c.answer_line.new.replies.items c.answer_line.new.begun.items c.loop-alloc.answers c.answer_line.new.answers said.0
+      front = front-next g.A.Answerer.answered c.args.answers.now _ c.loop-alloc.replies c.loop-alloc.begun.items c.loop-alloc.rest.now c.in-Some.line.now c.in-Some.after.now said.1
+          c.answer_line.new.replies c.answer_line.new.begun.items c.loop-alloc.answers c.answer_line.new.answers said.0
           inv.front inv.held c.in-Some.ensures.0 c.in-Some.ensures.1 said.2 said.3 none_held;
       held = rw none_held tt;
       within = omega (arith, shorter);

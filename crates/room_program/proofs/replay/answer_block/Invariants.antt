@@ -8,7 +8,7 @@ invariant-loop-rest g l = record {
   written : Written g.A.Answerer.answered l.initial.answers l.answers (l.initial.begun.items ++ l.block) (l.begun.items ++ l.rest) (g.W.Sink.taken l.initial.writer) (g.W.Sink.taken l.writer);
   held : IsLine l.begun.items;
   works : g.W.Sink.has_failed l.writer ≡ false;
-  empty : l.replies.items ≡ [];
+  empty : l.replies ≡ [];
 }
 
 abbrev pub decreases-loop-rest : goal.decreases-loop-rest

@@ -1,7 +1,7 @@
 -- A call that takes some bytes leaves fewer.
 use Rattle.std.proofs.Common.{◌∙◌, ◌||◌, Bool, false, ap}
 use Rattle.room_program.proofs.StreamLemmas.{put-more}
-use Rattle.room_program.proofs.replay.put_all.Goals as goal
+use Rattle.room_program.proofs.sink.put_all.Goals as goal
 
 pub loop-rest-preserved : goal.loop-rest-preserved
 loop-rest-preserved g c =

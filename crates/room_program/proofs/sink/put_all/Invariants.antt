@@ -1,6 +1,6 @@
 use Rattle.std.proofs.Common.{◌≡◌, ◌++◌, ℕ, List, false, length}
 use Rattle.std.specs.Io.KnownBytes.{Appends}
-use Rattle.room_program.proofs.replay.put_all.Given as goal
+use Rattle.room_program.proofs.sink.put_all.Given as goal
 
 abbrev pub invariant-loop-rest : goal.invariant-loop-rest
 invariant-loop-rest g l =
