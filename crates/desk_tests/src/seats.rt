@@ -8,7 +8,8 @@ use std::test::Fail;
 use std::thread::{self, Threads, join};
 use turn_desk::{Desk, Seat, Turned};
 
-// A count of the calls that were made. A call says how often the turn yields while it is held, and is answered the count before it.
+// A count of the calls that were made. A call says how often the turn yields while it is held, and is answered the
+// count before it.
 #[derive(Drop)]
 struct Tally {
     count: u64,
@@ -91,7 +92,8 @@ fn a_seat_is_split_into_sixty_five(rt: HostRuntime) -> Result<(), Fail> {
     Ok(())
 }
 
-// Makes so many calls. In the first the turn is held for so many yields, in each further one for one less, and after 1 for so many again.
+// Makes so many calls. In the first the turn is held for so many yields, in each further one for one less, and after 1
+// for so many again.
 fn calls<W: Wait>(
     rt: &W,
     desk: &Desk<Tally, Global>,

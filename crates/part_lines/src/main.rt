@@ -1,10 +1,10 @@
 //! Runs parts of maproom by lines, for tests.
 //!
-//! `part_lines edits` plans and applies edits, `part_lines mirrors` keeps a mirror, and `part_lines sessions [LIMIT]` runs sessions with
-//! a room whose journal takes so many entries, or 1,000: each as the lines of standard input say, which the modules tell. `part_lines
-//! rooms [TURNS]` shows what rooms answer that are run or shared by turns; with a number it then measures how fast so many turns are
-//! taken. `part_lines serve ADDR WORKERS SESSIONS TURNS [held]` is a server of one room, by so many workers and for so many
-//! sessions, each of which reads so many messages at most.
+//! `part_lines edits` plans and applies edits, `part_lines mirrors` keeps a mirror, and `part_lines sessions [LIMIT]`
+//! runs sessions with a room whose journal takes so many entries, or 1,000: each as the lines of standard input say,
+//! which the modules tell. `part_lines rooms [TURNS]` shows what rooms answer that are run or shared by turns; with a
+//! number it then measures how fast so many turns are taken. `part_lines serve ADDR WORKERS SESSIONS TURNS [held]` is a
+//! server of one room, by so many workers and for so many sessions, each of which reads so many messages at most.
 #![tactic(auto)]
 
 mod edits;

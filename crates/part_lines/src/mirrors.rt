@@ -1,8 +1,8 @@
 //! A mirror of a room, which is kept by the texts of a session.
 //!
-//! A line is `make`, a space and the text of a welcome, of which the mirror is made anew; `take`, a space and the text of news, which
-//! it takes; or `map`. For each line one is printed: the number of the mirror's last entry; for `map` the text of a welcome that
-//! tells its map, under the id 1; or, where a text is refused, why.
+//! A line is `make`, a space and the text of a welcome, of which the mirror is made anew; `take`, a space and the text
+//! of news, which it takes; or `map`. For each line one is printed: the number of the mirror's last entry; for `map`
+//! the text of a welcome that tells its map, under the id 1; or, where a text is refused, why.
 
 mod line;
 mod told;

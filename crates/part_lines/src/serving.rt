@@ -1,7 +1,7 @@
 //! A server of one room, `paris`, with a bound on what a session reads and a gate that can hold a message back.
 //!
-//! It serves as `maproom serve` does. `listening` is printed once clients can connect, and at the end how many entries the journal
-//! of the room has.
+//! It serves as `maproom serve` does. `listening` is printed once clients can connect, and at the end how many entries
+//! the journal of the room has.
 
 mod held;
 

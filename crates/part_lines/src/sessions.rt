@@ -1,9 +1,9 @@
 //! Sessions of two clients with one room, `paris`.
 //!
-//! A line is the name of a client, `anna` or `bob`, a space, and what comes from it: `connect`, a new connection in the place of the
-//! one before; `quiet`, nothing for a while; `binary`, a message that is no text; `close`, the end of the connection; or a text. For
-//! each line is printed what goes out to this client, and then an empty line: each text on a line, `close` and the code where the
-//! connection is closed, and that the session is closed where it was before.
+//! A line is the name of a client, `anna` or `bob`, a space, and what comes from it: `connect`, a new connection in the
+//! place of the one before; `quiet`, nothing for a while; `binary`, a message that is no text; `close`, the end of the
+//! connection; or a text. For each line is printed what goes out to this client, and then an empty line: each text on a
+//! line, `close` and the code where the connection is closed, and that the session is closed where it was before.
 
 ghost use Rattle.room_session.specs.Running.{IsRunOn};
 ghost use Rattle.room_server.specs.Tables.{known_of};

@@ -12,8 +12,8 @@ pub enum MirrorFault {
         /// The number that came.
         got: u64,
     },
-    /// The names of the news do not rise, or the mirror has one of their rows already: the element that is told, or none
-    /// where none is told.
+    /// The names of the news do not rise, or the mirror has one of their rows already: the element that is told, or
+    /// none where none is told.
     #[error("the news do not fit the map")]
     Mismatch,
     /// A growth was refused: there was no memory for it.

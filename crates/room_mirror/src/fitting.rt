@@ -10,8 +10,8 @@ use room_history::news::NewsRow;
 use room_wire::rising::are_rising;
 use std::alloc::Allocator;
 
-/// Whether the names rise, and each row is another than the map's. It takes time for each row logarithmic in the size of
-/// the map, and what it takes to compare the rows.
+/// Whether the names rise, and each row is another than the map's. It takes time for each row logarithmic in the size
+/// of the map, and what it takes to compare the rows.
 pub fn fits<A: Allocator>(rows: &OsmMap<A>, told: &[NewsRow<A>]) -> bool
     ensures { result ≡ fits rows.now told.now }
 {

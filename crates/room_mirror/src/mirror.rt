@@ -99,8 +99,8 @@ impl<A: Allocator + Copy> Mirror<A> {
 }
 
 impl Mirror<Global> {
-    /// The mirror that a welcome makes, whose names rise, as those of every welcome that was read do: it has the rows of the
-    /// welcome, and its number. The one refusal is want of memory.
+    /// The mirror that a welcome makes, whose names rise, as those of every welcome that was read do: it has the rows
+    /// of the welcome, and its number. The one refusal is want of memory.
     pub fn from_welcome(alloc: Global, welcome: Welcome) -> Result<Mirror<Global>, Memory>
         requires { AreInOrder welcome.rows }
         ensures { IfOk result (λ m. m ≡ record { seq = welcome.seq; rows = welcome.rows }) }

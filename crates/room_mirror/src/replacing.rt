@@ -1,5 +1,5 @@
-//! News put into a map: first each name that is absent gets a row, which takes memory and can be taken out again, and then
-//! each row is replaced or taken out, which takes none.
+//! News put into a map: first each name that is absent gets a row, which takes memory and can be taken out again, and
+//! then each row is replaced or taken out, which takes none.
 //!
 //! A mirror that changed a copy of its map would cost the map for each news. That a row was only there to make room
 //! cannot be seen, since each such name is told.

@@ -14,8 +14,8 @@ const QUIET_MILLIS: u64 = 50;
 // How long a write waits for a client that does not read until it fails, in seconds.
 const DEAF_SECONDS: u64 = 30;
 
-/// Accepts so many times, and hands each connection on as a session, numbered from 1. An accept that fails is a session too: the
-/// log gets `session I end fault`.
+/// Accepts so many times, and hands each connection on as a session, numbered from 1. An accept that fails is a session
+/// too: the log gets `session I end fault`.
 pub(crate) fn accept_all<R: Wait + Log>(
     rt: &R,
     listener: &TcpListener,

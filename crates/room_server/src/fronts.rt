@@ -9,8 +9,8 @@ use osm_elements::Memory;
 use std::alloc::Global;
 use std::sync::Wait;
 
-/// Closes the desk of each room with its seat, and gives for each how many entries its journal has, in the order of the table. The
-/// one refusal is want of memory.
+/// Closes the desk of each room with its seat, and gives for each how many entries its journal has, in the order of the
+/// table. The one refusal is want of memory.
 pub fn close_all<W: Wait>(
     rt: &W,
     alloc: Global,

@@ -1,8 +1,9 @@
-//! Rooms that several sessions share: a table of desks, workers that serve one session after another, and the pool of their threads.
+//! Rooms that several sessions share: a table of desks, workers that serve one session after another, and the pool of
+//! their threads.
 //!
-//! A [`RoomTable`] has a room under each name, at a desk. Each worker has a seat at each desk, and its sessions ask the rooms
-//! through these seats ([`Seated`]). A pool ([`serve_rooms`]) splits seats off for its workers, hands them the connections that
-//! it accepts, and meets their seats again.
+//! A [`RoomTable`] has a room under each name, at a desk. Each worker has a seat at each desk, and its sessions ask the
+//! rooms through these seats ([`Seated`]). A pool ([`serve_rooms`]) splits seats off for its workers, hands them the
+//! connections that it accepts, and meets their seats again.
 #![tactic(auto)]
 
 mod accepting;

@@ -28,8 +28,9 @@ impl Model for RoomNames {
 }
 
 impl RoomNames {
-    /// The names that these texts are. Refused are, by the first position that has one of these: a text that is no name of a
-    /// room (1 to 32 characters of `a-z`, `0-9` and `_`), and a name that an earlier position has; and want of memory.
+    /// The names that these texts are. Refused are, by the first position that has one of these: a text that is no name
+    /// of a room (1 to 32 characters of `a-z`, `0-9` and `_`), and a name that an earlier position has; and want of
+    /// memory.
     pub fn read(alloc: Global, texts: &[&str]) -> Result<RoomNames, TableFault>
         ensures ok { IfOk result (λ names. names ≡ map (λ text. text.now) texts.now) }
         ensures fine { let names = map (λ text. text.now) texts.now in

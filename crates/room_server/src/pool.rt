@@ -51,8 +51,8 @@ impl From<Memory> for PoolFault {
     }
 }
 
-/// Serves the connections that a listener accepts, so many, by so many workers at a time, and gives the seats back once the last
-/// session has ended: one at each desk of the table, which then has met the seats of all workers.
+/// Serves the connections that a listener accepts, so many, by so many workers at a time, and gives the seats back once
+/// the last session has ended: one at each desk of the table, which then has met the seats of all workers.
 ///
 /// Refused is want of memory, and a worker's thread that the system does not start. Then no connection was accepted.
 pub fn serve_rooms<R: Threads + Wait + Clock + Log + Sync, G: Gate + Sync>(

@@ -12,8 +12,8 @@ use turn_desk::Seat;
 /// A seat at a room's desk.
 pub type RoomSeat = Seat<Room<Global>>;
 
-/// Splits a seat off each of a table's: gives the seats that keep their numbers, and the new ones, one for each room. The one
-/// refusal is want of memory.
+/// Splits a seat off each of a table's: gives the seats that keep their numbers, and the new ones, one for each room.
+/// The one refusal is want of memory.
 pub(crate) fn split_all(
     alloc: Global,
     table: &RoomTable,

@@ -8,8 +8,8 @@ use crate::table::RoomTable;
 use osm_elements::Memory;
 use std::alloc::Global;
 
-/// Splits so many sets of seats off, each with a seat at every desk of the table, and gives the seats that are left, and the
-/// sets. The one refusal is want of memory.
+/// Splits so many sets of seats off, each with a seat at every desk of the table, and gives the seats that are left,
+/// and the sets. The one refusal is want of memory.
 pub(crate) fn split_sets(
     alloc: Global,
     table: &RoomTable,

@@ -104,12 +104,12 @@ impl RoomTable {
         RoomTable::open_on(alloc, names, Rows::from_vec(Vec::new(alloc)), limit)
     }
 
-    /// Opens a room for each name, with the map of these rows and a journal that takes at most `limit` entries, and gives the
-    /// table with the first seat of each desk, in the order of the names. No name gives an empty table. What
+    /// Opens a room for each name, with the map of these rows and a journal that takes at most `limit` entries, and
+    /// gives the table with the first seat of each desk, in the order of the names. No name gives an empty table. What
     /// [`Room::open_on`] asks of the rows is asked here. Each room but the last has copies of them.
     ///
-    /// Refused are what [`RoomNames::read`] refuses of the names, then a map that is not sound; and want of memory. Then no
-    /// room is made.
+    /// Refused are what [`RoomNames::read`] refuses of the names, then a map that is not sound; and want of memory.
+    /// Then no room is made.
     pub fn open_on(
         alloc: Global,
         names: &[&str],

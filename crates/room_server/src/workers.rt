@@ -15,11 +15,11 @@ use std::io::{Read, Write};
 use std::sync::Wait;
 use std::time::Clock;
 
-/// Serves one session after another, each over its stream, until it is told to stop or no one is left to tell it. The log gets
-/// `session I open` and `session I end E`, I the session's number and E how it ended.
+/// Serves one session after another, each over its stream, until it is told to stop or no one is left to tell it. The
+/// log gets `session I open` and `session I end E`, I the session's number and E how it ended.
 ///
-/// It is lent a seat at each desk of the table, in order, and gives back the same: each with the number that it had and the
-/// numbers of its kin, having seen all that it had seen.
+/// It is lent a seat at each desk of the table, in order, and gives back the same: each with the number that it had and
+/// the numbers of its kin, having seen all that it had seen.
 pub fn worker<W: Wait + Clock + Log, G: Gate, S: Read + Write + Drop>(
     rt: &W,
     alloc: Global,

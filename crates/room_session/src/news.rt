@@ -63,7 +63,8 @@ pub(crate) fn catch_up<R: Rooms, W: Wait>(
     Ok(Next { texts, state })
 }
 
-// Adds the news of all that has come to the room past the entry that was told last, and gives the number of the last entry.
+// Adds the news of all that has come to the room past the entry that was told last, and gives the number of the last
+// entry.
 fn tell<R: Rooms, W: Wait>(
     alloc: Global,
     rt: &W,

@@ -22,7 +22,8 @@ use std::marker::Model;
 use std::sync::Wait;
 use thiserror::Error;
 
-// RFC 6455, section 7.4.1: data of a type that is not accepted, and a condition that kept the request from being fulfilled.
+// RFC 6455, section 7.4.1: data of a type that is not accepted, and a condition that kept the request from being
+// fulfilled.
 const UNSUPPORTED_DATA: u16 = 1003;
 
 const INTERNAL_ERROR: u16 = 1011;
@@ -77,10 +78,10 @@ impl Session {
 
     /// Takes a text from the client and gives what goes out for it.
     ///
-    /// Before a hello that is answered with a welcome, every other message is answered `no_hello`. In an open session the reply
-    /// goes out first, and after it the news of all that has come to the room since the last that went out, each once and in
-    /// order. Where there was no memory, no text goes out and the session is closed; a change that was accepted stands.
-    /// Refused where the session is closed.
+    /// Before a hello that is answered with a welcome, every other message is answered `no_hello`. In an open session
+    /// the reply goes out first, and after it the news of all that has come to the room since the last that went out,
+    /// each once and in order. Where there was no memory, no text goes out and the session is closed; a change that was
+    /// accepted stands. Refused where the session is closed.
     pub fn on_text<R: Rooms, W: Wait>(
         &mut self,
         alloc: Global,

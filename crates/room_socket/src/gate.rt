@@ -2,8 +2,8 @@
 use std::sync::Wait;
 use std::time::Clock;
 
-/// What a session passes with each text message. A server lets all pass ([`OpenGate`]); a test may hold one back until another
-/// was answered.
+/// What a session passes with each text message. A server lets all pass ([`OpenGate`]); a test may hold one back until
+/// another was answered.
 pub trait Gate {
     /// The session of this number is about to take its turn for its text message of this number, counted from 1.
     fn pass<W: Wait + Clock>(&self, rt: &W, session: u64, call: u64);

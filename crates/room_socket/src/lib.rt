@@ -1,7 +1,7 @@
 //! A session over a stream: the WebSocket (RFC 6455) round the core of a session.
 //!
-//! [`serve`] shakes hands with a client over anything that reads and writes, hands its texts to a session's core, sends what the
-//! core says, and tells how the session ended.
+//! [`serve`] shakes hands with a client over anything that reads and writes, hands its texts to a session's core, sends
+//! what the core says, and tells how the session ended.
 #![tactic(auto)]
 
 mod closing;

@@ -4,11 +4,11 @@ ghost use Rattle.std.specs.Io.{ReadsAtMost};
 use std::io;
 use std::io::{ErrorKind, Read, Write};
 
-/// A stream that is patient until the first write: it passes over so many quiet reads at most, and gathers what comes until
-/// there is a whole head of a request (RFC 9112, section 2.1), the buffer is full or the stream is at its end.
+/// A stream that is patient until the first write: it passes over so many quiet reads at most, and gathers what comes
+/// until there is a whole head of a request (RFC 9112, section 2.1), the buffer is full or the stream is at its end.
 ///
-/// A head that drips in byte by byte would else be taken for an attack. A write that ran into its time limit fails, so that it
-/// is not taken for a quiet read.
+/// A head that drips in byte by byte would else be taken for an attack. A write that ran into its time limit fails, so
+/// that it is not taken for a quiet read.
 #[derive(Drop)]
 pub(crate) struct Patient<S> {
     stream: S,
@@ -29,7 +29,8 @@ impl<S> Patient<S> {
     }
 }
 
-/// Whether a read failed only because nothing came in time, or because a signal interrupted it: then it can be made again.
+/// Whether a read failed only because nothing came in time, or because a signal interrupted it: then it can be made
+/// again.
 pub(crate) fn is_quiet(error: &io::Error) -> bool {
     is_late(error) || error.kind() == ErrorKind::Interrupted
 }

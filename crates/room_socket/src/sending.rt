@@ -11,7 +11,8 @@ use tungstenite::{CloseCode, Error, Message};
 // RFC 6455, section 7.4.1: data of a type that is not accepted.
 const UNSUPPORTED_DATA: u16 = 1003;
 
-/// Sends what the core of a session says, and closes the connection where it says so. An end, where the session is over.
+/// Sends what the core of a session says, and closes the connection where it says so. An end, where the session is
+/// over.
 pub(crate) fn send<S: Read + Write + Drop>(
     alloc: Global,
     socket: &mut Socket<S>,

@@ -20,13 +20,15 @@ use std::sync::Wait;
 use std::time::Clock;
 use tungstenite::{CloseCode, accept};
 
-/// Shakes hands with a client over a stream (RFC 6455, section 4.2), and runs the session of this number with it to its end.
+/// Shakes hands with a client over a stream (RFC 6455, section 4.2), and runs the session of this number with it to its
+/// end.
 ///
-/// Each text that comes is handed to the core of a session, and what this says goes out, a reply and its news in one write.
-/// Where nothing comes for as long as the stream's reads wait, the news go out. The session ends where the client closes the
-/// connection, which is answered; where it sends a message that is no text (a close with 1003 goes out); where there is no
-/// memory (1011); where the handshake, the stream or the protocol fails (nothing more goes out); and after `turns` reads of a
-/// message (1000). Before the first write at most `turns` quiet reads are passed over.
+/// Each text that comes is handed to the core of a session, and what this says goes out, a reply and its news in one
+/// write. Where nothing comes for as long as the stream's reads wait, the news go out. The session ends where the
+/// client closes the connection, which is answered; where it sends a message that is no text (a close with 1003 goes
+/// out); where there is no memory (1011); where the handshake, the stream or the protocol fails (nothing more goes
+/// out); and after `turns` reads of a message (1000). Before the first write at most `turns` quiet reads are passed
+/// over.
 ///
 /// The stream's reads have to end: one that waits for ever keeps the session waiting. What no call of the rooms changes
 /// is the same afterwards. How often the stream is read for a message is the library's: a client that sends a frame in
@@ -40,7 +42,8 @@ pub fn serve<S: Read + Write + Drop, R: Rooms, G: Gate, W: Wait + Clock>(
     session: u64,
     turns: u64,
 ) -> End
-    // The rooms were asked what the core of one session asks for some texts and quiet waits, `turns` at most, and nothing else.
+    // The rooms were asked what the core of one session asks for some texts and quiet waits, `turns` at most, and
+    // nothing else.
     ensures serves { Serves turns (R.known rooms.old) (R.known rooms.new) }
     ensures keeps { KeepsKnown (R.known rooms.old) (R.known rooms.new) }
     ensures kept { R.kept rooms.new ≡ R.kept rooms.old }

@@ -55,9 +55,9 @@ impl<'a> Answer<'a> {
         }
     }
 
-    /// The answer to what a room was asked, by what it replied. Beside the reply it takes the name whose element was asked for,
-    /// if one was (see [`name_asked`]). Where the room had no memory, or replied in another form than it was asked, the answer
-    /// is `Memory`.
+    /// The answer to what a room was asked, by what it replied. Beside the reply it takes the name whose element was
+    /// asked for, if one was (see [`name_asked`]). Where the room had no memory, or replied in another form than it was
+    /// asked, the answer is `Memory`.
     pub fn to(name: Option<Name>, reply: &'a RoomReply<Global>) -> Answer<'a>
         ensures { (call : RoomCall Global) → name_asked call ≡ name → AreToldAlike result (answer_to call reply.now) }
     {

@@ -53,8 +53,8 @@ pub fn an_element_is_read_back()
     osm_coords::laws::longitude_is_read_back();
 }
 
-/// Every text whose tree is that of news, as the one that [`news_text`](crate::news_text) writes is, is read as those very
-/// news: a client makes of a text what the room was told.
+/// Every text whose tree is that of news, as the one that [`news_text`](crate::news_text) writes is, is read as those
+/// very news: a client makes of a text what the room was told.
 pub fn news_are_read_back()
     ensures { (text : List ℕ) (n : News Global) → read text ≡ Some (news_tree n) → AreNews n → spells_news text ≡ Ok n }
 {
@@ -62,8 +62,8 @@ pub fn news_are_read_back()
     osm_coords::laws::longitude_is_read_back();
 }
 
-/// Every text whose tree is that of a welcome, as the one that [`welcome_text`](crate::welcome_text) writes is, is read as that
-/// very welcome, and so is the reply to a `map`.
+/// Every text whose tree is that of a welcome, as the one that [`welcome_text`](crate::welcome_text) writes is, is read
+/// as that very welcome, and so is the reply to a `map`.
 pub fn a_welcome_is_read_back()
     ensures { (text : List ℕ) (w : Welcome) → read text ≡ Some (welcome_tree w) → IsWelcome w → spells_welcome text ≡ Ok w }
 {
@@ -89,8 +89,9 @@ pub fn a_message_spells_itself()
         → spells text ≡ Ok message }
 {}
 
-/// What a text spells is a well-formed message of its tree: the tree has the word and the fields of that message, and of
-/// these holds what their types keep. So a text that has a tree spells a message exactly where it has the tree of one.
+/// What a text spells is a well-formed message of its tree: the tree has the word and the fields of that message, and
+/// of these holds what their types keep. So a text that has a tree spells a message exactly where it has the tree of
+/// one.
 pub fn what_is_spelled_is_a_message()
     ensures { (text : List ℕ) (d : Data) (message : Incoming) → read text ≡ Some d → spells text ≡ Ok message
         → IsMessage d message }

@@ -1,9 +1,9 @@
 //! The messages to a room and its replies, as JSON texts (RFC 8259).
 //!
-//! [`read_request`] reads a message, [`reply_text`] writes the text of a reply, and [`map_text`] that of a reply with a whole
-//! map. [`welcome_text`] and [`news_text`] write what a client is told beside that, and [`read_welcome`] and [`read_news`]
-//! read it. What a text means, and which fault it has, is one definite answer for each text. The rows of both have names
-//! that rise, which [`are_rising`](rising::are_rising) tests of any rows.
+//! [`read_request`] reads a message, [`reply_text`] writes the text of a reply, and [`map_text`] that of a reply with a
+//! whole map. [`welcome_text`] and [`news_text`] write what a client is told beside that, and [`read_welcome`] and
+//! [`read_news`] read it. What a text means, and which fault it has, is one definite answer for each text. The rows of
+//! both have names that rise, which [`are_rising`](rising::are_rising) tests of any rows.
 #![tactic(auto)]
 
 pub mod answer;

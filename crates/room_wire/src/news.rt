@@ -19,11 +19,11 @@ use std::alloc::Global;
 
 /// The news that a JSON text is (RFC 8259), or its first fault, under the id 0.
 ///
-/// The text has to be JSON that nests at most 127 deep (`NotJson`), and an object (`NotObject`). The first of these that is
-/// missing or not of its form is told (`BadField`): `news`, an object; in it `by`, a string of 1 to 32 characters of `a-z`,
-/// `0-9` and `_`; `rows`, an array whose names rise; and `seq`, a whole number in `1..=9007199254740991`. A row whose `gone` is
-/// `true` has a name in `el`; any other is an element with the fields of a `create`, of which `tags` may be missing. A fault
-/// inside a row is that of `rows`. Other members are ignored.
+/// The text has to be JSON that nests at most 127 deep (`NotJson`), and an object (`NotObject`). The first of these
+/// that is missing or not of its form is told (`BadField`): `news`, an object; in it `by`, a string of 1 to 32
+/// characters of `a-z`, `0-9` and `_`; `rows`, an array whose names rise; and `seq`, a whole number in
+/// `1..=9007199254740991`. A row whose `gone` is `true` has a name in `el`; any other is an element with the fields of
+/// a `create`, of which `tags` may be missing. A fault inside a row is that of `rows`. Other members are ignored.
 ///
 /// `Memory` stands in the place of any other answer where a growth was refused.
 pub fn read_news(alloc: Global, text: &str) -> Result<News<Global>, Bad>
@@ -56,8 +56,8 @@ fn news_of(alloc: Global, message: &mut Value) -> Result<News<Global>, Fault>
     told_of(alloc, told)
 }
 
-// The news that an object tells. The number is looked for before the rows, since these are taken out, and where both are
-// amiss the rows are told.
+// The news that an object tells. The number is looked for before the rows, since these are taken out, and where both
+// are amiss the rows are told.
 fn told_of(alloc: Global, told: &mut Value) -> Result<News<Global>, Fault>
     ensures { Gives result (told_at (view told.old)) }
 {

@@ -194,8 +194,8 @@ fn action_by(alloc: Global, word: &str, message: &mut Value) -> Result<Action<Gl
     each_action!(read_by(alloc, word, message))
 }
 
-// The element of a `create`, by the kind of its name. Its tags are taken out of the message, whose other fields are read
-// before.
+// The element of a `create`, by the kind of its name. Its tags are taken out of the message, whose other fields are
+// read before.
 pub fn element_of(alloc: Global, kind: Kind, message: &mut Value) -> Result<Element<Global>, Fault>
     ensures { Gives result (element_at kind (view message.old)) }
 {

@@ -30,14 +30,14 @@ pub struct Welcome {
 
 /// The welcome that a JSON text is (RFC 8259), or its first fault.
 ///
-/// The text has to be JSON that nests at most 127 deep (`NotJson`), and an object (`NotObject`), whose `id` is a whole number
-/// in `1..=9007199254740991` (`BadId`). The first of these that is missing or not of its form is told (`BadField`), under that
-/// id: `ok`, an object; in it `map`, an array of elements whose names rise, each with the fields of a `create`, of which `tags`
-/// may be missing; and `seq`, a whole number in `0..=9007199254740991`. A fault inside an element is that of `map`. Other
-/// members are ignored.
+/// The text has to be JSON that nests at most 127 deep (`NotJson`), and an object (`NotObject`), whose `id` is a whole
+/// number in `1..=9007199254740991` (`BadId`). The first of these that is missing or not of its form is told
+/// (`BadField`), under that id: `ok`, an object; in it `map`, an array of elements whose names rise, each with the
+/// fields of a `create`, of which `tags` may be missing; and `seq`, a whole number in `0..=9007199254740991`. A fault
+/// inside an element is that of `map`. Other members are ignored.
 ///
-/// `Memory` stands in the place of any other answer where a growth was refused, under the id if that was read before, or else
-/// under 0.
+/// `Memory` stands in the place of any other answer where a growth was refused, under the id if that was read before,
+/// or else under 0.
 pub fn read_welcome(alloc: Global, text: &str) -> Result<Welcome, Bad>
     ensures exact { GivesUnder (λ w. w.id) result (spells_welcome text.now) }
     ensures memory { IfErr result (λ bad. bad.fault ≡ Memory → 0 < length text.now) }

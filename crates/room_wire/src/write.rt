@@ -50,8 +50,8 @@ use std::alloc::Global;
 /// `{"el":NAME,"nodes":[ID,..],"tags":{..}}`, and a relation is
 /// `{"el":NAME,"members":[[NAME,ROLE],..],"tags":{..}}` (OpenStreetMap wiki, "Elements").
 ///
-/// The one refusal is `Memory`. The time is that of the reply's length. The text is written from front to back, and no tree
-/// is held.
+/// The one refusal is `Memory`. The time is that of the reply's length. The text is written from front to back, and no
+/// tree is held.
 pub fn reply_text(alloc: Global, id: u64, answer: &Answer<'_>) -> Result<Json, Memory>
     ensures text { IfOk result (λ json. json ≡ compact_text (tree_of id answer.now)) }
     // Any reader of JSON finds the tree in it.

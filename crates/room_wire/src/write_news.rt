@@ -19,8 +19,8 @@ use std::alloc::Global;
 
 /// The text of news: `{"news":{"by":AUTHOR,"rows":[ROW,..],"seq":SEQ}}`, the rows in their order.
 ///
-/// It is the compact text of a JSON tree (RFC 8259), as a reply's. A row that is gone is `{"el":NAME,"gone":true}`, and any
-/// other is its element, as [`reply_text`](crate::reply_text) writes it.
+/// It is the compact text of a JSON tree (RFC 8259), as a reply's. A row that is gone is `{"el":NAME,"gone":true}`, and
+/// any other is its element, as [`reply_text`](crate::reply_text) writes it.
 ///
 /// The one refusal is `Memory`. The time is that of the text's length.
 pub fn news_text(alloc: Global, news: &News<Global>) -> Result<Json, Memory>

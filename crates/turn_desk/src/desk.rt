@@ -72,7 +72,8 @@ impl<R: Turned, A: Allocator> Desk<R, A> {
         (Seat { place }, Seat { place: other })
     }
 
-    /// Meets another seat into the seat, which has then seen all that either had seen, and has the kin and the parts of both.
+    /// Meets another seat into the seat, which has then seen all that either had seen, and has the kin and the parts of
+    /// both.
     ///
     /// It waits for nobody. The seat looks at the length of the history once.
     pub fn meet(&self, seat: &mut Seat<R>, other: Seat<R>)
@@ -87,9 +88,9 @@ impl<R: Turned, A: Allocator> Desk<R, A> {
 
     /// Waits for a turn, makes the call in it and gives the turn on.
     ///
-    /// If it returns, the reply is the one that a single caller would get after some legal history, which begins with what the seat had seen.
-    /// The seat has then seen that history, with the call's entry if it was accepted. It draws one ticket.
-    /// It is not promised that the turn comes, in what time, or in which order.
+    /// If it returns, the reply is the one that a single caller would get after some legal history, which begins with
+    /// what the seat had seen. The seat has then seen that history, with the call's entry if it was accepted. It draws
+    /// one ticket. It is not promised that the turn comes, in what time, or in which order.
     pub fn turn<W: Wait>(&self, rt: &W, seat: &mut Seat<R>, call: R::Call) -> R::Reply
         requires { IsAt self.now seat.old }
         ensures desk { IsAt self.now seat.new }
@@ -102,8 +103,8 @@ impl<R: Turned, A: Allocator> Desk<R, A> {
 
     /// How long the history is. The seat has then seen all of it, as it was at one moment of this call.
     ///
-    /// What it has seen begins with what it had seen, and begins the history at which each later call through this seat is made.
-    /// It waits for nobody. By the time that it returns, others may have made the history longer.
+    /// What it has seen begins with what it had seen, and begins the history at which each later call through this seat
+    /// is made. It waits for nobody. By the time that it returns, others may have made the history longer.
     pub fn front(&self, seat: &mut Seat<R>) -> u64
         requires { IsAt self.now seat.old }
         ensures desk { IsAt self.now seat.new }
@@ -116,8 +117,9 @@ impl<R: Turned, A: Allocator> Desk<R, A> {
 
     /// Waits for a last turn, makes no call in it and gives the room back.
     ///
-    /// If it returns, the room stands for a legal history that begins with what the seat had seen. It has the entries of the seat's calls, and of those of each seat met into it.
-    /// It is not promised that the turn comes, or in what time.
+    /// If it returns, the room stands for a legal history that begins with what the seat had seen. It has the entries
+    /// of the seat's calls, and of those of each seat met into it. It is not promised that the turn comes, or in what
+    /// time.
     pub fn close<W: Wait>(self, rt: &W, seat: Seat<R>) -> R
         requires { IsAt self seat }
         ensures { ClosesWith R.fixed R.list R.answers self.fixed seat result }

@@ -3,7 +3,8 @@
 //! All calls stand in one history, and each reply is the one that a single caller would get after the calls before it.
 //! The history that a seat sees begins with the history that it saw before.
 //!
-//! A seat can be split in two, for another thread to take one, and can be met into another again, which then has seen what both had seen.
+//! A seat can be split in two, for another thread to take one, and can be met into another again, which then has seen
+//! what both had seen.
 //!
 //! A turn begins with a ticket. Tickets are counted modulo 2^64 and served one after another.
 //! While it waits, a thread yields at first, and then sleeps until a turn is given on.

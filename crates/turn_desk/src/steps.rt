@@ -1,7 +1,8 @@
 //! The steps of a turn, of a look, and of splitting and meeting seats, each in a function of its own.
 //!
-//! Word 0 is the length of the history, word 1 the number of tickets drawn, and word 2 the number of tickets served, both modulo 2^64.
-//! The one slot holds the room while no seat has the turn. From the load that gives a seat the turn until it gives the turn on, the slot is the seat's.
+//! Word 0 is the length of the history, word 1 the number of tickets drawn, and word 2 the number of tickets served,
+//! both modulo 2^64. The one slot holds the room while no seat has the turn. From the load that gives a seat the turn
+//! until it gives the turn on, the slot is the seat's.
 ghost use Rattle.std.specs.Prelude.{◌≡◌, ◌⊎◌, ℕ, ◌%◌, ◌^◌, ◌<◌, ◌≤◌, [], ◌∷◌, length, Some, None};
 ghost use Rattle.turn_desk.specs.Inner.Plays.{Draws, Asks, Stores, PassesOn, Looks, TakesTurn};
 ghost use Rattle.turn_desk.specs.Inner.Steps.{SitsAt, IsSamePlace, IsWaiting, IsTurning, IsAtRest, HoldsRoom, MayEnter, GetsTurn, MakesCall};
@@ -66,9 +67,11 @@ fn wait_for_turn<R: Turned, W: Wait>(rt: &W, board: &Board<R>, place: &mut Place
             yields += 1;
             thread::yield_now();
         } else {
-            // The thread goes to sleep only if the low half of the word is still what was loaded, and the system compares and puts it to sleep in one step.
-            // A turn is given on by changing the word first and then waking all who sleep on it: so a thread that loaded the word before the change does not go to sleep any more, or is woken.
-            // The low half is the same again only after 2^32 turns, which would all have to be given on between the load and the sleep.
+            // The thread goes to sleep only if the low half of the word is still what was loaded, and the system
+            // compares and puts it to sleep in one step. A turn is given on by changing the word first and then waking
+            // all who sleep on it: so a thread that loaded the word before the change does not go to sleep any more, or
+            // is woken. The low half is the same again only after 2^32 turns, which would all have to be given on
+            // between the load and the sleep.
             board.park(rt, SERVING, (serving & LOW_BITS) as u32);
         }
     }
@@ -119,7 +122,8 @@ fn pass_on<R: Turned>(board: &Board<R>, place: &mut Place<R>)
     ensures place { IsSamePlace place.old place.new }
     ensures idle { PassesOn place.old.me 0 place.new.me }
 {
-    // The word is changed before the wake, so that no one who saw it as it was sleeps on. All are woken, since one alone might be one whose turn it is not.
+    // The word is changed before the wake, so that no one who saw it as it was sleeps on. All are woken, since one
+    // alone might be one whose turn it is not.
     board.fetch_add::<PassOn>(place, SERVING, 1);
     board.wake_all(SERVING);
 }

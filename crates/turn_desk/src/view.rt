@@ -27,7 +27,8 @@ pub(crate) struct View<E, F> {
     pub looks: LinkedList<u64>,
     /// The tickets that it drew.
     pub tickets: LinkedList<u64>,
-    /// Its parts of the right to sit at the desk. A ticket takes one until it is served. A seat that is split off it gets a 64th of them, and at least one.
+    /// Its parts of the right to sit at the desk. A ticket takes one until it is served. A seat that is split off it
+    /// gets a 64th of them, and at least one.
     pub parts: u64,
     /// The numbers `next`, `next + stride`, `next + 2 * stride` and so on are for seats that are split off it.
     pub next: u64,

@@ -35,7 +35,8 @@ fn coordinate(value: i64) -> Result<i32, Unread> {
     i32::try_from(value).map_err(|_| Unread::NoEdit)
 }
 
-/// The action that a text writes. A move is written `move 7,-8 n1 w1`, a split `split w1 1 w2`, an unglue `unglue w1 1 n2`.
+/// The action that a text writes. A move is written `move 7,-8 n1 w1`, a split `split w1 1 w2`, an unglue `unglue w1 1
+/// n2`.
 pub fn action(alloc: Global, text: &str) -> Result<Action<Global>, Unread> {
     let (word, rest) = text.split_once(' ').ok_or(Unread::NoEdit)?;
     if word == "move" {

@@ -157,7 +157,8 @@ pub fn changes_shown(
     Ok(text)
 }
 
-/// The map and the users of a store as a text: each row as `w1: n1 n2 <- r1;` after a space, with the names that refer to it.
+/// The map and the users of a store as a text: each row as `w1: n1 n2 <- r1;` after a space, with the names that refer
+/// to it.
 pub fn store_shown(alloc: Global, store: &Store<Global>) -> Result<String, AllocError> {
     let rows = rows_copied(alloc, store)?;
     rows_shown(alloc, &rows, store)

@@ -13,8 +13,8 @@ use osm_changes::changes::Changes;
 use osm_changes::store::Store;
 use std::alloc::Global;
 
-/// Does an edit that a text writes; or only plans it, where `plan` stands before it. Where it is refused, and where it is only
-/// planned, the store is as it was.
+/// Does an edit that a text writes; or only plans it, where `plan` stands before it. Where it is refused, and where it
+/// is only planned, the store is as it was.
 pub fn step(alloc: Global, store: &mut Store<Global>, line: &str) -> Result<Outcome, Unread> {
     let (text, is_done) = match line.strip_prefix("plan ") {
         Some(text) => (text, false),
@@ -75,7 +75,8 @@ fn touched(
     Ok(touched_shown(alloc, &touched)?)
 }
 
-// Takes changes back and applies them again, and tells where that did not lead to the map before them and to that after them.
+// Takes changes back and applies them again, and tells where that did not lead to the map before them and to that after
+// them.
 fn there_again(
     alloc: Global,
     store: &mut Store<Global>,

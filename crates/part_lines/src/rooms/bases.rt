@@ -15,8 +15,8 @@ use std::alloc::Global;
 use std::io::{self, ErrorKind};
 use std::sync::Wait;
 
-/// Shows what is answered by a room that begins with the map of this one, and how many entries two rooms of a table have that
-/// begin with it.
+/// Shows what is answered by a room that begins with the map of this one, and how many entries two rooms of a table
+/// have that begin with it.
 pub fn show<R: Print + Wait>(rt: &R, alloc: Global, room: &Room<Global>) -> io::Result<()> {
     show_run(rt, alloc, room.map_rows()?)?;
     show_table(rt, alloc, room.map_rows()?)

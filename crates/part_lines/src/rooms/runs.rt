@@ -20,8 +20,8 @@ const MANY: u32 = 3000;
 
 const LIMIT: u32 = 2999;
 
-/// Shows what runs are answered: a redo at once and then a redo that cannot be, what rooms are answered that begin with the
-/// map of that room, and thousands of calls.
+/// Shows what runs are answered: a redo at once and then a redo that cannot be, what rooms are answered that begin with
+/// the map of that room, and thousands of calls.
 pub fn show<R: Print + Wait>(rt: &R, alloc: Global) -> io::Result<()> {
     show_each(rt, alloc)?;
     show_many(rt, alloc)
