@@ -30,7 +30,8 @@ impl Turned for Tally {
 
     ghost list = { λ s. replicate s.count tt };
 
-    ghost answers = { λ _ before call reply after. MatchOption reply (after ≡ before) (λ n. (after ≡ before ++ tt ∷ []) × (n ≡ length before)) };
+    ghost answers = { λ _ before call reply after. MatchOption reply (after ≡ before) (λ n. (after ≡ before ++ tt ∷ [])
+        × (n ≡ length before)) };
 
     fn turn(&mut self, yields: u32) -> Option<u64> {
         for _ in 0..yields {

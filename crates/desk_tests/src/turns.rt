@@ -28,7 +28,9 @@ impl Turned for Numbers {
 
     ghost list = { λ s. s.items.items };
 
-    ghost answers = { λ limit before call reply after. MatchOption call ((after ≡ before) × (reply ≡ Some (length before))) (λ x. MatchOption reply (after ≡ before) (λ n. (after ≡ before ++ x ∷ []) × (n ≡ length before) × (length before < limit))) };
+    ghost answers = { λ limit before call reply after. MatchOption call ((after ≡ before)
+        × (reply ≡ Some (length before))) (λ x. MatchOption reply (after ≡ before) (λ n. (after ≡ before ++ x ∷ [])
+        × (n ≡ length before) × (length before < limit))) };
 
     fn turn(&mut self, call: Option<u64>) -> Option<u64> {
         let count = self.items.len() as u64;

@@ -1,4 +1,5 @@
--- The map after an action that was accepted, and what the action changed. (The rules of the actions are this project's.)
+-- The map after an action that was accepted, and what the action changed. (The rules of the actions are this
+-- project's.)
 use Rattle.std.specs.Prelude.{List}
 use Rattle.osm_elements.specs.Maps.{Rows}
 use Rattle.osm_changes.specs.declared.change.Change.{Change}

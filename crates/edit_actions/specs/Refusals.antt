@@ -1,4 +1,5 @@
--- Why an action is refused on a map: the first of its checks, in order, that holds. (The rules of the actions are this project's.)
+-- Why an action is refused on a map: the first of its checks, in order, that holds. (The rules of the actions are this
+-- project's.)
 use Rattle.std.specs.Prelude.{List, Option}
 use Rattle.osm_elements.specs.Maps.{Rows}
 use Rattle.edit_simple.specs.declared.refusal.Refusal.{Refusal}

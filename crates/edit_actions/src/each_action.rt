@@ -2,10 +2,11 @@
 
 /// Writes the same for each action: hands the list of the actions to a macro, behind what the macro is given.
 ///
-/// A line of the list has the action, its word in a message, its fields, its plan, which takes the fields in this order, and what it
-/// is about: the `tags`, the `rest` or `both` parts of the rows of `names` that are fields, or of `each` name of a field that is a list.
-/// Each field says how the plan takes it, `lent`, as a `slice`, or as a `number`; and from which field of a message it is read,
-/// in this order, and by the `kind` of which name that is read, if it matters.
+/// A line of the list has the action, its word in a message, its fields, its plan, which takes the fields in this
+/// order, and what it is about: the `tags`, the `rest` or `both` parts of the rows of `names` that are fields, or of
+/// `each` name of a field that is a list. Each field says how the plan takes it, `lent`, as a `slice`, or as a
+/// `number`; and from which field of a message it is read, in this order, and by the `kind` of which name that is read,
+/// if it matters.
 #[macro_export]
 macro_rules! each_action {
     ($write:ident $given:tt) => {

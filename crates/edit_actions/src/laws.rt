@@ -30,8 +30,8 @@ pub fn accepted_changes_lead_there<A: Allocator>()
         → changed m (changes m a) ≡ after m a }
 {}
 
-/// An accepted create changes both cells of its name, from nothing to the halves of the element, a delete of what is there both
-/// from these to nothing, and an accepted retag the tags of its name alone.
+/// An accepted create changes both cells of its name, from nothing to the halves of the element, a delete of what is
+/// there both from these to nothing, and an accepted retag the tags of its name alone.
 pub fn one_name_is_changed<A: Allocator>()
     ensures create { (m : Rows A) (x : Name) (v : Element A) → row_at m x ≡ None
         → changes m (Create x v) ≡ half_change x None (Some v) Tags ∷ half_change x None (Some v) Rest ∷ [] }

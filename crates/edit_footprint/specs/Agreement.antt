@@ -6,7 +6,8 @@ use Rattle.osm_refs.specs.References.{users}
 use Rattle.osm_changes.specs.declared.cell.Cell.{Cell}
 use Rattle.osm_changes.specs.Cells.{rest_at, half_at, has}
 
--- at each of the cells both maps have the same half, or none, and a name whose rest is among them has the same users in both
+-- at each of the cells both maps have the same half, or none, and a name whose rest is among them has the same users in
+-- both
 pub record Agree {A : Type 0} (m n : Rows A) (cells : List Cell) : Type 0 where
   pub same_half : (c : Cell) → has cells c ≡ true → half_at m c ≡ half_at n c
   pub same_users : (e : Name) → has cells (rest_at e) ≡ true → users m e ≡ users n e

@@ -47,7 +47,8 @@ fallen held seq = filter (λ r. not (has_none r.1)) (map (λ r. (r.0, but nat_cm
 abbrev pub Meets : Held → List Cell → ℕ → ℕ → Cell → Type 0
 Meets held cells seq n c = (seq < n) × (has cells c ≡ true) × (holds held c n ≡ true)
 
--- it holds one of a name, no entry behind the other that holds one of them comes sooner, and it holds none of a lesser name
+-- it holds one of a name, no entry behind the other that holds one of them comes sooner, and it holds none of a lesser
+-- name
 pub record IsFirst (held : Held) (cells : List Cell) (seq n : ℕ) (x : Name) : Type 0 where
   pub cell : Cell
   pub name : cell.name ≡ x

@@ -30,7 +30,8 @@ pub fn leaves_the_rest<A: Allocator>()
 /// Users of a name are a matter of its rest: they are asked to be the same only at names whose rest is in the
 /// footprint.
 pub fn locality<A: Allocator>()
-    ensures { (m n : Rows A) (a : Action A) → is_sound m ≡ true → is_sound n ≡ true → refusal m a ≡ None → Agree m n (footprint m a)
+    ensures { (m n : Rows A) (a : Action A) → is_sound m ≡ true → is_sound n ≡ true → refusal m a ≡ None
+        → Agree m n (footprint m a)
         → AcceptedAlike m n a }
 {}
 
@@ -38,7 +39,8 @@ pub fn locality<A: Allocator>()
 /// with its changes and its footprint as they were, and both orders lead to the same map. The actions' own values are
 /// as their types keep them, since the map after the first has to be sound.
 pub fn commutation<A: Allocator>()
-    ensures { (m : Rows A) (a b : Action A) → is_sound m ≡ true → is_made_action a ≡ true → is_made_action b ≡ true → refusal m a ≡ None → refusal (after m a) b ≡ None
+    ensures { (m : Rows A) (a b : Action A) → is_sound m ≡ true → is_made_action a ≡ true → is_made_action b ≡ true
+        → refusal m a ≡ None → refusal (after m a) b ≡ None
         → meets (footprint m a) (footprint (after m a) b) ≡ None → ChangePlaces m a b }
 {}
 

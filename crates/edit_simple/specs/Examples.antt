@@ -63,7 +63,8 @@ created =
 abbrev pub tagged : Pairs → Rows Any
 tagged tags = start_with (Way (n-1 ∷ n-2 ∷ []) tags) (way_of (n-1 ∷ n-3 ∷ n-2 ∷ [])) ((n-1, []) ∷ (w2, outer) ∷ (w1, outer) ∷ (w2, outer) ∷ [])
 
--- keys get their values in the order of their bytes, new ones or others, and a key with none loses its tag, where it has one
+-- keys get their values in the order of their bytes, new ones or others, and a key with none loses its tag, where it
+-- has one
 unfoldable pub retagged : Type 0
 retagged =
     (refused (retag_checks start w1 ((outer, Some x) ∷ (x, Some []) ∷ [])) ≡ None)
@@ -73,7 +74,8 @@ retagged =
     × (after_retag (tagged ((x, outer) ∷ [])) w1 ((outer, Some []) ∷ []) ≡ tagged ((outer, []) ∷ (x, outer) ∷ []))
     × (after_retag (tagged ((x, outer) ∷ [])) w1 ((outer, None) ∷ []) ≡ tagged ((x, outer) ∷ []))
 
--- what is listed and the nodes of listed ways are moved once, however often they are named; where way w2 is not listed, n-3 stays
+-- what is listed and the nodes of listed ways are moved once, however often they are named; where way w2 is not listed,
+-- n-3 stays
 unfoldable pub moved : Type 0
 moved =
     (refused (move_checks start (w2 ∷ n-1 ∷ []) (negsuc 9999999) (pos 5)) ≡ None)
@@ -118,7 +120,8 @@ purged =
     × (row_at (after_purge (after_create start r9 (relation_of ((w2, x) ∷ []))) w2) r9 ≡ Some (relation_of []))
     × (refused (purge_checks start w3) ≡ Some (Absent w3))
 
--- a create is refused for its kind, then where the name is there, then for its length, and then by the least that is absent
+-- a create is refused for its kind, then where the name is there, then for its length, and then by the least that is
+-- absent
 unfoldable pub create_refusals : Type 0
 create_refusals =
     (refused (create_checks start n-1 (way_of [])) ≡ Some (WrongKind n-1))
@@ -137,7 +140,8 @@ create_refusals =
 abbrev pub with_tags_on : Pairs → Rows Any
 with_tags_on tags = put_row start n5 (Node (pos 50000000) (pos 50000000) tags)
 
--- a retag is refused where its element is absent, then where there would be more than a thousand tags, however many there were
+-- a retag is refused where its element is absent, then where there would be more than a thousand tags, however many
+-- there were
 unfoldable pub retag_refusals : Type 0
 retag_refusals =
     (refused (retag_checks start w3 ((x, Some x) ∷ [])) ≡ Some (Absent w3))
@@ -146,7 +150,8 @@ retag_refusals =
     × (refused (retag_checks (with_tags_on thousand_tags) n5 ((48 ∷ 48 ∷ [], Some x) ∷ [])) ≡ None)
     × (refused (retag_checks (with_tags_on (thousand_tags ++ (x, []) ∷ [])) n5 ((48 ∷ 48 ∷ [], Some x) ∷ [])) ≡ Some (TooMany n5))
 
--- a move is refused by the least relation, then by the least that is absent, and then by the least node that would leave the range
+-- a move is refused by the least relation, then by the least that is absent, and then by the least node that would
+-- leave the range
 unfoldable pub move_refusals : Type 0
 move_refusals =
     (refused (move_checks start (w3 ∷ r9 ∷ n-1 ∷ r1 ∷ []) (pos 0) (pos 0)) ≡ Some (WrongKind r1))
@@ -159,8 +164,8 @@ move_refusals =
     × (refused (move_checks start (n-1 ∷ []) (pos 0) (negsuc 1810000000)) ≡ Some (OutOfRange n-1))
     × (refused (move_checks start (n-1 ∷ []) (pos 0) (negsuc 1809999999)) ≡ None)
 
--- a reverse, nodes or members are refused for the kind, then where the element is absent, then for the length, and then by the
--- least that is absent
+-- a reverse, nodes or members are refused for the kind, then where the element is absent, then for the length, and then
+-- by the least that is absent
 unfoldable pub relist_refusals : Type 0
 relist_refusals =
     (refused (reverse_checks start n5) ≡ Some (WrongKind n5))

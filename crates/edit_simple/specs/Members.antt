@@ -1,4 +1,5 @@
--- To give a relation other members. (OpenStreetMap API v0.6: nothing absent is named. The greatest length is this project's.)
+-- To give a relation other members. (OpenStreetMap API v0.6: nothing absent is named. The greatest length is this
+-- project's.)
 use Rattle.std.specs.Prelude.{ℕ, not, List, [], ◌∷◌, Option, length, map, nat_lt}
 use Rattle.std.specs.Bool.{then_some}
 use Rattle.std.specs.List.{filter}

@@ -36,7 +36,8 @@ module _ {A : Type 0} where
   abbrev pub left_range : Rows A → List Name → ℤ → ℤ → List Name
   left_range m list dlat dlon = names_of (filter (λ r. is_moved m list r.0 && is_out_of_range (moved_by dlat dlon r.1)) m)
 
-  -- no relation is listed, what is listed is there, every moved node stays in range, and something is moved by some distance
+  -- no relation is listed, what is listed is there, every moved node stays in range, and something is moved by some
+  -- distance
   abbrev pub move_checks : Rows A → List Name → ℤ → ℤ → List (Option (Refusal A))
   move_checks m list dlat dlon =
       the_least WrongKind (filter (λ e. is_relation e.kind) list)

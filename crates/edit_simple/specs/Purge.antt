@@ -1,4 +1,5 @@
--- To purge an element: it is taken away with every reference to it. (OpenStreetMap API v0.6: nothing absent is named. What goes with it is this project's.)
+-- To purge an element: it is taken away with every reference to it. (OpenStreetMap API v0.6: nothing absent is named.
+-- What goes with it is this project's.)
 use Rattle.std.specs.Prelude.{◌&&◌, ◌||◌, Bool, not, List, [], ◌∷◌, Option, length, nat_lt}
 use Rattle.std.specs.Bool.{then_some}
 use Rattle.std.specs.List.{filter}

@@ -1,4 +1,5 @@
--- What a retag makes of tags. (OpenStreetMap wiki, "Elements": no two tags of an element have the same key. The limits are this project's.)
+-- What a retag makes of tags. (OpenStreetMap wiki, "Elements": no two tags of an element have the same key. The limits
+-- are this project's.)
 use Rattle.std.specs.Prelude.{ℕ, Bool, List, Option, Some, None, T}
 use Rattle.std.specs.List.{fold}
 use Rattle.std.specs.FinMap.Entries.{put}

@@ -24,7 +24,8 @@ pub fn plan<A: Allocator + Clone>(
     name: &Name,
     element: &Element<A>,
 ) -> Result<Changes<A>, Refusal<A>>
-    ensures { IsPlan rows.now (create_checks rows.now name.now element.now) (after_create rows.now name.now element.now) result }
+    ensures { IsPlan rows.now (create_checks rows.now name.now element.now)
+        (after_create rows.now name.now element.now) result }
 {
     check(rows, name, element)?;
     let after = element.copy()?;

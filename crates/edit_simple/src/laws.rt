@@ -24,17 +24,22 @@ use std::alloc::Allocator;
 /// An accepted action, with values as their types keep them, keeps a sound map sound, and changes it.
 #[tactic(auto, using(crate::specs::Facts::Creating::create_accepted, crate::specs::Facts::Retagging::retag_accepted, crate::specs::Facts::Moving::move_accepted, crate::specs::Facts::Relisting::reverse_accepted, crate::specs::Facts::Relisting::nodes_accepted, crate::specs::Facts::Relisting::members_accepted, crate::specs::Facts::Deleting::delete_accepted, crate::specs::Facts::Purging::purge_accepted,))]
 pub fn accepted_keeps_sound<A: Allocator>()
-    ensures create { (m : Rows A) (x : Name) (v : Element A) → is_sound m ≡ true → is_made v ≡ true → first_that_holds (create_checks m x v) ≡ None
+    ensures create { (m : Rows A) (x : Name) (v : Element A) → is_sound m ≡ true → is_made v ≡ true
+        → first_that_holds (create_checks m x v) ≡ None
         → (is_sound (after_create m x v) ≡ true) × (after_create m x v ≢ m) }
-    ensures retag { (m : Rows A) (x : Name) (given : GivenTags) → is_sound m ≡ true → are_given given ≡ true → first_that_holds (retag_checks m x given) ≡ None
+    ensures retag { (m : Rows A) (x : Name) (given : GivenTags) → is_sound m ≡ true → are_given given ≡ true
+        → first_that_holds (retag_checks m x given) ≡ None
         → (is_sound (after_retag m x given) ≡ true) × (after_retag m x given ≢ m) }
-    ensures move_by { (m : Rows A) (list : List Name) (dlat dlon : ℤ) → is_sound m ≡ true → first_that_holds (move_checks m list dlat dlon) ≡ None
+    ensures move_by { (m : Rows A) (list : List Name) (dlat dlon : ℤ) → is_sound m ≡ true
+        → first_that_holds (move_checks m list dlat dlon) ≡ None
         → (is_sound (after_move m list dlat dlon) ≡ true) × (after_move m list dlat dlon ≢ m) }
     ensures reverse { (m : Rows A) (w : Name) → is_sound m ≡ true → first_that_holds (reverse_checks m w) ≡ None
         → (is_sound (after_reverse m w) ≡ true) × (after_reverse m w ≢ m) }
-    ensures nodes { (m : Rows A) (w : Name) (list : List Name) → is_sound m ≡ true → are_nodes list ≡ true → first_that_holds (nodes_checks m w list) ≡ None
+    ensures nodes { (m : Rows A) (w : Name) (list : List Name) → is_sound m ≡ true → are_nodes list ≡ true
+        → first_that_holds (nodes_checks m w list) ≡ None
         → (is_sound (after_nodes m w list) ≡ true) × (after_nodes m w list ≢ m) }
-    ensures members { (m : Rows A) (r : Name) (list : List (Name × List ℕ)) → is_sound m ≡ true → are_members list ≡ true → first_that_holds (members_checks m r list) ≡ None
+    ensures members { (m : Rows A) (r : Name) (list : List (Name × List ℕ)) → is_sound m ≡ true
+        → are_members list ≡ true → first_that_holds (members_checks m r list) ≡ None
         → (is_sound (after_members m r list) ≡ true) × (after_members m r list ≢ m) }
     ensures delete { (m : Rows A) (x : Name) → is_sound m ≡ true → first_that_holds (delete_checks m x) ≡ None
         → (is_sound (after_delete m x) ≡ true) × (after_delete m x ≢ m) }
@@ -45,15 +50,19 @@ pub fn accepted_keeps_sound<A: Allocator>()
 /// Where the first check that holds is that an action would change nothing, the map after it would be the one before.
 #[tactic(auto, using(crate::specs::Facts::SameMaps::retag_nothing, crate::specs::Facts::SameMaps::move_nothing, crate::specs::Facts::SameMaps::reverse_nothing, crate::specs::Facts::SameMaps::nodes_nothing, crate::specs::Facts::SameMaps::members_nothing,))]
 pub fn nothing_is_the_same_map<A: Allocator>()
-    ensures retag { (m : Rows A) (x : Name) (given : GivenTags) → is_sound m ≡ true → first_that_holds (retag_checks m x given) ≡ Some Nothing
+    ensures retag { (m : Rows A) (x : Name) (given : GivenTags) → is_sound m ≡ true
+        → first_that_holds (retag_checks m x given) ≡ Some Nothing
         → after_retag m x given ≡ m }
-    ensures move_by { (m : Rows A) (list : List Name) (dlat dlon : ℤ) → first_that_holds (move_checks m list dlat dlon) ≡ Some Nothing
+    ensures move_by { (m : Rows A) (list : List Name) (dlat dlon : ℤ)
+        → first_that_holds (move_checks m list dlat dlon) ≡ Some Nothing
         → after_move m list dlat dlon ≡ m }
     ensures reverse { (m : Rows A) (w : Name) → is_sound m ≡ true → first_that_holds (reverse_checks m w) ≡ Some Nothing
         → after_reverse m w ≡ m }
-    ensures nodes { (m : Rows A) (w : Name) (list : List Name) → is_sound m ≡ true → first_that_holds (nodes_checks m w list) ≡ Some Nothing
+    ensures nodes { (m : Rows A) (w : Name) (list : List Name) → is_sound m ≡ true
+        → first_that_holds (nodes_checks m w list) ≡ Some Nothing
         → after_nodes m w list ≡ m }
-    ensures members { (m : Rows A) (r : Name) (list : List (Name × List ℕ)) → is_sound m ≡ true → first_that_holds (members_checks m r list) ≡ Some Nothing
+    ensures members { (m : Rows A) (r : Name) (list : List (Name × List ℕ)) → is_sound m ≡ true
+        → first_that_holds (members_checks m r list) ≡ Some Nothing
         → after_members m r list ≡ m }
 {}
 

@@ -14,9 +14,10 @@ use osm_elements::map::OsmMap;
 use osm_elements::name::Name;
 use std::alloc::Allocator;
 
-/// Why an element cannot stand under a name beside the rows of a map, if it cannot: `TooFew` for a way of fewer than 2 nodes,
-/// then `TooMany` for one of more than 2,000 or a relation of more than 32,000 members, then `Absent` with the least name that
-/// it refers to, other than its own, which the map doesn't have. It takes no memory, and a look-up for each reference.
+/// Why an element cannot stand under a name beside the rows of a map, if it cannot: `TooFew` for a way of fewer than 2
+/// nodes, then `TooMany` for one of more than 2,000 or a relation of more than 32,000 members, then `Absent` with the
+/// least name that it refers to, other than its own, which the map doesn't have. It takes no memory, and a look-up for
+/// each reference.
 pub fn list_fault<A: Allocator>(
     rows: &OsmMap<A>,
     name: &Name,

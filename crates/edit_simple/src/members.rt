@@ -36,7 +36,8 @@ pub fn plan<A: Allocator + Clone>(
     list: &Shared<Members<A>, A>,
 ) -> Result<Changes<A>, Refusal<A>>
     requires { is_sound rows.now ≡ true }
-    ensures { IsPlan rows.now (members_checks rows.now name.now list.now) (after_members rows.now name.now list.now) result }
+    ensures { IsPlan rows.now (members_checks rows.now name.now list.now)
+        (after_members rows.now name.now list.now) result }
 {
     let (members, tags) = relation_at(rows, name)?;
     if list.len() > MOST_MEMBERS {
@@ -55,8 +56,10 @@ fn relation_at<'m, A: Allocator>(
 ) -> Result<(&'m Shared<Members<A>, A>, &'m SharedTags<A>), Refusal<A>>
     requires { is_sound rows.now ≡ true }
     ensures { MatchResult result
-        (λ relation. (is_relation name.now.kind ≡ true) × (row_at rows.now name.now ≡ Some (Relation relation.0.now relation.1.now)))
-        (λ r. first_that_holds (then_some (not (is_relation name.now.kind)) (WrongKind name.now) ∷ then_some (is_absent rows.now name.now) (Absent name.now) ∷ []) ≡ Some r) }
+        (λ relation. (is_relation name.now.kind ≡ true)
+        × (row_at rows.now name.now ≡ Some (Relation relation.0.now relation.1.now)))
+        (λ r. first_that_holds (then_some (not (is_relation name.now.kind)) (WrongKind name.now)
+        ∷ then_some (is_absent rows.now name.now) (Absent name.now) ∷ []) ≡ Some r) }
 {
     if !is_relation(name) {
         return Err(Refusal::WrongKind(*name));

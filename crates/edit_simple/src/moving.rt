@@ -31,7 +31,8 @@ pub fn plan<A: Allocator + Clone>(
     dlon: i64,
 ) -> Result<Changes<A>, Refusal<A>>
     requires { is_sound rows.now ≡ true }
-    ensures { IsPlan rows.now (move_checks rows.now names.now dlat dlon) (after_move rows.now names.now dlat dlon) result }
+    ensures { IsPlan rows.now (move_checks rows.now names.now dlat dlon)
+        (after_move rows.now names.now dlat dlon) result }
 {
     if let Some(relation) = least_relation(names) {
         return Err(Refusal::WrongKind(relation));
@@ -151,7 +152,8 @@ fn moved_node<A: Allocator + Clone>(
         (λ node. (row_leaves dlat dlon (row_at rows.now name.now) ≡ false)
         × (Some node.0 ≡ row_at rows.now name.now)
         × (Some node.1 ≡ moved_row rows.now dlat dlon name.now))
-        (λ r. ((row_leaves dlat dlon (row_at rows.now name.now) ≡ true) × (r ≡ OutsideRange name.now)) ⊎ (r ≡ OutOfMemory)) }
+        (λ r. ((row_leaves dlat dlon (row_at rows.now name.now) ≡ true) × (r ≡ OutsideRange name.now))
+        ⊎ (r ≡ OutOfMemory)) }
 {
     let Some(element) = rows.get(name) else {
         unreachable!()

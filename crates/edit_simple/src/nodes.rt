@@ -24,7 +24,8 @@ pub fn plan<A: Allocator + Clone>(
     list: &Shared<Nodes<A>, A>,
 ) -> Result<Changes<A>, Refusal<A>>
     requires { is_sound rows.now ≡ true }
-    ensures { IsPlan rows.now (nodes_checks rows.now name.now list.now) (after_nodes rows.now name.now list.now) result }
+    ensures { IsPlan rows.now (nodes_checks rows.now name.now list.now)
+        (after_nodes rows.now name.now list.now) result }
 {
     if !is_way(name) {
         return Err(Refusal::WrongKind(*name));

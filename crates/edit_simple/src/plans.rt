@@ -38,7 +38,8 @@ pub fn plan_create<A: Allocator + Clone>(
     name: &Name,
     element: &Element<A>,
 ) -> Result<Changes<A>, Refusal<A>>
-    ensures { IsPlan store.now.rows (create_checks store.now.rows name.now element.now) (after_create store.now.rows name.now element.now) result }
+    ensures { IsPlan store.now.rows (create_checks store.now.rows name.now element.now)
+        (after_create store.now.rows name.now element.now) result }
 {
     create::plan(alloc, store.map(), name, element)
 }
@@ -52,7 +53,8 @@ pub fn plan_retag<A: Allocator + Clone>(
     name: &Name,
     given: &Retag<A>,
 ) -> Result<Changes<A>, Refusal<A>>
-    ensures { IsPlan store.now.rows (retag_checks store.now.rows name.now given.now) (after_retag store.now.rows name.now given.now) result }
+    ensures { IsPlan store.now.rows (retag_checks store.now.rows name.now given.now)
+        (after_retag store.now.rows name.now given.now) result }
 {
     retagging::plan(alloc, store.map(), name, given)
 }
@@ -69,7 +71,8 @@ pub fn plan_move<A: Allocator + Clone>(
     dlat: i64,
     dlon: i64,
 ) -> Result<Changes<A>, Refusal<A>>
-    ensures { IsPlan store.now.rows (move_checks store.now.rows names.now dlat dlon) (after_move store.now.rows names.now dlat dlon) result }
+    ensures { IsPlan store.now.rows (move_checks store.now.rows names.now dlat dlon)
+        (after_move store.now.rows names.now dlat dlon) result }
 {
     moving::plan(alloc, store.map(), names, dlat, dlon)
 }
@@ -81,7 +84,8 @@ pub fn plan_reverse<A: Allocator + Clone>(
     store: &Store<A>,
     name: &Name,
 ) -> Result<Changes<A>, Refusal<A>>
-    ensures { IsPlan store.now.rows (reverse_checks store.now.rows name.now) (after_reverse store.now.rows name.now) result }
+    ensures { IsPlan store.now.rows (reverse_checks store.now.rows name.now)
+        (after_reverse store.now.rows name.now) result }
 {
     reverse::plan(alloc, store.map(), name)
 }
@@ -95,21 +99,23 @@ pub fn plan_nodes<A: Allocator + Clone>(
     name: &Name,
     list: &Shared<Nodes<A>, A>,
 ) -> Result<Changes<A>, Refusal<A>>
-    ensures { IsPlan store.now.rows (nodes_checks store.now.rows name.now list.now) (after_nodes store.now.rows name.now list.now) result }
+    ensures { IsPlan store.now.rows (nodes_checks store.now.rows name.now list.now)
+        (after_nodes store.now.rows name.now list.now) result }
 {
     nodes::plan(alloc, store.map(), name, list)
 }
 
 /// Plans to give a relation other members. It refuses `WrongKind` where the name is no relation's, `Absent` where it is
-/// not there, `TooMany` for more than 32,000 members, a limit of this project, `Absent` with the least member that is not
-/// there, and `Nothing` where these are the relation's members. It looks up each of the members.
+/// not there, `TooMany` for more than 32,000 members, a limit of this project, `Absent` with the least member that is
+/// not there, and `Nothing` where these are the relation's members. It looks up each of the members.
 pub fn plan_members<A: Allocator + Clone>(
     alloc: A,
     store: &Store<A>,
     name: &Name,
     list: &Shared<Members<A>, A>,
 ) -> Result<Changes<A>, Refusal<A>>
-    ensures { IsPlan store.now.rows (members_checks store.now.rows name.now list.now) (after_members store.now.rows name.now list.now) result }
+    ensures { IsPlan store.now.rows (members_checks store.now.rows name.now list.now)
+        (after_members store.now.rows name.now list.now) result }
 {
     members::plan(alloc, store.map(), name, list)
 }
@@ -122,22 +128,24 @@ pub fn plan_delete<A: Allocator + Clone>(
     store: &Store<A>,
     name: &Name,
 ) -> Result<Changes<A>, Refusal<A>>
-    ensures { IsPlan store.now.rows (delete_checks store.now.rows name.now) (after_delete store.now.rows name.now) result }
+    ensures { IsPlan store.now.rows (delete_checks store.now.rows name.now)
+        (after_delete store.now.rows name.now) result }
 {
     delete::plan(alloc, store.map(), store.users().of(name), name)
 }
 
-/// Plans to take an element away with every reference to it (OpenStreetMap API v0.6: nothing absent is named). The other
-/// ways lose their references to it; one that loses any and keeps fewer than 2 nodes goes too. The other relations lose
-/// the members that name what goes; no relation goes for that. What goes along is this project's rule. It refuses
-/// `Absent` where the name is not there. It looks at the element's users and at the users of each way that goes, which
-/// all change, and at no other element; that costs what these hold, times a logarithm.
+/// Plans to take an element away with every reference to it (OpenStreetMap API v0.6: nothing absent is named). The
+/// other ways lose their references to it; one that loses any and keeps fewer than 2 nodes goes too. The other
+/// relations lose the members that name what goes; no relation goes for that. What goes along is this project's rule.
+/// It refuses `Absent` where the name is not there. It looks at the element's users and at the users of each way that
+/// goes, which all change, and at no other element; that costs what these hold, times a logarithm.
 pub fn plan_purge<A: Allocator + Clone>(
     alloc: A,
     store: &Store<A>,
     name: &Name,
 ) -> Result<Changes<A>, Refusal<A>>
-    ensures { IsPlan store.now.rows (purge_checks store.now.rows name.now) (after_purge store.now.rows name.now) result }
+    ensures { IsPlan store.now.rows (purge_checks store.now.rows name.now)
+        (after_purge store.now.rows name.now) result }
 {
     purge::plan(alloc, store.map(), store.users(), name)
 }

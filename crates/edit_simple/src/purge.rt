@@ -85,7 +85,8 @@ fn all_reached<A: Allocator>(
     gone: &BTreeSet<Name, A>,
     purged: &Name,
 ) -> Result<Vec<Name, A>, Memory>
-    ensures { IfOk result (λ reached. reached.items ≡ name_set (all_reached users.now.references gone.now.keys purged.now)) }
+    ensures { IfOk result
+        (λ reached. reached.items ≡ name_set (all_reached users.now.references gone.now.keys purged.now)) }
 {
     let mut reached = listed(alloc, users, gone, purged)?;
     reached.sort_unstable();
@@ -117,7 +118,8 @@ fn add_reached<A: Allocator>(
     user: &Name,
     reached: &mut Vec<Name, A>,
 ) -> Result<(), Memory>
-    ensures { OnOk result (reached.new.items ≡ reached.old.items ++ reached_with users.now.references gone.now.keys user.now) }
+    ensures { OnOk result
+        (reached.new.items ≡ reached.old.items ++ reached_with users.now.references gone.now.keys user.now) }
 {
     reached.push(*user)?;
     if goes(gone, user) {
@@ -237,7 +239,8 @@ fn members_left<A: Allocator + Clone>(
     members: &[Member<A>],
     gone: &BTreeSet<Name, A>,
 ) -> Result<Members<A>, Memory>
-    ensures { IfOk result (λ left. left ≡ filter (λ r. not (is_among gone.now.keys r.0)) (map member_pair members.now)) }
+    ensures { IfOk result
+        (λ left. left ≡ filter (λ r. not (is_among gone.now.keys r.0)) (map member_pair members.now)) }
 {
     let mut left = Members::empty(alloc);
     for member in members {

@@ -34,7 +34,8 @@ pub fn plan<A: Allocator + Clone>(
     given: &Retag<A>,
 ) -> Result<Changes<A>, Refusal<A>>
     requires { is_sound rows.now ≡ true }
-    ensures { IsPlan rows.now (retag_checks rows.now name.now given.now) (after_retag rows.now name.now given.now) result }
+    ensures { IsPlan rows.now (retag_checks rows.now name.now given.now)
+        (after_retag rows.now name.now given.now) result }
 {
     let Some(element) = rows.get(name) else {
         return Err(Refusal::Absent(*name));
@@ -57,7 +58,8 @@ fn retagged<A: Allocator + Clone>(
 ) -> Result<SharedTags<A>, Refusal<A>>
     ensures { MatchResult result
         (λ new. (nat_lt most_tags (length (retagged tags.now given.now)) ≡ false) × (new ≡ retagged tags.now given.now))
-        (λ r. ((nat_lt most_tags (length (retagged tags.now given.now)) ≡ true) × (r ≡ TooMany name.now)) ⊎ (r ≡ OutOfMemory)) }
+        (λ r. ((nat_lt most_tags (length (retagged tags.now given.now)) ≡ true) × (r ≡ TooMany name.now))
+        ⊎ (r ≡ OutOfMemory)) }
 {
     let _ = tags.rows();
     let mut new = tags.own(alloc.clone()?)?;
@@ -89,7 +91,9 @@ fn put_values<A: Allocator + Clone>(tags: &mut Tags<A>, given: &[Given<A>]) -> R
     requires sorted { T (is_sorted text_cmp tags.old) }
     requires given { AreGiven (map given_pair given.now) }
     ensures ok { OnOk result (tags.new ≡ all_valued tags.old (map given_pair given.now)) }
-    ensures err { IfErr result (λ e. ((e ≡ faults.TooManyTags) × (1000 < length (all_valued tags.old (map given_pair given.now)))) ⊎ (e ≡ faults.Memory)) }
+    ensures err { IfErr result
+        (λ e. ((e ≡ faults.TooManyTags) × (1000 < length (all_valued tags.old (map given_pair given.now))))
+        ⊎ (e ≡ faults.Memory)) }
 {
     for row in given {
         put_value(tags, row)?;
@@ -101,7 +105,9 @@ fn put_values<A: Allocator + Clone>(tags: &mut Tags<A>, given: &[Given<A>]) -> R
 fn put_value<A: Allocator + Clone>(tags: &mut Tags<A>, row: &Given<A>) -> Result<(), TextFault>
     requires key { nat_eq (length row.now.key) 0 ≡ false }
     ensures ok { OnOk result (tags.new ≡ valued tags.old row.now.key row.now.value) }
-    ensures err { IfErr result (λ e. (e ≡ faults.Memory) ⊎ ((e ≡ faults.TooManyTags) × (is_some row.now.value ≡ true) × (is_some (value_at tags.old row.now.key) ≡ false) × (1000 ≤ length tags.old))) }
+    ensures err { IfErr result (λ e. (e ≡ faults.Memory)
+        ⊎ ((e ≡ faults.TooManyTags) × (is_some row.now.value ≡ true) × (is_some (value_at tags.old row.now.key) ≡ false)
+        × (1000 ≤ length tags.old))) }
 {
     let Some(value) = &row.value else {
         return Ok(());

@@ -1,4 +1,5 @@
--- The tags of two elements that become one. (OpenStreetMap wiki, "Elements": no two tags of an element have the same key.)
+-- The tags of two elements that become one. (OpenStreetMap wiki, "Elements": no two tags of an element have the same
+-- key.)
 use Rattle.std.specs.Prelude.{◌≡◌, ◌≢◌, ℕ, Bool, false, not, List, Option, Some, None}
 use Rattle.std.specs.List.{fold, find}
 use Rattle.std.specs.Option.{option_map}

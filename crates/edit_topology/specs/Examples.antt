@@ -37,7 +37,8 @@ members_split =
     × (refused (join_checks (after_split thrice w2 1 w5) w2 w5) ≡ None)
     × (after_join (after_split thrice w2 1 w5) w2 w5 ≡ thrice)
 
--- each refusal of a split, in their order; a relation may get 32,000 members, and of two that get more the lesser is named
+-- each refusal of a split, in their order; a relation may get 32,000 members, and of two that get more the lesser is
+-- named
 unfoldable pub split_refusals : Type 0
 split_refusals =
     (refused (split_checks start n-1 0 r1) ≡ Some (WrongKind n-1))
@@ -150,7 +151,8 @@ tags_merged =
     × (refused (merge_checks (nodes_tagged thousand_tags (a1 ∷ [])) n-1 n-3) ≡ Some (TooMany n-1))
     × (refused (merge_checks (nodes_tagged thousand_tags ((48 ∷ 48 ∷ [], 49 ∷ []) ∷ a1 ∷ [])) n-1 n-3) ≡ Some (TagConflict (48 ∷ 48 ∷ [])))
 
--- each other refusal of a merge, in their order; of two ways that get too short the lesser is named, before a conflict of tags
+-- each other refusal of a merge, in their order; of two ways that get too short the lesser is named, before a conflict
+-- of tags
 unfoldable pub merge_refusals : Type 0
 merge_refusals =
     (refused (merge_checks start w1 r1) ≡ Some (WrongKind w1))

@@ -1,4 +1,5 @@
--- To join two ways of which one begins where the other ends. (Editors' practice. What becomes of members, and the greatest lengths, are this project's.)
+-- To join two ways of which one begins where the other ends. (Editors' practice. What becomes of members, and the
+-- greatest lengths, are this project's.)
 use Rattle.std.specs.Prelude.{◌++◌, ◌&&◌, ℕ, Bool, false, not, List, [], ◌∷◌, Option, Some, None, length, drop, map, nat_lt}
 use Rattle.std.specs.Bool.{then_some}
 use Rattle.std.specs.List.{filter, last_or, slice_get, zip}
@@ -39,7 +40,8 @@ abbrev pub joined_members : Name → Name → List (Name × List ℕ) → List (
 joined_members w v members = renamed_members v w (kept_members w v None members)
 
 module _ {A : Type 0} where
-  -- both names are ways' and not the same, both are there, w ends where v begins, the list gets not too long, no key has two values, and the tags get not too many
+  -- both names are ways' and not the same, both are there, w ends where v begins, the list gets not too long, no key
+  -- has two values, and the tags get not too many
   abbrev pub join_checks : Rows A → Name → Name → List (Option (Refusal A))
   join_checks m w v =
       then_some (not (is_way w.kind)) (WrongKind w)

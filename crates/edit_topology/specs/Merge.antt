@@ -1,4 +1,5 @@
--- To merge one node into another. (Editors' practice. Which doubles are dropped, and the greatest number of tags, are this project's.)
+-- To merge one node into another. (Editors' practice. Which doubles are dropped, and the greatest number of tags, are
+-- this project's.)
 use Rattle.std.specs.Prelude.{◌&&◌, not, List, [], ◌∷◌, Option, Some, length, map, nat_lt, if◌then◌else◌}
 use Rattle.std.specs.Bool.{then_some}
 use Rattle.std.specs.List.{dedup, filter}
@@ -29,7 +30,8 @@ module _ {A : Type 0} where
   abbrev pub shrunk : Rows A → Name → Name → List Name
   shrunk m k g = names_of (filter (λ r. is_among (nodes_of (Some r.1)) g && nat_lt (length (merged_nodes k g (nodes_of (Some r.1)))) 2) m)
 
-  -- both names are nodes' and not the same, both are there, no way gets too short, no key has two values, and the tags get not too many
+  -- both names are nodes' and not the same, both are there, no way gets too short, no key has two values, and the tags
+  -- get not too many
   abbrev pub merge_checks : Rows A → Name → Name → List (Option (Refusal A))
   merge_checks m k g =
       then_some (not (is_node k.kind)) (WrongKind k)

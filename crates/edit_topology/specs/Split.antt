@@ -1,4 +1,5 @@
--- To split a way in two at one of its nodes. (Editors' practice: both parts have the node, the tags and the memberships. In which order a relation then names them, and how many members it may have, is this project's.)
+-- To split a way in two at one of its nodes. (Editors' practice: both parts have the node, the tags and the
+-- memberships. In which order a relation then names them, and how many members it may have, is this project's.)
 use Rattle.std.specs.Prelude.{◌+◌, ◌&&◌, ℕ, Bool, not, List, [], ◌∷◌, Option, Some, length, take, drop, nat_lt, if◌then◌else◌}
 use Rattle.std.specs.Bool.{then_some}
 use Rattle.std.specs.List.{filter, flat_map}

@@ -1,4 +1,5 @@
--- To unglue a way from a node: in its place the way gets a node of its own. (Editors' practice: the new node lies where the old one does, and has its tags. Which positions and names are refused, and in which order, is this project's.)
+-- To unglue a way from a node: in its place the way gets a node of its own. (Editors' practice: the new node lies where
+-- the old one does, and has its tags. Which positions and names are refused, and in which order, is this project's.)
 use Rattle.std.specs.Prelude.{ℕ, not, List, [], ◌∷◌, Option, length, nat_lt, set}
 use Rattle.std.specs.Bool.{then_some}
 use Rattle.std.specs.List.{slice_get}

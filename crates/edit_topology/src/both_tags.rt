@@ -51,8 +51,10 @@ pub fn both_tags<A: Allocator + Clone>(
     others: &SharedTags<A>,
 ) -> Result<SharedTags<A>, Refusal<A>>
     ensures { MatchResult result
-        (λ new. (nat_lt most_tags (length (both_tags tags.now others.now)) ≡ false) × (new ≡ both_tags tags.now others.now))
-        (λ r. ((nat_lt most_tags (length (both_tags tags.now others.now)) ≡ true) × (r ≡ TooMany name.now)) ⊎ (r ≡ OutOfMemory)) }
+        (λ new. (nat_lt most_tags (length (both_tags tags.now others.now)) ≡ false)
+        × (new ≡ both_tags tags.now others.now))
+        (λ r. ((nat_lt most_tags (length (both_tags tags.now others.now)) ≡ true) × (r ≡ TooMany name.now))
+        ⊎ (r ≡ OutOfMemory)) }
 {
     let _ = tags.rows();
     let mut both = tags.own(alloc.clone()?)?;
@@ -71,7 +73,9 @@ fn put_all<A: Allocator + Clone>(tags: &mut Tags<A>, others: &[Tag<A>]) -> Resul
     requires sorted { T (is_sorted text_cmp tags.old) }
     requires others { AreTagRows (map tag_pair others.now) }
     ensures ok { OnOk result (tags.new ≡ both_tags tags.old (map tag_pair others.now)) }
-    ensures err { IfErr result (λ e. ((e ≡ faults.TooManyTags) × (1000 < length (both_tags tags.old (map tag_pair others.now)))) ⊎ (e ≡ faults.Memory)) }
+    ensures err { IfErr result
+        (λ e. ((e ≡ faults.TooManyTags) × (1000 < length (both_tags tags.old (map tag_pair others.now))))
+        ⊎ (e ≡ faults.Memory)) }
 {
     for tag in others {
         put_one(tags, tag)?;
@@ -83,7 +87,8 @@ fn put_all<A: Allocator + Clone>(tags: &mut Tags<A>, others: &[Tag<A>]) -> Resul
 fn put_one<A: Allocator + Clone>(tags: &mut Tags<A>, tag: &Tag<A>) -> Result<(), TextFault>
     requires key { nat_eq (length tag.now.key) 0 ≡ false }
     ensures ok { OnOk result (tags.new ≡ put text_cmp tag.now.key tag.now.value tags.old) }
-    ensures err { IfErr result (λ e. (e ≡ faults.Memory) ⊎ ((e ≡ faults.TooManyTags) × (is_some (value_at tags.old tag.now.key) ≡ false) × (1000 ≤ length tags.old))) }
+    ensures err { IfErr result (λ e. (e ≡ faults.Memory)
+        ⊎ ((e ≡ faults.TooManyTags) × (is_some (value_at tags.old tag.now.key) ≡ false) × (1000 ≤ length tags.old))) }
 {
     tags.set(tag.key.copy()?, tag.value.copy()?)
 }

@@ -47,7 +47,8 @@ pub fn plan<A: Allocator + Clone>(
 ) -> Result<Changes<A>, Refusal<A>>
     requires sound { is_sound rows.now ≡ true }
     requires users { its_users.now ≡ users rows.now other.now }
-    ensures { IsPlan rows.now (join_checks rows.now name.now other.now) (after_join rows.now name.now other.now) result }
+    ensures { IsPlan rows.now (join_checks rows.now name.now other.now)
+        (after_join rows.now name.now other.now) result }
 {
     let joined = way_of_both(alloc.clone()?, rows, name, other)?;
     let names = subjects_and_users(alloc.clone()?, &[*name, *other], its_users)?;
@@ -64,7 +65,8 @@ fn way_of_both<A: Allocator + Clone>(
 ) -> Result<Element<A>, Refusal<A>>
     requires { is_sound rows.now ≡ true }
     ensures { MatchResult result
-        (λ joined. (first_that_holds (join_checks rows.now name.now other.now) ≡ None) × (joined ≡ way_of_both rows.now name.now other.now))
+        (λ joined. (first_that_holds (join_checks rows.now name.now other.now) ≡ None)
+        × (joined ≡ way_of_both rows.now name.now other.now))
         (λ r. (first_that_holds (join_checks rows.now name.now other.now) ≡ Some r) ⊎ (r ≡ OutOfMemory)) }
 {
     check_names(name, other)?;
@@ -213,7 +215,8 @@ fn renamed<A: Allocator + Clone>(
     }
 }
 
-// The members without each that is the other right behind the way in the same role, and with the way for every other one.
+// The members without each that is the other right behind the way in the same role, and with the way for every other
+// one.
 fn joined_members<A: Allocator + Clone>(
     alloc: A,
     name: &Name,
@@ -240,7 +243,8 @@ fn goes_on<A: Allocator>(
     before: Option<&Member<A>>,
     member: &Member<A>,
 ) -> bool
-    ensures { result ≡ goes_on name.now other.now (option_map member_pair (option_copied before.entry)) (member_pair member.now) }
+    ensures { result
+        ≡ goes_on name.now other.now (option_map member_pair (option_copied before.entry)) (member_pair member.now) }
 {
     match before {
         Some(before) => {

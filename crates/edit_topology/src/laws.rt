@@ -22,25 +22,31 @@ use std::alloc::Allocator;
 /// An accepted action keeps a sound map sound, and changes it.
 #[tactic(auto, using(crate::specs::Facts::Splitting::split_accepted, crate::specs::Facts::Joining::join_accepted, crate::specs::Facts::Merging::merge_accepted, crate::specs::Facts::Ungluing::unglue_accepted,))]
 pub fn accepted_keeps_sound<A: Allocator>()
-    ensures split { (m : Rows A) (w : Name) (i : ℕ) (v : Name) → is_sound m ≡ true → first_that_holds (split_checks m w i v) ≡ None
+    ensures split { (m : Rows A) (w : Name) (i : ℕ) (v : Name) → is_sound m ≡ true
+        → first_that_holds (split_checks m w i v) ≡ None
         → (is_sound (after_split m w i v) ≡ true) × (after_split m w i v ≢ m) }
     ensures join { (m : Rows A) (w v : Name) → is_sound m ≡ true → first_that_holds (join_checks m w v) ≡ None
         → (is_sound (after_join m w v) ≡ true) × (after_join m w v ≢ m) }
     ensures merge { (m : Rows A) (k g : Name) → is_sound m ≡ true → first_that_holds (merge_checks m k g) ≡ None
         → (is_sound (after_merge m k g) ≡ true) × (after_merge m k g ≢ m) }
-    ensures unglue { (m : Rows A) (w : Name) (i : ℕ) (v : Name) → is_sound m ≡ true → first_that_holds (unglue_checks m w i v) ≡ None
+    ensures unglue { (m : Rows A) (w : Name) (i : ℕ) (v : Name) → is_sound m ≡ true
+        → first_that_holds (unglue_checks m w i v) ≡ None
         → (is_sound (after_unglue m w i v) ≡ true) × (after_unglue m w i v ≢ m) }
 {}
 
-/// Every row stays as it is but those of the action's subjects, and of the elements that name w, v or g: the way that is
-/// split, the way that is joined to another, the node that is merged into another. An unglue changes its subjects' alone.
+/// Every row stays as it is but those of the action's subjects, and of the elements that name w, v or g: the way that
+/// is split, the way that is joined to another, the node that is merged into another. An unglue changes its subjects'
+/// alone.
 #[tactic(auto, using(crate::specs::Facts::Staying::split_leaves, crate::specs::Facts::Staying::join_leaves, crate::specs::Facts::Staying::merge_leaves, crate::specs::Facts::Staying::unglue_leaves,))]
 pub fn the_rest_stays<A: Allocator>()
-    ensures split { (m : Rows A) (w : Name) (i : ℕ) (v y : Name) → is_same y w ≡ false → is_same y v ≡ false → is_among (row_references (row_at m y)) w ≡ false
+    ensures split { (m : Rows A) (w : Name) (i : ℕ) (v y : Name) → is_same y w ≡ false → is_same y v ≡ false
+        → is_among (row_references (row_at m y)) w ≡ false
         → row_at (after_split m w i v) y ≡ row_at m y }
-    ensures join { (m : Rows A) (w v y : Name) → is_same y w ≡ false → is_same y v ≡ false → is_among (row_references (row_at m y)) v ≡ false
+    ensures join { (m : Rows A) (w v y : Name) → is_same y w ≡ false → is_same y v ≡ false
+        → is_among (row_references (row_at m y)) v ≡ false
         → row_at (after_join m w v) y ≡ row_at m y }
-    ensures merge { (m : Rows A) (k g y : Name) → is_same y k ≡ false → is_same y g ≡ false → is_among (row_references (row_at m y)) g ≡ false
+    ensures merge { (m : Rows A) (k g y : Name) → is_same y k ≡ false → is_same y g ≡ false
+        → is_among (row_references (row_at m y)) g ≡ false
         → row_at (after_merge m k g) y ≡ row_at m y }
     ensures unglue { (m : Rows A) (w : Name) (i : ℕ) (v y : Name) → is_same y w ≡ false → is_same y v ≡ false
         → row_at (after_unglue m w i v) y ≡ row_at m y }
@@ -50,28 +56,34 @@ pub fn the_rest_stays<A: Allocator>()
 /// subjects' those change that name it, and no others.
 #[tactic(auto, using(crate::specs::Facts::Changing::split_changes, crate::specs::Facts::Changing::join_changes, crate::specs::Facts::Changing::merge_changes,))]
 pub fn each_user_changes<A: Allocator>()
-    ensures split { (m : Rows A) (w : Name) (i : ℕ) (v y : Name) → is_sound m ≡ true → first_that_holds (split_checks m w i v) ≡ None → is_among (row_references (row_at m y)) w ≡ true
+    ensures split { (m : Rows A) (w : Name) (i : ℕ) (v y : Name) → is_sound m ≡ true
+        → first_that_holds (split_checks m w i v) ≡ None → is_among (row_references (row_at m y)) w ≡ true
         → row_at (after_split m w i v) y ≢ row_at m y }
-    ensures join { (m : Rows A) (w v y : Name) → is_sound m ≡ true → first_that_holds (join_checks m w v) ≡ None → is_among (row_references (row_at m y)) v ≡ true
+    ensures join { (m : Rows A) (w v y : Name) → is_sound m ≡ true → first_that_holds (join_checks m w v) ≡ None
+        → is_among (row_references (row_at m y)) v ≡ true
         → row_at (after_join m w v) y ≢ row_at m y }
-    ensures merge { (m : Rows A) (k g y : Name) → is_sound m ≡ true → first_that_holds (merge_checks m k g) ≡ None → is_among (row_references (row_at m y)) g ≡ true
+    ensures merge { (m : Rows A) (k g y : Name) → is_sound m ≡ true → first_that_holds (merge_checks m k g) ≡ None
+        → is_among (row_references (row_at m y)) g ≡ true
         → row_at (after_merge m k g) y ≢ row_at m y }
 {}
 
-/// The parts of a split way join to the way that was split: after an accepted split on a sound map the join of the two is
-/// accepted, and leads to the map from before the split.
+/// The parts of a split way join to the way that was split: after an accepted split on a sound map the join of the two
+/// is accepted, and leads to the map from before the split.
 #[tactic(auto, using(crate::specs::Facts::SplitJoined::split_joins, crate::specs::Facts::SplitJoined::split_joins_to,))]
 pub fn join_takes_back_split<A: Allocator>()
-    ensures accepted { (m : Rows A) (w : Name) (i : ℕ) (v : Name) → is_sound m ≡ true → first_that_holds (split_checks m w i v) ≡ None
+    ensures accepted { (m : Rows A) (w : Name) (i : ℕ) (v : Name) → is_sound m ≡ true
+        → first_that_holds (split_checks m w i v) ≡ None
         → first_that_holds (join_checks (after_split m w i v) w v) ≡ None }
-    ensures restored { (m : Rows A) (w : Name) (i : ℕ) (v : Name) → is_sound m ≡ true → first_that_holds (split_checks m w i v) ≡ None
+    ensures restored { (m : Rows A) (w : Name) (i : ℕ) (v : Name) → is_sound m ≡ true
+        → first_that_holds (split_checks m w i v) ≡ None
         → after_join (after_split m w i v) w v ≡ m }
 {}
 
 /// The tags of two elements that become one have at each key the other's value, and else the one's. Where there is no
 /// conflict, no key has two values, so neither goes before the other; and a conflict is the least key that has two.
 pub fn tags_unite()
-    ensures values { (tags others : Pairs) → are_tags others ≡ true → (key : List ℕ) → value_at (both_tags tags others) key ≡ option_or (value_at others key) (value_at tags key) }
+    ensures values { (tags others : Pairs) → are_tags others ≡ true → (key : List ℕ)
+        → value_at (both_tags tags others) key ≡ option_or (value_at others key) (value_at tags key) }
     ensures none { (tags others : Pairs) → conflict tags others ≡ None → (key : List ℕ) → HasTwo tags others key → ⊥ }
     ensures least { (tags others : Pairs) → are_tags tags ≡ true → (key : List ℕ) → conflict tags others ≡ Some key
         → HasTwo tags others key × ((lesser : List ℕ) → HasTwo tags others lesser → text_cmp lesser key ≢ Less) }

@@ -40,7 +40,8 @@ pub fn plan<A: Allocator + Clone>(
 ) -> Result<Changes<A>, Refusal<A>>
     requires sound { is_sound rows.now ≡ true }
     requires users { its_users.now ≡ users rows.now other.now }
-    ensures { IsPlan rows.now (merge_checks rows.now name.now other.now) (after_merge rows.now name.now other.now) result }
+    ensures { IsPlan rows.now (merge_checks rows.now name.now other.now)
+        (after_merge rows.now name.now other.now) result }
 {
     check_names(name, other)?;
     let Some(kept) = rows.get(name) else {
@@ -121,7 +122,8 @@ fn united<A: Allocator + Clone>(
     others: &SharedTags<A>,
 ) -> Result<SharedTags<A>, Refusal<A>>
     ensures { MatchResult result
-        (λ new. (first_that_holds (tag_checks {A = A} name.now tags.now others.now) ≡ None) × (new ≡ both_tags tags.now others.now))
+        (λ new. (first_that_holds (tag_checks {A = A} name.now tags.now others.now) ≡ None)
+        × (new ≡ both_tags tags.now others.now))
         (λ r. (first_that_holds (tag_checks {A = A} name.now tags.now others.now) ≡ Some r) ⊎ (r ≡ OutOfMemory)) }
 {
     if let Some(key) = conflict(tags, others) {

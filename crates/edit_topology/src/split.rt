@@ -41,7 +41,8 @@ pub fn plan<A: Allocator + Clone>(
 ) -> Result<Changes<A>, Refusal<A>>
     requires sound { is_sound rows.now ≡ true }
     requires users { its_users.now ≡ users rows.now name.now }
-    ensures { IsPlan rows.now (split_checks rows.now name.now place into.now) (after_split rows.now name.now place into.now) result }
+    ensures { IsPlan rows.now (split_checks rows.now name.now place into.now)
+        (after_split rows.now name.now place into.now) result }
 {
     check(rows, its_users, name, place, into)?;
     let names = subjects_and_users(alloc.clone()?, &[*name, *into], its_users)?;
@@ -266,7 +267,8 @@ fn add_split<A: Allocator + Clone>(
     into: &Name,
     split: &mut Vec<Member<A>, A>,
 ) -> Result<(), Memory>
-    ensures { OnOk result (map member_pair split.new.items ≡ map member_pair split.old.items ++ split_member way.now into.now (member_pair member.now)) }
+    ensures { OnOk result (map member_pair split.new.items
+        ≡ map member_pair split.old.items ++ split_member way.now into.now (member_pair member.now)) }
 {
     split.push(member.copy()?)?;
     if is_same(way, &member.name) {

@@ -36,7 +36,8 @@ pub fn plan<A: Allocator + Clone>(
     into: &Name,
 ) -> Result<Changes<A>, Refusal<A>>
     requires { is_sound rows.now ≡ true }
-    ensures { IsPlan rows.now (unglue_checks rows.now name.now place into.now) (after_unglue rows.now name.now place into.now) result }
+    ensures { IsPlan rows.now (unglue_checks rows.now name.now place into.now)
+        (after_unglue rows.now name.now place into.now) result }
 {
     let (nodes, tags) = way_to_unglue(rows, name, into)?;
     let Some(node) = node_at(rows, nodes, place) else {
@@ -46,8 +47,8 @@ pub fn plan<A: Allocator + Clone>(
     Ok(change_both(alloc, into, node, name, nodes, tags, unglued)?)
 }
 
-// The nodes and tags of the way, or the refusal of names of which one is not of its kind, the way's is not there, or the new
-// node's is.
+// The nodes and tags of the way, or the refusal of names of which one is not of its kind, the way's is not there, or
+// the new node's is.
 fn way_to_unglue<'m, A: Allocator>(
     rows: &'m OsmMap<A>,
     name: &Name,
@@ -55,7 +56,8 @@ fn way_to_unglue<'m, A: Allocator>(
 ) -> Result<(&'m Shared<Nodes<A>, A>, &'m SharedTags<A>), Refusal<A>>
     requires { is_sound rows.now ≡ true }
     ensures { MatchResult result
-        (λ way. (first_that_holds (name_checks rows.now name.now into.now) ≡ None) × (row_at rows.now name.now ≡ Some (Way way.0.now way.1.now)))
+        (λ way. (first_that_holds (name_checks rows.now name.now into.now) ≡ None)
+        × (row_at rows.now name.now ≡ Some (Way way.0.now way.1.now)))
         (λ r. first_that_holds (name_checks rows.now name.now into.now) ≡ Some r) }
 {
     if !is_way(name) {

@@ -1,4 +1,5 @@
--- What makes one map of another: the cells at which they differ, rising, each with both halves. (Changes are this project's.)
+-- What makes one map of another: the cells at which they differ, rising, each with both halves. (Changes are this
+-- project's.)
 use Rattle.std.specs.Prelude.{◌≡◌, ◌≢◌, ◌++◌, Bool, not, List, [], ◌∷◌, Option, Some, None, All, map, if◌then◌else◌}
 use Rattle.std.specs.List.{filter, flat_map, fold}
 use Rattle.osm_elements.specs.declared.name.Name.{Name}
@@ -97,8 +98,8 @@ module _ {A : Type 0} where
     pub rising : IsRising (changed_cells cs)
     pub differ : All (λ (c : Change A). c.after ≢ c.before) cs
 
-  -- each change is from what the map has, and each name has both parts or none afterwards: the row of the two halves after
-  -- has just these halves
+  -- each change is from what the map has, and each name has both parts or none afterwards: the row of the two halves
+  -- after has just these halves
   pub record AreFrom (m : Rows A) (cs : List (Change A)) : Type 0 where
     pub before : All (λ (c : Change A). c.before ≡ half_at m (cell_of c)) cs
     pub whole : (c : Cell) → half c.part (row_after cs c.name (row_at m c.name)) ≡ half_after cs c (half_at m c)

@@ -15,8 +15,8 @@ use osm_elements::map::OsmMap;
 use osm_elements::name::Name;
 use std::alloc::Allocator;
 
-/// Copies of some rows in two lists, each in order: those whose names a map has not and that are there, and all others. The one
-/// refusal is want of memory.
+/// Copies of some rows in two lists, each in order: those whose names a map has not and that are there, and all others.
+/// The one refusal is want of memory.
 pub fn part_new<A: Allocator + Clone>(
     alloc: A,
     rows: &OsmMap<A>,

@@ -129,7 +129,8 @@ impl<A: Allocator> Store<A> {
         self.apply_told(alloc, changes, &rows)
     }
 
-    /// Applies changes as [`apply`](Store::apply) does, where the rows after them are told: they are not worked out again.
+    /// Applies changes as [`apply`](Store::apply) does, where the rows after them are told: they are not worked out
+    /// again.
     pub fn apply_told(
         &mut self,
         alloc: A,
@@ -178,8 +179,8 @@ impl<A: Allocator + Clone> Clone for Store<A> {
     }
 }
 
-// Does all of some changes that asks for memory: reserves room among the users, and puts the rows of the names that were
-// absent. It answers the other rows. After a refusal map and users are as they were.
+// Does all of some changes that asks for memory: reserves room among the users, and puts the rows of the names that
+// were absent. It answers the other rows. After a refusal map and users are as they were.
 fn reserve<A: Allocator + Clone>(
     rows: &mut OsmMap<A>,
     users: &mut Users<A>,

@@ -1,4 +1,5 @@
--- Longitudes, in ten-millionths of a degree. (OpenStreetMap API v0.6: from -180 to 180 degrees, kept to seven decimals.)
+-- Longitudes, in ten-millionths of a degree. (OpenStreetMap API v0.6: from -180 to 180 degrees, kept to seven
+-- decimals.)
 use Rattle.std.specs.Prelude.{ℕ, ℤ, List, Option}
 use Rattle.std.specs.Option.{option_and_then}
 use Rattle.osm_coords.specs.Coordinate.{coordinate}

@@ -1,4 +1,5 @@
--- The text of a coordinate: degrees with seven decimals, always so many by this project's rule. 45 is `-`, 46 is `.`, and 48 is `0`.
+-- The text of a coordinate: degrees with seven decimals, always so many by this project's rule. 45 is `-`, 46 is `.`,
+-- and 48 is `0`.
 use Rattle.std.specs.Prelude.{ℕ, zero, suc, ℤ, pos, negsuc, ◌+◌, ◌/◌, ◌%◌, nat_lt, if◌then◌else◌, List, [], ◌∷◌, ◌++◌}
 
 -- the last `count` digits of n, with zeros in front where n has fewer

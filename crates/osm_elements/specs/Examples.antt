@@ -120,7 +120,8 @@ module _ (e f : Element Any) where
       × (is_present ((n5, e) ∷ []) n5 ≡ true)
       × (is_absent ((n5, e) ∷ []) w5 ≡ true)
 
--- an element has a kind and tags; coordinates lie in their ranges, ways list nodes, and roles have at most 255 characters
+-- an element has a kind and tags; coordinates lie in their ranges, ways list nodes, and roles have at most 255
+-- characters
 unfoldable pub elements_made : Type 0
 elements_made =
     (kind_of {A = Any} (Way [] two_tags) ≡ kinds.Way)

@@ -1,4 +1,5 @@
--- Rows under keys, of which tags and retags are made. (OpenStreetMap wiki, "Elements": no two tags of an element have the same key. The limits are this project's.)
+-- Rows under keys, of which tags and retags are made. (OpenStreetMap wiki, "Elements": no two tags of an element have
+-- the same key. The limits are this project's.)
 use Rattle.std.specs.Prelude.{◌+◌, ◌||◌, ◌&&◌, ℕ, Bool, not, List, [], ◌∷◌, length, Option, Some, None, Result, Ok, Err, T, is_some, nat_eq, nat_lt, nat_le, if◌then◌else◌}
 use Rattle.std.specs.declared.cmp.Ordering.{Ordering}
 use Rattle.std.specs.Ordering.{nat_cmp, is_eq}

@@ -1,4 +1,5 @@
--- What the types of an element keep. (OpenStreetMap API v0.6: the ranges of coordinates; its wiki, "Elements": a way lists nodes. The limits of tags and roles are this project's.)
+-- What the types of an element keep. (OpenStreetMap API v0.6: the ranges of coordinates; its wiki, "Elements": a way
+-- lists nodes. The limits of tags and roles are this project's.)
 use Rattle.std.specs.Prelude.{◌&&◌, Bool, true, false, List, is_some}
 use Rattle.std.specs.List.{list_all}
 use Rattle.osm_coords.specs.Latitude.{latitude}

@@ -1,4 +1,5 @@
--- Words over maps, each the list of its rows in name order, and over lists of names. (OpenStreetMap wiki, "Elements": nodes, ways and relations; each kind has its own ids.)
+-- Words over maps, each the list of its rows in name order, and over lists of names. (OpenStreetMap wiki, "Elements":
+-- nodes, ways and relations; each kind has its own ids.)
 use Rattle.std.specs.Prelude.{Bool, not, List, [], ◌∷◌, Option, Some, None, is_some, map, nat_eq}
 use Rattle.std.specs.List.{fold, filter, list_any}
 use Rattle.std.specs.Ordering.{is_eq, match_ordering, ord_min}

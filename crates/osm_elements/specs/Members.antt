@@ -1,4 +1,5 @@
--- The members of a relation. (OpenStreetMap wiki, "Elements": a relation is an ordered list of members, each with a role. The limit on a role is this project's.)
+-- The members of a relation. (OpenStreetMap wiki, "Elements": a relation is an ordered list of members, each with a
+-- role. The limit on a role is this project's.)
 use Rattle.std.specs.Prelude.{ℕ, Bool, not, List, T}
 use Rattle.std.specs.List.{list_all}
 use Rattle.osm_elements.specs.declared.name.Name.{Name}

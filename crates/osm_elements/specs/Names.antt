@@ -1,4 +1,5 @@
--- Kinds and names: their order and their letters. (OpenStreetMap wiki, "Elements": nodes, ways and relations, each with its own ids.)
+-- Kinds and names: their order and their letters. (OpenStreetMap wiki, "Elements": nodes, ways and relations, each with
+-- its own ids.)
 use Rattle.std.specs.Prelude.{◌≡◌, ◌≢◌, ℕ, List, ◌∷◌}
 use Rattle.osm_elements.specs.declared.name.Kind.{Kind}
 use Rattle.osm_elements.specs.declared.name.Kind.TheVariants.{Node, Way, Relation}

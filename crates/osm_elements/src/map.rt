@@ -93,7 +93,8 @@ impl<A: Allocator> Rows<A> {
 }
 
 /// A map of elements: at most one element has a name (OpenStreetMap wiki, "Elements"). It takes any row, also one
-/// whose element is of another kind than the name. A look-up or a change takes time logarithmic in the number of elements.
+/// whose element is of another kind than the name. A look-up or a change takes time logarithmic in the number of
+/// elements.
 #[derive(Drop)]
 #[derive_where(Debug)]
 pub struct OsmMap<A: Allocator> {

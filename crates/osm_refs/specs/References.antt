@@ -1,4 +1,5 @@
--- What an element names, and who names an element, found by searching every row. (OpenStreetMap wiki, "Elements": a way lists nodes, a relation has members.)
+-- What an element names, and who names an element, found by searching every row. (OpenStreetMap wiki, "Elements": a way
+-- lists nodes, a relation has members.)
 use Rattle.std.specs.Prelude.{Bool, List, [], Option, Some, None, map}
 use Rattle.std.specs.List.{filter}
 use Rattle.osm_elements.specs.declared.name.Name.{Name}

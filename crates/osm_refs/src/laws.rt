@@ -12,11 +12,13 @@ use std::alloc::Allocator;
 /// The table of a map tells of every name the users and the references that the map's rows tell.
 pub fn a_table_tells_what_its_map_tells<A: Allocator>()
     ensures users { (m : Rows A) (e : Name) → AreInOrder m → users_in (table_of m) e ≡ users m e }
-    ensures references { (m : Rows A) (x : Name) → AreInOrder m → references_at (table_of m) x ≡ name_set (row_references (row_at m x)) }
+    ensures references { (m : Rows A) (x : Name) → AreInOrder m
+        → references_at (table_of m) x ≡ name_set (row_references (row_at m x)) }
 {}
 
 /// When a row changes, the table of the map changes by that name's references.
 pub fn a_table_changes_with_its_map<A: Allocator>()
-    ensures put { (m : Rows A) (x : Name) (v : Element A) → AreInOrder m → table_of (put_row m x v) ≡ referring (table_of m) x (name_set (references v)) }
+    ensures put { (m : Rows A) (x : Name) (v : Element A) → AreInOrder m
+        → table_of (put_row m x v) ≡ referring (table_of m) x (name_set (references v)) }
     ensures taken { (m : Rows A) (x : Name) → AreInOrder m → table_of (rows_but x m) ≡ referring (table_of m) x [] }
 {}

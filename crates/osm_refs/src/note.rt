@@ -34,7 +34,8 @@ impl<A: Allocator + Clone> KeptNote<A> {
         after: Option<&Element<A>>,
     ) -> Result<KeptNote<A>, Memory>
         ensures { IfOk result (λ n. IsNote n name
-            (name_set (row_references (option_copied before.entry))) (name_set (row_references (option_copied after.entry)))) }
+            (name_set (row_references (option_copied before.entry)))
+            (name_set (row_references (option_copied after.entry)))) }
     {
         let before = row_refs(alloc.clone()?, before)?;
         let after = row_refs(alloc.clone()?, after)?;

@@ -15,9 +15,10 @@ use std::alloc::{AllocError, Allocator};
 use std::collections::VecDeque;
 use std::marker::Model;
 
-/// The users of every name: which names refer to it (OpenStreetMap wiki, "Elements": a way refers to its nodes, a relation
-/// to its members). A change of a row is entered in two steps: [`Users::ready`] takes the memory, and may refuse; then
-/// [`Users::note`] enters it, and takes none. Between the two the change may be given up by [`Users::forget`].
+/// The users of every name: which names refer to it (OpenStreetMap wiki, "Elements": a way refers to its nodes, a
+/// relation to its members). A change of a row is entered in two steps: [`Users::ready`] takes the memory, and may
+/// refuse; then [`Users::note`] enters it, and takes none. Between the two the change may be given up by
+/// [`Users::forget`].
 #[derive(Drop)]
 #[derive_where(Debug)]
 pub struct Users<A: Allocator> {
@@ -37,7 +38,10 @@ impl<A: Allocator> Model for Users<A> {
     ghost use Rattle.osm_refs.specs.Inner.Notes.{note_pair, AreKept};
     ghost use Rattle.osm_refs.specs.Inner.Turned.{references_of};
 
-    ghost view = { λ u. record { references = references_of u.lists.lists.entries; waiting = map note_pair u.waiting.items } };
+    ghost view = { λ u. record {
+      references = references_of u.lists.lists.entries;
+      waiting = map note_pair u.waiting.items;
+    } };
 
     ghost invariant = { λ u. AreKept u.lists.lists.entries u.waiting.items };
 }
@@ -56,18 +60,18 @@ impl<A: Allocator> Users<A> {
         }
     }
 
-    /// The names that refer to a name, in name order, in time logarithmic in the number of names that are used. It takes
-    /// no memory.
+    /// The names that refer to a name, in name order, in time logarithmic in the number of names that are used. It
+    /// takes no memory.
     pub fn of(&self, name: &Name) -> &[Name]
         ensures { result.now ≡ users_in self.now.references name.now }
     {
         self.lists.of(name)
     }
 
-    /// Makes ready to note that a name has the element `after` (none: no row), where `before` has the references that the
-    /// name's last note gave it, waiting ones included, and none at first. The note waits behind the others. Or it refuses
-    /// with `Memory`, and all is as it was. It sorts both elements' references, and then takes time logarithmic in the
-    /// number of used names for each reference that comes.
+    /// Makes ready to note that a name has the element `after` (none: no row), where `before` has the references that
+    /// the name's last note gave it, waiting ones included, and none at first. The note waits behind the others. Or it
+    /// refuses with `Memory`, and all is as it was. It sorts both elements' references, and then takes time logarithmic
+    /// in the number of used names for each reference that comes.
     pub fn ready(
         &mut self,
         name: &Name,
@@ -107,8 +111,8 @@ impl<A: Allocator> Users<A> {
         }
     }
 
-    /// Drops all notes that wait. A name that nobody uses, and for which just these made room, leaves nothing behind. It
-    /// takes no memory.
+    /// Drops all notes that wait. A name that nobody uses, and for which just these made room, leaves nothing behind.
+    /// It takes no memory.
     pub fn forget(&mut self)
         ensures { self.new ≡ record self.old { waiting = [] } }
     {

@@ -1,6 +1,6 @@
--- A room, a seat at one and a reference to its desk may go to another thread where the allocator may, which threads may share too, since rooms share
--- values, and where any thread may give blocks back to that.
--- Rattle proves it by itself of each type of this crate but the room, since it writes no such proof of a type with a `Snapshot` in it.
+-- A room, a seat at one and a reference to its desk may go to another thread where the allocator may, which threads may
+-- share too, since rooms share values, and where any thread may give blocks back to that. Rattle proves it by itself of
+-- each type of this crate but the room, since it writes no such proof of a type with a `Snapshot` in it.
 use mathlib.Core.List.{List, [], ◌∷◌}
 use Prim.Native.Nat.{ℕ}
 use mir.Syntax.{Dict, Sym, Ty}

@@ -1,4 +1,5 @@
--- The holders that the entries make which stand: they follow the journal, and what they find behind an entry is its blocker.
+-- The holders that the entries make which stand: they follow the journal, and what they find behind an entry is its
+-- blocker.
 use Rattle.std.proofs.Common.{◌≡◌, ◌<◌, ◌++◌, ◌||◌, ℕ, Bool, true, false, not, List, [], ◌∷◌, Option, Some, None, All, map, nat_eq, nat_lt, refl, sym, ap, ◌∙◌, cond, arith, append-nil, append_assoc}
 use Rattle.std.specs.List.{filter, fold}
 use Rattle.std.specs.Ordering.{is_eq, nat_cmp}

@@ -15,7 +15,8 @@ use Rattle.room_history.proofs.Appending.{past-append, recorded_each}
 use Rattle.room_history.proofs.Growing.{numbered_within, numbered_next}
 use Rattle.room_history.proofs.LastItems.{from_the_end}
 
--- what holds of the items of each number in two lists of one length holds in both with one more, if it holds of these two
+-- what holds of the items of each number in two lists of one length holds in both with one more, if it holds of these
+-- two
 numbered_in_both : {X Y : Type 0} (P : Option X → Option Y → Type 0) (xs : List X) (ys : List Y) (x : X) (y : Y) → length xs ≡ length ys → P None None → P (Some x) (Some y)
     → ((s : ℕ) → P (numbered xs s) (numbered ys s)) → (s : ℕ) → P (numbered (xs ++ x ∷ []) s) (numbered (ys ++ y ∷ []) s)
 numbered_in_both P xs ys x y same none both before zero = none

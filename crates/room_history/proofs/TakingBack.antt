@@ -75,7 +75,8 @@ module _ {A : Type 0} where
         r : Recorded A
         r = recorded_next (past base j) e.kind
 
-  -- the journal after the undo; the action that is taken back, which is accepted there and leads to the map before; and what was recorded of it
+  -- the journal after the undo; the action that is taken back, which is accepted there and leads to the map before; and
+  -- what was recorded of it
   pub record Undone (base : Rows A) (j : List (Entry A)) (s : ℕ) (e : Entry A) : Type 0 where
     pub led : IsLed base (j ++ e ∷ [])
     pub action : Action A

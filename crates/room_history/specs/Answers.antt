@@ -1,4 +1,5 @@
--- What a call is answered, and the journal that it leaves: an accepted call appends one entry, a refused one leaves the journal. (The rules of a room are this project's.)
+-- What a call is answered, and the journal that it leaves: an accepted call appends one entry, a refused one leaves the
+-- journal. (The rules of a room are this project's.)
 use Rattle.std.specs.Prelude.{◌+◌, ◌++◌, ◌&&◌, ℕ, Bool, not, List, [], ◌∷◌, Option, Some, None, is_none, length, nat_eq, nat_le}
 use Rattle.std.specs.Bool.{then_some}
 use Rattle.std.specs.List.{position}

@@ -1,4 +1,5 @@
--- Which maps a room can begin with. (OpenStreetMap API v0.6: nothing absent is named. The limits and the order of the checks are this project's.)
+-- Which maps a room can begin with. (OpenStreetMap API v0.6: nothing absent is named. The limits and the order of the
+-- checks are this project's.)
 use Rattle.std.specs.Prelude.{◌≡◌, Bool, true, false, Some}
 use Rattle.std.specs.List.{list_all}
 use Rattle.std.specs.Ordering.{is_lt}
@@ -20,7 +21,8 @@ module _ {A : Type 0} where
   abbrev pub are_of_kinds : Rows A → Bool
   are_of_kinds m = list_all (λ r. is_kind (kind_of r.1) r.0.kind) m
 
-  -- of all rows that are not sound this name has the first; and why it is not: the first that holds of a create's checks of its length and of what it names, where a name is there if the map has it
+  -- of all rows that are not sound this name has the first; and why it is not: the first that holds of a create's
+  -- checks of its length and of what it names, where a name is there if the map has it
   pub record IsFirstUnsound (m : Rows A) (x : Name) (why : Refusal A) : Type 0 where
     pub element : Element A
     pub there : row_at m x ≡ Some element

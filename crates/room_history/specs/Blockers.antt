@@ -1,4 +1,5 @@
--- Which entry stands in the way of an undo: the first later one that stands and that touched what the other did. (The rules of a room are this project's.)
+-- Which entry stands in the way of an undo: the first later one that stands and that touched what the other did. (The
+-- rules of a room are this project's.)
 use Rattle.std.specs.Prelude.{ℕ, List, [], Option, Some, None, map}
 use Rattle.osm_elements.specs.declared.name.Name.{Name}
 use Rattle.osm_changes.specs.declared.cell.Cell.{Cell}

@@ -189,7 +189,8 @@ redo_at_once =
     × (held_after ample calls ≡ ((2, both_at n2) ∷ (4, both_at n1) ∷ []))
     × (redos_left ample calls anna ≡ []))
 
--- a way cannot be made again while a node of it is away: the redo is refused and stays the next one, until the node is back
+-- a way cannot be made again while a node of it is away: the redo is refused and stays the next one, until the node is
+-- back
 unfoldable pub redo_refused : Type 0
 redo_refused =
     (let calls =
@@ -256,7 +257,8 @@ unglued_node =
     × (held_after ample calls ≡ ((1, both_at n1) ∷ (2, rest_at n1 ∷ both_at w1) ∷ (3, rest_at n1 ∷ []) ∷ (4, both_at n1 ++ both_at n2 ++ both_at w1) ∷ []))
     × (map_after ample (calls ++ later) ≡ ((n1, node_at (pos 0) (pos 0)) ∷ (w1, way_of (n1 ∷ n1 ∷ [])) ∷ [])))
 
--- a move and new tags of one node share no part: each is undone beside the other, and the undo of the move leaves the tags
+-- a move and new tags of one node share no part: each is undone beside the other, and the undo of the move leaves the
+-- tags
 unfoldable pub blocker_goes_by_parts : Type 0
 blocker_goes_by_parts =
     (let calls =
@@ -285,7 +287,8 @@ both_moved =
     (replies ample calls ≡ (Done 1 ∷ Done 2 ∷ Done 3 ∷ Conflict 3 n1 ∷ Undid 4 3 ∷ Undid 5 2 ∷ []))
     × (map_after ample calls ≡ ((n1, node_at (pos 0) (pos 0)) ∷ [])))
 
--- new tags of a way do not block what was done to its nodes before, but the delete of a node that it does not name since does, by that node
+-- new tags of a way do not block what was done to its nodes before, but the delete of a node that it does not name
+-- since does, by that node
 unfoldable pub two_blockers_by_parts : Type 0
 two_blockers_by_parts =
     (let calls =

@@ -51,7 +51,8 @@ module _ {A : Type 0} where
   abbrev pub IsNoneDropped : Rows A → List (Entry A) → Type 0
   IsNoneDropped base j = length (standing_actions base j) ≡ length (standing j)
 
-  -- from a map the actions of some entries lead to another, each accepted with the changes and the footprint that are recorded of its entry
+  -- from a map the actions of some entries lead to another, each accepted with the changes and the footprint that are
+  -- recorded of its entry
   abbrev pub AreAccepted : Past A → Rows A → List ℕ → Rows A → Type 0
   AreAccepted p m [] end = m ≡ end
   AreAccepted p m (s ∷ ss) end = (a : Action A) × (numbered p.entries s ≡ Some (recorded_of m a)) × (refusal m a ≡ None) × AreAccepted p (after m a) ss end
@@ -68,7 +69,8 @@ module _ {A : Type 0} where
       → (standing step.1 ≡ others j s)
       × (replay base (actions_of (past base j) (others j s)) ≡ Some (mapof base step.1))
 
-  -- an accepted action that its author undoes as the room's next accepted call, with its number or without, refused calls between or not: the map, the users of every name and the entries that stand are those from before it
+  -- an accepted action that its author undoes as the room's next accepted call, with its number or without, refused
+  -- calls between or not: the map, the users of every name and the entries that stand are those from before it
   abbrev pub IsUndoneAtOnce : Rows A → ℕ → List (Entry A) → Type 0
   IsUndoneAtOnce base limit j = (accepted : Call A) (e : Entry A) (between : List (Call A)) (c : Call A)
       → let k = j ++ e ∷ [] in
@@ -85,7 +87,9 @@ module _ {A : Type 0} where
       × ((x : Name) → users (mapof base step.1) x ≡ users (mapof base j) x)
       × (standing step.1 ≡ standing j)
 
-  -- an author's undo of an entry of his that stands, under an unspent id and in a journal that is not full: it is accepted exactly where no entry blocks it by any name; else the refusal names the first that does, and the least name that the two share
+  -- an author's undo of an entry of his that stands, under an unspent id and in a journal that is not full: it is
+  -- accepted exactly where no entry blocks it by any name; else the refusal names the first that does, and the least
+  -- name that the two share
   abbrev pub IsUndoneExactlyWhere : Rows A → ℕ → List (Entry A) → Type 0
   IsUndoneExactlyWhere base limit j = (author : Author) (id s : ℕ)
       → spent j author id ≡ None
@@ -107,7 +111,8 @@ module _ {A : Type 0} where
       → ((t : ℕ) → IsOwn j author t → Stands j t → t ≤ s)
       → answer base limit j (record { author = author; id = id; request = Undo None }) ≡ answer base limit j (record { author = author; id = id; request = Undo (Some s) })
 
-  -- an accepted action empties its author's redo stack, an undo pushes what it undid, and a redo takes off the top, which it does again; and no call touches another author's stack
+  -- an accepted action empties its author's redo stack, an undo pushes what it undid, and a redo takes off the top,
+  -- which it does again; and no call touches another author's stack
   abbrev pub IsRedoStacked : Rows A → ℕ → List (Entry A) → Type 0
   IsRedoStacked base limit j = (c : Call A) (seq s : ℕ)
       → let step = answer base limit j c in
@@ -116,7 +121,9 @@ module _ {A : Type 0} where
       × (step.0 ≡ Redid seq s → redos j c.author ≡ redos step.1 c.author ++ s ∷ [])
       × ((other : Author) → is_same_author other c.author ≡ false → redos step.1 other ≡ redos j other)
 
-  -- an accepted undo that its author redoes as the room's next accepted call, refused calls between or not: the map and the users of every name are those from before the undo, what was undone stands last under a new number, and each author can redo what it could before the undo
+  -- an accepted undo that its author redoes as the room's next accepted call, refused calls between or not: the map and
+  -- the users of every name are those from before the undo, what was undone stands last under a new number, and each
+  -- author can redo what it could before the undo
   abbrev pub IsRedoneAtOnce : Rows A → ℕ → List (Entry A) → Type 0
   IsRedoneAtOnce base limit j = (undo : Call A) (s : ℕ) (e : Entry A) (between : List (Call A)) (c : Call A)
       → let k = j ++ e ∷ [] in
@@ -156,7 +163,8 @@ module _ {A : Type 0} where
   AreFresh base limit j [] = Unit {0}
   AreFresh base limit j (c ∷ cs) = (spent j c.author c.id ≡ None) × (nat_le limit (length j) ≡ false) × AreFresh base limit (answer base limit j c).1 cs
 
-  -- an author's undos in turn, all accepted, and then as many redos of that author: these are accepted, what was undone last first, and the map, the users of every name and what each author can redo are those from before the undos
+  -- an author's undos in turn, all accepted, and then as many redos of that author: these are accepted, what was undone
+  -- last first, and the map, the users of every name and what each author can redo are those from before the undos
   abbrev pub IsRedoneInTurn : Rows A → ℕ → List (Entry A) → Type 0
   IsRedoneInTurn base limit j = (author : Author) (asked : List (ℕ × Option ℕ)) (undone ids : List ℕ)
       → let undoing = answers base limit j (map (undo_by author) asked) in

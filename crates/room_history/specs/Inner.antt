@@ -1,4 +1,5 @@
--- What the code's own functions say of one another. No public call's contract cites these, and no definition beside this folder reads them.
+-- What the code's own functions say of one another. No public call's contract cites these, and no definition beside
+-- this folder reads them.
 pub mod Deeds
 pub mod Holders
 pub mod Kept

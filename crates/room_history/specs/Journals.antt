@@ -55,7 +55,8 @@ module _ {A : Type 0} where
   abbrev pub others : List (Entry A) → ℕ → List ℕ
   others j s = filter (λ t. not (nat_eq t s)) (standing j)
 
-  -- what an author can redo, bottom first, after one more of its entries: an undo pushes what it undid, a redo takes off the top, and an action empties the stack
+  -- what an author can redo, bottom first, after one more of its entries: an undo pushes what it undid, a redo takes
+  -- off the top, and an action empties the stack
   abbrev pub redos_after : List ℕ → EntryKind A → List ℕ
   redos_after stack (Do a) = []
   redos_after stack (Undo s) = stack ++ s ∷ []

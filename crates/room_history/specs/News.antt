@@ -1,4 +1,5 @@
--- What others are told of an entry: its number, its author, and the names that it changed with their rows in the map after it; and a map that takes what it is told. (The news of a room are this project's.)
+-- What others are told of an entry: its number, its author, and the names that it changed with their rows in the map
+-- after it; and a map that takes what it is told. (The news of a room are this project's.)
 use Rattle.std.specs.Prelude.{◌+◌, ◌++◌, List, [], ◌∷◌, ℕ, drop, length, map, take}
 use Rattle.std.specs.List.{fold}
 use Rattle.osm_elements.specs.declared.name.Name.{Name}

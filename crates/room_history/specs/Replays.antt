@@ -1,4 +1,5 @@
--- The map of a journal, by folding each entry's changes from the base; and the replay of a list of actions. (The rules of a room are this project's.)
+-- The map of a journal, by folding each entry's changes from the base; and the replay of a list of actions. (The rules
+-- of a room are this project's.)
 use Rattle.std.specs.Prelude.{◌++◌, ℕ, List, [], ◌∷◌, Option, Some, None, is_none, if◌then◌else◌}
 use Rattle.std.specs.List.{fold, filter_map}
 use Rattle.std.specs.Option.{option_and_then}
@@ -45,7 +46,8 @@ module _ {A : Type 0} where
   done_again m None = record { action = None; changes = []; footprint = [] }
   done_again m (Some a) = recorded_of m a
 
-  -- what the next entry records: an undo takes back what the entry that it names changed, and a redo does the action of the entry that it names
+  -- what the next entry records: an undo takes back what the entry that it names changed, and a redo does the action of
+  -- the entry that it names
   abbrev pub recorded_next : Past A → EntryKind A → Recorded A
   recorded_next p (Do a) = recorded_of p.map a
   recorded_next p (Undo s) = taken_back (numbered p.entries s)

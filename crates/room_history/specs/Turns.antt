@@ -8,6 +8,7 @@ use Rattle.room_history.specs.Asking.{IsAnswered}
 use Rattle.room_history.specs.LegalJournals.{is_made_room_call}
 
 module _ {A : Type 0} where
-  -- what is asked in a turn has its own values as their types keep them, and is answered as a room with the journal answers it
+  -- what is asked in a turn has its own values as their types keep them, and is answered as a room with the journal
+  -- answers it
   abbrev pub IsTurn : Opening A → List (Entry A) → RoomCall A → RoomReply A → List (Entry A) → Type 0
   IsTurn opening j call reply k = (is_made_room_call call ≡ true) × IsAnswered opening.base opening.limit j call reply k

@@ -110,7 +110,8 @@ pub(crate) fn stand<A: Allocator + Copy>(
     requires from { AreFrom store.old.rows effect.now.changes }
     requires sound { is_sound (changed store.old.rows effect.now.changes) ≡ true }
     requires rows { effect.now.rows ≡ rows_after store.old.rows effect.now.changes }
-    ensures ok { OnOk result ((store.new ≡ applied_to store.old effect.now.changes) × (holders.new ≡ standing holders.old footprint.now seq)) }
+    ensures ok { OnOk result ((store.new ≡ applied_to store.old effect.now.changes)
+        × (holders.new ≡ standing holders.old footprint.now seq)) }
     ensures err { OnErr result ((store.new ≡ store.old) × (holders.new ≡ holders.old)) }
 {
     holders.stand(footprint, seq)?;

@@ -25,7 +25,8 @@ pub fn action_of<'a, A: Allocator>(
     origins: &[u64],
     seq: u64,
 ) -> Option<&'a Action<A>>
-    ensures { option_copied result ≡ option_and_then (λ o. done_by (numbered entries.now o)) (numbered origins.now seq) }
+    ensures { option_copied result
+        ≡ option_and_then (λ o. done_by (numbered entries.now o)) (numbered origins.now seq) }
 {
     match numbered(origins, seq) {
         Some(origin) => match numbered(entries, *origin) {

@@ -27,19 +27,23 @@ use std::alloc::Allocator;
 
 /// Every journal that calls lead to from a sound base holds.
 pub fn journals_hold<A: Allocator>()
-    ensures { (base : Rows A) (limit : ℕ) (j : List (Entry A)) → is_sound base ≡ true → IsJournal base limit j → Holds base limit j }
+    ensures { (base : Rows A) (limit : ℕ) (j : List (Entry A)) → is_sound base ≡ true → IsJournal base limit j
+        → Holds base limit j }
 {}
 
 /// The first entries of a journal that calls lead to are one too.
 pub fn journals_begin<A: Allocator>()
-    ensures { (base : Rows A) (limit : ℕ) (j : List (Entry A)) (n : ℕ) → IsJournal base limit j → IsJournal base limit (take n j) }
+    ensures { (base : Rows A) (limit : ℕ) (j : List (Entry A)) (n : ℕ) → IsJournal base limit j
+        → IsJournal base limit (take n j) }
 {}
 
 /// Every legal history that a desk tells of a room, over a sound base, is a journal that calls lead to, and so holds.
 /// It stands here, since the desk knows nothing of rooms, and whoever has a seat at a room's desk has both.
 pub fn legal_histories_hold<A: Allocator>()
-    ensures journal { (opening : Opening A) (h : History (Entry A)) → IsLegal IsTurn opening h → IsJournal opening.base opening.limit (entries h) }
-    ensures holds { (opening : Opening A) (h : History (Entry A)) → is_sound opening.base ≡ true → IsLegal IsTurn opening h → Holds opening.base opening.limit (entries h) }
+    ensures journal { (opening : Opening A) (h : History (Entry A)) → IsLegal IsTurn opening h
+        → IsJournal opening.base opening.limit (entries h) }
+    ensures holds { (opening : Opening A) (h : History (Entry A)) → is_sound opening.base ≡ true
+        → IsLegal IsTurn opening h → Holds opening.base opening.limit (entries h) }
 {}
 
 /// A room can begin with every sound map, as the map of a room is: the names of its rows rise, each element is of its
@@ -47,28 +51,34 @@ pub fn legal_histories_hold<A: Allocator>()
 pub fn a_sound_map_can_be_a_base<A: Allocator>()
     ensures order { (m : Rows A) → is_sound m ≡ true → AreInOrder m }
     ensures kinds { (m : Rows A) → is_sound m ≡ true → are_of_kinds m ≡ true }
-    ensures memory { (m : Rows A) (fault : BaseFault A) → is_sound m ≡ true → IsBaseFault m fault → fault ≡ OutOfMemory }
+    ensures memory { (m : Rows A) (fault : BaseFault A) → is_sound m ≡ true → IsBaseFault m fault
+        → fault ≡ OutOfMemory }
 {}
 
 /// A map of which a first row is told that is not sound is not sound, and there is one such row and one reason.
 pub fn an_unsound_map_has_one_fault<A: Allocator>()
     ensures unsound { (m : Rows A) (x : Name) (why : Refusal A) → IsFirstUnsound m x why → is_sound m ≡ false }
-    ensures one { (m : Rows A) (x y : Name) (why other : Refusal A) → IsFirstUnsound m x why → IsFirstUnsound m y other → (x ≡ y) × (why ≡ other) }
+    ensures one { (m : Rows A) (x y : Name) (why other : Refusal A) → IsFirstUnsound m x why → IsFirstUnsound m y other
+        → (x ≡ y) × (why ≡ other) }
 {}
 
 /// Each entry is counted by what it changed: an action by its changes, an undo by those that it takes back.
 pub fn entries_are_counted<A: Allocator>()
-    ensures { (base : Rows A) (j : List (Entry A)) (e : Entry A) → applied base (j ++ e ∷ []) ≡ counted (applied base j) (recorded_next (past base j) e.kind).changes }
+    ensures { (base : Rows A) (j : List (Entry A)) (e : Entry A)
+        → applied base (j ++ e ∷ []) ≡ counted (applied base j) (recorded_next (past base j) e.kind).changes }
 {}
 
 /// What an entry of a journal changed are changes from the map before it to the map after it: their cells rise, and
 /// each leads from the half that the one has there to the half that the other has, which is another.
 pub fn entries_change_their_maps<A: Allocator>()
-    ensures changes { (base : Rows A) (limit : ℕ) (i k : List (Entry A)) (e : Entry A) → is_sound base ≡ true → IsJournal base limit (i ++ e ∷ k)
+    ensures changes { (base : Rows A) (limit : ℕ) (i k : List (Entry A)) (e : Entry A) → is_sound base ≡ true
+        → IsJournal base limit (i ++ e ∷ k)
         → AreChanges (recorded_next (past base i) e.kind).changes }
-    ensures from { (base : Rows A) (limit : ℕ) (i k : List (Entry A)) (e : Entry A) → is_sound base ≡ true → IsJournal base limit (i ++ e ∷ k)
+    ensures from { (base : Rows A) (limit : ℕ) (i k : List (Entry A)) (e : Entry A) → is_sound base ≡ true
+        → IsJournal base limit (i ++ e ∷ k)
         → AreFrom (mapof base i) (recorded_next (past base i) e.kind).changes }
-    ensures leads { (base : Rows A) (limit : ℕ) (i k : List (Entry A)) (e : Entry A) → is_sound base ≡ true → IsJournal base limit (i ++ e ∷ k)
+    ensures leads { (base : Rows A) (limit : ℕ) (i k : List (Entry A)) (e : Entry A) → is_sound base ≡ true
+        → IsJournal base limit (i ++ e ∷ k)
         → All (λ (c : Change A). c.after ≡ half_at (mapof base (i ++ e ∷ [])) (cell_of c))
         (recorded_next (past base i) e.kind).changes }
 {

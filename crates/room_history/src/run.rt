@@ -61,7 +61,8 @@ fn answer_all<A: Allocator + Copy>(
     room: &mut Room<A>,
     calls: Vec<Call<A>, A>,
 ) -> Result<Vec<Reply<A>, A>, Memory>
-    ensures run { IfOk result (λ replies. IsRun room.old.base room.old.limit room.old.journal calls.items replies.items room.new.journal) }
+    ensures run { IfOk result
+        (λ replies. IsRun room.old.base room.old.limit room.old.journal calls.items replies.items room.new.journal) }
     ensures limit { room.new.limit ≡ room.old.limit }
     ensures base { room.new.base ≡ room.old.base }
 {

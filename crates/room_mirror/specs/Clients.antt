@@ -1,4 +1,5 @@
--- What a client makes of the texts that it gets of a room: it reads a welcome, and then news in turn, and keeps a mirror of them. (Welcomes, news and mirrors are this project's.)
+-- What a client makes of the texts that it gets of a room: it reads a welcome, and then news in turn, and keeps a
+-- mirror of them. (Welcomes, news and mirrors are this project's.)
 use Rattle.std.specs.Prelude.{◌≡◌, ℕ, true, List, [], ◌∷◌, Option, Some, None, All, take}
 use Rattle.std.specs.Option.{option_and_then}
 use Rattle.std.specs.Result.{result_ok}

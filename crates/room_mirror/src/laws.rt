@@ -21,7 +21,8 @@ use std::alloc::{Allocator, Global};
 
 /// The rows of a room are in the order of their names, so that a mirror can be made from them.
 pub fn a_room_can_be_mirrored<A: Allocator>()
-    ensures { (base : Rows A) (limit : ℕ) (j : List (Entry A)) → is_sound base ≡ true → IsJournal base limit j → AreInOrder (mapof base j) }
+    ensures { (base : Rows A) (limit : ℕ) (j : List (Entry A)) → is_sound base ≡ true → IsJournal base limit j
+        → AreInOrder (mapof base j) }
 {
     journals_hold::<A>();
 }
@@ -29,7 +30,8 @@ pub fn a_room_can_be_mirrored<A: Allocator>()
 /// A mirror that has the map of a room's first `a` entries, and takes the news from `a + 1` to `b`, each once and in
 /// order, refuses none of them, and has the map of the first `b` entries then.
 pub fn mirrors_follow<A: Allocator>()
-    ensures { (base : Rows A) (limit : ℕ) (j : List (Entry A)) (a b : ℕ) → is_sound base ≡ true → IsJournal base limit j → a ≤ b → b ≤ length j
+    ensures { (base : Rows A) (limit : ℕ) (j : List (Entry A)) (a b : ℕ) → is_sound base ≡ true → IsJournal base limit j
+        → a ≤ b → b ≤ length j
         → taken_in_turn (mirror_of base j a) (take (b - a) (news base j a)) ≡ Ok (mirror_of base j b) }
 {
     entries_change_their_maps::<A>();
@@ -42,7 +44,8 @@ pub fn mirrors_follow<A: Allocator>()
 /// id is any whole number, and an accepted action makes no other), the entries' authors have authors' names, and the
 /// journal has at most 2^53 - 1 entries, since numbers beyond are not read back.
 pub fn a_client_has_the_rooms_map()
-    ensures { (base : Rows Global) (limit : ℕ) (j : List (Entry Global)) (id a b : ℕ) (welcome : List ℕ) (texts : List (List ℕ))
+    ensures { (base : Rows Global) (limit : ℕ) (j : List (Entry Global)) (id a b : ℕ) (welcome : List ℕ)
+        (texts : List (List ℕ))
         → is_sound base ≡ true → IsJournal base limit j
         → All HasId (names_of base) → All IsBrought j → length j ≤ 9007199254740991 → IsNumber id → a ≤ b → b ≤ length j
         → read welcome ≡ Some (welcome_tree (welcome_to id base j a)) → SpellNews texts (take (b - a) (news base j a))

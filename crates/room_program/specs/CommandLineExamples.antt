@@ -11,7 +11,8 @@ use Rattle.room_program.specs.CommandLine.{IsTaken, addr_asked, base_asked, faul
 abbrev pub AsksFor : ℕ → Bool → List Text → Type 0
 AsksFor limit base words = AsksForReplay (codes "maproom" ∷ words) limit base
 
--- the words after `serve` are taken, and ask for this address, so many workers, sessions and entries, a base or none, and these rooms
+-- the words after `serve` are taken, and ask for this address, so many workers, sessions and entries, a base or none,
+-- and these rooms
 abbrev pub AsksToServe : Text → ℕ → ℕ → ℕ → Bool → List Text → List Text → Type 0
 AsksToServe addr workers sessions limit base rooms words =
     let all = codes "maproom" ∷ codes "serve" ∷ words in

@@ -60,7 +60,8 @@ module _ {S W E : Type 0} (source : sources.Ghosts S) (sink : sinks.Ghosts W) (e
     pub unwritten : output' ≡ output
     pub told : (fault : ReplayFault) × Takes errors_sink errors errors' (fault_line (Replay fault)) × IsNoBase source (2 ^ 40) input input' fault
 
-  -- a replay: of all lines by a room with an empty map, or where a base is asked for of all but the first by one with the map that the first tells
+  -- a replay: of all lines by a room with an empty map, or where a base is asked for of all but the first by one with
+  -- the map that the first tells
   abbrev pub RanBy : Bool → ℕ → ℕ → S → S → W → W → E → E → Type 0
   RanBy false limit status input input' output output' errors errors' = Ran [] (source.left input) limit status input input' output output' errors errors'
   RanBy true limit status input input' output output' errors errors' =

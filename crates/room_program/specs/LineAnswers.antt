@@ -37,7 +37,8 @@ said line = option_and_then with_author (split_space line)
 abbrev pub spelled : List ℕ → Result Incoming Bad
 spelled bytes = if is_utf8 bytes then spells bytes else Err (record { id = 0; fault = NotJson })
 
--- what a message asks of the room, if it asks something, and else that it is a hello too many: here every author's session has begun. The reply, and the room after it
+-- what a message asks of the room, if it asks something, and else that it is a hello too many: here every author's
+-- session has begun. The reply, and the room after it
 abbrev pub asked_answer : RoomState Global → ℕ → Option (RoomCall Global) → List ℕ × RoomState Global
 asked_answer room id None = (answer_text id answers.HelloTwice, room)
 asked_answer room id (Some call) =

@@ -5,7 +5,8 @@ use Rattle.room_history.specs.Rooms.{RoomState}
 use Rattle.room_wire.specs.declared.answer.Answer.TheVariants as answers
 use Rattle.room_wire.specs.Asked.{answer_text}
 
--- the reply and the room after it are those by definition; or there was no memory, which is told under the id or under 0, and the room is as it was
+-- the reply and the room after it are those by definition; or there was no memory, which is told under the id or under
+-- 0, and the room is as it was
 abbrev pub IsReply : List ℕ × RoomState Global → ℕ → RoomState Global → List ℕ → RoomState Global → Type 0
 IsReply by_definition id room text after =
     (by_definition ≡ (text, after)) ⊎ (((text ≡ answer_text id answers.Memory) ⊎ (text ≡ answer_text 0 answers.Memory)) × (after ≡ room))

@@ -1,4 +1,5 @@
--- The lines of a stream of bytes, each ended by a line feed, which is the byte 10. (This project's, as the rules of a room are.)
+-- The lines of a stream of bytes, each ended by a line feed, which is the byte 10. (This project's, as the rules of a
+-- room are.)
 use Rattle.std.specs.Prelude.{◌==◌, ◌≢◌, ℕ, List, [], ◌∷◌, if◌then◌else◌}
 
 -- the lines, with a byte put before the first

@@ -9,7 +9,8 @@ use Rattle.room_program.specs.Streams.{Gets, TookNone, WritesAll, WritesEnded, W
 
 -- the text that is written for the bytes that the reader had left, and what is known of reader and writer
 module _ {S W : Type 0} (source : sources.Ghosts S) (sink : sinks.Ghosts W) (script : List ℕ → List Loss → List ℕ) (left : Option (List ℕ)) where
-  -- how it stands where the run ended by a fault, after at most so many reads; where a read failed, the script of the lines whose line feeds were read was written
+  -- how it stands where the run ended by a fault, after at most so many reads; where a read failed, the script of the
+  -- lines whose line feeds were read was written
   abbrev pub EndsBy : ℕ → S → S → W → W → ReplayFault → Type 0
   EndsBy reads reader reader' writer writer' Read =
       WritesEnded script left (source.left reader') (sink.taken writer) (sink.taken writer')

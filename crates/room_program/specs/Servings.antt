@@ -42,7 +42,8 @@ module _ {S : Type 0} (source : sources.Ghosts S) (on_base : Bool) where
 
 -- what is known of an output
 module _ {W : Type 0} (sink : sinks.Ghosts W) where
-  -- the rooms were served to the end, each from this map on: the output took the line, and then for each room a line that tells how many entries its journal has
+  -- the rooms were served to the end, each from this map on: the output took the line, and then for each room a line
+  -- that tells how many entries its journal has
   pub record ServesAll (rooms : List Text) (base : Rows Global) (limit : ℕ) (output output' : W) : Type 0 where
     pub can : CanBeServed rooms
     pub sound : is_sound base ≡ true

@@ -34,9 +34,9 @@ pub(crate) struct Later {
     pub reads: u64,
 }
 
-/// The rows of the map that the first line of a stream tells, as a welcome does: its names rise, and each element is of its
-/// name's kind. The stream is read in blocks, and may be read past the line. It is read to the end of the line, and not again
-/// after a read that gives the end.
+/// The rows of the map that the first line of a stream tells, as a welcome does: its names rise, and each element is of
+/// its name's kind. The stream is read in blocks, and may be read past the line. It is read to the end of the line, and
+/// not again after a read that gives the end.
 ///
 /// - `Read`: the reader failed, or `reads` reads were used up.
 /// - `BadBase`: the line is no welcome. An empty one, none, and one that is not UTF-8 are no JSON.

@@ -76,7 +76,8 @@ where
     // - there was no memory to read them: this is told, nothing was read, and nothing written to the output.
     ensures { let texts = map T.text words.now in
         ((limit : ℕ) × (base : Bool) × AsksForReplay texts limit base
-        × Replays S.Source W.Sink E.Sink base limit result input.old input.new output.old output.new errors.old errors.new)
+        × Replays S.Source W.Sink E.Sink base limit result input.old input.new output.old output.new errors.old
+        errors.new)
         ⊎ ((asked : ServeOptions) × AsksForServe texts asked
         × Serves S.Source W.Sink asked.base E.Sink (map (λ room. room.now) asked.rooms.items) asked.limit result
         input.old input.new output.old output.new errors.old errors.new)
@@ -136,7 +137,8 @@ where
     requires input_works { S.has_failed input.old ≡ false }
     requires output_works { W.has_failed output.old ≡ false }
     requires errors_work { E.has_failed errors.old ≡ false }
-    ensures { Serves S.Source W.Sink asked.now.base E.Sink (map (λ room. room.now) asked.now.rooms.items) asked.now.limit result
+    ensures { Serves S.Source W.Sink asked.now.base E.Sink
+        (map (λ room. room.now) asked.now.rooms.items) asked.now.limit result
         input.old input.new output.old output.new errors.old errors.new }
 {
     match serve(rt, alloc, asked, input, output) {

@@ -59,8 +59,8 @@ fn answer_block<A: Answerer, W: Sink>(
     Ok(())
 }
 
-// Reads block after block, and answers the lines of each before it reads the next. The first lines are those of the bytes
-// that are held already, as if the reader gave them first.
+// Reads block after block, and answers the lines of each before it reads the next. The first lines are those of the
+// bytes that are held already, as if the reader gave them first.
 fn replay_blocks<A: Answerer, S: Source, W: Sink>(
     alloc: Global,
     answers: &mut A,
@@ -112,9 +112,9 @@ fn replay_blocks<A: Answerer, S: Source, W: Sink>(
 ///
 /// A line is an author's name, a space and a message; a line feed ends it, or the end of the stream. The stream is
 /// read in blocks, and the replies to the lines of a block are written before the next is read, or as soon as they fill
-/// a block themselves; a reply that is as long as a block is written straight from its own text. After a read that gives
-/// the end no other is made. After a fault the lines that were answered stay answered, and what was written of their
-/// replies stays written.
+/// a block themselves; a reply that is as long as a block is written straight from its own text. After a read that
+/// gives the end no other is made. After a fault the lines that were answered stay answered, and what was written of
+/// their replies stays written.
 ///
 /// - `Read`: the reader failed, or `reads` reads were used up.
 /// - `Write`: the writer failed, or took no byte of those that were left.
@@ -140,8 +140,8 @@ pub fn replay<S: Source, W: Sink>(
     Ok(())
 }
 
-/// Runs a room over the lines of a stream but the first, as [`replay`] does. The first line tells the map that the room begins
-/// with, as [`read_base`] reads it, and gets no reply. Nothing is written before the room is opened.
+/// Runs a room over the lines of a stream but the first, as [`replay`] does. The first line tells the map that the room
+/// begins with, as [`read_base`] reads it, and gets no reply. Nothing is written before the room is opened.
 ///
 /// - `Read`, `Write` and `Memory`: as `replay` and `read_base` tell them.
 /// - `BadBase`: the first line is no welcome.
@@ -155,8 +155,8 @@ pub fn replay_on<S: Source, W: Sink>(
 ) -> Result<(), ReplayFault>
     requires reader_works { S.has_failed reader.old ≡ false }
     requires writer_works { W.has_failed writer.old ≡ false }
-    // The first line told a sound map, and all that stands behind it was run on a room that began with it; or there is no such
-    // room, and nothing was written.
+    // The first line told a sound map, and all that stands behind it was run on a room that began with it; or there is
+    // no such room, and nothing was written.
     ensures ran { ((base : Rows Global) × IsTold S.Source reader.old base × (is_sound base ≡ true)
         × HasRun S.Source W.Sink (script base limit) (behind (S.left reader.old)) reads
         reader.old reader.new writer.old writer.new result)

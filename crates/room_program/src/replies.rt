@@ -64,8 +64,8 @@ impl Replies {
         Ok(())
     }
 
-    /// Writes the replies, a long one straight from its own text. The one refusal is `Write`: the writer failed, or took
-    /// no byte of those that were left. What was written then stays written.
+    /// Writes the replies, a long one straight from its own text. The one refusal is `Write`: the writer failed, or
+    /// took no byte of those that were left. What was written then stays written.
     pub fn write_to<W: Sink>(&self, writer: &mut W) -> Result<(), StreamFault>
         requires { W.has_failed writer.old ≡ false }
         ensures ok { OnOk result (Appends (W.taken writer.old) (W.taken writer.new) self.now) }

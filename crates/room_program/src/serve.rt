@@ -37,8 +37,8 @@ pub const MOST_TURNS: u64 = 1_000_000_000;
 // The line that is printed once clients can connect.
 const LISTENING: &str = "listening\n";
 
-/// Serves rooms as the words of `serve` say, and ends after so many sessions. Each begins with an empty map, or where a base is
-/// asked for with the one that the first line of `input` tells; what stands behind that line is not served.
+/// Serves rooms as the words of `serve` say, and ends after so many sessions. Each begins with an empty map, or where a
+/// base is asked for with the one that the first line of `input` tells; what stands behind that line is not served.
 ///
 /// Once clients can connect, the line `listening` is written, and after the last session a line for each room, in the
 /// order of the words: its name, a space, and how many entries its journal has. They are written as far as the stream
@@ -47,8 +47,10 @@ const LISTENING: &str = "listening\n";
 /// written.
 ///
 /// - `TooManyRooms`: there are more than 64 rooms. This is told before any other fault.
-/// - `BadName` and `Twice`: a text is no name of a room, or is a name that stands earlier; of several, the first is told.
-/// - `Replay`: a base is asked for, and the first line tells no sound map, as `replay_on` says. This is told behind the names.
+/// - `BadName` and `Twice`: a text is no name of a room, or is a name that stands earlier; of several, the first is
+///   told.
+/// - `Replay`: a base is asked for, and the first line tells no sound map, as `replay_on` says. This is told behind the
+///   names.
 /// - `Listen`: the system does not listen at this address, or it is none.
 /// - `Worker`: the system does not start a worker's thread. Then no connection was accepted.
 /// - `Memory`: there was no memory for the table, the workers, or the lines at the end.
@@ -68,7 +70,8 @@ where
         OnOk result ((base : Rows Global) × BeginsOn S.Source asked.now.base input.old base
         × ServesAll W.Sink rooms base asked.now.limit output.old output.new) }
     ensures err { let rooms = map (λ room. room.now) asked.now.rooms.items in
-        IfErr result (λ fault. StopsBy S.Source W.Sink asked.now.base rooms input.old input.new output.old output.new fault) }
+        IfErr result
+        (λ fault. StopsBy S.Source W.Sink asked.now.base rooms input.old input.new output.old output.new fault) }
     ensures unread { asked.now.base ≡ false → input.new ≡ input.old }
     ensures calls { GetsAtMost S.gets (2 ^ 40) input.old input.new }
 {

@@ -1,4 +1,5 @@
--- A table and the seats at its desks may go to other threads. (Rattle writes no such proof itself, as it writes none of a room.)
+-- A table and the seats at its desks may go to other threads. (Rattle writes no such proof itself, as it writes none of
+-- a room.)
 use denote.Param.Send.{IsSend, IsSync, sendable, view_sync, recorded_sync, struct_sync}
 use Rattle.std.proofs.Crossing.{crosses, send, sync, frees}
 use Rattle.std.proofs.vec.Vec.TheSendSync as vec

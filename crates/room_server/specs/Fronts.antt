@@ -7,7 +7,8 @@ use Rattle.room_server.specs.Tables.{DeskView, SeatView}
 use Rattle.turn_desk.specs.Desk.{HasKin}
 use Rattle.turn_desk.specs.History.{History, IsLegal, BeginsWith}
 
--- so many entries has a legal history of the desk, which begins with all that the seat has seen and has the entries of each of its kin
+-- so many entries has a legal history of the desk, which begins with all that the seat has seen and has the entries of
+-- each of its kin
 pub record IsFront (desk : DeskView) (seat : SeatView) (front : ℕ) : Type 0 where
   pub h : History (Entry Global)
   pub legal : IsLegal IsTurn desk.fixed h

@@ -4,7 +4,8 @@ use Rattle.room_history.specs.Turns.{IsTurn}
 use Rattle.room_server.specs.Tables.{AreAt, DeskView, SeatView, TableView}
 use Rattle.turn_desk.specs.Desk.{MeetsAt, SplitsInto}
 
--- of each seat so many can be split off, one after another: a split gives a 64th of the parts away, and a desk has 2^64 - 1
+-- of each seat so many can be split off, one after another: a split gives a 64th of the parts away, and a desk has 2^64
+-- - 1
 abbrev pub HavePartsFor : ℕ → List SeatView → Type 0
 HavePartsFor count seats = All (λ seat. (count * 2 ^ 58 ≤ seat.parts + 1) × (seat.parts + 1 ≤ 2 ^ 64)) seats
 

@@ -39,7 +39,8 @@ abbrev pub place_by : List (List ℕ) → Option (List ℕ) → Option ℕ
 place_by names None = None
 place_by names (Some name) = position (is_same_author name) names
 
--- the entries that the seat has seen and those of its own calls, the lengths that it looked at, and a turn for each ticket
+-- the entries that the seat has seen and those of its own calls, the lengths that it looked at, and a turn for each
+-- ticket
 abbrev pub known_by : Opening Global → SeatView → RoomKnown
 known_by opening seat = record { opening = opening; seen = entries seat.seen; mine = seat.mine; looks = seat.looks; turns = length seat.tickets }
 

@@ -63,7 +63,8 @@ impl<'t> Rooms for Seated<'t> {
         requires { HasRoom (known_of self.old) room }
         ensures answers { AnswersCall (known_of self.old) room call result (known_of self.new) }
         // It is one turn at the room's desk through the room's seat.
-        ensures turn { (desk : DeskView) × (slice_get self.old.table.desks room ≡ Some desk) × TurnsThere desk room call result self.old.seats self.new.seats }
+        ensures turn { (desk : DeskView) × (slice_get self.old.table.desks room ≡ Some desk)
+            × TurnsThere desk room call result self.old.seats self.new.seats }
         ensures kept { kept_of self.new ≡ kept_of self.old }
     {
         legal_histories_hold::<Global>();
@@ -75,7 +76,8 @@ impl<'t> Rooms for Seated<'t> {
         requires { HasRoom (known_of self.old) room }
         ensures looks { TellsLength (known_of self.old) room result (known_of self.new) }
         // It is one look at the room's desk through the room's seat.
-        ensures look { (desk : DeskView) × (slice_get self.old.table.desks room ≡ Some desk) × LooksThere desk room result self.old.seats self.new.seats }
+        ensures look { (desk : DeskView) × (slice_get self.old.table.desks room ≡ Some desk)
+            × LooksThere desk room result self.old.seats self.new.seats }
         ensures kept { kept_of self.new ≡ kept_of self.old }
     {
         legal_histories_hold::<Global>();

@@ -212,7 +212,8 @@ fn seat_room(
 ) -> Result<(), Memory>
     requires { room.journal ≡ [] }
     ensures { OnOk result ((desk : DeskView) × (seat : SeatView) × (desks.new.items ≡ desks.old.items ++ desk ∷ [])
-        × (seats.new.items ≡ seats.old.items ++ seat ∷ []) × (desk.fixed ≡ opening room.base room.limit) × IsAt desk seat × IsFirst seat) }
+        × (seats.new.items ≡ seats.old.items ++ seat ∷ []) × (desk.fixed ≡ opening room.base room.limit)
+        × IsAt desk seat × IsFirst seat) }
 {
     let (desk, seat) = Desk::open(alloc, room)?;
     desks.push(desk)?;

@@ -119,7 +119,8 @@ fn join_all<R: Threads>(
     threads: Vec<WorkerThread<'_>, Global>,
     fault: Option<PoolFault>,
 ) -> Joined
-    requires { All (λ thread. (thread.promise.table.now ≡ table.now) × All (λ seat. seat.met ≡ []) thread.promise.lent.value.items) threads.items }
+    requires { All (λ thread. (thread.promise.table.now ≡ table.now)
+        × All (λ seat. seat.met ≡ []) thread.promise.lent.value.items) threads.items }
     ensures sets { All (λ set. IsSet table.now set.items) result.sets.items }
     ensures all { IfNone result.fault ((fault ≡ None) × (vec_len result.sets ≡ vec_len threads.entry)) }
 {

@@ -17,7 +17,8 @@ use Rattle.room_session.specs.Rooms.{Known}
 abbrev Goes : Result Next AllocError → Sent → State → Type 0
 Goes next sent state = MatchResult next (λ n. (sent ≡ only n.texts) × (state ≡ n.state)) (λ _. (sent ≡ closing 1011) × (state ≡ Closed))
 
--- what holds of the texts and the state that were made holds of what goes out and of the state after it; else there was no memory, and what holds then
+-- what holds of the texts and the state that were made holds of what goes out and of the state after it; else there was
+-- no memory, and what holds then
 comes : (P : Sent → State → Type 0) (Q : Type 0) (next : Result Next AllocError) (sent : Sent) (state : State)
     → MatchResult next (λ n. P (only n.texts) n.state) (λ _. Q) → Goes next sent state → P sent state ⊎ (GivesUp sent state × Q)
 comes P Q (Ok n) sent state made gone = inl (subst (λ (s : Sent). P s state) (sym gone.0) (subst (λ (t : State). P (only n.texts) t) (sym gone.1) made))

@@ -1,4 +1,5 @@
--- What comes of each event of a session: what goes out, its state after it, what it asks of the rooms, and what is then known of them. (The rules of a session are this project's; RFC 6455, section 7.4.1: the codes.)
+-- What comes of each event of a session: what goes out, its state after it, what it asks of the rooms, and what is then
+-- known of them. (The rules of a session are this project's; RFC 6455, section 7.4.1: the codes.)
 use Rattle.std.specs.Prelude.{◌≡◌, ◌⊎◌, ◌≤◌, ◌<◌, ◌++◌, ℕ, List, [], ◌∷◌, Option, Some, None, Result, Ok, Err, length}
 use Rattle.std.specs.declared.alloc.Global.{Global}
 use Rattle.serde_json.specs.Written.{compact_text}
@@ -55,7 +56,8 @@ module _ (before : Known) (sent : Sent) (state : State) (after : Known) where
       let journal = (after.at room).seen in
       IsJournalOf opening journal × (sent ≡ only (compact_text (map_tree id (mapof opening.base journal) (length journal)) ∷ [])) × (state ≡ Open room author (length journal))
 
-  -- a hello to the room at a place, if there is one: the room is asked for its rows in one turn, and it is told where it had no memory for them
+  -- a hello to the room at a place, if there is one: the room is asked for its rows in one turn, and it is told where
+  -- it had no memory for them
   abbrev pub Greets : ℕ → Author → Option ℕ → Type 0
   Greets id author None = RefusesAlone (answer_text id answers.NoRoom)
   Greets id author (Some room) =
@@ -97,7 +99,8 @@ FindsNoNews before room told after = (count : ℕ) × (count ≤ told) × TellsL
 abbrev pub AsksForNews : Known → ℕ → ℕ → Known → Type 0
 AsksForNews before room told after = (count : ℕ) × (told < count) × (looked : Known) × TellsLength before room count looked × ((reply : RoomReply Global) × AnswersCall looked room (calls.News told) reply after)
 
--- the texts go out, and then the news of all that is then seen of the room, which is a legal journal, past what was told
+-- the texts go out, and then the news of all that is then seen of the room, which is a legal journal, past what was
+-- told
 abbrev pub CatchesUp : Known → Sent → State → Known → ℕ → Author → ℕ → List (List ℕ) → Type 0
 CatchesUp before sent state after room author told texts =
     let opening = (before.at room).opening in

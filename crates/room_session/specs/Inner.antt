@@ -1,3 +1,4 @@
--- What the code's own functions say of one another. No public call's contract cites these, and no definition beside this folder reads them.
+-- What the code's own functions say of one another. No public call's contract cites these, and no definition beside
+-- this folder reads them.
 pub mod LastTold
 pub mod Telling

@@ -10,7 +10,9 @@ use Rattle.room_history.specs.Turns.{IsTurn}
 use Rattle.room_stacks.specs.declared.author.Author.{Author}
 use Rattle.turn_desk.specs.History.{BeginsWith}
 
--- what is known of one room: what no call changes of it, the entries that were seen by now, those of them that calls through these rooms made, how long its journal was at each look and at the end of each turn, in order, and how many turns were taken
+-- what is known of one room: what no call changes of it, the entries that were seen by now, those of them that calls
+-- through these rooms made, how long its journal was at each look and at the end of each turn, in order, and how many
+-- turns were taken
 pub record RoomKnown : Type 0 where
   pub opening : Opening Global
   pub seen : List (Entry Global)

@@ -56,7 +56,8 @@ fn begin<R: Rooms, W: Wait>(
 ) -> Result<Next, Memory>
     ensures message { MatchResult result
         (λ next. BeginsBy (R.known rooms.old) (only next.texts) next.state (R.known rooms.new) message.id message.body)
-        (λ _. (due : Sent) × (next : State) × BeginsBy (R.known rooms.old) due next (R.known rooms.new) message.id message.body) }
+        (λ _. (due : Sent) × (next : State)
+        × BeginsBy (R.known rooms.old) due next (R.known rooms.new) message.id message.body) }
     ensures keeps { KeepsKnown (R.known rooms.old) (R.known rooms.new) }
     ensures kept { R.kept rooms.new ≡ R.kept rooms.old }
     ensures runs { IfOk result (λ next. IsRunOn next.state (R.known rooms.new)) }
@@ -83,8 +84,10 @@ fn welcome<R: Rooms, W: Wait>(
     author: Author,
 ) -> Result<Next, Memory>
     requires { HasRoom (R.known rooms.old) room }
-    ensures ok { IfOk result (λ next. Greets (R.known rooms.old) (only next.texts) next.state (R.known rooms.new) id author (Some room)) }
-    ensures err { OnErr result ((reply : RoomReply Global) × AnswersCall (R.known rooms.old) room calls.Rows reply (R.known rooms.new)) }
+    ensures ok { IfOk result
+        (λ next. Greets (R.known rooms.old) (only next.texts) next.state (R.known rooms.new) id author (Some room)) }
+    ensures err { OnErr result ((reply : RoomReply Global)
+        × AnswersCall (R.known rooms.old) room calls.Rows reply (R.known rooms.new)) }
     ensures keeps { KeepsKnown (R.known rooms.old) (R.known rooms.new) }
     ensures kept { R.kept rooms.new ≡ R.kept rooms.old }
     ensures runs { IfOk result (λ next. IsRunOn next.state (R.known rooms.new)) }

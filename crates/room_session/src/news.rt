@@ -30,7 +30,8 @@ pub(crate) fn news_alone<R: Rooms, W: Wait>(
 ) -> Result<Next, Memory>
     requires room { HasRoom (R.known rooms.old) room }
     requires told { told ≤ length ((R.known rooms.old).at room).seen }
-    ensures ok { IfOk result (λ next. CatchesUp (R.known rooms.old) (only next.texts) next.state (R.known rooms.new) room author told []) }
+    ensures ok { IfOk result
+        (λ next. CatchesUp (R.known rooms.old) (only next.texts) next.state (R.known rooms.new) room author told []) }
     ensures err { OnErr result (AsksForNews (R.known rooms.old) room told (R.known rooms.new)) }
     ensures keeps { KeepsKnown (R.known rooms.old) (R.known rooms.new) }
     ensures kept { R.kept rooms.new ≡ R.kept rooms.old }
@@ -52,7 +53,9 @@ pub(crate) fn catch_up<R: Rooms, W: Wait>(
 ) -> Result<Next, Memory>
     requires room { HasRoom (R.known rooms.old) room }
     requires told { told ≤ length ((R.known rooms.old).at room).seen }
-    ensures ok { IfOk result (λ next. CatchesUp (R.known rooms.old) (only next.texts) next.state (R.known rooms.new) room author told texts) }
+    ensures ok { IfOk result
+        (λ next. CatchesUp (R.known rooms.old) (only next.texts) next.state
+        (R.known rooms.new) room author told texts) }
     ensures err { OnErr result (AsksForNews (R.known rooms.old) room told (R.known rooms.new)) }
     ensures keeps { KeepsKnown (R.known rooms.old) (R.known rooms.new) }
     ensures kept { R.kept rooms.new ≡ R.kept rooms.old }
@@ -75,7 +78,8 @@ fn tell<R: Rooms, W: Wait>(
 ) -> Result<u64, Memory>
     requires room { HasRoom (R.known rooms.old) room }
     requires told { told ≤ length ((R.known rooms.old).at room).seen }
-    ensures ok { IfOk result (λ front. Tells (R.known rooms.old) room told texts.old texts.new front (R.known rooms.new)) }
+    ensures ok { IfOk result
+        (λ front. Tells (R.known rooms.old) room told texts.old texts.new front (R.known rooms.new)) }
     ensures err { OnErr result (AsksForNews (R.known rooms.old) room told (R.known rooms.new)) }
     ensures keeps { KeepsKnown (R.known rooms.old) (R.known rooms.new) }
     ensures kept { R.kept rooms.new ≡ R.kept rooms.old }

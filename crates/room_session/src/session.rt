@@ -90,10 +90,13 @@ impl Session {
         text: &str,
     ) -> Result<Sent, Ended>
         requires { IsRunOn self.old (R.known rooms.old) }
-        ensures ok { IfOk result (λ sent. HearsText (R.known rooms.old) sent self.new (R.known rooms.new) self.old text.now) }
-        ensures err { OnErr result ((self.old ≡ Closed) × (self.new ≡ Closed) × (R.known rooms.new ≡ R.known rooms.old)) }
+        ensures ok { IfOk result
+            (λ sent. HearsText (R.known rooms.old) sent self.new (R.known rooms.new) self.old text.now) }
+        ensures err { OnErr result ((self.old ≡ Closed) × (self.new ≡ Closed)
+            × (R.known rooms.new ≡ R.known rooms.old)) }
         // Of entries it makes at most that of the change that it asks for, and no other.
-        ensures makes { (said : Result Incoming Bad) × GivesMessage said (spells text.now) × Makes (R.known rooms.old) self.old said (R.known rooms.new) }
+        ensures makes { (said : Result Incoming Bad) × GivesMessage said (spells text.now)
+            × Makes (R.known rooms.old) self.old said (R.known rooms.new) }
         ensures keeps { KeepsKnown (R.known rooms.old) (R.known rooms.new) }
         ensures runs { IsRunOn self.new (R.known rooms.new) }
         ensures kept { R.kept rooms.new ≡ R.kept rooms.old }
@@ -118,7 +121,8 @@ impl Session {
     ) -> Result<Sent, Ended>
         requires { IsRunOn self.old (R.known rooms.old) }
         ensures ok { IfOk result (λ sent. WaitsOn (R.known rooms.old) sent self.new (R.known rooms.new) self.old) }
-        ensures err { OnErr result ((self.old ≡ Closed) × (self.new ≡ Closed) × (R.known rooms.new ≡ R.known rooms.old)) }
+        ensures err { OnErr result ((self.old ≡ Closed) × (self.new ≡ Closed)
+            × (R.known rooms.new ≡ R.known rooms.old)) }
         ensures makes { MakesNone (R.known rooms.old) (R.known rooms.new) }
         ensures keeps { KeepsKnown (R.known rooms.old) (R.known rooms.new) }
         ensures runs { IsRunOn self.new (R.known rooms.new) }
@@ -172,7 +176,8 @@ impl Session {
 
     // Goes on to what comes of an event; or closes, where there was no memory for it.
     fn go(&mut self, alloc: Global, next: Result<Next, Memory>) -> Sent
-        ensures { MatchResult next (λ n. (result ≡ only n.texts) × (self.new ≡ n.state)) (λ _. (result ≡ closing 1011) × (self.new ≡ Closed)) }
+        ensures { MatchResult next (λ n. (result ≡ only n.texts) × (self.new ≡ n.state)) (λ _. (result ≡ closing 1011)
+            × (self.new ≡ Closed)) }
     {
         match next {
             Ok(Next { texts, state }) => {

@@ -1,4 +1,5 @@
--- What a session that is served over a stream makes of the rooms, event by event. (The rules of a session are this project's.)
+-- What a session that is served over a stream makes of the rooms, event by event. (The rules of a session are this
+-- project's.)
 use Rattle.std.specs.Prelude.{◌≡◌, ◌≤◌, ℕ, List, [], ◌∷◌, Result, length}
 use Rattle.room_wire.specs.declared.bad.Bad.{Bad}
 use Rattle.room_wire.specs.declared.incoming.Incoming.{Incoming}

@@ -91,7 +91,8 @@ fn turn<S: Read + Write + Drop, R: Rooms, G: Gate, W: Wait + Clock>(
     core: &mut Session,
 ) -> Option<End>
     requires { IsRunOn core.old (R.known rooms.old) }
-    ensures follows { (events : List Event) × (length events ≤ 1) × Follows events core.old (R.known rooms.old) core.new (R.known rooms.new) }
+    ensures follows { (events : List Event) × (length events ≤ 1)
+        × Follows events core.old (R.known rooms.old) core.new (R.known rooms.new) }
     ensures keeps { KeepsKnown (R.known rooms.old) (R.known rooms.new) }
     ensures runs { IsRunOn core.new (R.known rooms.new) }
     ensures kept { R.kept rooms.new ≡ R.kept rooms.old }

@@ -1,4 +1,5 @@
--- What is proved of the definitions beside this folder, for the proofs here and in the crates above. No contract cites these.
+-- What is proved of the definitions beside this folder, for the proofs here and in the crates above. No contract cites
+-- these.
 pub mod Numbered
 pub mod OneMore
 pub mod Rising

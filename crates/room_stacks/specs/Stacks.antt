@@ -74,7 +74,8 @@ top stack = slice_get stack (length stack - 1)
 abbrev pub below_top : List ℕ → List ℕ
 below_top stack = take (length stack - 1) stack
 
--- an author's stack of what it can redo, bottom first, after one more of its deeds: an undo pushes what it undid, a redo takes off the top, a new action empties the stack
+-- an author's stack of what it can redo, bottom first, after one more of its deeds: an undo pushes what it undid, a
+-- redo takes off the top, a new action empties the stack
 abbrev pub redo_after : List ℕ → Deed → List ℕ
 redo_after stack (Did author id seq) = []
 redo_after stack (Undid author id of seq) = stack ++ of ∷ []

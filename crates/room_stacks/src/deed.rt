@@ -1,8 +1,8 @@
 //! What authors of a room did.
 use crate::author::Author;
 
-/// What an author did under an id, and the number of its entry in the room's journal. Contracts tell what was done as a list
-/// of these; the code keeps it by ids and by authors.
+/// What an author did under an id, and the number of its entry in the room's journal. Contracts tell what was done as a
+/// list of these; the code keeps it by ids and by authors.
 #[derive(Clone, Copy, Debug)]
 pub enum Deed {
     /// Did an action.

@@ -11,8 +11,8 @@ use osm_elements::Memory;
 use std::alloc::Allocator;
 use std::marker::Model;
 
-/// What each author of a room may still use. A deed is entered in two steps: [`Stacks::ready`] takes the memory, and may
-/// refuse; then [`Stacks::did`], [`Stacks::undid`] or [`Stacks::redid`] enters it, and takes none.
+/// What each author of a room may still use. A deed is entered in two steps: [`Stacks::ready`] takes the memory, and
+/// may refuse; then [`Stacks::did`], [`Stacks::undid`] or [`Stacks::redid`] enters it, and takes none.
 #[derive(Drop)]
 #[derive_where(Debug)]
 pub struct Stacks<A: Allocator> {
@@ -50,16 +50,16 @@ impl<A: Allocator> Stacks<A> {
     }
 
     /// The number of the deed that spent an author's id, or none. It takes two look-ups by the library's hash, of the
-    /// author and of the id: the time is constant in the mean, and grows with the authors or the spent ids if these were
-    /// picked so that their hashes agree.
+    /// author and of the id: the time is constant in the mean, and grows with the authors or the spent ids if these
+    /// were picked so that their hashes agree.
     pub fn spent(&self, author: &Author, id: u64) -> Option<u64>
         ensures { result ≡ spent self.now.deeds author.now id }
     {
         self.ids.spent(author, id)
     }
 
-    /// The numbers of the entries by which an author did an action, for the first time or again, and which nobody undid,
-    /// rising, in time logarithmic in the number of authors.
+    /// The numbers of the entries by which an author did an action, for the first time or again, and which nobody
+    /// undid, rising, in time logarithmic in the number of authors.
     pub fn standing(&self, author: &Author) -> &[u64]
         ensures numbers { result.now ≡ standing self.now.deeds author.now }
         ensures rising { IsStrictlyIncreasing result.now }
@@ -67,8 +67,8 @@ impl<A: Allocator> Stacks<A> {
         self.lists.standing(author)
     }
 
-    /// The numbers of the entries that an author undid since its last new action and did not redo, in the order of their
-    /// undos, in time logarithmic in the number of authors.
+    /// The numbers of the entries that an author undid since its last new action and did not redo, in the order of
+    /// their undos, in time logarithmic in the number of authors.
     pub fn redo(&self, author: &Author) -> &[u64]
         ensures { result.now ≡ redo self.now.deeds author.now }
     {
@@ -76,8 +76,8 @@ impl<A: Allocator> Stacks<A> {
     }
 
     /// Makes room for the next deed of an author, whoever else was ready. Or it refuses with `Memory`, and all is as it
-    /// was. It takes a look-up of the author as [`Stacks::spent`] does, and time logarithmic in the number of authors, in
-    /// the mean over many deeds: now and then it moves all ids that were spent, all authors, or all numbers of the
+    /// was. It takes a look-up of the author as [`Stacks::spent`] does, and time logarithmic in the number of authors,
+    /// in the mean over many deeds: now and then it moves all ids that were spent, all authors, or all numbers of the
     /// author.
     pub fn ready(&mut self, author: &Author) -> Result<(), Memory>
     where
@@ -105,9 +105,9 @@ impl<A: Allocator> Stacks<A> {
         self.ready = None;
     }
 
-    /// Enters that an author, who is ready, undid its entry of the number `of`, which stands, under an id, by the entry of
-    /// the number `seq`. It takes what [`Stacks::did`] takes, and time logarithmic in how many of the author's actions stand;
-    /// the numbers of those after `of` are moved. It takes no memory.
+    /// Enters that an author, who is ready, undid its entry of the number `of`, which stands, under an id, by the entry
+    /// of the number `seq`. It takes what [`Stacks::did`] takes, and time logarithmic in how many of the author's
+    /// actions stand; the numbers of those after `of` are moved. It takes no memory.
     pub fn undid(&mut self, author: Author, id: u64, of: u64, seq: u64)
         requires ready { self.old.ready ≡ Some author }
         requires unspent { spent self.old.deeds author id ≡ None }

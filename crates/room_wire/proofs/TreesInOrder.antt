@@ -1,4 +1,5 @@
--- In what is read of a text each object has its keys in order, each once, and what is called negative is below 0, and an i64.
+-- In what is read of a text each object has its keys in order, each once, and what is called negative is below 0, and
+-- an i64.
 use Rattle.std.proofs.Common.{◌≡◌, ◌<◌, ◌^◌, ◌&&◌, ℕ, zero, suc, pos, negsuc, neg_ℤ, Float, Bool, true, false, cond, T, List, [], ◌∷◌, Option, Some, None, IfSome, option_map, option_and_then, nat_lt, nat_le, refl, ap, subst, sym, arith, Ordering, Less, Equal, Greater}
 use Rattle.std.proofs.lemmas.Bool.Decides.{nat_tests}
 use Rattle.std.specs.Ordering.{match_ordering}

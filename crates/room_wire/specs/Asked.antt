@@ -29,7 +29,8 @@ abbrev pub found_answer : Name → Option (Element Global) → Answer
 found_answer name None = answers.Absent name
 found_answer name (Some element) = answers.Is name (to_value element)
 
--- the answer to what a room was asked, by what it replied: a call's outcome, the element, the rows under the number of the last entry, or both lists; else that there was no memory
+-- the answer to what a room was asked, by what it replied: a call's outcome, the element, the rows under the number of
+-- the last entry, or both lists; else that there was no memory
 abbrev pub answer_to : RoomCall Global → RoomReply Global → Answer
 answer_to call (replies.Take reply) = reply_answer reply
 answer_to (calls.Get name) (replies.Get (Ok found)) = found_answer name found

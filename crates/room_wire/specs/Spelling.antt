@@ -1,4 +1,5 @@
--- What a message is, by cases of the tree that its text is. (RFC 8259: the tree. The words and fields are this project's.)
+-- What a message is, by cases of the tree that its text is. (RFC 8259: the tree. The words and fields are this
+-- project's.)
 use Rattle.std.specs.Prelude.{ℕ, ℤ, ◌&&◌, List, [], ◌∷◌, length, Option, Some, None, Result, Ok, Err, codes, is_some, nat_le, nat_eq, if◌then◌else◌}
 use Rattle.std.specs.Option.{option_and_then, option_map}
 use Rattle.std.specs.Str.{bytes_eq}

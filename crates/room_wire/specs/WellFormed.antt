@@ -1,4 +1,5 @@
--- Well-formed messages, and the first field of another one that is not well formed. (The words and fields are this project's.)
+-- Well-formed messages, and the first field of another one that is not well formed. (The words and fields are this
+-- project's.)
 use Rattle.std.specs.Prelude.{◌≡◌, ◌≤◌, ◌⊎◌, All, FitsSigned, ℕ, ℤ, Bool, true, false, List, [], ◌∷◌, map, Option, Some, None, Result, Ok, Err, codes, is_ok}
 use Rattle.std.specs.Int.{w64}
 use Rattle.serde_json.specs.Data.{Data, null, number, string, array, object}

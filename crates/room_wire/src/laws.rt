@@ -65,7 +65,8 @@ pub fn news_are_read_back()
 /// Every text whose tree is that of a welcome, as the one that [`welcome_text`](crate::welcome_text) writes is, is read
 /// as that very welcome, and so is the reply to a `map`.
 pub fn a_welcome_is_read_back()
-    ensures { (text : List ℕ) (w : Welcome) → read text ≡ Some (welcome_tree w) → IsWelcome w → spells_welcome text ≡ Ok w }
+    ensures { (text : List ℕ) (w : Welcome) → read text ≡ Some (welcome_tree w) → IsWelcome w
+        → spells_welcome text ≡ Ok w }
 {
     osm_coords::laws::latitude_is_read_back();
     osm_coords::laws::longitude_is_read_back();

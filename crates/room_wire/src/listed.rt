@@ -44,7 +44,8 @@ impl Listed for Row<Global> {
 
 // The rows of a field, whose names rise. They are taken out of the message, and keep its texts.
 pub fn rows_of<T: Listed>(alloc: Global, field: Field, message: &mut Value) -> Result<Vec<T>, Fault>
-    ensures read { Gives (result_map_both (λ v. v.items) (λ f. f) result) (rows_at T.reads T.named field (view message.old)) }
+    ensures read { Gives (result_map_both (λ v. v.items) (λ f. f) result)
+        (rows_at T.reads T.named field (view message.old)) }
     ensures rising { IfOk result (λ v. are_rising (map T.named v.items) ≡ true) }
 {
     let items = items_at(field, message).ok_or(Fault::BadField(field))?;
@@ -58,7 +59,8 @@ pub fn rows_of<T: Listed>(alloc: Global, field: Field, message: &mut Value) -> R
 
 // The items of a field that is an array, taken out of the message.
 fn items_at(field: Field, message: &mut Value) -> Option<Vec<Value>>
-    ensures { option_map (λ v. items_view v.items) result ≡ option_and_then as_array (get (field_text field) (view message.old)) }
+    ensures { option_map (λ v. items_view v.items) result
+        ≡ option_and_then as_array (get (field_text field) (view message.old)) }
 {
     match message.get_mut(field.as_str())?.take() {
         Value::Array(items) => Some(items),
@@ -68,7 +70,8 @@ fn items_at(field: Field, message: &mut Value) -> Option<Vec<Value>>
 
 // The rows that some items are.
 fn rows_in<T: Listed>(alloc: Global, field: Field, items: Vec<Value>) -> Result<Vec<T>, Fault>
-    ensures { Gives (result_map_both (λ v. v.items) (λ f. f) result) (or_fault (BadField field) (rows_in T.reads T.named (items_view items.items))) }
+    ensures { Gives (result_map_both (λ v. v.items) (λ f. f) result)
+        (or_fault (BadField field) (rows_in T.reads T.named (items_view items.items))) }
 {
     let mut rows = Vec::new(alloc);
     for item in items {

@@ -71,7 +71,7 @@ macro_rules! field {
 ///
 /// | `do` | Fields, in the order in which they are read |
 /// |---|---|
-/// | `create` | `el`; for a node `lat` and `lon`, for a way `nodes`, for a relation `members`; then `tags`, which may be missing |
+/// | `create` | `el`; for a node `lat` and `lon`, for a way `nodes`, for a relation `members`; then `tags`, if any |
 /// | `retag` | `el`, `tags` |
 /// | `move` | `els`, `dlat`, `dlon` |
 /// | `nodes` | `el`, `nodes` |

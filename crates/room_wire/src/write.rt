@@ -132,7 +132,8 @@ fn write_reply(out: &mut Writer, id: u64, answer: &Answer<'_>) -> Result<(), Mem
 // Writes the reply to a message that was answered, with these members, whose keys rise.
 pub fn answered(out: &mut Writer, id: u64, members: &[(&str, Shown<'_>)]) -> Result<(), Memory>
     requires { T (is_sorted text_cmp (map (λ m. (m.0.now, shown_tree m.1)) members.now)) }
-    ensures { OnOk result (Tells out.old out.new (ok_tree id (object (members_of (map (λ m. (m.0.now, shown_tree m.1)) members.now))))) }
+    ensures { OnOk result
+        (Tells out.old out.new (ok_tree id (object (members_of (map (λ m. (m.0.now, shown_tree m.1)) members.now))))) }
 {
     under(out, id, "ok", members)
 }
@@ -140,7 +141,8 @@ pub fn answered(out: &mut Writer, id: u64, members: &[(&str, Shown<'_>)]) -> Res
 // Writes the reply to a message that was refused, with these members, whose keys rise.
 fn refused(out: &mut Writer, id: u64, members: &[(&str, Shown<'_>)]) -> Result<(), Memory>
     requires { T (is_sorted text_cmp (map (λ m. (m.0.now, shown_tree m.1)) members.now)) }
-    ensures { OnOk result (Tells out.old out.new (no_tree id (object (members_of (map (λ m. (m.0.now, shown_tree m.1)) members.now))))) }
+    ensures { OnOk result
+        (Tells out.old out.new (no_tree id (object (members_of (map (λ m. (m.0.now, shown_tree m.1)) members.now))))) }
 {
     under(out, id, "no", members)
 }

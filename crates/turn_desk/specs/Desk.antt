@@ -10,9 +10,11 @@ pub record DeskId (F : Type 0) : Type 0 where
   pub table : TableId
   pub fixed : F
 
--- A seat: its desk's table and fixed part (an Option, since what is left of a seat that was met into another has none), its number, the history that it has seen, the entries of its own calls, the seats met into it, each with its number and the entries of its calls,
--- the lengths of the history that it loaded or stored, in order, the tickets that it drew, in order, and its parts of the 2^64 - 1 that a desk has. Each seat has at least one, so that there are fewer than 2^64 seats at once.
--- A seat that is split gives a 64th of its parts to the new one, and at least one part
+-- A seat: its desk's table and fixed part (an Option, since what is left of a seat that was met into another has none),
+-- its number, the history that it has seen, the entries of its own calls, the seats met into it, each with its number
+-- and the entries of its calls, the lengths of the history that it loaded or stored, in order, the tickets that it
+-- drew, in order, and its parts of the 2^64 - 1 that a desk has. Each seat has at least one, so that there are fewer
+-- than 2^64 seats at once. A seat that is split gives a 64th of its parts to the new one, and at least one part
 pub record Sitting (E F : Type 0) : Type 0 where
   pub table : TableId
   pub fixed : Option F
@@ -53,7 +55,8 @@ module _ {E F : Type 0} where
     pub met : after.met ≡ before.met
     pub parts : after.parts ≡ before.parts
 
-  -- the first seat of a desk: its number is 0, it has seen nothing, made no call, looked at no length and drawn no ticket, has no kin but itself, and has every part
+  -- the first seat of a desk: its number is 0, it has seen nothing, made no call, looked at no length and drawn no
+  -- ticket, has no kin but itself, and has every part
   pub record IsFirst (seat : Sitting E F) : Type 0 where
     pub number : seat.number ≡ 0
     pub seen : seat.seen ≡ []
@@ -140,7 +143,8 @@ module _ {F E C P : Type 0} (answers : F → List E → C → P → List E → T
     pub parts : after.parts ≡ before.parts + other.parts
 
 module _ {R F E C P : Type 0} (fixed : R → F) (list : R → List E) (answers : F → List E → C → P → List E → Type 0) (f : F) where
-  -- The room has the fixed part and stands for a legal history, which begins with what the seat has seen and has the calls of its kin
+  -- The room has the fixed part and stands for a legal history, which begins with what the seat has seen and has the
+  -- calls of its kin
   pub record ClosesWith (seat : Sitting E F) (room : R) : Type 0 where
     pub h : History E
     pub legal : IsLegal answers f h

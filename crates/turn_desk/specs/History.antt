@@ -22,7 +22,8 @@ module _ {E : Type 0} where
   abbrev pub GainsAtMostOne : List E → List E → Type 0
   GainsAtMostOne before after = (after ≡ before) ⊎ ((e : E) × (after ≡ before ++ e ∷ []))
 
--- `answers f before call reply after`: over the fixed part f, a turn at the list `before` may give this reply and leave the list `after`
+-- `answers f before call reply after`: over the fixed part f, a turn at the list `before` may give this reply and leave
+-- the list `after`
 module _ {F E C P : Type 0} (answers : F → List E → C → P → List E → Type 0) (f : F) where
   -- over the fixed part, some call appends the entry to the list
   abbrev pub MayFollow : List E → E → Type 0

@@ -29,7 +29,8 @@ module _ {E F : Type 0} where
   abbrev pub Supplies : View E F → ℕ → Type 0
   Supplies v n = (k : ℕ) × (n ≡ v.next + k * v.stride)
 
-  -- the history has of each of the seat's kin the entries that the seat knows, and none under the numbers that it may give
+  -- the history has of each of the seat's kin the entries that the seat knows, and none under the numbers that it may
+  -- give
   pub record Agrees (h : History E) (v : View E F) : Type 0 where
     pub kin : All (λ k. entries_by k.0 h ≡ k.1) (kin_of v)
     pub apart : All (λ k. k.0 ≢ v.number) v.met
@@ -40,7 +41,8 @@ module _ {E F : Type 0} where
   abbrev pub IsSpent : View E F → Type 0
   IsSpent v = (v.fixed ≡ None) × (v.stage ≡ Idle)
 
--- One moment of a desk: its history, how many tickets were drawn, how many of them were served, which seat drew each ticket, and which seat each number is with
+-- One moment of a desk: its history, how many tickets were drawn, how many of them were served, which seat drew each
+-- ticket, and which seat each number is with
 pub record Moment (E : Type 0) : Type 0 where
   pub log : History E
   pub drawn : ℕ
@@ -56,8 +58,8 @@ module _ {E F : Type 0} (now : Moment E) (seat : ℕ) where
   HoldsTicket v (Waiting t) = (now.served ≤ t) × (t < now.drawn) × (now.drawer t ≡ seat)
   HoldsTicket v (Turning t) = (now.served ≡ t) × (t < now.drawn) × (now.drawer t ≡ seat) × (v.seen ≡ now.log)
 
-  -- What a seat knows is so: the history begins with what it has seen and was told, it agrees with what the seat knows of its kin, the numbers of its kin and those that it may give are with it,
-  -- and its ticket is its own
+  -- What a seat knows is so: the history begins with what it has seen and was told, it agrees with what the seat knows
+  -- of its kin, the numbers of its kin and those that it may give are with it, and its ticket is its own
   pub record Fits (f : F) (v : View E F) : Type 0 where
     pub fixed : v.fixed ≡ Some f
     pub seen : BeginsWith now.log v.seen

@@ -39,7 +39,8 @@ module _ {A : Type 0} (m n : Rows A) (a : Action A) (agree : Agree m n (footprin
   same_namers sound sound_n e i y =
       sym (is_among-users n (sound_in_order n sound_n) e y) ∙ ap (λ list. is_among list y) (sym (agree.same_users e i)) ∙ is_among-users m (sound_in_order m sound) e y
 
-  -- where in m all rows change that name such a name, and those with their rest outside keep their tags, no row of n with its rest outside names it
+  -- where in m all rows change that name such a name, and those with their rest outside keep their tags, no row of n
+  -- with its rest outside names it
   pub not_named : is_sound m ≡ true → is_sound n ≡ true → (e : Name) → has (footprint m a) (rest_at e) ≡ true
       → ((y : Name) → is_among (row_references (row_at m y)) e ≡ true → row_at (after m a) y ≢ row_at m y)
       → ((y : Name) → has (footprint m a) (rest_at y) ≡ false → half Tags (row_at (after m a) y) ≡ half Tags (row_at m y))

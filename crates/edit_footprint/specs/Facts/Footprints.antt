@@ -1,4 +1,5 @@
--- What is used of a footprint, whatever the action: it rises, its subjects are inside and both cells of the node that it unglues a way from, a cell outside keeps its half, and a name whose rest is outside is named by the same rows.
+-- What is used of a footprint, whatever the action: it rises, its subjects are inside and both cells of the node that
+-- it unglues a way from, a cell outside keeps its half, and a name whose rest is outside is named by the same rows.
 use Rattle.std.proofs.Common.{◌≡◌, ◌&&◌, ◌||◌, Bool, true, false, not, List, [], ◌∷◌, ◌++◌, map, refl, sym, ap, ◌∙◌}
 use Rattle.std.proofs.lemmas.Bool.{or_parts, true_from_ne_false}
 use Rattle.std.specs.List.{flat_map}

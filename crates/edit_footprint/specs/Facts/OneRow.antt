@@ -1,4 +1,5 @@
--- A retag, a reverse, a create, a delete, and other nodes or members look at their footprints alone: each changes one row.
+-- A retag, a reverse, a create, a delete, and other nodes or members look at their footprints alone: each changes one
+-- row.
 use Rattle.std.proofs.Common.{◌≡◌, ◌&&◌, ℕ, Bool, true, false, not, List, [], Option, Some, None, map, reverse, refl, ap, ◌∙◌, cond}
 use Rattle.std.specs.List.{filter}
 use Rattle.std.specs.Option.{option_map}

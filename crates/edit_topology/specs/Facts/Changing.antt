@@ -1,4 +1,5 @@
--- The rows that an accepted split, join or merge changes beside those of its subjects, and the way that an unglue changes.
+-- The rows that an accepted split, join or merge changes beside those of its subjects, and the way that an unglue
+-- changes.
 use Rattle.std.proofs.Common.{◌≡◌, ◌≢◌, ◌+◌, ◌++◌, ℕ, Bool, true, false, ◌||◌, List, [], ◌∷◌, Option, Some, None, is_some, take, map, refl, sym, ap, ◌∙◌, cond}
 use Rattle.std.specs.Option.{option_map}
 use Rattle.osm_elements.specs.declared.name.Name.{Name}

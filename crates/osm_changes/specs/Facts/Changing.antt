@@ -1,4 +1,5 @@
--- Which cells of two maps differ, what changes make of halves and rows, and that those between two maps lead there and back.
+-- Which cells of two maps differ, what changes make of halves and rows, and that those between two maps lead there and
+-- back.
 use Rattle.std.proofs.Common.{◌≡◌, ◌||◌, ◌&&◌, Bool, true, false, not, List, [], ◌∷◌, ◌++◌, Option, Some, None, is_some, map, refl, sym, ap, ◌∙◌, cond}
 use Rattle.std.specs.List.{fold}
 use Rattle.osm_elements.specs.declared.name.Name.{Name}

@@ -22,7 +22,8 @@ module _ {A : Type 0} where
   abbrev pub deeds : List (Entry A) → List Deed
   deeds j = deeds_from deed 1 j
 
-  -- an author may do so after what was done: an undo is of an entry of its own that stands, a redo of the one on top of its stack
+  -- an author may do so after what was done: an undo is of an entry of its own that stands, a redo of the one on top of
+  -- its stack
   abbrev pub MayNote : List Deed → Author → EntryKind A → Type 0
   MayNote ds author (Do a) = ⊤
   MayNote ds author (Undo s) = is_standing ds author s ≡ true

@@ -1,4 +1,5 @@
--- Where the action of an entry was first done: an entry that does one, or an undo, is its own origin, and a redo has the origin of the entry that it names.
+-- Where the action of an entry was first done: an entry that does one, or an undo, is its own origin, and a redo has
+-- the origin of the entry that it names.
 use Rattle.std.specs.Prelude.{◌+◌, ◌++◌, ℕ, List, [], ◌∷◌, Option, Some, None, length, unwrap_or}
 use Rattle.std.specs.List.{fold}
 use Rattle.edit_actions.specs.declared.action.Action.{Action}

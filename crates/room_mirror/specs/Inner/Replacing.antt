@@ -1,4 +1,5 @@
--- Rows replaced where there is room: first each name that is absent gets an empty relation, and then each row is replaced or taken out, which takes no memory.
+-- Rows replaced where there is room: first each name that is absent gets an empty relation, and then each row is
+-- replaced or taken out, which takes no memory.
 use Rattle.std.specs.Prelude.{◌≡◌, true, List, [], None}
 use Rattle.std.specs.List.{filter}
 use Rattle.osm_elements.specs.declared.element.Element.TheVariants.{Relation}

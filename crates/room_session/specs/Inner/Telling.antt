@@ -5,7 +5,8 @@ use Rattle.room_session.specs.Events.{AsksForNews, FindsNoNews}
 use Rattle.room_session.specs.NewsTexts.{news_texts}
 use Rattle.room_session.specs.Rooms.{Known, IsJournalOf}
 
--- after the texts come the news of all that is then seen of the room, which is a legal journal, past what was told; and the number is its length
+-- after the texts come the news of all that is then seen of the room, which is a legal journal, past what was told; and
+-- the number is its length
 abbrev pub Tells : Known → ℕ → ℕ → List (List ℕ) → List (List ℕ) → ℕ → Known → Type 0
 Tells before room told texts all front after =
     let opening = (before.at room).opening in

@@ -151,7 +151,8 @@ module _ {E : Type 0} (deed : ℕ → E → Deed) (is_number : (n : ℕ) (e : E)
           by true more = more (redo_after stack (deed n e)) ∙ ap (λ k. fold step k (filter own es)) (step_is stack n e)
           by false more = more stack
 
--- of a journal's entries that stand, those that are an author's own. `stands_from` lists those that stand, and `own` tests a number
+-- of a journal's entries that stand, those that are an author's own. `stands_from` lists those that stand, and `own`
+-- tests a number
 module _ {E : Type 0} (did : E → Bool) (by_author : E → Bool) (undid : ℕ → E → Bool) (stands_from : ℕ → List E → List ℕ) (none : (n : ℕ) → stands_from n [] ≡ [])
     (more : (n : ℕ) (e : E) (later : List E) → stands_from n (e ∷ later) ≡ cond (did e && not (list_any (undid n) later)) (n ∷ stands_from (n + 1) later) (stands_from (n + 1) later))
     (own : ℕ → Bool) where

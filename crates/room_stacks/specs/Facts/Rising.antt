@@ -97,7 +97,8 @@ same_or_not n s m e h = grind (arith, nat_tests)
 less_differs : (n s : ℕ) → n < s → nat_eq n s ≡ false
 less_differs n s h = grind (arith, nat_tests)
 
--- deeds of rising numbers: where no deed passes both tests, a number of one that passes the first is of none that passes the second
+-- deeds of rising numbers: where no deed passes both tests, a number of one that passes the first is of none that
+-- passes the second
 module _ (p r : Deed → Bool) (never : (d : Deed) → p d ≡ true → r d ≡ true → ⊥) (s : ℕ) where
   pub none_of_others : (ds : List Deed) → IsRising (map number ds) → list_any (λ t. nat_eq t s) (map number (filter p ds)) ≡ true → All (λ t. nat_eq t s ≡ false) (map number (filter r ds))
   none_of_others [] h among = absurd (cc)

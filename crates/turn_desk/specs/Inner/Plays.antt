@@ -37,7 +37,8 @@ module _ {R E F : Type 0} where
   PassesOn m found m' = m' ≡ (resting m.0, [])
 
 module _ {R E F C P : Type 0} (fixed : R → F) (list : R → List E) (answers : F → List E → C → P → List E → Type 0) where
-  -- the seat has the turn at the ticket, and the slot, whose room stands for the whole history; it begins with all that the seat had seen
+  -- the seat has the turn at the ticket, and the slot, whose room stands for the whole history; it begins with all that
+  -- the seat had seen
   pub record TakesTurn (f : F) (t : ℕ) (m m' : Me (Option R) (View E F)) : Type 0 where
     pub h : History E
     pub room : R

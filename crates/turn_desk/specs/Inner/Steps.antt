@@ -48,7 +48,8 @@ abbrev pub HoldsRoom : {R E F : Type 0} → (R → F) → (R → List E) → F �
 HoldsRoom {R} fixed list f m = (room : R) × (m.1 ≡ (0, Some room) ∷ []) × StandsFor fixed list f room m.0.seen
 
 module _ {R E F C P : Type 0} (fixed : R → F) (list : R → List E) (answers : F → List E → C → P → List E → Type 0) (f : F) where
-  -- the seat has a turn and holds a room whose list is what it has seen, with at most one entry more, and so many entries long
+  -- the seat has a turn and holds a room whose list is what it has seen, with at most one entry more, and so many
+  -- entries long
   abbrev pub MayEnter : Me (Option R) (View E F) → ℕ → Type 0
   MayEnter m count = (room : R) × (m.1 ≡ (0, Some room) ∷ []) × (fixed room ≡ f) × MayLead answers f (entries m.0.seen) (list room) × (count ≡ length (list room))
 
