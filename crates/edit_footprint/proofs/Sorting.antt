@@ -1,46 +1,23 @@
 -- Sorting cells and dropping repeats gives their set.
 use Prim.Native.Nat.{zero}
-use Rattle.std.proofs.Common.{◌≡◌, ◌||◌, ◌&&◌, suc, Bool, true, false, T, List, [], ◌∷◌, Decides, refl, sym, ap, subst, ◌∙◌, arith}
+use Rattle.std.proofs.Common.{◌≡◌, ◌||◌, suc, Bool, true, false, T, List, [], ◌∷◌, Decides, refl, sym, ap, subst, ◌∙◌, arith}
 use Rattle.std.specs.List.{Contains, dedup, AllByRecursion}
 use Rattle.std.specs.List.Retain.{IsFiltered, DiffersFromLast}
 use Rattle.std.specs.List.Sorted.{IsPermutation, IsSorted, IsStrictlySortedBy}
-use Rattle.std.specs.Ordering.{is_lt, is_eq, nat_cmp, ordering_then}
-use Rattle.std.specs.Cmp.{IsEquivalence, eq_by_cmp_equiv}
+use Rattle.std.specs.Ordering.{is_lt}
+use Rattle.std.specs.Cmp.{eq_by_cmp_equiv}
 use Rattle.std.specs.FinMap.Entries.{below_all}
-use Rattle.std.specs.declared.cmp.Ordering.{Ordering}
-use Rattle.std.specs.declared.cmp.Ordering.TheVariants.{Less, Equal, Greater}
+use Rattle.std.specs.declared.cmp.Ordering.TheVariants.{Less}
 use Rattle.std.proofs.lemmas.Bool.Decides.{same_from_decides}
 use Rattle.std.proofs.lemmas.List.Filters.{dedup_is}
 use Rattle.std.proofs.lemmas.List.Kept.{Contains-dedup, Contains-from_dedup, IsStrictlySortedBy-dedup}
 use Rattle.std.proofs.lemmas.List.Sorted.{Contains-permutation, IsPermutation-sym}
-use Rattle.osm_elements.specs.NameOrder.{name_cmp}
-use Rattle.osm_elements.specs.Facts.SameNames.{name_eq_is}
-use Rattle.osm_changes.specs.contracts.cell.CellPartialEq.TheImpl as cell_equality
-use Rattle.osm_changes.specs.contracts.part.PartPartialEq.TheImpl as part_equality
 use Rattle.osm_changes.specs.declared.cell.Cell.{Cell}
-use Rattle.osm_changes.specs.declared.part.Part.{Part}
-use Rattle.osm_changes.specs.declared.part.Part.TheVariants.{Tags, Rest}
-use Rattle.osm_changes.specs.Cells.{part_rank, cell_cmp, is_same_cell, IsRising, has, cell_set}
+use Rattle.osm_changes.specs.Cells.{cell_cmp, is_same_cell, IsRising, has, cell_set}
 use Rattle.osm_changes.specs.Facts.Cells.{cell_cmp_total, same_cells, is_same_cell-itself, same_as_cell_set}
 use Rattle.rising_lists.specs.Rising.{bare_rows}
 use Rattle.rising_lists.specs.Facts.Sorted.{both}
 use Rattle.edit_footprint.specs.Facts.CellSets.{has-more}
-
--- what `==` says of cells
-part_eq_is : (p q : Part) → (part_equality.ghosts).eq p q ≡ is_eq (nat_cmp (part_rank p) (part_rank q))
-part_eq_is Tags Tags = refl
-part_eq_is Tags Rest = refl
-part_eq_is Rest Tags = refl
-part_eq_is Rest Rest = refl
-
-is_eq-then : (o p : Ordering) → is_eq (ordering_then o p) ≡ (is_eq o && is_eq p)
-is_eq-then Less p = refl
-is_eq-then Equal p = refl
-is_eq-then Greater p = refl
-
-pub cell_eq_is : (c d : Cell) → (cell_equality.ghosts).eq c d ≡ is_same_cell c d
-cell_eq_is c d = (λ i. name_eq_is c.name d.name i && part_eq_is c.part d.part i)
-    ∙ sym (is_eq-then (name_cmp c.name d.name) (nat_cmp (part_rank c.part) (part_rank d.part)))
 
 -- a cell is among a list exactly where the list contains it
 has_contains : (cs : List Cell) (q : Cell) → has cs q ≡ true → Contains cs q
@@ -71,21 +48,16 @@ unfolding IsStrictlySortedBy
 IsRising-from_strict [] h = tt
 IsRising-from_strict (c ∷ cs) h = both _ _ (below_from_strict c cs h.0) (IsRising-from_strict cs h.1)
 
-module _ (E : Cell → Cell → Bool) (ties : (c d : Cell) → E c d ≡ is_same_cell c d) where
-  laws : IsEquivalence E
-  laws = subst IsEquivalence (λ i c d. sym (ties c d) i) (eq_by_cmp_equiv cell_cmp_total)
-
-  -- what sorting and dropping repeats leaves
-  pub sorted_is_cell_set : (cmp : Cell → Cell → Ordering) → cmp ≡ cell_cmp → (cells xs ys : List Cell)
-      → IsPermutation cells xs → IsSorted cmp xs → IsFiltered (DiffersFromLast E) [] xs ys → ys ≡ cell_set cells
-  sorted_is_cell_set cmp is cells xs ys moved by_cmp filtered =
-      let sorted = subst (λ (c : Cell → Cell → Ordering). IsSorted c xs) is by_cmp in
-      dedup_is E xs ys filtered
-      ∙ same_as_cell_set (dedup E xs) cells
-      (IsRising-from_strict _ (IsStrictlySortedBy-dedup cell_cmp_total ties xs sorted))
-      (λ q. same_from_decides _ _ (Decides-has (dedup E xs) q) (
-        λ e. Contains-dedup laws (λ c d f. same_cells c d (sym (ties c d) ∙ f)) xs q
-            (Contains-permutation _ _ q moved (has_contains cells q e)),
-        λ h. contains_has cells q (Contains-permutation _ _ q (IsPermutation-sym _ _ moved)
-            (Contains-from_dedup E xs q h)),
-      ))
+-- what sorting and dropping repeats leaves
+pub sorted_is_cell_set : (cells xs ys : List Cell) → IsPermutation cells xs → IsSorted cell_cmp xs
+    → IsFiltered (DiffersFromLast is_same_cell) [] xs ys → ys ≡ cell_set cells
+sorted_is_cell_set cells xs ys moved sorted filtered =
+    dedup_is is_same_cell xs ys filtered
+    ∙ same_as_cell_set (dedup is_same_cell xs) cells
+    (IsRising-from_strict _ (IsStrictlySortedBy-dedup cell_cmp_total (λ c d. refl) xs sorted))
+    (λ q. same_from_decides _ _ (Decides-has (dedup is_same_cell xs) q) (
+      λ e. Contains-dedup (eq_by_cmp_equiv cell_cmp_total) same_cells xs q
+          (Contains-permutation _ _ q moved (has_contains cells q e)),
+      λ h. contains_has cells q (Contains-permutation _ _ q (IsPermutation-sym _ _ moved)
+          (Contains-from_dedup is_same_cell xs q h)),
+    ))

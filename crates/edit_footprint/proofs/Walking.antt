@@ -65,21 +65,21 @@ module _ (xs ys : List Cell) (rx : IsRising xs) (ry : IsRising ys) (i j : ℕ) (
   at_y : drop j ys ≡ y ∷ drop (j + 1) ys
   at_y = left_from ys j y wy iy
 
-  pub passes_cell : (cmp : Cell → Cell → Ordering) → cmp ≡ cell_cmp → cmp x y ≡ Less → meets (drop (i + 1) xs) (drop j ys) ≡ meets (drop i xs) (drop j ys)
-  passes_cell cmp is e =
+  pub passes_cell : cell_cmp x y ≡ Less → meets (drop (i + 1) xs) (drop j ys) ≡ meets (drop i xs) (drop j ys)
+  passes_cell e =
       ap (λ l. meets (drop (i + 1) xs) l) at_y
-      ∙ ap named (sym (first_is_less x y (drop (i + 1) xs) (drop (j + 1) ys) (sym (ap (λ (c : Cell → Cell → Ordering). c x y) is) ∙ e) (subst IsRising at_y (IsRising-drop j ys ry))))
+      ∙ ap named (sym (first_is_less x y (drop (i + 1) xs) (drop (j + 1) ys) e (subst IsRising at_y (IsRising-drop j ys ry))))
       ∙ ap (λ l. meets l (y ∷ drop (j + 1) ys)) (sym at_x) ∙ ap (λ l. meets (drop i xs) l) (sym at_y)
 
-  pub passes_other : (cmp : Cell → Cell → Ordering) → cmp ≡ cell_cmp → cmp x y ≡ Greater → meets (drop i xs) (drop (j + 1) ys) ≡ meets (drop i xs) (drop j ys)
-  passes_other cmp is e =
+  pub passes_other : cell_cmp x y ≡ Greater → meets (drop i xs) (drop (j + 1) ys) ≡ meets (drop i xs) (drop j ys)
+  passes_other e =
       ap (λ l. meets l (drop (j + 1) ys)) at_x
-      ∙ ap named (sym (first_is_greater x y (drop (i + 1) xs) (drop (j + 1) ys) (sym (ap (λ (c : Cell → Cell → Ordering). c x y) is) ∙ e) (subst IsRising at_x (IsRising-drop i xs rx))))
+      ∙ ap named (sym (first_is_greater x y (drop (i + 1) xs) (drop (j + 1) ys) e (subst IsRising at_x (IsRising-drop i xs rx))))
       ∙ ap (λ l. meets l (y ∷ drop (j + 1) ys)) (sym at_x) ∙ ap (λ l. meets (drop i xs) l) (sym at_y)
 
-  pub meets_here : (cmp : Cell → Cell → Ordering) → cmp ≡ cell_cmp → cmp x y ≡ Equal → Some x.name ≡ meets (drop i xs) (drop j ys)
-  meets_here cmp is e =
-      ap named (sym (first_is_same x y (drop (i + 1) xs) (drop (j + 1) ys) (sym (ap (λ (c : Cell → Cell → Ordering). c x y) is) ∙ e)))
+  pub meets_here : cell_cmp x y ≡ Equal → Some x.name ≡ meets (drop i xs) (drop j ys)
+  meets_here e =
+      ap named (sym (first_is_same x y (drop (i + 1) xs) (drop (j + 1) ys) e))
       ∙ ap (λ l. meets l (y ∷ drop (j + 1) ys)) (sym at_x) ∙ ap (λ l. meets (drop i xs) l) (sym at_y)
 
 all_passed : (xs : List Cell) (i : ℕ) → length xs ≤ i → drop i xs ≡ []

@@ -1,9 +1,9 @@
 -- The footprint of an action on a map, cell by cell. (Footprints are this project's.)
-use Rattle.std.specs.Prelude.{◌≡◌, ◌++◌, true, not, List, [], ◌∷◌, Option, Some, None, map}
-use Rattle.std.specs.List.{filter, find, flat_map, slice_get}
+use Rattle.std.specs.Prelude.{◌≡◌, ◌++◌, true, List, [], ◌∷◌, Option, Some, None, map}
+use Rattle.std.specs.List.{find, flat_map, slice_get}
 use Rattle.std.specs.Option.{option_and_then, option_map, option_to_list}
 use Rattle.osm_elements.specs.declared.name.Name.{Name}
-use Rattle.osm_elements.specs.Maps.{Rows, is_among}
+use Rattle.osm_elements.specs.Maps.{Rows}
 use Rattle.osm_refs.specs.Rising.{names_but}
 use Rattle.osm_changes.specs.declared.cell.Cell.{Cell}
 use Rattle.osm_changes.specs.declared.change.Change.{Change}
@@ -38,7 +38,8 @@ module _ {A : Type 0} where
   half_nodes (Some (halves.Nodes nodes)) = nodes
   half_nodes _ = []
 
-  -- the cells that an action is about: an element's tags, its rest, or both; a given list of nodes or members is not among them
+  -- the cells that an action is about: an element's tags, its rest, or both; a given list of nodes or members is not
+  -- among them
   abbrev pub subjects : Action A → List Cell
   subjects (Create x v) = both_at x
   subjects (Retag x given) = tags_at x ∷ []
@@ -66,7 +67,8 @@ module _ {A : Type 0} where
   unglued_from (Unglue w i v) cs = slice_get (half_nodes (half_before cs (rest_at w))) i
   unglued_from a cs = None
 
-  -- the subjects of an action, the cells that it changes, the rest of what their halves cease or begin to name, and both cells of the node that it unglues a way from, rising, each once
+  -- the subjects of an action, the cells that it changes, the rest of what their halves cease or begin to name, and
+  -- both cells of the node that it unglues a way from, rising, each once
   abbrev pub footprint_of : Action A → List (Change A) → List Cell
   footprint_of a cs = cell_set (subjects a ++ changed_cells cs ++ map rest_at (flat_map begun_or_ceased cs) ++ flat_map both_at (option_to_list (unglued_from a cs)))
 

@@ -90,7 +90,7 @@ fn least_shared(cells: &[Cell], others: &[Cell]) -> Option<Name>
         match cell.cmp(&others[place]) {
             Ordering::Less => at += 1,
             Ordering::Greater => place += 1,
-            Ordering::Equal => return Some(cell.name),
+            Ordering::Equal => return Some(cell.name()),
         }
     }
     None

@@ -87,7 +87,7 @@ impl<A: Allocator> Holders<A> {
         let cells = footprint.cells();
         let mut first = None;
         for cell in cells {
-            first = sooner(first, next(self.lists.of(cell), seq), cell.name);
+            first = sooner(first, next(self.lists.of(cell), seq), cell.name());
         }
         first
     }

@@ -76,20 +76,14 @@ fn list_of<A: Allocator>(alloc: A, cells: &[Cell], more: usize) -> Result<Vec<Ce
 fn tags_of(name: &Name) -> Cell
     ensures { result ≡ tags_at name.now }
 {
-    Cell {
-        name: *name,
-        part: Part::Tags,
-    }
+    Cell::of(*name, Part::Tags)
 }
 
 // The rest of a name.
 fn rest_of(name: &Name) -> Cell
     ensures { result ≡ rest_at name.now }
 {
-    Cell {
-        name: *name,
-        part: Part::Rest,
-    }
+    Cell::of(*name, Part::Rest)
 }
 
 // The rest of each of some names, with room for so many cells more.

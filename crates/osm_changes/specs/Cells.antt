@@ -9,11 +9,15 @@ use Rattle.osm_elements.specs.Maps.{Rows}
 use Rattle.osm_elements.specs.Rows.{row_at}
 use Rattle.rising_lists.specs.Rising.{is_among, with_value}
 use Rattle.rising_lists.specs.Rising as lists
-use Rattle.osm_changes.specs.declared.cell.Cell.{Cell}
 use Rattle.osm_changes.specs.declared.half.Half.{Half}
 use Rattle.osm_changes.specs.declared.part.Part.{Part}
 use Rattle.osm_changes.specs.declared.part.Part.TheVariants.{Tags, Rest}
 use Rattle.osm_changes.specs.Halves.{half}
+
+-- a part of a name's row
+pub record Cell : Type 0 where
+  pub name : Name
+  pub part : Part
 
 abbrev pub tags_at : Name → Cell
 tags_at x = record { name = x; part = Tags }

@@ -1,13 +1,114 @@
 //! The cells of a map.
+ghost use Rattle.std.specs.Prelude.{◌≡◌, ◌≢◌, pos};
 
 use crate::part::Part;
-use osm_elements::name::Name;
+use osm_elements::name::{Kind, Name};
+use std::cmp::Ordering;
+use std::marker::Model;
 
 /// A part of the row of a name. Cells are ordered by their names, and the tags of a name come before the rest.
-#[derive(Clone, Copy, Debug, PartialEq, Eq, PartialOrd, Ord)]
+#[derive(Clone, Copy, Debug)]
 pub struct Cell {
+    // The name's kind and id. With the part between them a cell takes 16 bytes, and with a name beside a part 24.
+    kind: Kind,
+    part: Part,
+    id: i64,
+    ghost not_zero: { id ≢ pos 0 },
+}
+
+const _: () = prove!(size_of::<Cell>() == 16);
+
+// A cell is seen as its name and its part.
+impl Model for Cell {
+    ghost use Rattle.osm_changes.specs.Cells.{Cell};
+
+    ghost Value = { Cell };
+
+    ghost view = { λ c. record { name = record { kind = c.kind; id = c.id; not_zero = c.not_zero }; part = c.part } };
+
+    ghost inverse = { λ c. record { kind = c.name.kind; part = c.part; id = c.name.id; not_zero = c.name.not_zero } };
+}
+
+impl Cell {
+    /// The cell of a part of this name's row.
+    pub fn of(name: Name, part: Part) -> Cell
+        ensures { result ≡ record { name = name; part = part } }
+    {
+        Cell {
+            kind: name.kind(),
+            part,
+            id: name.id(),
+        }
+    }
+
     /// The name of the row.
-    pub name: Name,
+    pub fn name(&self) -> Name
+        ensures { result ≡ self.now.name }
+    {
+        Name::new(self.kind, self.id).unwrap()
+    }
+
     /// Which part of the row it is.
-    pub part: Part,
+    pub fn part(&self) -> Part
+        ensures { result ≡ self.now.part }
+    {
+        self.part
+    }
+}
+
+impl PartialEq for Cell {
+    ghost use Rattle.std.specs.Cmp.{partial_equiv_from_equiv, eq_by_cmp_equiv};
+    ghost use Rattle.osm_changes.specs.Cells.{is_same_cell};
+    ghost use Rattle.osm_changes.specs.Facts.Cells.{cell_cmp_total};
+
+    ghost eq = { is_same_cell };
+
+    ghost laws = { partial_equiv_from_equiv (eq_by_cmp_equiv cell_cmp_total) };
+
+    fn eq(&self, other: &Cell) -> bool {
+        self.cmp(other).is_eq()
+    }
+}
+
+impl Eq for Cell {
+    ghost use Rattle.std.specs.Cmp.{eq_by_cmp_equiv};
+    ghost use Rattle.osm_changes.specs.Facts.Cells.{cell_cmp_total};
+
+    ghost laws = { eq_by_cmp_equiv cell_cmp_total };
+}
+
+impl PartialOrd for Cell {
+    ghost use Rattle.std.specs.Prelude.{Some};
+    ghost use Rattle.std.specs.Cmp.{partial_order_from_total};
+    ghost use Rattle.osm_changes.specs.Cells.{cell_cmp};
+    ghost use Rattle.osm_changes.specs.Facts.Cells.{cell_cmp_total};
+
+    ghost partial_cmp = { λ c d. Some (cell_cmp c d) };
+
+    ghost laws = { partial_order_from_total cell_cmp_total };
+
+    fn partial_cmp(&self, other: &Cell) -> Option<Ordering> {
+        Some(self.cmp(other))
+    }
+}
+
+impl Ord for Cell {
+    ghost use Rattle.std.specs.Prelude.{refl};
+    ghost use Rattle.osm_changes.specs.Cells.{cell_cmp};
+    ghost use Rattle.osm_changes.specs.Facts.Cells.{cell_cmp_total};
+
+    ghost cmp = { cell_cmp };
+
+    ghost total = { cell_cmp_total };
+
+    ghost matches_partial_cmp = { λ c d. refl };
+
+    ghost matches_eq = { λ c d. refl };
+
+    fn cmp(&self, other: &Cell) -> Ordering {
+        self.kind
+            .cmp(&other.kind)
+            .then(self.id.cmp(&other.id))
+            .then(self.part.cmp(&other.part))
+    }
 }

@@ -25,10 +25,7 @@ impl<A: Allocator> Change<A> {
     pub fn cell(&self) -> Cell
         ensures { result ≡ cell_of self.now }
     {
-        Cell {
-            name: self.name,
-            part: self.part,
-        }
+        Cell::of(self.name, self.part)
     }
 
     // Takes the change back: exchanges the halves before and after.

@@ -72,14 +72,8 @@ fn row_after<A: Allocator + Clone>(
 {
     let row = rows.get(name);
     let name = *name;
-    let tags = Cell {
-        name,
-        part: Part::Tags,
-    };
-    let rest = Cell {
-        name,
-        part: Part::Rest,
-    };
+    let tags = Cell::of(name, Part::Tags);
+    let rest = Cell::of(name, Part::Rest);
     let element = row_of(
         half_after(changes, tags, row)?,
         half_after(changes, rest, row)?,
@@ -98,6 +92,6 @@ fn half_after<A: Allocator + Clone>(
 {
     match changes.binary_search_by(|change| change.cell().cmp(&cell)) {
         Ok(place) => copy_of(&changes[place].after),
-        Err(_) => half_of(cell.part, row),
+        Err(_) => half_of(cell.part(), row),
     }
 }

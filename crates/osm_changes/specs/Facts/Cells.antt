@@ -1,6 +1,5 @@
 -- The order of cells, and lists of cells that rise, each once. Such a list is known by the cells that are among it.
 use Rattle.std.proofs.Common.{◌≡◌, ◌||◌, ◌&&◌, Bool, true, false, T, List, [], ◌∷◌, ◌++◌, refl, sym, ap, subst, ◌∙◌}
-use mathlib.Core.Path.{fun_ext}
 use Rattle.std.proofs.lemmas.Cmp.{on_total, then_total, nat_cmp_total}
 use Rattle.std.proofs.lemmas.List.Folds.{list_any-append}
 use Rattle.std.specs.Cmp.{IsTotalOrder, tied_itself}
@@ -13,19 +12,15 @@ use Rattle.std.specs.declared.cmp.Ordering.TheVariants.{Less, Equal, Greater}
 use Rattle.osm_elements.specs.declared.name.Name.{Name}
 use Rattle.osm_elements.specs.NameOrder.{name_cmp}
 use Rattle.osm_elements.specs.Maps.{is_same, is_among}
-use Rattle.osm_elements.specs.Facts.NameOrder.{name_cmp_is}
 use Rattle.osm_elements.specs.Facts.Names.{name_cmp_total, name_cmp-IsAntisymmetric}
 use Rattle.osm_elements.specs.Facts.Rows.{same}
 use Rattle.osm_refs.specs.Rising as names
 use Rattle.rising_lists.specs.Rising.{bare_rows, with_value}
 use Rattle.rising_lists.specs.Facts.Rising as rising
 use Rattle.rising_lists.specs.Facts.Sorted.{both, first, second}
-use Rattle.osm_changes.specs.contracts.cell.CellOrd.TheImpl as cell_order
-use Rattle.osm_changes.specs.contracts.part.PartOrd.TheImpl as part_order
-use Rattle.osm_changes.specs.declared.cell.Cell.{Cell}
 use Rattle.osm_changes.specs.declared.part.Part.{Part}
 use Rattle.osm_changes.specs.declared.part.Part.TheVariants.{Tags, Rest}
-use Rattle.osm_changes.specs.Cells.{tags_at, rest_at, cells_of, part_rank, cell_cmp, is_same_cell, has, cell_set, IsRising}
+use Rattle.osm_changes.specs.Cells.{Cell, tags_at, rest_at, cells_of, part_rank, cell_cmp, is_same_cell, has, cell_set, IsRising}
 
 pub cell_cmp_total : IsTotalOrder cell_cmp
 cell_cmp_total = then_total (on_total (λ (c : Cell). c.name) name_cmp_total)
@@ -63,17 +58,6 @@ same_either_way c d = by (is_same_cell c d) refl (is_same_cell d c) refl
     by true e false f = sym (is_same_cell-itself d) ∙ ap (λ z. is_same_cell d z) (sym (same_cells c d e)) ∙ f
     by false e true f = sym e ∙ ap (λ z. is_same_cell c z) (same_cells d c f) ∙ is_same_cell-itself c
     by false e false f = refl
-
--- the derived order of cells is that of their definition
-part_order_is : (p q : Part) → (part_order.ghosts).cmp p q ≡ nat_cmp (part_rank p) (part_rank q)
-part_order_is Tags Tags = refl
-part_order_is Tags Rest = refl
-part_order_is Rest Tags = refl
-part_order_is Rest Rest = refl
-
-pub cell_cmp_is : (cell_order.ghosts).cmp ≡ cell_cmp
-cell_cmp_is = fun_ext (λ c. fun_ext
-    (λ d. λ i. ordering_then (name_cmp_is i c.name d.name) (part_order_is c.part d.part i)))
 
 -- ---- cells of one part are the same where their names are, those of two parts never, nor those of two names
 

@@ -132,9 +132,10 @@ fn put_row_copied(
 pub fn touched_shown(alloc: Global, touched: &Footprint<Global>) -> Result<String, AllocError> {
     let mut names: Vec<Name> = Vec::new(alloc);
     for cell in touched.cells() {
+        let name = cell.name();
         match names.last() {
-            Some(last) if *last == cell.name => {}
-            _ => names.push(cell.name)?,
+            Some(last) if *last == name => {}
+            _ => names.push(name)?,
         }
     }
     let mut text = String::new(alloc);

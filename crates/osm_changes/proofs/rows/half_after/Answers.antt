@@ -4,14 +4,11 @@ use Rattle.std.specs.List.{HoldsAt}
 use Rattle.std.specs.List.Sorted.{IsBinarySearchResult}
 use Rattle.std.specs.Option.{option_copied}
 use Rattle.std.specs.Result.{IfOk}
-use Rattle.std.specs.declared.cmp.Ordering.{Ordering}
 use Rattle.std.specs.declared.cmp.Ordering.TheVariants.{Equal}
 use Rattle.rising_lists.specs.Facts.Searching.{gap_at}
-use Rattle.osm_changes.specs.contracts.cell.CellOrd.TheImpl as cell_order
-use Rattle.osm_changes.specs.declared.cell.Cell.{Cell}
+use Rattle.osm_changes.specs.Cells.{Cell, cell_cmp}
 use Rattle.osm_changes.specs.Changes.{cell_of}
 use Rattle.osm_changes.specs.Halves.{half}
-use Rattle.osm_changes.specs.Facts.Cells.{cell_cmp_is}
 use Rattle.osm_changes.proofs.Told.{found_at, not_found}
 use Rattle.osm_changes.proofs.rows.half_after.Goals as goal
 
@@ -20,11 +17,10 @@ returns-in-Ok g c =
     let cs = c.args.changes.now in
     let place = c.in-Ok.place in
     let cell : Cell = c.args.cell in
-    let here : HoldsAt (λ d. (cell_order.ghosts).cmp (cell_of d) cell ≡ Equal) cs place =
-    c.in-Ok.ensures.position (λ d. (cell_order.ghosts).cmp (cell_of d) cell) (always_returns_same _ _ _ (λ x r f' called. search rules)) in
+    let here : HoldsAt (λ d. cell_cmp (cell_of d) cell ≡ Equal) cs place =
+    c.in-Ok.ensures.position (λ d. cell_cmp (cell_of d) cell) (always_returns_same _ _ _ (λ x r f' called. search rules)) in
     subst (λ v. IfOk c.copy_of.result (λ h. h ≡ v))
-    (sym (found_at cs cell place c.index-changes-place.result (half cell.part (option_copied c.args.row)) c.requires c.in-Ok.ensures.bound
-    (subst (λ (cmp : Cell → Cell → Ordering). HoldsAt (λ d. cmp (cell_of d) cell ≡ Equal) cs place) cell_cmp_is here)))
+    (sym (found_at cs cell place c.index-changes-place.result (half cell.part (option_copied c.args.row)) c.requires c.in-Ok.ensures.bound here))
     c.copy_of.ensures
 
 pub returns-in-Err : goal.returns-in-Err
@@ -32,9 +28,8 @@ returns-in-Err g c =
     let cs = c.args.changes.now in
     let place = c.in-Err.field-0 in
     let cell : Cell = c.args.cell in
-    let gap : IsBinarySearchResult (λ d. (cell_order.ghosts).cmp (cell_of d) cell) cs (gap_at place) =
-    c.in-Err.ensures.position (λ d. (cell_order.ghosts).cmp (cell_of d) cell) (always_returns_same _ _ _ (λ x r f' called. search rules)) in
+    let gap : IsBinarySearchResult (λ d. cell_cmp (cell_of d) cell) cs (gap_at place) =
+    c.in-Err.ensures.position (λ d. cell_cmp (cell_of d) cell) (always_returns_same _ _ _ (λ x r f' called. search rules)) in
     subst (λ v. IfOk c.half_of.result (λ h. h ≡ v))
-    (sym (not_found cs cell place (half cell.part (option_copied c.args.row)) c.requires c.in-Err.ensures.bound
-    (subst (λ (cmp : Cell → Cell → Ordering). IsBinarySearchResult (λ d. cmp (cell_of d) cell) cs (gap_at place)) cell_cmp_is gap)))
-    c.half_of.ensures
+    (sym (not_found cs cell place (half cell.part (option_copied c.args.row)) c.requires c.in-Err.ensures.bound gap))
+    (subst (λ p. IfOk c.half_of.result (λ h. h ≡ half p (option_copied c.args.row))) c.part.ensures c.half_of.ensures)

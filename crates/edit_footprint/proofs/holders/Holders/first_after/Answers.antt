@@ -6,19 +6,15 @@ use Rattle.osm_changes.specs.declared.cell.Cell.{Cell}
 use Rattle.osm_changes.specs.Cells as cells
 use Rattle.osm_changes.specs.Cells.{cell_cmp}
 use Rattle.rising_lists.specs.Rising.{IsRising}
-use Rattle.rising_lists.specs.Lists.{AreLists, values_at}
+use Rattle.rising_lists.specs.Lists.{values_at}
 use Rattle.rising_lists.specs.Facts.Tables.{listed-as_table}
-use Rattle.edit_footprint.proofs.InCellOrder.{in_cell_order}
 use Rattle.edit_footprint.specs.Holding.{Held, holding, IsFirstAfter}
 use Rattle.edit_footprint.specs.Inner.Searching.{sooner}
 use Rattle.edit_footprint.proofs.Searching.{next, past_before, step}
 use Rattle.edit_footprint.proofs.holders.Holders.first_after.Goals as goal
 
 pub next-requires : goal.next-requires
-next-requires g c =
-    let lists = c.self.inside.lists.lists.entries in
-    let kept = in_cell_order (λ order. AreLists order nat_cmp lists) c.self.inside.lists.kept in
-    subst (IsRising nat_cmp) (sym (in_cell_order (λ order. c.of.result.now ≡ values_at order lists c.cell-item.result) c.of.ensures)) (kept.rising c.cell-item.result)
+next-requires g c = subst (IsRising nat_cmp) (sym c.of.ensures) (c.self.inside.lists.kept.rising c.cell-item.result)
 
 pub loop-cell-preserved : goal.loop-cell-preserved
 loop-cell-preserved g c =
@@ -26,14 +22,13 @@ loop-cell-preserved g c =
     let cell = c.cell-item.result in
     let lists = c.self.inside.lists.lists.entries in
     let held = c.args.self.now in
-    let kept = in_cell_order (λ order. AreLists order nat_cmp lists) c.self.inside.lists.kept in
     let told = listed-as_table cell_cmp lists cell in
     let numbers : values_at cell_cmp lists cell ≡ holding held cell = sym told ∙ ap (λ (h : Held). holding h cell) c.self.view_is in
-    let own : c.of.result.now ≡ holding held cell = in_cell_order (λ order. c.of.result.now ≡ values_at order lists cell) c.of.ensures ∙ numbers in
-    let rises = subst (IsRising nat_cmp) numbers (kept.rising cell) in
+    let own : c.of.result.now ≡ holding held cell = c.of.ensures ∙ numbers in
+    let rises = subst (IsRising nat_cmp) numbers (c.self.inside.lists.kept.rising cell) in
     let cells_rise = subst cells.IsRising (sym c.cells-cells.ensures.cells) c.cells-cells.ensures.rising in
     let is : c.sooner-first.result ≡ sooner c.loop-cell.first (find (nat_lt c.args.seq) (holding held cell)) cell.name =
-    c.sooner-first.ensures ∙ ap (λ (o : Option ℕ). sooner c.loop-cell.first o cell.name) (c.next.ensures ∙ ap (find (nat_lt c.args.seq)) own) in
+    c.sooner-first.ensures ∙ (λ i. sooner c.loop-cell.first ((c.next.ensures ∙ ap (find (nat_lt c.args.seq)) own) i) (c.name.ensures i)) in
     subst (λ (f : Option (ℕ × Name)). IsFirstAfter held (take (c.loop-cell.cell-index + 1) c.cells-cells.result.now) c.args.seq f) (sym is)
     (subst (λ (l : List Cell). IsFirstAfter held l c.args.seq (sooner c.loop-cell.first (find (nat_lt c.args.seq) (holding held cell)) cell.name))
     (sym (next c.cells-cells.result.now c.loop-cell.cell-index cell within c.cell-item.is))

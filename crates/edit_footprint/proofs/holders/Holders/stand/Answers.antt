@@ -1,9 +1,6 @@
 use Rattle.std.proofs.Common.{◌∙◌, sym, subst}
-use Rattle.std.specs.Ordering.{nat_cmp}
-use Rattle.rising_lists.specs.Lists.{AreLists, SameValues, SameAwaited, AwaitsMore, AwaitsLess, Gains}
 use Rattle.osm_changes.specs.Cells.{IsRising}
 use Rattle.edit_footprint.specs.Holding.{standing}
-use Rattle.edit_footprint.proofs.InCellOrder.{in_cell_order}
 use Rattle.edit_footprint.proofs.Keeping.{none_awaited, none_left, same_table, stands, on_err}
 use Rattle.edit_footprint.proofs.holders.Holders.stand.Goals as goal
 
@@ -11,16 +8,15 @@ pub invariant_of-self : goal.invariant_of-self
 invariant_of-self g c =
     let before = c.self.inside.lists.lists.entries in
     let after = c.await_all.new.self.lists.entries in
-    none_awaited before after c.self.invariant (in_cell_order (λ order. SameAwaited order before after) c.in_err-await_all.ensures.err)
+    none_awaited before after c.self.invariant c.in_err-await_all.ensures.err
 
 pub returns-in_err-await_all-clause-err : goal.returns-in_err-await_all-clause-err
 returns-in_err-await_all-clause-err g c =
     let before = c.self.inside.lists.lists.entries in
     let after = c.await_all.new.self.lists.entries in
-    let still = none_awaited before after c.self.invariant (in_cell_order (λ order. SameAwaited order before after) c.in_err-await_all.ensures.err) in
+    let still = none_awaited before after c.self.invariant c.in_err-await_all.ensures.err in
     on_err c.from_residual.result
-    (same_table before after (in_cell_order (λ order. AreLists order nat_cmp before) c.self.inside.lists.kept) (in_cell_order (λ order. AreLists order nat_cmp after) c.await_all.new.self.kept) c.self.invariant still
-    (in_cell_order (λ order. SameValues order before after) c.await_all.ensures.values)
+    (same_table before after c.self.inside.lists.kept c.await_all.new.self.kept c.self.invariant still c.await_all.ensures.values
     ∙ c.self.view_is)
 
 pub invariant_of-self-2 : goal.invariant_of-self-2
@@ -29,7 +25,7 @@ invariant_of-self-2 g c =
     let middle = c.await_all.new.self.lists.entries in
     let after = c.add_all.new.self.lists.entries in
     let cells = c.cells-cells.result.now in
-    none_left before middle after cells c.args.seq c.self.invariant (in_cell_order (λ order. AwaitsMore order before middle cells) c.in_ok-await_all.ensures.ok) (in_cell_order (λ order. AwaitsLess order middle after cells) c.add_all.ensures.awaited)
+    none_left before middle after cells c.args.seq c.self.invariant c.in_ok-await_all.ensures.ok c.add_all.ensures.awaited
 
 pub returns-clause-ok : goal.returns-clause-ok
 returns-clause-ok g c =
@@ -39,8 +35,6 @@ returns-clause-ok g c =
     let cells = c.cells-cells.result.now in
     let rises = subst IsRising (sym c.cells-cells.ensures.cells) c.cells-cells.ensures.rising in
     let next = rw (← c.self.view_is) at c.requires in
-    stands before middle after cells c.args.seq (in_cell_order (λ order. AreLists order nat_cmp before) c.self.inside.lists.kept) (in_cell_order (λ order. AreLists order nat_cmp middle) c.await_all.new.self.kept)
-    (in_cell_order (λ order. AreLists order nat_cmp after) c.add_all.new.self.kept) c.self.invariant rises next (in_cell_order (λ order. SameValues order before middle) c.await_all.ensures.values)
-    (in_cell_order (λ order. AwaitsMore order before middle cells) c.in_ok-await_all.ensures.ok) (in_cell_order (λ order. Gains order nat_cmp middle after cells c.args.seq) c.add_all.ensures.values)
-    (in_cell_order (λ order. AwaitsLess order middle after cells) c.add_all.ensures.awaited)
+    stands before middle after cells c.args.seq c.self.inside.lists.kept c.await_all.new.self.kept c.add_all.new.self.kept c.self.invariant rises next
+    c.await_all.ensures.values c.in_ok-await_all.ensures.ok c.add_all.ensures.values c.add_all.ensures.awaited
     ∙ (λ i. standing (c.self.view_is i) (c.cells-cells.ensures.cells i) c.args.seq)

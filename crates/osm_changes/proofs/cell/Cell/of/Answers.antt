@@ -1,0 +1,24 @@
+use Rattle.std.proofs.Common.{◌≡◌, ◌≢◌, ℤ, pos, ◌∙◌, rules}
+use Rattle.std.proofs.lemmas.Int.{to_z-of_z}
+use Rattle.std.specs.Int.{w64}
+use Rattle.osm_elements.specs.declared.name.Kind.{Kind}
+use Rattle.osm_elements.specs.declared.name.Name.{Name}
+use Rattle.osm_elements.specs.Facts.Names.{same_name}
+use Rattle.osm_changes.specs.Cells.{Cell}
+use Rattle.osm_changes.specs.declared.part.Part.{Part}
+use Rattle.osm_changes.proofs.cell.Cell.of.Goals as goal
+
+-- the cell of a kind and an id is that of the name that has them
+of_parts : (name : Name) (part : Part) (kind : Kind) (id : ℤ) (not_zero : id ≢ pos 0)
+    → kind ≡ name.kind → id ≡ name.id
+    → ◌≡◌ {A = Cell} (record { name = record { kind = kind; id = id; not_zero = not_zero }; part = part })
+    (record { name = name; part = part })
+of_parts name part kind id not_zero kinds ids = λ i. record {
+  name = same_name (record { kind = kind; id = id; not_zero = not_zero }) name kinds ids i;
+  part = part;
+}
+
+pub returns : goal.returns
+returns c =
+    let ids = to_z-of_z w64 c.id.result (search rules) ∙ c.id.ensures in
+    of_parts c.args.name c.args.part _ _ _ c.kind.ensures ids
