@@ -2,16 +2,20 @@
 use Rattle.std.proofs.Common.{◌≡◌, ℕ, Bool, true, false, not, List, [], ◌∷◌, Option, Some, None, Ok, Err, is_none, refl, sym, ap, ◌∙◌}
 use Rattle.std.specs.Bool.{then_some}
 use Rattle.std.specs.Option.{option_map}
+use Rattle.osm_elements.specs.declared.name.Name.{Name}
 use Rattle.edit_simple.specs.Checks.{first_that_holds}
+use Rattle.edit_footprint.specs.Holding.{Held, IsFirstAfter}
 use Rattle.room_stacks.specs.declared.author.Author.{Author}
 use Rattle.room_history.specs.declared.entry.Entry.{Entry}
 use Rattle.room_history.specs.declared.reply.Reply.{Reply}
 use Rattle.room_history.specs.declared.reply.Reply.TheVariants.{NoSuch, NotYours, NotStanding}
 use Rattle.room_history.specs.Answers.{conflict, undo_refusal}
-use Rattle.room_history.specs.Blockers.{blocker}
+use Rattle.room_history.specs.Blockers.{recorded_footprint, blocker}
+use Rattle.room_history.specs.Inner.Holders.{AreHolders}
 use Rattle.room_history.specs.Inner.Undoing.{undone_or, asked_or, standing_refusal}
 use Rattle.room_history.specs.Journals.{numbered, is_by, is_standing}
 use Rattle.room_history.specs.Replays.{Past}
+use Rattle.room_history.proofs.KeptHolders.{blocker_found}
 
 -- the fourth of four checks decides where none of the first three holds
 fourth : {X : Type 0} (o p q r : Option X) → first_that_holds (o ∷ p ∷ q ∷ []) ≡ None → first_that_holds (o ∷ p ∷ q ∷ r ∷ []) ≡ r
@@ -91,3 +95,9 @@ module _ {A : Type 0} (j : List (Entry A)) (author : Author) where
         by : (r : Option (Reply A)) → standing_refusal j author t ≡ r → Ok s ≡ undone_or t r → undone_or s (option_map conflict (blocker p j s)) ≡ undone_or t (undo_refusal p j author t)
         by None ok e = let same : s ≡ t = cc in ap (λ u. undone_or u (option_map conflict (blocker p j u))) same ∙ ap (undone_or t) (sym (by_blocker t ok))
         by (Some r) ok e = absurd (cc)
+
+    -- so what the holders find behind it is the answer
+    pub asked_answered : (holders : Held) → AreHolders p j holders → (o : Option ℕ) (s : ℕ) (found : Option (ℕ × Name)) → Ok s ≡ asked_or (standing_refusal j author) o → IsFirstAfter holders (recorded_footprint p s) s found
+        → undone_or s (option_map conflict found) ≡ asked_or (undo_refusal p j author) o
+    asked_answered holders held o s found e first =
+        ap (λ b. undone_or s (option_map conflict b)) (blocker_found p j holders held s found (asked_stands o s e) first) ∙ asked_blocked o s e

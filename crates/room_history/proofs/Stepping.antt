@@ -102,7 +102,7 @@ none_there [] (suc i) low high e = absurd (omega (arith, high))
 none_there (y ∷ ys) (suc zero) low high e = absurd (cc)
 none_there (y ∷ ys) (suc (suc i)) low high e = none_there ys (suc i) (omega arith) (omega (arith, high)) e
 
-pub numbered_item : {X : Type 0} (xs : List X) (s : ℕ) (k d : X) → numbered xs s ≡ Some k → get_or xs (s - 1) d ≡ k
+numbered_item : {X : Type 0} (xs : List X) (s : ℕ) (k d : X) → numbered xs s ≡ Some k → get_or xs (s - 1) d ≡ k
 numbered_item xs zero k d e = absurd (cc)
 numbered_item {X} xs (suc i) k d e = ap (λ n. get_or xs n d) less ∙ at xs i e
   where
@@ -113,6 +113,10 @@ numbered_item {X} xs (suc i) k d e = ap (λ n. get_or xs n d) less ∙ at xs i e
     at [] n e = absurd (cc)
     at (y ∷ ys) zero e = cc
     at (y ∷ ys) (suc n) e = at ys n e
+
+-- and what is told of it is what the list has there
+pub kept_changes : {A : Type 0} (recorded : List (Effect A)) (s : ℕ) (d : Effect A) (cs : List (Change A)) → cs ≡ d.changes → d ≡ get_or recorded (s - 1) d → (k : Effect A) → numbered recorded s ≡ Some k → cs ≡ k.changes
+kept_changes recorded s d cs told item k is = told ∙ ap (λ (e : Effect _). e.changes) (item ∙ numbered_item recorded s k d is)
 
 injective : {X : Type 0} {x y : X} → Some x ≡ Some y → x ≡ y
 injective e = cc

@@ -1,8 +1,7 @@
 //! The room.
-ghost use Rattle.std.specs.Prelude.{◌≡◌, ◌+◌, ◌⊎◌, List, [], Some, None, Ok, Err, true, length, IfOk, IfErr, OnOk, OnErr};
+ghost use Rattle.std.specs.Prelude.{◌≡◌, ◌⊎◌, [], Some, None, Ok, Err, true, length, IfOk, IfErr, OnOk};
 ghost use Rattle.std.specs.Option.{option_copied, option_map};
-ghost use Rattle.osm_changes.specs.declared.change.Change.{Change};
-ghost use Rattle.osm_changes.specs.Changes.{differences, changed, inverse, AreChanges, AreFrom};
+ghost use Rattle.osm_changes.specs.Changes.{changed, inverse, AreFrom};
 ghost use Rattle.osm_elements.specs.Maps.{Rows};
 ghost use Rattle.osm_elements.specs.Rows.{AreInOrder};
 ghost use Rattle.osm_changes.specs.Sound.{is_sound};
@@ -11,10 +10,9 @@ ghost use Rattle.room_history.specs.Journals.{numbered};
 
 use crate::base::{BaseFault, first_unsound};
 use crate::call::{Call, Request};
-use crate::effects::{enter, note, reserve, stand};
 use crate::entry::{Entry, EntryKind};
-use crate::journal::{action_of, numbered, origin_next};
-use crate::kept::{Kept, effect_of, sole_row};
+use crate::journal::{action_of, numbered};
+use crate::kept::Kept;
 use crate::news::{NewsList, news_past};
 use crate::reply::Reply;
 use crate::undo::{Undoable, asked_for};
@@ -24,7 +22,6 @@ use edit_footprint::footprint::Footprint;
 use edit_footprint::holders::Holders;
 use edit_footprint::touching::footprint;
 use osm_changes::changes::Changes;
-use osm_changes::laws::{an_inverse_restores, differences_are_changes};
 use osm_changes::store::Store;
 use osm_elements::Memory;
 use osm_elements::element::Element;
@@ -36,6 +33,7 @@ use std::alloc::Allocator;
 use std::marker::Model;
 use std::snapshot::Snapshot;
 
+mod appending;
 mod asking;
 
 /// A room: one map, and the journal of what its authors did to it. It is as good as its base map, which is sound, its
@@ -70,11 +68,12 @@ impl<A: Allocator> Model for Room<A> {
 
     ghost view = { λ r. record { base = r.base.value; limit = r.limit; journal = r.entries.items } };
 
-    ghost invariant = { λ r. IsRoom r.store r.recorded.items r.origins.items r.holders r.stacks.deeds r.base.value r.limit r.entries.items };
+    ghost invariant = { λ r. IsRoom r.store r.recorded.items r.origins.items r.holders r.stacks.deeds r.base.value
+        r.limit r.entries.items };
 }
 
 impl<A: Allocator + Copy> Room<A> {
-    ghost use Rattle.room_history.specs.Answers.{asked, kind_refusal, undo_refusal, redo_refusal, with_entry};
+    ghost use Rattle.room_history.specs.Answers.{asked, undo_refusal, redo_refusal};
     ghost use Rattle.room_history.specs.declared.call.Request.TheVariants as requests;
     ghost use Rattle.room_history.specs.declared.reply.Reply.TheVariants as replies;
     ghost use Rattle.edit_actions.specs.Refusals.{refusal};
@@ -86,7 +85,7 @@ impl<A: Allocator + Copy> Room<A> {
     ghost use Rattle.room_history.specs.Applied.{applied};
     ghost use Rattle.edit_actions.specs.After.{changes as changes_of};
     ghost use Rattle.room_history.specs.Headline.{Holds};
-    ghost use Rattle.room_history.specs.Inner.Rooms.{MayAppend, MayWork};
+    ghost use Rattle.room_history.specs.Inner.Rooms.{MayAppend};
     ghost use Rattle.edit_actions.specs.MadeActions.{is_made_action};
     ghost use Rattle.room_history.specs.News.{news};
     ghost use Rattle.room_history.specs.Runs.{IsStep};
@@ -209,10 +208,12 @@ impl<A: Allocator + Copy> Room<A> {
         ensures made { is_made_action action.now ≡ true }
         ensures accepted { OnOk result (refusal (mapof self.now.base self.now.journal) action.now ≡ None) }
         ensures changes { IfOk result (λ p. p.0 ≡ changes_of (mapof self.now.base self.now.journal) action.now) }
-        ensures footprint { IfOk result (λ p. p.1 ≡ footprint_of action.now (changes_of (mapof self.now.base self.now.journal) action.now)) }
+        ensures footprint { IfOk result
+            (λ p. p.1 ≡ footprint_of action.now (changes_of (mapof self.now.base self.now.journal) action.now)) }
         ensures from { IfOk result (λ p. AreFrom (mapof self.now.base self.now.journal) p.0) }
         ensures sound { IfOk result (λ p. is_sound (changed (mapof self.now.base self.now.journal) p.0) ≡ true) }
-        ensures refused { IfErr result (λ r. (r ≡ replies.Memory) ⊎ (option_map replies.Refused (refusal (mapof self.now.base self.now.journal) action.now) ≡ Some r)) }
+        ensures refused { IfErr result (λ r. (r ≡ replies.Memory)
+            ⊎ (option_map replies.Refused (refusal (mapof self.now.base self.now.journal) action.now) ≡ Some r)) }
     {
         let alloc = *self.entries.allocator();
         match plan(alloc, &self.store, action) {
@@ -222,61 +223,6 @@ impl<A: Allocator + Copy> Room<A> {
             },
             Err(refusal) => Err(refusal.into()),
         }
-    }
-
-    // Appends the entry of an action that is not refused, done for the first time or again, with what it changes and
-    // touches now, and answers its number. All memory is taken before the store changes: room in the three lists and in
-    // the stacks, what is kept, the footprint among the holders; and `Store::apply_told` takes its own before its first
-    // change.
-    fn append_work(
-        &mut self,
-        author: Author,
-        id: u64,
-        kind: EntryKind<A>,
-        changes: Changes<A>,
-        footprint: Footprint<A>,
-    ) -> Result<u64, Memory>
-        requires may { MayAppend self.old.limit self.old.journal author id }
-        requires work { MayWork self.old.journal author kind }
-        requires accepted { kind_refusal (past self.old.base self.old.journal) self.old.journal author kind ≡ None }
-        requires changes { changes ≡ (recorded_next (past self.old.base self.old.journal) kind).changes }
-        requires footprint { footprint ≡ (recorded_next (past self.old.base self.old.journal) kind).footprint }
-        requires from { AreFrom (mapof self.old.base self.old.journal) changes }
-        requires sound { is_sound (changed (mapof self.old.base self.old.journal) changes) ≡ true }
-        ensures ok { IfOk result (λ seq. (seq ≡ length self.old.journal + 1)
-            × (self.new ≡ record self.old { journal = with_entry self.old.journal author id kind })) }
-        ensures err { OnErr result (self.new ≡ self.old) }
-    {
-        let alloc = *self.entries.allocator();
-        reserve(
-            &mut self.entries,
-            &mut self.recorded,
-            &mut self.origins,
-            &mut self.stacks,
-            &author,
-        )?;
-        let effect = effect_of(alloc, &self.store, changes)?;
-        let sole = sole_row(&self.store, &effect)?;
-        let seq = self.entries.len() as u64 + 1;
-        let origin = origin_next(&self.origins, &kind);
-        stand(
-            alloc,
-            &mut self.store,
-            &mut self.holders,
-            &effect,
-            &footprint,
-            seq,
-        )?;
-        note(&mut self.stacks, author, id, &kind, seq);
-        enter(
-            &mut self.entries,
-            &mut self.recorded,
-            &mut self.origins,
-            Entry { author, id, kind },
-            Kept::of(effect, sole),
-            origin,
-        );
-        Ok(seq)
     }
 
     // Undoes an entry, if it stands, is the author's own, and no later entry that stands blocks it.
@@ -302,10 +248,16 @@ impl<A: Allocator + Copy> Room<A> {
     // What an undo takes back, if it stands, is the author's own, and no later entry that stands blocks it; or the
     // reply that refuses it.
     fn undoable(&self, author: &Author, number: Option<u64>) -> Result<Undoable<A>, Reply<A>>
-        ensures found { IfOk result (λ u. Ok u.of ≡ asked_or (undo_refusal (past self.now.base self.now.journal) self.now.journal author.now) (asked self.now.journal author.now number)) }
-        ensures changes { IfOk result (λ u. inverse u.changes ≡ (recorded_next (past self.now.base self.now.journal) (Undo u.of)).changes) }
-        ensures footprint { IfOk result (λ u. u.footprint ≡ recorded_footprint (past self.now.base self.now.journal) u.of) }
-        ensures refused { IfErr result (λ r. (r ≡ replies.Memory) ⊎ (Err r ≡ asked_or (undo_refusal (past self.now.base self.now.journal) self.now.journal author.now) (asked self.now.journal author.now number))) }
+        ensures found { IfOk result
+            (λ u. Ok u.of ≡ asked_or (undo_refusal (past self.now.base self.now.journal) self.now.journal author.now)
+            (asked self.now.journal author.now number)) }
+        ensures changes { IfOk result
+            (λ u. inverse u.changes ≡ (recorded_next (past self.now.base self.now.journal) (Undo u.of)).changes) }
+        ensures footprint { IfOk result
+            (λ u. u.footprint ≡ recorded_footprint (past self.now.base self.now.journal) u.of) }
+        ensures refused { IfErr result (λ r. (r ≡ replies.Memory)
+            ⊎ (Err r ≡ asked_or (undo_refusal (past self.now.base self.now.journal) self.now.journal author.now)
+            (asked self.now.journal author.now number))) }
     {
         let own = self.stacks.standing(author);
         let of = asked_for(&self.entries, own, author, number)?;
@@ -325,7 +277,8 @@ impl<A: Allocator + Copy> Room<A> {
     // What an entry that stands changed, and its footprint, which is worked out of its action and that.
     fn worked_out(&self, of: u64) -> Result<(Changes<A>, Footprint<A>), Memory>
         requires { is_standing self.now.journal of ≡ true }
-        ensures changes { IfOk result (λ w. inverse w.0 ≡ (recorded_next (past self.now.base self.now.journal) (Undo of)).changes) }
+        ensures changes { IfOk result
+            (λ w. inverse w.0 ≡ (recorded_next (past self.now.base self.now.journal) (Undo of)).changes) }
         ensures footprint { IfOk result (λ w. w.1 ≡ recorded_footprint (past self.now.base self.now.journal) of) }
     {
         let alloc = *self.entries.allocator();
@@ -337,52 +290,6 @@ impl<A: Allocator + Copy> Room<A> {
             }
             None => unreachable!(),
         }
-    }
-
-    // Appends the undo of an entry that nothing blocks, which takes back what that changed, and answers its number.
-    fn append_undo(&mut self, author: Author, id: u64, undoable: Undoable<A>) -> Result<u64, Memory>
-        requires may { MayAppend self.old.limit self.old.journal author id }
-        requires accepted { undo_refusal (past self.old.base self.old.journal) self.old.journal author undoable.of ≡ None }
-        requires changes { inverse undoable.changes ≡ (recorded_next (past self.old.base self.old.journal) (Undo undoable.of)).changes }
-        requires footprint { undoable.footprint ≡ recorded_footprint (past self.old.base self.old.journal) undoable.of }
-        ensures ok { IfOk result (λ seq. (seq ≡ length self.old.journal + 1)
-            × (self.new ≡ record self.old { journal = with_entry self.old.journal author id (Undo undoable.of) })) }
-        ensures err { OnErr result (self.new ≡ self.old) }
-    {
-        leads_back::<A>();
-        let Undoable {
-            of,
-            changes,
-            footprint,
-        } = undoable;
-        let alloc = *self.entries.allocator();
-        reserve(
-            &mut self.entries,
-            &mut self.recorded,
-            &mut self.origins,
-            &mut self.stacks,
-            &author,
-        )?;
-        let effect = effect_of(alloc, &self.store, changes.inverse())?;
-        let sole = sole_row(&self.store, &effect)?;
-        self.store.apply_told(alloc, &effect.changes, &effect.rows)?;
-        let seq = self.entries.len() as u64 + 1;
-        let undo = EntryKind::Undo(of);
-        note(&mut self.stacks, author, id, &undo, seq);
-        enter(
-            &mut self.entries,
-            &mut self.recorded,
-            &mut self.origins,
-            Entry {
-                author,
-                id,
-                kind: undo,
-            },
-            Kept::of(effect, sole),
-            seq,
-        );
-        self.holders.fall(&footprint, of);
-        Ok(seq)
     }
 
     // Does the action of the entry that the author undid last again, if it is accepted on the map.
@@ -412,12 +319,18 @@ impl<A: Allocator + Copy> Room<A> {
     // that calls lead to, an entry on top of what can be redone has an action (`top_acts` of `proofs/Redoable.antt`);
     // `NothingToRedo` is what the definition answers of others.
     fn plan_again(&self, of: u64) -> Result<(Changes<A>, Footprint<A>), Reply<A>>
-        ensures accepted { OnOk result (redo_refusal (mapof self.now.base self.now.journal) (action_at (past self.now.base self.now.journal) of) ≡ None) }
-        ensures changes { IfOk result (λ p. p.0 ≡ (recorded_next (past self.now.base self.now.journal) (Redo of)).changes) }
-        ensures footprint { IfOk result (λ p. p.1 ≡ (recorded_next (past self.now.base self.now.journal) (Redo of)).footprint) }
+        ensures accepted { OnOk result
+            (redo_refusal (mapof self.now.base self.now.journal) (action_at (past self.now.base self.now.journal) of)
+            ≡ None) }
+        ensures changes { IfOk result
+            (λ p. p.0 ≡ (recorded_next (past self.now.base self.now.journal) (Redo of)).changes) }
+        ensures footprint { IfOk result
+            (λ p. p.1 ≡ (recorded_next (past self.now.base self.now.journal) (Redo of)).footprint) }
         ensures from { IfOk result (λ p. AreFrom (mapof self.now.base self.now.journal) p.0) }
         ensures sound { IfOk result (λ p. is_sound (changed (mapof self.now.base self.now.journal) p.0) ≡ true) }
-        ensures refused { IfErr result (λ r. (r ≡ replies.Memory) ⊎ (redo_refusal (mapof self.now.base self.now.journal) (action_at (past self.now.base self.now.journal) of) ≡ Some r)) }
+        ensures refused { IfErr result (λ r. (r ≡ replies.Memory)
+            ⊎ (redo_refusal (mapof self.now.base self.now.journal) (action_at (past self.now.base self.now.journal) of)
+            ≡ Some r)) }
     {
         match action_of(&self.entries, &self.origins, of) {
             Some(action) => self.planned(action),
@@ -495,14 +408,4 @@ impl<A: Allocator + Copy> Room<A> {
     {
         numbered(&self.entries, seq)
     }
-}
-
-// What holds of changes that are taken back. It does nothing.
-fn leads_back<A: Allocator>()
-    ensures differ { (m n : Rows A) → AreChanges (differences m n) }
-    ensures from { (m n : Rows A) → AreFrom m (differences m n) }
-    ensures back { (m : Rows A) (cs : List (Change A)) → AreInOrder m → AreChanges cs → AreFrom m cs → AreFrom (changed m cs) (inverse cs) }
-{
-    differences_are_changes::<A>();
-    an_inverse_restores::<A>();
 }

@@ -24,7 +24,7 @@ use Rattle.room_server.specs.Tables.{DeskView, SeatView, TableView, base_fault}
 use Rattle.std.proofs.lemmas.List.Elements.{All-same, All-push}
 use Rattle.room_server.proofs.Counting.{all_none}
 use Rattle.room_server.proofs.Seating.{some_is}
-use Rattle.room_server.proofs.Splitting.{AtFirst, at_none, get_more, length_more}
+use Rattle.room_server.proofs.Splitting.{AtFirst, get_more, length_more}
 
 -- ---- lists
 

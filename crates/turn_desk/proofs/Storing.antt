@@ -4,7 +4,7 @@ use Rattle.std.proofs.lemmas.List.{map-append}
 use lib.ListN.{length-map}
 use mathlib.Core.Option.{some}
 use lib.ListN.{get_elem?}
-use Rattle.atomic_table.specs.Table.{State, Me, Act, keeps, takes, gives, put_back, rest, stepped, Allows, opening}
+use Rattle.atomic_table.specs.Table.{State, Me, Act, keeps, stepped, Allows}
 use Rattle.turn_desk.specs.History.{History, entries, entries_by, BeginsWith, MayFollow, IsLegal}
 use Rattle.turn_desk.specs.Rule.{HasTurn, kin_of, Agrees, Moment, HoldsTicket, Fits, StandsFor, Kept}
 use Rattle.turn_desk.specs.Inner.Plays.{looking, Grows, Enters, Stores}

@@ -1,9 +1,7 @@
 -- Notes that wait.
-use Rattle.std.specs.Prelude.{◌≡◌, ◌+◌, ℕ, not, List, [], ◌∷◌}
-use Rattle.std.specs.List.{filter}
+use Rattle.std.specs.Prelude.{◌≡◌, ◌+◌, ℕ, List, [], ◌∷◌}
 use Rattle.osm_elements.specs.declared.name.Name.{Name}
 use Rattle.osm_elements.specs.NameOrder.{name_cmp}
-use Rattle.osm_elements.specs.Maps.{is_among}
 use Rattle.osm_refs.specs.declared.note.KeptNote.{KeptNote}
 use Rattle.osm_refs.specs.Tables.{Table, Note, references_at, referring}
 use Rattle.osm_refs.specs.Rising.{IsRising, names_but}

@@ -1,5 +1,4 @@
-use Rattle.std.proofs.Common.{◌≡◌, sym, subst, ap, ◌∙◌}
-use Rattle.std.specs.Result.{IfOk}
+use Rattle.std.proofs.Common.{sym, subst, ap, ◌∙◌}
 use Rattle.osm_elements.specs.Facts.NameOrder.{name_cmp_is}
 use Rattle.rising_lists.specs.Rising as lists
 use Rattle.osm_refs.proofs.but.names_but.Goals as goal

@@ -1,6 +1,5 @@
-use Rattle.std.proofs.Common.{◌≡◌, ◌++◌, [], ◌∷◌, sym, ap, ◌∙◌}
+use Rattle.std.proofs.Common.{◌++◌, [], ◌∷◌, sym, ap, ◌∙◌}
 use Rattle.std.proofs.lemmas.List.{map_more}
-use Rattle.room_history.specs.declared.news.NewsRow.{NewsRow}
 use Rattle.room_history.specs.Inner.Telling.{told_row}
 use Rattle.room_history.proofs.news.told_rows.Goals as goal
 

@@ -1,4 +1,3 @@
-use Rattle.std.proofs.Common.{◌≡◌}
 use Rattle.room_server.specs.Inner.Opened.{AreOpened}
 use Rattle.room_server.proofs.table.open_copies.Given as goal
 

@@ -7,9 +7,8 @@ use Rattle.room_history.specs.Inner.Holders.{AreHolders}
 use Rattle.room_history.specs.Inner.Undoing.{asked_or, standing_refusal, undone_or}
 use Rattle.room_history.specs.Journals.{undos}
 use Rattle.room_history.specs.Replays.{past}
-use Rattle.room_history.proofs.Choosing.{asked_stands, asked_blocked}
+use Rattle.room_history.proofs.Choosing.{asked_answered}
 use Rattle.room_history.proofs.Deeds.{standing_deeds}
-use Rattle.room_history.proofs.KeptHolders.{blocker_found}
 use Rattle.room_history.proofs.room.Room.undoable.Goals as goal
 
 pub asked_for-requires : goal.asked_for-requires
@@ -20,23 +19,17 @@ asked_for-requires g c =
 pub returns-in-Some-clause-refused : goal.returns-in-Some-clause-refused
 returns-in-Some-clause-refused g c =
     let state = c.args.self.now in
-    let p = past state.base state.journal in
-    let number = asked state.journal c.args.author.now c.args.number in
     let entries = c.deref.ensures.value ∙ ap (λ s. s.journal) c.self.view_is in
     let chosen = sym c.in_ok-of.was ∙ c.asked_for.ensures ∙ ap (λ j. asked_or (standing_refusal j c.args.author.now) (asked j c.args.author.now c.args.number)) entries in
     let held = subst (λ s. AreHolders (past s.base s.journal) s.journal c.self.inside.holders) c.self.view_is c.self.invariant.holders_are in
-    let blocked = blocker_found p state.journal c.self.inside.holders held c.in_ok-of.of c.first_after.result (asked_stands state.journal c.args.author.now number c.in_ok-of.of chosen)
-    (subst (λ l. IsFirstAfter c.self.inside.holders l c.in_ok-of.of c.first_after.result) c.in-Ok.ensures.footprint c.first_after.ensures) in
-    inr (ap (λ o. undone_or c.in_ok-of.of (option_map conflict o)) (sym c.in-Some.is ∙ blocked) ∙ asked_blocked state.journal c.args.author.now p number c.in_ok-of.of chosen)
+    let first = subst (λ l. IsFirstAfter c.self.inside.holders l c.in_ok-of.of c.first_after.result) c.in-Ok.ensures.footprint c.first_after.ensures in
+    inr (ap (λ b. undone_or c.in_ok-of.of (option_map conflict b)) (sym c.in-Some.is) ∙ asked_answered state.journal c.args.author.now (past state.base state.journal) c.self.inside.holders held (asked state.journal c.args.author.now c.args.number) c.in_ok-of.of c.first_after.result chosen first)
 
 pub returns-in-None-clause-found : goal.returns-in-None-clause-found
 returns-in-None-clause-found g c =
     let state = c.args.self.now in
-    let p = past state.base state.journal in
-    let number = asked state.journal c.args.author.now c.args.number in
     let entries = c.deref.ensures.value ∙ ap (λ s. s.journal) c.self.view_is in
     let chosen = sym c.in_ok-of.was ∙ c.asked_for.ensures ∙ ap (λ j. asked_or (standing_refusal j c.args.author.now) (asked j c.args.author.now c.args.number)) entries in
     let held = subst (λ s. AreHolders (past s.base s.journal) s.journal c.self.inside.holders) c.self.view_is c.self.invariant.holders_are in
-    let blocked = blocker_found p state.journal c.self.inside.holders held c.in_ok-of.of c.first_after.result (asked_stands state.journal c.args.author.now number c.in_ok-of.of chosen)
-    (subst (λ l. IsFirstAfter c.self.inside.holders l c.in_ok-of.of c.first_after.result) c.in-Ok.ensures.footprint c.first_after.ensures) in
-    ap (λ o. undone_or c.in_ok-of.of (option_map conflict o)) (sym c.in-None.is ∙ blocked) ∙ asked_blocked state.journal c.args.author.now p number c.in_ok-of.of chosen
+    let first = subst (λ l. IsFirstAfter c.self.inside.holders l c.in_ok-of.of c.first_after.result) c.in-Ok.ensures.footprint c.first_after.ensures in
+    ap (λ b. undone_or c.in_ok-of.of (option_map conflict b)) (sym c.in-None.is) ∙ asked_answered state.journal c.args.author.now (past state.base state.journal) c.self.inside.holders held (asked state.journal c.args.author.now c.args.number) c.in_ok-of.of c.first_after.result chosen first

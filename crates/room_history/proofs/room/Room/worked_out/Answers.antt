@@ -1,12 +1,11 @@
-use Rattle.std.proofs.Common.{◌≡◌, ◌-◌, Some, length, ap, ◌∙◌, arith, rules}
+use Rattle.std.proofs.Common.{◌≡◌, ◌-◌, length, ap, ◌∙◌, arith, rules}
 use Rattle.std.specs.Option.{option_copied}
 use Rattle.std.specs.Vec.{vec_len}
 use Rattle.room_history.specs.declared.entry.EntryKind.TheVariants.{Undo}
-use Rattle.room_history.specs.declared.kept.Effect.{Effect}
 use Rattle.room_history.specs.Blockers.{recorded_footprint}
-use Rattle.room_history.specs.Journals.{is_standing, numbered}
+use Rattle.room_history.specs.Journals.{is_standing}
 use Rattle.room_history.specs.Replays.{past, recorded_next}
-use Rattle.room_history.proofs.Stepping.{is_first, is_kept, has_action, action_told, next_is, touched_is, numbered_item}
+use Rattle.room_history.proofs.Stepping.{is_first, is_kept, has_action, action_told, next_is, touched_is, kept_changes}
 use Rattle.room_history.proofs.room.Room.worked_out.Goals as goal
 
 pub index-requires : goal.index-requires
@@ -29,8 +28,7 @@ pub returns-clause-changes : goal.returns-clause-changes
 returns-clause-changes g c =
     let room = c.self.inside in
     let there = ap (λ s. is_standing s.journal c.args.of) c.self.view_is ∙ c.requires in
-    let told : (k : Effect _) → numbered room.recorded.items c.args.of ≡ Some k → c.in_ok-changes-in-Some.changes ≡ k.changes =
-    λ k is. c.in_ok-changes-in-Some.ensures ∙ ap (λ (e : Effect _). e.changes) (c.index.ensures ∙ numbered_item room.recorded.items c.args.of k c.index.result.now is) in
+    let told = kept_changes room.recorded.items c.args.of c.index.result.now c.in_ok-changes-in-Some.changes c.in_ok-changes-in-Some.ensures c.index.ensures in
     next_is room.store room.recorded.items room.origins.items room.holders room.stacks.deeds room.base.value room.limit room.entries.items c.self.invariant c.args.of there c.in_ok-changes-in-Some.changes told
     ∙ ap (λ s. (recorded_next (past s.base s.journal) (Undo c.args.of)).changes) c.self.view_is
 
@@ -39,8 +37,7 @@ returns-clause-footprint g c =
     let room = c.self.inside in
     let there = ap (λ s. is_standing s.journal c.args.of) c.self.view_is ∙ c.requires in
     let found = action_told room.store room.recorded.items room.origins.items room.holders room.stacks.deeds room.base.value room.limit room.entries.items c.self.invariant c.deref.result.now c.deref-2.result.now c.args.of (option_copied c.action_of.result) c.deref.ensures.value c.deref-2.ensures.value c.action_of.ensures in
-    let told : (k : Effect _) → numbered room.recorded.items c.args.of ≡ Some k → c.in_ok-changes-in-Some.changes ≡ k.changes =
-    λ k is. c.in_ok-changes-in-Some.ensures ∙ ap (λ (e : Effect _). e.changes) (c.index.ensures ∙ numbered_item room.recorded.items c.args.of k c.index.result.now is) in
+    let told = kept_changes room.recorded.items c.args.of c.index.result.now c.in_ok-changes-in-Some.changes c.in_ok-changes-in-Some.ensures c.index.ensures in
     c.in_ok-footprint-in-Some.ensures
     ∙ touched_is room.store room.recorded.items room.origins.items room.holders room.stacks.deeds room.base.value room.limit room.entries.items c.self.invariant c.args.of there c.in-Some.action.now (found ∙ ap option_copied c.in-Some.is) c.in_ok-changes-in-Some.changes told
     ∙ ap (λ s. recorded_footprint (past s.base s.journal) c.args.of) c.self.view_is

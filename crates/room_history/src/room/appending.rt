@@ -1,0 +1,147 @@
+//! How a room's journal grows: by the entry of an action, or of an undo.
+ghost use Rattle.std.specs.Prelude.{◌≡◌, ◌+◌, List, None, true, length, IfOk, OnErr};
+ghost use Rattle.osm_changes.specs.declared.change.Change.{Change};
+ghost use Rattle.osm_changes.specs.Changes.{differences, changed, inverse, AreChanges, AreFrom};
+ghost use Rattle.osm_elements.specs.Maps.{Rows};
+ghost use Rattle.osm_elements.specs.Rows.{AreInOrder};
+ghost use Rattle.osm_changes.specs.Sound.{is_sound};
+
+use crate::effects::{enter, note, reserve, stand};
+use crate::entry::{Entry, EntryKind};
+use crate::journal::origin_next;
+use crate::kept::{Kept, effect_of, sole_row};
+use crate::room::Room;
+use crate::undo::Undoable;
+use edit_footprint::footprint::Footprint;
+use osm_changes::changes::Changes;
+use osm_changes::laws::{an_inverse_restores, differences_are_changes};
+use osm_elements::Memory;
+use room_stacks::author::Author;
+use std::alloc::Allocator;
+
+impl<A: Allocator + Copy> Room<A> {
+    ghost use Rattle.room_history.specs.Answers.{kind_refusal, undo_refusal, with_entry};
+    ghost use Rattle.room_history.specs.declared.entry.EntryKind.TheVariants.{Undo};
+    ghost use Rattle.room_history.specs.Blockers.{recorded_footprint};
+    ghost use Rattle.room_history.specs.Replays.{past, mapof, recorded_next};
+    ghost use Rattle.room_history.specs.Inner.Rooms.{MayAppend, MayWork};
+
+    // Appends the entry of an action that is not refused, done for the first time or again, with what it changes and
+    // touches now, and answers its number. All memory is taken before the store changes: room in the three lists and in
+    // the stacks, what is kept, the footprint among the holders; and `Store::apply_told` takes its own before its first
+    // change.
+    pub(super) fn append_work(
+        &mut self,
+        author: Author,
+        id: u64,
+        kind: EntryKind<A>,
+        changes: Changes<A>,
+        footprint: Footprint<A>,
+    ) -> Result<u64, Memory>
+        requires may { MayAppend self.old.limit self.old.journal author id }
+        requires work { MayWork self.old.journal author kind }
+        requires accepted { kind_refusal (past self.old.base self.old.journal) self.old.journal author kind ≡ None }
+        requires changes { changes ≡ (recorded_next (past self.old.base self.old.journal) kind).changes }
+        requires footprint { footprint ≡ (recorded_next (past self.old.base self.old.journal) kind).footprint }
+        requires from { AreFrom (mapof self.old.base self.old.journal) changes }
+        requires sound { is_sound (changed (mapof self.old.base self.old.journal) changes) ≡ true }
+        ensures ok { IfOk result (λ seq. (seq ≡ length self.old.journal + 1)
+            × (self.new ≡ record self.old { journal = with_entry self.old.journal author id kind })) }
+        ensures err { OnErr result (self.new ≡ self.old) }
+    {
+        let alloc = *self.entries.allocator();
+        reserve(
+            &mut self.entries,
+            &mut self.recorded,
+            &mut self.origins,
+            &mut self.stacks,
+            &author,
+        )?;
+        let effect = effect_of(alloc, &self.store, changes)?;
+        let sole = sole_row(&self.store, &effect)?;
+        let seq = self.entries.len() as u64 + 1;
+        let origin = origin_next(&self.origins, &kind);
+        stand(
+            alloc,
+            &mut self.store,
+            &mut self.holders,
+            &effect,
+            &footprint,
+            seq,
+        )?;
+        note(&mut self.stacks, author, id, &kind, seq);
+        enter(
+            &mut self.entries,
+            &mut self.recorded,
+            &mut self.origins,
+            Entry { author, id, kind },
+            Kept::of(effect, sole),
+            origin,
+        );
+        Ok(seq)
+    }
+
+    // Appends the undo of an entry that nothing blocks, which takes back what that changed, and answers its number.
+    pub(super) fn append_undo(
+        &mut self,
+        author: Author,
+        id: u64,
+        undoable: Undoable<A>,
+    ) -> Result<u64, Memory>
+        requires may { MayAppend self.old.limit self.old.journal author id }
+        requires accepted { undo_refusal (past self.old.base self.old.journal) self.old.journal author undoable.of
+            ≡ None }
+        requires changes { inverse undoable.changes
+            ≡ (recorded_next (past self.old.base self.old.journal) (Undo undoable.of)).changes }
+        requires footprint { undoable.footprint ≡ recorded_footprint (past self.old.base self.old.journal) undoable.of }
+        ensures ok { IfOk result (λ seq. (seq ≡ length self.old.journal + 1)
+            × (self.new ≡ record self.old { journal = with_entry self.old.journal author id (Undo undoable.of) })) }
+        ensures err { OnErr result (self.new ≡ self.old) }
+    {
+        leads_back::<A>();
+        let Undoable {
+            of,
+            changes,
+            footprint,
+        } = undoable;
+        let alloc = *self.entries.allocator();
+        reserve(
+            &mut self.entries,
+            &mut self.recorded,
+            &mut self.origins,
+            &mut self.stacks,
+            &author,
+        )?;
+        let effect = effect_of(alloc, &self.store, changes.inverse())?;
+        let sole = sole_row(&self.store, &effect)?;
+        self.store.apply_told(alloc, &effect.changes, &effect.rows)?;
+        let seq = self.entries.len() as u64 + 1;
+        let undo = EntryKind::Undo(of);
+        note(&mut self.stacks, author, id, &undo, seq);
+        enter(
+            &mut self.entries,
+            &mut self.recorded,
+            &mut self.origins,
+            Entry {
+                author,
+                id,
+                kind: undo,
+            },
+            Kept::of(effect, sole),
+            seq,
+        );
+        self.holders.fall(&footprint, of);
+        Ok(seq)
+    }
+}
+
+// What holds of changes that are taken back. It does nothing.
+fn leads_back<A: Allocator>()
+    ensures differ { (m n : Rows A) → AreChanges (differences m n) }
+    ensures from { (m n : Rows A) → AreFrom m (differences m n) }
+    ensures back { (m : Rows A) (cs : List (Change A)) → AreInOrder m → AreChanges cs → AreFrom m cs
+        → AreFrom (changed m cs) (inverse cs) }
+{
+    differences_are_changes::<A>();
+    an_inverse_restores::<A>();
+}
