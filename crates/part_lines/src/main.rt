@@ -3,7 +3,8 @@
 //! `part_lines edits` plans and applies edits, `part_lines mirrors` keeps a mirror, and `part_lines sessions [LIMIT]`
 //! runs sessions with a room whose journal takes so many entries, or 1,000: each as the lines of standard input say,
 //! which the modules tell. `part_lines rooms [TURNS]` shows what rooms answer that are run or shared by turns; with a
-//! number it then measures how fast so many turns are taken. `part_lines serve ADDR WORKERS SESSIONS TURNS [held]` is a
+//! number it then measures how fast so many turns are taken. `part_lines runs [PLACE]` shows of these two runs of a few
+//! calls, without the call of this place, counted from 1. `part_lines serve ADDR WORKERS SESSIONS TURNS [held]` is a
 //! server of one room, by so many workers and for so many sessions, each of which reads so many messages at most.
 #![tactic(auto)]
 
@@ -27,8 +28,9 @@ const LIMIT: u32 = 1_000;
 fn main(rt: HostRuntime) -> io::Result<()> {
     let Some(asked) = what_is_asked(&rt) else {
         rt.eprintln(
-            "usage: part_lines edits | mirrors | sessions [LIMIT] | rooms [TURNS] | serve ADDR WORKERS SESSIONS TURNS [held]",
+            "usage: part_lines edits | mirrors | sessions [LIMIT] | rooms [TURNS] | runs [PLACE]",
         )?;
+        rt.eprintln("       part_lines serve ADDR WORKERS SESSIONS TURNS [held]")?;
         return Err(io::ErrorKind::InvalidInput.into());
     };
     let alloc = rt.alloc();
@@ -37,6 +39,7 @@ fn main(rt: HostRuntime) -> io::Result<()> {
         Asked::Mirrors => mirrors::run(&rt, alloc, rt.lines(alloc)),
         Asked::Sessions(limit) => sessions::run(&rt, alloc, rt.lines(alloc), limit),
         Asked::Rooms(turns) => show_rooms(&rt, alloc, turns),
+        Asked::Runs(without) => rooms::show_runs(&rt, alloc, without),
         Asked::Serve(asked) => serving::run(&rt, alloc, &asked),
     }
 }
@@ -48,6 +51,7 @@ enum Asked {
     Mirrors,
     Sessions(u32),
     Rooms(Option<u32>),
+    Runs(u32),
     Serve(Serving),
 }
 
@@ -77,6 +81,7 @@ fn what_is_asked<R: Env + AllocGlobal>(rt: &R) -> Option<Asked> {
         "mirrors" => Some(Asked::Mirrors),
         "sessions" => Some(Asked::Sessions(number.unwrap_or(LIMIT))),
         "rooms" => Some(Asked::Rooms(number)),
+        "runs" => Some(Asked::Runs(number.unwrap_or(0))),
         _ => None,
     }
 }

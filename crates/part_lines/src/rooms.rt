@@ -18,3 +18,8 @@ pub fn show<R: Print + Threads + Wait + Sync>(rt: &R, alloc: Global) -> io::Resu
     runs::show(rt, alloc)?;
     seats::show(rt, alloc)
 }
+
+/// Prints what is answered to two runs of a few calls, without the one of this place, counted from 1.
+pub fn show_runs<R: Print + Wait>(rt: &R, alloc: Global, without: u32) -> io::Result<()> {
+    runs::show_each(rt, alloc, without)
+}

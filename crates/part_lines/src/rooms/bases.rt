@@ -15,19 +15,24 @@ use std::alloc::Global;
 use std::io::{self, ErrorKind};
 use std::sync::Wait;
 
-/// Shows what is answered by a room that begins with the map of this one, and how many entries two rooms of a table
-/// have that begin with it.
-pub fn show<R: Print + Wait>(rt: &R, alloc: Global, room: &Room<Global>) -> io::Result<()> {
-    show_run(rt, alloc, room.map_rows()?)?;
+/// Shows what is answered by a room that begins with the map of this one, to calls without the one of a place; and how
+/// many entries two rooms of a table have that begin with it.
+pub fn show<R: Print + Wait>(
+    rt: &R,
+    alloc: Global,
+    room: &Room<Global>,
+    without: u32,
+) -> io::Result<()> {
+    show_run(rt, alloc, room.map_rows()?, without)?;
     show_table(rt, alloc, room.map_rows()?)
 }
 
 // A run: nothing can be taken back, a node of the base cannot be created, and another can.
-fn show_run<R: Print>(rt: &R, alloc: Global, rows: Rows<Global>) -> io::Result<()>
+fn show_run<R: Print>(rt: &R, alloc: Global, rows: Rows<Global>, without: u32) -> io::Result<()>
     requires { is_sound rows ≡ true }
 {
     a_sound_map_can_be_a_base::<Global>();
-    let calls = calls(alloc)?;
+    let calls = calls(alloc, without)?;
     match run_on(alloc, rows, 9, calls) {
         Ok((room, replies)) => show_replies(rt, &room, &replies),
         Err(BaseFault::Unsound { .. }) => Err(ErrorKind::InvalidData.into()),
@@ -50,20 +55,22 @@ fn show_table<R: Print + Wait>(rt: &R, alloc: Global, rows: Rows<Global>) -> io:
     }
 }
 
-fn calls(alloc: Global) -> io::Result<Calls<Global>> {
+fn calls(alloc: Global, without: u32) -> io::Result<Calls<Global>> {
     let mut calls = Vec::new(alloc);
-    for place in 0..3 {
-        calls.push(call_at(alloc, place)?)?;
+    for place in 10..=12 {
+        if place != without {
+            calls.push(call_at(alloc, place)?)?;
+        }
     }
     Ok(Calls::from_vec(calls))
 }
 
 // The call of a place: Anna takes back what she did not do, creates node -6, which the base has, and node -7.
-fn call_at(alloc: Global, place: usize) -> io::Result<Call<Global>> {
+fn call_at(alloc: Global, place: u32) -> io::Result<Call<Global>> {
     let anna = author("anna")?;
     Ok(match place {
-        0 => call(anna, 1, Request::Undo(None)),
-        1 => create(alloc, anna, 1, -6)?,
+        10 => call(anna, 1, Request::Undo(None)),
+        11 => create(alloc, anna, 1, -6)?,
         _ => create(alloc, anna, 1, -7)?,
     })
 }

@@ -13,7 +13,7 @@ use std::io;
 use std::sync::Wait;
 
 // How many calls the first run has.
-const CALLS: usize = 9;
+const CALLS: u32 = 9;
 
 // How many calls the long run has, and how many entries its room takes.
 const MANY: u32 = 3000;
@@ -23,15 +23,16 @@ const LIMIT: u32 = 2999;
 /// Shows what runs are answered: a redo at once and then a redo that cannot be, what rooms are answered that begin with
 /// the map of that room, and thousands of calls.
 pub fn show<R: Print + Wait>(rt: &R, alloc: Global) -> io::Result<()> {
-    show_each(rt, alloc)?;
+    show_each(rt, alloc, 0)?;
     show_many(rt, alloc)
 }
 
-// Shows each reply to a few calls, and the room then; and rooms that begin with its map.
-fn show_each<R: Print + Wait>(rt: &R, alloc: Global) -> io::Result<()> {
-    let (room, replies) = ran(alloc, 9, calls(alloc)?)?;
+/// Shows each reply to a few calls, and the room then; and rooms that begin with its map. The call of one place is left
+/// out: places 1 to 9 are in the first run, 10 to 12 in the second, which begins with a map; 0 is no place.
+pub fn show_each<R: Print + Wait>(rt: &R, alloc: Global, without: u32) -> io::Result<()> {
+    let (room, replies) = ran(alloc, 9, calls(alloc, without)?)?;
     show_replies(rt, &room, &replies)?;
-    bases::show(rt, alloc, &room)
+    bases::show(rt, alloc, &room, without)
 }
 
 // Shows how many replies to many calls are right, and the room then.
@@ -66,10 +67,15 @@ fn show_count<R: Print>(rt: &R, room: &Room<Global>, replies: &Replies<Global>) 
     show_room(rt, room)
 }
 
-/// Prints how many entries and elements a room has, these by its rows.
+/// Prints how many entries a room has, how many changes were applied to its map, and how many elements there are, these
+/// by its rows.
 pub fn show_room<R: Print>(rt: &R, room: &Room<Global>) -> io::Result<()> {
     let elements = count_elements(room)?;
-    println!(rt; "entries {}, elements {elements}", room.front())
+    println!(rt;
+        "entries {}, changes {}, elements {elements}",
+        room.front(),
+        room.applied()
+    )
 }
 
 fn count_elements(room: &Room<Global>) -> Result<usize, Memory> {
@@ -77,27 +83,29 @@ fn count_elements(room: &Room<Global>) -> Result<usize, Memory> {
     Ok(rows.as_slice().len())
 }
 
-fn calls(alloc: Global) -> io::Result<Calls<Global>> {
+fn calls(alloc: Global, without: u32) -> io::Result<Calls<Global>> {
     let mut calls = Vec::new(alloc);
-    for place in 0..CALLS {
-        calls.push(call_at(alloc, place)?)?;
+    for place in 1..=CALLS {
+        if place != without {
+            calls.push(call_at(alloc, place)?)?;
+        }
     }
     Ok(Calls::from_vec(calls))
 }
 
 // The call of a place: Anna creates node -5, takes it back and does it again, and Carl moves it and can do so no more.
-fn call_at(alloc: Global, place: usize) -> io::Result<Call<Global>> {
+fn call_at(alloc: Global, place: u32) -> io::Result<Call<Global>> {
     let anna = author("anna")?;
     let carl = author("carl")?;
     Ok(match place {
-        0 => create(alloc, anna, 1, -5)?,
-        1 => create(alloc, author("bob")?, 1, -6)?,
-        2 => call(anna, 2, Request::Undo(None)),
-        3 => call(anna, 3, Request::Redo),
-        4 => call(carl, 1, movement(alloc)?),
-        5 => call(carl, 2, Request::Undo(None)),
-        6 => call(anna, 4, Request::Undo(Some(4))),
-        7 => call(carl, 3, Request::Redo),
+        1 => create(alloc, anna, 1, -5)?,
+        2 => create(alloc, author("bob")?, 1, -6)?,
+        3 => call(anna, 2, Request::Undo(None)),
+        4 => call(anna, 3, Request::Redo),
+        5 => call(carl, 1, movement(alloc)?),
+        6 => call(carl, 2, Request::Undo(None)),
+        7 => call(anna, 4, Request::Undo(Some(4))),
+        8 => call(carl, 3, Request::Redo),
         _ => call(carl, 2, Request::Redo),
     })
 }

@@ -5,6 +5,7 @@ ghost use Rattle.turn_desk.specs.Desk.{IsAt};
 use crate::rooms::calls::{author, create, take};
 use crate::rooms::runs::show_room;
 use crate::rooms::turns::{Asked, shared_by_two};
+use osm_elements::map::Rows;
 use room_history::ask::{RoomCall, RoomReply};
 use room_history::call::Request;
 use room_history::room::Room;
@@ -35,11 +36,18 @@ fn show_turn<R: Print + Wait>(
     ensures { IsAt desk.now seat.new }
 {
     match desk.turn(rt, seat, call) {
-        RoomReply::Rows(Ok((front, rows))) => {
-            println!(rt; "entries {front}, elements {}", rows.as_slice().len())
-        }
+        RoomReply::Rows(Ok((front, rows))) => show_rows(rt, front, &rows),
         reply => println!(rt; "{reply:?}"),
     }
+}
+
+// Prints how many entries there are, and the name of each row.
+fn show_rows<R: Print>(rt: &R, front: u64, rows: &Rows<Global>) -> io::Result<()> {
+    println!(rt; "entries {front}")?;
+    for row in rows.as_slice() {
+        println!(rt; "{:?}", row.name)?;
+    }
+    Ok(())
 }
 
 // A turn at one seat is seen at two others.
