@@ -78,20 +78,20 @@ def blocks_of_output(output):
 
 
 class Script:
-    """A script of tests/texts/scripts of which each growth is refused: its words, its lines, its output, and that in blocks, one
-    for each line. Lines before those are a base, which has none."""
+    """A script of tests/texts/scripts or of another folder there, of which each growth is refused: its words, its
+    lines, its output, and that in blocks, one for each line. Lines before those are a base, which has none."""
 
-    def __init__(self, name, blocks_of):
-        self.name, self.blocks_of = name, blocks_of
-        self.words = (content(f"scripts/{name}.args") or b"").decode().split()
-        self.output = content(f"scripts/{name}.out")
+    def __init__(self, name, blocks_of, folder="scripts"):
+        self.name, self.blocks_of, self.path = name, blocks_of, f"{folder}/{name}"
+        self.words = (content(f"{self.path}.args") or b"").decode().split()
+        self.output = content(f"{self.path}.out")
         self.blocks = blocks_of(self.output)
-        lines = tuple(content(f"scripts/{name}.in").decode().removesuffix("\n").split("\n"))
+        lines = tuple(content(f"{self.path}.in").decode().removesuffix("\n").split("\n"))
         self.base, self.lines = lines[: -len(self.blocks)], lines[-len(self.blocks) :]
 
     def place(self, at):
         """Where the line of this place stands."""
-        return f"tests/texts/scripts/{self.name}.in:{len(self.base) + at + 1}"
+        return f"tests/texts/{self.path}.in:{len(self.base) + at + 1}"
 
     def without(self, place):
         """The lines but that of a place."""

@@ -1,6 +1,6 @@
 """Checks of the server as part_lines runs it, where what `maproom serve` leaves to chance or to its bound is in hand: a
 message that is held back, and sessions that read few messages."""
-from lib.cases import case_if, given, want
+from lib.cases import case_if, each_case, given, want
 from lib.talk import SILENCE, be_closed, create, finish, hear, hello, leave, news, node, ok, refused, serving_parts
 from lib.talk import talk, welcome
 from lib.websocket import text_frame
@@ -34,13 +34,12 @@ def a_held_message():
         finish(server, ["paris 2"], "left", "left")
 
 
-@case_if(has_parts)
-def as_many_messages_as_may_be():
+def as_many_messages_as_may_be(most):
     """A client that says one message more than a session reads gets a close with 1000 in the place of the last reply.
     A wait in which nothing came counts as a message, so a client may be answered less; but one of several is not."""
-    clients, numbers = range(5), range(2, FEW + 2)
+    clients, numbers = range(5), range(2, most + 2)
     answers = [welcome(0), *(ok(number, '"redo":[],"undos":[]') for number in numbers[:-1])]
-    with serving_parts(FEW, workers=1, sessions=len(clients)) as server:
+    with serving_parts(most, workers=1, sessions=len(clients)) as server:
         answered = []
         for _ in clients:
             anna = server.client()
@@ -52,8 +51,11 @@ def as_many_messages_as_may_be():
             want(texts, answers[: len(texts)])
             answered.append(len(texts))
             be_closed(anna, 1000)
-        want(max(answered), FEW)
+        want(max(answered), most)
         finish(server, ["paris 0"], *["bound"] * len(clients))
+
+
+each_case(as_many_messages_as_may_be, {"a_hello_alone": 1, "as_many_messages_as_may_be": FEW}, has_parts)
 
 
 @case_if(has_parts)
