@@ -14,6 +14,8 @@ Of those that serve:
     serving.py    a server that a script starts, and a client's session with its map
     websocket.py  a client that frames what it is asked to, also what it must not
     talk.py       what goes to and fro in a session, in short forms
+    mappers.py    mappers who edit a map at random
+    answers.py    what an author may be answered
     proxy.py      a way to a server on which answers are lost
     faulty.py     a server in which a call or a growth fails
     others.py     clients and browsers of others, where they are installed

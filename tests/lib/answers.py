@@ -1,0 +1,121 @@
+"""What may be answered (docs/PROTOCOL.md): to what is no message, and to an author by what he was answered before."""
+
+# What each refusal tells beside why.
+TOLD = {
+    **dict.fromkeys(("wrong_kind", "present", "same", "absent", "out_of_range", "too_few", "too_many"), {"el"}),
+    **dict.fromkeys(("bad_position", "not_end_to_end", "nothing", "nothing_to_undo", "nothing_to_redo"), set()),
+    **dict.fromkeys(("no_such", "not_yours", "not_standing"), set()),
+    "tag_conflict": {"key"}, "in_use": {"by", "el"}, "conflict": {"at", "with"},
+}
+
+# Why an action may be refused, and a query.
+ACTIONS = {
+    "create": {"present", "too_few", "too_many", "absent"},
+    "retag": {"absent", "too_many", "nothing"},
+    "move": {"wrong_kind", "absent", "out_of_range", "nothing"},
+    "reverse": {"wrong_kind", "absent", "nothing"},
+    "nodes": {"wrong_kind", "absent", "too_few", "too_many", "nothing"},
+    "members": {"wrong_kind", "absent", "too_many", "nothing"},
+    "delete": {"absent", "in_use"},
+    "purge": {"absent"},
+    "split": {"wrong_kind", "absent", "present", "bad_position", "too_many"},
+    "join": {"wrong_kind", "same", "absent", "not_end_to_end", "too_many", "tag_conflict"},
+    "merge": {"wrong_kind", "same", "absent", "too_few", "tag_conflict", "too_many"},
+    "unglue": {"wrong_kind", "absent", "present", "bad_position"},
+}
+QUERIES = {"get": {"absent"}, "undos": set()}
+
+
+def bad_field(field):
+    """The id and the refusal of a message under the id 1 in which this is wrong."""
+    return 1, {"field": field, "why": "bad_field"}
+
+
+# What a session does not take for a message, and the id and the refusal with which it is answered.
+ODDITIES = {
+    "hello": (0, {"why": "not_json"}),
+    '{"id":2,"do":"cre': (0, {"why": "not_json"}),
+    "[1]": (0, {"why": "not_object"}),
+    '{"id":"1","do":"map"}': (0, {"why": "bad_id"}),
+    '{"id":1,"do":"paint","el":"w1"}': (1, {"why": "unknown_do"}),
+    '{"id":1,"do":"get","el":"n05"}': bad_field("el"),
+    '{"id":1,"do":"create","el":"n1","lat":51.5,"lon":"0"}': bad_field("lat"),
+    '{"id":1,"do":"create","el":"n1","lat":"90","lon":"180.1"}': bad_field("lon"),
+    '{"id":1,"do":"create","el":"w1","nodes":[1,0]}': bad_field("nodes"),
+    '{"id":1,"do":"create","el":"r1","members":["n1"]}': bad_field("members"),
+    '{"id":1,"do":"retag","el":"w1","tags":{"lanes":2}}': bad_field("tags"),
+    '{"id":1,"do":"move","els":["n0"],"dlat":0,"dlon":0}': bad_field("els"),
+    '{"id":1,"do":"move","els":[],"dlat":1.0,"dlon":0}': bad_field("dlat"),
+    '{"id":1,"do":"split","el":"w1","at":-1,"into":"w2"}': bad_field("at"),
+    '{"id":1,"do":"split","el":"w1","at":1,"into":2}': bad_field("into"),
+    '{"id":1,"do":"join","el":"w1"}': bad_field("with"),
+    '{"id":1,"do":"undo","seq":0}': bad_field("seq"),
+    '{"id":1,"do":"hello","room":"Paris","name":"anna"}': bad_field("room"),
+    '{"id":1,"do":"hello","room":"paris","name":"anna"}': (1, {"why": "hello_twice"}),
+}
+
+
+class Undos:
+    """What an author can undo and redo, by all that he was answered, in the order in which it was done; and what may be
+    answered to what he says next."""
+
+    def __init__(self):
+        # The word of each action that stands, and of each that can be redone, by the number of its entry: of the first
+        # the greatest stands last, of the others the one that was undone last.
+        self.standing, self.undone = {}, {}
+
+    def lists(self):
+        """Both as they are told."""
+        return {"redo": list(self.undone), "undos": list(self.standing)}
+
+    def meant(self, message):
+        """The number of the entry that an undo is of; of none, where none stands."""
+        return message.get("seq") or next(reversed(self.standing), None)
+
+    def refusals(self, message):
+        """Why a message may be refused."""
+        word = message["do"]
+        if word == "undo" and self.meant(message) in self.standing:
+            return {"conflict"}
+        if word == "undo":
+            return {"no_such", "not_yours", "not_standing"} if "seq" in message else {"nothing_to_undo"}
+        if word == "redo":
+            return ACTIONS[self.undone[next(reversed(self.undone))]] if self.undone else {"nothing_to_redo"}
+        return ACTIONS.get(word) or QUERIES[word]
+
+    def outcome(self, message, seq):
+        """What is told of a change that is accepted as the entry of this number; nothing, where it cannot be."""
+        word = message["do"]
+        if word == "undo":
+            undid = self.meant(message)
+            return {"seq": seq, "undid": undid} if undid in self.standing else None
+        if word == "redo":
+            return {"redid": next(reversed(self.undone)), "seq": seq} if self.undone else None
+        return {"seq": seq}
+
+    def take(self, message, told):
+        """Takes it that a change was accepted, and what was told of it."""
+        word = message["do"]
+        if word == "undo":
+            self.undone[told["undid"]] = self.standing.pop(told["undid"])
+        elif word == "redo":
+            self.standing[told["seq"]] = self.undone.pop(told["redid"])
+        else:
+            self.standing[told["seq"]] = word
+            self.undone.clear()
+
+    def may_be_told(self, message, reply):
+        """Whether this may be the reply to a message."""
+        if set(reply) == {"id", "no"} and reply["id"] == message["id"]:
+            why = reply["no"].get("why")
+            return why in self.refusals(message) and set(reply["no"]) == {"why", *TOLD[why]}
+        return set(reply) == {"id", "ok"} and reply["id"] == message["id"] and self.is_ok(message, reply["ok"])
+
+    def is_ok(self, message, told):
+        """Whether this may be told of a message that is not refused."""
+        if message["do"] == "get":
+            return list(told) == ["is"] and told["is"]["el"] == message["el"]
+        if message["do"] == "undos":
+            return told == self.lists()
+        seq = told and told.get("seq")
+        return isinstance(seq, int) and seq > 0 and told == self.outcome(message, seq)
