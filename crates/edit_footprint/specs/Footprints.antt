@@ -56,11 +56,14 @@ module _ {A : Type 0} where
 
   -- what a half names before a change and not after it, or after it and not before
   abbrev pub begun_or_ceased : Change A → List Name
-  begun_or_ceased c = names_but (half_references c.before) (half_references c.after) ++ names_but (half_references c.after) (half_references c.before)
+  begun_or_ceased c =
+      names_but (half_references c.before) (half_references c.after)
+      ++ names_but (half_references c.after) (half_references c.before)
 
   -- the half that a cell had before changes, none where they don't tell it
   abbrev pub half_before : List (Change A) → Cell → Option (Half A)
-  half_before cs c = option_and_then (λ (d : Change A). d.before) (find (λ (d : Change A). is_same_cell c (cell_of d)) cs)
+  half_before cs c =
+      option_and_then (λ (d : Change A). d.before) (find (λ (d : Change A). is_same_cell c (cell_of d)) cs)
 
   -- the node that an unglue takes the way from: it stood at the position in the list that the way had before
   abbrev pub unglued_from : Action A → List (Change A) → Option Name
@@ -70,7 +73,9 @@ module _ {A : Type 0} where
   -- the subjects of an action, the cells that it changes, the rest of what their halves cease or begin to name, and
   -- both cells of the node that it unglues a way from, rising, each once
   abbrev pub footprint_of : Action A → List (Change A) → List Cell
-  footprint_of a cs = cell_set (subjects a ++ changed_cells cs ++ map rest_at (flat_map begun_or_ceased cs) ++ flat_map both_at (option_to_list (unglued_from a cs)))
+  footprint_of a cs =
+      cell_set (subjects a ++ changed_cells cs ++ map rest_at (flat_map begun_or_ceased cs)
+      ++ flat_map both_at (option_to_list (unglued_from a cs)))
 
   -- the footprint of an action on a map
   abbrev pub footprint : Rows A → Action A → List Cell

@@ -34,7 +34,8 @@ module _ {A : Type 0} where
 
   -- the moved nodes that would leave the range
   abbrev pub left_range : Rows A → List Name → ℤ → ℤ → List Name
-  left_range m list dlat dlon = names_of (filter (λ r. is_moved m list r.0 && is_out_of_range (moved_by dlat dlon r.1)) m)
+  left_range m list dlat dlon =
+      names_of (filter (λ r. is_moved m list r.0 && is_out_of_range (moved_by dlat dlon r.1)) m)
 
   -- no relation is listed, what is listed is there, every moved node stays in range, and something is moved by some
   -- distance

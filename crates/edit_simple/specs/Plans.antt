@@ -9,6 +9,7 @@ use Rattle.edit_simple.specs.Checks.{first_that_holds}
 
 -- the changes to the map after, where no check holds; else the first that holds; or want of memory in place of any
 -- answer
-abbrev pub IsPlan : {A : Type 0} → Rows A → List (Option (Refusal A)) → Rows A → Result (List (Change A)) (Refusal A) → Type 0
+abbrev pub IsPlan : {A : Type 0} → Rows A → List (Option (Refusal A)) → Rows A → Result (List (Change A)) (Refusal A)
+    → Type 0
 IsPlan m checks after (Ok cs) = (first_that_holds checks ≡ None) × (cs ≡ differences m after)
 IsPlan m checks after (Err r) = (first_that_holds checks ≡ Some r) ⊎ (r ≡ Memory)

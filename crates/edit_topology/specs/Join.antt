@@ -33,7 +33,8 @@ goes_on w v (Some before) e = is_same v e.0 && (is_same w before.0 && is_same_te
 
 -- the members but v right after w in the same role, where the first member stands right after `before`
 abbrev pub kept_members : Name → Name → Option (Name × List ℕ) → List (Name × List ℕ) → List (Name × List ℕ)
-kept_members w v before members = map (λ p. p.1) (filter (λ p. not (goes_on w v p.0 p.1)) (zip (before ∷ map Some members) members))
+kept_members w v before members =
+    map (λ p. p.1) (filter (λ p. not (goes_on w v p.0 p.1)) (zip (before ∷ map Some members) members))
 
 -- v right after w in the same role is dropped, and every other v becomes w
 abbrev pub joined_members : Name → Name → List (Name × List ℕ) → List (Name × List ℕ)
@@ -57,7 +58,9 @@ module _ {A : Type 0} where
 
   -- w with v's list behind its own, without its first, and with both ways' tags
   abbrev pub lengthened : Rows A → Name → Element A → Element A
-  lengthened m v u = with_nodes (λ list. end_to_end list (nodes_of (row_at m v))) (with_tags (λ tags. both_tags tags (row_tags (row_at m v))) u)
+  lengthened m v u =
+      with_nodes (λ list. end_to_end list (nodes_of (row_at m v)))
+      (with_tags (λ tags. both_tags tags (row_tags (row_at m v))) u)
 
   -- what a row becomes: w is lengthened, and w is the member where v was one
   abbrev pub join_row : Rows A → Name → Name → Name → Element A → Element A

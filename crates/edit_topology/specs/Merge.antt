@@ -28,7 +28,9 @@ merged_nodes k g nodes = if is_among nodes g then without_doubled k (map (rename
 module _ {A : Type 0} where
   -- the ways that name g and would have fewer than 2 nodes
   abbrev pub shrunk : Rows A → Name → Name → List Name
-  shrunk m k g = names_of (filter (λ r. is_among (nodes_of (Some r.1)) g && nat_lt (length (merged_nodes k g (nodes_of (Some r.1)))) 2) m)
+  shrunk m k g =
+      names_of (filter
+      (λ r. is_among (nodes_of (Some r.1)) g && nat_lt (length (merged_nodes k g (nodes_of (Some r.1)))) 2) m)
 
   -- both names are nodes' and not the same, both are there, no way gets too short, no key has two values, and the tags
   -- get not too many

@@ -21,9 +21,11 @@ are_same_members = pointwise (λ r s. is_same r.0 s.0 && is_same_text r.1 s.1)
 
 module _ {A : Type 0} where
   abbrev pub is_same_element : Element A → Element A → Bool
-  is_same_element (Node lat lon tags) (Node lat2 lon2 tags2) = int_eq lat lat2 && (int_eq lon lon2 && are_same_tags tags tags2)
+  is_same_element (Node lat lon tags) (Node lat2 lon2 tags2) =
+      int_eq lat lat2 && (int_eq lon lon2 && are_same_tags tags tags2)
   is_same_element (Way nodes tags) (Way nodes2 tags2) = are_same_names nodes nodes2 && are_same_tags tags tags2
-  is_same_element (Relation members tags) (Relation members2 tags2) = are_same_members members members2 && are_same_tags tags tags2
+  is_same_element (Relation members tags) (Relation members2 tags2) =
+      are_same_members members members2 && are_same_tags tags tags2
   is_same_element _ _ = false
 
   -- both rows are there and the same, or neither is there

@@ -28,7 +28,8 @@ module _ {A : Type 0} where
 
   -- a row's element is of its name's kind, is as its types keep it, has its length and names present elements alone
   abbrev pub is_sound_row : Rows A → Name → Element A → Bool
-  is_sound_row m x v = is_kind (kind_of v) x.kind && (is_made v && (is_of_length v && list_all (is_present m) (references v)))
+  is_sound_row m x v =
+      is_kind (kind_of v) x.kind && (is_made v && (is_of_length v && list_all (is_present m) (references v)))
 
   -- names rise and every row is sound
   abbrev pub is_sound : Rows A → Bool

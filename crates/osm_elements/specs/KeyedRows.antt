@@ -47,7 +47,9 @@ module _ {V : Type 0} where
 
   -- an empty key is refused first, and then a new key where a thousand are
   abbrev pub set_refusal : List (List ℕ × V) → List ℕ → Option TextFault
-  set_refusal rows key = if nat_eq (length key) 0 then Some EmptyKey else (if is_some (value_at rows key) || nat_lt (length rows) 1000 then None else Some TooManyTags)
+  set_refusal rows key =
+      if nat_eq (length key) 0 then Some EmptyKey
+      else (if is_some (value_at rows key) || nat_lt (length rows) 1000 then None else Some TooManyTags)
 
   -- where the key is, or where it would go
   abbrev pub place : List ℕ → List (List ℕ × V) → Result ℕ ℕ

@@ -44,7 +44,9 @@ abbrev pub id_of : List ℕ → Option ℤ
 id_of digits = if_written digits (signed_digits_value 10 digits)
 
 abbrev pub kind_of_letter : ℕ → Option Kind
-kind_of_letter c = if nat_eq c 110 then Some Node else (if nat_eq c 119 then Some Way else (if nat_eq c 114 then Some Relation else None))
+kind_of_letter c =
+    if nat_eq c 110 then Some Node
+    else (if nat_eq c 119 then Some Way else (if nat_eq c 114 then Some Relation else None))
 
 -- the name whose text this is
 abbrev pub name_of : List ℕ → Option Name

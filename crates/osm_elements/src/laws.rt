@@ -28,26 +28,32 @@ pub fn names_are_ordered()
 /// A put gives its name the element, leaves what every other name has, and keeps the names rising.
 pub fn a_put_changes_one_name<A: Allocator>()
     ensures same { (m : List (Name × Element A)) (x : Name) (v : Element A) → row_at (put_row m x v) x ≡ Some v }
-    ensures other { (m : List (Name × Element A)) (x : Name) (v : Element A) (q : Name) → q ≢ x → row_at (put_row m x v) q ≡ row_at m q }
-    ensures order { (m : List (Name × Element A)) (x : Name) (v : Element A) → AreInOrder m → AreInOrder (put_row m x v) }
+    ensures other { (m : List (Name × Element A)) (x : Name) (v : Element A) (q : Name) → q ≢ x
+        → row_at (put_row m x v) q ≡ row_at m q }
+    ensures order { (m : List (Name × Element A)) (x : Name) (v : Element A) → AreInOrder m
+        → AreInOrder (put_row m x v) }
 {}
 
 /// Taking a name out leaves no element at it and what every other name has, and keeps the names rising.
 pub fn taking_out_changes_one_name<A: Allocator>()
     ensures same { (m : List (Name × Element A)) (x : Name) → AreInOrder m → row_at (without_row m x) x ≡ None }
-    ensures other { (m : List (Name × Element A)) (x : Name) (q : Name) → q ≢ x → AreInOrder m → row_at (without_row m x) q ≡ row_at m q }
+    ensures other { (m : List (Name × Element A)) (x : Name) (q : Name) → q ≢ x → AreInOrder m
+        → row_at (without_row m x) q ≡ row_at m q }
     ensures order { (m : List (Name × Element A)) (x : Name) → AreInOrder m → AreInOrder (without_row m x) }
 {}
 
 /// Two maps in which each name has the same element are equal.
 pub fn a_map_is_what_its_names_have<A: Allocator>()
-    ensures { (m n : List (Name × Element A)) → AreInOrder m → AreInOrder n → ((q : Name) → row_at m q ≡ row_at n q) → m ≡ n }
+    ensures { (m n : List (Name × Element A)) → AreInOrder m → AreInOrder n → ((q : Name) → row_at m q ≡ row_at n q)
+        → m ≡ n }
 {}
 
 /// A row that was put is gone after it is taken out, and a row that was taken out is back after it is put.
 pub fn putting_and_taking_out_undo_each_other<A: Allocator>()
-    ensures put { (m : List (Name × Element A)) (x : Name) (v : Element A) → AreInOrder m → row_at m x ≡ None → without_row (put_row m x v) x ≡ m }
-    ensures taken { (m : List (Name × Element A)) (x : Name) (v : Element A) → AreInOrder m → row_at m x ≡ Some v → put_row (without_row m x) x v ≡ m }
+    ensures put { (m : List (Name × Element A)) (x : Name) (v : Element A) → AreInOrder m → row_at m x ≡ None
+        → without_row (put_row m x v) x ≡ m }
+    ensures taken { (m : List (Name × Element A)) (x : Name) (v : Element A) → AreInOrder m → row_at m x ≡ Some v
+        → put_row (without_row m x) x v ≡ m }
 {}
 
 /// What the definitions say of the worked examples is what was worked out by hand.

@@ -77,8 +77,14 @@ module _ {K V : Type 0} (order : K → K → Ordering) where
   module _ (by_value : V → V → Ordering) where
     -- each of some keys has a value x now
     abbrev pub Gains : Lists K V → Lists K V → List K → V → Type 0
-    Gains before after keys x = (k : K) (v : V) → is_among by_value (values_at after k) v ≡ ((is_among order keys k && is_eq (by_value v x)) || is_among by_value (values_at before k) v)
+    Gains before after keys x =
+        (k : K) (v : V)
+        → is_among by_value (values_at after k) v
+        ≡ ((is_among order keys k && is_eq (by_value v x)) || is_among by_value (values_at before k) v)
 
     -- none of some keys has a value x any more
     abbrev pub Loses : Lists K V → Lists K V → List K → V → Type 0
-    Loses before after keys x = (k : K) (v : V) → is_among by_value (values_at after k) v ≡ (not (is_among order keys k && is_eq (by_value v x)) && is_among by_value (values_at before k) v)
+    Loses before after keys x =
+        (k : K) (v : V)
+        → is_among by_value (values_at after k) v
+        ≡ (not (is_among order keys k && is_eq (by_value v x)) && is_among by_value (values_at before k) v)

@@ -109,7 +109,8 @@ impl<V: Ord + Copy, A: Allocator> RisingList<V, A> {
     pub fn add(&mut self, value: V)
         requires awaited { 0 < self.old.awaited }
         requires rising { IsRising V.cmp self.old.values }
-        ensures { self.new ≡ record { values = with_value V.cmp value self.old.values; awaited = self.old.awaited - 1 } }
+        ensures { self.new
+            ≡ record { values = with_value V.cmp value self.old.values; awaited = self.old.awaited - 1 } }
     {
         match &mut self.state {
             State::Awaited => self.state = State::One(value),

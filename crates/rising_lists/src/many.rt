@@ -86,7 +86,8 @@ impl<V: Ord + Copy, A: Allocator> Many<V, A> {
     pub fn add(&mut self, value: V)
         requires awaited { 0 < self.old.awaited }
         requires rising { IsRising V.cmp self.old.values }
-        ensures { self.new ≡ record { values = with_value V.cmp value self.old.values; awaited = self.old.awaited - 1 } }
+        ensures { self.new
+            ≡ record { values = with_value V.cmp value self.old.values; awaited = self.old.awaited - 1 } }
     {
         self.awaited -= 1;
         match self.values.binary_search(&value) {

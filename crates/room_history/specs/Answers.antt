@@ -106,4 +106,7 @@ module _ {A : Type 0} where
   -- the replies to calls in turn, and the journal that they leave
   abbrev pub answers : Rows A → ℕ → List (Entry A) → List (Call A) → List (Reply A) × List (Entry A)
   answers base limit j [] = ([], j)
-  answers base limit j (c ∷ cs) = let step = answer base limit j c in let rest = answers base limit step.1 cs in (step.0 ∷ rest.0, rest.1)
+  answers base limit j (c ∷ cs) =
+      let step = answer base limit j c in
+      let rest = answers base limit step.1 cs in
+      (step.0 ∷ rest.0, rest.1)

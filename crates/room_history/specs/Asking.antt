@@ -19,7 +19,8 @@ module _ {A : Type 0} where
   room_answer base limit j (Take c) = let step = answer base limit j c in (replies.Take step.0, step.1)
   room_answer base limit j (Get x) = (replies.Get (Ok (row_at (mapof base j) x)), j)
   room_answer base limit j AllRows = (replies.Rows (Ok (length j, mapof base j)), j)
-  room_answer base limit j (Undos author) = (replies.Undos (Ok (record { undos = undos j author; redos = redos j author })), j)
+  room_answer base limit j (Undos author) =
+      (replies.Undos (Ok (record { undos = undos j author; redos = redos j author })), j)
   room_answer base limit j (NewsPast from) = (replies.News (Ok (news base j from)), j)
 
   -- want of memory, in the form of what was asked

@@ -28,7 +28,8 @@ module _ {A : Type 0} where
     pub there : row_at m x ≡ Some element
     pub unsound : is_sound_row m x element ≡ false
     pub reason : first_that_holds (list_checks m x element) ≡ Some why
-    pub first : (y : Name) (v : Element A) → row_at m y ≡ Some v → is_lt (name_cmp y x) ≡ true → is_sound_row m y v ≡ true
+    pub first : (y : Name) (v : Element A) → row_at m y ≡ Some v → is_lt (name_cmp y x) ≡ true
+        → is_sound_row m y v ≡ true
 
   -- why no room begins with a map; memory may be wanting for any
   abbrev pub IsBaseFault : Rows A → BaseFault A → Type 0

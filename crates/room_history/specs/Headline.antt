@@ -55,7 +55,9 @@ module _ {A : Type 0} where
   -- recorded of its entry
   abbrev pub AreAccepted : Past A → Rows A → List ℕ → Rows A → Type 0
   AreAccepted p m [] end = m ≡ end
-  AreAccepted p m (s ∷ ss) end = (a : Action A) × (numbered p.entries s ≡ Some (recorded_of m a)) × (refusal m a ≡ None) × AreAccepted p (after m a) ss end
+  AreAccepted p m (s ∷ ss) end =
+      (a : Action A) × (numbered p.entries s ≡ Some (recorded_of m a)) × (refusal m a ≡ None)
+      × AreAccepted p (after m a) ss end
 
   -- the replay of the entries that stand accepts each as it was recorded
   abbrev pub IsAcceptedAsRecorded : Rows A → List (Entry A) → Type 0
@@ -109,7 +111,8 @@ module _ {A : Type 0} where
       → IsOwn j author s
       → Stands j s
       → ((t : ℕ) → IsOwn j author t → Stands j t → t ≤ s)
-      → answer base limit j (record { author = author; id = id; request = Undo None }) ≡ answer base limit j (record { author = author; id = id; request = Undo (Some s) })
+      → answer base limit j (record { author = author; id = id; request = Undo None })
+      ≡ answer base limit j (record { author = author; id = id; request = Undo (Some s) })
 
   -- an accepted action empties its author's redo stack, an undo pushes what it undid, and a redo takes off the top,
   -- which it does again; and no call touches another author's stack
@@ -161,7 +164,9 @@ module _ {A : Type 0} where
   -- when the turn of a call comes, its id is unspent and the journal is not full
   abbrev pub AreFresh : Rows A → ℕ → List (Entry A) → List (Call A) → Type 0
   AreFresh base limit j [] = Unit {0}
-  AreFresh base limit j (c ∷ cs) = (spent j c.author c.id ≡ None) × (nat_le limit (length j) ≡ false) × AreFresh base limit (answer base limit j c).1 cs
+  AreFresh base limit j (c ∷ cs) =
+      (spent j c.author c.id ≡ None) × (nat_le limit (length j) ≡ false)
+      × AreFresh base limit (answer base limit j c).1 cs
 
   -- an author's undos in turn, all accepted, and then as many redos of that author: these are accepted, what was undone
   -- last first, and the map, the users of every name and what each author can redo are those from before the undos

@@ -32,7 +32,10 @@ module _ {A : Type 0} where
   -- of the entries numbered from n on, those that did an action and that no later one undoes
   abbrev pub standing_from : ℕ → List (Entry A) → List ℕ
   standing_from n [] = []
-  standing_from n (e ∷ later) = if is_work e.kind && not (list_any (λ (l : Entry A). is_undo_of n l.kind) later) then n ∷ standing_from (n + 1) later else standing_from (n + 1) later
+  standing_from n (e ∷ later) =
+      if is_work e.kind && not (list_any (λ (l : Entry A). is_undo_of n l.kind) later)
+      then n ∷ standing_from (n + 1) later
+      else standing_from (n + 1) later
 
   -- the entries that stand, rising
   abbrev pub standing : List (Entry A) → List ℕ
@@ -64,4 +67,6 @@ module _ {A : Type 0} where
 
   -- that stack after all of them
   abbrev pub redos : List (Entry A) → Author → List ℕ
-  redos j author = fold (λ stack (e : Entry A). redos_after stack e.kind) [] (filter (λ (e : Entry A). is_same_author author e.author) j)
+  redos j author =
+      fold (λ stack (e : Entry A). redos_after stack e.kind) []
+      (filter (λ (e : Entry A). is_same_author author e.author) j)

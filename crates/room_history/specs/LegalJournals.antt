@@ -29,4 +29,5 @@ module _ {A : Type 0} where
 -- the empty journal, and the one that the answer to a call leaves after another
 pub data IsJournal {A : Type 0} (base : Rows A) (limit : ℕ) : List (Entry A) → Type 0 where
   opened : IsJournal base limit []
-  called : (j : List (Entry A)) (c : Call A) → IsJournal base limit j → is_made_request c.request ≡ true → IsJournal base limit (answer base limit j c).1
+  called : (j : List (Entry A)) (c : Call A) → IsJournal base limit j → is_made_request c.request ≡ true
+      → IsJournal base limit (answer base limit j c).1

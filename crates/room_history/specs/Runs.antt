@@ -19,10 +19,12 @@ module _ {A : Type 0} where
   IsRun base limit j [] [] end = Holds base limit j × (end ≡ j)
   IsRun base limit j [] (r ∷ rs) end = ⊥
   IsRun base limit j (c ∷ cs) [] end = ⊥
-  IsRun base limit j (c ∷ cs) (r ∷ rs) end = Holds base limit j × ((k : List (Entry A)) × IsStep base limit j c r k × IsRun base limit k cs rs end)
+  IsRun base limit j (c ∷ cs) (r ∷ rs) end =
+      Holds base limit j × ((k : List (Entry A)) × IsStep base limit j c r k × IsRun base limit k cs rs end)
 
   -- a room with this limit that began with this map has answered calls in turn by these replies
-  pub record Answers (base : Rows A) (limit : ℕ) (calls : List (Call A)) (room : RoomState A) (replies : List (Reply A)) : Type 0 where
+  pub record Answers (base : Rows A) (limit : ℕ) (calls : List (Call A)) (room : RoomState A) (replies : List (Reply A))
+      : Type 0 where
     pub base_is : room.base ≡ base
     pub limit_is : room.limit ≡ limit
     pub run : IsRun base limit [] calls replies room.journal

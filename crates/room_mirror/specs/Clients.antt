@@ -40,11 +40,15 @@ taken s n (Some f) = None
 -- a mirror after the news of each text in turn; none where one is no news, or not taken
 abbrev pub followed : MirrorState Global → List (List ℕ) → Option (MirrorState Global)
 followed s [] = Some s
-followed s (text ∷ texts) = option_and_then (λ n. option_and_then (λ t. followed t texts) (taken s n (fault s n))) (result_ok (spells_news text))
+followed s (text ∷ texts) =
+    option_and_then (λ n. option_and_then (λ t. followed t texts) (taken s n (fault s n)))
+    (result_ok (spells_news text))
 
 -- the mirror of a client that got these texts: a welcome, and then news
 abbrev pub mirror_made : List ℕ → List (List ℕ) → Option (MirrorState Global)
-mirror_made welcome texts = option_and_then (λ (w : Welcome). followed (record { seq = w.seq; rows = w.rows }) texts) (result_ok (spells_welcome welcome))
+mirror_made welcome texts =
+    option_and_then (λ (w : Welcome). followed (record { seq = w.seq; rows = w.rows }) texts)
+    (result_ok (spells_welcome welcome))
 
 -- what an action is about has ids as messages have them
 abbrev pub HasSubjectIds : EntryKind Global → Type 0

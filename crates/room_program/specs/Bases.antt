@@ -53,7 +53,8 @@ module _ {S : Type 0} (source : sources.Ghosts S) where
   abbrev pub IsUnread : ℕ → S → S → ReplayFault → Type 0
   IsUnread reads reader reader' Read = (source.has_failed reader' ≡ true) ⊎ Gets source.gets reads reader reader'
   IsUnread reads reader reader' (BadBase bad) =
-      (source.has_failed reader' ≡ false) × ((line : List ℕ) × IsFirstLineOf line (source.left reader) × (spelled_base line ≡ Err bad))
+      (source.has_failed reader' ≡ false)
+      × ((line : List ℕ) × IsFirstLineOf line (source.left reader) × (spelled_base line ≡ Err bad))
   IsUnread reads reader reader' Memory = source.has_failed reader' ≡ false
   IsUnread reads reader reader' _ = ⊥
 

@@ -15,8 +15,16 @@ one_more n = min (n + 1) (2 ^ 64 - 1)
 
 -- a call that was answered is one more of these and the last, and one that was interrupted is one more of those
 abbrev pub noted : Calls → ℕ → Result ℕ Stop → Calls
-noted calls asked (Ok count) = record { answered = one_more calls.answered; interrupted = calls.interrupted; last = Some (record { asked = asked; answer = Ok count }) }
-noted calls asked (Err stops.Failed) = record { answered = one_more calls.answered; interrupted = calls.interrupted; last = Some (record { asked = asked; answer = Err (record {}) }) }
+noted calls asked (Ok count) = record {
+  answered = one_more calls.answered;
+  interrupted = calls.interrupted;
+  last = Some (record { asked = asked; answer = Ok count });
+}
+noted calls asked (Err stops.Failed) = record {
+  answered = one_more calls.answered;
+  interrupted = calls.interrupted;
+  last = Some (record { asked = asked; answer = Err (record {}) });
+}
 noted calls asked (Err stops.Interrupted) = record calls { interrupted = one_more calls.interrupted }
 
 -- one more call with so many bytes was answered, and so

@@ -110,7 +110,8 @@ number_in option rows = option_map_or number_of (one_of option rows) 0
 
 -- what was found for it, if anything was, is a number of 32 bits
 abbrev pub HasNumber : Text → List Row → Type 0
-HasNumber option rows = IfSome (one_of option rows) (λ text. IsNumeral 10 (without_leading_plus text) × (number_of text < 2 ^ 32))
+HasNumber option rows =
+    IfSome (one_of option rows) (λ text. IsNumeral 10 (without_leading_plus text) × (number_of text < 2 ^ 32))
 
 -- the address that was found, as it is written, and the empty text where none was
 abbrev pub addr_in : List Row → Text

@@ -44,13 +44,16 @@ IsAsked words (asked.Serve serve) = AsksForServe words serve
 -- what is known of an input, of an output, and of a stream for errors
 module _ {S W E : Type 0} (source : sources.Ghosts S) (sink : sinks.Ghosts W) (errors_sink : sinks.Ghosts E) where
   -- a room with this limit that began with a map was run on what the input had left, and it ended with this status
-  pub record Ran (base : Rows Global) (left : Option (List ℕ)) (limit status : ℕ) (input input' : S) (output output' : W) (errors errors' : E) : Type 0 where
+  pub record Ran (base : Rows Global) (left : Option (List ℕ)) (limit status : ℕ) (input input' : S)
+      (output output' : W) (errors errors' : E) : Type 0 where
     pub range : status ≤ 1
     -- done: the script of all that was left was written, and nothing is told
-    pub done : status ≡ 0 → WritesAll (script base limit) left (source.left input') (sink.taken output) (sink.taken output')
+    pub done : status ≡ 0
+        → WritesAll (script base limit) left (source.left input') (sink.taken output) (sink.taken output')
     pub silent : status ≡ 0 → errors' ≡ errors
     -- failed: a front of the script was written, and the fault is told by its line
-    pub failed : status ≡ 1 → WritesFront (script base limit) left (source.left input') (sink.taken output) (sink.taken output')
+    pub failed : status ≡ 1
+        → WritesFront (script base limit) left (source.left input') (sink.taken output) (sink.taken output')
     pub told : status ≡ 1 → (fault : ReplayFault) × Takes errors_sink errors errors' (fault_line (Replay fault))
         × EndsBy source sink (script base limit) left (2 ^ 40) input input' output output' fault
 
@@ -58,17 +61,21 @@ module _ {S W E : Type 0} (source : sources.Ghosts S) (sink : sinks.Ghosts W) (e
   pub record RanNothing (status : ℕ) (input input' : S) (output output' : W) (errors errors' : E) : Type 0 where
     pub failed : status ≡ 1
     pub unwritten : output' ≡ output
-    pub told : (fault : ReplayFault) × Takes errors_sink errors errors' (fault_line (Replay fault)) × IsNoBase source (2 ^ 40) input input' fault
+    pub told : (fault : ReplayFault) × Takes errors_sink errors errors' (fault_line (Replay fault))
+        × IsNoBase source (2 ^ 40) input input' fault
 
   -- a replay: of all lines by a room with an empty map, or where a base is asked for of all but the first by one with
   -- the map that the first tells
   abbrev pub RanBy : Bool → ℕ → ℕ → S → S → W → W → E → E → Type 0
-  RanBy false limit status input input' output output' errors errors' = Ran [] (source.left input) limit status input input' output output' errors errors'
+  RanBy false limit status input input' output output' errors errors' =
+      Ran [] (source.left input) limit status input input' output output' errors errors'
   RanBy true limit status input input' output output' errors errors' =
-      ((base : Rows Global) × IsTold source input base × (is_sound base ≡ true) × Ran base (behind (source.left input)) limit status input input' output output' errors errors')
+      ((base : Rows Global) × IsTold source input base × (is_sound base ≡ true)
+      × Ran base (behind (source.left input)) limit status input input' output output' errors errors')
       ⊎ RanNothing status input input' output output' errors errors'
 
-  pub record Replays (base : Bool) (limit status : ℕ) (input input' : S) (output output' : W) (errors errors' : E) : Type 0 where
+  pub record Replays (base : Bool) (limit status : ℕ) (input input' : S) (output output' : W) (errors errors' : E)
+      : Type 0 where
     pub ran : RanBy base limit status input input' output output' errors errors'
     -- at most 2^40 reads were made, and none after one that gave the end
     pub calls : GetsAtMost source.gets (2 ^ 40) input input'

@@ -9,4 +9,5 @@ use Rattle.room_wire.specs.Asked.{answer_text}
 -- 0, and the room is as it was
 abbrev pub IsReply : List ℕ × RoomState Global → ℕ → RoomState Global → List ℕ → RoomState Global → Type 0
 IsReply by_definition id room text after =
-    (by_definition ≡ (text, after)) ⊎ (((text ≡ answer_text id answers.Memory) ⊎ (text ≡ answer_text 0 answers.Memory)) × (after ≡ room))
+    (by_definition ≡ (text, after))
+    ⊎ (((text ≡ answer_text id answers.Memory) ⊎ (text ≡ answer_text 0 answers.Memory)) × (after ≡ room))

@@ -8,7 +8,8 @@ use Rattle.room_program.specs.Scripts.{Loss}
 use Rattle.room_program.specs.Streams.{Gets, TookNone, WritesAll, WritesEnded, WritesFront}
 
 -- the text that is written for the bytes that the reader had left, and what is known of reader and writer
-module _ {S W : Type 0} (source : sources.Ghosts S) (sink : sinks.Ghosts W) (script : List ℕ → List Loss → List ℕ) (left : Option (List ℕ)) where
+module _ {S W : Type 0} (source : sources.Ghosts S) (sink : sinks.Ghosts W) (script : List ℕ → List Loss → List ℕ)
+    (left : Option (List ℕ)) where
   -- how it stands where the run ended by a fault, after at most so many reads; where a read failed, the script of the
   -- lines whose line feeds were read was written
   abbrev pub EndsBy : ℕ → S → S → W → W → ReplayFault → Type 0
@@ -16,7 +17,8 @@ module _ {S W : Type 0} (source : sources.Ghosts S) (sink : sinks.Ghosts W) (scr
       WritesEnded script left (source.left reader') (sink.taken writer) (sink.taken writer')
       × ((source.has_failed reader' ≡ true) ⊎ Gets source.gets reads reader reader')
   EndsBy reads reader reader' writer writer' Write = (sink.has_failed writer' ≡ true) ⊎ TookNone sink.puts writer'
-  EndsBy reads reader reader' writer writer' Memory = (source.has_failed reader' ≡ false) × (sink.has_failed writer' ≡ false)
+  EndsBy reads reader reader' writer writer' Memory =
+      (source.has_failed reader' ≡ false) × (sink.has_failed writer' ≡ false)
   EndsBy reads reader reader' writer writer' _ = ⊥
 
   -- all was read and its script written; or a front of the script of what was read

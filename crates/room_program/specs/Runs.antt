@@ -17,7 +17,8 @@ module _ {R : Type 0} (answer : Loss → R → List ℕ → List ℕ × R) where
   abbrev pub Runs : R → List (List ℕ) → List ℕ → R → Type 0
   Runs room [] replies after = (replies ≡ []) × (after ≡ room)
   Runs room (line ∷ later) replies after =
-      (loss : Loss) × (more : List ℕ) × (replies ≡ (answer loss room line).0 ++ 10 ∷ more) × Runs (answer loss room line).1 later more after
+      (loss : Loss) × (more : List ℕ) × (replies ≡ (answer loss room line).0 ++ 10 ∷ more)
+      × Runs (answer loss room line).1 later more after
 
   -- lines that the bytes begin with are answered by these replies, and the rest is left
   pub record AnswersFront (room : R) (bytes replies rest : List ℕ) (after : R) : Type 0 where

@@ -34,9 +34,12 @@ module _ {S : Type 0} (source : sources.Ghosts S) (on_base : Bool) where
   -- why the rooms are not opened
   abbrev pub IsUnopened : List Text → S → S → ProgramFault → Type 0
   IsUnopened rooms input input' TooManyRooms = (64 < length rooms) × (input' ≡ input)
-  IsUnopened rooms input input' BadName = (length rooms ≤ 64) × ((position : ℕ) × IsNameFault rooms (tables.BadName position)) × (input' ≡ input)
-  IsUnopened rooms input input' Twice = (length rooms ≤ 64) × ((position : ℕ) × IsNameFault rooms (tables.Twice position)) × (input' ≡ input)
-  IsUnopened rooms input input' (Replay fault) = CanBeServed rooms × (on_base ≡ true) × IsNoBase source (2 ^ 40) input input' fault
+  IsUnopened rooms input input' BadName =
+      (length rooms ≤ 64) × ((position : ℕ) × IsNameFault rooms (tables.BadName position)) × (input' ≡ input)
+  IsUnopened rooms input input' Twice =
+      (length rooms ≤ 64) × ((position : ℕ) × IsNameFault rooms (tables.Twice position)) × (input' ≡ input)
+  IsUnopened rooms input input' (Replay fault) =
+      CanBeServed rooms × (on_base ≡ true) × IsNoBase source (2 ^ 40) input input' fault
   IsUnopened rooms input input' Memory = length rooms ≤ 64
   IsUnopened rooms input input' _ = ⊥
 
@@ -58,14 +61,19 @@ module _ {S W : Type 0} (source : sources.Ghosts S) (sink : sinks.Ghosts W) (on_
   abbrev pub StopsBy : List Text → S → S → W → W → ProgramFault → Type 0
   StopsBy rooms input input' output output' Listen = CanBeServed rooms × (output' ≡ output)
   StopsBy rooms input input' output output' Worker = CanBeServed rooms × Takes sink output output' listening
-  StopsBy rooms input input' output output' Memory = (length rooms ≤ 64) × ((output' ≡ output) ⊎ Takes sink output output' listening)
-  StopsBy rooms input input' output output' fault = IsUnopened source on_base rooms input input' fault × (output' ≡ output)
+  StopsBy rooms input input' output output' Memory =
+      (length rooms ≤ 64) × ((output' ≡ output) ⊎ Takes sink output output' listening)
+  StopsBy rooms input input' output output' fault =
+      IsUnopened source on_base rooms input input' fault × (output' ≡ output)
 
   -- rooms were served with this limit, and it ended with this status; a fault is told by its line
-  pub record Serves {E : Type 0} (errors_sink : sinks.Ghosts E) (rooms : List Text) (limit status : ℕ) (input input' : S) (output output' : W) (errors errors' : E) : Type 0 where
+  pub record Serves {E : Type 0} (errors_sink : sinks.Ghosts E) (rooms : List Text) (limit status : ℕ)
+      (input input' : S) (output output' : W) (errors errors' : E) : Type 0 where
     pub range : status ≤ 2
-    pub done : status ≡ 0 → ((base : Rows Global) × BeginsOn source on_base input base × ServesAll sink rooms base limit output output') × (errors' ≡ errors)
-    pub failed : 0 < status → (fault : ProgramFault) × (status ≡ fault_status fault) × Takes errors_sink errors errors' (fault_line fault)
+    pub done : status ≡ 0 → ((base : Rows Global) × BeginsOn source on_base input base
+        × ServesAll sink rooms base limit output output') × (errors' ≡ errors)
+    pub failed : 0 < status → (fault : ProgramFault) × (status ≡ fault_status fault)
+        × Takes errors_sink errors errors' (fault_line fault)
         × StopsBy rooms input input' output output' fault
     -- nothing was read but for a base, and then at most 2^40 times and never after the end
     pub unread : on_base ≡ false → input' ≡ input

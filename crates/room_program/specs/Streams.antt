@@ -9,12 +9,15 @@ use Rattle.room_program.specs.Scripts.{Loss}
 -- so many calls, each answered with some bytes, lead from one state of a reader to another
 unfoldable pub Gets : {S : Type 0} → (S → Result ℕ Failed → S → Type 0) → ℕ → S → S → Type 0
 Gets gets zero before after = after ≡ before
-Gets {S} gets (suc n) before after = (between : S) × (count : ℕ) × (0 < count) × Gets gets n before between × gets between (Ok count) after
+Gets {S} gets (suc n) before after =
+    (between : S) × (count : ℕ) × (0 < count) × Gets gets n before between × gets between (Ok count) after
 
 -- at most so many calls lead from one state of a reader to another, and each but the last gave some bytes
 abbrev pub GetsAtMost : {S : Type 0} → (S → Result ℕ Failed → S → Type 0) → ℕ → S → S → Type 0
 GetsAtMost {S} gets most before after =
-    (after ≡ before) ⊎ ((n : ℕ) × (n < most) × (between : S) × (answer : Result ℕ Failed) × Gets gets n before between × gets between answer after)
+    (after ≡ before)
+    ⊎ ((n : ℕ) × (n < most) × (between : S) × (answer : Result ℕ Failed)
+    × Gets gets n before between × gets between answer after)
 
 -- the last call of a writer took no byte of bytes that there were
 abbrev pub TookNone : {W : Type 0} → (W → List ℕ → Result ℕ Failed → W → Type 0) → W → Type 0

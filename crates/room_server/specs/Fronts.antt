@@ -19,4 +19,5 @@ pub record IsFront (desk : DeskView) (seat : SeatView) (front : ℕ) : Type 0 wh
 -- a number for each desk, in order
 pub record AreFronts (desks : List DeskView) (seats : List SeatView) (fronts : List ℕ) : Type 0 where
   pub as_many : length fronts ≡ length desks
-  pub each : (room : ℕ) (desk : DeskView) (seat : SeatView) (front : ℕ) → slice_get desks room ≡ Some desk → slice_get seats room ≡ Some seat → slice_get fronts room ≡ Some front → IsFront desk seat front
+  pub each : (room : ℕ) (desk : DeskView) (seat : SeatView) (front : ℕ) → slice_get desks room ≡ Some desk
+      → slice_get seats room ≡ Some seat → slice_get fronts room ≡ Some front → IsFront desk seat front

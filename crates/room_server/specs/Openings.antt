@@ -18,7 +18,8 @@ IsBad names position = (text : List ℕ) × (slice_get names position ≡ Some t
 -- at the position stands a text that stands at an earlier one too
 abbrev pub IsAgain : List (List ℕ) → ℕ → Type 0
 IsAgain names position =
-    (text : List ℕ) × (earlier : ℕ) × (earlier < position) × (slice_get names position ≡ Some text) × (slice_get names earlier ≡ Some text)
+    (text : List ℕ) × (earlier : ℕ) × (earlier < position) × (slice_get names position ≡ Some text)
+    × (slice_get names earlier ≡ Some text)
 
 -- before the position there is neither
 abbrev pub AreFine : List (List ℕ) → ℕ → Type 0
@@ -41,7 +42,8 @@ abbrev pub opening : Rows Global → ℕ → Opening Global
 opening base limit = record { base = base; limit = limit }
 
 -- the map is sound, the table has a room with it for each name, in order, and the seats are the first of their desks
-pub record Opens (names : List (List ℕ)) (base : Rows Global) (limit : ℕ) (table : TableView) (seats : List SeatView) : Type 0 where
+pub record Opens (names : List (List ℕ)) (base : Rows Global) (limit : ℕ) (table : TableView) (seats : List SeatView)
+    : Type 0 where
   pub sound : is_sound base ≡ true
   pub names_are : table.names ≡ names
   pub many : length table.desks ≡ length names

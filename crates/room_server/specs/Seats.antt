@@ -13,12 +13,15 @@ HavePartsFor count seats = All (λ seat. (count * 2 ^ 58 ≤ seat.parts + 1) × 
 pub record AreSplit (seats kept new : List SeatView) : Type 0 where
   pub as_many : length kept ≡ length seats
   pub of_new : length new ≡ length seats
-  pub split : (room : ℕ) (seat one other : SeatView) → slice_get seats room ≡ Some seat → slice_get kept room ≡ Some one → slice_get new room ≡ Some other → SplitsInto seat one other
+  pub split : (room : ℕ) (seat one other : SeatView) → slice_get seats room ≡ Some seat → slice_get kept room ≡ Some one
+      → slice_get new room ≡ Some other → SplitsInto seat one other
 
 -- into each of the seats at a table the other of the same desk was met
 pub record AreMet (table : TableView) (seats others seats' : List SeatView) : Type 0 where
   pub as_many : length seats' ≡ length seats
-  pub met : (room : ℕ) (desk : DeskView) (seat other seat' : SeatView) → slice_get table.desks room ≡ Some desk → slice_get seats room ≡ Some seat → slice_get others room ≡ Some other → slice_get seats' room ≡ Some seat' → MeetsAt IsTurn desk.fixed seat other seat'
+  pub met : (room : ℕ) (desk : DeskView) (seat other seat' : SeatView) → slice_get table.desks room ≡ Some desk
+      → slice_get seats room ≡ Some seat → slice_get others room ≡ Some other → slice_get seats' room ≡ Some seat'
+      → MeetsAt IsTurn desk.fixed seat other seat'
 
 -- a seat at each desk, none of which was met by another
 abbrev pub IsSet : TableView → List SeatView → Type 0

@@ -31,7 +31,8 @@ pub record TableView : Type 0 where
 -- there is one seat for each desk, and it is at that desk; and there is a desk for each name
 abbrev pub AreAt : TableView → List SeatView → Type 0
 AreAt table seats = (length seats ≡ length table.desks)
-    × ((room : ℕ) (desk : DeskView) (seat : SeatView) → slice_get table.desks room ≡ Some desk → slice_get seats room ≡ Some seat → IsAt desk seat)
+    × ((room : ℕ) (desk : DeskView) (seat : SeatView) → slice_get table.desks room ≡ Some desk
+    → slice_get seats room ≡ Some seat → IsAt desk seat)
     × (length table.desks ≡ length table.names)
 
 -- where a name stands, if it is the name of a room at all
@@ -42,7 +43,13 @@ place_by names (Some name) = position (is_same_author name) names
 -- the entries that the seat has seen and those of its own calls, the lengths that it looked at, and a turn for each
 -- ticket
 abbrev pub known_by : Opening Global → SeatView → RoomKnown
-known_by opening seat = record { opening = opening; seen = entries seat.seen; mine = seat.mine; looks = seat.looks; turns = length seat.tickets }
+known_by opening seat = record {
+  opening = opening;
+  seen = entries seat.seen;
+  mine = seat.mine;
+  looks = seat.looks;
+  turns = length seat.tickets;
+}
 
 -- of what is no room nothing is known
 abbrev pub unknown : RoomKnown
@@ -83,7 +90,8 @@ abbrev pub kept_of : SeatedView → Kept
 kept_of s = (s.table, map mark s.seats)
 
 -- the seat of a room took one turn at the desk, and no other seat changed
-pub record TurnsThere (desk : DeskView) (room : ℕ) (call : RoomCall Global) (reply : RoomReply Global) (seats seats' : List SeatView) : Type 0 where
+pub record TurnsThere (desk : DeskView) (room : ℕ) (call : RoomCall Global) (reply : RoomReply Global)
+    (seats seats' : List SeatView) : Type 0 where
   pub before : SeatView
   pub after : SeatView
   pub was : slice_get seats room ≡ Some before

@@ -54,14 +54,17 @@ module _ (before : Known) (sent : Sent) (state : State) (after : Known) where
   Welcomes id room author =
       let opening = (before.at room).opening in
       let journal = (after.at room).seen in
-      IsJournalOf opening journal × (sent ≡ only (compact_text (map_tree id (mapof opening.base journal) (length journal)) ∷ [])) × (state ≡ Open room author (length journal))
+      IsJournalOf opening journal
+      × (sent ≡ only (compact_text (map_tree id (mapof opening.base journal) (length journal)) ∷ []))
+      × (state ≡ Open room author (length journal))
 
   -- a hello to the room at a place, if there is one: the room is asked for its rows in one turn, and it is told where
   -- it had no memory for them
   abbrev pub Greets : ℕ → Author → Option ℕ → Type 0
   Greets id author None = RefusesAlone (answer_text id answers.NoRoom)
   Greets id author (Some room) =
-      (reply : RoomReply Global) × AnswersCall before room calls.Rows reply after × (Welcomes id room author ⊎ ((reply ≡ wanting calls.Rows) × Refuses sent state (answer_text id answers.Memory)))
+      (reply : RoomReply Global) × AnswersCall before room calls.Rows reply after
+      × (Welcomes id room author ⊎ ((reply ≡ wanting calls.Rows) × Refuses sent state (answer_text id answers.Memory)))
 
   -- a message before a hello
   abbrev pub BeginsBy : ℕ → Body → Type 0
@@ -84,12 +87,16 @@ EndsFirst before after said = (due : Sent) × (next : State) × Begins before du
 -- what a message asks of the room is asked in one turn, and the text is that of the answer; or nothing is asked
 abbrev pub RepliesTo : Known → ℕ → ℕ → Option (RoomCall Global) → List ℕ → Known → Type 0
 RepliesTo before room id None text after = (text ≡ answer_text id answers.HelloTwice) × (after ≡ before)
-RepliesTo before room id (Some call) text after = (reply : RoomReply Global) × AnswersCall before room call reply after × (text ≡ answer_text id (answer_to call reply))
+RepliesTo before room id (Some call) text after =
+    (reply : RoomReply Global) × AnswersCall before room call reply after
+    × (text ≡ answer_text id (answer_to call reply))
 
 -- the text is the reply to what was read or refused
 abbrev pub Replies : Known → ℕ → Author → Result Incoming Bad → List ℕ → Known → Type 0
-Replies before room author (Ok message) text after = RepliesTo before room message.id (asked author message.id message.body) text after
-Replies before room author (Err bad) text after = (text ≡ answer_text bad.id (fault_answer bad.fault)) × (after ≡ before)
+Replies before room author (Ok message) text after =
+    RepliesTo before room message.id (asked author message.id message.body) text after
+Replies before room author (Err bad) text after =
+    (text ≡ answer_text bad.id (fault_answer bad.fault)) × (after ≡ before)
 
 -- the room is looked at, and has no entries past those that were told
 abbrev pub FindsNoNews : Known → ℕ → ℕ → Known → Type 0
@@ -97,7 +104,9 @@ FindsNoNews before room told after = (count : ℕ) × (count ≤ told) × TellsL
 
 -- the room is looked at, has more, and is asked for the news past what was told, in one turn
 abbrev pub AsksForNews : Known → ℕ → ℕ → Known → Type 0
-AsksForNews before room told after = (count : ℕ) × (told < count) × (looked : Known) × TellsLength before room count looked × ((reply : RoomReply Global) × AnswersCall looked room (calls.News told) reply after)
+AsksForNews before room told after =
+    (count : ℕ) × (told < count) × (looked : Known) × TellsLength before room count looked
+    × ((reply : RoomReply Global) × AnswersCall looked room (calls.News told) reply after)
 
 -- the texts go out, and then the news of all that is then seen of the room, which is a legal journal, past what was
 -- told
@@ -106,17 +115,20 @@ CatchesUp before sent state after room author told texts =
     let opening = (before.at room).opening in
     let journal = (after.at room).seen in
     (FindsNoNews before room told after ⊎ AsksForNews before room told after)
-    × IsJournalOf opening journal × (sent ≡ only (texts ++ news_texts (news opening.base journal told))) × (state ≡ Open room author (length journal))
+    × IsJournalOf opening journal × (sent ≡ only (texts ++ news_texts (news opening.base journal told)))
+    × (state ≡ Open room author (length journal))
 
 -- a text: the reply goes out, and then the news
 abbrev pub GoesOn : Known → Sent → State → Known → ℕ → Author → ℕ → Result Incoming Bad → Type 0
 GoesOn before sent state after room author told said =
-    (text : List ℕ) × (between : Known) × Replies before room author said text between × CatchesUp between sent state after room author told (text ∷ [])
+    (text : List ℕ) × (between : Known) × Replies before room author said text between
+    × CatchesUp between sent state after room author told (text ∷ [])
 
 -- a text, but there was no memory for the reply, or for the news after it
 abbrev pub BreaksOff : Known → Known → ℕ → Author → ℕ → Result Incoming Bad → Type 0
 BreaksOff before after room author told said =
-    (text : List ℕ) × (between : Known) × Replies before room author said text between × ((after ≡ between) ⊎ AsksForNews between room told after)
+    (text : List ℕ) × (between : Known) × Replies before room author said text between
+    × ((after ≡ between) ⊎ AsksForNews between room told after)
 
 -- ---- events
 
@@ -126,13 +138,15 @@ module _ (before : Known) (sent : Sent) (state : State) (after : Known) where
   HearsText BeforeHello text = (said : Result Incoming Bad) × GivesMessage said (spells text)
       × (Begins before sent state after said ⊎ (GivesUp sent state × EndsFirst before after said))
   HearsText (Open room author told) text = (said : Result Incoming Bad) × GivesMessage said (spells text)
-      × (GoesOn before sent state after room author told said ⊎ (GivesUp sent state × BreaksOff before after room author told said))
+      × (GoesOn before sent state after room author told said
+      ⊎ (GivesUp sent state × BreaksOff before after room author told said))
   HearsText Closed text = ⊥
 
   -- nothing came for a while
   abbrev pub WaitsOn : State → Type 0
   WaitsOn BeforeHello = (sent ≡ only []) × (state ≡ BeforeHello) × (after ≡ before)
-  WaitsOn (Open room author told) = CatchesUp before sent state after room author told [] ⊎ (GivesUp sent state × AsksForNews before room told after)
+  WaitsOn (Open room author told) =
+      CatchesUp before sent state after room author told [] ⊎ (GivesUp sent state × AsksForNews before room told after)
   WaitsOn Closed = ⊥
 
 -- ---- the entries that are made

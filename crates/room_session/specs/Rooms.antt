@@ -47,7 +47,8 @@ pub record KeepsKnown (before after : Known) : Type 0 where
   pub at : (room : ℕ) → KeepsRoom (before.at room) (after.at room)
 
 -- the call was answered in one turn, after a legal journal, which begins with all that was seen of the room
-pub record AnswersAt (before : RoomKnown) (call : RoomCall Global) (reply : RoomReply Global) (after : RoomKnown) : Type 0 where
+pub record AnswersAt (before : RoomKnown) (call : RoomCall Global) (reply : RoomReply Global) (after : RoomKnown)
+    : Type 0 where
   pub journal : List (Entry Global)
   pub legal : IsJournalOf before.opening journal
   pub begins : BeginsWith journal before.seen
@@ -76,7 +77,8 @@ pub record LeavesOthers (before : Known) (room : ℕ) (after : Known) : Type 0 w
   pub others : (other : ℕ) → other ≢ room → after.at other ≡ before.at other
 
 -- the room was asked in one turn and gave this reply, and nothing else was asked
-pub record AnswersCall (before : Known) (room : ℕ) (call : RoomCall Global) (reply : RoomReply Global) (after : Known) : Type 0 where
+pub record AnswersCall (before : Known) (room : ℕ) (call : RoomCall Global) (reply : RoomReply Global) (after : Known)
+    : Type 0 where
   pub here : AnswersAt (before.at room) call reply (after.at room)
   pub leaves : LeavesOthers before room after
 

@@ -22,15 +22,18 @@ abbrev pub Happens : Event → State → Known → State → Known → Type 0
 Happens (Text text) state before state' after =
     ((sent : Sent) × HearsText before sent state' after state text)
     × ((said : Result Incoming Bad) × GivesMessage said (spells text) × Makes before state said after)
-Happens Quiet state before state' after = ((sent : Sent) × WaitsOn before sent state' after state) × MakesNone before after
+Happens Quiet state before state' after =
+    ((sent : Sent) × WaitsOn before sent state' after state) × MakesNone before after
 Happens Last state before state' after = (state' ≡ Closed) × (after ≡ before)
 
 -- one event after another
 abbrev pub Follows : List Event → State → Known → State → Known → Type 0
 Follows [] state before state' after = (state' ≡ state) × (after ≡ before)
 Follows (event ∷ later) state before state' after =
-    (next : State) × (between : Known) × Happens event state before next between × Follows later next between state' after
+    (next : State) × (between : Known) × Happens event state before next between
+    × Follows later next between state' after
 
 -- a session was served from before its hello on, by so many events at most
 abbrev pub Serves : ℕ → Known → Known → Type 0
-Serves turns before after = (events : List Event) × (length events ≤ turns) × ((state : State) × Follows events BeforeHello before state after)
+Serves turns before after =
+    (events : List Event) × (length events ≤ turns) × ((state : State) × Follows events BeforeHello before state after)

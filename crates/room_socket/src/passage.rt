@@ -27,7 +27,7 @@ impl<'g, G: Gate> Passage<'g, G> {
         self.gate.pass(rt, self.session, self.call);
     }
 
-    /// The reply to it was sent.
+    /// The reply to it was sent, or could not be.
     pub(crate) fn answered<W: Wait + Clock>(&self, rt: &W) {
         self.gate.answered(rt, self.session, self.call);
     }

@@ -12,4 +12,7 @@ module _ {E : Type 0} where
   -- of entries that are numbered from n on, those that pass a test and whose number no later one undid
   abbrev pub kept_from : (E → Bool) → (ℕ → E → Bool) → ℕ → List E → List ℕ
   kept_from test undid n [] = []
-  kept_from test undid n (e ∷ later) = if test e && not (list_any (undid n) later) then n ∷ kept_from test undid (n + 1) later else kept_from test undid (n + 1) later
+  kept_from test undid n (e ∷ later) =
+      if test e && not (list_any (undid n) later)
+      then n ∷ kept_from test undid (n + 1) later
+      else kept_from test undid (n + 1) later

@@ -99,8 +99,8 @@ impl<A: Allocator> AuthorLists<A> {
         }
     }
 
-    /// Puts the number of an author's action that it did again on what stands, and takes the top off what it can redo. It
-    /// takes no memory.
+    /// Puts the number of an author's action that it did again on what stands, and takes the top off what it can redo.
+    /// It takes no memory.
     pub fn redid(&mut self, author: &Author, seq: u64)
         requires { has_room_at self.old author.now ≡ true }
         ensures { IsRewritten self.old self.new author.now

@@ -90,8 +90,8 @@ impl<A: Allocator> AuthorStacks<A> {
         push_reserved(&mut self.redo, of);
     }
 
-    /// Puts the number of an action that was done again on what stands, and takes the top off what can be redone. It takes
-    /// no memory.
+    /// Puts the number of an action that was done again on what stands, and takes the top off what can be redone. It
+    /// takes no memory.
     pub fn redid(&mut self, seq: u64)
         requires { self.old.has_room ≡ true }
         ensures standing { self.new.standing ≡ self.old.standing ++ seq ∷ [] }

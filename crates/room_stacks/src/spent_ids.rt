@@ -100,8 +100,8 @@ impl<A: Allocator> SpentIds<A> {
         }
     }
 
-    /// Makes room for one more id of an author, who is met by that, or refuses with `Memory`. Then the author may be met
-    /// all the same.
+    /// Makes room for one more id of an author, who is met by that, or refuses with `Memory`. Then the author may be
+    /// met all the same.
     pub fn reserve(&mut self, author: &Author) -> Result<(), Memory>
         ensures deeds { self.new.deeds ≡ self.old.deeds }
         ensures met { OnOk result (is_met self.new.authors author.now ≡ true) }

@@ -25,7 +25,9 @@ module _ {X : Type 0} (reading : Data → Result X Fault) (name : X → Name) wh
 
   -- a field is an array of rows whose names rise; a fault inside is the field's
   abbrev pub rows_at : Field → Data → Result (List X) Fault
-  rows_at field d = or_fault (BadField field) (option_and_then rising (option_and_then rows_in (option_and_then as_array (get (field_text field) d))))
+  rows_at field d =
+      or_fault (BadField field) (option_and_then rising (option_and_then rows_in
+      (option_and_then as_array (get (field_text field) d))))
 
 -- a fault inside a list is the list's
 abbrev pub in_list : Field → Fault → Fault

@@ -33,7 +33,9 @@ abbrev pub news_rows_tree : {A : Type 0} → List (NewsRow A) → Data
 news_rows_tree rows = array (items_of (map (λ r. row_tree r.name r.element) rows))
 
 abbrev pub told_tree : {A : Type 0} → News A → Data
-told_tree n = object (member (codes "by") (string n.author) (member (codes "rows") (news_rows_tree n.rows) (member (codes "seq") (whole n.seq) no_members)))
+told_tree n =
+    object (member (codes "by") (string n.author) (member (codes "rows") (news_rows_tree n.rows)
+    (member (codes "seq") (whole n.seq) no_members)))
 
 abbrev pub news_tree : {A : Type 0} → News A → Data
 news_tree n = object (member (codes "news") (told_tree n) no_members)
@@ -51,13 +53,17 @@ news_row_at d =
 
 -- the fields of news, each with its form
 abbrev pub object_at : Field → Data → Result Data Fault
-object_at field d = or_fault (BadField field) (option_and_then (λ e. if is_some (as_object e) then Some e else None) (get (field_text field) d))
+object_at field d =
+    or_fault (BadField field) (option_and_then (λ e. if is_some (as_object e) then Some e else None)
+    (get (field_text field) d))
 
 abbrev pub number_at : Data → Result ℕ Fault
 number_at d = or_fault (BadField fields.Seq) (option_and_then ordinal (get (field_text fields.Seq) d))
 
 abbrev pub told_at : Data → Result (News Global) Fault
-told_at d = author_at fields.By d >>= λ author. rows_at news_row_at (λ r. r.name) fields.Rows d >>= λ rows. number_at d >>= λ seq. Ok (record { seq = seq; author = author; rows = rows })
+told_at d =
+    author_at fields.By d >>= λ author. rows_at news_row_at (λ r. r.name) fields.Rows d >>= λ rows.
+    number_at d >>= λ seq. Ok (record { seq = seq; author = author; rows = rows })
 
 abbrev pub news_at : Data → Result (News Global) Fault
 news_at d = if is_some (as_object d) then (object_at fields.News d >>= told_at) else Err NotObject

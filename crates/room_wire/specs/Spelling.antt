@@ -40,7 +40,9 @@ use Rattle.room_wire.specs.Reading.{◌>>=◌, or_fault, under}
 
 -- a whole number in 1..=9007199254740991. (RFC 8259, section 6: integers up to 2^53 - 1 mean the same to every reader.)
 abbrev pub ordinal : Data → Option ℕ
-ordinal d = option_and_then (λ n. if nat_le 1 n && nat_le n 9007199254740991 then Some n else None) (option_and_then as_u64 (as_number d))
+ordinal d =
+    option_and_then (λ n. if nat_le 1 n && nat_le n 9007199254740991 then Some n else None)
+    (option_and_then as_u64 (as_number d))
 
 -- the string of a field
 abbrev pub text_at : Field → Data → Option (List ℕ)
@@ -79,7 +81,8 @@ els_at d = or_fault (BadField Els) (option_and_then names_in (option_and_then as
 
 -- a whole number that is an i64
 abbrev pub distance_at : Field → Data → Result ℤ Fault
-distance_at field d = or_fault (BadField field) (option_and_then as_i64 (option_and_then as_number (get (field_text field) d)))
+distance_at field d =
+    or_fault (BadField field) (option_and_then as_i64 (option_and_then as_number (get (field_text field) d)))
 
 -- a position, a whole number in 0..=4294967295
 abbrev pub place_of : Data → Option ℕ
@@ -104,7 +107,8 @@ text_of text = if is_long text then None else Some text
 
 -- an array of members, each an array of two strings: a name, and a role of at most 255 characters
 abbrev pub member_with : Data → Data → Option (Name × List ℕ)
-member_with d e = option_and_then (λ name. option_map (λ role. (name, role)) (option_and_then text_of (as_str e))) (name_item d)
+member_with d e =
+    option_and_then (λ name. option_map (λ role. (name, role)) (option_and_then text_of (as_str e))) (name_item d)
 
 abbrev pub member_in : Items → Option (Name × List ℕ)
 member_in no_items = None
@@ -119,7 +123,8 @@ abbrev pub members_in : Items → Option (List (Name × List ℕ))
 members_in = items_in member_of
 
 abbrev pub members_at : Data → Result (List (Name × List ℕ)) Fault
-members_at d = or_fault (BadField Members) (option_and_then members_in (option_and_then as_array (get (field_text Members) d)))
+members_at d =
+    or_fault (BadField Members) (option_and_then members_in (option_and_then as_array (get (field_text Members) d)))
 
 -- an object of at most 1,000 keys, each of 1 to 255 characters, and each value of the form that is read
 abbrev pub key_of : List ℕ → Option (List ℕ)
@@ -130,7 +135,8 @@ entry_of reading k d = option_and_then (λ key. option_map (λ value. (key, valu
 
 abbrev pub entries_in : {V : Type 0} → (Data → Option V) → ObjectMembers → Option (List (List ℕ × V))
 entries_in reading no_members = Some []
-entries_in reading (member k d ms) = option_and_then (λ e. option_map (λ es. e ∷ es) (entries_in reading ms)) (entry_of reading k d)
+entries_in reading (member k d ms) =
+    option_and_then (λ e. option_map (λ es. e ∷ es) (entries_in reading ms)) (entry_of reading k d)
 
 abbrev pub entries_of : {V : Type 0} → (Data → Option V) → ObjectMembers → Option (List (List ℕ × V))
 entries_of reading ms = if nat_le (members_len ms) 1000 then entries_in reading ms else None
@@ -150,7 +156,8 @@ abbrev pub given_tags_of : ObjectMembers → Option GivenTags
 given_tags_of = entries_of given_of
 
 abbrev pub given_tags_at : Data → Result GivenTags Fault
-given_tags_at d = or_fault (BadField Tags) (option_and_then given_tags_of (option_and_then as_object (get (field_text Tags) d)))
+given_tags_at d =
+    or_fault (BadField Tags) (option_and_then given_tags_of (option_and_then as_object (get (field_text Tags) d)))
 
 -- what refuses a text or a tag of a field, to a message
 abbrev pub fault_in : Field → TextFault → Fault
@@ -188,7 +195,9 @@ abbrev pub retag_at : Data → Result (Action Global) Fault
 retag_at d = el_at d >>= λ name. given_tags_at d >>= λ given. Ok (actions.Retag name given)
 
 abbrev pub move_at : Data → Result (Action Global) Fault
-move_at d = els_at d >>= λ names. distance_at Dlat d >>= λ dlat. distance_at Dlon d >>= λ dlon. Ok (actions.Move names dlat dlon)
+move_at d =
+    els_at d >>= λ names. distance_at Dlat d >>= λ dlat. distance_at Dlon d >>= λ dlon.
+    Ok (actions.Move names dlat dlon)
 
 abbrev pub relist_way_at : Data → Result (Action Global) Fault
 relist_way_at d = el_at d >>= λ name. nodes_at d >>= λ list. Ok (actions.Nodes name list)

@@ -46,11 +46,15 @@ tags_tree tags = object (tag_members tags)
 
 abbrev pub element_tree : {A : Type 0} → Name → Element A → Data
 element_tree name (elements.Node lat lon tags) =
-    object (member (codes "el") (name_tree name) (member (codes "lat") (string (written lat)) (member (codes "lon") (string (written lon)) (member (codes "tags") (tags_tree tags) no_members))))
+    object (member (codes "el") (name_tree name)
+    (member (codes "lat") (string (written lat))
+    (member (codes "lon") (string (written lon)) (member (codes "tags") (tags_tree tags) no_members))))
 element_tree name (elements.Way nodes tags) =
-    object (member (codes "el") (name_tree name) (member (codes "nodes") (nodes_tree nodes) (member (codes "tags") (tags_tree tags) no_members)))
+    object (member (codes "el") (name_tree name)
+    (member (codes "nodes") (nodes_tree nodes) (member (codes "tags") (tags_tree tags) no_members)))
 element_tree name (elements.Relation members tags) =
-    object (member (codes "el") (name_tree name) (member (codes "members") (members_tree members) (member (codes "tags") (tags_tree tags) no_members)))
+    object (member (codes "el") (name_tree name)
+    (member (codes "members") (members_tree members) (member (codes "tags") (tags_tree tags) no_members)))
 
 abbrev pub rows_tree : {A : Type 0} → List (Name × Element A) → Data
 rows_tree rows = array (items_of (map (λ r. element_tree r.0 r.1) rows))
@@ -71,20 +75,26 @@ abbrev pub bare : ℕ → List ℕ → Data
 bare id why = no_tree id (object (member (codes "why") (string why) no_members))
 
 abbrev pub about : ℕ → Name → List ℕ → Data
-about id name why = no_tree id (object (member (codes "el") (name_tree name) (member (codes "why") (string why) no_members)))
+about id name why =
+    no_tree id (object (member (codes "el") (name_tree name) (member (codes "why") (string why) no_members)))
 
 -- a whole map, after so many entries
 abbrev pub map_tree : {A : Type 0} → ℕ → List (Name × Element A) → ℕ → Data
-map_tree id rows front = ok_tree id (object (member (codes "map") (rows_tree rows) (member (codes "seq") (whole front) no_members)))
+map_tree id rows front =
+    ok_tree id (object (member (codes "map") (rows_tree rows) (member (codes "seq") (whole front) no_members)))
 
 -- the tree of the reply to the message with this id
 abbrev pub tree_of : ℕ → Answer → Data
 tree_of id (Done seq) = ok_tree id (object (member (codes "seq") (whole seq) no_members))
-tree_of id (Undid seq of) = ok_tree id (object (member (codes "seq") (whole seq) (member (codes "undid") (whole of) no_members)))
-tree_of id (Redid seq of) = ok_tree id (object (member (codes "redid") (whole of) (member (codes "seq") (whole seq) no_members)))
+tree_of id (Undid seq of) =
+    ok_tree id (object (member (codes "seq") (whole seq) (member (codes "undid") (whole of) no_members)))
+tree_of id (Redid seq of) =
+    ok_tree id (object (member (codes "redid") (whole of) (member (codes "seq") (whole seq) no_members)))
 tree_of id (Is name element) = ok_tree id (object (member (codes "is") (element_tree name element.now) no_members))
 tree_of id (Map rows front) = map_tree id rows.now front
-tree_of id (Undos undos redos) = ok_tree id (object (member (codes "redo") (numbers_tree redos.now) (member (codes "undos") (numbers_tree undos.now) no_members)))
+tree_of id (Undos undos redos) =
+    ok_tree id (object (member (codes "redo") (numbers_tree redos.now)
+    (member (codes "undos") (numbers_tree undos.now) no_members)))
 tree_of id (Absent name) = about id name (codes "absent")
 tree_of id (Present name) = about id name (codes "present")
 tree_of id (WrongKind name) = about id name (codes "wrong_kind")
@@ -92,12 +102,20 @@ tree_of id (Same name) = about id name (codes "same")
 tree_of id (OutOfRange name) = about id name (codes "out_of_range")
 tree_of id (TooFew name) = about id name (codes "too_few")
 tree_of id (TooMany name) = about id name (codes "too_many")
-tree_of id (InUse name user) = no_tree id (object (member (codes "by") (name_tree user) (member (codes "el") (name_tree name) (member (codes "why") (string (codes "in_use")) no_members))))
-tree_of id (TagConflict key) = no_tree id (object (member (codes "key") (string key.now) (member (codes "why") (string (codes "tag_conflict")) no_members)))
-tree_of id (Repeat seq) = no_tree id (object (member (codes "seq") (whole seq) (member (codes "why") (string (codes "repeat")) no_members)))
+tree_of id (InUse name user) =
+    no_tree id (object (member (codes "by") (name_tree user)
+    (member (codes "el") (name_tree name) (member (codes "why") (string (codes "in_use")) no_members))))
+tree_of id (TagConflict key) =
+    no_tree id (object (member (codes "key") (string key.now)
+    (member (codes "why") (string (codes "tag_conflict")) no_members)))
+tree_of id (Repeat seq) =
+    no_tree id (object (member (codes "seq") (whole seq) (member (codes "why") (string (codes "repeat")) no_members)))
 tree_of id (Conflict blocker shared) =
-    no_tree id (object (member (codes "at") (name_tree shared) (member (codes "why") (string (codes "conflict")) (member (codes "with") (whole blocker) no_members))))
-tree_of id (BadField field) = no_tree id (object (member (codes "field") (string (field_text field)) (member (codes "why") (string (codes "bad_field")) no_members)))
+    no_tree id (object (member (codes "at") (name_tree shared)
+    (member (codes "why") (string (codes "conflict")) (member (codes "with") (whole blocker) no_members))))
+tree_of id (BadField field) =
+    no_tree id (object (member (codes "field") (string (field_text field))
+    (member (codes "why") (string (codes "bad_field")) no_members)))
 tree_of id BadPosition = bare id (codes "bad_position")
 tree_of id NotEndToEnd = bare id (codes "not_end_to_end")
 tree_of id Nothing = bare id (codes "nothing")

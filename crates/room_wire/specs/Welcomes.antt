@@ -28,7 +28,8 @@ map_at d = rows_at row_at (λ r. r.name) fields.Map d >>= λ rows. Ok (map row_p
 
 -- a whole number in 0..=9007199254740991
 abbrev pub count_of : Data → Option ℕ
-count_of d = option_and_then (λ n. if nat_le n 9007199254740991 then Some n else None) (option_and_then as_u64 (as_number d))
+count_of d =
+    option_and_then (λ n. if nat_le n 9007199254740991 then Some n else None) (option_and_then as_u64 (as_number d))
 
 abbrev pub count_at : Data → Result ℕ Fault
 count_at d = or_fault (BadField fields.Seq) (option_and_then count_of (get (field_text fields.Seq) d))

@@ -113,24 +113,34 @@ HasMembers d list = Has d Members (members_tree list) × AreMembers list × All 
 
 -- an element, of whose parts holds what their types keep
 abbrev pub HasElement : {A : Type 0} → Data → Element A → Type 0
-HasElement d (elements.Node lat lon tags) = HasText d Lat latitude_of lat × HasText d Lon longitude_of lon × HasTags d tags
+HasElement d (elements.Node lat lon tags) =
+    HasText d Lat latitude_of lat × HasText d Lon longitude_of lon × HasTags d tags
 HasElement d (elements.Way nodes tags) = HasNodes d nodes × HasTags d tags
 HasElement d (elements.Relation members tags) = HasMembers d members × HasTags d tags
 
 -- the word and the fields of a message, by what it asks for
 abbrev pub Asks : Data → Body → Type 0
-Asks d (bodies.Change (requests.Do (actions.Create name element))) = HasWord d words.Create × HasName d name × HasElement d element × (kind_of element ≡ name.kind)
-Asks d (bodies.Change (requests.Do (actions.Retag name given))) = HasWord d words.Retag × HasName d name × HasGivenTags d given
-Asks d (bodies.Change (requests.Do (actions.Move names dlat dlon))) = HasWord d words.Move × HasNames d names × HasDistance d Dlat dlat × HasDistance d Dlon dlon
+Asks d (bodies.Change (requests.Do (actions.Create name element))) =
+    HasWord d words.Create × HasName d name × HasElement d element × (kind_of element ≡ name.kind)
+Asks d (bodies.Change (requests.Do (actions.Retag name given))) =
+    HasWord d words.Retag × HasName d name × HasGivenTags d given
+Asks d (bodies.Change (requests.Do (actions.Move names dlat dlon))) =
+    HasWord d words.Move × HasNames d names × HasDistance d Dlat dlat × HasDistance d Dlon dlon
 Asks d (bodies.Change (requests.Do (actions.Reverse name))) = HasWord d words.Reverse × HasName d name
-Asks d (bodies.Change (requests.Do (actions.Nodes name list))) = HasWord d words.Nodes × HasName d name × HasNodes d list
-Asks d (bodies.Change (requests.Do (actions.Members name list))) = HasWord d words.Members × HasName d name × HasMembers d list
+Asks d (bodies.Change (requests.Do (actions.Nodes name list))) =
+    HasWord d words.Nodes × HasName d name × HasNodes d list
+Asks d (bodies.Change (requests.Do (actions.Members name list))) =
+    HasWord d words.Members × HasName d name × HasMembers d list
 Asks d (bodies.Change (requests.Do (actions.Delete name))) = HasWord d words.Delete × HasName d name
 Asks d (bodies.Change (requests.Do (actions.Purge name))) = HasWord d words.Purge × HasName d name
-Asks d (bodies.Change (requests.Do (actions.Split name place into))) = HasWord d words.Split × HasName d name × HasPlace d place × HasNameAt d Into into
-Asks d (bodies.Change (requests.Do (actions.Join name other))) = HasWord d words.Join × HasName d name × HasNameAt d With other
-Asks d (bodies.Change (requests.Do (actions.Merge name other))) = HasWord d words.Merge × HasName d name × HasNameAt d With other
-Asks d (bodies.Change (requests.Do (actions.Unglue name place into))) = HasWord d words.Unglue × HasName d name × HasPlace d place × HasNameAt d Into into
+Asks d (bodies.Change (requests.Do (actions.Split name place into))) =
+    HasWord d words.Split × HasName d name × HasPlace d place × HasNameAt d Into into
+Asks d (bodies.Change (requests.Do (actions.Join name other))) =
+    HasWord d words.Join × HasName d name × HasNameAt d With other
+Asks d (bodies.Change (requests.Do (actions.Merge name other))) =
+    HasWord d words.Merge × HasName d name × HasNameAt d With other
+Asks d (bodies.Change (requests.Do (actions.Unglue name place into))) =
+    HasWord d words.Unglue × HasName d name × HasPlace d place × HasNameAt d Into into
 Asks d (bodies.Change (requests.Undo seq)) = HasWord d words.Undo × HasSeq d seq
 Asks d (bodies.Change requests.Redo) = HasWord d words.Redo
 Asks d (bodies.Get name) = HasWord d words.Get × HasName d name

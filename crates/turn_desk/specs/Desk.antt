@@ -33,7 +33,19 @@ share parts = max 1 (parts / 64)
 module _ {E F : Type 0} where
   -- what contracts see of a seat at a table
   abbrev pub sitting : {S : Type 0} → Seat S (View E F) → Sitting E F
-  sitting seat = let v = seat.me.0 in record { table = seat.table_id; fixed = v.fixed; number = v.number; seen = v.seen; mine = v.mine; met = v.met; looks = v.looks; tickets = v.tickets; parts = v.parts }
+  sitting seat =
+      let v = seat.me.0 in
+      record {
+        table = seat.table_id;
+        fixed = v.fixed;
+        number = v.number;
+        seen = v.seen;
+        mine = v.mine;
+        met = v.met;
+        looks = v.looks;
+        tickets = v.tickets;
+        parts = v.parts;
+      }
 
   -- the seat is one of the desk's
   abbrev pub IsAt : DeskId F → Sitting E F → Type 0
@@ -142,7 +154,8 @@ module _ {F E C P : Type 0} (answers : F → List E → C → P → List E → T
     -- it has the parts of both
     pub parts : after.parts ≡ before.parts + other.parts
 
-module _ {R F E C P : Type 0} (fixed : R → F) (list : R → List E) (answers : F → List E → C → P → List E → Type 0) (f : F) where
+module _ {R F E C P : Type 0} (fixed : R → F) (list : R → List E) (answers : F → List E → C → P → List E → Type 0)
+    (f : F) where
   -- The room has the fixed part and stands for a legal history, which begins with what the seat has seen and has the
   -- calls of its kin
   pub record ClosesWith (seat : Sitting E F) (room : R) : Type 0 where

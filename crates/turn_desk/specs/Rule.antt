@@ -73,7 +73,8 @@ module _ {E F : Type 0} (now : Moment E) (seat : ℕ) where
 abbrev pub StandsFor : {R E F : Type 0} → (R → F) → (R → List E) → F → R → History E → Type 0
 StandsFor fixed list f room h = (fixed room ≡ f) × (list room ≡ entries h)
 
-module _ {R E F C P : Type 0} (fixed : R → F) (list : R → List E) (answers : F → List E → C → P → List E → Type 0) (f : F) where
+module _ {R E F C P : Type 0} (fixed : R → F) (list : R → List E) (answers : F → List E → C → P → List E → Type 0)
+    (f : F) where
   -- the rule: there is a history, of which all of this holds
   pub record Kept (s : State (Option R) (View E F)) : Type 0 where
     pub now : Moment E
@@ -85,6 +86,7 @@ module _ {R E F C P : Type 0} (fixed : R → F) (list : R → List E) (answers :
     -- each ticket that is out took a part from its seat, so that fewer than 2^64 are out
     pub parts : total (λ v. v.parts) s.views + now.drawn ≡ now.served + (2 ^ 64 - 1)
     -- where no seat has the turn, the room is at home and stands for the history
-    pub home : ((j : ℕ) (v : View E F) → get_elem? s.views j ≡ some v → ¬ HasTurn v.stage) → (room : R) × (s.homes ≡ some (Some room) ∷ []) × StandsFor fixed list f room now.log
+    pub home : ((j : ℕ) (v : View E F) → get_elem? s.views j ≡ some v → ¬ HasTurn v.stage)
+        → (room : R) × (s.homes ≡ some (Some room) ∷ []) × StandsFor fixed list f room now.log
     -- what each seat knows is so, unless it was met into another
     pub seats : (j : ℕ) (v : View E F) → get_elem? s.views j ≡ some v → IsSpent v ⊎ Fits now j f v

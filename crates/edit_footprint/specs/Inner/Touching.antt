@@ -10,7 +10,9 @@ use Rattle.edit_footprint.specs.Footprints.{half_references}
 module _ {A : Type 0} where
   -- what a half begins or ceases to name, by the sets of its references before and after
   abbrev pub begun_or_ceased_once : Change A → List Name
-  begun_or_ceased_once c = names_but (name_set (half_references c.before)) (name_set (half_references c.after)) ++ names_but (name_set (half_references c.after)) (name_set (half_references c.before))
+  begun_or_ceased_once c =
+      names_but (name_set (half_references c.before)) (name_set (half_references c.after))
+      ++ names_but (name_set (half_references c.after)) (name_set (half_references c.before))
 
   -- the same of each of some changes
   abbrev pub all_begun_or_ceased : List (Change A) → List Name

@@ -20,19 +20,27 @@ use Rattle.edit_topology.specs.Join.{meet_end_to_end, end_to_end, joined_members
 module _ {A : Type 0} where
   -- both names are ways' and not the same
   abbrev pub name_checks : Name → Name → List (Option (Refusal A))
-  name_checks w v = then_some (not (is_way w.kind)) (WrongKind w) ∷ then_some (not (is_way v.kind)) (WrongKind v) ∷ then_some (is_same w v) (Same w) ∷ []
+  name_checks w v =
+      then_some (not (is_way w.kind)) (WrongKind w) ∷ then_some (not (is_way v.kind)) (WrongKind v)
+      ∷ then_some (is_same w v) (Same w) ∷ []
 
   -- the one ends where the other begins, and the list gets not too long
   abbrev pub list_checks : Name → List Name → List Name → List (Option (Refusal A))
-  list_checks w one other = then_some (not (meet_end_to_end one other)) NotEndToEnd ∷ then_some (nat_lt most_nodes (length (end_to_end one other))) (TooMany w) ∷ []
+  list_checks w one other =
+      then_some (not (meet_end_to_end one other)) NotEndToEnd
+      ∷ then_some (nat_lt most_nodes (length (end_to_end one other))) (TooMany w) ∷ []
 
   -- the way that both become
   abbrev pub way_of_both : Rows A → Name → Name → Element A
-  way_of_both m w v = Way (end_to_end (nodes_of (row_at m w)) (nodes_of (row_at m v))) (both_tags (row_tags (row_at m w)) (row_tags (row_at m v)))
+  way_of_both m w v =
+      Way (end_to_end (nodes_of (row_at m w)) (nodes_of (row_at m v)))
+      (both_tags (row_tags (row_at m w)) (row_tags (row_at m v)))
 
   -- what the row of y becomes, where that of w becomes `joined`
   abbrev pub row_joined : Rows A → Name → Name → Option (Element A) → Name → Option (Element A)
-  row_joined m w v joined y = if is_same y w then joined else (if is_same y v then None else option_map (with_members (joined_members w v)) (row_at m y))
+  row_joined m w v joined y =
+      if is_same y w then joined
+      else (if is_same y v then None else option_map (with_members (joined_members w v)) (row_at m y))
 
   -- rising names that are there, whose rows all become others
   pub record MayJoin (m : Rows A) (w v : Name) (joined : Element A) (names : List Name) : Type 0 where

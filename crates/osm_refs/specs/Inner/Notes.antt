@@ -22,7 +22,8 @@ module _ {A : Type 0} where
   -- each note is of what its name refers to once those before it were entered
   abbrev pub AreApt : Table → List (KeptNote A) → Type 0
   AreApt t [] = Unit {0}
-  AreApt t (n ∷ notes) = IsRising n.after × IsNote n n.name (references_at t n.name) n.after × AreApt (referring t n.name n.after) notes
+  AreApt t (n ∷ notes) =
+      IsRising n.after × IsNote n n.name (references_at t n.name) n.after × AreApt (referring t n.name n.after) notes
 
   -- how many users of a name the notes bring
   abbrev pub brought : List (KeptNote A) → Name → ℕ

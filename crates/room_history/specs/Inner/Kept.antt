@@ -9,7 +9,10 @@ use Rattle.room_history.specs.declared.kept.Form.TheVariants.{Row, Whole}
 module _ {A : Type 0} where
   -- the effect that is of one row
   abbrev pub effect_of_row : ChangedRow A → Effect A
-  effect_of_row r = record { changes = row_changes r.name r.before r.after; rows = record { name = r.name; element = r.after } ∷ [] }
+  effect_of_row r = record {
+    changes = row_changes r.name r.before r.after;
+    rows = record { name = r.name; element = r.after } ∷ [];
+  }
 
   abbrev pub kept_effect : Form A → Effect A
   kept_effect (Row r) = effect_of_row r

@@ -24,7 +24,8 @@ use Rattle.room_history.specs.Inner.Origins.{origins}
 module _ {A : Type 0} where
   -- the base is sound, and the journal one that calls lead to; the store, what is kept of what each entry changed,
   -- where the actions are, the holders of what stands and the deeds are those of its entries
-  pub record IsRoom (store : StoreState A) (recorded : List (Effect A)) (firsts : List ℕ) (holders : Held) (done : List Deed) (base : Rows A) (limit : ℕ) (j : List (Entry A)) : Type 0 where
+  pub record IsRoom (store : StoreState A) (recorded : List (Effect A)) (firsts : List ℕ) (holders : Held)
+      (done : List Deed) (base : Rows A) (limit : ℕ) (j : List (Entry A)) : Type 0 where
     pub base_sound : is_sound base ≡ true
     pub journal : IsJournal base limit j
     pub rows_are : store.rows ≡ mapof base j

@@ -15,7 +15,8 @@ use Rattle.room_program.specs.Streams.{Gets}
 module _ {S : Type 0} (source : sources.Ghosts S) where
   -- the line was read with its line feed and perhaps more, by some of the reads; or the stream ended with it
   abbrev pub ReadsTo : ℕ → S → S → List ℕ → Option Later → Type 0
-  ReadsTo reads reader reader' line None = Consumes (source.left reader) (source.left reader') line × IsAtEnd (source.left reader')
+  ReadsTo reads reader reader' line None =
+      Consumes (source.left reader) (source.left reader') line × IsAtEnd (source.left reader')
   ReadsTo reads reader reader' line (Some later) =
       Consumes (source.left reader) (source.left reader') (line ++ 10 ∷ later.held.items)
       × ((used : ℕ) × (used + later.reads ≡ reads) × Gets source.gets used reader reader')

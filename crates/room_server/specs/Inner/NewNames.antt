@@ -13,6 +13,7 @@ contains_name names name = list_any (is_same_author name) names
 -- the text at a position is refused, after these names
 abbrev pub IsRefused : List (List ℕ) → List ℕ → ℕ → TableFault → Type 0
 IsRefused names text position (BadName at) = (at ≡ position) × (author_of text ≡ None)
-IsRefused names text position (Twice at) = (at ≡ position) × (author_of text ≡ Some text) × (contains_name names text ≡ true)
+IsRefused names text position (Twice at) =
+    (at ≡ position) × (author_of text ≡ Some text) × (contains_name names text ≡ true)
 IsRefused names text position (Unsound x why) = ⊥
 IsRefused names text position Memory = ⊥

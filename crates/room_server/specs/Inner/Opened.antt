@@ -7,9 +7,11 @@ use Rattle.room_server.specs.Openings.{opening}
 use Rattle.room_server.specs.Tables.{DeskView, SeatView}
 
 -- so many rooms begin with this map, and the seats are the first of their desks
-pub record AreOpened (base : Rows Global) (limit count : ℕ) (desks : List DeskView) (seats : List SeatView) : Type 0 where
+pub record AreOpened (base : Rows Global) (limit count : ℕ) (desks : List DeskView) (seats : List SeatView)
+    : Type 0 where
   pub many : length desks ≡ count
   pub as_many : length seats ≡ count
   pub opened : All (λ desk. desk.fixed ≡ opening base limit) desks
-  pub at : (room : ℕ) (desk : DeskView) (seat : SeatView) → slice_get desks room ≡ Some desk → slice_get seats room ≡ Some seat → IsAt desk seat
+  pub at : (room : ℕ) (desk : DeskView) (seat : SeatView) → slice_get desks room ≡ Some desk
+      → slice_get seats room ≡ Some seat → IsAt desk seat
   pub first : All IsFirst seats

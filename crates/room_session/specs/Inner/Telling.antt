@@ -12,4 +12,5 @@ Tells before room told texts all front after =
     let opening = (before.at room).opening in
     let journal = (after.at room).seen in
     (FindsNoNews before room told after ⊎ AsksForNews before room told after)
-    × IsJournalOf opening journal × (all ≡ texts ++ news_texts (news opening.base journal told)) × (front ≡ length journal)
+    × IsJournalOf opening journal × (all ≡ texts ++ news_texts (news opening.base journal told))
+    × (front ≡ length journal)

@@ -7,7 +7,8 @@ use Rattle.room_stacks.specs.Inner.Lists.{Lists, IsRising, standing_at, redo_at,
 
 -- there is room for the next deed of whoever is ready
 abbrev pub IsReady : Option Author → Spent → Lists → Type 0
-IsReady who ids lists = IfSome who (λ author. (0 < ids.room) × (is_met ids.authors author ≡ true) × (has_room_at lists author ≡ true))
+IsReady who ids lists =
+    IfSome who (λ author. (0 < ids.room) × (is_met ids.authors author ≡ true) × (has_room_at lists author ≡ true))
 
 -- the numbers of the deeds rise, and each author has the stacks that the deeds give it
 pub record IsKept (who : Option Author) (ids : Spent) (lists : Lists) : Type 0 where

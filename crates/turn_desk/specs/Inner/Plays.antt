@@ -25,7 +25,8 @@ module _ {E F : Type 0} where
 
   -- the seat's turn left the history as it was, or added an entry under the seat's number
   abbrev pub Grows : View E F → History E → List E → Type 0
-  Grows v h mine = ((h ≡ v.seen) × (mine ≡ v.mine)) ⊎ ((e : E) × (h ≡ v.seen ++ (v.number, e) ∷ []) × (mine ≡ v.mine ++ e ∷ []))
+  Grows v h mine =
+      ((h ≡ v.seen) × (mine ≡ v.mine)) ⊎ ((e : E) × (h ≡ v.seen ++ (v.number, e) ∷ []) × (mine ≡ v.mine ++ e ∷ []))
 
 module _ {R E F : Type 0} where
   -- fetch_add on `ticket`: the seat has a ticket, whose number is counted modulo 2^64

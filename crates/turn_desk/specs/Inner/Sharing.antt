@@ -12,7 +12,20 @@ module _ {E F : Type 0} where
 
   -- the seat that was split off it, under the next number, which supplies the others that were given
   abbrev pub split_off : View E F → View E F
-  split_off v = record { fixed = v.fixed; number = v.next; seen = v.seen; told = []; mine = []; met = []; looks = []; tickets = []; parts = share v.parts; next = v.next + (v.stride + v.stride); stride = v.stride + v.stride; stage = Idle }
+  split_off v = record {
+    fixed = v.fixed;
+    number = v.next;
+    seen = v.seen;
+    told = [];
+    mine = [];
+    met = [];
+    looks = [];
+    tickets = [];
+    parts = share v.parts;
+    next = v.next + (v.stride + v.stride);
+    stride = v.stride + v.stride;
+    stage = Idle;
+  }
 
   -- the seat into which another was met: it has the parts and the kin of both, and was told what the other had seen
   abbrev pub joined : View E F → View E F → View E F
@@ -20,4 +33,17 @@ module _ {E F : Type 0} where
 
   -- what is left of that other
   abbrev pub spent : View E F
-  spent = record { fixed = None; number = 0; seen = []; told = []; mine = []; met = []; looks = []; tickets = []; parts = 0; next = 0; stride = 0; stage = Idle }
+  spent = record {
+    fixed = None;
+    number = 0;
+    seen = [];
+    told = [];
+    mine = [];
+    met = [];
+    looks = [];
+    tickets = [];
+    parts = 0;
+    next = 0;
+    stride = 0;
+    stage = Idle;
+  }

@@ -47,11 +47,14 @@ module _ {F E C P : Type 0} (answers : F → List E → C → P → List E → T
 abbrev pub HoldsRoom : {R E F : Type 0} → (R → F) → (R → List E) → F → Me (Option R) (View E F) → Type 0
 HoldsRoom {R} fixed list f m = (room : R) × (m.1 ≡ (0, Some room) ∷ []) × StandsFor fixed list f room m.0.seen
 
-module _ {R E F C P : Type 0} (fixed : R → F) (list : R → List E) (answers : F → List E → C → P → List E → Type 0) (f : F) where
+module _ {R E F C P : Type 0} (fixed : R → F) (list : R → List E) (answers : F → List E → C → P → List E → Type 0)
+    (f : F) where
   -- the seat has a turn and holds a room whose list is what it has seen, with at most one entry more, and so many
   -- entries long
   abbrev pub MayEnter : Me (Option R) (View E F) → ℕ → Type 0
-  MayEnter m count = (room : R) × (m.1 ≡ (0, Some room) ∷ []) × (fixed room ≡ f) × MayLead answers f (entries m.0.seen) (list room) × (count ≡ length (list room))
+  MayEnter m count =
+      (room : R) × (m.1 ≡ (0, Some room) ∷ []) × (fixed room ≡ f) × MayLead answers f (entries m.0.seen) (list room)
+      × (count ≡ length (list room))
 
   -- a seat at rest got a turn: it holds the room, which stands for the whole history
   pub record GetsTurn (m m' : Me (Option R) (View E F)) : Type 0 where
@@ -66,7 +69,8 @@ module _ {R E F C P : Type 0} (fixed : R → F) (list : R → List E) (answers :
     pub after : m' ≡ (turning ticket h (waiting ticket m.0), (0, Some room) ∷ [])
 
   -- a seat with the turn made its call, and its event is in the history
-  pub record MakesCall (m : Me (Option R) (View E F)) (call : C) (reply : P) (m' : Me (Option R) (View E F)) : Type 0 where
+  pub record MakesCall (m : Me (Option R) (View E F)) (call : C) (reply : P) (m' : Me (Option R) (View E F))
+      : Type 0 where
     pub h : History E
     pub mine : List E
     pub room : R
