@@ -13,7 +13,7 @@ use std::alloc::{AllocError, Global};
 use std::convert::AsStr;
 
 /// The version of the program.
-pub const VERSION: &str = "0.1.0";
+pub const VERSION: &str = "1.0.0";
 
 /// The most entries that a room's journal can be given leave to take.
 pub const MOST_ENTRIES: u32 = 1_000_000;
