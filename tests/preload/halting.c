@@ -6,7 +6,8 @@
 //   NOTHING_AT     which call that is answered gives or takes nothing, counted from 0
 //   FAILS_AFTER    behind how many bytes each call fails
 //
-// A read after one that gave nothing is told on standard error. The C library is named by hand, since the kit has no headers.
+// A read after one that gave nothing, and a call after one that failed, are told on standard error. The C library is named by hand,
+// since the kit has no headers.
 
 typedef __SIZE_TYPE__ size_t;
 
@@ -19,7 +20,7 @@ enum { READ = 0, WRITE = 1, INTERRUPTED = 4, INPUT_OUTPUT = 5 };
 
 struct habit {
   long piece, interruptions, nothing_at, fails_after;
-  long interrupted, answered, passed, has_ended;
+  long interrupted, answered, passed, has_ended, has_failed;
 };
 
 static struct habit habits[2];
@@ -47,17 +48,20 @@ static long failed(int why) {
 
 // A call of the system by its number, read or write, which are also the numbers of the streams that halt.
 static long answer(int call, void *bytes, size_t count) {
-  static const char late[] = "a read after the end\n";
+  static const char late[] = "a read after the end\n", again[] = "a call after a failure\n";
   struct habit *habit = &habits[call];
   if (habit->has_ended)
     (void)syscall(WRITE, 2, late, sizeof late - 1);
+  if (habit->has_failed)
+    (void)syscall(WRITE, 2, again, sizeof again - 1);
   if (habit->interrupted < habit->interruptions) {
     habit->interrupted += 1;
     return failed(INTERRUPTED);
   }
   habit->interrupted = 0;
   long left = habit->fails_after - habit->passed;
-  if (left <= 0 && count > 0)
+  habit->has_failed = left <= 0 && count > 0;
+  if (habit->has_failed)
     return failed(INPUT_OUTPUT);
   long most = habit->piece < left ? habit->piece : left;
   if (habit->answered == habit->nothing_at)
