@@ -145,7 +145,7 @@ def main():
         tell_refusal(Client(given.room, given.name), refusal.no)
         sys.exit(1)
     except (OSError, websockets.WebSocketException) as fault:
-        sys.exit(f"socket_client: {fault}\n{no_session}")
+        sys.exit(f"socket_client: {str(fault) or 'nothing was answered in time'}\n{no_session}")
 
 
 if __name__ == "__main__":
