@@ -37,10 +37,11 @@ class Client {
     return [JSON.stringify({ id: 1, do: "hello", room: this.room, name: this.name })];
   }
 
-  // Asks the room, once all that was asked before is answered. `answered` is told {"ok": ..} or {"no": ..}.
+  // Asks the room, once all that was asked before is answered. `answered` is told {"ok": ..} or {"no": ..}. An id that
+  // stands in the message gives way to the client's own, by which it knows the answer.
   ask(message, answered = () => {}) {
     const id = this.nextId++; // an accepted change spends its id, so each has one of its own
-    this.waiting.push({ id, text: JSON.stringify({ id, ...message }), answered, timesSent: 0 });
+    this.waiting.push({ id, text: JSON.stringify(Object.assign({ id }, message, { id })), answered, timesSent: 0 });
     return this.seq !== null && this.waiting.length === 1 ? this.firstWaiting() : [];
   }
 
@@ -111,11 +112,16 @@ class Client {
 
 module.exports = { Client, Missed, Refused, tellRefusal, wordsOf };
 
-// A message without its id, as a word of the command line has it. Throws where it is none.
+// A message, as a word of the command line has it. Throws where it is none.
 function messageOf(word) {
-  const message = JSON.parse(word);
-  if (message === null || typeof message !== "object" || Array.isArray(message)) throw new SyntaxError(word);
-  return message;
+  let message = null;
+  try {
+    message = JSON.parse(word);
+  } catch {
+    // told below
+  }
+  if (message !== null && typeof message === "object" && !Array.isArray(message)) return message;
+  throw new SyntaxError(`no message, which is an object of JSON: ${word}`);
 }
 
 // So many words of the command line, and the messages behind them. What is wrong with it ends the program.
@@ -124,8 +130,8 @@ function wordsOf(count, usage) {
   try {
     if (words.length < count) throw new SyntaxError("too few words");
     return [...words.slice(0, count), words.slice(count).map(messageOf)];
-  } catch {
-    console.error(`usage: ${usage}`);
+  } catch ({ message }) {
+    console.error(`usage: ${usage}\n${usage.split(" ")[0]}: error: ${message}`);
     process.exit(2);
   }
 }

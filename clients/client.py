@@ -8,6 +8,7 @@ prints what it sends, and an empty line where it leaves a session; at the end of
 refusal is told on standard error, and the status is 1 then. What it does with the texts is the class Client, which
 knows of no streams: socket_client.py has it speak over WebSockets.
 """
+import argparse
 import collections
 import json
 import sys
@@ -49,8 +50,10 @@ class Client:
         return [compact({"id": 1, "do": "hello", "room": self.room, "name": self.name})]
 
     def ask(self, message, answered=lambda told: None):
-        """Asks the room, once all that was asked before is answered. `answered` is told {"ok": ..} or {"no": ..}."""
-        text = compact({"id": self.next_id, **message})
+        """Asks the room, once all that was asked before is answered. `answered` is told {"ok": ..} or {"no": ..}. An id
+        that stands in the message gives way to the client's own, by which it knows the answer."""
+        own_id = {"id": self.next_id}
+        text = compact(own_id | message | own_id)
         self.waiting.append(SimpleNamespace(id=self.next_id, text=text, answered=answered, times_sent=0))
         self.next_id += 1  # an accepted change spends its id, so each has one of its own
         return self.first_waiting() if self.seq is not None and len(self.waiting) == 1 else []
@@ -127,21 +130,24 @@ class Client:
 
 
 def message_of(word):
-    """A message without its id, as a word of the command line has it. Raises ValueError where it is none."""
-    message = json.loads(word)
+    """A message, as a word of the command line has it. Raises ArgumentTypeError where it is none."""
+    try:
+        message = json.loads(word)
+    except ValueError:
+        message = None
     if not isinstance(message, dict):
-        raise ValueError(f"no message: {word}")
+        raise argparse.ArgumentTypeError(f"no message, which is an object of JSON: {word}")
     return message
 
 
-def words_of(words):
+def given_words():
     """The room, the name and the messages that the command line has. What is wrong with it ends the program."""
-    try:
-        room, name, *changes = words
-        return room, name, [message_of(change) for change in changes]
-    except ValueError:
-        print("usage: client.py ROOM NAME [CHANGE..]", file=sys.stderr)
-        sys.exit(2)
+    usage, layout = "client.py ROOM NAME [CHANGE..]", argparse.RawDescriptionHelpFormatter
+    words = argparse.ArgumentParser(usage=usage, description=__doc__, formatter_class=layout)
+    words.add_argument("room", metavar="ROOM")
+    words.add_argument("name", metavar="NAME")
+    words.add_argument("changes", metavar="CHANGE", nargs="*", type=message_of, help="a message without its id")
+    return words.parse_args()
 
 
 def tell_refusal(client, no):
@@ -150,8 +156,8 @@ def tell_refusal(client, no):
 
 
 def main():
-    room, name, changes = words_of(sys.argv[1:])
-    client, status = Client(room, name), 0
+    given = given_words()
+    client, status = Client(given.room, given.name), 0
 
     def answered(told):
         nonlocal status
@@ -159,7 +165,7 @@ def main():
             status = 1
             tell_refusal(client, told["no"])
 
-    for change in changes:
+    for change in given.changes:
         client.ask(change, answered)
     print(*client.begin(), sep="\n")
     for line in sys.stdin:

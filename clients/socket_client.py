@@ -61,7 +61,7 @@ class Room:
         return awaited.result()
 
     async def ask(self, message):
-        """Asks the room. Gives what the answer has under `ok`, or raises Refused."""
+        """Asks the room, under an id of the client's own. Gives what the answer has under `ok`, or raises Refused."""
         answer = asyncio.get_running_loop().create_future()
         texts = self.client.ask(message, lambda told: answer.done() or answer.set_result(told))
         with contextlib.suppress(websockets.ConnectionClosed):  # it is said again in the next session
@@ -127,7 +127,6 @@ async def talk(given):
 def main():
     usage = "socket_client.py [--map] [--follow] URL ROOM NAME [MESSAGE..]"
     words = argparse.ArgumentParser(usage=usage, description=__doc__, formatter_class=argparse.RawDescriptionHelpFormatter)
-    words.error = lambda _: words.exit(2, words.format_usage())
     words.add_argument("--map", action="store_true", help="print the map at last, as map_to_osm and --base read it")
     words.add_argument("--follow", action="store_true", help="stay, and tell of each entry")
     for word in ("url", "room", "name"):
