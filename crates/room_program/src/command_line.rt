@@ -205,7 +205,9 @@ Each change is one message of JSON, which the room answers by one line, and each
 changes back.
 
 To run a room from a file of messages: maproom replay <FILE
-To serve rooms to clients: maproom serve --addr 127.0.0.1:9001 --workers 8 --sessions 1000 paris rome";
+To serve rooms to clients: maproom serve --addr 127.0.0.1:9001 --workers 8 --sessions 1000 paris rome
+
+`maproom help replay` names the messages; docs/PROTOCOL.md tells what each holds, and every reply.";
 
 const REPLAY_HELP: &str = "\
 Reads a line for each message from standard input, and writes a line for each reply to standard output.
@@ -217,11 +219,21 @@ and lives as long as its input.
 With --base the room begins with the map that the first line is, which gets no reply: a line that the
 message `map` was answered, by this room or another. So a room can go on where one ended.
 
-Such a line: anna {\"id\":1,\"do\":\"create\",\"el\":\"n1\",\"lat\":\"51.5\",\"lon\":\"-0.1\"}";
+Such a line: anna {\"id\":1,\"do\":\"create\",\"el\":\"n1\",\"lat\":\"51.5\",\"lon\":\"-0.1\"}
+
+What `do` can be:
+  to change the map: create, delete, purge, move, retag, reverse, nodes, members, split, join, merge, unglue
+  to take a change of one's own back, and to do it again: undo, redo
+  to ask: get, map, undos
+
+Each message has an `id`, which its reply names. A change, an undo or a redo that is accepted spends it: the next one
+of that author needs another. docs/PROTOCOL.md tells what each message holds, and every reply.";
 
 const SERVE_HELP: &str = "\
 Serves rooms to clients over WebSockets. A client names a room and its author in its first message, and is then
 told what the others change.
+The first message: {\"id\":1,\"do\":\"hello\",\"room\":\"paris\",\"name\":\"anna\"}
+Those after it: as `maproom help replay` tells, without the author
 To serve two rooms: maproom serve --addr 127.0.0.1:9001 --workers 8 --sessions 1000 paris rome
 
 A room begins with an empty map, and lives until the program ends. With --base each begins with the map that the first
