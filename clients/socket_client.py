@@ -83,7 +83,7 @@ class Room:
                         pause = SOON
             except Missed:
                 continue
-            except (OSError, websockets.WebSocketException):
+            except (OSError, asyncio.TimeoutError, websockets.WebSocketException):  # before Python 3.11 that is no OSError
                 if not self.is_there.is_set():
                     raise
             await asyncio.sleep(pause)
@@ -143,7 +143,7 @@ def main():
     except Refused as refusal:
         tell_refusal(Client(given.room, given.name), refusal.no)
         sys.exit(1)
-    except (OSError, websockets.WebSocketException) as fault:
+    except (OSError, asyncio.TimeoutError, websockets.WebSocketException) as fault:
         sys.exit(f"socket_client: {str(fault) or 'nothing was answered in time'}\n{no_session}")
 
 
