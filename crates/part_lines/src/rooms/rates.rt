@@ -9,8 +9,8 @@ use std::thread::Threads;
 const ROUNDS: u32 = 5;
 
 /// Prints on standard error how many turns a second are taken, a line for each number of threads and each thing asked.
-/// A measurement is of so many turns, which the threads share evenly; of five rounds the quickest counts. The room is
-/// opened before and closed after what is measured. None without memory or a clock.
+/// A measurement is of so many turns, which the threads share evenly, with the opening and the closing of their room;
+/// of five rounds the quickest counts. None without memory or a clock.
 pub fn measure<R: Clock + Eprint + Threads + Wait + Sync>(
     rt: &R,
     alloc: Global,

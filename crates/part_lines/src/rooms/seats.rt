@@ -4,7 +4,7 @@ ghost use Rattle.turn_desk.specs.Desk.{IsAt};
 
 use crate::rooms::calls::{author, create, take};
 use crate::rooms::runs::show_room;
-use crate::rooms::turns::{Asked, shared_by_two};
+use crate::rooms::turns::{Asked, shared};
 use osm_elements::map::Rows;
 use room_history::ask::{RoomCall, RoomReply};
 use room_history::call::Request;
@@ -107,6 +107,6 @@ fn redo_at_once<R: Print + Wait>(
 
 // Two threads create nodes, each at a seat of its own; the room that is left has all of them.
 fn show_two_threads<R: Print + Threads + Wait + Sync>(rt: &R, alloc: Global) -> io::Result<()> {
-    let room = shared_by_two(rt, alloc, Asked::Create, EACH)?;
+    let room = shared(rt, alloc, Asked::Create, 2, EACH)?;
     show_room(rt, &room)
 }

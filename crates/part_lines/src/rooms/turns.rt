@@ -1,5 +1,5 @@
 //! Turns that threads take at one room.
-ghost use Rattle.std.specs.Prelude.{◌≡◌, ◌≤◌};
+ghost use Rattle.std.specs.Prelude.{◌≡◌, ◌≤◌, ◌<◌, ◌+◌, ◌*◌, ◌^◌};
 ghost use Rattle.turn_desk.specs.Desk.{IsAt};
 
 use crate::rooms::calls::{author, creation};
@@ -8,11 +8,14 @@ use room_history::ask::RoomCall;
 use room_history::room::Room;
 use room_stacks::author::Author;
 use std::alloc::Global;
-use std::io;
+use std::io::{self, ErrorKind};
 use std::sync::Wait;
 use std::thread::{Threads, join};
-use std::time::{Clock, Duration, Instant};
+use std::time::{Clock, Instant};
 use turn_desk::{Desk, Seat};
+
+// How many threads take turns at most.
+const MOST_THREADS: u32 = 8;
 
 /// What a room is asked in each turn.
 #[derive(Clone, Copy)]
@@ -33,7 +36,7 @@ impl Asked {
     }
 }
 
-// What a thread asks in its turns, and of how many threads it is which.
+// What a thread asks in its turns, how many it takes, and which thread it is, counted from 0.
 #[derive(Clone, Copy)]
 struct Work {
     alloc: Global,
@@ -44,10 +47,10 @@ struct Work {
 }
 
 impl Work {
-    // The same of the thread that comes so many after.
-    fn after(&self, threads: u32) -> Work {
+    // The same of the next thread.
+    fn next(&self) -> Work {
         Work {
-            thread: self.thread.wrapping_add(threads),
+            thread: self.thread.wrapping_add(1),
             ..*self
         }
     }
@@ -66,12 +69,13 @@ impl Work {
     }
 }
 
-// The id of a thread's turn, which no other turn of the at most eight threads has, and which is not 0.
+// The id of a thread's turn, which no other turn of the threads has, and which is not 0.
 fn id_of(turn: u32, thread: u32) -> u64 {
-    u64::from(turn) * 8 + u64::from(thread) + 1
+    u64::from(turn) * u64::from(MOST_THREADS) + u64::from(thread) + 1
 }
 
-/// How many turns a second so many threads take, 1, 2, 4 or 8; none without memory or a clock.
+/// How many turns a second so many threads take, 1 to 8, from before their room is opened until it is closed; none
+/// without memory or a clock, or for another number.
 pub fn rate<R: Clock + Threads + Wait + Sync>(
     rt: &R,
     alloc: Global,
@@ -79,68 +83,26 @@ pub fn rate<R: Clock + Threads + Wait + Sync>(
     threads: u32,
     turns: u32,
 ) -> Option<u128> {
-    let work = Work {
-        alloc,
-        asked,
-        author: Author::read("anna")?,
-        turns: turns.checked_div(threads)?,
-        thread: 0,
-    };
-    let (desk, seat) = Desk::open(alloc, Room::open(alloc, u32::MAX)).ok()?;
-    let (seat, time) = timed(rt, &desk, seat, &work, threads);
-    desk.close(rt, seat);
-    let taken = u128::from(work.turns) * u128::from(threads);
+    let each = turns.checked_div(threads)?;
+    let start = Instant::now(rt).ok()?;
+    let room = shared(rt, alloc, asked, threads, each).ok()?;
+    let time = start.elapsed(rt).ok();
+    drop(room);
+    let taken = u128::from(each) * u128::from(threads);
     (taken * 1_000_000_000).checked_div(time?.as_nanos())
 }
 
-// Takes the turns of so many threads, and tells how long that took, where there is a clock.
-fn timed<R: Clock + Threads + Wait + Sync>(
-    rt: &R,
-    desk: &Desk<Room<Global>, Global>,
-    seat: Seat<Room<Global>>,
-    work: &Work,
-    threads: u32,
-) -> (Seat<Room<Global>>, Option<Duration>)
-    requires seat { IsAt desk.now seat }
-    requires parts { 8192 ≤ seat.parts }
-    ensures { IsAt desk.now result.0 }
-{
-    let start = Instant::now(rt);
-    let seat = in_threads(rt, desk, seat, work, threads);
-    let time = match start {
-        Ok(start) => start.elapsed(rt).ok(),
-        Err(_) => None,
-    };
-    (seat, time)
-}
-
-// Takes the turns of 1, 2, 4 or 8 threads.
-fn in_threads<R: Threads + Wait + Sync>(
-    rt: &R,
-    desk: &Desk<Room<Global>, Global>,
-    seat: Seat<Room<Global>>,
-    work: &Work,
-    threads: u32,
-) -> Seat<Room<Global>>
-    requires seat { IsAt desk.now seat }
-    requires parts { 8192 ≤ seat.parts }
-    ensures { IsAt desk.now result }
-{
-    match threads {
-        1 => take_turns(rt, desk, seat, work),
-        2 => in_two_threads(rt, desk, seat, work),
-        4 => in_four_threads(rt, desk, seat, work),
-        _ => in_eight_threads(rt, desk, seat, work),
-    }
-}
-
-/// The room that two threads leave which take so many turns each.
-pub fn shared_by_two<R: Threads + Wait + Sync>(
+/// The room that so many threads leave which take so many turns each. There are 1 to 8 threads.
+pub fn shared<R: Threads + Wait + Sync>(
     rt: &R,
     alloc: Global,
     asked: Asked,
+    threads: u32,
     turns: u32,
 ) -> io::Result<Room<Global>> {
+    if threads == 0 || threads > MOST_THREADS {
+        return Err(ErrorKind::InvalidInput.into());
+    }
     let work = Work {
         alloc,
         asked,
@@ -149,8 +111,43 @@ pub fn shared_by_two<R: Threads + Wait + Sync>(
         thread: 0,
     };
     let (desk, seat) = Desk::open(alloc, Room::open(alloc, u32::MAX))?;
-    let seat = in_two_threads(rt, &desk, seat, &work);
+    let seat = in_threads(rt, &desk, seat, &work, threads - 1);
     Ok(desk.close(rt, seat))
+}
+
+// Takes the turns of a thread and so many others, each at a seat of its own.
+fn in_threads<R: Threads + Wait + Sync>(
+    rt: &R,
+    desk: &Desk<Room<Global>, Global>,
+    seat: Seat<Room<Global>>,
+    work: &Work,
+    others: u32,
+) -> Seat<Room<Global>>
+    requires seat { IsAt desk.now seat }
+    requires most { seat.parts < 2 ^ 64 }
+    requires least { others * 2 ^ 58 ≤ seat.parts + 1 }
+    ensures { IsAt desk.now result }
+{
+    if others == 0 {
+        return take_turns(rt, desk, seat, work);
+    }
+    let fewer = others - 1;
+    let (seat, other) = desk.split(seat);
+    let (other, mut seat) = join(
+        rt,
+        || -> Seat<Room<Global>>
+            requires { IsAt desk.now other }
+            ensures { IsAt desk.entry.now result }
+        { take_turns(rt, desk, other, work) },
+        || -> Seat<Room<Global>>
+            requires seat { IsAt desk.now seat }
+            requires most { seat.parts < 2 ^ 64 }
+            requires least { fewer * 2 ^ 58 ≤ seat.parts + 1 }
+            ensures { IsAt desk.entry.now result }
+        { in_threads(rt, desk, seat, &work.next(), fewer) },
+    );
+    desk.meet(&mut seat, other);
+    seat
 }
 
 // Takes the turns of one thread.
@@ -169,86 +166,4 @@ fn take_turns<W: Wait>(
         }
     }
     seat
-}
-
-fn in_two_threads<R: Threads + Wait + Sync>(
-    rt: &R,
-    desk: &Desk<Room<Global>, Global>,
-    seat: Seat<Room<Global>>,
-    work: &Work,
-) -> Seat<Room<Global>>
-    requires seat { IsAt desk.now seat }
-    requires parts { 2 ≤ seat.parts }
-    ensures { IsAt desk.now result }
-{
-    let (one, two) = desk.split(seat);
-    let (mut one, two) = join(
-        rt,
-        || -> Seat<Room<Global>>
-            requires { IsAt desk.now one }
-            ensures { IsAt desk.entry.now result }
-        { take_turns(rt, desk, one, work) },
-        || -> Seat<Room<Global>>
-            requires { IsAt desk.now two }
-            ensures { IsAt desk.entry.now result }
-        { take_turns(rt, desk, two, &work.after(1)) },
-    );
-    desk.meet(&mut one, two);
-    one
-}
-
-fn in_four_threads<R: Threads + Wait + Sync>(
-    rt: &R,
-    desk: &Desk<Room<Global>, Global>,
-    seat: Seat<Room<Global>>,
-    work: &Work,
-) -> Seat<Room<Global>>
-    requires seat { IsAt desk.now seat }
-    requires parts { 128 ≤ seat.parts }
-    ensures { IsAt desk.now result }
-{
-    let (one, two) = desk.split(seat);
-    let (mut one, two) = join(
-        rt,
-        || -> Seat<Room<Global>>
-            requires seat { IsAt desk.now one }
-            requires parts { 2 ≤ one.parts }
-            ensures { IsAt desk.entry.now result }
-        { in_two_threads(rt, desk, one, work) },
-        || -> Seat<Room<Global>>
-            requires seat { IsAt desk.now two }
-            requires parts { 2 ≤ two.parts }
-            ensures { IsAt desk.entry.now result }
-        { in_two_threads(rt, desk, two, &work.after(2)) },
-    );
-    desk.meet(&mut one, two);
-    one
-}
-
-fn in_eight_threads<R: Threads + Wait + Sync>(
-    rt: &R,
-    desk: &Desk<Room<Global>, Global>,
-    seat: Seat<Room<Global>>,
-    work: &Work,
-) -> Seat<Room<Global>>
-    requires seat { IsAt desk.now seat }
-    requires parts { 8192 ≤ seat.parts }
-    ensures { IsAt desk.now result }
-{
-    let (one, two) = desk.split(seat);
-    let (mut one, two) = join(
-        rt,
-        || -> Seat<Room<Global>>
-            requires seat { IsAt desk.now one }
-            requires parts { 128 ≤ one.parts }
-            ensures { IsAt desk.entry.now result }
-        { in_four_threads(rt, desk, one, work) },
-        || -> Seat<Room<Global>>
-            requires seat { IsAt desk.now two }
-            requires parts { 128 ≤ two.parts }
-            ensures { IsAt desk.entry.now result }
-        { in_four_threads(rt, desk, two, &work.after(4)) },
-    );
-    desk.meet(&mut one, two);
-    one
 }
