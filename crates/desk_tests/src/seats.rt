@@ -112,95 +112,46 @@ fn calls<W: Wait>(
     seat
 }
 
-fn in_two_threads<R: Threads + Wait + Sync>(
+// Makes the calls of a thread and of so many others, each at a seat of its own.
+fn in_threads<R: Threads + Wait + Sync>(
     rt: &R,
     desk: &Desk<Tally, Global>,
     seat: Seat<Tally>,
+    others: u32,
     count: u32,
     yields: u32,
 ) -> Seat<Tally>
     requires seat { IsAt desk.now seat }
-    requires parts { 2 ≤ seat.parts }
+    requires most { seat.parts < 2 ^ 64 }
+    requires least { others * 2 ^ 58 ≤ seat.parts + 1 }
     ensures { IsAt desk.now result }
 {
-    let (one, two) = desk.split(seat);
-    let (mut one, two) = join(
+    if others == 0 {
+        return calls(rt, desk, seat, count, yields);
+    }
+    let fewer = others - 1;
+    let (seat, other) = desk.split(seat);
+    let (other, mut seat) = join(
         rt,
         || -> Seat<Tally>
-            requires { IsAt desk.now one }
+            requires { IsAt desk.now other }
             ensures { IsAt desk.entry.now result }
-        { calls(rt, desk, one, count, yields) },
+        { calls(rt, desk, other, count, yields) },
         || -> Seat<Tally>
-            requires { IsAt desk.now two }
+            requires seat { IsAt desk.now seat }
+            requires most { seat.parts < 2 ^ 64 }
+            requires least { fewer * 2 ^ 58 ≤ seat.parts + 1 }
             ensures { IsAt desk.entry.now result }
-        { calls(rt, desk, two, count, yields) },
+        { in_threads(rt, desk, seat, fewer, count, yields) },
     );
-    desk.meet(&mut one, two);
-    one
-}
-
-fn in_four_threads<R: Threads + Wait + Sync>(
-    rt: &R,
-    desk: &Desk<Tally, Global>,
-    seat: Seat<Tally>,
-    count: u32,
-    yields: u32,
-) -> Seat<Tally>
-    requires seat { IsAt desk.now seat }
-    requires parts { 128 ≤ seat.parts }
-    ensures { IsAt desk.now result }
-{
-    let (one, two) = desk.split(seat);
-    let (mut one, two) = join(
-        rt,
-        || -> Seat<Tally>
-            requires seat { IsAt desk.now one }
-            requires parts { 2 ≤ one.parts }
-            ensures { IsAt desk.entry.now result }
-        { in_two_threads(rt, desk, one, count, yields) },
-        || -> Seat<Tally>
-            requires seat { IsAt desk.now two }
-            requires parts { 2 ≤ two.parts }
-            ensures { IsAt desk.entry.now result }
-        { in_two_threads(rt, desk, two, count, yields) },
-    );
-    desk.meet(&mut one, two);
-    one
-}
-
-fn in_eight_threads<R: Threads + Wait + Sync>(
-    rt: &R,
-    desk: &Desk<Tally, Global>,
-    seat: Seat<Tally>,
-    count: u32,
-    yields: u32,
-) -> Seat<Tally>
-    requires seat { IsAt desk.now seat }
-    requires parts { 8192 ≤ seat.parts }
-    ensures { IsAt desk.now result }
-{
-    let (one, two) = desk.split(seat);
-    let (mut one, two) = join(
-        rt,
-        || -> Seat<Tally>
-            requires seat { IsAt desk.now one }
-            requires parts { 128 ≤ one.parts }
-            ensures { IsAt desk.entry.now result }
-        { in_four_threads(rt, desk, one, count, yields) },
-        || -> Seat<Tally>
-            requires seat { IsAt desk.now two }
-            requires parts { 128 ≤ two.parts }
-            ensures { IsAt desk.entry.now result }
-        { in_four_threads(rt, desk, two, count, yields) },
-    );
-    desk.meet(&mut one, two);
-    one
+    desk.meet(&mut seat, other);
+    seat
 }
 
 #[test]
 fn two_threads_make_a_hundred_calls_each(rt: HostRuntime) -> Result<(), Fail> {
     let (desk, seat) = Desk::open(rt.alloc(), Tally { count: 0 })?;
-    let seat = in_two_threads(&rt, &desk, seat, 100, 0);
+    let seat = in_threads(&rt, &desk, seat, 1, 100, 0);
     assert_eq!(rt; desk.close(&rt, seat).front(), 200);
     Ok(())
 }
@@ -208,7 +159,7 @@ fn two_threads_make_a_hundred_calls_each(rt: HostRuntime) -> Result<(), Fail> {
 #[test]
 fn eight_threads_take_ten_thousand_short_turns_each(rt: HostRuntime) -> Result<(), Fail> {
     let (desk, seat) = Desk::open(rt.alloc(), Tally { count: 0 })?;
-    let seat = in_eight_threads(&rt, &desk, seat, 10_000, 0);
+    let seat = in_threads(&rt, &desk, seat, 7, 10_000, 0);
     assert_eq!(rt; desk.close(&rt, seat).front(), 80_000);
     Ok(())
 }
@@ -217,7 +168,7 @@ fn eight_threads_take_ten_thousand_short_turns_each(rt: HostRuntime) -> Result<(
 #[test]
 fn those_who_sleep_are_woken(rt: HostRuntime) -> Result<(), Fail> {
     let (desk, seat) = Desk::open(rt.alloc(), Tally { count: 0 })?;
-    let seat = in_four_threads(&rt, &desk, seat, 50, 2_000);
+    let seat = in_threads(&rt, &desk, seat, 3, 50, 2_000);
     assert_eq!(rt; desk.close(&rt, seat).front(), 200);
     Ok(())
 }
@@ -226,7 +177,7 @@ fn those_who_sleep_are_woken(rt: HostRuntime) -> Result<(), Fail> {
 #[test]
 fn no_wake_up_is_lost(rt: HostRuntime) -> Result<(), Fail> {
     let (desk, seat) = Desk::open(rt.alloc(), Tally { count: 0 })?;
-    let seat = in_two_threads(&rt, &desk, seat, 5_000, 130);
+    let seat = in_threads(&rt, &desk, seat, 1, 5_000, 130);
     assert_eq!(rt; desk.close(&rt, seat).front(), 10_000);
     Ok(())
 }
