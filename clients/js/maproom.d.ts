@@ -1,0 +1,191 @@
+// The types of maproom.js, which describes each member.
+
+export as namespace maproom;
+
+export interface Element {
+  el: string;
+  tags: Record<string, string>;
+  lat?: string;
+  lon?: string;
+  nodes?: number[];
+  members?: [string, string][];
+}
+
+export interface Row {
+  el: string;
+  before: Element | null;
+  after: Element | null;
+}
+
+export type Degrees = number | string;
+export type Tags = Record<string, string>;
+export type Members = Iterable<readonly [string, string]>;
+export type Message = { do: string } & Record<string, unknown>;
+
+export interface AskOptions {
+  signal?: AbortSignal;
+  timeout?: number | null;
+}
+
+export interface ConnectOptions {
+  room: string;
+  name: string;
+  openTimeout?: number | null;
+  timeout?: number | null;
+  heartbeat?: number;
+  signal?: AbortSignal;
+}
+
+export type State = "connecting" | "open" | "closed";
+
+export interface ChangeEvent extends Event {
+  readonly seq: number;
+  readonly by: string;
+  readonly rows: Row[];
+}
+
+export interface ResetEvent extends Event {
+  readonly seq: number;
+  readonly restarted: boolean | null;
+  readonly rows: Row[];
+}
+
+export interface StateEvent extends Event {
+  readonly state: State;
+}
+
+export interface RoomErrorEvent extends Event {
+  readonly error: unknown;
+}
+
+export interface RoomEvents {
+  change: ChangeEvent;
+  reset: ResetEvent;
+  state: StateEvent;
+  error: RoomErrorEvent;
+}
+
+export function connect(url: string, options: ConnectOptions): Promise<Room>;
+
+export class Room extends EventTarget {
+  private constructor();
+  static connect(url: string, options: ConnectOptions): Promise<Room>;
+  readonly url: string;
+  readonly room: string;
+  readonly name: string;
+  readonly elements: ReadonlyMap<string, Element>;
+  readonly authors: ReadonlyMap<number, string>;
+  readonly seq: number;
+  readonly pending: number;
+  readonly state: State;
+  addEventListener<Type extends keyof RoomEvents>(
+    type: Type,
+    listener: (event: RoomEvents[Type]) => unknown,
+    options?: boolean | AddEventListenerOptions,
+  ): void;
+  addEventListener(
+    type: string,
+    listener: EventListenerOrEventListenerObject | null,
+    options?: boolean | AddEventListenerOptions,
+  ): void;
+  removeEventListener<Type extends keyof RoomEvents>(
+    type: Type,
+    listener: (event: RoomEvents[Type]) => unknown,
+    options?: boolean | EventListenerOptions,
+  ): void;
+  removeEventListener(
+    type: string,
+    listener: EventListenerOrEventListenerObject | null,
+    options?: boolean | EventListenerOptions,
+  ): void;
+  close(): void;
+  ask(message: Message, options?: AskOptions): Promise<Record<string, unknown>>;
+  createNode(lat: Degrees, lon: Degrees, tags?: Tags, options?: AskOptions & { el?: string }): Promise<string>;
+  createWay(nodes: Iterable<number | string>, tags?: Tags, options?: AskOptions & { el?: string }): Promise<string>;
+  createRelation(members: Members, tags?: Tags, options?: AskOptions & { el?: string }): Promise<string>;
+  retag(el: string, tags: Record<string, string | null>, options?: AskOptions): Promise<number>;
+  move(els: string | readonly string[], dlat: Degrees, dlon: Degrees, options?: AskOptions): Promise<number>;
+  reverse(el: string, options?: AskOptions): Promise<number>;
+  setNodes(el: string, nodes: Iterable<number | string>, options?: AskOptions): Promise<number>;
+  setMembers(el: string, members: Members, options?: AskOptions): Promise<number>;
+  delete(el: string, options?: AskOptions): Promise<number>;
+  purge(el: string, options?: AskOptions): Promise<number>;
+  split(el: string, at: number, options?: AskOptions & { into?: string }): Promise<string>;
+  join(el: string, other: string, options?: AskOptions): Promise<number>;
+  merge(el: string, other: string, options?: AskOptions): Promise<number>;
+  unglue(el: string, at: number, options?: AskOptions & { into?: string }): Promise<string>;
+  undo(seq?: number, options?: AskOptions): Promise<{ seq: number; undid?: number }>;
+  redo(options?: AskOptions): Promise<{ seq: number; redid?: number }>;
+  get(el: string, options?: AskOptions): Promise<Element>;
+  map(options?: AskOptions): Promise<{ map: Element[]; seq: number }>;
+  undos(options?: AskOptions): Promise<{ undos: number[]; redo: number[] }>;
+}
+
+export class MaproomError extends Error {
+  readonly why: string;
+}
+
+export class ConnectionFailed extends MaproomError {}
+
+export class Closed extends MaproomError {
+  readonly isSent: boolean;
+}
+
+export class Unknown extends MaproomError {
+  readonly restarted: boolean;
+}
+
+export class NotSent extends MaproomError {
+  readonly restarted: boolean;
+}
+
+export class NoAnswer extends MaproomError {}
+
+export class Refused extends MaproomError {
+  readonly no: { why: string } & Record<string, unknown>;
+  readonly author: string | null;
+  readonly element: string | null;
+  readonly entry: number | null;
+}
+
+export const actions: Record<string, (...values: any[]) => Message>;
+
+// The core, for programs that have a connection of their own.
+export class OutOfStep extends Error {}
+
+export class HelloRefused extends Error {
+  readonly no: { why: string } & Record<string, unknown>;
+}
+
+export type Answer = { ok: Record<string, any> } | { no: { why: string } & Record<string, any> };
+export type CoreEvent =
+  | { seq: number; by: string; rows: Row[] }
+  | { seq: number; reset: true; restarted: boolean | null; rows: Row[] };
+
+export interface Asked {
+  readonly id: number;
+  readonly text: string;
+}
+
+export class Core {
+  constructor(room: string, name: string, firstId?: number, window?: number);
+  readonly elements: Map<string, Element>;
+  readonly seq: number | null;
+  readonly authors: Map<number, string>;
+  events: CoreEvent[];
+  isHere(): boolean;
+  begin(): string[];
+  end(): void;
+  close(no: { why: string }): void;
+  pending(): number;
+  add(message: Message, done?: (answer: Answer) => void): Asked;
+  ask(message: Message, done?: (answer: Answer) => void): string[];
+  giveUp(asked: Asked): void;
+  probe(): string[];
+  sendMore(): string[];
+  newName(kind: "n" | "w" | "r"): string;
+  take(text: string): string[];
+}
+
+export function errorOf(no: { why: string } & Record<string, unknown>, author?: string): MaproomError;
+export function shortWords(error: Error): string;

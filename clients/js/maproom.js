@@ -1,0 +1,888 @@
+// A client of maproom, a server on which several mappers edit one OpenStreetMap map at the same time.
+//
+//     const room = await maproom.connect("ws://127.0.0.1:9001", { room: "hamlet", name: "lina" });
+//     const tree = await room.createNode(51.5, -0.1, { natural: "tree" });
+//     room.addEventListener("change", ({ seq, by, rows }) => console.log(seq, by, rows));
+//
+// It is one file for a page (<script src="maproom.js"> sets `maproom`), for require("maproom") and for import. In Node
+// it uses the global WebSocket or, if there is none, the package ws. docs/CLIENT.md of the repository describes it.
+"use strict";
+(() => {
+  // ---- The core: the texts that go out, and the events, for the texts that come in. It knows no sockets and no
+  // clock. The Python package has the same core, and tests/texts/clients fixes both; docs/CLIENT.md has the rules.
+
+  const QUERIES = new Set(["get", "map", "undos"]);
+
+  // No journal has an entry of this number, so an undo of it is never accepted.
+  const NO_ENTRY = Number.MAX_SAFE_INTEGER;
+
+  // New elements get ids below all others, but none of these, which would be rounded.
+  const LEAST_ID = -(2 ** 52);
+
+  // The room sent a text that cannot come next: a gap in the news, for example. Only a new session helps.
+  class OutOfStep extends Error {}
+
+  // The room refused the hello. `no` has the reason.
+  class HelloRefused extends Error {
+    constructor(no) {
+      super(JSON.stringify(no));
+      this.no = no;
+    }
+  }
+
+  // Whether two rows of an element, which may be missing, are the same.
+  function isSame(one, other) {
+    if (one === other) return true;
+    if (typeof one !== "object" || typeof other !== "object" || !one || !other) return false;
+    const keys = Object.keys(one);
+    if (keys.length !== Object.keys(other).length) return false;
+    return keys.every((key) => key in other && isSame(one[key], other[key]));
+  }
+
+  // The elements in which two maps differ: {el, before, after}, where null means that it is not in the map.
+  function differences(before, after) {
+    const rows = [];
+    for (const [el, element] of before) {
+      if (!isSame(element, after.get(el))) rows.push({ el, before: element, after: after.get(el) ?? null });
+    }
+    for (const [el, element] of after) if (!before.has(el)) rows.push({ el, before: null, after: element });
+    return rows;
+  }
+
+  const isChange = ({ message }) => !QUERIES.has(message.do);
+
+  // A client's knowledge of a room: the mirror `elements` by name, the number `seq` of its last entry (null before
+  // the first welcome), and `authors`, by the number of the entry. Each method returns the texts to send. `events`
+  // collects what happened, and the caller empties it. At most `window` messages are on their way at once.
+  class Core {
+    constructor(room, name, firstId = 2, window = 1) {
+      Object.assign(this, { room, name, nextId: firstId, window });
+      Object.assign(this, { elements: new Map(), seq: null, authors: new Map(), events: [], takeNext: null });
+      this.accepted = null; // the id and the entry of the last accepted change of this run of the server
+      this.sent = new Set(); // sent in this session, and not answered
+      this.queued = new Set(); // not sent in this session
+      this.settling = []; // accepted changes whose entries are not in the mirror yet
+      this.gap = null; // the state before a new session, until it is known which run of the server answers
+      this.lowest = { n: 0, w: 0, r: 0 };
+    }
+
+    // Whether the session has begun, so that a message goes out at once.
+    isHere() {
+      return this.takeNext === this.takeAnswer;
+    }
+
+    // Begins a session.
+    begin() {
+      this.end();
+      this.takeNext = this.takeWelcome;
+      return [JSON.stringify({ id: 1, do: "hello", room: this.room, name: this.name })];
+    }
+
+    // Ends the session: the connection is gone.
+    end() {
+      this.takeNext = null;
+      this.queued = new Set([...this.sent, ...this.queued].filter((asked) => !asked.isGivenUp));
+      this.sent.clear();
+    }
+
+    // Ends everything. What has no answer is answered with `no`.
+    close(no) {
+      this.end();
+      this.settle();
+      const waiting = this.queued;
+      this.queued = new Set();
+      for (const asked of waiting) asked.done({ no: { ...no, sent: asked.timesSent > 0 && isChange(asked) } });
+    }
+
+    // How many messages have no answer yet.
+    pending() {
+      return this.sent.size + this.queued.size + this.settling.length;
+    }
+
+    // Adds a message that `sendMore` sends. `done` gets {"ok": ..} or {"no": ..}; an accepted change is in the mirror
+    // by then. The core gives each message an id of its own, because an accepted change spends it.
+    add(message, done = () => {}) {
+      const id = this.nextId++;
+      const text = JSON.stringify(Object.assign({ id }, message, { id }));
+      const asked = { id, message, text, done, timesSent: 0, isGivenUp: false };
+      this.queued.add(asked);
+      return asked;
+    }
+
+    // Adds a message, and returns the texts to send.
+    ask(message, done) {
+      this.add(message, done);
+      return this.sendMore();
+    }
+
+    // Forgets a message: it is not sent if it was not sent yet, and never sent again.
+    giveUp(asked) {
+      asked.isGivenUp = true;
+      asked.done = () => {};
+    }
+
+    // A small question whose answer shows that the session is alive, if no other message is on its way.
+    probe() {
+      return this.isHere() && this.sent.size === 0 ? this.ask({ do: "get", el: "n1" }) : [];
+    }
+
+    // The messages that may go out now.
+    sendMore() {
+      const texts = [];
+      if (!this.isHere()) return texts;
+      for (const asked of this.queued) {
+        if (this.sent.size >= this.window) break;
+        this.queued.delete(asked);
+        if (asked.isGivenUp) continue;
+        asked.timesSent += 1;
+        this.sent.add(asked);
+        texts.push(asked.text);
+      }
+      return texts;
+    }
+
+    // A name for a new element of a kind, `n`, `w` or `r`, that the mirror does not have.
+    newName(kind) {
+      do this.lowest[kind] -= 1;
+      while (this.elements.has(`${kind}${this.lowest[kind]}`));
+      return `${kind}${this.lowest[kind]}`;
+    }
+
+    // Takes a text of the room's. Throws OutOfStep if a new session has to begin, and HelloRefused if the hello was
+    // refused.
+    take(text) {
+      try {
+        const told = JSON.parse(text);
+        if ("news" in told) return this.takeNews(told.news);
+        return this.takeNext ? this.takeNext(told) : [];
+      } catch (error) {
+        if (!(error instanceof TypeError || error instanceof SyntaxError)) throw error;
+        throw new OutOfStep(`the room sent ${String(text).slice(0, 200)}`, { cause: error });
+      }
+    }
+
+    // Takes the answer to the hello, and asks which run of the server it is from.
+    takeWelcome(told) {
+      if ("no" in told) throw new HelloRefused(told.no);
+      const { map, seq } = told.ok;
+      const { seq: last, authors } = this;
+      if (last !== null && !this.gap) this.gap = { elements: new Map(this.elements), seq: last, authors };
+      this.seq = seq;
+      this.authors = new Map();
+      this.elements.clear();
+      for (const element of map) this.put(element);
+      if (last === null) {
+        this.takeNext = this.takeAnswer;
+        return this.sendMore();
+      }
+      if (seq < last) return this.goOn(true);
+      if (!this.accepted) return this.goOn(null);
+      this.takeNext = this.takeRun;
+      return [JSON.stringify({ id: this.accepted.id, do: "undo", seq: NO_ENTRY })];
+    }
+
+    // Takes the answer to the restart question: the same run repeats the entry that spent the id.
+    takeRun({ id, no = {} }) {
+      if ((id !== 0 && id !== this.accepted.id) || no.why === "memory") {
+        throw new OutOfStep("the server did not say which run it is");
+      }
+      return this.goOn(no.why !== "repeat" || no.seq !== this.accepted.seq);
+    }
+
+    // Goes on in the same run of the server, in another one (true), or in one that may be another (null).
+    goOn(restarted) {
+      const { gap } = this;
+      this.gap = null;
+      this.takeNext = this.takeAnswer;
+      if (restarted === false) this.authors = new Map([...gap.authors, ...this.authors]);
+      else if (restarted) this.authors = new Map();
+      const [rows, { seq }] = [differences(gap.elements, this.elements), this];
+      if (rows.length > 0 || restarted || seq !== gap.seq) this.events.push({ seq, reset: true, restarted, rows });
+      this.settle();
+      if (restarted !== false) {
+        this.accepted = null;
+        this.dropChanges(restarted === true);
+      }
+      return this.sendMore();
+    }
+
+    // Drops the messages that were meant for another journal, or may have been.
+    dropChanges(restarted) {
+      const waiting = this.queued;
+      const dropped = [];
+      this.queued = new Set();
+      for (const asked of waiting) {
+        const isSent = asked.timesSent > 0;
+        asked.timesSent = 0;
+        if (isChange(asked) && (isSent || restarted || "seq" in asked.message)) {
+          dropped.push([asked, { why: isSent ? "unknown" : "not_sent", restarted }]);
+        } else {
+          this.queued.add(asked);
+        }
+      }
+      for (const [asked, no] of dropped) asked.done({ no });
+    }
+
+    // Takes an answer, which is to the message that was sent first. The room may not have read its id.
+    takeAnswer(told) {
+      const [asked] = this.sent;
+      if (!asked || (told.id !== 0 && told.id !== asked.id)) {
+        throw new OutOfStep("the room answered a message that was not sent");
+      }
+      this.sent.delete(asked);
+      // A repeat of a message that was sent before is its lost answer.
+      const isLost = asked.timesSent > 1 && told.no?.why === "repeat";
+      const answer = isLost ? { ok: { seq: told.no.seq } } : "no" in told ? { no: told.no } : { ok: told.ok };
+      if (answer.ok && isChange(asked)) {
+        this.accepted = { id: asked.id, seq: answer.ok.seq };
+        if (answer.ok.seq > this.seq) {
+          this.settling.push({ seq: answer.ok.seq, asked, answer });
+          return this.sendMore();
+        }
+      }
+      asked.done(answer);
+      return this.sendMore();
+    }
+
+    // Takes what an entry changed.
+    takeNews({ seq, by, rows }) {
+      if (!this.takeNext || this.takeNext === this.takeWelcome || seq !== this.seq + 1) {
+        throw new OutOfStep(`the news of entry ${seq} came after ${this.seq}`);
+      }
+      this.seq = seq;
+      this.authors.set(seq, by);
+      const changed = rows.map((row) => {
+        const [before, after] = [this.elements.get(row.el) ?? null, row.gone ? null : row];
+        if (after) this.put(after);
+        else this.elements.delete(row.el);
+        return { el: row.el, before, after };
+      });
+      if (!this.gap) {
+        this.events.push({ seq, by, rows: changed });
+        this.settle(seq);
+      }
+      return [];
+    }
+
+    // Reports the accepted changes up to an entry, or all.
+    settle(seq = Infinity) {
+      while (this.settling.length > 0 && this.settling[0].seq <= seq) {
+        const { asked, answer } = this.settling.shift();
+        asked.done(answer);
+      }
+    }
+
+    // Puts an element into the mirror, and keeps new names below all that it has.
+    put(element) {
+      this.elements.set(element.el, element);
+      if (element.el[1] !== "-") return;
+      const number = Number(element.el.slice(1));
+      if (LEAST_ID < number && number < this.lowest[element.el[0]]) this.lowest[element.el[0]] = number;
+    }
+  }
+
+  // ---- The errors.
+
+  // The reasons of docs/PROTOCOL.md in words. What stands in braces is a member of the refusal.
+  const WORDS = {
+    not_json: "the room could not read the message",
+    not_object: "the room could not read the message",
+    bad_id: "the room could not read the message",
+    unknown_do: "the room does not know this action",
+    bad_field: "{field} is missing, or not of its form",
+    hello_twice: "the session has begun already",
+    no_hello: "the session has not begun",
+    no_room: "the server has no such room",
+    repeat: "entry {seq} spent the id: another client has the same name",
+    full: "the journal of the room is full",
+    nothing_to_undo: "there is nothing to undo",
+    no_such: "no entry has this number",
+    not_yours: "the entry is another author's",
+    not_standing: "the entry is an undo, or was undone",
+    conflict: "entry {with} of {author} also touched {at}: it has to be undone first",
+    nothing_to_redo: "there is nothing to redo",
+    wrong_kind: "{el} is of the wrong kind for this",
+    present: "{el} is there already",
+    same: "{el} is named twice",
+    absent: "{el} is not there",
+    bad_position: "the way has no such position",
+    not_end_to_end: "the way does not end where the other begins",
+    tag_conflict: "the two elements have different values of {key}",
+    out_of_range: "{el} would leave the range of coordinates",
+    too_few: "{el} would have fewer than 2 nodes",
+    too_many: "{el} would have too many nodes, members or tags",
+    in_use: "{by} refers to {el}",
+    nothing: "the map would not change",
+    memory: "the server is out of memory",
+  };
+
+  // The members of a refusal as the command-line clients print them.
+  function membersOf(no) {
+    const others = Object.keys(no).filter((key) => key !== "why");
+    return ["why", ...others.sort()].map((key) => no[key]).join(" ");
+  }
+
+  // Anything that this file throws on purpose. `why` is a word for the reason.
+  class MaproomError extends Error {
+    constructor(why, message, options) {
+      super(message, options);
+      this.name = this.constructor.name;
+      this.why = why;
+    }
+  }
+
+  // The first session did not begin. `cause` has the fault.
+  class ConnectionFailed extends MaproomError {
+    constructor(message, options) {
+      super("connection_failed", message, options);
+    }
+  }
+
+  // The room was closed before the answer came. `isSent` says whether a change was sent, and so may be done.
+  class Closed extends MaproomError {
+    constructor(isSent = false) {
+      super("closed", `the room was closed${isSent ? ": look at the map whether it was done" : ""}`);
+      this.isSent = isSent;
+    }
+  }
+
+  // A change was sent and not answered, and nobody can say whether it was done. It is not sent again: look at the map.
+  class Unknown extends MaproomError {
+    constructor(restarted = false) {
+      const first = restarted ? "the server was started anew" : "the connection broke";
+      super("unknown", `${first} before it answered: look at the map`);
+      this.restarted = restarted;
+    }
+  }
+
+  // The server was started anew, perhaps with another map, before a change was sent. It was not done.
+  class NotSent extends MaproomError {
+    constructor(restarted = false) {
+      const first = restarted ? "the server was started anew" : "the server may have been started anew";
+      super("not_sent", `${first} before this was sent: it was not done`);
+      this.restarted = restarted;
+    }
+  }
+
+  // No answer came in time. A change may be done: look at the map.
+  class NoAnswer extends MaproomError {
+    constructor(milliseconds) {
+      super("no_answer", `no answer came within ${milliseconds / 1000} seconds: look at the map`);
+    }
+  }
+
+  // The room refused a message. `why` is its word for the reason, and `no` has all that it said.
+  class Refused extends MaproomError {
+    constructor(no, author = null) {
+      super(no.why, Refused.inWords(no, author));
+      Object.assign(this, { no, author, element: no.el ?? no.at ?? null, entry: no.with ?? no.seq ?? null });
+    }
+
+    static inWords(no, author) {
+      const words = WORDS[no.why];
+      if (!words) return membersOf(no);
+      const text = author ? words : words.replace(" of {author}", "");
+      return text.replace(/{(\w+)}/g, (_, key) => (key === "author" ? author : no[key]));
+    }
+  }
+
+  // The error for a refusal, or for a reason of the core: `unknown`, `not_sent`, `closed`.
+  function errorOf(no, author) {
+    if (no.why === "unknown") return new Unknown(no.restarted);
+    if (no.why === "not_sent") return new NotSent(no.restarted);
+    return no.why === "closed" ? new Closed(no.sent) : new Refused(no, author);
+  }
+
+  // A refusal as the command-line clients print it: its word, with what it is about.
+  function shortWords(error) {
+    if (!(error instanceof Refused) || error.why === "conflict" || error.why === "in_use") return error.message;
+    return membersOf(error.no);
+  }
+
+  // ---- The messages without their ids, one function for each action and each query of docs/PROTOCOL.md.
+
+  // A number or a text of degrees as the text of a whole number of ten-millionths.
+  function units(value) {
+    const text = typeof value === "number" ? value.toFixed(7) : String(value).trim();
+    const parts = /^(-?)(\d+)(?:\.(\d{1,7}))?$/.exec(text);
+    if (!parts) throw new RangeError(`${value} is no number of degrees with at most seven decimals`);
+    return Number(`${parts[1]}${parts[2]}${(parts[3] ?? "").padEnd(7, "0")}`) + 0;
+  }
+
+  // A coordinate, which is a number or a text of degrees, as the room reads it.
+  function degrees(value) {
+    if (typeof value !== "number") return String(value);
+    if (!Number.isFinite(value)) throw new RangeError(`${value} is no coordinate`);
+    return value.toFixed(7);
+  }
+
+  const nodeIds = (nodes) => Array.from(nodes, (node) => (typeof node === "string" ? Number(node.slice(1)) : node));
+  const pairs = (members) => Array.from(members, ([name, role]) => [name, role]);
+
+  const actions = {
+    createNode: (el, lat, lon, tags = {}) => ({ do: "create", el, lat: degrees(lat), lon: degrees(lon), tags }),
+    createWay: (el, nodes, tags = {}) => ({ do: "create", el, nodes: nodeIds(nodes), tags }),
+    createRelation: (el, members, tags = {}) => ({ do: "create", el, members: pairs(members), tags }),
+    retag: (el, tags) => ({ do: "retag", el, tags }),
+    move: (els, dlat, dlon) => ({ do: "move", els: [els].flat(), dlat: units(dlat), dlon: units(dlon) }),
+    reverse: (el) => ({ do: "reverse", el }),
+    setNodes: (el, nodes) => ({ do: "nodes", el, nodes: nodeIds(nodes) }),
+    setMembers: (el, members) => ({ do: "members", el, members: pairs(members) }),
+    delete: (el) => ({ do: "delete", el }),
+    purge: (el) => ({ do: "purge", el }),
+    split: (el, at, into) => ({ do: "split", el, at, into }),
+    join: (el, other) => ({ do: "join", el, with: other }),
+    merge: (el, other) => ({ do: "merge", el, with: other }),
+    unglue: (el, at, into) => ({ do: "unglue", el, at, into }),
+    undo: (seq) => (seq === undefined ? { do: "undo" } : { do: "undo", seq }),
+    redo: () => ({ do: "redo" }),
+    get: (el) => ({ do: "get", el }),
+    map: () => ({ do: "map" }),
+    undos: () => ({ do: "undos" }),
+  };
+
+  // ---- A room over a WebSocket.
+
+  // How many milliseconds pass before the next attempt to connect: at first, and at most.
+  const SOON = 100;
+  const LATE = 5000;
+
+  // How many messages are on their way at once, and how many names are tried for a new element.
+  const WINDOW = 256;
+  const TRIES = 100;
+
+  // How often in the time of a heartbeat it is looked whether something came.
+  const TICKS = 15;
+
+  // What has gone out and not left the browser may have so many bytes, before more goes out.
+  const MOST_BUFFERED = 1 << 20;
+
+  // The entry `seq` of the journal: who made it (`by`), and the elements that it changed (`rows`).
+  class ChangeEvent extends Event {
+    constructor({ seq, by, rows }) {
+      super("change");
+      Object.assign(this, { seq, by, rows });
+    }
+  }
+
+  // Entries were missed, and the mirror was read anew as of entry `seq`. `rows` has each element that differs.
+  // `restarted` is true if another run of the server answered, false if the same run did, null if it is not known.
+  class ResetEvent extends Event {
+    constructor({ seq, restarted, rows }) {
+      super("reset");
+      Object.assign(this, { seq, restarted, rows });
+    }
+  }
+
+  // The connection became "open", "connecting" or "closed".
+  class StateEvent extends Event {
+    constructor(state) {
+      super("state");
+      this.state = state;
+    }
+  }
+
+  // `error`: what ended the room for good, or what one of your listeners threw.
+  class RoomErrorEvent extends Event {
+    constructor(error) {
+      super("error");
+      Object.assign(this, { error, isHeard: false });
+    }
+  }
+
+  // A WebSocket of the platform, or else of the package ws, which would refuse large maps by itself.
+  function socketTo(url) {
+    if (globalThis.WebSocket) return new globalThis.WebSocket(url);
+    let Package;
+    try {
+      Package = require("ws");
+    } catch {
+      throw new Error("it needs the package ws (in Debian node-ws)");
+    }
+    return new Package(url, [], { maxPayload: 0, perMessageDeflate: false });
+  }
+
+  class Room extends EventTarget {
+    #core;
+    #options;
+    #socket = null;
+    #state = "connecting";
+    #opened;
+    #isThere = false;
+    #pause = SOON;
+    #silentTicks = 0;
+    #bytes = 0;
+    #texts = 0;
+    #outbox = [];
+    #timers = {};
+    #error = null;
+    #listeners = new WeakMap();
+
+    // Use `connect`.
+    constructor(url, options) {
+      super();
+      this.url = url;
+      this.#options = options;
+      // Ids are spent for the life of the room, so each run of a program begins above those of earlier runs.
+      const firstId = Date.now() * 1000 + Math.floor(Math.random() * 1000);
+      this.#core = new Core(options.room, options.name, firstId, WINDOW);
+    }
+
+    // Connects, and gives the room when the welcome has come, within `openTimeout` milliseconds. Each message then
+    // waits for its answer for `timeout` milliseconds at most. null means no limit. A connection on which nothing came
+    // for `heartbeat` milliseconds is given up, and made anew. An aborted `signal` closes the room.
+    static connect(url, { room, name, openTimeout = 10_000, timeout = 60_000, heartbeat = 15_000, signal } = {}) {
+      return new Promise((done, fail) => {
+        signal?.throwIfAborted();
+        const made = new Room(url, { room, name, openTimeout, timeout, heartbeat });
+        made.#opened = { done, fail };
+        if (openTimeout !== null) {
+          const words = `${url} did not answer within ${openTimeout / 1000} seconds`;
+          made.#timers.open = setTimeout(() => made.#end(new ConnectionFailed(words)), openTimeout);
+        }
+        const abort = () => made.#end(made.#isThere ? null : signal.reason);
+        signal?.addEventListener("abort", abort, { once: true });
+        made.#begin();
+      });
+    }
+
+    // The map as of now, by the elements' names. Do not change it.
+    get elements() {
+      return this.#core.elements;
+    }
+
+    // The number of the last entry in the mirror.
+    get seq() {
+      return this.#core.seq ?? 0;
+    }
+
+    // Who made an entry, by its number, for the entries whose news came.
+    get authors() {
+      return this.#core.authors;
+    }
+
+    // How many messages have no answer yet.
+    get pending() {
+      return this.#core.pending();
+    }
+
+    // "connecting", "open" or "closed".
+    get state() {
+      return this.#state;
+    }
+
+    get room() {
+      return this.#options.room;
+    }
+
+    get name() {
+      return this.#options.name;
+    }
+
+    // Adds a listener. What it throws becomes an event `error` and does not end the program.
+    addEventListener(type, listener, options) {
+      if (!listener) return;
+      const key = this.#listeners.get(listener) ?? this.#guarded(listener);
+      this.#listeners.set(listener, key);
+      super.addEventListener(type, key, options);
+    }
+
+    removeEventListener(type, listener, options) {
+      super.removeEventListener(type, this.#listeners.get(listener) ?? listener, options);
+    }
+
+    #guarded(listener) {
+      return (event) => {
+        const failed = (error) => (event.type === "error" ? console.error(error) : this.#fail(error));
+        if (event.type === "error") event.isHeard = true;
+        try {
+          const result = typeof listener === "function" ? listener.call(this, event) : listener.handleEvent(event);
+          if (typeof result?.then === "function") result.then(undefined, failed);
+        } catch (error) {
+          failed(error);
+        }
+      };
+    }
+
+    // Reports an error: to the listeners of `error` or, if there are none, to the console.
+    #fail(error) {
+      const event = new RoomErrorEvent(error);
+      this.dispatchEvent(event);
+      if (!event.isHeard) console.error(error);
+    }
+
+    // Begins a session, and another one when it ends.
+    #begin() {
+      let socket;
+      try {
+        socket = socketTo(this.url);
+      } catch (error) {
+        this.#end(new ConnectionFailed(`no connection to ${this.url}: ${error.message}`, { cause: error }));
+        return;
+      }
+      this.#socket = socket;
+      this.#silentTicks = 0;
+      this.#texts = 0;
+      this.#outbox = [];
+      let fault = null;
+      const isOld = () => this.#socket !== socket;
+      socket.onopen = () => isOld() || this.#send(this.#core.begin());
+      socket.onmessage = ({ data }) => isOld() || this.#take(data);
+      socket.onerror = (event) => {
+        fault = event.error ?? new Error(event.message || "the connection failed");
+      };
+      socket.onclose = () => isOld() || this.#again(fault);
+      const { heartbeat } = this.#options;
+      this.#timers.watch = setInterval(() => this.#watch(), heartbeat / TICKS);
+    }
+
+    // Ends a session, and begins another one after a pause. The first one has to begin.
+    #again(fault = null) {
+      this.#leave();
+      if (!this.#isThere) {
+        const why = fault?.message ?? "it ended before the map was sent";
+        this.#end(new ConnectionFailed(`no connection to ${this.url}: ${why}`, fault ? { cause: fault } : undefined));
+        return;
+      }
+      this.#become("connecting");
+      this.#pause = this.#texts > 2 ? SOON : this.#pause;
+      this.#timers.again = setTimeout(() => this.#begin(), this.#pause);
+      this.#pause = Math.min(2 * this.#pause, LATE);
+    }
+
+    // Drops the connection.
+    #leave() {
+      clearInterval(this.#timers.watch);
+      clearTimeout(this.#timers.again);
+      clearTimeout(this.#timers.flush);
+      const socket = this.#socket;
+      this.#socket = null;
+      this.#core.end();
+      if (!socket) return;
+      socket.onopen = socket.onmessage = socket.onclose = null;
+      socket.onerror = () => {};
+      socket.close();
+      // A package's socket would keep the program alive until a dead server answers the close.
+      if (socket.terminate) setTimeout(() => socket.terminate(), 1000).unref?.();
+    }
+
+    // Takes what the room sends.
+    #take(text) {
+      this.#silentTicks = 0;
+      this.#texts += 1;
+      try {
+        this.#send(this.#core.take(text));
+      } catch (error) {
+        if (error instanceof HelloRefused) {
+          if (!this.#isThere || error.no.why !== "memory") return this.#end(errorOf(error.no));
+        } else if (!(error instanceof OutOfStep)) {
+          throw error;
+        }
+        return this.#again(error);
+      }
+      const events = this.#core.events.splice(0);
+      if (this.#core.isHere() && this.#state !== "open") {
+        this.#isThere = true;
+        clearTimeout(this.#timers.open);
+        this.#become("open");
+        this.#opened.done(this);
+      }
+      for (const event of events) this.dispatchEvent(event.reset ? new ResetEvent(event) : new ChangeEvent(event));
+    }
+
+    // Sends some texts, as fast as the other side reads.
+    #send(texts) {
+      this.#outbox.push(...texts);
+      clearTimeout(this.#timers.flush);
+      let sent = 0;
+      const isReady = () => this.#socket?.readyState === 1 && this.#socket.bufferedAmount < MOST_BUFFERED;
+      while (sent < this.#outbox.length && isReady()) this.#socket.send(this.#outbox[sent++]);
+      this.#outbox.splice(0, sent);
+      if (this.#outbox.length > 0) this.#timers.flush = setTimeout(() => this.#send([]), 10);
+    }
+
+    // Asks something small when nothing came for a while, and begins anew when nothing comes for long. It counts its
+    // calls and not the time, because a browser calls it less often in a page that is not seen.
+    #watch() {
+      const bytes = this.#socket?._socket?.bytesRead; // of the package ws: a long text is no silence while it comes
+      this.#silentTicks = bytes === this.#bytes ? this.#silentTicks + 1 : 0;
+      this.#bytes = bytes;
+      if (this.#silentTicks > TICKS && (this.#isThere || this.#socket?.readyState === 1)) {
+        this.#again(new Error("the server is silent"));
+      } else if (this.#silentTicks > TICKS / 3) {
+        this.#send(this.#core.probe());
+      }
+    }
+
+    #become(state) {
+      if (this.#state === state) return;
+      this.#state = state;
+      this.dispatchEvent(new StateEvent(state));
+    }
+
+    // Ends everything, perhaps for an error that ends the room for good.
+    #end(error = null) {
+      if (this.#state === "closed") return;
+      this.#error = error;
+      clearTimeout(this.#timers.open);
+      this.#leave();
+      this.#core.close({ why: "closed" });
+      this.#become("closed");
+      if (!this.#isThere) this.#opened.fail(error ?? new Closed());
+      else if (error) this.#fail(error);
+    }
+
+    // Leaves the room. Each message that has no answer fails with Closed.
+    close() {
+      this.#end();
+    }
+
+    // Sends a message without its id, and gives what the answer has under `ok`. When the answer to a change is given,
+    // `elements` has the change. If you abort it, the message is not sent any more; if it was sent, it may be done.
+    ask(message, { signal, timeout = this.#options.timeout } = {}) {
+      return new Promise((done, fail) => {
+        signal?.throwIfAborted();
+        if (this.#state === "closed") throw this.#error ?? new Closed();
+        let timer = null;
+        const stop = () => {
+          clearTimeout(timer);
+          signal?.removeEventListener("abort", abort);
+        };
+        const asked = this.#core.add(message, (told) => {
+          stop();
+          if (told.no) fail(this.#errorOf(told.no));
+          else done(told.ok);
+        });
+        const giveUp = (error) => {
+          stop();
+          this.#core.giveUp(asked);
+          fail(error);
+        };
+        const abort = () => giveUp(signal.reason);
+        signal?.addEventListener("abort", abort);
+        if (timeout !== null) timer = setTimeout(() => giveUp(new NoAnswer(timeout)), timeout);
+        this.#send(this.#core.sendMore());
+      });
+    }
+
+    #errorOf(no) {
+      return no.why === "closed" && this.#error ? this.#error : errorOf(no, this.#core.authors.get(no.with));
+    }
+
+    async #change(message, options) {
+      return (await this.ask(message, options)).seq;
+    }
+
+    // Asks for a change that makes an element, under a name that is free.
+    async #create(kind, el, make, options) {
+      for (let tries = 0; tries < TRIES; tries += 1) {
+        const name = el ?? this.#core.newName(kind);
+        try {
+          await this.ask(make(name), options);
+          return name;
+        } catch (error) {
+          if (el || error.why !== "present" || error.element !== name) throw error;
+        }
+      }
+      throw new MaproomError("names", `the names of ${TRIES} new elements were taken`);
+    }
+
+    // Each action gives the number of its entry; those that make an element give its name, which is a new one unless
+    // you give it. `options` has `signal` and `timeout`.
+
+    createNode(lat, lon, tags = {}, { el, ...options } = {}) {
+      return this.#create("n", el, (name) => actions.createNode(name, lat, lon, tags), options);
+    }
+
+    createWay(nodes, tags = {}, { el, ...options } = {}) {
+      return this.#create("w", el, (name) => actions.createWay(name, nodes, tags), options);
+    }
+
+    createRelation(members, tags = {}, { el, ...options } = {}) {
+      return this.#create("r", el, (name) => actions.createRelation(name, members, tags), options);
+    }
+
+    retag(el, tags, options) {
+      return this.#change(actions.retag(el, tags), options);
+    }
+
+    // Moves by so many degrees to the north and to the east.
+    move(els, dlat, dlon, options) {
+      return this.#change(actions.move(els, dlat, dlon), options);
+    }
+
+    reverse(el, options) {
+      return this.#change(actions.reverse(el), options);
+    }
+
+    setNodes(el, nodes, options) {
+      return this.#change(actions.setNodes(el, nodes), options);
+    }
+
+    setMembers(el, members, options) {
+      return this.#change(actions.setMembers(el, members), options);
+    }
+
+    delete(el, options) {
+      return this.#change(actions.delete(el), options);
+    }
+
+    purge(el, options) {
+      return this.#change(actions.purge(el), options);
+    }
+
+    split(el, at, { into, ...options } = {}) {
+      return this.#create("w", into, (name) => actions.split(el, at, name), options);
+    }
+
+    join(el, other, options) {
+      return this.#change(actions.join(el, other), options);
+    }
+
+    merge(el, other, options) {
+      return this.#change(actions.merge(el, other), options);
+    }
+
+    unglue(el, at, { into, ...options } = {}) {
+      return this.#create("n", into, (name) => actions.unglue(el, at, name), options);
+    }
+
+    // Gives {seq, undid}; `undid` is missing if the answer was lost on its way.
+    undo(seq, options) {
+      return this.ask(actions.undo(seq), options);
+    }
+
+    // Gives {seq, redid}; `redid` is missing if the answer was lost on its way.
+    redo(options) {
+      return this.ask(actions.redo(), options);
+    }
+
+    async get(el, options) {
+      return (await this.ask(actions.get(el), options)).is;
+    }
+
+    // Gives {map, seq}.
+    map(options) {
+      return this.ask(actions.map(), options);
+    }
+
+    // Gives {undos, redo}.
+    undos(options) {
+      return this.ask(actions.undos(), options);
+    }
+  }
+
+  const { connect } = Room;
+
+  if (typeof module === "object" && module.exports) {
+    module.exports = {
+      connect, Room, Core, OutOfStep, HelloRefused, MaproomError, ConnectionFailed, Closed, Unknown, NotSent, NoAnswer,
+      Refused, actions, errorOf, shortWords,
+    };
+  } else {
+    globalThis.maproom = {
+      connect, Room, Core, OutOfStep, HelloRefused, MaproomError, ConnectionFailed, Closed, Unknown, NotSent, NoAnswer,
+      Refused, actions, errorOf, shortWords,
+    };
+  }
+})();

@@ -1,0 +1,70 @@
+"""A WebSocket by aiohttp."""
+from __future__ import annotations
+
+import asyncio
+import socket
+import sys
+from typing import AsyncIterator, Optional
+
+import aiohttp
+
+# What can go wrong with a connection.
+FAULTS = (OSError, asyncio.TimeoutError, aiohttp.ClientError)
+
+# Where Linux has, in its `struct tcp_info`, how many milliseconds ago data came.
+LAST_DATA = slice(52, 56)
+
+
+class Socket:
+    """A connection to a room."""
+
+    def __init__(self, session: aiohttp.ClientSession, stream: aiohttp.ClientWebSocketResponse) -> None:
+        self.session, self.stream = session, stream
+
+    @classmethod
+    async def open(cls, url: str) -> Socket:
+        """Connects. It raises one of FAULTS, or ValueError for a bad address."""
+        session = aiohttp.ClientSession(timeout=aiohttp.ClientTimeout(total=None), trust_env=True)
+        try:
+            return cls(session, await session.ws_connect(url, max_msg_size=0, autoclose=True))
+        except BaseException:
+            await session.close()
+            raise
+
+    async def send(self, text: str) -> None:
+        """Sends a text, once the system takes it."""
+        await self.stream.send_str(text)
+
+    async def texts(self) -> AsyncIterator[str]:
+        """The texts that come, until the connection ends."""
+        while True:
+            message = await self.stream.receive()
+            if message.type is not aiohttp.WSMsgType.TEXT:
+                return
+            yield message.data
+
+    def silence(self) -> Optional[float]:
+        """For how many seconds no byte came, if the system says so. A long text is no silence while its bytes come."""
+        connection = self.stream.get_extra_info("socket")
+        try:
+            info = connection.getsockopt(socket.IPPROTO_TCP, socket.TCP_INFO, LAST_DATA.stop)
+        except (AttributeError, OSError):
+            return None
+        return int.from_bytes(info[LAST_DATA], sys.byteorder) / 1000 if len(info) == LAST_DATA.stop else None
+
+    async def close(self, seconds: float = 1) -> None:
+        """Closes, and waits for the answer for so many seconds."""
+        try:
+            await asyncio.wait_for(self.stream.close(), seconds)
+        except FAULTS:
+            pass
+        self.drop()
+        await self.session.close()
+
+    def drop(self) -> None:
+        """Drops the connection, also if the other side has stopped reading."""
+        connection = self.stream.get_extra_info("socket")
+        try:
+            connection.shutdown(socket.SHUT_RDWR)
+        except (AttributeError, OSError):
+            pass
