@@ -1,0 +1,61 @@
+"""The changesets that mappers opened since the bridge started. Older changesets count as closed, as editors expect."""
+from collections.abc import Callable, Iterator, Mapping
+
+from .documents import Changeset, instant
+from .errors import ApiError, changeset_closed, changeset_missing, changeset_not_owned
+from .ledger import EPOCH
+
+# So many changesets are remembered; the oldest are forgotten first.
+MOST_CHANGESETS = 10_000
+
+
+class Changesets:
+    """Changesets by their numbers, which are the seconds since 2020 and so never come again."""
+
+    def __init__(self, clock: Callable[[], float]) -> None:
+        self._clock = clock
+        self._changesets: dict[int, Changeset] = {}
+        self._last = 0
+
+    def open(self, author: str, tags: Mapping[str, str]) -> Changeset:
+        """Opens a changeset."""
+        now = self._clock()
+        return self._add(Changeset(max(self._last + 1, int(now) - EPOCH), author, now, tags))
+
+    def reopen(self, number: int, author: str) -> Changeset:
+        """Opens a changeset from before the bridge started, to which an upload may come again."""
+        return self._changesets.get(number) or self._add(Changeset(number, author, self._clock()))
+
+    def _add(self, changeset: Changeset) -> Changeset:
+        """Takes a changeset in."""
+        self._last = max(self._last, changeset.number)
+        self._changesets[changeset.number] = changeset
+        while len(self._changesets) > MOST_CHANGESETS:
+            del self._changesets[next(iter(self._changesets))]
+        return changeset
+
+    def get(self, number: int) -> Changeset:
+        """Returns a changeset. Raises ApiError 404."""
+        if number not in self._changesets:
+            raise ApiError(404, f"The changeset with the id {number} was not found")
+        return self._changesets[number]
+
+    def writable(self, number: int | None, author: str) -> Changeset:
+        """Returns an open changeset of an author. Raises ApiError 409."""
+        if number is None:
+            raise changeset_missing()
+        changeset = self._changesets.get(number)
+        if changeset is None or changeset.closed is not None:
+            closed = changeset.closed if changeset and changeset.closed is not None else self._clock()
+            raise changeset_closed(number, instant(closed))
+        if changeset.author != author:
+            raise changeset_not_owned()
+        return changeset
+
+    def close(self, number: int, author: str) -> None:
+        """Closes a changeset. Raises ApiError 409."""
+        self.writable(number, author).closed = self._clock()
+
+    def latest_first(self) -> Iterator[Changeset]:
+        """Yields all changesets that are remembered."""
+        return reversed(self._changesets.values())

@@ -1,0 +1,92 @@
+"""Elements in the form of the room's protocol, which are called rows, and coordinates."""
+import hashlib
+import json
+import re
+from collections.abc import Mapping
+from decimal import ROUND_HALF_EVEN, Decimal, InvalidOperation
+from typing import Any, Required, TypedDict
+
+MOST_TAGS, MOST_CHARACTERS = 1_000, 255
+LEAST_NODES, MOST_NODES, MOST_MEMBERS = 2, 2_000, 32_000
+
+# Coordinates are whole numbers of ten-millionths of a degree.
+DECIMALS = 7
+DEGREE: int = 10**DECIMALS
+MOST_LATITUDE, MOST_LONGITUDE = 90 * DEGREE, 180 * DEGREE
+NUMBER = re.compile(r"[+-]?(?:[0-9]+\.?[0-9]*|\.[0-9]+)(?:[eE][+-]?[0-9]{1,3})?")
+
+# XML has no form for these characters: editors see U+FFFD in their place.
+NOT_IN_XML = re.compile("[^\t\n\r\u0020-\ud7ff\ue000-\ufffd\U00010000-\U0010ffff]")
+
+GONE_DIGEST = "gone"
+
+
+class Row(TypedDict, total=False):
+    """An element. A node has ``lat`` and ``lon``, a way ``nodes``, a relation ``members``."""
+
+    el: Required[str]
+    tags: Required[dict[str, str]]
+    lat: str
+    lon: str
+    nodes: list[int]
+    members: list[list[str]]
+
+
+Rows = Mapping[str, Row | None]
+
+
+def references(row: Row | None) -> list[str]:
+    """Returns the names that a row refers to, in its order."""
+    if row is None:
+        return []
+    return [f"n{number}" for number in row.get("nodes", ())] + [name for name, _ in row.get("members", ())]
+
+
+def units_of(text: str | None) -> int | None:
+    """Returns the coordinate of a text in degrees, rounded to seven decimals, or None if it is not a number."""
+    if text is None or not NUMBER.fullmatch(text):
+        return None
+    try:
+        return int(Decimal(text).scaleb(DECIMALS).to_integral_value(ROUND_HALF_EVEN))
+    except InvalidOperation:
+        return None
+
+
+def coordinate_text(units: int) -> str:
+    """Returns a coordinate in degrees with seven decimals."""
+    degrees, decimals = divmod(abs(units), DEGREE)
+    return f"{'-' if units < 0 else ''}{degrees}.{decimals:0{DECIMALS}}"
+
+
+def text_units(text: str) -> int:
+    """Returns the coordinate of a text with exactly seven decimals, as rows have it."""
+    return int(text.replace(".", ""))
+
+
+def is_in_world(latitude: int, longitude: int) -> bool:
+    """Returns whether a position lies in the range of latitudes and longitudes."""
+    return abs(latitude) <= MOST_LATITUDE and abs(longitude) <= MOST_LONGITUDE
+
+
+def compact(value: Any) -> str:
+    """Returns a value as compact JSON."""
+    return json.dumps(value, ensure_ascii=False, separators=(",", ":"))
+
+
+def digest(row: Row | None) -> str:
+    """Returns a short text that differs between two contents of an element."""
+    if row is None:
+        return GONE_DIGEST
+    content: list[Any] = [row.get("lat"), row.get("lon"), row.get("nodes"), row.get("members")]
+    content.append(sorted(row["tags"].items()))
+    return hashlib.blake2b(compact(content).encode("utf-8", "surrogatepass"), digest_size=8).hexdigest()
+
+
+def is_same(row: Row | None, other: Row | None) -> bool:
+    """Returns whether two rows have the same content."""
+    return digest(row) == digest(other)
+
+
+def sayable(text: str) -> str:
+    """Returns a text as XML can hold it."""
+    return NOT_IN_XML.sub("\ufffd", text)

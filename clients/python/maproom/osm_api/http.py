@@ -1,0 +1,157 @@
+"""The application that listens: it guards the calls, and speaks HTTP."""
+import asyncio
+import base64
+import binascii
+import re
+import time
+import traceback
+from collections.abc import Callable
+from dataclasses import dataclass
+from urllib.parse import urlsplit
+
+from aiohttp import web
+
+from .calls import HTML, JSON, NO_NAME, TEXT, XML, Calls, Request, Response
+from .errors import ApiError, bad_request
+
+NAME = re.compile(r"[a-z0-9_]{1,32}")
+MEBIBYTE = 2**20
+
+# With these statuses the connection is closed, since the rest of the request may not have been read. The header says
+# so to the client. Otherwise Java would use the closed connection again, and send the request a second time.
+CLOSING = frozenset((400, 403, 408, 413, 500))
+
+
+@dataclass(frozen=True)
+class Settings:
+    """How the application is reached. `hosts` are the values of the header Host that are accepted. `fixed_name` is the
+    author of all requests; without it each request names its author by HTTP Basic, and whoever stands in front of the
+    application has checked the password. `public_url` is the root as clients know it."""
+
+    hosts: frozenset[str]
+    fixed_name: str | None = None
+    public_url: str = ""
+    most_bytes: int = 64 * MEBIBYTE
+    body_seconds: float = 60
+
+
+def loopback_hosts(port: int) -> frozenset[str]:
+    """Returns the values of the header Host for a port of this machine."""
+    return frozenset(f"{host}:{port}" for host in ("127.0.0.1", "localhost", "[::1]"))
+
+
+def application(calls: Calls, settings: Settings, note: Callable[[str], None] = lambda line: None) -> web.Application:
+    """Returns the application, which answers every request by itself."""
+    app = web.Application(client_max_size=settings.most_bytes + 1)  # aiohttp refuses a body of exactly this size
+    front = Front(calls, settings, note)
+    app.router.add_route("*", "/{path:.*}", front.handle)
+    return app
+
+
+class Front:
+    """Reads requests and writes responses."""
+
+    def __init__(self, calls: Calls, settings: Settings, note: Callable[[str], None]) -> None:
+        self._calls, self._settings, self._note = calls, settings, note
+
+    async def handle(self, request: web.Request) -> web.Response:
+        """Answers a request. A client that goes away does not stop an upload."""
+        started = time.monotonic()
+        response = await asyncio.shield(asyncio.ensure_future(self._answer(request)))
+        agent = request.headers.get("User-Agent", "-").split(" ")[0]
+        took = 1000 * (time.monotonic() - started)
+        self._note(f"{response.status} {took:.0f} ms {agent} {request.method} {request.path_qs}")
+        return response
+
+    async def _answer(self, request: web.Request) -> web.Response:
+        """Answers a request, whatever happens."""
+        try:
+            self._guard(request)
+            asked = await self._read(request)
+            response = await self._calls.answer(asked)
+            if request.transport is None or request.transport.is_closing():
+                self._calls.lost(asked, response)
+            return written(response)
+        except ApiError as refusal:
+            return written(Response(refusal.text, status=refusal.status))
+        except Exception:  # an editor waits for an answer, and the program goes on
+            self._note(traceback.format_exc())
+            return written(Response("The program failed. Its log has more.", status=500))
+
+    def _guard(self, request: web.Request) -> None:
+        """Refuses requests that a page of another site made in the mapper's browser: such a page names itself in
+        Origin, or reached the program by another host's name."""
+        hosts, headers = self._settings.hosts, request.headers
+        if headers.getall("Host", []) not in [[host] for host in hosts]:
+            raise ApiError(403, "This program is not known by that host name")
+        origin = headers.get("Origin")
+        if origin is not None and urlsplit(origin).netloc not in hosts:
+            raise ApiError(403, "Pages of other sites are not let in")
+        if headers.get("Sec-Fetch-Site", "none") == "cross-site":
+            raise ApiError(403, "Pages of other sites are not let in")
+
+    async def _read(self, request: web.Request) -> Request:
+        """Reads a request."""
+        accepted = request.headers.get("Accept", "")
+        return Request(request.method, request.path, dict(request.query), await self._body(request),
+                       self._author(request), wants_json(accepted), HTML in accepted,
+                       self._settings.public_url or f"http://{request.host}")
+
+    async def _body(self, request: web.Request) -> bytes:
+        """Returns the body of a request. Raises ApiError 400, 408 and 413."""
+        try:
+            async with asyncio.timeout(self._settings.body_seconds):
+                return await request.read()
+        except TimeoutError:
+            raise ApiError(408, "The body of the request came too slowly") from None
+        except web.HTTPRequestEntityTooLarge:
+            most = self._settings.most_bytes // MEBIBYTE
+            raise ApiError(413, f"The body of the request is larger than {most} MiB. Nothing was uploaded.") from None
+        except (OSError, ValueError, EOFError) as fault:
+            raise bad_request(f"The body of the request cannot be read: {fault}") from fault
+
+    def _author(self, request: web.Request) -> str | None:
+        """Returns the author of a request, or None if it names nobody. Raises ApiError 401 for an invalid name."""
+        if self._settings.fixed_name is not None:
+            return self._settings.fixed_name
+        scheme, _, given = request.headers.get("Authorization", "").partition(" ")
+        if not scheme:
+            return None
+        try:
+            name = base64.b64decode(given, validate=True).partition(b":")[0].decode()
+        except (binascii.Error, ValueError):
+            name = ""
+        if scheme.lower() != "basic" or not NAME.fullmatch(name):
+            raise ApiError(401, NO_NAME)
+        return name
+
+
+def wants_json(accepted: str) -> bool:
+    """Returns whether a header Accept names JSON, and no XML in front of it."""
+    kinds = [kind.split(";")[0].strip() for kind in accepted.split(",")]
+    found = [kind for kind in kinds if kind in (JSON, XML, "text/xml")]
+    return found[:1] == [JSON]
+
+
+def written(response: Response) -> web.Response:
+    """Returns a response of HTTP. JOSM shows the header Error of a refusal."""
+    headers = {"Content-Type": f"{response.kind}; charset=utf-8", "Cache-Control": "no-store"}
+    if response.status >= 400 and response.kind == TEXT:
+        headers["Error"] = header_text(response.text)
+    if response.status == 401:
+        headers["WWW-Authenticate"] = 'Basic realm="maproom"'
+    if response.location:
+        headers["Location"] = response.location
+    if response.kind == HTML:
+        headers |= {"Content-Security-Policy": "default-src 'none'; style-src 'unsafe-inline'; form-action 'self'; "
+                                               "frame-ancestors 'none'",
+                    "X-Content-Type-Options": "nosniff"}
+    answer = web.Response(status=response.status, body=response.text.encode("utf-8", "replace"), headers=headers)
+    if response.status in CLOSING:
+        answer.force_close()
+    return answer
+
+
+def header_text(text: str) -> str:
+    """Returns a text as a header can hold it."""
+    return re.sub(r"[^\x20-\x7e]", "?", text.replace("\n", " "))
