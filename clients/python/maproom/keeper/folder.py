@@ -1,0 +1,227 @@
+"""The keeper's folder: its files, its locks, and what was saved in it."""
+from __future__ import annotations
+
+import collections
+import fcntl
+import os
+import re
+import time
+from dataclasses import dataclass, replace
+from typing import Callable, Deque, Dict, List, Optional, Tuple
+
+from ..core import Element
+from .files import remove, sync_folder
+from .journal import Damaged, Entry, Journal, Position, Torn, entries_in
+from .snapshots import Snapshot, read_snapshot, write_snapshot
+
+SNAPSHOT, JOURNAL = re.compile(r"snapshot-([0-9]{8})\.map"), re.compile(r"journal-([0-9]{8})\.jsonl")
+
+# How many of the last entries are kept in memory, and of how many elements for each.
+RECENT, RECENT_ROWS = 200, 50
+
+# How often a folder is read again because the keeper removed an old snapshot meanwhile.
+TRIES = 5
+
+Tell = Callable[[str], None]
+Recent = Deque[Entry]
+
+
+class Locked(Exception):
+    """Another keeper writes to the folder."""
+
+
+class NothingSaved(Exception):
+    """The folder has no save yet."""
+
+
+@dataclass
+class Saved:
+    """What was saved last: the map, its position and time, and the last entries before it."""
+
+    position: Position
+    time: float
+    elements: Dict[str, Element]
+    recent: Recent
+
+    def take(self, entry: Entry) -> None:
+        """Brings the map up to an entry."""
+        for el, _, after in entry.rows:
+            if after is None:
+                self.elements.pop(el, None)
+            else:
+                self.elements[el] = after
+        self.position, self.time = entry.position, entry.time
+        self.recent.append(replace(entry, rows=entry.rows[:RECENT_ROWS]))
+
+    def follows(self, entry: Entry) -> bool:
+        """Whether an entry is the next one for this map."""
+        run, seq = self.position.run, self.position.seq
+        is_next = entry.by is None or entry.position == Position(run, seq + 1)
+        return is_next and all(self.elements.get(el) == before for el, before, _ in entry.rows)
+
+
+def snapshot_path(path: str, number: int) -> str:
+    """The file of a snapshot."""
+    return os.path.join(path, f"snapshot-{number:08}.map")
+
+
+def journal_path(path: str, number: int) -> str:
+    """The file of a journal."""
+    return os.path.join(path, f"journal-{number:08}.jsonl")
+
+
+def numbers_in(path: str, pattern: re.Pattern[str]) -> List[int]:
+    """The numbers of the files whose names have a form, in rising order."""
+    return sorted(int(found[1]) for found in map(pattern.fullmatch, os.listdir(path)) if found)
+
+
+def load(path: str, tell: Tell) -> Saved:
+    """Reads what was saved last: the newest whole snapshot, and the journal after it.
+
+    A torn last line is ignored. `tell` reports a damaged snapshot that is not needed. Raises NothingSaved, Damaged, or
+    OSError.
+    """
+    for tries_left in reversed(range(TRIES)):
+        try:
+            return load_once(path, tell)
+        except FileNotFoundError:
+            if not tries_left:
+                raise
+    raise AssertionError("the loop above returns or raises")
+
+
+def load_once(path: str, tell: Tell) -> Saved:
+    """The same, for a folder from which nobody removes a file."""
+    journals = numbers_in(path, JOURNAL)
+    number, snapshot = newest_whole(path, tell)
+    if snapshot is None:
+        if any(os.path.getsize(journal_path(path, each)) for each in journals):
+            raise Damaged(f"{path} has a journal, and no whole snapshot before it")
+        raise NothingSaved(f"{path} has no save yet")
+    saved = Saved(snapshot.position, snapshot.time, snapshot.elements, collections.deque(maxlen=RECENT))
+    for each in range(number, max(journals, default=number) + 1):
+        if each not in journals:
+            raise Damaged(f"{journal_path(path, each)} is missing")
+        replay(journal_path(path, each), saved, [journal_path(path, later) for later in journals if later > each])
+    return saved
+
+
+def newest_whole(path: str, tell: Tell) -> Tuple[int, Optional[Snapshot]]:
+    """The newest whole snapshot and its number."""
+    for number in reversed(numbers_in(path, SNAPSHOT)):
+        try:
+            return number, read_snapshot(snapshot_path(path, number))
+        except Damaged as fault:
+            tell(f"{fault}; an older snapshot and its journal are taken")
+    return 0, None
+
+
+def replay(path: str, saved: Saved, later: List[str]) -> None:
+    """Brings a map up to the end of a journal. Only the newest journal can be torn."""
+    for number, entry in enumerate(entries_in(path), 1):
+        if isinstance(entry, Damaged):
+            raise entry
+        if isinstance(entry, Torn):
+            if any(map(os.path.getsize, later)):
+                raise Damaged(f"{path}:{number} is damaged: it ends within the line")
+            return
+        if not saved.follows(entry):
+            raise Damaged(f"{path}:{number} is damaged: it does not follow {saved.position}")
+        saved.take(entry)
+
+
+class Lock:
+    """A file that a process can hold. Who can read the file can wait for it."""
+
+    def __init__(self, path: str, is_there: bool = False) -> None:
+        flags = os.O_RDONLY if is_there else os.O_RDWR | os.O_CREAT
+        self._file = os.open(path, flags | os.O_CLOEXEC, 0o644)
+
+    def take(self, shared: bool = False) -> bool:
+        """Takes the lock, if nobody else holds it. Returns whether it did."""
+        try:
+            fcntl.flock(self._file, (fcntl.LOCK_SH if shared else fcntl.LOCK_EX) | fcntl.LOCK_NB)
+            return True
+        except BlockingIOError:
+            return False
+
+    def release(self) -> None:
+        """Releases the lock."""
+        fcntl.flock(self._file, fcntl.LOCK_UN)
+
+    def close(self) -> None:
+        """Releases the lock for good."""
+        os.close(self._file)
+
+
+def wait_for_keeper(path: str, seconds: float) -> bool:
+    """Waits until no keeper is connected or has unsaved news. Returns whether that came in time."""
+    if not os.path.exists(os.path.join(path, "session")):
+        return True
+    lock, deadline = Lock(os.path.join(path, "session"), is_there=True), time.monotonic() + seconds
+    try:
+        while not lock.take(shared=True):
+            if time.monotonic() >= deadline:
+                return False
+            time.sleep(0.02)
+        return True
+    finally:
+        lock.close()
+
+
+class Folder:
+    """The folder, for the keeper that writes to it."""
+
+    def __init__(self, path: str) -> None:
+        """Makes the folder if it is missing, and locks it. Raises Locked, or OSError."""
+        self.path = path
+        os.makedirs(path, exist_ok=True)
+        self._lock = Lock(os.path.join(path, "lock"))
+        if not self._lock.take():
+            raise Locked(f"another keeper writes to {path}")
+        self.session = Lock(os.path.join(path, "session"))
+        self.journal: Optional[Journal] = None
+        self._number = max([0, *numbers_in(path, SNAPSHOT), *numbers_in(path, JOURNAL)])
+        self._remove_unfinished()
+        self._cut_torn_line()
+
+    def _remove_unfinished(self) -> None:
+        """Removes the snapshot that an earlier keeper did not finish."""
+        for name in os.listdir(self.path):
+            if name.endswith(".map.new") and SNAPSHOT.fullmatch(name[: -len(".new")]):
+                remove(os.path.join(self.path, name))
+
+    def _cut_torn_line(self) -> None:
+        """Cuts the torn last line from the newest journal that has lines, since a new journal follows."""
+        for number in reversed(numbers_in(self.path, JOURNAL)):
+            path = journal_path(self.path, number)
+            if os.path.getsize(path):
+                for entry in entries_in(path):
+                    if isinstance(entry, Torn):
+                        os.truncate(path, entry.length)
+                with open(path, "rb") as file:
+                    os.fsync(file.fileno())
+                return
+
+    def begin_journal(self) -> int:
+        """Begins a new journal, and returns its number. Raises OSError, and then the old journal stays."""
+        self._number += 1
+        journal = Journal(journal_path(self.path, self._number))
+        if self.journal:
+            self.journal.close()
+        self.journal = journal
+        return self._number
+
+    def save(self, number: int, snapshot: Snapshot, count: int) -> None:
+        """Saves the snapshot before a journal, and keeps so many snapshots in all. Raises OSError."""
+        write_snapshot(snapshot_path(self.path, number), snapshot)
+        for old in numbers_in(self.path, SNAPSHOT)[:-count]:
+            remove(snapshot_path(self.path, old))
+        sync_folder(self.path)
+
+    def close(self) -> None:
+        """Releases the folder."""
+        if self.journal:
+            self.journal.close()
+        self.session.close()
+        self._lock.close()
