@@ -19,13 +19,14 @@ use edit_topology::plans::{plan_join, plan_merge, plan_split, plan_unglue};
 use osm_changes::changes::Changes;
 use osm_changes::laws::differences_are_changes;
 use osm_changes::store::Store;
+use osm_drafts::draft::Draft;
 use std::alloc::Allocator;
 
 // What the action's plan answers.
 macro_rules! planned {
-    (($action:expr, $alloc:expr, $store:expr) $($variant:ident $word:literal { $($field:ident: $how:ident from $source:ident $(by $name:ident)?),* } by $plan:ident about $part:ident $way:ident [$($subject:ident),*];)*) => {
+    (($action:expr, $alloc:expr, $draft:expr) $($variant:ident $word:literal { $($field:ident: $how:ident from $source:ident $(by $name:ident)?),* } by $plan:ident about $part:ident $way:ident [$($subject:ident),*];)*) => {
         match $action {
-            $(Action::$variant { $($field),* } => $plan($alloc, $store, $(handed!($how $field)),*),)*
+            $(Action::$variant { $($field),* } => $plan($alloc, $draft, $(handed!($how $field)),*),)*
         }
     };
 }
@@ -37,10 +38,28 @@ macro_rules! handed {
     (number $field:ident) => { *$field };
 }
 
-/// Plans an action on a store: answers the changes that lead to the map after it, or the first of its checks that
-/// holds, or `Memory` in place of any answer. It leaves the store alone. It costs what the plan of the action does,
+/// Plans an action on a draft: answers the changes that lead to the map after it, or the first of its checks that
+/// holds, or `Memory` in place of any answer. It leaves the draft alone. It costs what the plan of the action does,
 /// which looks up the names that the action names and the users of what it takes away, and never the map.
 pub fn plan<A: Allocator + Clone>(
+    alloc: A,
+    draft: &Draft<'_, A>,
+    action: &Action<A>,
+) -> Result<Changes<A>, Refusal<A>>
+    requires { is_sound draft.now ≡ true }
+    ensures plan { IsPlan draft.now (checks draft.now action.now) (after draft.now action.now) result }
+    // The changes can be applied to the store.
+    ensures from { IfOk result (λ cs. AreFrom draft.now cs) }
+    ensures sound { IfOk result (λ cs. is_sound (changed draft.now cs) ≡ true) }
+    // What holds of every action.
+    ensures made { is_made_action action.now ≡ true }
+{
+    keeps(action);
+    plan_of(alloc, draft, action)
+}
+
+/// Plans an action on a store, as [`plan`] does on a draft with nothing written.
+pub fn plan_on<A: Allocator + Copy>(
     alloc: A,
     store: &Store<A>,
     action: &Action<A>,
@@ -52,29 +71,29 @@ pub fn plan<A: Allocator + Clone>(
     // What holds of every action.
     ensures made { is_made_action action.now ≡ true }
 {
-    keeps(store, action);
-    plan_of(alloc, store, action)
+    let _ = store.map();
+    let draft = Draft::of(alloc, store);
+    plan(alloc, &draft, action)
 }
 
 // The plan, by the action.
 fn plan_of<A: Allocator + Clone>(
     alloc: A,
-    store: &Store<A>,
+    draft: &Draft<'_, A>,
     action: &Action<A>,
 ) -> Result<Changes<A>, Refusal<A>>
-    ensures { IsPlan store.now.rows (checks store.now.rows action.now) (after store.now.rows action.now) result }
+    requires { is_sound draft.now ≡ true }
+    ensures { IsPlan draft.now (checks draft.now action.now) (after draft.now action.now) result }
 {
-    each_action!(planned(action, alloc, store))
+    each_action!(planned(action, alloc, draft))
 }
 
-// What holds of every store, of every action by the types of its values, and of the differences between maps. It does
+// What holds of every action by the types of its values, and of the differences between maps. It does
 // nothing.
-fn keeps<A: Allocator>(store: &Store<A>, action: &Action<A>)
-    ensures sound { is_sound store.now.rows ≡ true }
+fn keeps<A: Allocator>(action: &Action<A>)
     ensures made { is_made_action action.now ≡ true }
     ensures from { (m n : Rows A) → AreFrom m (differences m n) }
 {
-    let _ = store.map();
     differences_are_changes::<A>();
     keeps_values(action);
 }

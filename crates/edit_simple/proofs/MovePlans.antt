@@ -42,7 +42,7 @@ use Rattle.edit_simple.specs.Facts.Lists.{is_among_own, all_listed, all_from}
 use Rattle.edit_simple.specs.Facts.Relisting.{all_present}
 use Rattle.edit_simple.specs.Facts.Rewriting.{fine}
 use Rattle.edit_simple.proofs.MoveLoops.{moved_apart}
-use Rattle.edit_simple.specs.Facts.PassingRows.{passes_at, among_rows, rising_names}
+use Rattle.osm_changes.specs.Facts.PassingRows.{passes_at, among_rows, rising_names}
 
 apart : (a s t u v : Bool) → (a && ((s || u) || (t || v))) ≡ ((a && (s || t)) || (a && (u || v)))
 apart false s t u v = refl

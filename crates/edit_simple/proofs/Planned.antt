@@ -4,7 +4,7 @@ use Rattle.std.specs.Bool.{then_some}
 use Rattle.std.specs.Option.{option_map}
 use Rattle.osm_elements.specs.declared.name.Name.{Name}
 use Rattle.osm_elements.specs.declared.element.Element.{Element}
-use Rattle.osm_elements.specs.Maps.{Rows, is_present}
+use Rattle.osm_elements.specs.Maps.{least, Rows, is_present}
 use Rattle.osm_elements.specs.Rows.{row_at}
 use Rattle.osm_refs.specs.References.{users}
 use Rattle.osm_changes.specs.declared.change.Change.{Change}
@@ -20,7 +20,6 @@ use Rattle.edit_simple.specs.Delete.{delete_checks, after_delete}
 use Rattle.edit_simple.specs.Plans.{IsPlan}
 use Rattle.edit_simple.specs.Passing.{passed}
 use Rattle.edit_simple.specs.Facts.Checked.{nones, not_so}
-use Rattle.edit_simple.specs.Facts.FirstUsers.{first_user_is_least}
 
 pub passed_ok : {X : Type 0} (u : Unit {0}) (o : Option X) → Ok u ≡ passed o → o ≡ None
 passed_ok u None e = refl
@@ -43,11 +42,11 @@ module _ {A : Type 0} where
   delete_planned m x v w cs there unused e is =
       (ap (λ o. first_that_holds (then_some (not (is_some o)) (Absent x) ∷ the_least (InUse x) (users m x) ∷ [])) there ∙ ap (λ l. first_that_holds (the_least {A = A} (InUse x) l ∷ [])) unused, is ∙ ap (λ z. row_changes x (Some z) None) e ∙ sym (deleted m x v there))
 
-  pub delete_in_use : (m : Rows A) (x : Name) (v : Element A) (user : Name) → is_sound m ≡ true → row_at m x ≡ Some v → slice_get (users m x) 0 ≡ Some user → IsPlan m (delete_checks m x) (after_delete m x) (Err (InUse x user))
-  delete_in_use m x v user sound there first =
+  pub delete_in_use : (m : Rows A) (x : Name) (v : Element A) (user : Name) → row_at m x ≡ Some v → least (users m x) ≡ Some user → IsPlan m (delete_checks m x) (after_delete m x) (Err (InUse x user))
+  delete_in_use m x v user there used =
       inl (ap (λ o. first_that_holds (then_some (not (is_some o)) (Absent x) ∷ the_least (InUse x) (users m x) ∷ [])) there
-      ∙ ap (λ o. first_that_holds (option_map (InUse x) o ∷ [])) (sym (first_user_is_least m x (sound_in_order m sound)) ∙ first))
+      ∙ ap (λ o. first_that_holds (option_map (InUse x) o ∷ [])) used)
 
-pub no_first : (names : List Name) → slice_get names 0 ≡ None → names ≡ []
-no_first [] e = refl
-no_first (x ∷ names) e = absurd (cc)
+pub none_named : (names : List Name) → least names ≡ None → names ≡ []
+none_named [] e = refl
+none_named (x ∷ names) e = absurd (cc)

@@ -33,7 +33,7 @@ use Rattle.edit_simple.specs.Facts.Differences.{rows_differing, apart_rows}
 use Rattle.edit_simple.specs.Facts.Lists.{or_left, or_right, is_among_own, all_from}
 use Rattle.edit_simple.specs.Facts.Purging.{row_at-after_purge, x_goes, is_gone, purge_sound, without_none}
 use Rattle.edit_simple.specs.Facts.Rewriting.{fine}
-use Rattle.edit_simple.specs.Facts.PassingRows.{passes_at, among_rows}
+use Rattle.osm_changes.specs.Facts.PassingRows.{passes_at, among_rows}
 
 -- ---- lists of lists
 

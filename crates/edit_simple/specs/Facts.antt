@@ -11,7 +11,6 @@ pub mod Kinds
 pub mod LeastNames
 pub mod Lists
 pub mod Moving
-pub mod PassingRows
 pub mod Purging
 pub mod Relisting
 pub mod Retagging

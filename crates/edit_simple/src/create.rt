@@ -12,15 +12,15 @@ use crate::lists::list_fault;
 use crate::lookup::is_present;
 use crate::refusal::Refusal;
 use osm_changes::changes::Changes;
+use osm_drafts::draft::Draft;
 use osm_elements::element::Element;
-use osm_elements::map::OsmMap;
 use osm_elements::name::Name;
 use std::alloc::Allocator;
 
 /// Plans to make an element under a name.
 pub fn plan<A: Allocator + Clone>(
     alloc: A,
-    rows: &OsmMap<A>,
+    rows: &Draft<'_, A>,
     name: &Name,
     element: &Element<A>,
 ) -> Result<Changes<A>, Refusal<A>>
@@ -34,7 +34,7 @@ pub fn plan<A: Allocator + Clone>(
 
 // Whether an element can be made.
 fn check<A: Allocator>(
-    rows: &OsmMap<A>,
+    rows: &Draft<'_, A>,
     name: &Name,
     element: &Element<A>,
 ) -> Result<(), Refusal<A>>

@@ -1,6 +1,5 @@
 //! Plans of deletes.
 ghost use Rattle.std.specs.Prelude.{◌≡◌, true};
-ghost use Rattle.osm_refs.specs.References.{users};
 ghost use Rattle.osm_changes.specs.Sound.{is_sound};
 ghost use Rattle.edit_simple.specs.Delete.{delete_checks, after_delete};
 ghost use Rattle.edit_simple.specs.Plans.{IsPlan};
@@ -8,26 +7,24 @@ ghost use Rattle.edit_simple.specs.Plans.{IsPlan};
 use crate::changing::one_change;
 use crate::refusal::Refusal;
 use osm_changes::changes::Changes;
-use osm_elements::map::OsmMap;
+use osm_drafts::draft::Draft;
 use osm_elements::name::Name;
 use std::alloc::Allocator;
 
 /// Plans to take an element away.
 pub fn plan<A: Allocator + Clone>(
     alloc: A,
-    rows: &OsmMap<A>,
-    its_users: &[Name],
+    rows: &Draft<'_, A>,
     name: &Name,
 ) -> Result<Changes<A>, Refusal<A>>
-    requires sound { is_sound rows.now ≡ true }
-    requires users { its_users.now ≡ users rows.now name.now }
+    requires { is_sound rows.now ≡ true }
     ensures { IsPlan rows.now (delete_checks rows.now name.now) (after_delete rows.now name.now) result }
 {
     let Some(element) = rows.get(name) else {
         return Err(Refusal::Absent(*name));
     };
-    if let Some(user) = its_users.first() {
-        return Err(Refusal::InUse(*name, *user));
+    if let Some(user) = rows.first_user(name) {
+        return Err(Refusal::InUse(*name, user));
     }
     let before = element.copy()?;
     Ok(one_change(alloc, name, Some(before), None)?)

@@ -9,8 +9,8 @@ ghost use Rattle.edit_simple.specs.Create.{is_too_short, is_too_long, is_missing
 use crate::limits::{FEWEST_NODES, MOST_MEMBERS, MOST_NODES};
 use crate::lookup::{least_missing, least_missing_member};
 use crate::refusal::Refusal;
+use osm_changes::lookup::Lookup;
 use osm_elements::element::Element;
-use osm_elements::map::OsmMap;
 use osm_elements::name::Name;
 use std::alloc::Allocator;
 
@@ -18,12 +18,12 @@ use std::alloc::Allocator;
 /// nodes, then `TooMany` for one of more than 2,000 or a relation of more than 32,000 members, then `Absent` with the
 /// least name that it refers to, other than its own, which the map doesn't have. It takes no memory, and a look-up for
 /// each reference.
-pub fn list_fault<A: Allocator>(
-    rows: &OsmMap<A>,
+pub fn list_fault<A: Allocator, R: Lookup<A>>(
+    rows: &R,
     name: &Name,
     element: &Element<A>,
 ) -> Option<Refusal<A>>
-    ensures { result ≡ first_that_holds (list_checks rows.now name.now element.now) }
+    ensures { result ≡ first_that_holds (list_checks (R.rows rows.now) name.now element.now) }
 {
     if is_too_short(element) {
         return Some(Refusal::TooFew(*name));
@@ -59,12 +59,12 @@ fn is_too_long<A: Allocator>(element: &Element<A>) -> bool
 }
 
 // The least of the names that the element refers to, other than the new one, that the map doesn't have.
-fn least_missing_reference<A: Allocator>(
-    rows: &OsmMap<A>,
+fn least_missing_reference<A: Allocator, R: Lookup<A>>(
+    rows: &R,
     name: &Name,
     element: &Element<A>,
 ) -> Option<Name>
-    ensures { result ≡ least (filter (is_missing rows.now name.now) (references element.now)) }
+    ensures { result ≡ least (filter (is_missing (R.rows rows.now) name.now) (references element.now)) }
 {
     match element {
         Element::Node { .. } => None,

@@ -6,22 +6,26 @@ ghost use Rattle.osm_elements.specs.Maps.{is_present, least};
 ghost use Rattle.edit_simple.specs.Create.{is_missing};
 ghost use Rattle.edit_simple.specs.Inner.Least.{lesser_of};
 
-use osm_elements::map::OsmMap;
+use osm_changes::lookup::Lookup;
 use osm_elements::member::Member;
 use osm_elements::name::Name;
 use osm_elements::names::is_same;
 use std::alloc::Allocator;
 
 /// Whether the map has the name.
-pub fn is_present<A: Allocator>(rows: &OsmMap<A>, name: &Name) -> bool
-    ensures { result ≡ is_present rows.now name.now }
+pub fn is_present<A: Allocator, R: Lookup<A>>(rows: &R, name: &Name) -> bool
+    ensures { result ≡ is_present (R.rows rows.now) name.now }
 {
-    rows.get(name).is_some()
+    rows.element(name).is_some()
 }
 
 /// The least of the names, other than the new one, that the map doesn't have.
-pub fn least_missing<A: Allocator>(rows: &OsmMap<A>, new: &Name, names: &[Name]) -> Option<Name>
-    ensures { result ≡ least (filter (is_missing rows.now new.now) names.now) }
+pub fn least_missing<A: Allocator, R: Lookup<A>>(
+    rows: &R,
+    new: &Name,
+    names: &[Name],
+) -> Option<Name>
+    ensures { result ≡ least (filter (is_missing (R.rows rows.now) new.now) names.now) }
 {
     let mut least = None;
     for name in names {
@@ -33,12 +37,12 @@ pub fn least_missing<A: Allocator>(rows: &OsmMap<A>, new: &Name, names: &[Name])
 }
 
 /// The least of the members' names, other than the new one, that the map doesn't have.
-pub fn least_missing_member<A: Allocator>(
-    rows: &OsmMap<A>,
+pub fn least_missing_member<A: Allocator, R: Lookup<A>>(
+    rows: &R,
     new: &Name,
     members: &[Member<A>],
 ) -> Option<Name>
-    ensures { result ≡ least (filter (is_missing rows.now new.now) (map (λ m. m.name) members.now)) }
+    ensures { result ≡ least (filter (is_missing (R.rows rows.now) new.now) (map (λ m. m.name) members.now)) }
 {
     let mut least = None;
     for member in members {
@@ -50,8 +54,8 @@ pub fn least_missing_member<A: Allocator>(
 }
 
 // Whether the name is neither the new one nor one of the map's.
-fn is_missing<A: Allocator>(rows: &OsmMap<A>, new: &Name, name: &Name) -> bool
-    ensures { result ≡ is_missing rows.now new.now name.now }
+fn is_missing<A: Allocator, R: Lookup<A>>(rows: &R, new: &Name, name: &Name) -> bool
+    ensures { result ≡ is_missing (R.rows rows.now) new.now name.now }
 {
     !is_same(new, name) && !is_present(rows, name)
 }

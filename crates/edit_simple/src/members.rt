@@ -20,8 +20,8 @@ use crate::lookup::least_missing_member;
 use crate::refusal::Refusal;
 use osm_changes::changes::Changes;
 use osm_changes::same::are_same_members;
+use osm_drafts::draft::Draft;
 use osm_elements::element::Element;
-use osm_elements::map::OsmMap;
 use osm_elements::members::Members;
 use osm_elements::name::Name;
 use osm_elements::shared::Shared;
@@ -31,7 +31,7 @@ use std::alloc::Allocator;
 /// Plans to give a relation other members.
 pub fn plan<A: Allocator + Clone>(
     alloc: A,
-    rows: &OsmMap<A>,
+    rows: &Draft<'_, A>,
     name: &Name,
     list: &Shared<Members<A>, A>,
 ) -> Result<Changes<A>, Refusal<A>>
@@ -51,7 +51,7 @@ pub fn plan<A: Allocator + Clone>(
 
 // The members and tags of a relation, or the refusal of a name that is no relation's or is not there.
 fn relation_at<'m, A: Allocator>(
-    rows: &'m OsmMap<A>,
+    rows: &'m Draft<'_, A>,
     name: &Name,
 ) -> Result<(&'m Shared<Members<A>, A>, &'m SharedTags<A>), Refusal<A>>
     requires { is_sound rows.now ≡ true }

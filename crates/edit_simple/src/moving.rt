@@ -16,16 +16,16 @@ use crate::kinds::is_relation;
 use crate::lookup::{is_present, lesser};
 use crate::refusal::Refusal;
 use osm_changes::changes::Changes;
+use osm_drafts::draft::Draft;
 use osm_elements::Memory;
 use osm_elements::element::Element;
-use osm_elements::map::OsmMap;
 use osm_elements::name::Name;
 use std::alloc::Allocator;
 
 /// Plans to move nodes and the nodes of ways.
 pub fn plan<A: Allocator + Clone>(
     alloc: A,
-    rows: &OsmMap<A>,
+    rows: &Draft<'_, A>,
     names: &[Name],
     dlat: i64,
     dlon: i64,
@@ -68,7 +68,7 @@ fn least_relation(names: &[Name]) -> Option<Name>
 }
 
 // The least of the names that the map doesn't have.
-fn least_absent<A: Allocator>(rows: &OsmMap<A>, names: &[Name]) -> Option<Name>
+fn least_absent<A: Allocator>(rows: &Draft<'_, A>, names: &[Name]) -> Option<Name>
     ensures { result ≡ least (filter (is_absent rows.now) names.now) }
 {
     let mut least = None;
@@ -83,7 +83,7 @@ fn least_absent<A: Allocator>(rows: &OsmMap<A>, names: &[Name]) -> Option<Name>
 // The nodes that are moved, rising, each once.
 fn all_moved<A: Allocator>(
     alloc: A,
-    rows: &OsmMap<A>,
+    rows: &Draft<'_, A>,
     names: &[Name],
 ) -> Result<Vec<Name, A>, Memory>
     ensures { IfOk result (λ moved. moved.items ≡ name_set (all_moved rows.now names.now)) }
@@ -95,7 +95,11 @@ fn all_moved<A: Allocator>(
 }
 
 // The nodes that are listed, and those of listed ways, in the order of the list.
-fn listed<A: Allocator>(alloc: A, rows: &OsmMap<A>, names: &[Name]) -> Result<Vec<Name, A>, Memory>
+fn listed<A: Allocator>(
+    alloc: A,
+    rows: &Draft<'_, A>,
+    names: &[Name],
+) -> Result<Vec<Name, A>, Memory>
     ensures { IfOk result (λ moved. moved.items ≡ all_moved rows.now names.now) }
 {
     let mut moved = Vec::new(alloc);
@@ -107,7 +111,7 @@ fn listed<A: Allocator>(alloc: A, rows: &OsmMap<A>, names: &[Name]) -> Result<Ve
 
 // Adds the node of a name, or the nodes of its way.
 fn add_moved<A: Allocator>(
-    rows: &OsmMap<A>,
+    rows: &Draft<'_, A>,
     name: &Name,
     moved: &mut Vec<Name, A>,
 ) -> Result<(), Memory>
@@ -124,7 +128,7 @@ fn add_moved<A: Allocator>(
 // The changes of nodes that are moved, or the refusal of the first that would leave the range.
 fn move_all<A: Allocator + Clone>(
     alloc: A,
-    rows: &OsmMap<A>,
+    rows: &Draft<'_, A>,
     moved: &[Name],
     dlat: i64,
     dlon: i64,
@@ -142,7 +146,7 @@ fn move_all<A: Allocator + Clone>(
 
 // The element of a node before it is moved and after, or the refusal to leave the range.
 fn moved_node<A: Allocator + Clone>(
-    rows: &OsmMap<A>,
+    rows: &Draft<'_, A>,
     name: &Name,
     dlat: i64,
     dlon: i64,

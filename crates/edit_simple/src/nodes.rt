@@ -10,7 +10,7 @@ use crate::lookup::least_missing;
 use crate::refusal::Refusal;
 use crate::ways::{change_nodes, way_at};
 use osm_changes::changes::Changes;
-use osm_elements::map::OsmMap;
+use osm_drafts::draft::Draft;
 use osm_elements::name::Name;
 use osm_elements::nodes::Nodes;
 use osm_elements::shared::Shared;
@@ -19,7 +19,7 @@ use std::alloc::Allocator;
 /// Plans to give a way other nodes.
 pub fn plan<A: Allocator + Clone>(
     alloc: A,
-    rows: &OsmMap<A>,
+    rows: &Draft<'_, A>,
     name: &Name,
     list: &Shared<Nodes<A>, A>,
 ) -> Result<Changes<A>, Refusal<A>>

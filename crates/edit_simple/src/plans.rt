@@ -5,6 +5,8 @@
 //!
 //! Plans take the allocator first, since a store hands out none. What is compared for `Nothing` are the element's own
 //! tags, nodes or members, and not two maps: no plan looks at the whole map.
+ghost use Rattle.std.specs.Prelude.{◌≡◌, true};
+ghost use Rattle.osm_changes.specs.Sound.{is_sound};
 ghost use Rattle.edit_simple.specs.Create.{create_checks, after_create};
 ghost use Rattle.edit_simple.specs.Delete.{delete_checks, after_delete};
 ghost use Rattle.edit_simple.specs.Members.{members_checks, after_members};
@@ -19,7 +21,7 @@ use crate::refusal::Refusal;
 use crate::retag::Retag;
 use crate::{create, delete, members, moving, nodes, purge, retagging, reverse};
 use osm_changes::changes::Changes;
-use osm_changes::store::Store;
+use osm_drafts::draft::Draft;
 use osm_elements::element::Element;
 use osm_elements::members::Members;
 use osm_elements::name::Name;
@@ -34,14 +36,15 @@ use std::alloc::Allocator;
 /// looks up each name that the element refers to.
 pub fn plan_create<A: Allocator + Clone>(
     alloc: A,
-    store: &Store<A>,
+    draft: &Draft<'_, A>,
     name: &Name,
     element: &Element<A>,
 ) -> Result<Changes<A>, Refusal<A>>
-    ensures { IsPlan store.now.rows (create_checks store.now.rows name.now element.now)
-        (after_create store.now.rows name.now element.now) result }
+    requires { is_sound draft.now ≡ true }
+    ensures { IsPlan draft.now (create_checks draft.now name.now element.now)
+        (after_create draft.now name.now element.now) result }
 {
-    create::plan(alloc, store.map(), name, element)
+    create::plan(alloc, draft, name, element)
 }
 
 /// Plans to give an element other tags: each key of what is given has its value, or is removed where it has none. It
@@ -49,14 +52,15 @@ pub fn plan_create<A: Allocator + Clone>(
 /// afterwards, a limit of this project, and `Nothing` where its tags would be the same.
 pub fn plan_retag<A: Allocator + Clone>(
     alloc: A,
-    store: &Store<A>,
+    draft: &Draft<'_, A>,
     name: &Name,
     given: &Retag<A>,
 ) -> Result<Changes<A>, Refusal<A>>
-    ensures { IsPlan store.now.rows (retag_checks store.now.rows name.now given.now)
-        (after_retag store.now.rows name.now given.now) result }
+    requires { is_sound draft.now ≡ true }
+    ensures { IsPlan draft.now (retag_checks draft.now name.now given.now)
+        (after_retag draft.now name.now given.now) result }
 {
-    retagging::plan(alloc, store.map(), name, given)
+    retagging::plan(alloc, draft, name, given)
 }
 
 /// Plans to move each listed node, and each node of each listed way, by so many ten-millionths of a degree, once each
@@ -66,28 +70,30 @@ pub fn plan_retag<A: Allocator + Clone>(
 /// are sorted, and each is looked up.
 pub fn plan_move<A: Allocator + Clone>(
     alloc: A,
-    store: &Store<A>,
+    draft: &Draft<'_, A>,
     names: &[Name],
     dlat: i64,
     dlon: i64,
 ) -> Result<Changes<A>, Refusal<A>>
-    ensures { IsPlan store.now.rows (move_checks store.now.rows names.now dlat dlon)
-        (after_move store.now.rows names.now dlat dlon) result }
+    requires { is_sound draft.now ≡ true }
+    ensures { IsPlan draft.now (move_checks draft.now names.now dlat dlon)
+        (after_move draft.now names.now dlat dlon) result }
 {
-    moving::plan(alloc, store.map(), names, dlat, dlon)
+    moving::plan(alloc, draft, names, dlat, dlon)
 }
 
 /// Plans to turn a way round. It refuses `WrongKind` where the name is no way's, `Absent` where it is not there, and
 /// `Nothing` where the way's list reads the same backwards.
 pub fn plan_reverse<A: Allocator + Clone>(
     alloc: A,
-    store: &Store<A>,
+    draft: &Draft<'_, A>,
     name: &Name,
 ) -> Result<Changes<A>, Refusal<A>>
-    ensures { IsPlan store.now.rows (reverse_checks store.now.rows name.now)
-        (after_reverse store.now.rows name.now) result }
+    requires { is_sound draft.now ≡ true }
+    ensures { IsPlan draft.now (reverse_checks draft.now name.now)
+        (after_reverse draft.now name.now) result }
 {
-    reverse::plan(alloc, store.map(), name)
+    reverse::plan(alloc, draft, name)
 }
 
 /// Plans to give a way other nodes. It refuses `WrongKind` where the name is no way's, `Absent` where it is not there,
@@ -95,14 +101,15 @@ pub fn plan_reverse<A: Allocator + Clone>(
 /// the nodes that is not there, and `Nothing` where these are the way's nodes. It looks up each of the nodes.
 pub fn plan_nodes<A: Allocator + Clone>(
     alloc: A,
-    store: &Store<A>,
+    draft: &Draft<'_, A>,
     name: &Name,
     list: &Shared<Nodes<A>, A>,
 ) -> Result<Changes<A>, Refusal<A>>
-    ensures { IsPlan store.now.rows (nodes_checks store.now.rows name.now list.now)
-        (after_nodes store.now.rows name.now list.now) result }
+    requires { is_sound draft.now ≡ true }
+    ensures { IsPlan draft.now (nodes_checks draft.now name.now list.now)
+        (after_nodes draft.now name.now list.now) result }
 {
-    nodes::plan(alloc, store.map(), name, list)
+    nodes::plan(alloc, draft, name, list)
 }
 
 /// Plans to give a relation other members. It refuses `WrongKind` where the name is no relation's, `Absent` where it is
@@ -110,14 +117,15 @@ pub fn plan_nodes<A: Allocator + Clone>(
 /// not there, and `Nothing` where these are the relation's members. It looks up each of the members.
 pub fn plan_members<A: Allocator + Clone>(
     alloc: A,
-    store: &Store<A>,
+    draft: &Draft<'_, A>,
     name: &Name,
     list: &Shared<Members<A>, A>,
 ) -> Result<Changes<A>, Refusal<A>>
-    ensures { IsPlan store.now.rows (members_checks store.now.rows name.now list.now)
-        (after_members store.now.rows name.now list.now) result }
+    requires { is_sound draft.now ≡ true }
+    ensures { IsPlan draft.now (members_checks draft.now name.now list.now)
+        (after_members draft.now name.now list.now) result }
 {
-    members::plan(alloc, store.map(), name, list)
+    members::plan(alloc, draft, name, list)
 }
 
 /// Plans to take an element away. It refuses `Absent` where the name is not there, and `InUse` where an element refers
@@ -125,13 +133,14 @@ pub fn plan_members<A: Allocator + Clone>(
 /// not deleted). It looks at no other element.
 pub fn plan_delete<A: Allocator + Clone>(
     alloc: A,
-    store: &Store<A>,
+    draft: &Draft<'_, A>,
     name: &Name,
 ) -> Result<Changes<A>, Refusal<A>>
-    ensures { IsPlan store.now.rows (delete_checks store.now.rows name.now)
-        (after_delete store.now.rows name.now) result }
+    requires { is_sound draft.now ≡ true }
+    ensures { IsPlan draft.now (delete_checks draft.now name.now)
+        (after_delete draft.now name.now) result }
 {
-    delete::plan(alloc, store.map(), store.users().of(name), name)
+    delete::plan(alloc, draft, name)
 }
 
 /// Plans to take an element away with every reference to it (OpenStreetMap API v0.6: nothing absent is named). The
@@ -141,11 +150,12 @@ pub fn plan_delete<A: Allocator + Clone>(
 /// goes, which all change, and at no other element; that costs what these hold, times a logarithm.
 pub fn plan_purge<A: Allocator + Clone>(
     alloc: A,
-    store: &Store<A>,
+    draft: &Draft<'_, A>,
     name: &Name,
 ) -> Result<Changes<A>, Refusal<A>>
-    ensures { IsPlan store.now.rows (purge_checks store.now.rows name.now)
-        (after_purge store.now.rows name.now) result }
+    requires { is_sound draft.now ≡ true }
+    ensures { IsPlan draft.now (purge_checks draft.now name.now)
+        (after_purge draft.now name.now) result }
 {
-    purge::plan(alloc, store.map(), store.users(), name)
+    purge::plan(alloc, draft, name)
 }

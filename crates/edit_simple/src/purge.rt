@@ -6,7 +6,7 @@ ghost use Rattle.osm_elements.specs.Members.{member_pair};
 ghost use Rattle.osm_elements.specs.Nodes.{AreNodes};
 ghost use Rattle.osm_elements.specs.Rows.{row_at};
 ghost use Rattle.osm_changes.specs.Changes.{rows_changes};
-ghost use Rattle.osm_changes.specs.Stores.{users_of};
+ghost use Rattle.osm_refs.specs.Tables.{users_in, table_of};
 ghost use Rattle.osm_changes.specs.Sound.{is_sound};
 ghost use Rattle.edit_simple.specs.Inner.Purging.{reached_with, all_reached, all_gone, left_of, row_left, purged_row, MayPurge};
 ghost use Rattle.edit_simple.specs.Contents.{nodes_of};
@@ -17,42 +17,48 @@ use crate::cut_short::is_cut_short;
 use crate::lookup::is_present;
 use crate::refusal::Refusal;
 use osm_changes::changes::Changes;
+use osm_drafts::draft::Draft;
 use osm_elements::Memory;
 use osm_elements::element::Element;
-use osm_elements::map::OsmMap;
 use osm_elements::member::Member;
 use osm_elements::members::Members;
 use osm_elements::name::Name;
-use osm_elements::names::is_same;
+use osm_elements::names::{Names, is_same};
 use osm_elements::nodes::Nodes;
 use osm_elements::shared::Shared;
-use osm_refs::users::Users;
 use std::alloc::Allocator;
 use std::collections::BTreeSet;
 
 /// Plans to take an element away with every reference to it.
 pub fn plan<A: Allocator + Clone>(
     alloc: A,
-    rows: &OsmMap<A>,
-    users: &Users<A>,
+    rows: &Draft<'_, A>,
     name: &Name,
 ) -> Result<Changes<A>, Refusal<A>>
-    requires sound { is_sound rows.now ≡ true }
-    requires users { users.now ≡ users_of rows.now }
+    requires { is_sound rows.now ≡ true }
     ensures { IsPlan rows.now (purge_checks rows.now name.now) (after_purge rows.now name.now) result }
 {
     if !is_present(rows, name) {
         return Err(Refusal::Absent(*name));
     }
-    let gone = all_gone(alloc.clone()?, rows, users.of(name), name)?;
-    let reached = all_reached(alloc.clone()?, users, &gone, name)?;
+    let its_users = users_of(alloc.clone()?, rows, name)?;
+    let gone = all_gone(alloc.clone()?, rows, its_users.as_slice(), name)?;
+    let reached = all_reached(alloc.clone()?, rows, &gone, name)?;
     Ok(change_all(alloc, rows, &gone, name, &reached)?)
+}
+
+// The names that refer to a name.
+fn users_of<A: Allocator>(alloc: A, rows: &Draft<'_, A>, name: &Name) -> Result<Names<A>, Memory>
+    ensures { IfOk result (λ names. names ≡ users_in (table_of rows.now) name.now) }
+{
+    let names = rows.users_of(alloc, name)?;
+    Ok(names)
 }
 
 // The names that go: the purged one, and each way among its users that is left with fewer than 2 nodes.
 fn all_gone<A: Allocator + Clone>(
     alloc: A,
-    rows: &OsmMap<A>,
+    rows: &Draft<'_, A>,
     its_users: &[Name],
     purged: &Name,
 ) -> Result<BTreeSet<Name, A>, Memory>
@@ -69,7 +75,7 @@ fn all_gone<A: Allocator + Clone>(
 }
 
 // Whether the name is that of a way which the purged node is taken from, and which is left with fewer than 2.
-fn falls_short<A: Allocator>(rows: &OsmMap<A>, name: &Name, purged: &Name) -> bool
+fn falls_short<A: Allocator>(rows: &Draft<'_, A>, name: &Name, purged: &Name) -> bool
     ensures { result ≡ falls_short purged.now (nodes_of (row_at rows.now name.now)) }
 {
     match rows.get(name) {
@@ -79,51 +85,54 @@ fn falls_short<A: Allocator>(rows: &OsmMap<A>, name: &Name, purged: &Name) -> bo
 }
 
 // The names whose rows change, rising, each once: the purged one, its users, and the users of those that go.
-fn all_reached<A: Allocator>(
+fn all_reached<A: Allocator + Clone>(
     alloc: A,
-    users: &Users<A>,
+    rows: &Draft<'_, A>,
     gone: &BTreeSet<Name, A>,
     purged: &Name,
 ) -> Result<Vec<Name, A>, Memory>
     ensures { IfOk result
-        (λ reached. reached.items ≡ name_set (all_reached users.now.references gone.now.keys purged.now)) }
+        (λ reached. reached.items ≡ name_set (all_reached (table_of rows.now) gone.now.keys purged.now)) }
 {
-    let mut reached = listed(alloc, users, gone, purged)?;
+    let mut reached = listed(alloc, rows, gone, purged)?;
     reached.sort_unstable();
     reached.dedup();
     Ok(reached)
 }
 
 // The purged name, its users, and the users of those that go, in the order in which they are met.
-fn listed<A: Allocator>(
+fn listed<A: Allocator + Clone>(
     alloc: A,
-    users: &Users<A>,
+    rows: &Draft<'_, A>,
     gone: &BTreeSet<Name, A>,
     purged: &Name,
 ) -> Result<Vec<Name, A>, Memory>
-    ensures { IfOk result (λ reached. reached.items ≡ all_reached users.now.references gone.now.keys purged.now) }
+    ensures { IfOk result (λ reached. reached.items ≡ all_reached (table_of rows.now) gone.now.keys purged.now) }
 {
-    let mut reached = Vec::new(alloc);
+    let its_users = users_of(alloc.clone()?, rows, purged)?;
+    let mut reached = Vec::new(alloc.clone()?);
     reached.push(*purged)?;
-    for user in users.of(purged) {
-        add_reached(users, gone, user, &mut reached)?;
+    for user in its_users.as_slice() {
+        add_reached(&alloc, rows, gone, user, &mut reached)?;
     }
     Ok(reached)
 }
 
 // Adds a user of the purged name, and its own users where it goes.
-fn add_reached<A: Allocator>(
-    users: &Users<A>,
+fn add_reached<A: Allocator + Clone>(
+    alloc: &A,
+    rows: &Draft<'_, A>,
     gone: &BTreeSet<Name, A>,
     user: &Name,
     reached: &mut Vec<Name, A>,
 ) -> Result<(), Memory>
     ensures { OnOk result
-        (reached.new.items ≡ reached.old.items ++ reached_with users.now.references gone.now.keys user.now) }
+        (reached.new.items ≡ reached.old.items ++ reached_with (table_of rows.now) gone.now.keys user.now) }
 {
     reached.push(*user)?;
     if goes(gone, user) {
-        reached.extend_from_slice(users.of(user))?;
+        let its_users = users_of(alloc.clone()?, rows, user)?;
+        reached.extend_from_slice(its_users.as_slice())?;
     }
     Ok(())
 }
@@ -138,7 +147,7 @@ fn goes<A: Allocator>(gone: &BTreeSet<Name, A>, name: &Name) -> bool
 // The changes of the names that are reached.
 fn change_all<A: Allocator + Clone>(
     alloc: A,
-    rows: &OsmMap<A>,
+    rows: &Draft<'_, A>,
     gone: &BTreeSet<Name, A>,
     purged: &Name,
     reached: &[Name],
@@ -158,7 +167,7 @@ fn change_all<A: Allocator + Clone>(
 // The element of a name that is reached before the purge, and what it becomes: none where the name goes.
 fn rows_of<A: Allocator + Clone>(
     alloc: &A,
-    rows: &OsmMap<A>,
+    rows: &Draft<'_, A>,
     gone: &BTreeSet<Name, A>,
     purged: &Name,
     name: &Name,

@@ -17,10 +17,10 @@ use crate::refusal::Refusal;
 use crate::retag::{Given, Retag};
 use osm_changes::changes::Changes;
 use osm_changes::same::are_same_tags;
+use osm_drafts::draft::Draft;
 use osm_elements::Memory;
 use osm_elements::element::Element;
 use osm_elements::fault::TextFault;
-use osm_elements::map::OsmMap;
 use osm_elements::name::Name;
 use osm_elements::shared_tags::SharedTags;
 use osm_elements::tags::Tags;
@@ -29,7 +29,7 @@ use std::alloc::Allocator;
 /// Plans to give an element other tags.
 pub fn plan<A: Allocator + Clone>(
     alloc: A,
-    rows: &OsmMap<A>,
+    rows: &Draft<'_, A>,
     name: &Name,
     given: &Retag<A>,
 ) -> Result<Changes<A>, Refusal<A>>

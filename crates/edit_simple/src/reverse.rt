@@ -8,8 +8,8 @@ use crate::kinds::is_way;
 use crate::refusal::Refusal;
 use crate::ways::{change_nodes, way_at};
 use osm_changes::changes::Changes;
+use osm_drafts::draft::Draft;
 use osm_elements::Memory;
-use osm_elements::map::OsmMap;
 use osm_elements::name::Name;
 use osm_elements::nodes::Nodes;
 use osm_elements::shared::Shared;
@@ -18,7 +18,7 @@ use std::alloc::Allocator;
 /// Plans to turn a way round.
 pub fn plan<A: Allocator + Clone>(
     alloc: A,
-    rows: &OsmMap<A>,
+    rows: &Draft<'_, A>,
     name: &Name,
 ) -> Result<Changes<A>, Refusal<A>>
     requires { is_sound rows.now ≡ true }

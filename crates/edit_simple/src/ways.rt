@@ -13,8 +13,8 @@ use crate::changing::one_change;
 use crate::refusal::Refusal;
 use osm_changes::changes::Changes;
 use osm_changes::same::are_same_names;
+use osm_drafts::draft::Draft;
 use osm_elements::element::Element;
-use osm_elements::map::OsmMap;
 use osm_elements::name::Name;
 use osm_elements::nodes::Nodes;
 use osm_elements::shared::Shared;
@@ -23,7 +23,7 @@ use std::alloc::Allocator;
 
 /// The nodes and tags of a way, in time logarithmic in the size of the map, or `Absent` where it is not there.
 pub fn way_at<'m, A: Allocator>(
-    rows: &'m OsmMap<A>,
+    rows: &'m Draft<'_, A>,
     name: &Name,
 ) -> Result<(&'m Shared<Nodes<A>, A>, &'m SharedTags<A>), Refusal<A>>
     requires sound { is_sound rows.now ≡ true }

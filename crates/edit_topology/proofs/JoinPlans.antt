@@ -27,7 +27,7 @@ use Rattle.edit_simple.specs.Plans.{IsPlan}
 use Rattle.edit_simple.specs.Facts.Differences.{rows_differing, apart_rows}
 use Rattle.edit_simple.specs.Facts.Kinds.{way_there}
 use Rattle.edit_simple.specs.Facts.Lists.{all_from}
-use Rattle.edit_simple.specs.Facts.PassingRows.{passes_at, among_rows}
+use Rattle.osm_changes.specs.Facts.PassingRows.{passes_at, among_rows}
 use Rattle.edit_simple.specs.Facts.Rewriting.{fine}
 use Rattle.edit_topology.specs.BothTags.{both_tags}
 use Rattle.edit_topology.specs.Inner.Joining.{way_of_both, row_joined, MayJoin}

@@ -36,7 +36,7 @@ use Rattle.edit_simple.specs.Facts.Differences.{rows_differing, apart_rows}
 use Rattle.edit_simple.specs.Facts.FirstUsers.{first_is_least}
 use Rattle.edit_simple.specs.Facts.Kinds.{node_there}
 use Rattle.edit_simple.specs.Facts.Lists.{all_from}
-use Rattle.edit_simple.specs.Facts.PassingRows.{passes_at, among_rows, rising_names}
+use Rattle.osm_changes.specs.Facts.PassingRows.{passes_at, among_rows, rising_names}
 use Rattle.edit_simple.specs.Facts.Retagging.{tags_sorted}
 use Rattle.edit_topology.specs.BothTags.{both_tags, conflict}
 use Rattle.edit_topology.specs.Inner.Merging.{is_either, replaced, subjects, name_checks, tag_checks, is_cut_short, merged_element, row_merged, MayMerge}

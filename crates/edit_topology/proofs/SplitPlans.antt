@@ -34,7 +34,7 @@ use Rattle.edit_simple.specs.Facts.Differences.{rows_differing, apart_rows}
 use Rattle.edit_simple.specs.Facts.FirstUsers.{first_is_least}
 use Rattle.edit_simple.specs.Facts.Kinds.{told_way}
 use Rattle.edit_simple.specs.Facts.Lists.{or_left, all_listed}
-use Rattle.edit_simple.specs.Facts.PassingRows.{passes_at, rising_names, among_rows}
+use Rattle.osm_changes.specs.Facts.PassingRows.{passes_at, rising_names, among_rows}
 use Rattle.edit_simple.specs.Facts.Rewriting.{fine}
 use Rattle.edit_topology.specs.Inner.Splitting.{split_length, is_overfull, is_way_row, split_element, row_split, row_of_split, MaySplit}
 use Rattle.edit_topology.specs.Split.{is_inside, split_members, overfull, split_checks, after_split, split_row, split_off}

@@ -24,9 +24,9 @@ use edit_simple::limits::MOST_NODES;
 use edit_simple::refusal::Refusal;
 use edit_simple::ways::way_at;
 use osm_changes::changes::Changes;
+use osm_drafts::draft::Draft;
 use osm_elements::Memory;
 use osm_elements::element::Element;
-use osm_elements::map::OsmMap;
 use osm_elements::member::Member;
 use osm_elements::members::Members;
 use osm_elements::name::Name;
@@ -40,7 +40,7 @@ use std::alloc::Allocator;
 /// Plans to join a way to another.
 pub fn plan<A: Allocator + Clone>(
     alloc: A,
-    rows: &OsmMap<A>,
+    rows: &Draft<'_, A>,
     its_users: &[Name],
     name: &Name,
     other: &Name,
@@ -59,7 +59,7 @@ pub fn plan<A: Allocator + Clone>(
 // the checks in their order. It is then handed over, and never copied.
 fn way_of_both<A: Allocator + Clone>(
     alloc: A,
-    rows: &OsmMap<A>,
+    rows: &Draft<'_, A>,
     name: &Name,
     other: &Name,
 ) -> Result<Element<A>, Refusal<A>>
@@ -146,7 +146,7 @@ fn end_to_end<A: Allocator + Clone>(nodes: &Nodes<A>, others: &Nodes<A>) -> Resu
 // The changes of the names whose rows change, of which the way becomes the joined one.
 fn change_all<A: Allocator + Clone>(
     alloc: A,
-    rows: &OsmMap<A>,
+    rows: &Draft<'_, A>,
     name: &Name,
     other: &Name,
     joined: Element<A>,
@@ -169,7 +169,7 @@ fn change_all<A: Allocator + Clone>(
 // The joined way is given to the way.
 fn rows_of<A: Allocator + Clone>(
     alloc: &A,
-    rows: &OsmMap<A>,
+    rows: &Draft<'_, A>,
     name: &Name,
     other: &Name,
     joined: &mut Option<Element<A>>,

@@ -21,9 +21,9 @@ use crate::subjects::subjects_and_users;
 use edit_simple::kinds::is_node;
 use edit_simple::refusal::Refusal;
 use osm_changes::changes::Changes;
+use osm_drafts::draft::Draft;
 use osm_elements::Memory;
 use osm_elements::element::Element;
-use osm_elements::map::OsmMap;
 use osm_elements::name::Name;
 use osm_elements::names::is_same;
 use osm_elements::shared::Shared;
@@ -33,7 +33,7 @@ use std::alloc::Allocator;
 /// Plans to merge another node into a node.
 pub fn plan<A: Allocator + Clone>(
     alloc: A,
-    rows: &OsmMap<A>,
+    rows: &Draft<'_, A>,
     its_users: &[Name],
     name: &Name,
     other: &Name,
@@ -80,7 +80,7 @@ fn check_names<A: Allocator>(name: &Name, other: &Name) -> Result<(), Refusal<A>
 // The first of the other's users that is a way with no nodes but the two. The definition looks at every row, and finds
 // ways that name the other, which are among its users. Users rise, so the first that is found is the least.
 fn first_cut_short<A: Allocator>(
-    rows: &OsmMap<A>,
+    rows: &Draft<'_, A>,
     its_users: &[Name],
     name: &Name,
     other: &Name,
@@ -96,7 +96,7 @@ fn first_cut_short<A: Allocator>(
 }
 
 // Whether the name of a user is that of a way with no nodes but the two, of which one is left.
-fn is_cut_short<A: Allocator>(rows: &OsmMap<A>, user: &Name, name: &Name, other: &Name) -> bool
+fn is_cut_short<A: Allocator>(rows: &Draft<'_, A>, user: &Name, name: &Name, other: &Name) -> bool
     ensures { result ≡ is_cut_short name.now other.now (row_at rows.now user.now) }
 {
     match rows.get(user) {
@@ -152,7 +152,7 @@ fn all_changed<A: Allocator>(
 // The changes of the names whose rows change.
 fn change_all<A: Allocator + Clone>(
     alloc: A,
-    rows: &OsmMap<A>,
+    rows: &Draft<'_, A>,
     name: &Name,
     other: &Name,
     both: &SharedTags<A>,
@@ -173,7 +173,7 @@ fn change_all<A: Allocator + Clone>(
 // The element of a name whose row changes before the merge, and what it becomes: none where the name is the other's.
 fn rows_of<A: Allocator + Clone>(
     alloc: &A,
-    rows: &OsmMap<A>,
+    rows: &Draft<'_, A>,
     name: &Name,
     other: &Name,
     both: &SharedTags<A>,

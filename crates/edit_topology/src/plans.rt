@@ -4,6 +4,8 @@
 //! `Memory` in place of any answer. It leaves the store alone. It looks at its subjects and at the users of one of
 //! them, which all change, or at the node that a way is unglued from, and at no other element; that costs what these
 //! hold, times a logarithm.
+ghost use Rattle.std.specs.Prelude.{◌≡◌, true};
+ghost use Rattle.osm_changes.specs.Sound.{is_sound};
 ghost use Rattle.edit_simple.specs.Plans.{IsPlan};
 ghost use Rattle.edit_topology.specs.Join.{join_checks, after_join};
 ghost use Rattle.edit_topology.specs.Merge.{merge_checks, after_merge};
@@ -13,7 +15,7 @@ ghost use Rattle.edit_topology.specs.Unglue.{unglue_checks, after_unglue};
 use crate::{join, merge, split, unglue};
 use edit_simple::refusal::Refusal;
 use osm_changes::changes::Changes;
-use osm_changes::store::Store;
+use osm_drafts::draft::Draft;
 use osm_elements::name::Name;
 use std::alloc::Allocator;
 
@@ -25,22 +27,17 @@ use std::alloc::Allocator;
 /// limit of this project. (Editors' practice; the order of the members is this project's.)
 pub fn plan_split<A: Allocator + Clone>(
     alloc: A,
-    store: &Store<A>,
+    draft: &Draft<'_, A>,
     name: &Name,
     place: u32,
     into: &Name,
 ) -> Result<Changes<A>, Refusal<A>>
-    ensures { IsPlan store.now.rows (split_checks store.now.rows name.now place into.now)
-        (after_split store.now.rows name.now place into.now) result }
+    requires { is_sound draft.now ≡ true }
+    ensures { IsPlan draft.now (split_checks draft.now name.now place into.now)
+        (after_split draft.now name.now place into.now) result }
 {
-    split::plan(
-        alloc,
-        store.map(),
-        store.users().of(name),
-        name,
-        place,
-        into,
-    )
+    let its_users = draft.users_of(alloc.clone()?, name)?;
+    split::plan(alloc, draft, its_users.as_slice(), name, place, into)
 }
 
 /// Plans to join a way to another that begins where it ends: the way gets the other's nodes but the first behind its
@@ -52,14 +49,16 @@ pub fn plan_split<A: Allocator + Clone>(
 /// practice; what becomes of members, and the limits, are this project's.)
 pub fn plan_join<A: Allocator + Clone>(
     alloc: A,
-    store: &Store<A>,
+    draft: &Draft<'_, A>,
     name: &Name,
     other: &Name,
 ) -> Result<Changes<A>, Refusal<A>>
-    ensures { IsPlan store.now.rows (join_checks store.now.rows name.now other.now)
-        (after_join store.now.rows name.now other.now) result }
+    requires { is_sound draft.now ≡ true }
+    ensures { IsPlan draft.now (join_checks draft.now name.now other.now)
+        (after_join draft.now name.now other.now) result }
 {
-    join::plan(alloc, store.map(), store.users().of(other), name, other)
+    let its_users = draft.users_of(alloc.clone()?, other)?;
+    join::plan(alloc, draft, its_users.as_slice(), name, other)
 }
 
 /// Plans to merge another node into a node: wherever the other was named, this one is named, and in a way that named
@@ -70,14 +69,16 @@ pub fn plan_join<A: Allocator + Clone>(
 /// limit of this project. (Editors' practice; which doubles are dropped is this project's.)
 pub fn plan_merge<A: Allocator + Clone>(
     alloc: A,
-    store: &Store<A>,
+    draft: &Draft<'_, A>,
     name: &Name,
     other: &Name,
 ) -> Result<Changes<A>, Refusal<A>>
-    ensures { IsPlan store.now.rows (merge_checks store.now.rows name.now other.now)
-        (after_merge store.now.rows name.now other.now) result }
+    requires { is_sound draft.now ≡ true }
+    ensures { IsPlan draft.now (merge_checks draft.now name.now other.now)
+        (after_merge draft.now name.now other.now) result }
 {
-    merge::plan(alloc, store.map(), store.users().of(other), name, other)
+    let its_users = draft.users_of(alloc.clone()?, other)?;
+    merge::plan(alloc, draft, its_users.as_slice(), name, other)
 }
 
 /// Plans to unglue a way from the node at one of its positions, counted from 0: there the way gets a new node, which
@@ -87,13 +88,14 @@ pub fn plan_merge<A: Allocator + Clone>(
 /// lies beyond the last. (Editors' practice; which names and positions are refused is this project's.)
 pub fn plan_unglue<A: Allocator + Clone>(
     alloc: A,
-    store: &Store<A>,
+    draft: &Draft<'_, A>,
     name: &Name,
     place: u32,
     into: &Name,
 ) -> Result<Changes<A>, Refusal<A>>
-    ensures { IsPlan store.now.rows (unglue_checks store.now.rows name.now place into.now)
-        (after_unglue store.now.rows name.now place into.now) result }
+    requires { is_sound draft.now ≡ true }
+    ensures { IsPlan draft.now (unglue_checks draft.now name.now place into.now)
+        (after_unglue draft.now name.now place into.now) result }
 {
-    unglue::plan(alloc, store.map(), name, place, into)
+    unglue::plan(alloc, draft, name, place, into)
 }

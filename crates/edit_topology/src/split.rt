@@ -19,9 +19,9 @@ use edit_simple::lookup::is_present;
 use edit_simple::refusal::Refusal;
 use edit_simple::ways::way_at;
 use osm_changes::changes::Changes;
+use osm_drafts::draft::Draft;
 use osm_elements::Memory;
 use osm_elements::element::Element;
-use osm_elements::map::OsmMap;
 use osm_elements::member::Member;
 use osm_elements::members::Members;
 use osm_elements::name::Name;
@@ -33,7 +33,7 @@ use std::alloc::Allocator;
 /// Plans to split a way in two.
 pub fn plan<A: Allocator + Clone>(
     alloc: A,
-    rows: &OsmMap<A>,
+    rows: &Draft<'_, A>,
     its_users: &[Name],
     name: &Name,
     place: u32,
@@ -51,7 +51,7 @@ pub fn plan<A: Allocator + Clone>(
 
 // Whether a way can be split.
 fn check<A: Allocator>(
-    rows: &OsmMap<A>,
+    rows: &Draft<'_, A>,
     its_users: &[Name],
     name: &Name,
     place: u32,
@@ -91,7 +91,7 @@ fn is_inside(place: u32, nodes: &[Name]) -> bool
 // The first of the way's users that would have more than 32,000 members. The definition looks at every relation; on a
 // sound map only one that names the way can get too long (`specs/Facts/Refusing.antt`). Users rise, so the first that
 // is found is the least.
-fn first_overfull<A: Allocator>(rows: &OsmMap<A>, its_users: &[Name], way: &Name) -> Option<Name>
+fn first_overfull<A: Allocator>(rows: &Draft<'_, A>, its_users: &[Name], way: &Name) -> Option<Name>
     ensures { result ≡ find (is_overfull rows.now way.now) its_users.now }
 {
     its_users
@@ -101,7 +101,7 @@ fn first_overfull<A: Allocator>(rows: &OsmMap<A>, its_users: &[Name], way: &Name
 }
 
 // Whether a name's element would have more than 32,000 members.
-fn is_overfull<A: Allocator>(rows: &OsmMap<A>, way: &Name, user: &Name) -> bool
+fn is_overfull<A: Allocator>(rows: &Draft<'_, A>, way: &Name, user: &Name) -> bool
     ensures { result ≡ is_overfull rows.now way.now user.now }
 {
     match rows.get(user) {
@@ -132,7 +132,7 @@ fn count_named<A: Allocator>(members: &[Member<A>], way: &Name) -> usize
 // The changes of the names whose rows change.
 fn change_all<A: Allocator + Clone>(
     alloc: A,
-    rows: &OsmMap<A>,
+    rows: &Draft<'_, A>,
     names: &[Name],
     way: &Name,
     place: u32,
@@ -152,7 +152,7 @@ fn change_all<A: Allocator + Clone>(
 // The row of a name whose row changes before the split, and the element after: the new way where nothing has the name.
 fn rows_of<A: Allocator + Clone>(
     alloc: &A,
-    rows: &OsmMap<A>,
+    rows: &Draft<'_, A>,
     name: &Name,
     way: &Name,
     place: u32,
@@ -175,7 +175,7 @@ fn rows_of<A: Allocator + Clone>(
 // The new way: the nodes of a way from a place on, and its tags.
 fn new_way<A: Allocator + Clone>(
     alloc: &A,
-    rows: &OsmMap<A>,
+    rows: &Draft<'_, A>,
     way: &Name,
     place: u32,
 ) -> Result<Element<A>, Memory>

@@ -18,9 +18,9 @@ use edit_simple::lookup::is_present;
 use edit_simple::refusal::Refusal;
 use edit_simple::ways::way_at;
 use osm_changes::changes::Changes;
+use osm_drafts::draft::Draft;
 use osm_elements::Memory;
 use osm_elements::element::Element;
-use osm_elements::map::OsmMap;
 use osm_elements::name::Name;
 use osm_elements::nodes::Nodes;
 use osm_elements::shared::Shared;
@@ -30,7 +30,7 @@ use std::alloc::Allocator;
 /// Plans to unglue a way from a node.
 pub fn plan<A: Allocator + Clone>(
     alloc: A,
-    rows: &OsmMap<A>,
+    rows: &Draft<'_, A>,
     name: &Name,
     place: u32,
     into: &Name,
@@ -50,7 +50,7 @@ pub fn plan<A: Allocator + Clone>(
 // The nodes and tags of the way, or the refusal of names of which one is not of its kind, the way's is not there, or
 // the new node's is.
 fn way_to_unglue<'m, A: Allocator>(
-    rows: &'m OsmMap<A>,
+    rows: &'m Draft<'_, A>,
     name: &Name,
     into: &Name,
 ) -> Result<(&'m Shared<Nodes<A>, A>, &'m SharedTags<A>), Refusal<A>>
@@ -75,7 +75,7 @@ fn way_to_unglue<'m, A: Allocator>(
 
 // The node at a place of a list, none where the place lies beyond.
 fn node_at<'m, A: Allocator>(
-    rows: &'m OsmMap<A>,
+    rows: &'m Draft<'_, A>,
     nodes: &Nodes<A>,
     place: u32,
 ) -> Option<&'m Element<A>>

@@ -4,6 +4,7 @@ pub mod Cells
 pub mod Changing
 pub mod Differing
 pub mod Halves
+pub mod PassingRows
 pub mod RowChanges
 pub mod RowsDiffer
 pub mod SameElements

@@ -9,23 +9,23 @@ use crate::cell::Cell;
 use crate::change::Change;
 use crate::half::{Half, copy_of};
 use crate::halving::{half_of, row_of};
+use crate::lookup::Lookup;
 use crate::part::Part;
 use crate::row_after::RowAfter;
 use osm_elements::Memory;
 use osm_elements::element::Element;
-use osm_elements::map::OsmMap;
 use osm_elements::name::Name;
 use std::alloc::Allocator;
 
 /// The names that some changes tell of, in their order, each with its row in the map after the changes. The one
 /// refusal is want of memory. It costs a copy of these rows, and for each a look-up in the map and two in the changes.
-pub fn rows_after<A: Allocator + Clone>(
+pub fn rows_after<A: Allocator + Clone, R: Lookup<A>>(
     alloc: A,
-    rows: &OsmMap<A>,
+    rows: &R,
     changes: &[Change<A>],
 ) -> Result<Vec<RowAfter<A>, A>, Memory>
     requires { IsRising (changed_cells changes.now) }
-    ensures { IfOk result (λ told. told.items ≡ rows_after rows.now changes.now) }
+    ensures { IfOk result (λ told. told.items ≡ rows_after (R.rows rows.now) changes.now) }
 {
     let names = changed_names(alloc.clone()?, changes)?;
     rows_of(alloc, rows, changes, &names)
@@ -45,14 +45,14 @@ fn changed_names<A: Allocator>(alloc: A, changes: &[Change<A>]) -> Result<Vec<Na
 }
 
 // Some names, each with its row after changes.
-fn rows_of<A: Allocator + Clone>(
+fn rows_of<A: Allocator + Clone, R: Lookup<A>>(
     alloc: A,
-    rows: &OsmMap<A>,
+    rows: &R,
     changes: &[Change<A>],
     names: &[Name],
 ) -> Result<Vec<RowAfter<A>, A>, Memory>
     requires { IsRising (changed_cells changes.now) }
-    ensures { IfOk result (λ told. told.items ≡ map (row_in (changed rows.now changes.now)) names.now) }
+    ensures { IfOk result (λ told. told.items ≡ map (row_in (changed (R.rows rows.now) changes.now)) names.now) }
 {
     let mut told = Vec::with_capacity(alloc, names.len())?;
     for name in names {
@@ -62,15 +62,15 @@ fn rows_of<A: Allocator + Clone>(
 }
 
 // A name with its row after changes.
-fn row_after<A: Allocator + Clone>(
-    rows: &OsmMap<A>,
+fn row_after<A: Allocator + Clone, R: Lookup<A>>(
+    rows: &R,
     changes: &[Change<A>],
     name: &Name,
 ) -> Result<RowAfter<A>, Memory>
     requires { IsRising (changed_cells changes.now) }
-    ensures { IfOk result (λ told. told ≡ row_in (changed rows.now changes.now) name.now) }
+    ensures { IfOk result (λ told. told ≡ row_in (changed (R.rows rows.now) changes.now) name.now) }
 {
-    let row = rows.get(name);
+    let row = rows.element(name);
     let name = *name;
     let tags = Cell::of(name, Part::Tags);
     let rest = Cell::of(name, Part::Rest);

@@ -8,7 +8,7 @@ use Rattle.osm_refs.specs.References.{row_references, refers_to, users}
 use Rattle.osm_refs.specs.Facts.RisingNames.{same_rising}
 use Rattle.osm_changes.specs.Sound.{is_sound}
 use Rattle.osm_changes.specs.Facts.SoundRows.{sound_in_order}
-use Rattle.edit_simple.specs.Facts.PassingRows.{passes_at, rising_names, among_rows}
+use Rattle.osm_changes.specs.Facts.PassingRows.{passes_at, rising_names, among_rows}
 use Rattle.edit_actions.specs.declared.action.Action.{Action}
 use Rattle.edit_actions.specs.After.{after}
 use Rattle.edit_actions.specs.Facts.Accepted.{AreInOrder-after}

@@ -6,7 +6,7 @@ use Rattle.osm_elements.specs.declared.element.Element.{Element}
 use Rattle.osm_elements.specs.Maps.{Rows, is_same, is_among, names_of}
 use Rattle.osm_elements.specs.Rows.{AreInOrder, row_at}
 use Rattle.edit_simple.specs.Facts.Lists.{or_right, is_among_own}
-use Rattle.edit_simple.specs.Facts.PassingRows.{passes_at, among_rows}
+use Rattle.osm_changes.specs.Facts.PassingRows.{passes_at, among_rows}
 
 pub none_of_list : (p : Name → Bool) (names : List Name) → ((e : Name) → is_among names e ≡ true → p e ≡ false) → filter p names ≡ []
 none_of_list p [] h = refl

@@ -46,6 +46,3 @@ module _ {A : Type 0} where
         by : (b : Bool) → slice_get (names_of (filter p es)) 0 ≡ least (names_of (filter p es)) → slice_get (names_of (cond b (e ∷ filter p es) (filter p es))) 0 ≡ least (names_of (cond b (e ∷ filter p es) (filter p es)))
         by true i = ap Some (sym (below_passing e.0 es (first (below_all name_cmp e.0 es) (is_sorted name_cmp es) h)))
         by false i = i
-
-  pub first_user_is_least : (m : Rows A) (x : Name) → AreInOrder m → slice_get (users m x) 0 ≡ least (users m x)
-  first_user_is_least m x h = first_is_least (λ r. refers_to r.1 x) m h

@@ -189,25 +189,25 @@ module _ {A : Type 0} where
           by false false i = i
 
   -- those of some names at which two maps have other rows
-  abbrev others_of : Rows A → Rows A → List Name → List Name
+  abbrev pub others_of : Rows A → Rows A → List Name → List Name
   others_of m n names = filter (λ x. not (is_same_row (row_at m x) (row_at n x))) names
 
   -- the names at which two maps differ, rising
   abbrev pub differing_names : Rows A → Rows A → List Name
   differing_names m n = filter (λ x. not (is_same_row (row_at m x) (row_at n x))) (name_set (names_of m ++ names_of n))
 
+  -- a name whose rows are the same has no changes
+  pub rows_changes-others : (m n : Rows A) (xs : List Name) → rows_changes m (row_at n) xs ≡ rows_changes m (row_at n) (others_of m n xs)
+  rows_changes-others m n [] = refl
+  rows_changes-others m n (x ∷ xs) = by (is_same_row (row_at m x) (row_at n x)) refl (rows_changes-others m n xs)
+    where
+      by : (b : Bool) → is_same_row (row_at m x) (row_at n x) ≡ b
+          → rows_changes m (row_at n) xs ≡ rows_changes m (row_at n) (others_of m n xs)
+          → row_changes x (row_at m x) (row_at n x) ++ rows_changes m (row_at n) xs
+          ≡ rows_changes m (row_at n) (cond (not b) (x ∷ others_of m n xs) (others_of m n xs))
+      by true e i = ap (λ l. l ++ rows_changes m (row_at n) xs) (stays x (row_at m x) (row_at n x) e) ∙ i
+      by false e i = ap (λ l. row_changes x (row_at m x) (row_at n x) ++ l) i
+
   -- and so they are those of the rows that differ
   pub differences-rows : (m n : Rows A) → differences m n ≡ rows_changes m (row_at n) (differing_names m n)
-  differences-rows m n = differences-all_rows m n ∙ over (name_set (names_of m ++ names_of n))
-    where
-      over : (xs : List Name) → rows_changes m (row_at n) xs ≡ rows_changes m (row_at n) (others_of m n xs)
-      over [] = refl
-      over (x ∷ xs) = by (is_same_row (row_at m x) (row_at n x)) refl (over xs)
-        where
-          by : (b : Bool) → is_same_row (row_at m x) (row_at n x) ≡ b
-              → rows_changes m (row_at n) xs ≡ rows_changes m (row_at n) (others_of m n xs)
-              → row_changes x (row_at m x) (row_at n x) ++ rows_changes m (row_at n) xs
-              ≡ rows_changes m (row_at n) (cond (not b) (x ∷ others_of m n xs) (others_of m n xs))
-          by true e i =
-              ap (λ l. l ++ rows_changes m (row_at n) xs) (stays x (row_at m x) (row_at n x) e) ∙ i
-          by false e i = ap (λ l. row_changes x (row_at m x) (row_at n x) ++ l) i
+  differences-rows m n = differences-all_rows m n ∙ rows_changes-others m n (name_set (names_of m ++ names_of n))

@@ -5,4 +5,4 @@ use Rattle.edit_simple.specs.Create.{is_missing}
 use Rattle.edit_simple.proofs.lookup.least_missing.Given as goal
 
 abbrev pub invariant-loop-name : goal.invariant-loop-name
-invariant-loop-name g l = l.least ≡ least (filter (is_missing l.rows l.new) (take l.name-index l.names))
+invariant-loop-name g l = l.least ≡ least (filter (is_missing (g.R.Lookup.rows l.rows) l.new) (take l.name-index l.names))

@@ -5,4 +5,4 @@ use Rattle.edit_simple.specs.Create.{is_missing}
 use Rattle.edit_simple.proofs.lookup.least_missing_member.Given as goal
 
 abbrev pub invariant-loop-member : goal.invariant-loop-member
-invariant-loop-member g l = l.least ≡ least (filter (is_missing l.rows l.new) (map (λ m. m.name) (take l.member-index l.members)))
+invariant-loop-member g l = l.least ≡ least (filter (is_missing (g.R.Lookup.rows l.rows) l.new) (map (λ m. m.name) (take l.member-index l.members)))

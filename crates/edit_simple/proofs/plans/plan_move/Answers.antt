@@ -1,4 +1,4 @@
-use Rattle.std.proofs.Common.{ℤ, subst}
+use Rattle.std.proofs.Common.{ℤ}
 use Rattle.std.proofs.lemmas.Int.{to_z-of_z}
 use Rattle.std.specs.Int.{w64}
 use Rattle.edit_simple.specs.Move.{move_checks, after_move}
@@ -10,5 +10,5 @@ pub returns : goal.returns
 returns g c =
     let a = to_z-of_z w64 c.args.dlat c.ranges.dlat in
     let b = to_z-of_z w64 c.args.dlon c.ranges.dlon in
-    subst (λ m. IsPlan m (move_checks m c.args.names.now c.args.dlat c.args.dlon) (after_move m c.args.names.now c.args.dlat c.args.dlon) c.plan.result) c.map.ensures.map
-    (of_distances (λ (d e : ℤ). IsPlan c.map.result.now (move_checks c.map.result.now c.args.names.now d e) (after_move c.map.result.now c.args.names.now d e) c.plan.result) _ _ c.args.dlat c.args.dlon a b c.plan.ensures)
+    let m = c.args.draft.now in
+    of_distances (λ (d e : ℤ). IsPlan m (move_checks m c.args.names.now d e) (after_move m c.args.names.now d e) c.plan.result) _ _ c.args.dlat c.args.dlon a b c.plan.ensures

@@ -6,7 +6,7 @@ use Rattle.osm_changes.proofs.rows.rows_of.Goals as goal
 
 pub loop-name-preserved : goal.loop-name-preserved
 loop-name-preserved g c =
-    let row = row_in (changed c.args.rows.now c.args.changes.now) in
+    let row = row_in (changed (g.R.Lookup.rows c.args.rows.now) c.args.changes.now) in
     let done = map row (take c.loop-name.name-index c.args.names.now) in
     c.in_ok-push.ensures.items
     ∙ (λ i. c.loop-name.invariant i ++ c.in_ok-row_after.ensures i ∷ [])

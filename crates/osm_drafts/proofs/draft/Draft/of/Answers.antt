@@ -1,0 +1,8 @@
+use Rattle.std.proofs.Common.{◌∙◌}
+use Rattle.osm_changes.specs.Facts.SoundRows.{sound_in_order}
+use Rattle.osm_drafts.specs.Drafts.{drafted}
+use Rattle.osm_drafts.specs.Facts.Drafting.{drafted_itself}
+use Rattle.osm_drafts.proofs.draft.Draft.of.Goals as goal
+
+pub returns : goal.returns
+returns g c = (λ i. drafted c.args.store.now.rows (c.new.ensures.empty i) (c.new-2.ensures i)) ∙ drafted_itself c.args.store.now.rows (sound_in_order c.args.store.now.rows c.map.ensures.sound)

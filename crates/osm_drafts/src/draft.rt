@@ -1,0 +1,242 @@
+//! Drafts: a store that stays as it is, with rows written over it.
+ghost use Rattle.std.specs.Prelude.{◌≡◌, ◌++◌, not, true, IfOk, OnOk};
+ghost use Rattle.std.specs.List.{find, flat_map, fold};
+ghost use Rattle.std.specs.Option.{option_copied};
+ghost use Rattle.osm_elements.specs.Maps.{is_among, least};
+ghost use Rattle.osm_elements.specs.Rows.{row_at, AreInOrder};
+ghost use Rattle.osm_refs.specs.References.{users};
+ghost use Rattle.osm_changes.specs.Changes.{changed, with_row};
+ghost use Rattle.osm_drafts.specs.Drafts.{unwritten};
+
+use osm_changes::changes::Changes;
+use osm_changes::lookup::Lookup;
+use osm_changes::row_after::RowAfter;
+use osm_changes::rows::rows_after;
+use osm_changes::store::Store;
+use osm_elements::Memory;
+use osm_elements::element::Element;
+use osm_elements::map::OsmMap;
+use osm_elements::name::Name;
+use osm_elements::names::Names;
+use osm_refs::users::Users;
+use std::alloc::Allocator;
+use std::collections::BTreeSet;
+use std::marker::Model;
+
+/// A store that is lent, with rows written over it: what is written is seen in place of the store's rows, and the store
+/// stays as it is. It takes memory for what is written alone.
+#[derive(Drop)]
+pub struct Draft<'s, A: Allocator> {
+    store: &'s Store<A>,
+    // Each name that was written, whether it is there or not.
+    written: BTreeSet<Name, A>,
+    // The rows of those that are there, and who of them refers to a name.
+    here: OsmMap<A>,
+    users: Users<A>,
+}
+
+// A draft is seen as its rows.
+impl<'s, A: Allocator> Model for Draft<'s, A> {
+    ghost use Rattle.std.specs.Prelude.{List};
+    ghost use Rattle.osm_elements.specs.declared.element.Element.{Element};
+    ghost use Rattle.osm_elements.specs.declared.name.Name.{Name};
+    ghost use Rattle.osm_drafts.specs.Drafts.{drafted, IsDraft};
+
+    ghost Value = { List (Name × Element A) };
+
+    ghost view = { λ d. drafted d.store.now.rows d.written.keys d.here };
+
+    ghost invariant = { λ d. IsDraft d.written.keys d.here d.users };
+}
+
+impl<'s, A: Allocator> Draft<'s, A> {
+    /// A store with nothing written over it. It takes no memory.
+    pub fn of(alloc: A, store: &'s Store<A>) -> Draft<'s, A>
+    where
+        A: Copy,
+        ensures { result ≡ store.now.rows }
+    {
+        let _ = store.map();
+        Draft {
+            store,
+            written: BTreeSet::new(alloc),
+            here: OsmMap::new(alloc),
+            users: Users::new(alloc),
+        }
+    }
+
+    /// The element with this name, or none.
+    pub fn get(&self, name: &Name) -> Option<&Element<A>>
+        ensures { option_copied result ≡ row_at self.now name.now }
+    {
+        let store = self.store;
+        let rows = store.map();
+        if is_written(&self.written, name) {
+            self.here.get(name)
+        } else {
+            rows.get(name)
+        }
+    }
+
+    /// The names that refer to a name, in name order, or `Memory`.
+    pub fn users_of(&self, alloc: A, name: &Name) -> Result<Names<A>, Memory>
+        ensures { IfOk result (λ names. names ≡ users self.now name.now) }
+    {
+        let store = self.store;
+        let _ = store.map();
+        let its_users = store.users().of(name);
+        let mut names = Vec::new(alloc);
+        push_all_unwritten(&mut names, its_users, &self.written)?;
+        names.extend_from_slice(self.users.of(name))?;
+        names.sort_unstable();
+        names.dedup();
+        Ok(Names::from_vec(names))
+    }
+
+    /// Returns the least name that refers to a name, if any does. It allocates nothing.
+    pub fn first_user(&self, name: &Name) -> Option<Name>
+        ensures { result ≡ least (users self.now name.now) }
+    {
+        let store = self.store;
+        let _ = store.map();
+        let stored = first_unwritten(store.users().of(name), &self.written);
+        let own = self.users.of(name).first().copied();
+        match (stored, own) {
+            (Some(stored), Some(own)) => Some(stored.min(own)),
+            (Some(stored), None) => Some(stored),
+            (None, own) => own,
+        }
+    }
+
+    /// The draft with this row of a name, or without one; or `Memory`, and no draft.
+    pub fn with(self, name: Name, element: Option<Element<A>>) -> Result<Draft<'s, A>, Memory>
+    where
+        A: Clone,
+        ensures { IfOk result (λ d. d ≡ with_row self.entry name element) }
+    {
+        let Draft {
+            store,
+            mut written,
+            mut here,
+            mut users,
+        } = self;
+        let _ = store.map();
+        users.ready(&name, here.get(&name), element.as_ref())?;
+        written.insert(name)?;
+        put(&mut here, name, element)?;
+        users.note();
+        Ok(Draft {
+            store,
+            written,
+            here,
+            users,
+        })
+    }
+}
+
+impl<'s, A: Allocator + Clone> Draft<'s, A> {
+    /// Returns the draft after changes. It costs a copy of the rows of the changed names, and look-ups of each.
+    ///
+    /// # Errors
+    ///
+    /// `Memory`; the draft is dropped.
+    pub fn with_changes(self, alloc: A, changes: &Changes<A>) -> Result<Draft<'s, A>, Memory>
+        ensures { IfOk result (λ d. d ≡ changed self.entry changes.now) }
+    {
+        let rows = rows_after(alloc, &self, changes.rows())?;
+        Ok(with_rows(self, rows)?)
+    }
+}
+
+impl<'s, A: Allocator> Lookup<A> for Draft<'s, A> {
+    ghost use Rattle.std.specs.Prelude.{List};
+    ghost use Rattle.osm_elements.specs.declared.element.Element.{Element};
+    ghost use Rattle.osm_elements.specs.declared.name.Name.{Name};
+
+    ghost rows = { λ d. d };
+
+    fn element(&self, name: &Name) -> Option<&Element<A>> {
+        self.get(name)
+    }
+}
+
+// The draft with each of these rows, in their order.
+fn with_rows<'s, A: Allocator + Clone>(
+    draft: Draft<'s, A>,
+    rows: Vec<RowAfter<A>, A>,
+) -> Result<Draft<'s, A>, Memory>
+    ensures { IfOk result (λ d. d ≡ fold (λ n r. with_row n r.name r.element) draft.entry rows.items) }
+{
+    let mut draft = draft;
+    for row in rows {
+        draft = draft.with(row.name, row.element)?;
+    }
+    Ok(draft)
+}
+
+// The first of some names that was not written.
+fn first_unwritten<A: Allocator>(names: &[Name], written: &BTreeSet<Name, A>) -> Option<Name>
+    ensures { result ≡ find (λ name. not (is_among written.now.keys name)) names.now }
+{
+    names
+        .iter()
+        .find(|name| !is_written(written, *name))
+        .copied()
+}
+
+// Gives a name this row, or takes its row out.
+fn put<A: Allocator + Clone>(
+    rows: &mut OsmMap<A>,
+    name: Name,
+    element: Option<Element<A>>,
+) -> Result<(), Memory>
+    ensures ok { OnOk result (rows.new ≡ with_row rows.old name element) }
+    ensures order { AreInOrder rows.old }
+{
+    let _ = rows.len();
+    match element {
+        Some(element) => match rows.put(name, element) {
+            Ok(_) => Ok(()),
+            Err((_, memory)) => Err(memory),
+        },
+        None => {
+            let _ = rows.take_out(&name);
+            Ok(())
+        }
+    }
+}
+
+// Whether a name was written.
+fn is_written<A: Allocator>(written: &BTreeSet<Name, A>, name: &Name) -> bool
+    ensures { result ≡ is_among written.now.keys name.now }
+{
+    written.contains(name)
+}
+
+// Puts those of some names behind others that were not written.
+fn push_all_unwritten<A: Allocator>(
+    names: &mut Vec<Name, A>,
+    users: &[Name],
+    written: &BTreeSet<Name, A>,
+) -> Result<(), Memory>
+    ensures { OnOk result (names.new.items ≡ names.old.items ++ flat_map (unwritten written.now.keys) users.now) }
+{
+    for user in users {
+        push_unwritten(names, user, written)?;
+    }
+    Ok(())
+}
+
+// Puts a name behind others, if it was not written.
+fn push_unwritten<A: Allocator>(
+    names: &mut Vec<Name, A>,
+    user: &Name,
+    written: &BTreeSet<Name, A>,
+) -> Result<(), Memory>
+    ensures { OnOk result (names.new.items ≡ names.old.items ++ unwritten written.now.keys user.now) }
+{
+    if !is_written(written, user) {
+        names.push(*user)?;
+    }
+    Ok(())
+}
