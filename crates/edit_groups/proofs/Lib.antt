@@ -1,0 +1,4 @@
+pub mod Covering
+pub mod ExampleProofs
+pub mod Planned
+pub mod Turns

@@ -1,0 +1,144 @@
+-- A group that is planned action by action: what is so after the first of its actions.
+use Rattle.std.proofs.Common.{◌≡◌, ◌+◌, ◌<◌, ℕ, Bool, true, false, List, [], ◌∷◌, ◌++◌, Option, Some, None, Result, Ok, Err, IfOk, IfErr, OnOk, ◌⊎◌, inl, inr, ◌≤◌, suc, refl, sym, ap, subst, ◌∙◌, length, take, drop, get_or, map, arith, Fits, w32, ◌&&◌, append-nil, append_assoc}
+use Rattle.std.proofs.lemmas.Bool.{or_parts, and_parts}
+use Rattle.std.proofs.lemmas.Bool.Decides.{nat_tests}
+use Rattle.std.proofs.lemmas.List.{take_more, take-append-drop, length-take-le}
+use Rattle.osm_elements.specs.declared.name.Name.{Name}
+use Rattle.osm_elements.specs.Maps.{Rows, is_among, name_set}
+use Rattle.osm_elements.specs.Rows.{row_at}
+use Rattle.osm_elements.specs.Facts.Among.{is_among-append, is_among-name_set}
+use Rattle.osm_changes.specs.declared.cell.Cell.{Cell}
+use Rattle.osm_changes.specs.declared.change.Change.{Change}
+use Rattle.osm_changes.specs.Cells.{cell_set}
+use Rattle.osm_changes.specs.Changes.{changed, changed_names, differences}
+use Rattle.osm_changes.specs.Facts.Changing.{kept}
+use Rattle.osm_changes.specs.Sound.{is_sound}
+use Rattle.edit_simple.specs.declared.refusal.Refusal.{Refusal}
+use Rattle.edit_simple.specs.declared.refusal.Refusal.TheVariants.{Memory}
+use Rattle.edit_simple.specs.Facts.Lists.{drop_at}
+use Rattle.edit_actions.specs.declared.action.Action.{Action}
+use Rattle.edit_actions.specs.After.{after, changes}
+use Rattle.edit_actions.specs.Facts.Accepted.{accepted_keeps_sound, changes_lead}
+use Rattle.edit_actions.specs.MadeActions.{is_made_action}
+use Rattle.edit_actions.specs.Refusals.{refusal}
+use Rattle.edit_footprint.specs.Footprints.{footprint}
+use Rattle.edit_groups.specs.Facts.InTurn.{none_refused}
+use Rattle.edit_groups.specs.declared.edit.Edit.TheVariants.{Group}
+use Rattle.edit_groups.specs.declared.refusal.EditRefusal.{EditRefusal}
+use Rattle.edit_groups.specs.Groups.{is_group_length, after_all, alone, at_position, refused_at, first_refused, group_changes, group_refusal, nothing_changed, refused_or, touched, are_made}
+use Rattle.edit_groups.specs.Plans.{IsEditPlan}
+
+-- a position in a group fits into 32 bits
+pub position_fits : (position i n : ℕ) → position ≡ i → i < n → is_group_length n ≡ true → Fits w32 (position + 1)
+position_fits position i n at l h = grind (arith, nat_tests)
+
+module _ {A : Type 0} where
+  after_all-append : (m : Rows A) (xs ys : List (Action A)) → after_all m (xs ++ ys) ≡ after_all (after_all m xs) ys
+  after_all-append m [] ys = refl
+  after_all-append m (x ∷ xs) ys = after_all-append (after m x) xs ys
+
+  touched-one : (m : Rows A) (xs : List (Action A)) (a : Action A) → touched m (xs ++ a ∷ []) ≡ touched m xs ++ footprint (after_all m xs) a
+  touched-one m [] a = append-nil (footprint m a)
+  touched-one m (x ∷ xs) a =
+      ap (λ l. footprint m x ++ l) (touched-one (after m x) xs a)
+      ∙ sym (append_assoc (footprint m x) (touched (after m x) xs) (footprint (after_all (after m x) xs) a))
+
+  are_made-one : (xs : List (Action A)) (a : Action A) → are_made xs ≡ true → is_made_action a ≡ true → are_made (xs ++ a ∷ []) ≡ true
+  are_made-one [] a made h = ap (λ b. b && true) h
+  are_made-one (x ∷ xs) a made h =
+      let both = and_parts (is_made_action x) (are_made xs) made in
+      (λ i. both.0 i && are_made-one xs a both.1 h i)
+
+  -- where no action of some is refused, what comes of more is what comes of the next
+  next_refused : (m : Rows A) (k : ℕ) (xs : List (Action A)) (a : Action A) (rest : List (Action A)) → first_refused m k xs ≡ None
+      → first_refused m k (xs ++ a ∷ rest) ≡ refused_at (k + length xs) (refusal (after_all m xs) a) (first_refused (after (after_all m xs) a) (k + length xs + 1) rest)
+  next_refused m k [] a rest none = ap (λ j. refused_at j (refusal m a) (first_refused (after m a) (j + 1) rest)) zero_more
+    where
+      zero_more : k ≡ k + 0
+      zero_more = omega arith
+  next_refused m k (x ∷ xs) a rest none =
+      let both = none_refused k (refusal m x) (first_refused (after m x) (k + 1) xs) none in
+      ap (λ o. refused_at k o (first_refused (after m x) (k + 1) (xs ++ a ∷ rest))) both.0
+      ∙ next_refused (after m x) (k + 1) xs a rest both.1
+      ∙ ap (λ j. refused_at j (refusal (after_all (after m x) xs) a) (first_refused (after (after_all (after m x) xs) a) (j + 1) rest)) one_more
+    where
+      one_more : k + 1 + length xs ≡ k + suc (length xs)
+      one_more = omega arith
+
+  -- the actions up to one more are made
+  pub are_made_next : (g : List (Action A)) (i : ℕ) (a : Action A) → i < length g → a ≡ get_or g i a → are_made (take i g) ≡ true → is_made_action a ≡ true → are_made (take (i + 1) g) ≡ true
+  are_made_next g i a l is made own = ap are_made (take_more g i a l ∙ ap (λ y. take i g ++ y ∷ []) (sym is)) ∙ are_made-one (take i g) a made own
+
+  pub record IsAfter (m : Rows A) (done : List (Action A)) (draft : Rows A) (names : List Name) (cells : List Cell) : Type 0 where
+    pub rows : draft ≡ after_all m done
+    pub sound : is_sound draft ≡ true
+    pub made : are_made done ≡ true
+    pub accepted : first_refused m 0 done ≡ None
+    pub touched_are : cells ≡ touched m done
+    pub rest : (y : Name) → is_among names y ≡ false → row_at draft y ≡ row_at m y
+
+  -- before the first action
+  pub none_yet : (m draft : Rows A) (names : List Name) (cells : List Cell) → is_sound m ≡ true → draft ≡ m → names ≡ [] → cells ≡ [] → IsAfter m [] draft names cells
+  none_yet m draft names cells sound rows none no_cells = record {
+    rows = rows;
+    sound = ap is_sound rows ∙ sound;
+    made = refl;
+    accepted = refl;
+    touched_are = no_cells;
+    rest = λ y out. ap (λ n. row_at n y) rows;
+  }
+
+  -- after all actions: what a group is planned to change and to touch
+  pub group_planned : (m : Rows A) (g : List (Action A)) (draft : Rows A) (names : List Name) (cells : List Cell) → IsAfter m g draft names cells → (cs : List (Change A)) → cs ≡ differences m draft
+      → (r : Result (List (Change A) × List Cell) (EditRefusal A)) → IfOk r (λ p. p.0 ≡ cs) → IfOk r (λ p. p.1 ≡ cell_set cells) → OnOk r (nothing_changed cs ≡ None) → IfErr r (λ why. nothing_changed cs ≡ Some why)
+      → IsEditPlan m (Group g) r
+  group_planned m g draft names cells all cs is (Ok p) changes_are cells_are some none =
+      ((λ i. refused_or (all.accepted i) (nothing_changed (sym (is ∙ ap (differences m) all.rows) i))) ∙ some, changes_are ∙ is ∙ ap (differences m) all.rows, cells_are ∙ ap cell_set all.touched_are)
+  group_planned m g draft names cells all cs is (Err why) changes_are cells_are some none =
+      inl ((λ i. refused_or (all.accepted i) (nothing_changed (sym (is ∙ ap (differences m) all.rows) i))) ∙ none)
+
+  module _ (m : Rows A) (g : List (Action A)) (i : ℕ) (a : Action A) (l : i < length g) (is : a ≡ get_or g i a) (draft : Rows A) (names : List Name) (cells : List Cell)
+      (so_far : IsAfter m (take i g) draft names cells) (made : is_made_action a ≡ true) where
+    one_more : take (i + 1) g ≡ take i g ++ a ∷ []
+    one_more = take_more g i a l ∙ ap (λ y. take i g ++ y ∷ []) (sym is)
+
+    -- after one more action, which is accepted
+    pub then_after : (after_it : Rows A) (more : List Name) (touched_too : List Cell) → refusal draft a ≡ None → after_it ≡ after draft a
+        → more ≡ names ++ map (λ c. c.name) (changes draft a) → touched_too ≡ cells ++ footprint draft a
+        → IsAfter m (take (i + 1) g) after_it more touched_too
+    then_after after_it more touched_too ok is_after more_is touched_is = subst (λ xs. IsAfter m xs after_it more touched_too) (sym one_more) (record {
+      rows = is_after ∙ ap (λ n. after n a) so_far.rows ∙ sym (after_all-append m (take i g) (a ∷ []));
+      sound = ap is_sound is_after ∙ (accepted_keeps_sound draft a so_far.sound made ok).0;
+      made = are_made-one (take i g) a so_far.made made;
+      accepted = next_refused m 0 (take i g) a [] so_far.accepted ∙ ap (λ o. refused_at (0 + length (take i g)) o None) (ap (λ n. refusal n a) (sym so_far.rows) ∙ ok);
+      touched_are = touched_is ∙ (λ j. so_far.touched_are j ++ footprint (so_far.rows j) a) ∙ sym (touched-one m (take i g) a);
+      rest = λ y out. ap (λ n. row_at n y) is_after ∙ unchanged y (or_parts (is_among names y) (is_among (map (λ c. c.name) (changes draft a)) y) (sym (is_among-append y names (map (λ c. c.name) (changes draft a))) ∙ sym (ap (λ xs. is_among xs y) more_is) ∙ out));
+    })
+      where
+        unchanged : (y : Name) → (is_among names y ≡ false) × (is_among (map (λ c. c.name) (changes draft a)) y ≡ false) → row_at (after draft a) y ≡ row_at m y
+        unchanged y out =
+            ap (λ n. row_at n y) (sym (changes_lead draft a so_far.sound made ok))
+            ∙ kept draft (changes draft a) y (is_among-name_set y (map (λ c. c.name) (changes draft a)) ∙ out.1)
+            ∙ so_far.rest y out.0
+
+    -- the action is the first that is refused
+    pub then_refused : (why : Refusal A) → refusal draft a ≡ Some why → first_refused m 0 g ≡ Some (at_position i why)
+    then_refused why told =
+        ap (first_refused m 0) whole
+        ∙ next_refused m 0 (take i g) a (drop (i + 1) g) so_far.accepted
+        ∙ ap (λ o. refused_at (0 + length (take i g)) o (first_refused (after (after_all m (take i g)) a) (0 + length (take i g) + 1) (drop (i + 1) g))) (ap (λ n. refusal n a) (sym so_far.rows) ∙ told)
+        ∙ ap (λ k. Some (at_position k why)) (let n = length-take-le i g (le_of_lt l) in omega (arith, n))
+      where
+        le_of_lt : i < length g → i ≤ length g
+        le_of_lt h = omega (arith, h)
+
+        whole : g ≡ take i g ++ a ∷ drop (i + 1) g
+        whole = sym (take-append-drop i g) ∙ ap (λ r. take i g ++ r) (drop_at g i a l is)
+
+    -- the group's refusal, or out of memory
+    pub group_refused : (why : Refusal A) (r : EditRefusal A) (position : ℕ) → position ≡ i → ((refusal draft a ≡ Some why) ⊎ (why ≡ Memory)) → (why ≡ Memory → r ≡ alone Memory)
+        → ((r ≡ alone Memory) ⊎ (r ≡ at_position position why)) → (group_refusal m g ≡ Some r) ⊎ (r ≡ alone Memory)
+    group_refused why r position at (inr out) memory told = inr (memory out)
+    group_refused why r position at (inl refused) memory (inl e) = inr e
+    group_refused why r position at (inl refused) memory (inr e) =
+        inl (ap (λ o. refused_or o (nothing_changed (group_changes m g))) (then_refused why refused) ∙ ap (λ k. Some (at_position k why)) (sym at) ∙ ap Some (sym e))

@@ -1,0 +1,45 @@
+-- What is said of actions, said of edits: one action, or a group. (Groups are this project's.)
+use Rattle.std.specs.Prelude.{Bool, List, Option, Some, None}
+use Rattle.osm_elements.specs.Maps.{Rows}
+use Rattle.osm_changes.specs.declared.cell.Cell.{Cell}
+use Rattle.osm_changes.specs.declared.change.Change.{Change}
+use Rattle.osm_changes.specs.Cells.{cell_set}
+use Rattle.osm_changes.specs.Changes.{differences}
+use Rattle.edit_simple.specs.declared.refusal.Refusal.{Refusal}
+use Rattle.edit_actions.specs.After as actions
+use Rattle.edit_actions.specs.MadeActions.{is_made_action}
+use Rattle.edit_actions.specs.Refusals as of_actions
+use Rattle.edit_footprint.specs.Footprints as cells_of
+use Rattle.edit_groups.specs.declared.edit.Edit.{Edit}
+use Rattle.edit_groups.specs.declared.edit.Edit.TheVariants.{One, Group}
+use Rattle.edit_groups.specs.declared.refusal.EditRefusal.{EditRefusal}
+use Rattle.edit_groups.specs.Groups.{after_all, alone, group_refusal, touched, are_made}
+
+module _ {A : Type 0} where
+  abbrev pub after : Rows A → Edit A → Rows A
+  after m (One a) = actions.after m a
+  after m (Group g) = after_all m g
+
+  -- the changes of an edit
+  abbrev pub changes : Rows A → Edit A → List (Change A)
+  changes m e = differences m (after m e)
+
+  -- the refusal of one action, which has no position
+  abbrev pub refused_alone : Option (Refusal A) → Option (EditRefusal A)
+  refused_alone None = None
+  refused_alone (Some why) = Some (alone why)
+
+  -- why an edit is refused, with the position of the action in a group; or none: it is accepted
+  abbrev pub refusal : Rows A → Edit A → Option (EditRefusal A)
+  refusal m (One a) = refused_alone (of_actions.refusal m a)
+  refusal m (Group g) = group_refusal m g
+
+  -- the footprint of an edit on a map: of a group the cells that its actions touch, each where it comes
+  abbrev pub footprint : Rows A → Edit A → List Cell
+  footprint m (One a) = cells_of.footprint m a
+  footprint m (Group g) = cell_set (touched m g)
+
+  -- an edit's own values are as their types keep them
+  abbrev pub is_made_edit : Edit A → Bool
+  is_made_edit (One a) = is_made_action a
+  is_made_edit (Group g) = are_made g

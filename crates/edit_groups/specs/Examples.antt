@@ -1,0 +1,60 @@
+-- What was worked out by hand of groups. The start has the ways w1 of n-1 and n-2, and w2 of n-1, n-3 and n-2, and the
+-- relation r1 of n-1, w2, w1 and w2.
+use Rattle.std.specs.Prelude.{◌≡◌, ◌++◌, [], ◌∷◌, List, Option, Some, None, pos, negsuc}
+use Rattle.osm_elements.specs.Maps.{Rows}
+use Rattle.osm_elements.specs.Rows.{put_row}
+use Rattle.osm_changes.specs.Cells.{tags_at, rest_at, both_at}
+use Rattle.osm_changes.specs.Changes.{changed_cells}
+use Rattle.edit_actions.specs.declared.action.Action.{Action}
+use Rattle.edit_actions.specs.declared.action.Action.TheVariants.{Create, Retag, Move, Nodes, Delete}
+use Rattle.edit_simple.specs.declared.refusal.Refusal.TheVariants.{Absent, InUse, Nothing}
+use Rattle.edit_simple.specs.Scenes.{Any, n-1, n-2, n-7, n5, w1, w3, r1, node_at, way_of, outer, x, start}
+use Rattle.edit_groups.specs.declared.edit.Edit.{Edit}
+use Rattle.edit_groups.specs.declared.edit.Edit.TheVariants.{Group}
+use Rattle.edit_groups.specs.Edits.{after, changes, refusal, footprint}
+use Rattle.edit_groups.specs.Groups.{at_position, alone}
+
+-- a way is drawn: two nodes, and the way of them
+abbrev pub drawing : Edit Any
+drawing = Group (Create n5 (node_at 5) ∷ Create n-7 (node_at 7) ∷ Create w3 (way_of (n5 ∷ n-7 ∷ [])) ∷ [])
+
+unfoldable pub drawn : Type 0
+drawn =
+    (refusal start drawing ≡ None)
+    × (footprint start drawing ≡ both_at n-7 ++ both_at n5 ++ both_at w3)
+    × (changed_cells (changes start drawing) ≡ both_at n-7 ++ both_at n5 ++ both_at w3)
+
+-- the first action that is refused is told with its position, also one that its group alone lets fail
+unfoldable pub second_refused : Type 0
+second_refused =
+    (refusal start (Group (Create n5 (node_at 5) ∷ Delete n-1 ∷ Delete n-7 ∷ [])) ≡ Some (at_position 1 (InUse n-1 w1)))
+    × (refusal start (Group (Create n5 (node_at 5) ∷ Nodes w1 (n-1 ∷ n5 ∷ []) ∷ Delete n5 ∷ [])) ≡ Some (at_position 2 (InUse n5 w1)))
+
+-- what a group makes and takes back is nothing; of no actions too
+unfoldable pub there_and_back : Type 0
+there_and_back =
+    (refusal start (Group (Create n5 (node_at 5) ∷ Delete n5 ∷ [])) ≡ Some (alone Nothing))
+    × (refusal start (Group []) ≡ Some (alone Nothing))
+
+-- w1 is laid to n5 and back, and r1 gets a tag
+abbrev pub detour : Edit Any
+detour = Group (Nodes w1 (n-1 ∷ n5 ∷ []) ∷ Nodes w1 (n-1 ∷ n-2 ∷ []) ∷ Retag r1 ((x, Some outer) ∷ []) ∷ [])
+
+-- the cells that a group changes are fewer than those that it looks at: beside the subjects this one has the rest of n5
+-- and of n-2, which its actions begin and cease to name, and it is refused where n5 is not there
+unfoldable pub looked_at : Type 0
+looked_at =
+    (changed_cells (changes (put_row start n5 (node_at 5)) detour) ≡ tags_at r1 ∷ [])
+    × (footprint (put_row start n5 (node_at 5)) detour ≡ rest_at n-2 ∷ rest_at n5 ∷ rest_at w1 ∷ tags_at r1 ∷ [])
+    × (refusal (put_row start n5 (node_at 5)) detour ≡ None)
+    × (refusal start detour ≡ Some (at_position 0 (Absent n5)))
+
+-- moves w1 to the north and back, and gives r1 a tag
+abbrev pub swing : Edit Any
+swing = Group (Move (w1 ∷ []) (pos 10) (pos 0) ∷ Move (w1 ∷ []) (negsuc 9) (pos 0) ∷ Retag r1 ((x, Some outer) ∷ []) ∷ [])
+
+-- what is moved there and back is looked at too, also the nodes of a way
+unfoldable pub moved_back : Type 0
+moved_back =
+    (changed_cells (changes start swing) ≡ tags_at r1 ∷ [])
+    × (footprint start swing ≡ rest_at n-2 ∷ rest_at n-1 ∷ rest_at w1 ∷ tags_at r1 ∷ [])

@@ -1,0 +1,127 @@
+-- Actions in turn: the map after stays in order and sound, what no action touches stays, and maps that agree at what
+-- all of them touch agree after each.
+use Rattle.std.proofs.Common.{◌≡◌, ◌&&◌, ◌||◌, ◌+◌, ℕ, Bool, true, false, List, [], ◌∷◌, ◌++◌, Option, Some, None, refl, sym, ap, ◌∙◌}
+use Rattle.std.proofs.lemmas.Bool.{or_parts, and_parts}
+use Rattle.osm_elements.specs.declared.name.Name.{Name}
+use Rattle.osm_elements.specs.Maps.{Rows, is_among}
+use Rattle.osm_elements.specs.Rows.{AreInOrder, row_at}
+use Rattle.osm_refs.specs.References.{row_references, refers_to, users}
+use Rattle.osm_refs.specs.Facts.RisingNames.{same_rising}
+use Rattle.osm_changes.specs.declared.cell.Cell.{Cell}
+use Rattle.osm_changes.specs.Cells.{rest_at, half_at, has}
+use Rattle.osm_changes.specs.Facts.Cells.{has-append}
+use Rattle.osm_changes.specs.Facts.SoundRows.{sound_in_order}
+use Rattle.osm_changes.specs.Sound.{is_sound}
+use Rattle.edit_simple.specs.declared.refusal.Refusal.{Refusal}
+use Rattle.osm_changes.specs.Facts.PassingRows.{rising_names}
+use Rattle.edit_actions.specs.declared.action.Action.{Action}
+use Rattle.edit_actions.specs.After.{after}
+use Rattle.edit_actions.specs.Facts.Accepted.{AreInOrder-after, accepted_keeps_sound}
+use Rattle.edit_actions.specs.MadeActions.{is_made_action}
+use Rattle.edit_actions.specs.Refusals.{refusal}
+use Rattle.edit_footprint.specs.Agreement.{Agree}
+use Rattle.edit_footprint.specs.Footprints.{footprint}
+use Rattle.edit_footprint.specs.Locality.{AcceptedAlike}
+use Rattle.edit_footprint.specs.Facts.Differences.{same_after}
+use Rattle.edit_footprint.specs.Facts.Footprints.{halves_outside, namers_outside}
+use Rattle.edit_footprint.specs.Facts.Halves.{same_references}
+use Rattle.edit_footprint.specs.Facts.Leaving.{is_among-users}
+use Rattle.edit_footprint.specs.Facts.Locality.{locality}
+use Rattle.edit_groups.specs.declared.refusal.EditRefusal.{EditRefusal}
+use Rattle.edit_groups.specs.Groups.{after_all, refused_at, first_refused, touched, are_made}
+
+-- what is in one of two lists is in both together
+pub in_first : (c : Cell) (one two : List Cell) → has one c ≡ true → has (one ++ two) c ≡ true
+in_first c one two i = has-append c one two ∙ ap (λ b. b || has two c) i
+
+pub in_second : (c : Cell) (one two : List Cell) → has two c ≡ true → has (one ++ two) c ≡ true
+in_second c one two i = has-append c one two ∙ ap (λ b. has one c || b) i ∙ always (has one c)
+  where
+    always : (b : Bool) → (b || true) ≡ true
+    always true = refl
+    always false = refl
+
+module _ {A : Type 0} where
+  -- a name that the same rows name has the same users
+  pub same_users : (m n : Rows A) → AreInOrder m → AreInOrder n → (e : Name) → ((y : Name) → is_among (row_references (row_at m y)) e ≡ is_among (row_references (row_at n y)) e) → users m e ≡ users n e
+  same_users m n g h e is =
+      same_rising (users m e) (users n e) (rising_names (λ r. refers_to r.1 e) m g) (rising_names (λ r. refers_to r.1 e) n h)
+      (λ y. is_among-users m g e y ∙ is y ∙ sym (is_among-users n h e y))
+
+  pub AreInOrder-after_all : (m : Rows A) (g : List (Action A)) → AreInOrder m → AreInOrder (after_all m g)
+  AreInOrder-after_all m [] h = h
+  AreInOrder-after_all m (a ∷ rest) h = AreInOrder-after_all (after m a) rest (AreInOrder-after m a h)
+
+  -- where no action of some is refused, neither is the first, nor one of the others
+  pub none_refused : (k : ℕ) (o : Option (Refusal A)) (later : Option (EditRefusal A)) → refused_at k o later ≡ None → (o ≡ None) × (later ≡ None)
+  none_refused k None later h = (refl, h)
+  none_refused k (Some why) later h = absurd (cc)
+
+  pub sound_after_all : (m : Rows A) (k : ℕ) (g : List (Action A)) → is_sound m ≡ true → are_made g ≡ true → first_refused m k g ≡ None → is_sound (after_all m g) ≡ true
+  sound_after_all m k [] sound made ok = sound
+  sound_after_all m k (a ∷ rest) sound made ok =
+      let own = and_parts (is_made_action a) (are_made rest) made in
+      let none = none_refused k (refusal m a) (first_refused (after m a) (k + 1) rest) ok in
+      sound_after_all (after m a) (k + 1) rest (accepted_keeps_sound m a sound own.0 none.0).0 own.1 none.1
+
+  -- what no action touches stays, the half of a cell and the users of a name whose rest it is
+  pub half_untouched : (m : Rows A) (g : List (Action A)) (c : Cell) → has (touched m g) c ≡ false → half_at (after_all m g) c ≡ half_at m c
+  half_untouched m [] c out = refl
+  half_untouched m (a ∷ rest) c out =
+      let both = or_parts _ _ (sym (has-append c (footprint m a) (touched (after m a) rest)) ∙ out) in
+      half_untouched (after m a) rest c both.1 ∙ halves_outside m a c both.0
+
+  pub users_untouched : (m : Rows A) (g : List (Action A)) → AreInOrder m → (e : Name) → has (touched m g) (rest_at e) ≡ false → users (after_all m g) e ≡ users m e
+  users_untouched m [] order e out = refl
+  users_untouched m (a ∷ rest) order e out =
+      let both = or_parts _ _ (sym (has-append (rest_at e) (footprint m a) (touched (after m a) rest)) ∙ out) in
+      users_untouched (after m a) rest (AreInOrder-after m a order) e both.1
+      ∙ same_users (after m a) m (AreInOrder-after m a order) order e (namers_outside m a e both.0)
+
+  -- two maps that agree at some cells, those of an action's footprint among them, agree there after it too
+  pub agree_after : (m n : Rows A) (a : Action A) (cells : List Cell) → AreInOrder m → AreInOrder n
+      → ((c : Cell) → has (footprint m a) c ≡ true → has cells c ≡ true) → Agree m n cells → AcceptedAlike m n a → Agree (after m a) (after n a) cells
+  agree_after m n a cells order order_n inside agree alike = record {
+    same_half = same_half;
+    same_users = λ e i. same_users (after m a) (after n a) (AreInOrder-after m a order) (AreInOrder-after n a order_n) e (λ y. namers e i y (has (footprint m a) (rest_at y)) refl);
+  }
+    where
+      same_half : (c : Cell) → has cells c ≡ true → half_at (after m a) c ≡ half_at (after n a) c
+      same_half c i = sym (same_after m (after m a) n (after n a) c alike.same_changes (sym (agree.same_half c i)))
+
+      namers : (e : Name) → has cells (rest_at e) ≡ true → (y : Name) (b : Bool) → has (footprint m a) (rest_at y) ≡ b
+          → is_among (row_references (row_at (after m a) y)) e ≡ is_among (row_references (row_at (after n a) y)) e
+      namers e i y true own = ap (λ l. is_among l e) (same_references (row_at (after m a) y) (row_at (after n a) y) (same_half (rest_at y) (inside (rest_at y) own)))
+      namers e i y false out =
+          ap (λ l. is_among l e) (same_references (row_at (after m a) y) (row_at m y) (halves_outside m a (rest_at y) out))
+          ∙ sym (is_among-users m order e y) ∙ ap (λ l. is_among l y) (agree.same_users e i) ∙ is_among-users n order_n e y
+          ∙ ap (λ l. is_among l e) (sym (same_references (row_at (after n a) y) (row_at n y) (halves_outside n a (rest_at y) (ap (λ l. has l (rest_at y)) alike.same_footprint ∙ out))))
+
+  -- a map that agrees at cells agrees at fewer
+  pub agree_at_fewer : (m n : Rows A) (cells fewer : List Cell) → ((c : Cell) → has fewer c ≡ true → has cells c ≡ true) → Agree m n cells → Agree m n fewer
+  agree_at_fewer m n cells fewer inside agree = record { same_half = λ c i. agree.same_half c (inside c i); same_users = λ e i. agree.same_users e (inside (rest_at e) i) }
+
+  -- actions in turn that are accepted in one map are so in another that agrees at what they touch; they touch the same
+  -- there, and the maps after them agree too
+  pub record InTurnAlike (m n : Rows A) (k : ℕ) (g : List (Action A)) (cells : List Cell) : Type 0 where
+    pub none_refused : first_refused n k g ≡ None
+    pub same_touched : touched n g ≡ touched m g
+    pub agree : Agree (after_all m g) (after_all n g) cells
+
+  pub in_turn_alike : (m n : Rows A) (k : ℕ) (g : List (Action A)) (cells : List Cell) → is_sound m ≡ true → is_sound n ≡ true → are_made g ≡ true → first_refused m k g ≡ None
+      → ((c : Cell) → has (touched m g) c ≡ true → has cells c ≡ true) → Agree m n cells → InTurnAlike m n k g cells
+  in_turn_alike m n k [] cells sound sound_n made ok inside agree = record { none_refused = refl; same_touched = refl; agree = agree }
+  in_turn_alike m n k (a ∷ rest) cells sound sound_n made ok inside agree =
+      let own = and_parts (is_made_action a) (are_made rest) made in
+      let none = none_refused k (refusal m a) (first_refused (after m a) (k + 1) rest) ok in
+      let first_inside : ((c : Cell) → has (footprint m a) c ≡ true → has cells c ≡ true) = λ c i. inside c (in_first c (footprint m a) (touched (after m a) rest) i) in
+      let alike = locality m n a sound sound_n none.0 (agree_at_fewer m n cells (footprint m a) first_inside agree) in
+      let later =
+      in_turn_alike (after m a) (after n a) (k + 1) rest cells (accepted_keeps_sound m a sound own.0 none.0).0 (accepted_keeps_sound n a sound_n own.0 alike.accepted).0 own.1 none.1
+      (λ c i. inside c (in_second c (footprint m a) (touched (after m a) rest) i))
+      (agree_after m n a cells (sound_in_order m sound) (sound_in_order n sound_n) first_inside agree alike) in
+      record {
+        none_refused = (λ i. refused_at k (alike.accepted i) (first_refused (after n a) (k + 1) rest)) ∙ later.none_refused;
+        same_touched = λ i. alike.same_footprint i ++ later.same_touched i;
+        agree = later.agree;
+      }

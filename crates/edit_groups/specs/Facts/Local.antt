@@ -1,0 +1,112 @@
+-- An edit stays within its footprint, keeps the map sound, and looks at its footprint alone.
+use Rattle.std.proofs.Common.{◌≡◌, ◌≢◌, ℕ, Bool, true, false, not, cond, List, [], ◌∷◌, ◌++◌, Option, Some, None, map, refl, sym, ap, ◌∙◌}
+use Rattle.std.specs.List.{filter}
+use Rattle.osm_elements.specs.declared.name.Name.{Name}
+use Rattle.osm_elements.specs.Maps.{Rows, name_set, names_of}
+use Rattle.osm_elements.specs.Rows.{AreInOrder}
+use Rattle.osm_changes.specs.declared.cell.Cell.{Cell}
+use Rattle.osm_changes.specs.declared.change.Change.{Change}
+use Rattle.osm_changes.specs.Cells.{cell_set, cells_of, rest_at, has, half_at, IsRising}
+use Rattle.osm_changes.specs.Changes.{changed, change_at, differences}
+use Rattle.osm_changes.specs.Facts.Cells.{has-cell_set, IsRising-cell_set}
+use Rattle.osm_changes.specs.Facts.Changing.{changed-differences}
+use Rattle.osm_changes.specs.Facts.Halves.{same_itself}
+use Rattle.osm_changes.specs.Halves.{are_same_halves}
+use Rattle.osm_changes.specs.Facts.SoundRows.{sound_in_order}
+use Rattle.osm_changes.specs.Sound.{is_sound}
+use Rattle.edit_simple.specs.declared.refusal.Refusal.{Refusal}
+use Rattle.edit_actions.specs.declared.action.Action.{Action}
+use Rattle.edit_actions.specs.Facts.Accepted as accepted
+use Rattle.edit_actions.specs.Refusals as of_actions
+use Rattle.edit_footprint.specs.Agreement.{Agree}
+use Rattle.edit_footprint.specs.Facts.Differences.{same_differences}
+use Rattle.edit_footprint.specs.Facts.Footprints as cells_of
+use Rattle.edit_footprint.specs.Facts.Leaving as leaving
+use Rattle.edit_footprint.specs.Facts.Locality as local
+use Rattle.edit_groups.specs.declared.edit.Edit.{Edit}
+use Rattle.edit_groups.specs.declared.edit.Edit.TheVariants.{One, Group}
+use Rattle.edit_groups.specs.Edits.{after, changes, refused_alone, refusal, footprint, is_made_edit}
+use Rattle.edit_groups.specs.declared.refusal.EditRefusal.{EditRefusal}
+use Rattle.edit_groups.specs.Groups.{after_all, first_refused, nothing_changed, refused_or, group_changes, group_refusal, touched, are_made}
+use Rattle.edit_groups.specs.Laws.{LeavesTheRest, AcceptedAlike}
+use Rattle.edit_groups.specs.Facts.InTurn.{AreInOrder-after_all, sound_after_all, half_untouched, users_untouched, agree_at_fewer, InTurnAlike, in_turn_alike}
+
+module _ {A : Type 0} where
+  -- a refusal of one action told as that of an edit
+  untold : (o : Option (Refusal A)) → refused_alone o ≡ None → o ≡ None
+  untold None h = refl
+  untold (Some why) h = absurd (cc)
+
+  both_none : (o later : Option (EditRefusal A)) → refused_or o later ≡ None → (o ≡ None) × (later ≡ None)
+  both_none None later h = (refl, h)
+  both_none (Some r) later h = absurd (cc)
+
+  some_changed : (cs : List (Change A)) → nothing_changed cs ≡ None → cs ≢ []
+  some_changed [] h e = cc
+  some_changed (c ∷ cs) h e = cc
+
+  pub AreInOrder-after : (m : Rows A) (a : Edit A) → AreInOrder m → AreInOrder (after m a)
+  AreInOrder-after m (One a) h = accepted.AreInOrder-after m a h
+  AreInOrder-after m (Group g) h = AreInOrder-after_all m g h
+
+  pub IsRising-footprint : (m : Rows A) (a : Edit A) → IsRising (footprint m a)
+  IsRising-footprint m (One a) = cells_of.IsRising-footprint_of a _
+  IsRising-footprint m (Group g) = IsRising-cell_set (touched m g)
+
+  -- the changes of an edit lead to the map after it
+  pub changes_lead : (m : Rows A) (a : Edit A) → is_sound m ≡ true → changed m (changes m a) ≡ after m a
+  changes_lead m a sound = let order = sound_in_order m sound in changed-differences m (after m a) order (AreInOrder-after m a order)
+
+  -- an accepted edit keeps the map sound
+  pub keeps_sound : (m : Rows A) (a : Edit A) → is_sound m ≡ true → is_made_edit a ≡ true → refusal m a ≡ None → is_sound (after m a) ≡ true
+  keeps_sound m (One a) sound made ok = (accepted.accepted_keeps_sound m a sound made (untold (of_actions.refusal m a) ok)).0
+  keeps_sound m (Group g) sound made ok = sound_after_all m 0 g sound made (both_none (first_refused m 0 g) (nothing_changed (group_changes m g)) ok).0
+
+  -- a map does not differ from itself
+  none_differ : (m : Rows A) (cells : List Cell) → filter (λ c. not (are_same_halves (half_at m c) (half_at m c))) cells ≡ []
+  none_differ m [] = refl
+  none_differ m (c ∷ cs) =
+      (λ i. cond (not (same_itself (half_at m c) i)) (c ∷ filter (λ d. not (are_same_halves (half_at m d) (half_at m d))) cs) (filter (λ d. not (are_same_halves (half_at m d) (half_at m d))) cs))
+      ∙ none_differ m cs
+
+  none_from_itself : (m : Rows A) → differences m m ≡ []
+  none_from_itself m = ap (map (change_at m m)) (none_differ m (cells_of (name_set (names_of m ++ names_of m))))
+
+  -- and leads to another one
+  pub another : (m : Rows A) (a : Edit A) → is_sound m ≡ true → is_made_edit a ≡ true → refusal m a ≡ None → after m a ≢ m
+  another m (One a) sound made ok e = (accepted.accepted_keeps_sound m a sound made (untold (of_actions.refusal m a) ok)).1 e
+  another m (Group g) sound made ok e =
+      some_changed (group_changes m g) (both_none (first_refused m 0 g) (nothing_changed (group_changes m g)) ok).1 (ap (differences m) e ∙ none_from_itself m)
+
+  pub leaves_the_rest : (m : Rows A) (a : Edit A) → is_sound m ≡ true → LeavesTheRest m a
+  leaves_the_rest m (One a) sound = let rest = leaving.leaves_the_rest m a sound in record { same_half = rest.same_half; same_users = rest.same_users }
+  leaves_the_rest m (Group g) sound = record {
+    same_half = λ c out. half_untouched m g c (sym (has-cell_set c (touched m g)) ∙ out);
+    same_users = λ e out. users_untouched m g (sound_in_order m sound) e (sym (has-cell_set (rest_at e) (touched m g)) ∙ out);
+  }
+
+  -- an edit looks at its footprint alone
+  pub locality : (m n : Rows A) (a : Edit A) → is_sound m ≡ true → is_sound n ≡ true → is_made_edit a ≡ true → refusal m a ≡ None → Agree m n (footprint m a) → AcceptedAlike m n a
+  locality m n (One a) sound sound_n made ok agree =
+      let alike = local.locality m n a sound sound_n (untold (of_actions.refusal m a) ok) agree in
+      record { accepted = ap refused_alone alike.accepted; same_changes = alike.same_changes; same_footprint = alike.same_footprint }
+  locality m n (Group g) sound sound_n made ok agree = record {
+    accepted = (λ i. refused_or (alike.none_refused i) (nothing_changed (same i))) ∙ none.1;
+    same_changes = same;
+    same_footprint = ap cell_set alike.same_touched;
+  }
+    where
+      none : (first_refused m 0 g ≡ None) × (nothing_changed (group_changes m g) ≡ None)
+      none = both_none (first_refused m 0 g) (nothing_changed (group_changes m g)) ok
+
+      all : Agree m n (touched m g)
+      all = agree_at_fewer m n (cell_set (touched m g)) (touched m g) (λ c i. has-cell_set c (touched m g) ∙ i) agree
+
+      alike : InTurnAlike m n 0 g (touched m g)
+      alike = in_turn_alike m n 0 g (touched m g) sound sound_n made none.0 (λ c i. i) all
+
+      same : group_changes n g ≡ group_changes m g
+      same = same_differences m (after_all m g) n (after_all n g) (touched m g)
+          (λ c i. (sym (all.same_half c i), sym (alike.agree.same_half c i)))
+          (half_untouched m g)
+          (λ c out. half_untouched n g c (ap (λ l. has l c) alike.same_touched ∙ out))

@@ -1,0 +1,55 @@
+//! The actions of a group.
+ghost use Rattle.std.specs.Prelude.{◌≡◌, true, length, IfSome};
+ghost use Rattle.std.specs.Option.{is_some};
+ghost use Rattle.edit_groups.specs.Groups.{is_group_length};
+
+use edit_actions::action::Action;
+use std::alloc::Allocator;
+use std::marker::Model;
+
+/// The most actions that a group has, a limit of this project.
+pub const MOST_ACTIONS: usize = 10000;
+
+/// One to [`MOST_ACTIONS`] actions, in their order.
+#[derive(Drop)]
+#[derive_where(Debug)]
+pub struct Actions<A: Allocator> {
+    actions: Vec<Action<A>, A>,
+}
+
+// Actions are modelled as the list of them.
+impl<A: Allocator> Model for Actions<A> {
+    ghost use Rattle.std.specs.Prelude.{◌≡◌, List, length, true};
+    ghost use Rattle.edit_actions.specs.declared.action.Action.{Action};
+    ghost use Rattle.edit_groups.specs.Groups.{is_group_length};
+
+    ghost Value = { List (Action A) };
+
+    ghost view = { λ g. g.actions.items };
+
+    ghost invariant = { λ g. is_group_length (length g.actions.items) ≡ true };
+}
+
+impl<A: Allocator> Actions<A> {
+    /// Returns the actions of a vector, in its order, or none if the vector has no action or more than
+    /// [`MOST_ACTIONS`]. It allocates nothing.
+    pub fn from_vec(actions: Vec<Action<A>, A>) -> Option<Actions<A>>
+        ensures some { IfSome result (λ g. g ≡ actions.items) }
+        ensures none { is_some result ≡ is_group_length (length actions.items) }
+    {
+        if 1 <= actions.len() && actions.len() <= MOST_ACTIONS {
+            Some(Actions { actions })
+        } else {
+            None
+        }
+    }
+
+    /// Returns the actions in their order.
+    pub fn as_slice(&self) -> &[Action<A>]
+        ensures actions { result.now ≡ self.now }
+        // What holds of every group.
+        ensures length { is_group_length (length self.now) ≡ true }
+    {
+        &self.actions
+    }
+}

@@ -1,0 +1,46 @@
+//! The changes between two maps.
+ghost use Rattle.std.specs.Prelude.{◌≡◌, false, IfOk};
+ghost use Rattle.std.specs.Option.{option_copied};
+ghost use Rattle.osm_elements.specs.Maps.{is_among};
+ghost use Rattle.osm_elements.specs.Rows.{row_at};
+ghost use Rattle.osm_refs.specs.Rising.{IsRising};
+ghost use Rattle.osm_changes.specs.Changes.{differences};
+
+use osm_changes::changes::Changes;
+use osm_changes::lookup::Lookup;
+use osm_elements::Memory;
+use osm_elements::element::Element;
+use osm_elements::name::Name;
+use std::alloc::Allocator;
+
+/// Returns the changes from one map to another, which has other rows at the given names at most; or `Memory`. The names
+/// rise. It costs two look-ups for each name, and a copy of its rows.
+pub fn changes_between<A: Allocator + Clone, M: Lookup<A>, N: Lookup<A>>(
+    alloc: A,
+    before: &M,
+    after: &N,
+    names: &[Name],
+) -> Result<Changes<A>, Memory>
+    requires rising { IsRising names.now }
+    requires rest { (y : Name) → is_among names.now y ≡ false
+        → row_at (N.rows after.now) y ≡ row_at (M.rows before.now) y }
+    ensures { IfOk result (λ cs. cs ≡ differences (M.rows before.now) (N.rows after.now)) }
+{
+    let mut changes = Changes::empty(alloc);
+    for name in names {
+        let old = copy_of(before.element(name))?;
+        let new = copy_of(after.element(name))?;
+        changes.push_row(*name, old, new)?;
+    }
+    Ok(changes)
+}
+
+// A copy of an element, if there is one.
+fn copy_of<A: Allocator + Clone>(element: Option<&Element<A>>) -> Result<Option<Element<A>>, Memory>
+    ensures { IfOk result (λ copy. copy ≡ option_copied element.entry) }
+{
+    match element {
+        Some(element) => Ok(Some(element.copy()?)),
+        None => Ok(None),
+    }
+}

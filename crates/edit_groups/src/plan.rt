@@ -1,0 +1,147 @@
+//! The plan of an edit: what it would change in a store, or why it is refused.
+ghost use Rattle.std.specs.Prelude.{◌≡◌, ◌⊎◌, true, Some, None, IfOk, IfErr, OnOk};
+ghost use Rattle.osm_changes.specs.Cells.{cell_set};
+ghost use Rattle.osm_changes.specs.Changes.{changed, AreFrom};
+ghost use Rattle.osm_changes.specs.Sound.{is_sound};
+ghost use Rattle.edit_simple.specs.declared.refusal.Refusal.TheVariants.{Memory as OutOfMemory};
+ghost use Rattle.edit_groups.specs.declared.edit.Edit.TheVariants.{One, Group};
+ghost use Rattle.edit_groups.specs.Edits.{is_made_edit};
+ghost use Rattle.edit_groups.specs.Groups.{alone, at_position, nothing_changed};
+ghost use Rattle.edit_groups.specs.Plans.{IsEditPlan};
+
+use crate::actions::Actions;
+use crate::differing::changes_between;
+use crate::edit::{Edit, keeps_values};
+use crate::refusal::EditRefusal;
+use crate::step::{planned, step};
+use edit_actions::action::Action;
+use edit_footprint::footprint::Footprint;
+use edit_simple::refusal::Refusal;
+use osm_changes::cell::Cell;
+use osm_changes::changes::Changes;
+use osm_changes::laws::differences_are_changes;
+use osm_changes::store::Store;
+use osm_drafts::draft::Draft;
+use std::alloc::Allocator;
+
+/// Plans an edit on a store, which does not change. Returns the changes to the map after all of the edit, and the cells
+/// that the edit touches. It costs what its actions cost, times a logarithm, and never the map.
+///
+/// # Errors
+///
+/// The first action that is refused on the map that the actions before it lead to, with its position in a group;
+/// `Nothing` if a group leads to the map that is there; `Memory`, in place of any answer, if an allocation failed.
+pub fn plan_edit<A: Allocator + Copy>(
+    alloc: A,
+    store: &Store<A>,
+    edit: &Edit<A>,
+) -> Result<(Changes<A>, Footprint<A>), EditRefusal<A>>
+    ensures plan { IsEditPlan store.now.rows edit.now result }
+    // The changes can be applied to the store.
+    ensures from { IfOk result (λ p. AreFrom store.now.rows p.0) }
+    ensures sound { IfOk result (λ p. is_sound (changed store.now.rows p.0) ≡ true) }
+    // What holds of every edit.
+    ensures made { is_made_edit edit.now ≡ true }
+{
+    differences_are_changes::<A>();
+    keeps_values(edit);
+    let _ = store.map();
+    planned_edit(alloc, store, edit)
+}
+
+// The plan, by the kind of the edit.
+fn planned_edit<A: Allocator + Copy>(
+    alloc: A,
+    store: &Store<A>,
+    edit: &Edit<A>,
+) -> Result<(Changes<A>, Footprint<A>), EditRefusal<A>>
+    ensures { IsEditPlan store.now.rows edit.now result }
+{
+    match edit {
+        Edit::One(action) => plan_one(alloc, store, action),
+        Edit::Group(actions) => plan_group(alloc, store, actions),
+    }
+}
+
+// The plan of one action.
+fn plan_one<A: Allocator + Copy>(
+    alloc: A,
+    store: &Store<A>,
+    action: &Action<A>,
+) -> Result<(Changes<A>, Footprint<A>), EditRefusal<A>>
+    ensures { IsEditPlan store.now.rows (One action.now) result }
+{
+    let _ = store.map();
+    let draft = Draft::of(alloc, store);
+    match planned(alloc, &draft, action) {
+        Ok(planned) => Ok(planned),
+        Err(why) => Err(EditRefusal { action: None, why }),
+    }
+}
+
+// The plan of a group.
+fn plan_group<A: Allocator + Copy>(
+    alloc: A,
+    store: &Store<A>,
+    group: &Actions<A>,
+) -> Result<(Changes<A>, Footprint<A>), EditRefusal<A>>
+    ensures { IsEditPlan store.now.rows (Group group.now) result }
+{
+    let map = store.map();
+    let mut draft = Draft::of(alloc, store);
+    let mut names = Vec::new(alloc);
+    let mut cells = Vec::new(alloc);
+    let mut position = 0;
+    for action in group.as_slice() {
+        match step(alloc, draft, &mut names, &mut cells, action) {
+            Ok(after) => draft = after,
+            Err(why) => return Err(refused_at(position, why)),
+        }
+        position += 1;
+    }
+    names.sort_unstable();
+    names.dedup();
+    match changes_between(alloc, map, &draft, &names) {
+        Ok(changes) => accepted(changes, cells),
+        Err(_) => Err(EditRefusal {
+            action: None,
+            why: Refusal::Memory,
+        }),
+    }
+}
+
+// The refusal of the action at a position. If an allocation failed, it has none.
+fn refused_at<A: Allocator>(position: u32, why: Refusal<A>) -> EditRefusal<A>
+    ensures memory { why ≡ OutOfMemory → result ≡ alone OutOfMemory }
+    ensures position { (result ≡ alone OutOfMemory) ⊎ (result ≡ at_position position why) }
+{
+    match why {
+        Refusal::Memory => EditRefusal {
+            action: None,
+            why: Refusal::Memory,
+        },
+        why => EditRefusal {
+            action: Some(position),
+            why,
+        },
+    }
+}
+
+// What a group without a refused action changes and touches; or `Nothing`, if it changes nothing.
+fn accepted<A: Allocator>(
+    changes: Changes<A>,
+    cells: Vec<Cell, A>,
+) -> Result<(Changes<A>, Footprint<A>), EditRefusal<A>>
+    ensures changes { IfOk result (λ p. p.0 ≡ changes) }
+    ensures footprint { IfOk result (λ p. p.1 ≡ cell_set cells.items) }
+    ensures some { OnOk result (nothing_changed changes ≡ None) }
+    ensures refused { IfErr result (λ r. nothing_changed changes ≡ Some r) }
+{
+    if changes.is_empty() {
+        return Err(EditRefusal {
+            action: None,
+            why: Refusal::Nothing,
+        });
+    }
+    Ok((changes, Footprint::of(cells)))
+}
