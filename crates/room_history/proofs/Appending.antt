@@ -8,9 +8,9 @@ use Rattle.osm_elements.specs.Rows.{AreInOrder}
 use Rattle.osm_changes.specs.Changes.{changed}
 use Rattle.osm_changes.specs.Stores.{counted}
 use Rattle.osm_changes.specs.Facts.Changing.{changed-differences}
-use Rattle.edit_actions.specs.declared.action.Action.{Action}
-use Rattle.edit_actions.specs.After.{after}
-use Rattle.edit_actions.specs.Facts.Accepted.{AreInOrder-after}
+use Rattle.edit_groups.specs.declared.edit.Edit.{Edit as Action}
+use Rattle.edit_groups.specs.Edits.{after}
+use Rattle.edit_groups.specs.Facts.Local.{AreInOrder-after}
 use Rattle.room_stacks.specs.declared.author.Author.{Author}
 use Rattle.room_stacks.specs.SameAuthors.{is_same_author}
 use Rattle.room_history.specs.declared.entry.Entry.{Entry}

@@ -13,9 +13,9 @@ use Rattle.osm_changes.specs.Changes.{inverse, changed}
 use Rattle.osm_changes.specs.Sound.{is_sound}
 use Rattle.osm_changes.specs.Facts.Changing.{changed-inverse}
 use Rattle.osm_changes.specs.Facts.SoundRows.{sound_in_order}
-use Rattle.edit_actions.specs.declared.action.Action.{Action}
-use Rattle.edit_actions.specs.After.{after, changes}
-use Rattle.edit_actions.specs.Facts.Accepted.{AreInOrder-after}
+use Rattle.edit_groups.specs.declared.edit.Edit.{Edit as Action}
+use Rattle.edit_groups.specs.Edits.{after, changes}
+use Rattle.edit_groups.specs.Facts.Local.{AreInOrder-after}
 use Rattle.room_history.specs.Holdings.{first_meeting}
 use Rattle.room_stacks.specs.declared.author.Author.{Author}
 use Rattle.room_stacks.specs.SameAuthors.{is_same_author}

@@ -7,7 +7,6 @@ use Rattle.osm_elements.specs.NameOrder.{name_cmp}
 use Rattle.osm_elements.specs.Maps.{Rows}
 use Rattle.osm_changes.specs.declared.cell.Cell.{Cell}
 use Rattle.osm_changes.specs.Cells.{IsRising}
-use Rattle.edit_footprint.specs.Facts.Footprints.{IsRising-footprint_of}
 use Rattle.edit_footprint.specs.Facts.Meeting.{apart, both_have, none_lesser}
 use Rattle.room_history.specs.Holdings.{first_meeting}
 use Rattle.room_history.specs.declared.entry.Entry.{Entry}
@@ -40,7 +39,7 @@ module _ {A : Type 0} (base : Rows A) (j : List (Entry A)) (s : ℕ) (stands : i
   pub rising : IsLed base j → IsRising (footprint_at s)
   rising led =
       let w = one_of (past base j).entries s (standing j) led.works led.recorded stands in
-      subst IsRising (ap footprint_of_recorded (sym w.1)) (IsRising-footprint_of w.0.action w.0.changes)
+      subst IsRising (ap footprint_of_recorded (sym w.1)) w.0.rises
 
   -- a blocker blocks, none before it does, and by no lesser name
   pub record IsFirst (b : ℕ) (e : Name) : Type 0 where

@@ -3,35 +3,45 @@ use Rattle.std.proofs.Common.{◌≡◌, ◌++◌, true, List, [], ◌∷◌, So
 use Rattle.osm_elements.specs.Maps.{Rows}
 use Rattle.osm_changes.specs.declared.cell.Cell.{Cell}
 use Rattle.osm_changes.specs.declared.change.Change.{Change}
+use Rattle.osm_changes.specs.Cells.{IsRising}
 use Rattle.osm_changes.specs.Changes.{changed, inverse}
 use Rattle.osm_changes.specs.Sound.{is_sound}
 use Rattle.osm_changes.specs.Facts.Changing.{changed-inverse}
 use Rattle.osm_changes.specs.Facts.SoundRows.{sound_in_order}
-use Rattle.edit_actions.specs.declared.action.Action.{Action}
-use Rattle.edit_actions.specs.After.{after, changes}
-use Rattle.edit_actions.specs.MadeActions.{is_made_action}
-use Rattle.edit_actions.specs.Refusals.{refusal}
-use Rattle.edit_actions.specs.Facts.Accepted.{accepted_keeps_sound, AreInOrder-after}
-use Rattle.edit_footprint.specs.Commutation.{ChangePlaces}
-use Rattle.edit_footprint.specs.Footprints.{footprint_of, footprint, meets}
-use Rattle.edit_footprint.specs.Facts.Commutation.{commutation}
+use Rattle.edit_actions.specs.declared.action.Action.{Action as SingleAction}
+use Rattle.edit_groups.specs.declared.edit.Edit.{Edit as Action}
+use Rattle.edit_groups.specs.declared.edit.Edit.TheVariants.{One}
+use Rattle.edit_groups.specs.Edits.{after, changes}
+use Rattle.edit_groups.specs.Edits.{is_made_edit as is_made_action}
+use Rattle.edit_groups.specs.Edits.{refusal}
+use Rattle.edit_groups.specs.Facts.Accepted.{accepted_keeps_sound}
+use Rattle.edit_groups.specs.Facts.Local.{AreInOrder-after}
+use Rattle.edit_groups.specs.Laws.{ChangePlaces}
+use Rattle.edit_footprint.specs.Footprints.{meets, footprint_of}
+use Rattle.edit_groups.specs.Edits.{footprint}
+use Rattle.edit_groups.specs.Facts.Commutation.{commutation}
 use Rattle.room_history.specs.Replays.{replay}
 
 -- an action, and the changes that were recorded of it
 pub record Work (A : Type 0) : Type 0 where
   pub action : Action A
   pub changes : List (Change A)
+  pub cells : List Cell
+  pub rises : IsRising cells
+  -- of one action they follow from it and its changes
+  pub of_one : (a : SingleAction A) → action ≡ One a → cells ≡ footprint_of a changes
 
 module _ {A : Type 0} where
   -- the recorded footprint
   abbrev pub touched : Work A → List Cell
-  touched w = footprint_of w.action w.changes
+  touched w = w.cells
 
   -- the action is accepted, with the changes that were recorded
   pub record Accepts (m : Rows A) (w : Work A) : Type 0 where
     pub made : is_made_action w.action ≡ true
     pub accepted : refusal m w.action ≡ None
     pub same_changes : changes m w.action ≡ w.changes
+    pub same_footprint : footprint m w.action ≡ w.cells
 
   -- from a map the actions lead to another, each accepted as it was recorded
   abbrev pub Leads : Rows A → List (Work A) → Rows A → Type 0
@@ -72,7 +82,7 @@ module _ {A : Type 0} where
   -- two that share no cell change places
   swapped : (m : Rows A) (w v : Work A) → is_sound m ≡ true → Accepts m w → Accepts (after m w.action) v → meets (touched w) (touched v) ≡ None → ChangePlaces m w.action v.action
   swapped m w v sound first next apart = commutation m w.action v.action sound first.made next.made first.accepted next.accepted
-      (ap (λ cs. meets (footprint_of w.action cs) (footprint (after m w.action) v.action)) first.same_changes ∙ ap (λ cs. meets (touched w) (footprint_of v.action cs)) next.same_changes ∙ apart)
+      ((λ i. meets (first.same_footprint i) (next.same_footprint i)) ∙ apart)
 
   -- past all the later ones
   moved_last : (m : Rows A) (w : Work A) (later : List (Work A)) (end : Rows A) → is_sound m ≡ true → Accepts m w → Leads (after m w.action) later end → IsApart w later → LeavesOut m w later end
@@ -81,8 +91,8 @@ module _ {A : Type 0} where
       let places = swapped m w v sound first leads.0 apart.0 in
       let b = places.second_first in
       let a = places.first_second in
-      let accepts_v : Accepts m v = record { made = leads.0.made; accepted = b.accepted; same_changes = b.same_changes ∙ leads.0.same_changes } in
-      let accepts_w : Accepts (after m v.action) w = record { made = first.made; accepted = a.accepted; same_changes = a.same_changes ∙ first.same_changes } in
+      let accepts_v : Accepts m v = record { made = leads.0.made; accepted = b.accepted; same_changes = b.same_changes ∙ leads.0.same_changes; same_footprint = b.same_footprint ∙ leads.0.same_footprint } in
+      let accepts_w : Accepts (after m v.action) w = record { made = first.made; accepted = a.accepted; same_changes = a.same_changes ∙ first.same_changes; same_footprint = a.same_footprint ∙ first.same_footprint } in
       let rest = moved_last (after m v.action) w vs end (sound_after m v sound accepts_v) accepts_w (subst (λ n. Leads n vs end) (sym places.same_map) leads.1) apart.1 in
       record { without = rest.without; others_lead = (accepts_v, rest.others_lead); accepts = rest.accepts; gives = rest.gives }
 

@@ -1,6 +1,7 @@
 -- Which entry an undo asks for, and what refuses it.
-use Rattle.std.proofs.Common.{◌≡◌, ℕ, Bool, true, false, not, List, [], ◌∷◌, Option, Some, None, Ok, Err, is_none, refl, sym, ap, ◌∙◌}
+use Rattle.std.proofs.Common.{◌≡◌, ℕ, Bool, true, false, not, List, [], ◌∷◌, Option, Some, None, Ok, Err, is_none, refl, sym, ap, ◌∙◌, Result, IfErr, ◌⊎◌, inr}
 use Rattle.std.specs.Bool.{then_some}
+use Rattle.std.specs.Result.{IsErr, IsErrAnd}
 use Rattle.std.specs.Option.{option_map}
 use Rattle.osm_elements.specs.declared.name.Name.{Name}
 use Rattle.edit_simple.specs.Checks.{first_that_holds}
@@ -8,7 +9,7 @@ use Rattle.edit_footprint.specs.Holding.{Held, IsFirstAfter}
 use Rattle.room_stacks.specs.declared.author.Author.{Author}
 use Rattle.room_history.specs.declared.entry.Entry.{Entry}
 use Rattle.room_history.specs.declared.reply.Reply.{Reply}
-use Rattle.room_history.specs.declared.reply.Reply.TheVariants.{NoSuch, NotYours, NotStanding}
+use Rattle.room_history.specs.declared.reply.Reply.TheVariants.{Memory, NoSuch, NotYours, NotStanding}
 use Rattle.room_history.specs.Answers.{conflict, undo_refusal}
 use Rattle.room_history.specs.Blockers.{recorded_footprint, blocker}
 use Rattle.room_history.specs.Inner.Holders.{AreHolders}
@@ -16,6 +17,11 @@ use Rattle.room_history.specs.Inner.Undoing.{undone_or, asked_or, standing_refus
 use Rattle.room_history.specs.Journals.{numbered, is_by, is_standing}
 use Rattle.room_history.specs.Replays.{Past}
 use Rattle.room_history.proofs.KeptHolders.{blocker_found}
+
+-- a refusal that is passed on
+pub refused_on : {A X : Type 0} (r : Result X (Reply A)) (q : Reply A) (chosen : Result ℕ (Reply A)) → IsErr r → IsErrAnd r (λ f. f ≡ q) → Err q ≡ chosen → IfErr r (λ f. (f ≡ Memory) ⊎ (Err f ≡ chosen))
+refused_on (Ok x) q chosen err same is = absurd (cc)
+refused_on (Err f) q chosen err same is = inr (ap Err same ∙ is)
 
 -- the fourth of four checks decides where none of the first three holds
 fourth : {X : Type 0} (o p q r : Option X) → first_that_holds (o ∷ p ∷ q ∷ []) ≡ None → first_that_holds (o ∷ p ∷ q ∷ r ∷ []) ≡ r

@@ -3,7 +3,7 @@ use Rattle.std.proofs.Common.{refl}
 use Rattle.std.specs.Str.{chars}
 use Rattle.osm_elements.specs.NameOrder.{name_cmp}
 use Rattle.osm_elements.specs.Texts.{is_long}
-use Rattle.room_history.specs.Examples.{first_run, range_ends, limit_one, limit_zero, strangers, in_use, taken_back_way, refusals_in_turn, relations_in_turn, redo_at_once, redo_refused, redo_order, redo_again, unglued_node, blocker_goes_by_parts, both_moved, two_blockers_by_parts, split_over_retag}
+use Rattle.room_history.specs.Examples.{first_run, range_ends, limit_one, limit_zero, strangers, in_use, taken_back_way, refusals_in_turn, relations_in_turn, redo_at_once, redo_refused, redo_order, redo_again, unglued_node, blocker_goes_by_parts, both_moved, two_blockers_by_parts, split_over_retag, drawn_as_one}
 
 pub first_run_lem : first_run
 unfolding first_run name_cmp
@@ -76,3 +76,7 @@ two_blockers_by_parts_lem = refl
 pub split_over_retag_lem : split_over_retag
 unfolding split_over_retag name_cmp
 split_over_retag_lem = (refl, refl)
+
+pub drawn_as_one_lem : drawn_as_one
+unfolding drawn_as_one name_cmp
+drawn_as_one_lem = (refl, refl, refl)

@@ -9,9 +9,10 @@ use Rattle.std.proofs.lemmas.List.Elements.{All-cons}
 use Rattle.osm_elements.specs.declared.name.Name.{Name}
 use Rattle.osm_elements.specs.Maps.{Rows}
 use Rattle.osm_changes.specs.declared.cell.Cell.{Cell}
-use Rattle.edit_actions.specs.declared.action.Action.{Action}
+use Rattle.edit_groups.specs.declared.edit.Edit.{Edit as Action}
 use Rattle.edit_footprint.specs.Facts.Numbers.{tied}
-use Rattle.edit_footprint.specs.Footprints.{footprint, meets}
+use Rattle.edit_groups.specs.Edits.{footprint}
+use Rattle.edit_footprint.specs.Footprints.{meets}
 use Rattle.room_history.specs.Holdings.{Holdings, behind, first_meeting, without}
 use Rattle.room_history.specs.declared.entry.Entry.{Entry}
 use Rattle.room_history.specs.declared.entry.EntryKind.TheVariants.{Undo}

@@ -4,7 +4,7 @@ use Rattle.std.proofs.lemmas.List.{map-append, length-reverse, reverse-append}
 use Rattle.osm_elements.specs.Maps.{Rows}
 use Rattle.osm_refs.specs.References.{users}
 use Rattle.osm_changes.specs.Sound.{is_sound}
-use Rattle.edit_actions.specs.declared.action.Action.{Action}
+use Rattle.edit_groups.specs.declared.edit.Edit.{Edit as Action}
 use Rattle.room_stacks.specs.declared.author.Author.{Author}
 use Rattle.room_history.specs.declared.call.Call.{Call}
 use Rattle.room_history.specs.declared.entry.Entry.{Entry}

@@ -6,10 +6,9 @@ use Rattle.osm_elements.specs.declared.name.Name.{Name}
 use Rattle.osm_elements.specs.Maps.{Rows}
 use Rattle.osm_changes.specs.declared.cell.Cell.{Cell}
 use Rattle.osm_changes.specs.Cells.{IsRising}
-use Rattle.edit_actions.specs.declared.action.Action.{Action}
-use Rattle.edit_actions.specs.After.{changes}
-use Rattle.edit_footprint.specs.Footprints.{footprint}
-use Rattle.edit_footprint.specs.Facts.Footprints.{IsRising-footprint_of}
+use Rattle.edit_groups.specs.declared.edit.Edit.{Edit as Action}
+use Rattle.edit_groups.specs.Edits.{footprint}
+use Rattle.edit_groups.specs.Facts.Local.{IsRising-footprint}
 use Rattle.edit_footprint.specs.Facts.Holding.{just_one}
 use Rattle.edit_footprint.specs.Holding.{Held, AreHeld, IsNext, HoldsOnly, standing as stands, fallen, IsFirstAfter}
 use Rattle.room_history.specs.declared.entry.Entry.{Entry}
@@ -99,7 +98,7 @@ module _ {A : Type 0} where
             next = omega arith
 
         cells_rise : IsRising cells
-        cells_rise = subst IsRising (sym is) (IsRising-footprint_of a (changes (mapof base j) a))
+        cells_rise = subst IsRising (sym is) (IsRising-footprint (mapof base j) a)
 
         rises : (s : ℕ) (b : Bool) → nat_eq (1 + length j) s ≡ b → (is_standing j s || (b || false)) ≡ true → IsRising (recorded_footprint (past base (j ++ e ∷ [])) s)
         rises s true f there = subst IsRising (sym (ap (recorded_footprint (past base (j ++ e ∷ []))) (sym (equal_numbers (1 + length j) s f)) ∙ last_footprint)) cells_rise

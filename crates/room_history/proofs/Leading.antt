@@ -3,11 +3,13 @@ use Rattle.std.proofs.Common.{◌≡◌, ◌+◌, ◌++◌, ℕ, suc, true, List
 use Rattle.osm_elements.specs.Maps.{Rows}
 use Rattle.osm_changes.specs.Changes.{changed}
 use Rattle.osm_changes.specs.Sound.{is_sound}
-use Rattle.edit_actions.specs.declared.action.Action.{Action}
-use Rattle.edit_actions.specs.After.{changes}
-use Rattle.edit_actions.specs.MadeActions.{is_made_action}
-use Rattle.edit_actions.specs.Refusals.{refusal}
-use Rattle.edit_actions.specs.Facts.Accepted.{changes_lead}
+use Rattle.edit_groups.specs.declared.edit.Edit.{Edit as Action}
+use Rattle.edit_footprint.specs.Footprints.{footprint_of}
+use Rattle.edit_groups.specs.Edits.{changes, footprint}
+use Rattle.edit_groups.specs.Facts.Local.{IsRising-footprint}
+use Rattle.edit_groups.specs.Edits.{is_made_edit as is_made_action}
+use Rattle.edit_groups.specs.Edits.{refusal}
+use Rattle.edit_groups.specs.Facts.Accepted.{changes_lead}
 use Rattle.room_history.specs.declared.entry.Entry.{Entry}
 use Rattle.room_history.specs.declared.entry.EntryKind.TheVariants.{Do, Redo}
 use Rattle.room_history.specs.Journals.{numbered, standing}
@@ -38,14 +40,14 @@ module _ {A : Type 0} where
     works = led.works ++ w ∷ [];
     recorded = subst (λ (p : Past A). AreRecorded p.entries (standing (j ++ e ∷ [])) (led.works ++ w ∷ [])) (sym now) (subst (λ ss. AreRecorded (entries ++ r ∷ []) ss (led.works ++ w ∷ [])) (sym stands) are);
     leads = subst (λ (p : Past A). Leads base (led.works ++ w ∷ []) p.map) (sym now) (subst (Leads base (led.works ++ w ∷ [])) (sym (changes_lead m a (led_sound base j sound led) made ok))
-        (leads-append base led.works w m led.leads (record { made = made; accepted = ok; same_changes = refl })));
+        (leads-append base led.works w m led.leads (record { made = made; accepted = ok; same_changes = refl; same_footprint = refl })));
   }
     where
       m : Rows A
       m = mapof base j
 
       w : Work A
-      w = record { action = a; changes = changes m a }
+      w = record { action = a; changes = changes m a; cells = footprint m a; rises = IsRising-footprint m a; of_one = λ x is. ap (footprint m) is ∙ ap (λ e. footprint_of x (changes m e)) (sym is) }
 
       r : Recorded A
       r = recorded_of m a

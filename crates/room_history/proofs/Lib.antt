@@ -11,6 +11,7 @@ pub mod Choosing
 pub mod Crossing
 pub mod Deciding
 pub mod Deeds
+pub mod KeptEffects
 pub mod ExampleProofs
 pub mod FirstMeeting
 pub mod Growing

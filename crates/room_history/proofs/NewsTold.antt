@@ -14,22 +14,20 @@ use Rattle.room_history.specs.Inner.Telling.{kept_from, kept, told_from, told_ro
 use Rattle.room_history.proofs.Appending.{past-append, mapof-append}
 
 module _ {A : Type 0} where
-  -- what entries behind others change, each in turn
-  abbrev changes_behind : Past A → List (Entry A) → List (List (Change A))
-  changes_behind p [] = []
-  changes_behind p (e ∷ k) = (recorded_next p e.kind).changes ∷ changes_behind (past_after p e.kind) k
+  -- what is recorded of entries after others
+  abbrev recorded_behind : Past A → List (Entry A) → List (Recorded A)
+  recorded_behind p [] = []
+  recorded_behind p (e ∷ k) = recorded_next p e.kind ∷ recorded_behind (past_after p e.kind) k
 
   abbrev past_from : Past A → List (Entry A) → Past A
   past_from p j = fold (λ (p : Past A) (e : Entry A). past_after p e.kind) p j
 
-  -- what is recorded of each entry is what it changes in turn
-  recorded_in_turn : (p : Past A) (j : List (Entry A)) → map (λ (r : Recorded A). r.changes) (past_from p j).entries ≡ map (λ (r : Recorded A). r.changes) p.entries ++ changes_behind p j
-  recorded_in_turn p [] = sym (append-nil (map (λ (r : Recorded A). r.changes) p.entries))
+  -- all entries are recorded in their order
+  recorded_in_turn : (p : Past A) (j : List (Entry A)) → (past_from p j).entries ≡ p.entries ++ recorded_behind p j
+  recorded_in_turn p [] = sym (append-nil p.entries)
   recorded_in_turn p (e ∷ j) =
-      let r = recorded_next p e.kind in
       recorded_in_turn (past_after p e.kind) j
-      ∙ ap (λ css. css ++ changes_behind (past_after p e.kind) j) (map-append (λ (r : Recorded A). r.changes) p.entries (r ∷ []))
-      ∙ append_assoc (map (λ (r : Recorded A). r.changes) p.entries) (r.changes ∷ []) (changes_behind (past_after p e.kind) j)
+      ∙ append_assoc p.entries (recorded_next p e.kind ∷ []) (recorded_behind (past_after p e.kind) j)
 
   -- rows of a map are told as news tell them
   rows_told : (m : Rows A) (names : List Name) → map told_row (map (row_in m) names) ≡ map (news_row m) names
@@ -42,7 +40,7 @@ module _ {A : Type 0} where
   drop_behind base (suc from) i [] = refl
   drop_behind base (suc from) i (e ∷ k) = drop_behind base from (i ++ e ∷ []) k ∙ ap (λ l. news_behind base l (drop from k)) (append_assoc i (e ∷ []) (take from k))
 
-  told_behind : (base : Rows A) (i k : List (Entry A)) → told_from (length i + 1) k (kept_from (mapof base i) (changes_behind (past base i) k)) ≡ news_behind base i k
+  told_behind : (base : Rows A) (i k : List (Entry A)) → told_from (length i + 1) k (kept_from (mapof base i) (recorded_behind (past base i) k)) ≡ news_behind base i k
   told_behind base i [] = refl
   told_behind base i (e ∷ k) =
       let p : Past A = past base i in
@@ -50,13 +48,13 @@ module _ {A : Type 0} where
       let longer : length i + 1 ≡ length (i ++ e ∷ []) = sym (length-append i (e ∷ [])) in
       let later : past_after p e.kind ≡ past base (i ++ e ∷ []) = sym (past-append base i e) in
       let new : News A = news_of base i e in
-      ap (λ rows. record { seq = length i + 1; author = e.author; rows = rows } ∷ told_from ((length i + 1) + 1) k (kept_from (changed p.map cs) (changes_behind (past_after p e.kind) k)))
+      ap (λ rows. record { seq = length i + 1; author = e.author; rows = rows } ∷ told_from ((length i + 1) + 1) k (kept_from (changed p.map cs) (recorded_behind (past_after p e.kind) k)))
       (rows_told (changed p.map cs) (changed_names cs) ∙ ap (λ m. map (news_row m) (changed_names cs)) (sym (mapof-append base i e)))
-      ∙ (λ n. new ∷ told_from (longer n + 1) k (kept_from (later n).map (changes_behind (later n) k)))
+      ∙ (λ n. new ∷ told_from (longer n + 1) k (kept_from (later n).map (recorded_behind (later n) k)))
       ∙ ap (λ ns. new ∷ ns) (told_behind base (i ++ e ∷ []) k)
 
   -- the news that a room tells
   pub news_told : (base : Rows A) (j : List (Entry A)) (from : ℕ) → drop from (told_from 1 j (kept base j)) ≡ news base j from
   news_told base j n =
-      ap (λ css. drop n (told_from 1 j (kept_from base css))) (recorded_in_turn (record { map = base; entries = [] }) j)
+      ap (λ rs. drop n (told_from 1 j (kept_from base rs))) (recorded_in_turn (record { map = base; entries = [] }) j)
       ∙ ap (drop n) (told_behind base [] j) ∙ drop_behind base n [] j

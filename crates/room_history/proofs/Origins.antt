@@ -4,7 +4,7 @@ use Rattle.std.specs.List.{fold}
 use Rattle.std.specs.Option.{option_and_then}
 use Rattle.std.proofs.lemmas.List.Sums.{fold-append}
 use Rattle.osm_elements.specs.Maps.{Rows}
-use Rattle.edit_actions.specs.declared.action.Action.{Action}
+use Rattle.edit_groups.specs.declared.edit.Edit.{Edit as Action}
 use Rattle.room_history.specs.declared.entry.Entry.{Entry}
 use Rattle.room_history.specs.declared.entry.EntryKind.{EntryKind}
 use Rattle.room_history.specs.declared.entry.EntryKind.TheVariants.{Do, Undo, Redo}

@@ -4,10 +4,10 @@ use Rattle.std.specs.Bool.{then_some}
 use Rattle.std.specs.Option.{option_map}
 use Rattle.osm_elements.specs.declared.name.Name.{Name}
 use Rattle.osm_elements.specs.Maps.{Rows}
-use Rattle.edit_actions.specs.declared.action.Action.{Action}
-use Rattle.edit_actions.specs.Refusals.{refusal}
+use Rattle.edit_groups.specs.declared.edit.Edit.{Edit as Action}
+use Rattle.edit_groups.specs.Edits.{refusal}
 use Rattle.edit_simple.specs.Checks.{first_that_holds}
-use Rattle.edit_simple.specs.declared.refusal.Refusal.{Refusal}
+use Rattle.edit_groups.specs.declared.refusal.EditRefusal.{EditRefusal}
 use Rattle.room_stacks.specs.declared.author.Author.{Author}
 use Rattle.room_history.specs.declared.call.Call.{Call}
 use Rattle.room_history.specs.declared.call.Request.{Request}
@@ -45,7 +45,7 @@ module _ {A : Type 0} where
   Refuses None = Unit {0}
   Refuses (Some r) = is_acceptance r ≡ false
 
-  action_refused : (o : Option (Refusal A)) → Refuses (option_map Refused o)
+  action_refused : (o : Option (EditRefusal A)) → Refuses (option_map Refused o)
   action_refused None = tt
   action_refused (Some q) = refl
 

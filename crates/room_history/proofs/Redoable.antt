@@ -2,8 +2,8 @@
 use Rattle.std.proofs.Common.{◌≡◌, ◌⊎◌, ◌-◌, ◌++◌, ◌||◌, ℕ, suc, zero, Bool, true, false, List, [], ◌∷◌, Option, Some, None, inl, inr, length, take, nat_eq, refl, sym, ap, ◌∙◌, cond}
 use Rattle.std.specs.Option.{option_and_then}
 use Rattle.osm_elements.specs.Maps.{Rows}
-use Rattle.edit_actions.specs.declared.action.Action.{Action}
-use Rattle.edit_actions.specs.MadeActions.{is_made_action}
+use Rattle.edit_groups.specs.declared.edit.Edit.{Edit as Action}
+use Rattle.edit_groups.specs.Edits.{is_made_edit as is_made_action}
 use Rattle.room_stacks.specs.declared.author.Author.{Author}
 use Rattle.room_stacks.specs.SameAuthors.{is_same_author}
 use Rattle.room_history.specs.declared.entry.Entry.{Entry}

@@ -6,9 +6,9 @@ use Rattle.osm_elements.specs.Maps.{Rows}
 use Rattle.osm_refs.specs.References.{users}
 use Rattle.osm_changes.specs.Sound.{is_sound}
 use Rattle.osm_changes.specs.Facts.SoundRows.{sound_in_order}
-use Rattle.edit_actions.specs.declared.action.Action.{Action}
-use Rattle.edit_actions.specs.After.{after}
-use Rattle.edit_actions.specs.Refusals.{refusal}
+use Rattle.edit_groups.specs.declared.edit.Edit.{Edit as Action}
+use Rattle.edit_groups.specs.Edits.{after}
+use Rattle.edit_groups.specs.Edits.{refusal}
 use Rattle.room_stacks.specs.declared.author.Author.{Author}
 use Rattle.room_stacks.specs.SameAuthors.{is_same_author}
 use Rattle.room_history.specs.declared.call.Call.{Call}

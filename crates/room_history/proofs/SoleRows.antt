@@ -1,5 +1,5 @@
 -- Changes of one row alone are those from the row before to the row after.
-use Rattle.std.proofs.Common.{◌≡◌, ◌≢◌, ◌||◌, Bool, true, false, not, cond, T, List, [], ◌∷◌, Option, get_or, length, map, refl, sym, ap, subst, ◌∙◌, arith}
+use Rattle.std.proofs.Common.{◌≡◌, ◌≢◌, ◌||◌, Bool, true, false, not, cond, T, List, [], ◌∷◌, Option, get_or, length, map, refl, sym, ap, subst, ◌∙◌, arith, None}
 use Rattle.std.specs.List.{filter}
 use Rattle.std.specs.Cmp.{tied_itself}
 use Rattle.std.specs.Ordering.{is_lt, ordering_then}
@@ -171,14 +171,14 @@ module _ {A : Type 0} where
 
 module _ {A : Type 0} (m : Rows A) (e : Effect A) (row : RowAfter A) (before after : Option (Element A)) where
   -- and so an effect of one row is that of its row
-  pub sole_effect : AreChanges e.changes → AreFrom m e.changes → e.rows ≡ rows_after m e.changes → e.rows ≡ row ∷ [] → before ≡ row_at m row.name → after ≡ row.element
+  pub sole_effect : AreChanges e.changes → AreFrom m e.changes → e.rows ≡ rows_after m e.changes → e.group ≡ None → e.rows ≡ row ∷ [] → before ≡ row_at m row.name → after ≡ row.element
       → effect_of_row (record { name = row.name; before = before; after = after }) ≡ e
-  sole_effect are from rows one before_is after_is = by (changed_names e.changes) refl (sym rows ∙ one)
+  sole_effect are from rows single one before_is after_is = by (changed_names e.changes) refl (sym rows ∙ one)
     where
       by : (names : List Name) → changed_names e.changes ≡ names → map (row_in (changed m e.changes)) names ≡ row ∷ [] → effect_of_row (record { name = row.name; before = before; after = after }) ≡ e
       by [] same told = absurd (cc)
       by (x ∷ y ∷ ys) same told = absurd (cc)
-      by (x ∷ []) same told = λ i. record { changes = changes i; rows = rows_are i }
+      by (x ∷ []) same told = λ i. record { changes = changes i; rows = rows_are i; group = sym single i }
         where
           its : row ≡ row_in (changed m e.changes) x
           its = cc

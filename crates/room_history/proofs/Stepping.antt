@@ -1,12 +1,14 @@
 -- One step of a room.
-use Rattle.std.proofs.Common.{◌≡◌, Result, OnOk, OnErr, IfOk, IfErr, ◌<◌, ◌≤◌, ◌+◌, ◌++◌, ◌∷◌, ℕ, true, false, List, [], Option, Some, None, Ok, Err, length, refl, sym, ap, subst, ◌∙◌, arith, ◌-◌, get_or, slice_get, ◌⊎◌, inl, inr, zero, suc, map, fold, nat_le}
+use Rattle.std.proofs.Common.{◌≡◌, Result, OnOk, OnErr, IfOk, IfErr, ◌<◌, ◌≤◌, ◌+◌, ◌++◌, ◌∷◌, ℕ, Bool, true, false, is_some, List, [], Option, Some, None, Ok, Err, length, refl, sym, ap, subst, ◌∙◌, arith, ◌-◌, get_or, slice_get, ◌⊎◌, inl, inr, zero, suc, map, fold, nat_le}
 use Rattle.std.specs.Bool.{then_some}
 use Rattle.std.specs.Result.{IsErr}
 use Rattle.std.specs.Option.{option_map, option_and_then}
 use Rattle.std.proofs.lemmas.Bool.Decides.{nat_tests}
 use Rattle.std.proofs.lemmas.List.{map-append}
 use Rattle.std.proofs.lemmas.List.Sums.{fold-append}
-use Rattle.edit_actions.specs.declared.action.Action.{Action}
+use Rattle.edit_actions.specs.declared.action.Action.{Action as SingleAction}
+use Rattle.edit_groups.specs.declared.edit.Edit.{Edit as Action}
+use Rattle.edit_groups.specs.declared.edit.Edit.TheVariants.{One, Group}
 use Rattle.room_stacks.specs.declared.author.Author.{Author}
 use Rattle.room_history.specs.declared.call.Call.{Call}
 use Rattle.room_history.specs.declared.call.Request.{Request}
@@ -21,8 +23,7 @@ use Rattle.osm_changes.specs.declared.cell.Cell.{Cell}
 use Rattle.osm_elements.specs.Maps.{Rows}
 use Rattle.osm_changes.specs.Cells.{IsRising}
 use Rattle.osm_changes.specs.Sound.{is_sound}
-use Rattle.edit_actions.specs.After.{after, changes}
-use Rattle.edit_actions.specs.Refusals.{checks, refusal}
+use Rattle.edit_groups.specs.Edits.{after, changes, refusal, footprint}
 use Rattle.edit_simple.specs.Checks.{first_that_holds}
 use Rattle.room_history.specs.Journals.{is_work, is_standing, numbered, last, redos, standing}
 use Rattle.room_history.specs.Replays.{Past, Recorded, past, past_after, mapof, action_at, recorded_of, recorded_next, done_again, taken_back}
@@ -44,21 +45,21 @@ use Rattle.osm_changes.specs.declared.change.Change.{Change}
 use Rattle.osm_changes.specs.Changes.{changed, differences, inverse, AreChanges, AreFrom}
 use Rattle.osm_changes.specs.Stores.{StoreState, applied_to, counted}
 use Rattle.edit_simple.specs.declared.refusal.Refusal.TheVariants as refusals
-use Rattle.edit_simple.specs.Plans.{IsPlan}
-use Rattle.room_history.specs.Inner.Refusing.{refusal_reply}
+use Rattle.edit_groups.specs.Plans.{IsEditPlan}
+use Rattle.edit_groups.specs.declared.refusal.EditRefusal.{EditRefusal}
+use Rattle.room_history.specs.Inner.Refusing.{refusal_reply, refused_by}
 use Rattle.room_history.specs.Inner.Undoing.{undone_or, asked_or}
 use Rattle.room_history.specs.Inner.Rooms.{IsRoom, MayAppend, MayWork}
 use Rattle.room_history.specs.declared.kept.Effect.{Effect}
-use Rattle.room_history.specs.Inner.Telling.{recorded_changes, effect_of, kept_from, kept}
+use Rattle.room_history.specs.Inner.Telling.{is_group, group_cells, footprint_by, effect_of, kept_from, kept}
 use Rattle.room_history.proofs.Telling.{kept_of_each}
 use Rattle.room_history.proofs.BinarySearching.{last_is}
 use Rattle.room_history.proofs.Deciding.{unspent}
 use Rattle.room_history.proofs.Keeping.{journal_led}
 use Rattle.osm_changes.specs.Facts.Changing.{changed-differences}
 use Rattle.osm_changes.specs.Facts.SoundRows.{sound_in_order}
-use Rattle.edit_actions.specs.Facts.Accepted.{AreInOrder-after}
+use Rattle.edit_groups.specs.Facts.Local.{AreInOrder-after, IsRising-footprint}
 use Rattle.edit_footprint.specs.Footprints.{footprint_of}
-use Rattle.edit_footprint.specs.Facts.Footprints.{IsRising-footprint_of}
 use Rattle.edit_footprint.specs.Holding.{Held, AreHeld, IsNext, HoldsOnly, standing as stands, fallen}
 use Rattle.room_history.specs.Blockers.{footprint_of_recorded, recorded_footprint}
 use Rattle.room_history.proofs.Appending.{past-append, mapof-append, applied-append, recorded-redo}
@@ -69,21 +70,21 @@ use Rattle.room_history.proofs.Undoing.{Found, found}
 use Rattle.room_history.proofs.Chains.{Work}
 use Rattle.room_history.proofs.Works.{IsRecorded, one_of}
 
--- the reply that a refusal becomes: itself, or want of memory
-reply_is : {A : Type 0} (r : Refusal A) → (refusal_reply r ≡ Refused r) ⊎ (refusal_reply r ≡ Memory)
-reply_is (refusals.Absent x) = inl refl
-reply_is (refusals.Present x) = inl refl
-reply_is (refusals.WrongKind x) = inl refl
-reply_is (refusals.Same x) = inl refl
-reply_is refusals.BadPosition = inl refl
-reply_is refusals.NotEndToEnd = inl refl
-reply_is (refusals.TagConflict key) = inl refl
-reply_is (refusals.OutOfRange x) = inl refl
-reply_is (refusals.TooFew x) = inl refl
-reply_is (refusals.TooMany x) = inl refl
-reply_is (refusals.InUse x u) = inl refl
-reply_is refusals.Nothing = inl refl
-reply_is refusals.Memory = inr refl
+-- the reply that a refusal becomes: itself, or out of memory
+reply_is : {A : Type 0} (at : Option ℕ) (why : Refusal A) → (refused_by at why ≡ Refused (record { action = at; why = why })) ⊎ (refused_by at why ≡ Memory)
+reply_is at (refusals.Absent x) = inl refl
+reply_is at (refusals.Present x) = inl refl
+reply_is at (refusals.WrongKind x) = inl refl
+reply_is at (refusals.Same x) = inl refl
+reply_is at refusals.BadPosition = inl refl
+reply_is at refusals.NotEndToEnd = inl refl
+reply_is at (refusals.TagConflict key) = inl refl
+reply_is at (refusals.OutOfRange x) = inl refl
+reply_is at (refusals.TooFew x) = inl refl
+reply_is at (refusals.TooMany x) = inl refl
+reply_is at (refusals.InUse x u) = inl refl
+reply_is at refusals.Nothing = inl refl
+reply_is at refusals.Memory = inr refl
 
 below : (limit n : ℕ) → n < limit → nat_le limit n ≡ false
 below limit n h = grind (arith, nat_tests)
@@ -132,16 +133,21 @@ on_err (Ok x) P p = tt
 on_err (Err e) P p = p
 
 -- the reply to an action whose plan refuses
-pub plan_refused : {A : Type 0} (m : Rows A) (a : Action A) (r : Refusal A) (reply : Reply A) → reply ≡ refusal_reply r → IsPlan m (checks m a) (after m a) (Err r)
+pub plan_refused : {A : Type 0} (m : Rows A) (a : Action A) (r : EditRefusal A) (reply : Reply A) → reply ≡ refusal_reply r → IsEditPlan m a (Err r)
     → (reply ≡ Memory) ⊎ (option_map Refused (refusal m a) ≡ Some reply)
 plan_refused m a r reply is (inr e) = inl (is ∙ ap refusal_reply e)
-plan_refused m a r reply is (inl e) = by (reply_is r)
+plan_refused m a r reply is (inl e) = by (reply_is r.action r.why)
   where
     by : (refusal_reply r ≡ Refused r) ⊎ (refusal_reply r ≡ Memory) → (reply ≡ Memory) ⊎ (option_map Refused (refusal m a) ≡ Some reply)
     by (inl same) = inr (ap (option_map Refused) e ∙ ap Some (sym (is ∙ same)))
     by (inr same) = inl (is ∙ same)
 
 -- what is planned for the action of an entry is what its redo wants
+-- what is done again is the action that there is
+pub again_does : {A : Type 0} (m : Rows A) (o : Option (Action A)) → (done_again m o).action ≡ o
+again_does m None = refl
+again_does m (Some a) = refl
+
 pub accepted_again : {A X E : Type 0} (m : Rows A) (o : Option (Action A)) (a : Action A) (r : Result X E) → o ≡ Some a → OnOk r (refusal m a ≡ None) → OnOk r (redo_refusal m o ≡ None)
 accepted_again m o a (Ok x) acts e = ap (redo_refusal m) acts ∙ ap (option_map Refused) e
 accepted_again m o a (Err x) acts e = tt
@@ -150,7 +156,7 @@ pub changed_again : {A F E : Type 0} (m : Rows A) (o : Option (Action A)) (a : A
 changed_again m o a (Ok x) acts e = e ∙ sym (ap (λ q. (done_again m q).changes) acts)
 changed_again m o a (Err x) acts e = tt
 
-pub touched_again : {A C E : Type 0} (m : Rows A) (o : Option (Action A)) (a : Action A) (r : Result (C × List Cell) E) → o ≡ Some a → IfOk r (λ p. p.1 ≡ footprint_of a (changes m a)) → IfOk r (λ p. p.1 ≡ (done_again m o).footprint)
+pub touched_again : {A C E : Type 0} (m : Rows A) (o : Option (Action A)) (a : Action A) (r : Result (C × List Cell) E) → o ≡ Some a → IfOk r (λ p. p.1 ≡ footprint m a) → IfOk r (λ p. p.1 ≡ (done_again m o).footprint)
 touched_again m o a (Ok x) acts e = e ∙ sym (ap (λ q. (done_again m q).footprint) acts)
 touched_again m o a (Err x) acts e = tt
 
@@ -269,36 +275,43 @@ module _ {A : Type 0} where
       opened_holders = subst (λ k. AreHolders (past base k) k holders) (sym no_entries) none_held
 
   -- what one more entry records
-  recorded-append : (base : Rows A) (j : List (Entry A)) (e : Entry A) → recorded_changes base (j ++ e ∷ []) ≡ recorded_changes base j ++ (recorded_next (past base j) e.kind).changes ∷ []
-  recorded-append base j e = ap (map (λ (r : Recorded A). r.changes)) (ap (λ (p : Past A). p.entries) (past-append base j e)) ∙ map-append (λ (r : Recorded A). r.changes) (past base j).entries (recorded_next (past base j) e.kind ∷ [])
+  recorded-append : (base : Rows A) (j : List (Entry A)) (e : Entry A) → (past base (j ++ e ∷ [])).entries ≡ (past base j).entries ++ recorded_next (past base j) e.kind ∷ []
+  recorded-append base j e = ap (λ (p : Past A). p.entries) (past-append base j e)
+
+  -- the map after recorded entries
+  abbrev led_by : Rows A → List (Recorded A) → Rows A
+  led_by m rs = fold (λ n (r : Recorded A). changed n r.changes) m rs
 
   -- what is kept of one more entry
-  kept_from-append : (m : Rows A) (css : List (List (Change A))) (cs : List (Change A)) → kept_from m (css ++ cs ∷ []) ≡ kept_from m css ++ effect_of (fold changed m css) cs ∷ []
-  kept_from-append m [] cs = refl
-  kept_from-append m (ds ∷ css) cs = ap (λ ks. effect_of m ds ∷ ks) (kept_from-append (changed m ds) css cs)
+  kept_from-append : (m : Rows A) (rs : List (Recorded A)) (r : Recorded A) → kept_from m (rs ++ r ∷ []) ≡ kept_from m rs ++ effect_of (led_by m rs) r ∷ []
+  kept_from-append m [] r = refl
+  kept_from-append m (q ∷ rs) r = ap (λ ks. effect_of m q ∷ ks) (kept_from-append (changed m q.changes) rs r)
 
   -- the changes of the entries, one after the other, lead to the map
-  changes_lead_on : (p : Past A) (base : Rows A) (j : List (Entry A)) → p.map ≡ fold changed base (map (λ (r : Recorded A). r.changes) p.entries)
-      → let q = fold (λ (p : Past A) (e : Entry A). past_after p e.kind) p j in q.map ≡ fold changed base (map (λ (r : Recorded A). r.changes) q.entries)
+  changes_lead_on : (p : Past A) (base : Rows A) (j : List (Entry A)) → p.map ≡ led_by base p.entries
+      → let q = fold (λ (p : Past A) (e : Entry A). past_after p e.kind) p j in q.map ≡ led_by base q.entries
   changes_lead_on p base [] h = h
   changes_lead_on p base (e ∷ j) h =
-      let cs = (recorded_next p e.kind).changes in
+      let r = recorded_next p e.kind in
       changes_lead_on (past_after p e.kind) base j
-      (ap (λ m. changed m cs) h ∙ sym (fold-append changed base (map (λ (r : Recorded A). r.changes) p.entries) (cs ∷ []))
-      ∙ ap (fold changed base) (sym (map-append (λ (r : Recorded A). r.changes) p.entries (recorded_next p e.kind ∷ []))))
+      (ap (λ m. changed m r.changes) h ∙ sym (fold-append (λ n (r : Recorded A). changed n r.changes) base p.entries (r ∷ [])))
 
-  changes_lead : (base : Rows A) (j : List (Entry A)) → mapof base j ≡ fold changed base (recorded_changes base j)
+  changes_lead : (base : Rows A) (j : List (Entry A)) → mapof base j ≡ led_by base (past base j).entries
   changes_lead base j = changes_lead_on (record { map = base; entries = [] }) base j refl
 
-  kept-append : (base : Rows A) (j : List (Entry A)) (e : Entry A) → kept base (j ++ e ∷ []) ≡ kept base j ++ effect_of (mapof base j) (recorded_next (past base j) e.kind).changes ∷ []
+  kept-append : (base : Rows A) (j : List (Entry A)) (e : Entry A) → kept base (j ++ e ∷ []) ≡ kept base j ++ effect_of (mapof base j) (recorded_next (past base j) e.kind) ∷ []
   kept-append base j e =
-      let cs = (recorded_next (past base j) e.kind).changes in
-      ap (kept_from base) (recorded-append base j e) ∙ kept_from-append base (recorded_changes base j) cs ∙ ap (λ m. kept base j ++ effect_of m cs ∷ []) (sym (changes_lead base j))
+      let r = recorded_next (past base j) e.kind in
+      ap (kept_from base) (recorded-append base j e) ∙ kept_from-append base (past base j).entries r ∙ ap (λ m. kept base j ++ effect_of m r ∷ []) (sym (changes_lead base j))
 
-  -- the changes of what is kept are those that are recorded
-  changes_kept : (m : Rows A) (css : List (List (Change A))) → map (λ (k : Effect A). k.changes) (kept_from m css) ≡ css
+  -- what is kept has the changes, and of groups the footprints, that are recorded
+  changes_kept : (m : Rows A) (rs : List (Recorded A)) → map (λ (k : Effect A). k.changes) (kept_from m rs) ≡ map (λ (r : Recorded A). r.changes) rs
   changes_kept m [] = refl
-  changes_kept m (cs ∷ css) = ap (λ rest. cs ∷ rest) (changes_kept (changed m cs) css)
+  changes_kept m (r ∷ rs) = ap (λ rest. r.changes ∷ rest) (changes_kept (changed m r.changes) rs)
+
+  groups_kept : (m : Rows A) (rs : List (Recorded A)) → map (λ (k : Effect A). k.group) (kept_from m rs) ≡ map (λ (r : Recorded A). group_cells r.action r.footprint) rs
+  groups_kept m [] = refl
+  groups_kept m (r ∷ rs) = ap (λ rest. group_cells r.action r.footprint ∷ rest) (groups_kept (changed m r.changes) rs)
 
   module _ (store : StoreState A) (recorded : List (Effect A)) (firsts : List ℕ) (holders : Held) (done : List Deed) (base : Rows A) (limit : ℕ) (j : List (Entry A)) (r : IsRoom store recorded firsts holders done base limit j) where
     -- what holds of a room's journal
@@ -343,7 +356,7 @@ module _ {A : Type 0} where
           told : option_map (λ (k : Effect A). k.changes) (numbered recorded s) ≡ Some stood.0.changes
           told =
               sym (numbered_mapped (λ (k : Effect A). k.changes) recorded s) ∙ ap (λ ks. numbered (map (λ (k : Effect A). k.changes) ks) s) r.recorded_are
-              ∙ ap (λ css. numbered css s) (changes_kept base (recorded_changes base j)) ∙ numbered_mapped (λ (r : Recorded A). r.changes) (past base j).entries s
+              ∙ ap (λ css. numbered css s) (changes_kept base (past base j).entries) ∙ numbered_mapped (λ (r : Recorded A). r.changes) (past base j).entries s
               ∙ ap (option_map (λ (r : Recorded A). r.changes)) stood.1
 
       -- an undo records the changes of the entry taken back
@@ -354,16 +367,50 @@ module _ {A : Type 0} where
           by None e = absurd (none_there recorded s is_first is_kept e)
           by (Some k) e = ap inverse (told k e ∙ its_changes k e) ∙ ap (λ o. (taken_back o).changes) (sym stood.1)
 
+      -- what is kept of a group is its footprint, and of one action nothing
+      its_group : (k : Effect A) → numbered recorded s ≡ Some k → k.group ≡ group_cells (Some stood.0.action) stood.0.cells
+      its_group k is = let same : Some k.group ≡ Some (group_cells (Some stood.0.action) stood.0.cells) = sym (ap (option_map (λ (k : Effect A). k.group)) is) ∙ told in cc
+        where
+          told : option_map (λ (k : Effect A). k.group) (numbered recorded s) ≡ Some (group_cells (Some stood.0.action) stood.0.cells)
+          told =
+              sym (numbered_mapped (λ (k : Effect A). k.group) recorded s) ∙ ap (λ ks. numbered (map (λ (k : Effect A). k.group) ks) s) r.recorded_are
+              ∙ ap (λ gs. numbered gs s) (groups_kept base (past base j).entries) ∙ numbered_mapped (λ (r : Recorded A). group_cells r.action r.footprint) (past base j).entries s
+              ∙ ap (option_map (λ (r : Recorded A). group_cells r.action r.footprint)) stood.1
+
+      -- its action is that of its entry
+      same_action : (e : Action A) → action_at (past base j) s ≡ Some e → e ≡ stood.0.action
+      same_action e acts = let same : Some e ≡ Some stood.0.action = sym acts ∙ its_action in cc
+
       -- the cells that its action touches, with these changes, are its footprint
-      pub touched_is : (a : Action A) → action_at (past base j) s ≡ Some a → (cs : List (Change A)) → ((k : Effect A) → numbered recorded s ≡ Some k → cs ≡ k.changes) → footprint_of a cs ≡ recorded_footprint (past base j) s
+      touched_is : (a : SingleAction A) → action_at (past base j) s ≡ Some (One a) → (cs : List (Change A)) → ((k : Effect A) → numbered recorded s ≡ Some k → cs ≡ k.changes) → footprint_of a cs ≡ recorded_footprint (past base j) s
       touched_is a acts cs told = by (numbered recorded s) refl
         where
-          same : Some a ≡ Some stood.0.action
-          same = sym acts ∙ its_action
-
           by : (o : Option (Effect A)) → numbered recorded s ≡ o → footprint_of a cs ≡ recorded_footprint (past base j) s
           by None e = absurd (none_there recorded s is_first is_kept e)
-          by (Some k) e = (λ i. footprint_of (injective same i) ((told k e ∙ its_changes k e) i)) ∙ sym (ap footprint_of_recorded stood.1)
+          by (Some k) e = ap (footprint_of a) (told k e ∙ its_changes k e) ∙ sym (stood.0.of_one a (sym (same_action (One a) acts))) ∙ sym (ap footprint_of_recorded stood.1)
+
+      -- what is kept in the place of the entry has the footprint of a group
+      pub group_told : (e : Action A) → action_at (past base j) s ≡ Some e → (d : Effect A) → d ≡ get_or recorded (s - 1) d → d.group ≡ group_cells (Some e) (recorded_footprint (past base j) s)
+      group_told e acts d item = by (numbered recorded s) refl
+        where
+          by : (o : Option (Effect A)) → numbered recorded s ≡ o → d.group ≡ group_cells (Some e) (recorded_footprint (past base j) s)
+          by None n = absurd (none_there recorded s is_first is_kept n)
+          by (Some k) n =
+              ap (λ (x : Effect A). x.group) (item ∙ numbered_item recorded s k d n) ∙ its_group k n ∙ ap (λ a. group_cells (Some a) stood.0.cells) (sym (same_action e acts))
+              ∙ ap (group_cells (Some e)) (sym (ap footprint_of_recorded stood.1))
+
+      pub is_group_told : (e : Action A) → action_at (past base j) s ≡ Some e → (d : Effect A) → d ≡ get_or recorded (s - 1) d → is_group (Some e) ≡ is_some d.group
+      is_group_told e acts d item = by (is_group (Some e)) ∙ sym (ap is_some (group_told e acts d item))
+        where
+          by : (b : Bool) → b ≡ is_some (then_some b (recorded_footprint (past base j) s))
+          by true = refl
+          by false = refl
+
+      -- the footprint that is found of the entry is its own
+      pub footprint_told : (e : Action A) → action_at (past base j) s ≡ Some e → (cs : List (Change A)) → ((k : Effect A) → numbered recorded s ≡ Some k → cs ≡ k.changes) → (d : Effect A) → d ≡ get_or recorded (s - 1) d
+          → footprint_by e d.group cs ≡ recorded_footprint (past base j) s
+      footprint_told (One a) acts cs told d item = touched_is a acts cs told
+      footprint_told (Group g) acts cs told d item = ap (λ o. footprint_by (Group g) o cs) (group_told (Group g) acts d item)
 
     -- what an author can redo is what it can by its deeds
     pub redos_told : (author : Author) → stacks.redo done author ≡ redos j author
@@ -382,19 +429,19 @@ module _ {A : Type 0} where
       above_deeds ds n is next = subst (λ d. stacks.IsAboveAll n d) (sym (is ∙ r.deeds_are)) (subst (λ m. stacks.IsAboveAll m (deeds j)) (sym next) (journals.above_deeds j))
 
       -- a room with one more entry
-      grown : (k : EntryKind A) (l : List (Entry A)) (store' : StoreState A) (recorded' : List (Effect A)) (firsts' : List ℕ) (holders' : Held) (done' : List Deed) (cs : List (Change A))
+      grown : (k : EntryKind A) (l : List (Entry A)) (store' : StoreState A) (recorded' : List (Effect A)) (firsts' : List ℕ) (holders' : Held) (done' : List Deed) (cs : List (Change A)) (effect : Effect A)
           → IsJournal base limit (with_entry j author id k) → cs ≡ (recorded_next (past base j) k).changes
-          → store' ≡ applied_to store cs → recorded' ≡ recorded ++ effect_of store.rows cs ∷ [] → firsts' ≡ firsts ++ origin_next (origins j) k ∷ [] → AreHolders (past base (with_entry j author id k)) (with_entry j author id k) holders'
+          → store' ≡ applied_to store cs → effect ≡ effect_of store.rows (recorded_next (past base j) k) → recorded' ≡ recorded ++ effect ∷ [] → firsts' ≡ firsts ++ origin_next (origins j) k ∷ [] → AreHolders (past base (with_entry j author id k)) (with_entry j author id k) holders'
           → done' ≡ done ++ deed_by (length j + 1) author id k ∷ [] → l ≡ with_entry j author id k
           → IsRoom store' recorded' firsts' holders' done' base limit l
-      grown k l store' recorded' firsts' holders' done' cs legal is store_is recorded_is firsts_is holders_is deeds_is l_is =
+      grown k l store' recorded' firsts' holders' done' cs effect legal is store_is effect_is recorded_is firsts_is holders_is deeds_is l_is =
           let e : Entry A = record { author = author; id = id; kind = k } in
           subst (λ l. IsRoom store' recorded' firsts' holders' done' base limit l) (sym l_is) (record {
             base_sound = r.base_sound;
             journal = legal;
             rows_are = ap (λ (s : StoreState A). s.rows) store_is ∙ ap (λ m. changed m cs) r.rows_are ∙ ap (changed (mapof base j)) is ∙ sym (mapof-append base j e);
             count_is = ap (λ (s : StoreState A). s.applied) store_is ∙ ap (λ n. counted n cs) r.count_is ∙ ap (counted (applied base j)) is ∙ sym (applied-append base j e);
-            recorded_are = recorded_is ∙ (λ i. r.recorded_are i ++ effect_of (r.rows_are i) (is i) ∷ []) ∙ sym (kept-append base j e);
+            recorded_are = recorded_is ∙ (λ i. r.recorded_are i ++ (effect_is ∙ ap (λ m. effect_of m (recorded_next (past base j) k)) r.rows_are) i ∷ []) ∙ sym (kept-append base j e);
             firsts_are = firsts_is ∙ ap (λ os. os ++ origin_next (origins j) k ∷ []) r.firsts_are ∙ sym (origins-append j e);
             holders_are = holders_is;
             deeds_are = deeds_is ∙ ap (λ ds. ds ++ deed_by (length j + 1) author id k ∷ []) r.deeds_are ∙ sym (deeds-append j e);
@@ -437,16 +484,16 @@ module _ {A : Type 0} where
 
         -- what it touches rises
         pub work_rises : (cells : List Cell) → cells ≡ (recorded_next (past base j) k).footprint → IsRising cells
-        work_rises cells is = subst IsRising (sym (is ∙ ap (λ (w : Recorded A). w.footprint) does.records)) (IsRising-footprint_of does.action (changes (mapof base j) does.action))
+        work_rises cells is = subst IsRising (sym (is ∙ ap (λ (w : Recorded A). w.footprint) does.records)) (IsRising-footprint (mapof base j) does.action)
 
         -- a room after it
-        pub IsRoom-work : (l : List (Entry A)) (store' : StoreState A) (recorded' : List (Effect A)) (firsts' : List ℕ) (holders' : Held) (done' : List Deed) (cs : List (Change A)) (cells : List Cell)
+        pub IsRoom-work : (l : List (Entry A)) (store' : StoreState A) (recorded' : List (Effect A)) (firsts' : List ℕ) (holders' : Held) (done' : List Deed) (cs : List (Change A)) (cells : List Cell) (effect : Effect A)
             → cs ≡ (recorded_next (past base j) k).changes → cells ≡ (recorded_next (past base j) k).footprint
-            → store' ≡ applied_to store cs → recorded' ≡ recorded ++ effect_of store.rows cs ∷ [] → firsts' ≡ firsts ++ origin_next firsts k ∷ [] → holders' ≡ stands holders cells (length j + 1)
+            → store' ≡ applied_to store cs → effect ≡ effect_of store.rows (recorded_next (past base j) k) → recorded' ≡ recorded ++ effect ∷ [] → firsts' ≡ firsts ++ origin_next firsts k ∷ [] → holders' ≡ stands holders cells (length j + 1)
             → done' ≡ done ++ deed_by (length j + 1) author id k ∷ [] → l ≡ with_entry j author id k
             → IsRoom store' recorded' firsts' holders' done' base limit l
-        IsRoom-work l store' recorded' firsts' holders' done' cs cells cs_are cells_are store_is recorded_is firsts_is holders_is deeds_is l_is =
-            grown k l store' recorded' firsts' holders' done' cs (legal_work k work ok) cs_are store_is recorded_is
+        IsRoom-work l store' recorded' firsts' holders' done' cs cells effect cs_are cells_are store_is effect_is recorded_is firsts_is holders_is deeds_is l_is =
+            grown k l store' recorded' firsts' holders' done' cs effect (legal_work k work ok) cs_are store_is effect_is recorded_is
             (firsts_is ∙ ap (λ os. firsts ++ origin_next os k ∷ []) r.firsts_are)
             (AreHolders-work base j holders r.holders_are (record { author = author; id = id; kind = k }) does.action holders' cells does.works does.records
             (cells_are ∙ ap (λ (w : Recorded A). w.footprint) does.records) holders_is)
@@ -489,13 +536,13 @@ module _ {A : Type 0} where
             ap (λ m. is_sound (changed m (recorded_next (past base j) (Undo s)).changes)) r.rows_are
             ∙ ap is_sound (sym (mapof-append base j (record { author = author; id = id; kind = Undo s }))) ∙ after_sound
 
-        pub IsRoom-undo : (l : List (Entry A)) (store' : StoreState A) (recorded' : List (Effect A)) (firsts' : List ℕ) (holders' : Held) (done' : List Deed) (cs : List (Change A))
+        pub IsRoom-undo : (l : List (Entry A)) (store' : StoreState A) (recorded' : List (Effect A)) (firsts' : List ℕ) (holders' : Held) (done' : List Deed) (cs : List (Change A)) (effect : Effect A)
             → cs ≡ (recorded_next (past base j) (Undo s)).changes
-            → store' ≡ applied_to store cs → recorded' ≡ recorded ++ effect_of store.rows cs ∷ [] → firsts' ≡ firsts ++ (length j + 1) ∷ [] → holders' ≡ fallen holders s
+            → store' ≡ applied_to store cs → effect ≡ effect_of store.rows (recorded_next (past base j) (Undo s)) → recorded' ≡ recorded ++ effect ∷ [] → firsts' ≡ firsts ++ (length j + 1) ∷ [] → holders' ≡ fallen holders s
             → done' ≡ done ++ Undid author id s (length j + 1) ∷ [] → l ≡ with_entry j author id (Undo s)
             → IsRoom store' recorded' firsts' holders' done' base limit l
-        IsRoom-undo l store' recorded' firsts' holders' done' cs cs_are store_is recorded_is firsts_is holders_is deeds_is l_is =
-            grown (Undo s) l store' recorded' firsts' holders' done' cs (legal base limit j author id may (requests.Undo (Some s)) (Undo s) refl ok r.journal refl) cs_are store_is recorded_is
+        IsRoom-undo l store' recorded' firsts' holders' done' cs effect cs_are store_is effect_is recorded_is firsts_is holders_is deeds_is l_is =
+            grown (Undo s) l store' recorded' firsts' holders' done' cs effect (legal base limit j author id may (requests.Undo (Some s)) (Undo s) refl ok r.journal refl) cs_are store_is effect_is recorded_is
             (firsts_is ∙ ap (λ n. firsts ++ n ∷ []) own_origin)
             (AreHolders-undo base j holders r.holders_are (record { author = author; id = id; kind = Undo s }) s holders' refl there.there holders_is)
             deeds_is l_is

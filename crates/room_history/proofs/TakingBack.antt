@@ -4,10 +4,10 @@ use Rattle.std.specs.Option.{option_and_then}
 use Rattle.osm_elements.specs.Maps.{Rows}
 use Rattle.osm_changes.specs.Changes.{changed, inverse}
 use Rattle.osm_changes.specs.Sound.{is_sound}
-use Rattle.edit_actions.specs.declared.action.Action.{Action}
-use Rattle.edit_actions.specs.After.{after, changes}
-use Rattle.edit_actions.specs.MadeActions.{is_made_action}
-use Rattle.edit_actions.specs.Refusals.{refusal}
+use Rattle.edit_groups.specs.declared.edit.Edit.{Edit as Action}
+use Rattle.edit_groups.specs.Edits.{after, changes}
+use Rattle.edit_groups.specs.Edits.{is_made_edit as is_made_action}
+use Rattle.edit_groups.specs.Edits.{refusal}
 use Rattle.room_history.specs.Holdings.{first_meeting}
 use Rattle.room_history.specs.declared.entry.Entry.{Entry}
 use Rattle.room_history.specs.declared.entry.EntryKind.TheVariants.{Undo}

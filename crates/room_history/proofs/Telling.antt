@@ -1,13 +1,11 @@
 -- The news of entries, told one after another.
 use Rattle.std.proofs.Common.{◌≡◌, ◌+◌, ◌<◌, ◌≤◌, ◌++◌, ℕ, zero, suc, List, [], ◌∷◌, length, get_or, drop, refl, sym, ap, ◌∙◌, append_assoc, append-nil, arith}
-use Rattle.std.proofs.lemmas.List.{length-map}
 use Rattle.room_history.specs.declared.entry.Entry.{Entry}
 use Rattle.room_history.specs.declared.kept.Effect.{Effect}
 use Rattle.room_history.specs.declared.news.News.{News}
 use Rattle.osm_elements.specs.Maps.{Rows}
-use Rattle.osm_changes.specs.declared.change.Change.{Change}
 use Rattle.osm_changes.specs.Changes.{changed}
-use Rattle.room_history.specs.Inner.Telling.{recorded_changes, kept_from, kept, told_of, told_from}
+use Rattle.room_history.specs.Inner.Telling.{kept_from, kept, told_of, told_from}
 use Rattle.room_history.specs.Replays.{Recorded, past}
 use Rattle.room_history.proofs.Appending.{recorded_each}
 
@@ -46,10 +44,10 @@ module _ {A : Type 0} where
   pub all_told : (i : ℕ) (es : List (Entry A)) (ks : List (Effect A)) (told all : List (News A)) → length es ≤ i → told ++ drop i (told_from 1 es ks) ≡ all → told ≡ all
   all_told i es ks told all l before = sym (append-nil told) ∙ ap (λ rest. told ++ rest) (sym (none_left 1 i es ks l)) ∙ before
 
-  kept_of_all : (m : Rows A) (css : List (List (Change A))) → length (kept_from m css) ≡ length css
+  kept_of_all : (m : Rows A) (rs : List (Recorded A)) → length (kept_from m rs) ≡ length rs
   kept_of_all m [] = refl
-  kept_of_all m (cs ∷ css) = let rest = kept_of_all (changed m cs) css in omega (arith, rest)
+  kept_of_all m (r ∷ rs) = let rest = kept_of_all (changed m r.changes) rs in omega (arith, rest)
 
   -- of each entry what it changed is kept
   pub kept_of_each : (base : Rows A) (j : List (Entry A)) → length (kept base j) ≡ length j
-  kept_of_each base j = kept_of_all base (recorded_changes base j) ∙ length-map (past base j).entries (λ (r : Recorded A). r.changes) ∙ recorded_each base j
+  kept_of_each base j = kept_of_all base (past base j).entries ∙ recorded_each base j

@@ -3,8 +3,7 @@ use Rattle.std.proofs.Common.{◌≡◌, ◌++◌, ◌||◌, ℕ, suc, zero, Boo
 use Rattle.std.specs.List.{cons_option}
 use Rattle.std.specs.Option.{option_and_then}
 use Rattle.osm_elements.specs.Maps.{Rows}
-use Rattle.edit_actions.specs.After.{after}
-use Rattle.edit_footprint.specs.Footprints.{footprint_of}
+use Rattle.edit_groups.specs.Edits.{after}
 use Rattle.room_history.specs.Journals.{numbered}
 use Rattle.room_history.specs.Replays.{Recorded, Past, recorded_of, actions_of}
 use Rattle.room_history.specs.Headline.{AreAccepted}
@@ -93,7 +92,7 @@ module _ {A : Type 0} where
 
   -- a work that a map accepts is recorded as it is done there
   same_record : (m : Rows A) (w : Work A) → Accepts m w → as_recorded w ≡ recorded_of m w.action
-  same_record m w h = (λ i. record { action = Some w.action; changes = sym h.same_changes i; footprint = footprint_of w.action (sym h.same_changes i) })
+  same_record m w h = (λ i. record { action = Some w.action; changes = sym h.same_changes i; footprint = sym h.same_footprint i })
 
   -- where the works lead from a map to another, the actions of their entries do
   pub accepted_each : (p : Past A) (m : Rows A) (ss : List ℕ) (ws : List (Work A)) (end : Rows A) → AreRecorded p.entries ss ws → Leads m ws end → AreAccepted p m ss end

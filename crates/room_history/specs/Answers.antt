@@ -15,8 +15,8 @@ use Rattle.room_history.specs.declared.reply.Reply.{Reply}
 use Rattle.room_history.specs.declared.reply.Reply.TheVariants.{Done, Undid, Redid, Repeat, Full, NothingToUndo, NothingToRedo, NoSuch, NotYours, NotStanding, Conflict, Refused}
 use Rattle.osm_elements.specs.declared.name.Name.{Name}
 use Rattle.osm_elements.specs.Maps.{Rows}
-use Rattle.edit_actions.specs.declared.action.Action.{Action}
-use Rattle.edit_actions.specs.Refusals.{refusal}
+use Rattle.edit_groups.specs.declared.edit.Edit.{Edit as Action}
+use Rattle.edit_groups.specs.Edits.{refusal}
 use Rattle.edit_simple.specs.Checks.{first_that_holds}
 use Rattle.room_stacks.specs.SameAuthors.{is_same_author}
 use Rattle.room_history.specs.Blockers.{blocker}

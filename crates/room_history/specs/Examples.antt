@@ -3,12 +3,12 @@ use Rattle.std.specs.Prelude.{◌≡◌, ◌++◌, ℕ, [], ◌∷◌, Some, Non
 use Rattle.edit_actions.specs.declared.action.Action.TheVariants.{Create, Retag, Move, Nodes, Delete, Split, Unglue}
 use Rattle.osm_elements.specs.declared.element.Element.TheVariants.{Node, Way}
 use Rattle.osm_changes.specs.Cells.{tags_at, rest_at, both_at}
-use Rattle.edit_simple.specs.declared.refusal.Refusal.TheVariants.{Absent, Present, WrongKind, TooFew, TooMany, InUse}
-use Rattle.room_history.specs.declared.reply.Reply.TheVariants.{Done, Undid, Redid, Repeat, Full, NothingToUndo, NothingToRedo, NoSuch, NotYours, NotStanding, Conflict, Refused}
+use Rattle.edit_simple.specs.declared.refusal.Refusal.TheVariants.{Absent, Present, WrongKind, TooFew, TooMany, InUse, Nothing}
+use Rattle.room_history.specs.declared.reply.Reply.TheVariants.{Done, Undid, Redid, Repeat, Full, NothingToUndo, NothingToRedo, NoSuch, NotYours, NotStanding, Conflict}
 use Rattle.osm_changes.specs.Sound.{is_sound}
 use Rattle.room_history.specs.Replays.{replay, standing_actions}
 use Rattle.room_history.specs.Answers.{answers}
-use Rattle.room_history.specs.Scenes.{n-1, n1, n2, n3, w1, w2, r1, r2, r3, anna, bob, carl, given, tagged, node_at, way_of, relation_of, does, undoes, redoes, replies, map_after, held_after, redos_left}
+use Rattle.room_history.specs.Scenes.{n-1, n1, n2, n3, w1, w2, r1, r2, r3, anna, bob, carl, given, tagged, node_at, way_of, relation_of, does, does_all, undoes, redoes, refused, refused_in, replies, map_after, held_after, redos_left}
 
 abbrev pub ample : ℕ
 ample = 1000000
@@ -109,17 +109,17 @@ refusals_in_turn =
     ∷ [] in
     (replies ample calls ≡ (
     NothingToUndo
-    ∷ Refused (WrongKind w1)
-    ∷ Refused (TooFew w1)
-    ∷ Refused (TooMany w1)
-    ∷ Refused (Absent n1)
-    ∷ Refused (Absent n1)
+    ∷ refused (WrongKind w1)
+    ∷ refused (TooFew w1)
+    ∷ refused (TooMany w1)
+    ∷ refused (Absent n1)
+    ∷ refused (Absent n1)
     ∷ Done 1
-    ∷ Refused (Present n1)
+    ∷ refused (Present n1)
     ∷ Done 2
     ∷ Done 3
     ∷ Done 4
-    ∷ Refused (InUse n1 w1)
+    ∷ refused (InUse n1 w1)
     ∷ Repeat 1
     ∷ NoSuch
     ∷ NoSuch
@@ -156,17 +156,17 @@ relations_in_turn =
     ∷ [] in
     (replies ample calls ≡ (
     Done 1
-    ∷ Refused (InUse r1 r1)
-    ∷ Refused (Absent n1)
+    ∷ refused (InUse r1 r1)
+    ∷ refused (Absent n1)
     ∷ Done 2
-    ∷ Refused (Absent w1)
+    ∷ refused (Absent w1)
     ∷ Done 3
-    ∷ Refused (WrongKind w2)
-    ∷ Refused (TooMany r2)
+    ∷ refused (WrongKind w2)
+    ∷ refused (TooMany r2)
     ∷ Done 4
     ∷ Done 5
-    ∷ Refused (InUse w1 r3)
-    ∷ Refused (InUse n1 w1)
+    ∷ refused (InUse w1 r3)
+    ∷ refused (InUse n1 w1)
     ∷ Undid 6 5
     ∷ Done 7
     ∷ []))
@@ -203,7 +203,7 @@ redo_refused =
     ∷ redoes bob 3
     ∷ [] in
     let later = undoes bob 3 None ∷ redoes anna 4 ∷ [] in
-    (replies ample (calls ++ later) ≡ (Done 1 ∷ Done 2 ∷ Done 3 ∷ Undid 4 3 ∷ Done 5 ∷ Refused (Absent n2) ∷ NothingToRedo ∷ Undid 6 5 ∷ Redid 7 3 ∷ []))
+    (replies ample (calls ++ later) ≡ (Done 1 ∷ Done 2 ∷ Done 3 ∷ Undid 4 3 ∷ Done 5 ∷ refused (Absent n2) ∷ NothingToRedo ∷ Undid 6 5 ∷ Redid 7 3 ∷ []))
     × (redos_left ample calls anna ≡ (3 ∷ []))
     × (redos_left ample (calls ++ later) anna ≡ [])
     × (map_after ample (calls ++ later) ≡ ((n1, node_at (pos 0) (pos 0)) ∷ (n2, node_at (pos 1) (pos 1)) ∷ (w1, way_of (n1 ∷ n2 ∷ [])) ∷ []))
@@ -318,3 +318,22 @@ split_over_retag =
     ∷ [] in
     (replies ample calls ≡ (Done 1 ∷ Done 2 ∷ Done 3 ∷ Done 4 ∷ Done 5 ∷ Conflict 5 w1 ∷ []))
     × (map_after ample calls ≡ ((n1, node_at (pos 0) (pos 0)) ∷ (n2, node_at (pos 1) (pos 1)) ∷ (w1, Way (n1 ∷ n2 ∷ []) tagged) ∷ (w2, Way (n2 ∷ n1 ∷ []) tagged) ∷ [])))
+
+-- a way is drawn by a group, which is one entry: it is undone and redone as a whole, and blocked by what bob did to one of
+-- its nodes. A group is refused with the position of the action that is, or as a whole, and nothing of it stays.
+unfoldable pub drawn_as_one : Type 0
+drawn_as_one =
+    (let calls =
+    does_all anna 1 (Create n1 (node_at (pos 1) (pos 1)) ∷ Create n2 (node_at (pos 2) (pos 2)) ∷ Create w1 (way_of (n1 ∷ n2 ∷ [])) ∷ [])
+    ∷ does bob 1 (Retag n2 given)
+    ∷ undoes anna 2 None
+    ∷ undoes bob 2 None
+    ∷ undoes anna 3 None
+    ∷ redoes anna 4
+    ∷ does_all anna 5 (Delete w1 ∷ Delete n3 ∷ [])
+    ∷ does_all anna 5 (Create n3 (node_at (pos 3) (pos 3)) ∷ Delete n3 ∷ [])
+    ∷ does_all anna 5 (Delete n1 ∷ [])
+    ∷ [] in
+    (replies ample calls ≡ (Done 1 ∷ Done 2 ∷ Conflict 2 n2 ∷ Undid 3 2 ∷ Undid 4 1 ∷ Redid 5 1 ∷ refused_in 1 (Absent n3) ∷ refused Nothing ∷ refused_in 0 (InUse n1 w1) ∷ []))
+    × (map_after ample calls ≡ ((n1, node_at (pos 1) (pos 1)) ∷ (n2, node_at (pos 2) (pos 2)) ∷ (w1, way_of (n1 ∷ n2 ∷ [])) ∷ []))
+    × (held_after ample calls ≡ ((5, both_at n1 ++ both_at n2 ++ both_at w1) ∷ [])))

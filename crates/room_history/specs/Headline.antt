@@ -13,9 +13,9 @@ use Rattle.room_history.specs.declared.reply.Reply.TheVariants.{Done, Undid, Red
 use Rattle.osm_elements.specs.Maps.{Rows}
 use Rattle.osm_refs.specs.References.{users}
 use Rattle.osm_changes.specs.Sound.{is_sound}
-use Rattle.edit_actions.specs.declared.action.Action.{Action}
-use Rattle.edit_actions.specs.After.{after}
-use Rattle.edit_actions.specs.Refusals.{refusal}
+use Rattle.edit_groups.specs.declared.edit.Edit.{Edit as Action}
+use Rattle.edit_groups.specs.Edits.{after}
+use Rattle.edit_groups.specs.Edits.{refusal}
 use Rattle.edit_footprint.specs.Footprints.{Shares}
 use Rattle.room_history.specs.Blockers.{recorded_footprint}
 use Rattle.room_history.specs.Journals.{numbered, standing, is_standing, is_by, is_work, others, redos}

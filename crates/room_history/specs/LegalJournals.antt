@@ -1,7 +1,7 @@
 -- The journals that there are: those that calls lead to, where each entry is the one that an answer appends. (The rules
 -- of a room are this project's.)
 use Rattle.std.specs.Prelude.{◌≡◌, ℕ, Bool, true, List, []}
-use Rattle.edit_actions.specs.MadeActions.{is_made_action}
+use Rattle.edit_groups.specs.Edits.{is_made_edit as is_made_action}
 use Rattle.room_history.specs.declared.ask.RoomCall.{RoomCall}
 use Rattle.room_history.specs.declared.ask.RoomCall.TheVariants as asked
 use Rattle.room_history.specs.declared.call.Call.{Call}

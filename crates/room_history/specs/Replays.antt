@@ -3,17 +3,17 @@
 use Rattle.std.specs.Prelude.{◌++◌, ℕ, List, [], ◌∷◌, Option, Some, None, is_none, if◌then◌else◌}
 use Rattle.std.specs.List.{fold, filter_map}
 use Rattle.std.specs.Option.{option_and_then}
-use Rattle.edit_actions.specs.declared.action.Action.{Action}
+use Rattle.edit_groups.specs.declared.edit.Edit.{Edit as Action}
 use Rattle.room_history.specs.declared.entry.Entry.{Entry}
 use Rattle.room_history.specs.declared.entry.EntryKind.{EntryKind}
 use Rattle.room_history.specs.declared.entry.EntryKind.TheVariants.{Do, Undo, Redo}
 use Rattle.osm_elements.specs.Maps.{Rows}
-use Rattle.edit_actions.specs.After.{after, changes}
-use Rattle.edit_actions.specs.Refusals.{refusal}
+use Rattle.edit_groups.specs.Edits.{after, changes}
+use Rattle.edit_groups.specs.Edits.{refusal}
 use Rattle.osm_changes.specs.declared.cell.Cell.{Cell}
 use Rattle.osm_changes.specs.declared.change.Change.{Change}
 use Rattle.osm_changes.specs.Changes.{inverse, changed}
-use Rattle.edit_footprint.specs.Footprints.{footprint}
+use Rattle.edit_groups.specs.Edits.{footprint}
 use Rattle.room_history.specs.Journals.{numbered, standing}
 
 -- what is recorded of an entry: its action, if it did one, what it changed, and the footprint of its action

@@ -7,12 +7,16 @@ use Rattle.osm_elements.specs.declared.element.Element.TheVariants.{Node, Way, R
 use Rattle.osm_elements.specs.NameTexts.{named}
 use Rattle.osm_elements.specs.TagRows.{Pairs}
 use Rattle.edit_simple.specs.Tagging.{GivenTags}
+use Rattle.edit_simple.specs.declared.refusal.Refusal.{Refusal}
 use Rattle.edit_actions.specs.declared.action.Action.{Action}
+use Rattle.edit_groups.specs.declared.edit.Edit.TheVariants.{One, Group}
+use Rattle.edit_groups.specs.Groups.{alone, at_position}
 use Rattle.room_history.specs.Holdings.{Holdings}
 use Rattle.room_stacks.specs.declared.author.Author.{Author}
 use Rattle.room_history.specs.declared.call.Call.{Call}
 use Rattle.room_history.specs.declared.call.Request.TheVariants.{Do, Undo, Redo}
 use Rattle.room_history.specs.declared.reply.Reply.{Reply}
+use Rattle.room_history.specs.declared.reply.Reply.TheVariants.{Refused}
 use Rattle.osm_elements.specs.Maps.{Rows}
 use Rattle.room_history.specs.Answers.{answers}
 use Rattle.room_history.specs.Blockers.{held}
@@ -79,13 +83,23 @@ abbrev pub relation_of : List Name → Element Any
 relation_of names = Relation (map (λ x. (x, [])) names) []
 
 abbrev pub does : Author → ℕ → Action Any → Call Any
-does author id a = record { author = author; id = id; request = Do a }
+does author id a = record { author = author; id = id; request = Do (One a) }
+
+abbrev pub does_all : Author → ℕ → List (Action Any) → Call Any
+does_all author id g = record { author = author; id = id; request = Do (Group g) }
 
 abbrev pub undoes : Author → ℕ → Option ℕ → Call Any
 undoes author id s = record { author = author; id = id; request = Undo s }
 
 abbrev pub redoes : Author → ℕ → Call Any
 redoes author id = record { author = author; id = id; request = Redo }
+
+-- the refusal of one action, or of a group as a whole; and that of the action at a position of a group
+abbrev pub refused : Refusal Any → Reply Any
+refused why = Refused (alone why)
+
+abbrev pub refused_in : ℕ → Refusal Any → Reply Any
+refused_in position why = Refused (at_position position why)
 
 -- the replies of an empty room with this limit, and the map that the calls leave
 abbrev pub replies : ℕ → List (Call Any) → List (Reply Any)

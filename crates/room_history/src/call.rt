@@ -1,7 +1,7 @@
 //! What authors ask of a room.
 ghost use Rattle.std.specs.Prelude.{◌≡◌};
 
-use edit_actions::action::Action;
+use edit_groups::edit::Edit;
 use room_stacks::author::Author;
 use std::alloc::Allocator;
 use std::marker::Model;
@@ -10,8 +10,8 @@ use std::marker::Model;
 #[derive(Drop)]
 #[derive_where(Debug)]
 pub enum Request<A: Allocator> {
-    /// An action on the map.
-    Do(Action<A>),
+    /// An edit of the map: one action, or a group of them.
+    Do(Edit<A>),
     /// The undo of the entry of this number, or without a number of the author's last entry that stands.
     Undo(Option<u64>),
     /// The action of the entry that the author undid last and has not redone, done again on the map as it is.

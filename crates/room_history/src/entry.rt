@@ -1,5 +1,5 @@
 //! What a room's journal keeps of an accepted call.
-use edit_actions::action::Action;
+use edit_groups::edit::Edit;
 use room_stacks::author::Author;
 use std::alloc::Allocator;
 
@@ -7,8 +7,8 @@ use std::alloc::Allocator;
 #[derive(Drop)]
 #[derive_where(Debug)]
 pub enum EntryKind<A: Allocator> {
-    /// Did an action.
-    Do(Action<A>),
+    /// Did an action, or a group of them.
+    Do(Edit<A>),
     /// Undid the entry of this number.
     Undo(u64),
     /// Did the action of the entry of this number again.

@@ -5,7 +5,7 @@ ghost use Rattle.room_history.specs.Journals.{numbered};
 ghost use Rattle.room_history.specs.Inner.Origins.{done_by, origin_next, own_action};
 
 use crate::entry::{Entry, EntryKind};
-use edit_actions::action::Action;
+use edit_groups::edit::Edit;
 use std::alloc::Allocator;
 
 /// The item of a number, from 1 on.
@@ -24,7 +24,7 @@ pub fn action_of<'a, A: Allocator>(
     entries: &'a [Entry<A>],
     origins: &[u64],
     seq: u64,
-) -> Option<&'a Action<A>>
+) -> Option<&'a Edit<A>>
     ensures { option_copied result
         ≡ option_and_then (λ o. done_by (numbered entries.now o)) (numbered origins.now seq) }
 {
@@ -38,7 +38,7 @@ pub fn action_of<'a, A: Allocator>(
 }
 
 // The action that an entry did itself.
-fn own_action<A: Allocator>(entry: &Entry<A>) -> Option<&Action<A>>
+fn own_action<A: Allocator>(entry: &Entry<A>) -> Option<&Edit<A>>
     ensures { option_copied result ≡ own_action entry.now.kind }
 {
     match &entry.kind {

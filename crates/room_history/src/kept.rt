@@ -1,11 +1,15 @@
 //! What a room keeps of what an entry changed.
-ghost use Rattle.std.specs.Prelude.{◌≡◌, ◌∷◌, [], IfOk, IfSome, map};
+ghost use Rattle.std.specs.Prelude.{◌≡◌, ◌∷◌, [], Some, None, IfOk, IfSome, map};
+ghost use Rattle.std.specs.Option.{is_some, option_copied};
 ghost use Rattle.osm_elements.specs.Rows.{row_at};
 ghost use Rattle.osm_changes.specs.Changes.{AreFrom, row_changes, rows_after};
 ghost use Rattle.room_history.specs.Inner.Kept.{effect_of_row};
-ghost use Rattle.room_history.specs.Inner.Telling.{effect_of, told_row};
+ghost use Rattle.room_history.specs.Inner.Telling.{footprint_by, is_group, single_effect, told_row};
 
 use crate::news::{NewsRow, NewsRows, copy_of, told_rows};
+use edit_footprint::footprint::Footprint;
+use edit_footprint::touching::footprint;
+use edit_groups::edit::Edit;
 use osm_changes::changes::Changes;
 use osm_changes::row_after::RowsAfter;
 use osm_changes::store::Store;
@@ -16,12 +20,14 @@ use std::alloc::Allocator;
 use std::marker::Model;
 
 // What an entry does to the map: the cells that it changes, with their halves before and after, and the rows of their
-// names after it. The rows are told in news; the other part of a row is not among the changes.
+// names after it. News have the rows; the other part of a row is not among the changes. Of a group also its footprint,
+// which does not follow from its actions and its changes.
 #[derive(Drop)]
 #[derive_where(Debug)]
 pub(crate) struct Effect<A: Allocator> {
     pub(crate) changes: Changes<A>,
     pub(crate) rows: RowsAfter<A>,
+    pub(crate) group: Option<Footprint<A>>,
 }
 
 // A row that is changed: a name, with its element before and after, or none.
@@ -61,17 +67,21 @@ impl<A: Allocator> Model for Kept<A> {
     ghost view = { λ k. kept_effect k.form };
 }
 
-// The effect of changes, with the rows that a store has after them, before they are applied. The one refusal is want of
-// memory.
+// The effect of changes that are no group's, with the rows that a store has after them, before they are applied. Refuses
+// with `Memory`.
 pub(crate) fn effect_of<A: Allocator + Clone>(
     alloc: A,
     store: &Store<A>,
     changes: Changes<A>,
 ) -> Result<Effect<A>, Memory>
-    ensures { IfOk result (λ e. e ≡ effect_of store.now.rows changes) }
+    ensures { IfOk result (λ e. e ≡ single_effect store.now.rows changes) }
 {
     let rows = store.rows_after(alloc, &changes)?;
-    Ok(Effect { changes, rows })
+    Ok(Effect {
+        changes,
+        rows,
+        group: None,
+    })
 }
 
 // The row of an effect that is of one alone, before it is applied, with copies of both elements. The one refusal is
@@ -82,6 +92,7 @@ pub(crate) fn sole_row<A: Allocator + Clone>(
 ) -> Result<Option<ChangedRow<A>>, Memory>
     requires from { AreFrom store.now.rows effect.now.changes }
     requires rows { effect.now.rows ≡ rows_after store.now.rows effect.now.changes }
+    requires single { effect.now.group ≡ None }
     ensures { IfOk result (λ sole. IfSome sole (λ row. effect_of_row row ≡ effect.now)) }
 {
     // A row has two cells.
@@ -113,17 +124,63 @@ fn element_at<A: Allocator + Clone>(
     }
 }
 
+// Whether an edit is a group.
+pub(crate) fn is_group<A: Allocator>(edit: &Edit<A>) -> bool
+    ensures { result ≡ is_group (Some edit.now) }
+{
+    matches!(edit, Edit::Group(_))
+}
+
+// The footprint of an edit with its changes: that of one action follows from them, and that of a group was kept.
+pub(crate) fn footprint_by<A: Allocator + Clone>(
+    alloc: A,
+    edit: &Edit<A>,
+    kept: &Kept<A>,
+    changes: &Changes<A>,
+) -> Result<Footprint<A>, Memory>
+    requires { is_group (Some edit.now) ≡ is_some kept.now.group }
+    ensures { IfOk result (λ f. f ≡ footprint_by edit.now kept.now.group changes.now) }
+{
+    match edit {
+        Edit::One(action) => footprint(alloc, action, changes),
+        Edit::Group(_) => match kept.group() {
+            Some(footprint) => footprint.copy(),
+            None => unreachable!(),
+        },
+    }
+}
+
 impl<A: Allocator> Kept<A> {
-    // Keeps an effect, by its one row where that is told.
-    pub(crate) fn of(effect: Effect<A>, sole: Option<ChangedRow<A>>) -> Kept<A>
-        requires { IfSome sole (λ row. effect_of_row row ≡ effect) }
-        ensures { result ≡ effect }
+    // Keeps an effect, by its one row if that is known, and of a group with its footprint.
+    pub(crate) fn of(
+        effect: Effect<A>,
+        sole: Option<ChangedRow<A>>,
+        group: Option<Footprint<A>>,
+    ) -> Kept<A>
+        requires sole { IfSome sole (λ row. effect_of_row row ≡ effect) }
+        requires single { effect.group ≡ None }
+        ensures { result ≡ record effect { group = group } }
     {
-        let form = match sole {
-            Some(row) => Form::Row(row),
-            None => Form::Whole(effect),
+        let Effect { changes, rows, .. } = effect;
+        let form = match (group, sole) {
+            (None, Some(row)) => Form::Row(row),
+            (group, _) => Form::Whole(Effect {
+                changes,
+                rows,
+                group,
+            }),
         };
         Kept { form }
+    }
+
+    // The footprint of a group, and none of one action.
+    pub(crate) fn group(&self) -> Option<&Footprint<A>>
+        ensures { option_copied result ≡ self.now.group }
+    {
+        match &self.form {
+            Form::Row(_) => None,
+            Form::Whole(effect) => effect.group.as_ref(),
+        }
     }
 
     // The changes, of which the kept ones are copied, since the entry's own news may still be asked for. The one

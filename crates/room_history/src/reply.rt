@@ -2,6 +2,7 @@
 ghost use Rattle.std.specs.Prelude.{◌≡◌};
 ghost use Rattle.room_history.specs.Inner.Refusing.{refusal_reply};
 
+use edit_groups::refusal::EditRefusal;
 use edit_simple::refusal::Refusal;
 use osm_elements::name::Name;
 use std::alloc::Allocator;
@@ -56,19 +57,22 @@ pub enum Reply<A: Allocator> {
     /// A redo, and the author has nothing to redo.
     NothingToRedo,
     /// The action, or the one that was to be done again, is refused on the map as it is.
-    Refused(Refusal<A>),
+    Refused(EditRefusal<A>),
     /// A growth was refused.
     Memory,
 }
 
-// Want of memory is told as such, another refusal as the action's.
-impl<A: Allocator> From<Refusal<A>> for Reply<A> {
+// A failed allocation is `Memory`, whatever was asked for; any other refusal is the edit's.
+impl<A: Allocator> From<EditRefusal<A>> for Reply<A> {
     ghost from_gives = { λ refusal reply. reply ≡ refusal_reply refusal };
 
-    fn from(refusal: Refusal<A>) -> Reply<A> {
-        match refusal {
+    fn from(refusal: EditRefusal<A>) -> Reply<A> {
+        match refusal.why {
             Refusal::Memory => Reply::Memory,
-            refusal => Reply::Refused(refusal),
+            why => Reply::Refused(EditRefusal {
+                action: refusal.action,
+                why,
+            }),
         }
     }
 }

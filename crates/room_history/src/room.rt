@@ -5,22 +5,20 @@ ghost use Rattle.osm_changes.specs.Changes.{changed, inverse, AreFrom};
 ghost use Rattle.osm_elements.specs.Maps.{Rows};
 ghost use Rattle.osm_elements.specs.Rows.{AreInOrder};
 ghost use Rattle.osm_changes.specs.Sound.{is_sound};
-ghost use Rattle.edit_footprint.specs.Footprints.{footprint_of};
 ghost use Rattle.room_history.specs.Journals.{numbered};
 
 use crate::base::{BaseFault, first_unsound};
 use crate::call::{Call, Request};
 use crate::entry::{Entry, EntryKind};
 use crate::journal::{action_of, numbered};
-use crate::kept::Kept;
+use crate::kept::{Kept, footprint_by};
 use crate::news::{NewsList, news_past};
 use crate::reply::Reply;
 use crate::undo::{Undoable, asked_for};
-use edit_actions::action::Action;
-use edit_actions::plan::plan;
 use edit_footprint::footprint::Footprint;
 use edit_footprint::holders::Holders;
-use edit_footprint::touching::footprint;
+use edit_groups::edit::Edit;
+use edit_groups::plan::plan_edit;
 use osm_changes::changes::Changes;
 use osm_changes::store::Store;
 use osm_elements::Memory;
@@ -76,17 +74,15 @@ impl<A: Allocator + Copy> Room<A> {
     ghost use Rattle.room_history.specs.Answers.{asked, undo_refusal, redo_refusal};
     ghost use Rattle.room_history.specs.declared.call.Request.TheVariants as requests;
     ghost use Rattle.room_history.specs.declared.reply.Reply.TheVariants as replies;
-    ghost use Rattle.edit_actions.specs.Refusals.{refusal};
+    ghost use Rattle.edit_groups.specs.Edits.{changes as changes_of, footprint as footprint_of, is_made_edit, refusal};
     ghost use Rattle.room_history.specs.declared.entry.EntryKind.TheVariants.{Undo, Redo};
     ghost use Rattle.room_history.specs.Blockers.{recorded_footprint};
     ghost use Rattle.room_history.specs.Inner.Undoing.{asked_or};
     ghost use Rattle.room_history.specs.Journals.{is_standing, undos, redos};
     ghost use Rattle.room_history.specs.Replays.{past, mapof, action_at, recorded_next};
     ghost use Rattle.room_history.specs.Applied.{applied};
-    ghost use Rattle.edit_actions.specs.After.{changes as changes_of};
     ghost use Rattle.room_history.specs.Headline.{Holds};
     ghost use Rattle.room_history.specs.Inner.Rooms.{MayAppend};
-    ghost use Rattle.edit_actions.specs.MadeActions.{is_made_action};
     ghost use Rattle.room_history.specs.News.{news};
     ghost use Rattle.room_history.specs.Runs.{IsStep};
     ghost use Rattle.room_history.specs.Bases.{IsBaseFault, are_of_kinds};
@@ -177,23 +173,23 @@ impl<A: Allocator + Copy> Room<A> {
             return Reply::Full;
         }
         match request {
-            Request::Do(action) => self.act(author, id, action),
+            Request::Do(edit) => self.act(author, id, edit),
             Request::Undo(number) => self.undo(author, id, number),
             Request::Redo => self.redo(author, id),
         }
     }
 
-    // Does an action, if it is accepted on the map.
-    fn act(&mut self, author: Author, id: u64, action: Action<A>) -> Reply<A>
+    // Does an action or a group, if it is accepted on the map.
+    fn act(&mut self, author: Author, id: u64, edit: Edit<A>) -> Reply<A>
         requires { MayAppend self.old.limit self.old.journal author id }
         ensures step { IsStep self.old.base self.old.limit self.old.journal
-            (record { author = author; id = id; request = requests.Do action }) result self.new.journal }
+            (record { author = author; id = id; request = requests.Do edit }) result self.new.journal }
         ensures base { self.new.base ≡ self.old.base }
         ensures limit { self.new.limit ≡ self.old.limit }
     {
-        match self.planned(&action) {
+        match self.planned(&edit) {
             Ok((changes, footprint)) => {
-                let kind = EntryKind::Do(action);
+                let kind = EntryKind::Do(edit);
                 match self.append_work(author, id, kind, changes, footprint) {
                     Ok(seq) => Reply::Done { seq },
                     Err(_) => Reply::Memory,
@@ -203,24 +199,21 @@ impl<A: Allocator + Copy> Room<A> {
         }
     }
 
-    // What an action changes and touches on the map as it is, or the reply that refuses it.
-    fn planned(&self, action: &Action<A>) -> Result<(Changes<A>, Footprint<A>), Reply<A>>
-        ensures made { is_made_action action.now ≡ true }
-        ensures accepted { OnOk result (refusal (mapof self.now.base self.now.journal) action.now ≡ None) }
-        ensures changes { IfOk result (λ p. p.0 ≡ changes_of (mapof self.now.base self.now.journal) action.now) }
+    // What an action or a group changes and touches on the map as it is, or the reply that refuses it.
+    fn planned(&self, edit: &Edit<A>) -> Result<(Changes<A>, Footprint<A>), Reply<A>>
+        ensures made { is_made_edit edit.now ≡ true }
+        ensures accepted { OnOk result (refusal (mapof self.now.base self.now.journal) edit.now ≡ None) }
+        ensures changes { IfOk result (λ p. p.0 ≡ changes_of (mapof self.now.base self.now.journal) edit.now) }
         ensures footprint { IfOk result
-            (λ p. p.1 ≡ footprint_of action.now (changes_of (mapof self.now.base self.now.journal) action.now)) }
+            (λ p. p.1 ≡ footprint_of (mapof self.now.base self.now.journal) edit.now) }
         ensures from { IfOk result (λ p. AreFrom (mapof self.now.base self.now.journal) p.0) }
         ensures sound { IfOk result (λ p. is_sound (changed (mapof self.now.base self.now.journal) p.0) ≡ true) }
         ensures refused { IfErr result (λ r. (r ≡ replies.Memory)
-            ⊎ (option_map replies.Refused (refusal (mapof self.now.base self.now.journal) action.now) ≡ Some r)) }
+            ⊎ (option_map replies.Refused (refusal (mapof self.now.base self.now.journal) edit.now) ≡ Some r)) }
     {
         let alloc = *self.entries.allocator();
-        match plan(alloc, &self.store, action) {
-            Ok(changes) => match footprint(alloc, action, &changes) {
-                Ok(footprint) => Ok((changes, footprint)),
-                Err(_) => Err(Reply::Memory),
-            },
+        match plan_edit(alloc, &self.store, edit) {
+            Ok(planned) => Ok(planned),
             Err(refusal) => Err(refusal.into()),
         }
     }
@@ -274,7 +267,7 @@ impl<A: Allocator + Copy> Room<A> {
         }
     }
 
-    // What an entry that stands changed, and its footprint, which is worked out of its action and that.
+    // What an entry that stands changed, and its footprint.
     fn worked_out(&self, of: u64) -> Result<(Changes<A>, Footprint<A>), Memory>
         requires { is_standing self.now.journal of ≡ true }
         ensures changes { IfOk result
@@ -283,9 +276,10 @@ impl<A: Allocator + Copy> Room<A> {
     {
         let alloc = *self.entries.allocator();
         match action_of(&self.entries, &self.origins, of) {
-            Some(action) => {
-                let changes = self.recorded[of as usize - 1].changes(alloc)?;
-                let footprint = footprint(alloc, action, &changes)?;
+            Some(edit) => {
+                let kept = &self.recorded[of as usize - 1];
+                let changes = kept.changes(alloc)?;
+                let footprint = footprint_by(alloc, edit, kept, &changes)?;
                 Ok((changes, footprint))
             }
             None => unreachable!(),

@@ -6,7 +6,7 @@ use crate::ask::{RoomCall, RoomReply};
 use crate::call::{Call, Request};
 use crate::entry::Entry;
 use crate::room::Room;
-use edit_actions::plan::keeps_values;
+use edit_groups::edit::keeps_values;
 use osm_elements::map::Rows;
 use std::alloc::Allocator;
 use turn_desk::Turned;

@@ -1,5 +1,5 @@
 -- What is kept of an effect.
-use Rattle.std.specs.Prelude.{[], ◌∷◌}
+use Rattle.std.specs.Prelude.{[], ◌∷◌, None}
 use Rattle.osm_changes.specs.Changes.{row_changes}
 use Rattle.room_history.specs.declared.kept.ChangedRow.{ChangedRow}
 use Rattle.room_history.specs.declared.kept.Effect.{Effect}
@@ -12,6 +12,7 @@ module _ {A : Type 0} where
   effect_of_row r = record {
     changes = row_changes r.name r.before r.after;
     rows = record { name = r.name; element = r.after } ∷ [];
+    group = None;
   }
 
   abbrev pub kept_effect : Form A → Effect A

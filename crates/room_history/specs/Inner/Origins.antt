@@ -2,7 +2,7 @@
 -- the origin of the entry that it names.
 use Rattle.std.specs.Prelude.{◌+◌, ◌++◌, ℕ, List, [], ◌∷◌, Option, Some, None, length, unwrap_or}
 use Rattle.std.specs.List.{fold}
-use Rattle.edit_actions.specs.declared.action.Action.{Action}
+use Rattle.edit_groups.specs.declared.edit.Edit.{Edit as Action}
 use Rattle.room_history.specs.declared.entry.Entry.{Entry}
 use Rattle.room_history.specs.declared.entry.EntryKind.{EntryKind}
 use Rattle.room_history.specs.declared.entry.EntryKind.TheVariants.{Do, Undo, Redo}

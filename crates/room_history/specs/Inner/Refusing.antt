@@ -1,10 +1,15 @@
 -- The reply that a plan's refusal becomes.
+use Rattle.std.specs.Prelude.{ℕ, Option}
 use Rattle.edit_simple.specs.declared.refusal.Refusal.{Refusal}
 use Rattle.edit_simple.specs.declared.refusal.Refusal.TheVariants as refusals
+use Rattle.edit_groups.specs.declared.refusal.EditRefusal.{EditRefusal}
 use Rattle.room_history.specs.declared.reply.Reply.{Reply}
 use Rattle.room_history.specs.declared.reply.Reply.TheVariants.{Refused, Memory}
 
--- want of memory is told as such
-abbrev pub refusal_reply : {A : Type 0} → Refusal A → Reply A
-refusal_reply refusals.Memory = Memory
-refusal_reply r = Refused r
+-- out of memory is a reply of its own, which has no position
+abbrev pub refused_by : {A : Type 0} → Option ℕ → Refusal A → Reply A
+refused_by at refusals.Memory = Memory
+refused_by at why = Refused (record { action = at; why = why })
+
+abbrev pub refusal_reply : {A : Type 0} → EditRefusal A → Reply A
+refusal_reply r = refused_by r.action r.why

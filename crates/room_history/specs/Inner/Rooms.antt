@@ -3,7 +3,7 @@ use Rattle.std.specs.Prelude.{◌≡◌, ◌<◌, ℕ, true, List, Some, None, l
 use Rattle.osm_changes.specs.Sound.{is_sound}
 use Rattle.osm_changes.specs.Stores.{StoreState}
 use Rattle.osm_elements.specs.Maps.{Rows}
-use Rattle.edit_actions.specs.MadeActions.{is_made_action}
+use Rattle.edit_groups.specs.Edits.{is_made_edit as is_made_action}
 use Rattle.room_stacks.specs.declared.author.Author.{Author}
 use Rattle.room_stacks.specs.declared.deed.Deed.{Deed}
 use Rattle.room_history.specs.declared.entry.Entry.{Entry}

@@ -1,9 +1,14 @@
 -- What a room keeps of what its entries changed, and the news as it tells them by that.
-use Rattle.std.specs.Prelude.{◌+◌, ℕ, List, [], ◌∷◌, map}
+use Rattle.std.specs.Prelude.{◌+◌, ℕ, Bool, true, false, List, [], ◌∷◌, Option, Some, None, map}
+use Rattle.std.specs.Bool.{then_some}
 use Rattle.osm_elements.specs.Maps.{Rows}
+use Rattle.osm_changes.specs.declared.cell.Cell.{Cell}
 use Rattle.osm_changes.specs.declared.change.Change.{Change}
 use Rattle.osm_changes.specs.declared.row_after.RowAfter.{RowAfter}
 use Rattle.osm_changes.specs.Changes.{changed, rows_after}
+use Rattle.edit_footprint.specs.Footprints.{footprint_of}
+use Rattle.edit_groups.specs.declared.edit.Edit.{Edit}
+use Rattle.edit_groups.specs.declared.edit.Edit.TheVariants.{One, Group}
 use Rattle.room_history.specs.declared.entry.Entry.{Entry}
 use Rattle.room_history.specs.declared.kept.Effect.{Effect}
 use Rattle.room_history.specs.declared.news.News.{News}
@@ -11,22 +16,37 @@ use Rattle.room_history.specs.declared.news.NewsRow.{NewsRow}
 use Rattle.room_history.specs.Replays.{Recorded, past}
 
 module _ {A : Type 0} where
-  -- what each entry changed, an undo's what it put back
-  abbrev pub recorded_changes : Rows A → List (Entry A) → List (List (Change A))
-  recorded_changes base j = map (λ (r : Recorded A). r.changes) (past base j).entries
+  abbrev pub is_group : Option (Edit A) → Bool
+  is_group None = false
+  is_group (Some (One a)) = false
+  is_group (Some (Group g)) = true
 
-  -- changes, with the rows after them
-  abbrev pub effect_of : Rows A → List (Change A) → Effect A
-  effect_of m cs = record { changes = cs; rows = rows_after m cs }
+  -- the footprint, if a group has it; that of one action follows from the action and its changes
+  abbrev pub group_cells : Option (Edit A) → List Cell → Option (List Cell)
+  group_cells o cells = then_some (is_group o) cells
 
-  -- changes that follow one another, each with the rows after them
-  abbrev pub kept_from : Rows A → List (List (Change A)) → List (Effect A)
+  -- the footprint of an edit with its changes, and with the footprint that was kept of a group
+  abbrev pub footprint_by : Edit A → Option (List Cell) → List (Change A) → List Cell
+  footprint_by (One a) kept cs = footprint_of a cs
+  footprint_by (Group g) None cs = []
+  footprint_by (Group g) (Some cells) cs = cells
+
+  -- changes that are no group's, with the rows after them
+  abbrev pub single_effect : Rows A → List (Change A) → Effect A
+  single_effect m cs = record { changes = cs; rows = rows_after m cs; group = None }
+
+  -- what an entry changed, with the rows after it
+  abbrev pub effect_of : Rows A → Recorded A → Effect A
+  effect_of m r = record { changes = r.changes; rows = rows_after m r.changes; group = group_cells r.action r.footprint }
+
+  -- entries in their order, each with the rows after it
+  abbrev pub kept_from : Rows A → List (Recorded A) → List (Effect A)
   kept_from m [] = []
-  kept_from m (cs ∷ css) = effect_of m cs ∷ kept_from (changed m cs) css
+  kept_from m (r ∷ rs) = effect_of m r ∷ kept_from (changed m r.changes) rs
 
   -- what is kept of each entry
   abbrev pub kept : Rows A → List (Entry A) → List (Effect A)
-  kept base j = kept_from base (recorded_changes base j)
+  kept base j = kept_from base (past base j).entries
 
   -- a row as news tell it
   abbrev pub told_row : RowAfter A → NewsRow A

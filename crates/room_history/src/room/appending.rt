@@ -8,8 +8,8 @@ ghost use Rattle.osm_changes.specs.Sound.{is_sound};
 
 use crate::effects::{enter, note, reserve, stand};
 use crate::entry::{Entry, EntryKind};
-use crate::journal::origin_next;
-use crate::kept::{Kept, effect_of, sole_row};
+use crate::journal::{action_of, origin_next};
+use crate::kept::{Kept, effect_of, is_group, sole_row};
 use crate::room::Room;
 use crate::undo::Undoable;
 use edit_footprint::footprint::Footprint;
@@ -25,6 +25,7 @@ impl<A: Allocator + Copy> Room<A> {
     ghost use Rattle.room_history.specs.Blockers.{recorded_footprint};
     ghost use Rattle.room_history.specs.Replays.{past, mapof, recorded_next};
     ghost use Rattle.room_history.specs.Inner.Rooms.{MayAppend, MayWork};
+    ghost use Rattle.room_history.specs.Inner.Telling.{is_group};
 
     // Appends the entry of an action that is not refused, done for the first time or again, with what it changes and
     // touches now, and answers its number. All memory is taken before the store changes: room in the three lists and in
@@ -50,6 +51,7 @@ impl<A: Allocator + Copy> Room<A> {
         ensures err { OnErr result (self.new ≡ self.old) }
     {
         let alloc = *self.entries.allocator();
+        let is_group = self.does_group(&kind);
         reserve(
             &mut self.entries,
             &mut self.recorded,
@@ -75,10 +77,24 @@ impl<A: Allocator + Copy> Room<A> {
             &mut self.recorded,
             &mut self.origins,
             Entry { author, id, kind },
-            Kept::of(effect, sole),
+            Kept::of(effect, sole, is_group.then_some(footprint)),
             origin,
         );
         Ok(seq)
+    }
+
+    // Whether an entry of this kind, as the next one, does a group.
+    fn does_group(&self, kind: &EntryKind<A>) -> bool
+        ensures { result ≡ is_group (recorded_next (past self.now.base self.now.journal) kind.now).action }
+    {
+        match kind {
+            EntryKind::Do(edit) => is_group(edit),
+            EntryKind::Redo(of) => match action_of(&self.entries, &self.origins, *of) {
+                Some(edit) => is_group(edit),
+                None => false,
+            },
+            EntryKind::Undo(_) => false,
+        }
     }
 
     // Appends the undo of an entry that nothing blocks, which takes back what that changed, and answers its number.
@@ -127,7 +143,7 @@ impl<A: Allocator + Copy> Room<A> {
                 id,
                 kind: undo,
             },
-            Kept::of(effect, sole),
+            Kept::of(effect, sole, None),
             seq,
         );
         self.holders.fall(&footprint, of);

@@ -1,4 +1,4 @@
-use Rattle.room_history.proofs.ExampleProofs.{first_run_lem, range_ends_lem, limit_one_lem, limit_zero_lem, strangers_lem, in_use_lem, taken_back_way_lem, refusals_in_turn_lem, relations_in_turn_lem, redo_at_once_lem, redo_refused_lem, redo_order_lem, redo_again_lem, unglued_node_lem, blocker_goes_by_parts_lem, both_moved_lem, two_blockers_by_parts_lem, split_over_retag_lem}
+use Rattle.room_history.proofs.ExampleProofs.{first_run_lem, range_ends_lem, limit_one_lem, limit_zero_lem, strangers_lem, in_use_lem, taken_back_way_lem, refusals_in_turn_lem, relations_in_turn_lem, redo_at_once_lem, redo_refused_lem, redo_order_lem, redo_again_lem, unglued_node_lem, blocker_goes_by_parts_lem, both_moved_lem, two_blockers_by_parts_lem, split_over_retag_lem, drawn_as_one_lem}
 use Rattle.room_history.proofs.laws.replies_are_as_worked.Goals as goal
 
 pub returns-clause-first_run : goal.returns-clause-first_run
@@ -54,3 +54,6 @@ returns-clause-two_blockers_by_parts c = two_blockers_by_parts_lem
 
 pub returns-clause-split_over_retag : goal.returns-clause-split_over_retag
 returns-clause-split_over_retag c = split_over_retag_lem
+
+pub returns-clause-drawn_as_one : goal.returns-clause-drawn_as_one
+returns-clause-drawn_as_one c = drawn_as_one_lem

@@ -21,10 +21,10 @@ append_work-requires-clause-footprint g c = c.in-Ok.ensures.footprint
 pub returns-in-Ok-append_work-clause-step : goal.returns-in-Ok-append_work-clause-step
 returns-in-Ok-append_work-clause-step g c =
     let state = c.args.self.now in
-    rw c.in-Ok-append_work.ensures.ok.1 (step_accepted state.base state.limit state.journal c.args.author c.args.id c.requires (requests.Do c.args.action) (Do c.args.action) refl
+    rw c.in-Ok-append_work.ensures.ok.1 (step_accepted state.base state.limit state.journal c.args.author c.args.id c.requires (requests.Do c.args.edit) (Do c.args.edit) refl
     (ap (option_map Refused) c.in-Ok.ensures.accepted) c.in-Ok-append_work.seq c.in-Ok-append_work.ensures.ok.0)
 
 pub returns-in-Err-clause-step : goal.returns-in-Err-clause-step
 returns-in-Err-clause-step g c =
     let state = c.args.self.now in
-    step_refused state.base state.limit state.journal c.args.author c.args.id c.requires (requests.Do c.args.action) (Do c.args.action) refl c.in-Err.refused c.in-Err.ensures.refused
+    step_refused state.base state.limit state.journal c.args.author c.args.id c.requires (requests.Do c.args.edit) (Do c.args.edit) refl c.in-Err.refused c.in-Err.ensures.refused

@@ -44,7 +44,7 @@ redo-requires g c =
 pub returns-in-Do-clause-step : goal.returns-in-Do-clause-step
 returns-in-Do-clause-step g c =
     let state = c.args.self.now in
-    same_call state.base state.limit state.journal c.act.new.self.journal c.args.call (requests.Do c.in-Do.action) c.act.result c.in-Do.is c.act.ensures.step
+    same_call state.base state.limit state.journal c.act.new.self.journal c.args.call (requests.Do c.in-Do.edit) c.act.result c.in-Do.is c.act.ensures.step
 
 pub returns-in-Undo-clause-step : goal.returns-in-Undo-clause-step
 returns-in-Undo-clause-step g c =

@@ -1,4 +1,4 @@
-use Rattle.std.proofs.Common.{◌≡◌, ◌+◌, ◌++◌, ◌∷◌, [], length, sym, ap, subst, ◌∙◌, rules}
+use Rattle.std.proofs.Common.{◌≡◌, ◌+◌, ◌++◌, ◌∷◌, [], None, refl, length, sym, ap, subst, ◌∙◌, rules}
 use Rattle.osm_changes.specs.Changes.{changed, AreFrom, rows_after}
 use Rattle.osm_changes.specs.Sound.{is_sound}
 use Rattle.osm_changes.specs.Stores.{applied_to}
@@ -10,6 +10,8 @@ use Rattle.room_history.specs.Answers.{undo_refusal}
 use Rattle.room_history.specs.Blockers.{recorded_footprint}
 use Rattle.room_history.specs.Replays.{past, recorded_next}
 use Rattle.room_history.specs.Inner.Rooms.{MayAppend}
+use Rattle.room_history.specs.Journals.{numbered}
+use Rattle.room_history.proofs.KeptEffects.{undone_effect}
 use Rattle.room_history.proofs.Stepping.{IsRoom-undo, holds_just, unspent_deed, above_deeds, stands_there, undo_from, undo_sound, on_err}
 use Rattle.room_history.proofs.room.Room.append_undo.Goals as goal
 
@@ -55,6 +57,10 @@ pub returns-in_err-apply_told-clause-err : goal.returns-in_err-apply_told-clause
 returns-in_err-apply_told-clause-err g c =
     on_err c.from_residual-in_err-apply_told.result _ (ap (λ es. record { base = c.self.inside.base.value; limit = c.self.inside.limit; journal = es }) c.reserve.ensures.entries ∙ c.self.view_is)
 
+pub returns-in_err-sole-clause-err : goal.returns-in_err-sole-clause-err
+returns-in_err-sole-clause-err g c =
+    on_err c.from_residual-in_err-sole.result _ (ap (λ es. record { base = c.self.inside.base.value; limit = c.self.inside.limit; journal = es }) c.reserve.ensures.entries ∙ c.self.view_is)
+
 pub fall-requires : goal.fall-requires
 fall-requires g c =
     let room = c.self.inside in
@@ -90,10 +96,11 @@ invariant_of-self-2 g c =
     let ok = ap (λ s. undo_refusal (past s.base s.journal) s.journal c.args.author c.args.undoable.of) c.self.view_is ∙ c.requires.accepted in
     let next = c.inverse.ensures ∙ c.requires.changes ∙ sym (ap (λ s. (recorded_next (past s.base s.journal) (Undo c.args.undoable.of)).changes) c.self.view_is) in
     let count : c.len.result ≡ length room.entries.items = search rules in
-    IsRoom-undo room.store room.recorded.items room.origins.items room.holders room.stacks.deeds room.base.value room.limit room.entries.items c.self.invariant c.args.author c.args.id may c.args.undoable.of ok c.enter.new.entries.items c.apply_told.new.self c.enter.new.recorded.items c.enter.new.origins.items c.fall.new.self c.note.new.stacks.deeds c.inverse.result
+    IsRoom-undo room.store room.recorded.items room.origins.items room.holders room.stacks.deeds room.base.value room.limit room.entries.items c.self.invariant c.args.author c.args.id may c.args.undoable.of ok c.enter.new.entries.items c.apply_told.new.self c.enter.new.recorded.items c.enter.new.origins.items c.fall.new.self c.note.new.stacks.deeds c.inverse.result c.of.result
     next
     (c.in_ok-apply_told.ensures.ok ∙ ap (λ (e : Effect _). applied_to room.store e.changes) c.in_ok-effect.ensures)
-    (c.enter.ensures.recorded ∙ (λ i. c.reserve.ensures.recorded i ++ (c.of.ensures ∙ c.in_ok-effect.ensures) i ∷ []))
+    (undone_effect room.store.rows c.inverse.result c.in_ok-effect.effect c.of.result None c.in_ok-effect.ensures c.of.ensures (numbered (past room.base.value room.entries.items).entries c.args.undoable.of) next refl)
+    (c.enter.ensures.recorded ∙ ap (λ ks. ks ++ c.of.result ∷ []) c.reserve.ensures.recorded)
     (c.enter.ensures.origins ∙ ap (λ os. os ++ (c.len.result + 1) ∷ []) c.reserve.ensures.origins ∙ ap (λ n. room.origins.items ++ (n + 1) ∷ []) count)
     c.fall.ensures
     (c.note.ensures ∙ (λ i. c.reserve.ensures.deeds i ++ Undid c.args.author c.args.id c.args.undoable.of (count i + 1) ∷ []))

@@ -1,4 +1,5 @@
 use Rattle.std.proofs.Common.{◌≡◌, ◌+◌, ◌++◌, ◌∷◌, [], length, sym, ap, subst, ◌∙◌, rules}
+use Rattle.std.specs.Bool.{then_some}
 use Rattle.osm_changes.specs.Changes.{changed, AreFrom, rows_after}
 use Rattle.osm_changes.specs.Sound.{is_sound}
 use Rattle.osm_changes.specs.Stores.{applied_to}
@@ -9,6 +10,8 @@ use Rattle.room_history.specs.Replays.{past, mapof, recorded_next}
 use Rattle.room_history.specs.Inner.Deeds.{deed_by}
 use Rattle.room_history.specs.Inner.Origins.{origin_next}
 use Rattle.room_history.specs.Inner.Rooms.{MayAppend, MayWork}
+use Rattle.room_history.specs.Inner.Telling.{is_group}
+use Rattle.room_history.proofs.KeptEffects.{worked_effect}
 use Rattle.room_history.proofs.Stepping.{IsRoom-work, may_stand, stands_next, unspent_deed, above_deeds, work_rises, work_noted, on_err, on_ok}
 use Rattle.room_history.proofs.room.Room.append_work.Goals as goal
 
@@ -90,11 +93,16 @@ invariant_of-self-2 g c =
     let work = subst (λ s. MayWork s.journal c.args.author c.args.kind) (sym c.self.view_is) c.requires.work in
     let ok = ap (λ s. kind_refusal (past s.base s.journal) s.journal c.args.author c.args.kind) c.self.view_is ∙ c.requires.accepted in
     IsRoom-work room.store room.recorded.items room.origins.items room.holders room.stacks.deeds room.base.value room.limit room.entries.items c.self.invariant c.args.author c.args.id may c.args.kind work ok
-    c.enter.new.entries.items c.stand.new.store c.enter.new.recorded.items c.enter.new.origins.items c.stand.new.holders c.note.new.stacks.deeds c.args.changes c.args.footprint
+    c.enter.new.entries.items c.stand.new.store c.enter.new.recorded.items c.enter.new.origins.items c.stand.new.holders c.note.new.stacks.deeds c.args.changes c.args.footprint c.of.result
     (c.requires.changes ∙ sym (ap (λ s. (recorded_next (past s.base s.journal) c.args.kind).changes) c.self.view_is))
     (c.requires.footprint ∙ sym (ap (λ s. (recorded_next (past s.base s.journal) c.args.kind).footprint) c.self.view_is))
     (c.in_ok-stand.ensures.ok.0 ∙ ap (λ (k : Effect _). applied_to room.store k.changes) c.in_ok-effect.ensures)
-    (c.enter.ensures.recorded ∙ (λ i. c.reserve.ensures.recorded i ++ (c.of.ensures ∙ c.in_ok-effect.ensures) i ∷ []))
+    (worked_effect room.store.rows c.args.changes c.in_ok-effect.effect c.of.result c.then_some.result c.in_ok-effect.ensures c.of.ensures
+    (recorded_next (past room.base.value room.entries.items) c.args.kind) c.args.footprint
+    (c.requires.changes ∙ sym (ap (λ s. (recorded_next (past s.base s.journal) c.args.kind).changes) c.self.view_is))
+    (c.requires.footprint ∙ sym (ap (λ s. (recorded_next (past s.base s.journal) c.args.kind).footprint) c.self.view_is))
+    (c.then_some.ensures ∙ ap (λ b. then_some b c.args.footprint) (c.does_group-is_group.ensures ∙ sym (ap (λ s. is_group (recorded_next (past s.base s.journal) c.args.kind).action) c.self.view_is))))
+    (c.enter.ensures.recorded ∙ ap (λ ks. ks ++ c.of.result ∷ []) c.reserve.ensures.recorded)
     (c.enter.ensures.origins ∙ (λ i. c.reserve.ensures.origins i ++ (c.origin_next-origin.ensures ∙ ap (λ os. origin_next os c.args.kind) (c.deref.ensures.value ∙ c.reserve.ensures.origins)) i ∷ []))
     (c.in_ok-stand.ensures.ok.1 ∙ ap (λ n. standing room.holders c.args.footprint (n + 1)) count)
     (c.note.ensures ∙ (λ i. c.reserve.ensures.deeds i ++ deed_by (count i + 1) c.args.author c.args.id c.args.kind ∷ []))

@@ -7,7 +7,7 @@ use Rattle.room_history.specs.Inner.Holders.{AreHolders}
 use Rattle.room_history.specs.Inner.Undoing.{asked_or, standing_refusal, undone_or}
 use Rattle.room_history.specs.Journals.{undos}
 use Rattle.room_history.specs.Replays.{past}
-use Rattle.room_history.proofs.Choosing.{asked_answered}
+use Rattle.room_history.proofs.Choosing.{asked_answered, asked_refused, asked_stands, refused_on}
 use Rattle.room_history.proofs.Deeds.{standing_deeds}
 use Rattle.room_history.proofs.room.Room.undoable.Goals as goal
 
@@ -15,6 +15,21 @@ pub asked_for-requires : goal.asked_for-requires
 asked_for-requires g c =
     c.standing-own.ensures.numbers ∙ ap (λ ds. stacks.standing ds c.args.author.now) c.self.invariant.deeds_are
     ∙ standing_deeds c.self.inside.entries.items c.args.author.now ∙ ap (λ j. undos j c.args.author.now) (sym c.deref.ensures.value)
+
+pub returns-in_err-of-clause-refused : goal.returns-in_err-of-clause-refused
+returns-in_err-of-clause-refused g c =
+    let state = c.args.self.now in
+    let entries = c.deref.ensures.value ∙ ap (λ s. s.journal) c.self.view_is in
+    let chosen = sym c.in_err-of.was ∙ c.asked_for.ensures ∙ ap (λ j. asked_or (standing_refusal j c.args.author.now) (asked j c.args.author.now c.args.number)) entries in
+    refused_on c.from_residual.result c.in_err-of.field-0.0 _ c.from_residual.ensures.0 c.from_residual.ensures.1
+    (asked_refused state.journal c.args.author.now (past state.base state.journal) (asked state.journal c.args.author.now c.args.number) c.in_err-of.field-0.0 chosen)
+
+pub worked_out-requires : goal.worked_out-requires
+worked_out-requires g c =
+    let state = c.args.self.now in
+    let entries = c.deref.ensures.value ∙ ap (λ s. s.journal) c.self.view_is in
+    let chosen = sym c.in_ok-of.was ∙ c.asked_for.ensures ∙ ap (λ j. asked_or (standing_refusal j c.args.author.now) (asked j c.args.author.now c.args.number)) entries in
+    asked_stands state.journal c.args.author.now (asked state.journal c.args.author.now c.args.number) c.in_ok-of.of chosen
 
 pub returns-in-Some-clause-refused : goal.returns-in-Some-clause-refused
 returns-in-Some-clause-refused g c =
