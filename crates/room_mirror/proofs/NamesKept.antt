@@ -19,8 +19,11 @@ use Rattle.edit_topology.specs.Unglue.{row_standing}
 use Rattle.edit_actions.specs.declared.action.Action.{Action}
 use Rattle.edit_actions.specs.declared.action.Action.TheVariants.{Create, Retag, Move, Reverse, Nodes, Members, Delete, Purge, Split, Join, Merge, Unglue}
 use Rattle.edit_actions.specs.After.{after}
-use Rattle.edit_actions.specs.Refusals.{refusal}
 use Rattle.edit_footprint.specs.Footprints.{subjects}
+use Rattle.edit_groups.specs.declared.edit.Edit.{Edit}
+use Rattle.edit_groups.specs.declared.edit.Edit.TheVariants.{One, Group}
+use Rattle.edit_groups.specs.Edits as edits
+use Rattle.edit_groups.specs.Groups.{after_all}
 use Rattle.edit_footprint.specs.Facts.Becoming.{becomes, row_at-after}
 use Rattle.room_history.specs.declared.entry.Entry.{Entry}
 use Rattle.room_history.specs.declared.entry.EntryKind.{EntryKind}
@@ -29,7 +32,7 @@ use Rattle.room_history.specs.Headline.{IsReplayed}
 use Rattle.room_history.specs.Journals.{numbered, standing}
 use Rattle.room_history.specs.Replays.{Past, Recorded, action_at, actions_of, done_again, mapof, past, past_after, recorded_next, replay, taken_back}
 use Rattle.room_wire.specs.ReadBack.{HasId}
-use Rattle.room_mirror.specs.Clients.{HasSubjectIds, IsBrought}
+use Rattle.room_mirror.specs.Clients.{HasEditIds, HasIds, HasSubjectIds, AllHaveIds, IsBrought}
 
 first_false : (a : Bool) → (a || (a || false)) ≡ false → a ≡ false
 first_false true e = absurd (cc)
@@ -90,7 +93,7 @@ subjects_have (c ∷ cs) y h is = by (is_same y c.name) refl is (subjects_have c
     by true e f later = subst HasId (sym (same_names y c.name e)) (h 0 c (omega arith))
     by false e f later = later f
 
-ids_after : (m : Rows Global) (a : Action Global) → HaveIds m → All (λ (c : Cell). HasId c.name) (subjects a) → HaveIds (after m a)
+ids_after : (m : Rows Global) (a : Action Global) → HaveIds m → HasIds a → HaveIds (after m a)
 ids_after m a h s y there = by (row_at m y) refl (is_among (subject_names a) y) refl
   where
     by : (o : Option (Element Global)) → row_at m y ≡ o → (b : Bool) → is_among (subject_names a) y ≡ b → HasId y
@@ -98,29 +101,37 @@ ids_after m a h s y there = by (row_at m y) refl (is_among (subject_names a) y) 
     by None e true f = subjects_have (subjects a) y s f
     by None e false f = let gone : row_at (after m a) y ≡ None = row_at-after m a y ∙ ap (becomes m a y) e ∙ none_of m y a f in absurd (cc (sym there ∙ ap is_some gone))
 
--- each action is about names with ids
-abbrev AreOfIds : List (Action Global) → Type 0
-AreOfIds [] = Unit {0}
-AreOfIds (a ∷ rest) = All (λ (c : Cell). HasId c.name) (subjects a) × AreOfIds rest
+ids_after_all : (group : List (Action Global)) (m : Rows Global) → HaveIds m → AllHaveIds group → HaveIds (after_all m group)
+ids_after_all [] m h s = h
+ids_after_all (a ∷ rest) m h s = ids_after_all rest (after m a) (ids_after m a h s.0) s.1
 
-ids_replayed : (rest : List (Action Global)) (m n : Rows Global) → HaveIds m → AreOfIds rest → replay m rest ≡ Some n → HaveIds n
+ids_after_edit : (m : Rows Global) (e : Edit Global) → HaveIds m → HasEditIds e → HaveIds (edits.after m e)
+ids_after_edit m (One a) h s = ids_after m a h s
+ids_after_edit m (Group group) h s = ids_after_all group m h s
+
+-- each edit is about names with ids
+abbrev AreOfIds : List (Edit Global) → Type 0
+AreOfIds [] = Unit {0}
+AreOfIds (a ∷ rest) = HasEditIds a × AreOfIds rest
+
+ids_replayed : (rest : List (Edit Global)) (m n : Rows Global) → HaveIds m → AreOfIds rest → replay m rest ≡ Some n → HaveIds n
 ids_replayed [] m n h s is = let same : m ≡ n = cc in subst HaveIds same h
-ids_replayed (a ∷ rest) m n h s is = by (is_none (refusal m a)) is (ids_replayed rest (after m a) n (ids_after m a h s.0) s.1)
+ids_replayed (a ∷ rest) m n h s is = by (is_none (edits.refusal m a)) is (ids_replayed rest (edits.after m a) n (ids_after_edit m a h s.0) s.1)
   where
-    by : (b : Bool) → cond b (replay (after m a) rest) None ≡ Some n → (replay (after m a) rest ≡ Some n → HaveIds n) → HaveIds n
+    by : (b : Bool) → cond b (replay (edits.after m a) rest) None ≡ Some n → (replay (edits.after m a) rest ≡ Some n → HaveIds n) → HaveIds n
     by true e later = later e
     by false e later = absurd (cc)
 
--- what is recorded of an entry is an action about names with ids, or none
+-- what is recorded of an entry is an edit about names with ids, or none
 abbrev IsOfIds : Recorded Global → Type 0
-IsOfIds r = IfSome r.action (λ a. All (λ (c : Cell). HasId c.name) (subjects a))
+IsOfIds r = IfSome r.action (λ a. HasEditIds a)
 
-of_ids_at : (rs : List (Recorded Global)) (i : ℕ) → All IsOfIds rs → IfSome (option_and_then (λ (r : Recorded Global). r.action) (slice_get rs i)) (λ a. All (λ (c : Cell). HasId c.name) (subjects a))
+of_ids_at : (rs : List (Recorded Global)) (i : ℕ) → All IsOfIds rs → IfSome (option_and_then (λ (r : Recorded Global). r.action) (slice_get rs i)) (λ a. HasEditIds a)
 of_ids_at [] i h = tt
 of_ids_at (r ∷ rs) zero h = h 0 r (omega arith)
 of_ids_at (r ∷ rs) (suc i) h = of_ids_at rs i (λ k d l. h (suc k) d (omega (arith, l)))
 
-action_of_ids : (p : Past Global) (s : ℕ) → All IsOfIds p.entries → IfSome (action_at p s) (λ a. All (λ (c : Cell). HasId c.name) (subjects a))
+action_of_ids : (p : Past Global) (s : ℕ) → All IsOfIds p.entries → IfSome (action_at p s) (λ a. HasEditIds a)
 action_of_ids p zero h = tt
 action_of_ids p (suc i) h = of_ids_at p.entries i h
 
@@ -133,7 +144,7 @@ next_of_ids p (Undo t) h s = by (numbered p.entries t)
     by (Some r) = tt
 next_of_ids p (Redo t) h s = by (action_at p t) (action_of_ids p t h)
   where
-    by : (o : Option (Action Global)) → IfSome o (λ a. All (λ (c : Cell). HasId c.name) (subjects a)) → IsOfIds (done_again p.map o)
+    by : (o : Option (Edit Global)) → IfSome o (λ a. HasEditIds a) → IsOfIds (done_again p.map o)
     by None f = tt
     by (Some a) f = f
 
@@ -150,7 +161,7 @@ actions_of_ids : (p : Past Global) (ss : List ℕ) → All IsOfIds p.entries →
 actions_of_ids p [] h = tt
 actions_of_ids p (s ∷ ss) h = by (action_at p s) (action_of_ids p s h) (actions_of_ids p ss h)
   where
-    by : (o : Option (Action Global)) → IfSome o (λ a. All (λ (c : Cell). HasId c.name) (subjects a)) → AreOfIds (actions_of p ss) → AreOfIds (cons_option o (actions_of p ss))
+    by : (o : Option (Edit Global)) → IfSome o (λ a. HasEditIds a) → AreOfIds (actions_of p ss) → AreOfIds (cons_option o (actions_of p ss))
     by None f rest = rest
     by (Some a) f rest = (f, rest)
 

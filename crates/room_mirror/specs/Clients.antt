@@ -7,7 +7,10 @@ use Rattle.std.specs.declared.alloc.Global.{Global}
 use Rattle.serde_json.specs.Read.{read}
 use Rattle.osm_elements.specs.Maps.{Rows}
 use Rattle.osm_changes.specs.declared.cell.Cell.{Cell}
+use Rattle.edit_actions.specs.declared.action.Action.{Action}
 use Rattle.edit_footprint.specs.Footprints.{subjects}
+use Rattle.edit_groups.specs.declared.edit.Edit.{Edit}
+use Rattle.edit_groups.specs.declared.edit.Edit.TheVariants.{One, Group}
 use Rattle.room_history.specs.declared.entry.Entry.{Entry}
 use Rattle.room_history.specs.declared.entry.EntryKind.{EntryKind}
 use Rattle.room_history.specs.declared.entry.EntryKind.TheVariants.{Do, Undo, Redo}
@@ -51,11 +54,22 @@ mirror_made welcome texts =
     (result_ok (spells_welcome welcome))
 
 -- what an action is about has ids as messages have them
+abbrev pub HasIds : Action Global → Type 0
+HasIds a = All (λ (c : Cell). HasId c.name) (subjects a)
+
+abbrev pub AllHaveIds : List (Action Global) → Type 0
+AllHaveIds [] = Unit {0}
+AllHaveIds (a ∷ rest) = HasIds a × AllHaveIds rest
+
+abbrev pub HasEditIds : Edit Global → Type 0
+HasEditIds (One a) = HasIds a
+HasEditIds (Group group) = AllHaveIds group
+
 abbrev pub HasSubjectIds : EntryKind Global → Type 0
-HasSubjectIds (Do a) = All (λ (c : Cell). HasId c.name) (subjects a)
+HasSubjectIds (Do e) = HasEditIds e
 HasSubjectIds (Undo s) = Unit {0}
 HasSubjectIds (Redo s) = Unit {0}
 
--- an entry as messages bring it: its author has an author's name, and what its action is about has ids
+-- an entry as messages bring it: its author has an author's name, and what its actions are about has ids
 abbrev pub IsBrought : Entry Global → Type 0
 IsBrought e = (is_author e.author ≡ true) × HasSubjectIds e.kind

@@ -223,6 +223,7 @@ Such a line: anna {\"id\":1,\"do\":\"create\",\"el\":\"n1\",\"lat\":\"51.5\",\"l
 
 What `do` can be:
   to change the map: create, delete, purge, move, retag, reverse, nodes, members, split, join, merge, unglue
+  to do several of these as one change: group
   to take a change of one's own back, and to do it again: undo, redo
   to ask: get, map, undos
 

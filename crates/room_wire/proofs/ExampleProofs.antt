@@ -8,7 +8,7 @@ use Rattle.room_wire.specs.Examples.{reads_messages, tells_no_id, tells_an_id, w
 
 pub reads_messages_lem : reads_messages
 unfolding reads_messages serde_json_on_literals digits chars is_long
-reads_messages_lem = (refl, refl, refl, refl, refl, refl, refl, refl, refl, refl, refl, refl, refl, refl, refl, refl, refl, refl, refl, refl, refl, refl, refl)
+reads_messages_lem = (refl, refl, refl, refl, refl, refl, refl, refl, refl, refl, refl, refl, refl, refl, refl, refl, refl, refl, refl, refl, refl, refl, refl, refl)
 
 pub tells_no_id_lem : tells_no_id
 unfolding tells_no_id serde_json_on_literals
@@ -16,11 +16,11 @@ tells_no_id_lem = (refl, refl, refl, refl, refl, refl, refl, refl, refl, refl)
 
 pub tells_an_id_lem : tells_an_id
 unfolding tells_an_id serde_json_on_literals digits chars is_long
-tells_an_id_lem = (refl, refl, refl, refl, refl, refl, refl, refl, refl, refl, refl, refl, refl, refl, refl, refl, refl, refl, refl, refl, refl, refl, refl, refl, refl, refl, refl, refl, refl, refl, refl, refl, refl, refl, refl, refl)
+tells_an_id_lem = (refl, refl, refl, refl, refl, refl, refl, refl, refl, refl, refl, refl, refl, refl, refl, refl, refl, refl, refl, refl, refl, refl, refl, refl, refl, refl, refl, refl, refl, refl, refl, refl, refl, refl, refl, refl, refl, refl, refl, refl, refl, refl, refl, refl)
 
 pub writes_replies_lem : writes_replies
 unfolding writes_replies serde_json_on_literals digits
-writes_replies_lem = (refl, refl, refl, refl, refl, refl, refl, refl, refl, refl, refl, refl, refl, refl, refl, refl, refl, refl, refl)
+writes_replies_lem = (refl, refl, refl, refl, refl, refl, refl, refl, refl, refl, refl, refl, refl, refl, refl, refl, refl, refl, refl, refl, refl, refl, refl)
 
 pub writes_elements_lem : writes_elements
 unfolding writes_elements serde_json_on_literals digits

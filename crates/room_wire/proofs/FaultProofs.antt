@@ -1,12 +1,12 @@
 -- Which fault a text has: each comes exactly where it should.
-use Rattle.std.proofs.Common.{◌≡◌, ◌↔◌, ◌&&◌, ◌∙◌, ℕ, List, [], ◌∷◌, codes, Bool, true, false, cond, true≢false, Option, Some, None, Result, Ok, Err, is_some, nat_le, refl, sym, ap, subst, arith}
+use Rattle.std.proofs.Common.{◌≡◌, ◌⊎◌, ◌+◌, inl, inr, zero, suc, ◌↔◌, ◌&&◌, ◌∙◌, ℕ, List, [], ◌∷◌, codes, Bool, true, false, cond, true≢false, Option, Some, None, Result, Ok, Err, is_some, nat_le, refl, sym, ap, subst, arith}
 use Rattle.std.specs.Prelude.{IsOk}
 use Rattle.std.specs.declared.alloc.Global.{Global}
 use Rattle.std.specs.Str.{bytes_eq}
 use Rattle.std.proofs.lemmas.Slice.Eq.{bytes_eq-Decides}
 use Rattle.std.specs.Option.{option_and_then}
 use Rattle.std.proofs.lemmas.Bool.Decides.{nat_tests}
-use Rattle.serde_json.specs.Data.{Data, null, boolean, number, string, array, object, unsigned, negative, float}
+use Rattle.serde_json.specs.Data.{Data, Items, no_items, item, null, boolean, number, string, array, object, unsigned, negative, float}
 use Rattle.serde_json.specs.Find.{get, as_object, as_str}
 use Rattle.serde_json.specs.Read.{read}
 use Rattle.osm_elements.specs.declared.name.Name.{Name}
@@ -16,127 +16,75 @@ use Rattle.osm_elements.specs.declared.element.Element.{Element}
 use Rattle.osm_elements.specs.declared.element.Element.TheVariants as elements
 use Rattle.edit_actions.specs.declared.action.Action.{Action}
 use Rattle.edit_actions.specs.declared.action.Action.TheVariants as actions
+use Rattle.edit_groups.specs.declared.edit.Edit.TheVariants.{One, Group}
 use Rattle.room_history.specs.declared.call.Request.TheVariants as requests
 use Rattle.room_wire.specs.declared.bad.Bad.{Bad}
 use Rattle.room_wire.specs.declared.bad.Fault.{Fault}
-use Rattle.room_wire.specs.declared.bad.Fault.TheVariants.{BadField, BadId, NotJson, NotObject, UnknownDo}
+use Rattle.room_wire.specs.declared.bad.Fault.TheVariants.{BadActionField, BadField, BadId, Memory, NotJson, NotObject, UnknownAction, UnknownDo}
 use Rattle.room_wire.specs.declared.field.Field.{Field}
-use Rattle.room_wire.specs.declared.field.Field.TheVariants.{El, Els, Lat, Lon, Nodes, Members, Tags, Dlat, Dlon, At, Into, With, Seq}
+use Rattle.room_wire.specs.declared.field.Field.TheVariants.{El, Els, Lat, Lon, Nodes, Members, Tags, Dlat, Dlon, At, Into, With, Actions, Seq}
 use Rattle.room_wire.specs.declared.field.Field.TheVariants as fields
 use Rattle.room_wire.specs.declared.incoming.Incoming.{Incoming}
 use Rattle.room_wire.specs.declared.incoming.Body.{Body}
 use Rattle.room_wire.specs.declared.incoming.Body.TheVariants as bodies
 use Rattle.room_wire.specs.Reading.{◌>>=◌, or_fault, under}
-use Rattle.room_wire.specs.Spelling.{author_at, body_by, create_at, retag_at, move_at, relist_way_at, relist_relation_at, split_at, join_at, merge_at, unglue_at, name_at, place_at, distance_at, given_tags_at, el_at, els_at, element_at, lat_at, lon_at, by_id, incoming, body_at, message_of, members_at, nodes_at, ordinal, seq_at, seq_from, spells, tags_at, tags_from}
+use Rattle.room_wire.specs.Spelling.{action_at, action_by, actions_from, at_action, group_at, with_position, author_at, body_by, create_at, retag_at, move_at, relist_way_at, relist_relation_at, split_at, join_at, merge_at, unglue_at, name_at, place_at, distance_at, given_tags_at, el_at, els_at, element_at, lat_at, lon_at, by_id, incoming, body_at, message_of, members_at, nodes_at, ordinal, seq_at, seq_from, spells, tags_at, tags_from}
 use Rattle.room_wire.specs.Trees.{whole}
-use Rattle.room_wire.specs.WellFormed.{AreGood, HasWord, IsFirstBad, IsNumber, MessageId, Slot, element_slots, slot, slots}
-use Rattle.room_wire.specs.Words.{Word, word_text}
+use Rattle.room_wire.specs.WellFormed.{AreGood, AreGoodActions, IsBadAction, IsFirstBadAction, IsGoodAction, actions_in, group_items, HasWord, IsFirstBad, IsNumber, MessageId, Slot, element_slots, slot, slots}
+use Rattle.room_wire.specs.Words.{Word, is_action_word, word_text}
 use Rattle.room_wire.specs.Words as words
+use Rattle.room_wire.proofs.ActionFaults.{ActionsTell, GroupTells, actions_tell, bad_told, none_bad, none_unknown, unknown_told}
+use Rattle.room_wire.proofs.FirstFaults.{Only, Tells, action_word_tells, none_good, one_first, only_field, only_seq, step}
 use Rattle.room_wire.proofs.WellFormedProofs.{id_read, spells-body, word_read}
 
--- an answer tells the first bad field, and there is none where it has no fault
-abbrev Tells : {X : Type 0} → Result X Fault → List Slot → Type 0
-Tells (Ok x) all = AreGood all
-Tells (Err fault) all = (field : Field) × (fault ≡ BadField field) × IsFirstBad all field
+-- an answer tells the first bad field, or the first bad action of a group whose fields are well formed; and there is
+-- none where it has no fault
+abbrev TellsAll : {X : Type 0} → Result X Fault → List Slot → Items → Type 0
+TellsAll (Ok x) all ds = AreGood all × AreGoodActions ds
+TellsAll (Err fault) all ds = ((field : Field) × (fault ≡ BadField field) × IsFirstBad all field) ⊎ (AreGood all × ActionsTell fault ds 0)
 
--- a field has no fault but its own
-abbrev Only : {X : Type 0} → Field → Result X Fault → Type 0
-Only field (Ok x) = Unit {0}
-Only field (Err fault) = fault ≡ BadField field
-
-only_field : {X : Type 0} (field : Field) (o : Option X) → Only field (or_fault (BadField field) o)
-only_field field None = refl
-only_field field (Some x) = tt
-
-only_tags : (o : Option Data) → Only Tags (tags_from o)
-only_tags None = tt
-only_tags (Some d) = only_field Tags _
-
-only_seq : (o : Option Data) → Only Seq (seq_from o)
-only_seq None = tt
-only_seq (Some d) = only_field Seq _
-
--- a field that is well formed is passed over
-passed_over : {B : Type 0} (field : Field) (r : Result B Fault) (later : List Slot) → Tells r later → Tells r ((field, true) ∷ later)
-passed_over field (Ok x) later h = h
-passed_over field (Err fault) later h = h
-
-step : {X B : Type 0} (field : Field) (r : Result X Fault) (f : X → Result B Fault) (later : List Slot) → Only field r → ((x : X) → r ≡ Ok x → Tells (f x) later)
-    → Tells (r >>= f) (slot field r ∷ later)
-step field (Ok x) f later only h = passed_over field (f x) later (h x refl)
-step field (Err fault) f later only h = (field, only, refl)
-
--- what is made of an answer tells the same
-made : {X B : Type 0} (r : Result X Fault) (g : X → B) (all : List Slot) → Tells r all → Tells (r >>= λ x. Ok (g x)) all
-made (Ok x) g all h = h
-made (Err fault) g all h = h
-
-element_tells : (kind : Kind) (d : Data) → Tells (element_at kind d) (element_slots kind d)
-element_tells kinds.Node d =
-    step Lat (lat_at d) _ _ (only_field Lat _) (λ lat e. step Lon (lon_at d) _ _ (only_field Lon _) (λ lon e. step Tags (tags_at d) (λ tags. let node : Element Global = elements.Node lat lon tags in Ok node) [] (only_tags (get (codes "tags") d)) (λ tags e. tt)))
-element_tells kinds.Way d =
-    step Nodes (nodes_at d) _ _ (only_field Nodes _) (λ nodes e. step Tags (tags_at d) (λ tags. let way : Element Global = elements.Way nodes tags in Ok way) [] (only_tags (get (codes "tags") d)) (λ tags e. tt))
-element_tells kinds.Relation d =
-    step Members (members_at d) _ _ (only_field Members _) (λ members e. step Tags (tags_at d) (λ tags. let relation : Element Global = elements.Relation members tags in Ok relation) [] (only_tags (get (codes "tags") d)) (λ tags e. tt))
+plain : {X : Type 0} (r : Result X Fault) (all : List Slot) → Tells r all → TellsAll r all no_items
+plain (Ok x) all good = (good, tt)
+plain (Err fault) all told = inl told
 
 -- an action that is done tells what the action does
-done_tells : (r : Result (Action Global) Fault) (all : List Slot) → Tells r all → Tells (r >>= λ action. Ok (bodies.Change (requests.Do action))) all
-done_tells r all h = made r (λ action. bodies.Change (requests.Do action)) all h
+done_tells : (r : Result (Action Global) Fault) (all : List Slot) → Tells r all → TellsAll ((r >>= λ action. Ok (One action)) >>= λ edit. Ok (bodies.Change (requests.Do edit))) all no_items
+done_tells (Ok action) all good = (good, tt)
+done_tells (Err fault) all told = inl told
 
--- an action that has a name, and one that has a field more
-name_tells : (action : Name → Action Global) (d : Data) → Tells (el_at d >>= λ name. Ok (action name)) (slot El (el_at d) ∷ [])
-name_tells action d = step El (el_at d) (λ name. Ok (action name)) [] (only_field El _) (λ name e. tt)
+-- a group tells the fault of its actions
+abbrev grouped : Result Items Fault → Result Body Fault
+grouped r = ((r >>= λ ds. actions_from 0 ds) >>= λ group. Ok (Group group)) >>= λ edit. Ok (bodies.Change (requests.Do edit))
 
-pair_tells : {X : Type 0} (field : Field) (r : Result X Fault) (action : Name → X → Action Global) (d : Data) → Only field r → Tells (el_at d >>= λ name. r >>= λ x. Ok (action name x)) (slot El (el_at d) ∷ slot field r ∷ [])
-pair_tells field r action d only = step El (el_at d) _ _ (only_field El _) (λ name e. step field r (λ x. Ok (action name x)) [] only (λ x e. tt))
+group_done : (all : List Slot) (ds : Items) (r : Result (List (Action Global)) Fault) → AreGood all → GroupTells r ds 0
+    → TellsAll ((r >>= λ group. Ok (Group group)) >>= λ edit. Ok (bodies.Change (requests.Do edit))) all ds
+group_done all ds (Ok group) good told = (good, told)
+group_done all ds (Err fault) good told = inr (good, told)
 
-move_tells : (d : Data) → Tells (move_at d) (slots words.Move d)
-move_tells d =
-    step Els (els_at d) _ _ (only_field Els _) (λ names e. step Dlat (distance_at Dlat d) _ _ (only_field Dlat _)
-    (λ dlat e. step Dlon (distance_at Dlon d) (λ dlon. let moves : Action Global = actions.Move names dlat dlon in Ok moves) [] (only_field Dlon _) (λ dlon e. tt)))
+group_tells : (r : Result Items Fault) → Only Actions r → TellsAll (grouped r) (slot Actions r ∷ []) (actions_in r)
+group_tells (Ok ds) only = group_done (slot Actions (Ok ds) ∷ []) ds (actions_from 0 ds) tt (actions_tell 0 ds)
+group_tells (Err fault) only = inl (Actions, only, refl)
 
-split_tells : (d : Data) → Tells (split_at d) (slots words.Split d)
-split_tells d =
-    step El (el_at d) _ _ (only_field El _) (λ name e. step At (place_at d) _ _ (only_field At _)
-    (λ place e. step Into (name_at Into d) (λ into. let splits : Action Global = actions.Split name place into in Ok splits) [] (only_field Into _) (λ into e. tt)))
-
-unglue_tells : (d : Data) → Tells (unglue_at d) (slots words.Unglue d)
-unglue_tells d =
-    step El (el_at d) _ _ (only_field El _) (λ name e. step At (place_at d) _ _ (only_field At _)
-    (λ place e. step Into (name_at Into d) (λ into. let unglues : Action Global = actions.Unglue name place into in Ok unglues) [] (only_field Into _) (λ into e. tt)))
-
-body_tells : (word : Word) (d : Data) → Tells (body_by (word_text word) d) (slots word d)
-body_tells words.Create d =
-    done_tells (create_at d) (slots words.Create d)
-    (step El (el_at d) _ _ (only_field El _) (λ name e. rw e (made (element_at name.kind d) (λ element. actions.Create name element) (element_slots name.kind d) (element_tells name.kind d))))
-body_tells words.Retag d = done_tells (retag_at d) (slots words.Retag d) (pair_tells Tags (given_tags_at d) (λ name given. actions.Retag name given) d (only_field Tags _))
-body_tells words.Move d = done_tells (move_at d) (slots words.Move d) (move_tells d)
-body_tells words.Reverse d = done_tells _ (slots words.Reverse d) (name_tells (λ name. actions.Reverse name) d)
-body_tells words.Nodes d = done_tells (relist_way_at d) (slots words.Nodes d) (pair_tells Nodes (nodes_at d) (λ name list. actions.Nodes name list) d (only_field Nodes _))
-body_tells words.Members d = done_tells (relist_relation_at d) (slots words.Members d) (pair_tells Members (members_at d) (λ name list. actions.Members name list) d (only_field Members _))
-body_tells words.Delete d = done_tells _ (slots words.Delete d) (name_tells (λ name. actions.Delete name) d)
-body_tells words.Purge d = done_tells _ (slots words.Purge d) (name_tells (λ name. actions.Purge name) d)
-body_tells words.Split d = done_tells (split_at d) (slots words.Split d) (split_tells d)
-body_tells words.Join d = done_tells (join_at d) (slots words.Join d) (pair_tells With (name_at With d) (λ name other. actions.Join name other) d (only_field With _))
-body_tells words.Merge d = done_tells (merge_at d) (slots words.Merge d) (pair_tells With (name_at With d) (λ name other. actions.Merge name other) d (only_field With _))
-body_tells words.Unglue d = done_tells (unglue_at d) (slots words.Unglue d) (unglue_tells d)
-body_tells words.Undo d = step Seq (seq_at d) (λ seq. Ok (bodies.Change (requests.Undo seq))) [] (only_seq (get (codes "seq") d)) (λ seq e. tt)
-body_tells words.Get d = step El (el_at d) (λ name. Ok (bodies.Get name)) [] (only_field El _) (λ name e. tt)
-body_tells words.Map d = tt
-body_tells words.Undos d = tt
-body_tells words.Redo d = tt
-body_tells words.Hello d =
-    step fields.Room (author_at fields.Room d) _ _ (only_field fields.Room _) (λ room e. step fields.Name (author_at fields.Name d) (λ name. Ok (bodies.Hello room name)) [] (only_field fields.Name _) (λ name e. tt))
-
-one_first : (all : List Slot) (f g : Field) → IsFirstBad all f → IsFirstBad all g → f ≡ g
-one_first [] f g h k = absurd h
-one_first ((first, true) ∷ later) f g h k = one_first later f g h k
-one_first ((first, false) ∷ later) f g h k = sym h ∙ k
-
-none_good : (all : List Slot) (f : Field) → AreGood all → IsFirstBad all f → ⊥
-none_good [] f h k = k
-none_good ((first, true) ∷ later) f h k = none_good later f h k
-none_good ((first, false) ∷ later) f h k = h
+body_tells : (word : Word) (d : Data) → TellsAll (body_by (word_text word) d) (slots word d) (group_items word d)
+body_tells words.Create d = done_tells (action_by (word_text words.Create) d) (slots words.Create d) (action_word_tells words.Create d refl)
+body_tells words.Retag d = done_tells (action_by (word_text words.Retag) d) (slots words.Retag d) (action_word_tells words.Retag d refl)
+body_tells words.Move d = done_tells (action_by (word_text words.Move) d) (slots words.Move d) (action_word_tells words.Move d refl)
+body_tells words.Reverse d = done_tells (action_by (word_text words.Reverse) d) (slots words.Reverse d) (action_word_tells words.Reverse d refl)
+body_tells words.Nodes d = done_tells (action_by (word_text words.Nodes) d) (slots words.Nodes d) (action_word_tells words.Nodes d refl)
+body_tells words.Members d = done_tells (action_by (word_text words.Members) d) (slots words.Members d) (action_word_tells words.Members d refl)
+body_tells words.Delete d = done_tells (action_by (word_text words.Delete) d) (slots words.Delete d) (action_word_tells words.Delete d refl)
+body_tells words.Purge d = done_tells (action_by (word_text words.Purge) d) (slots words.Purge d) (action_word_tells words.Purge d refl)
+body_tells words.Split d = done_tells (action_by (word_text words.Split) d) (slots words.Split d) (action_word_tells words.Split d refl)
+body_tells words.Join d = done_tells (action_by (word_text words.Join) d) (slots words.Join d) (action_word_tells words.Join d refl)
+body_tells words.Merge d = done_tells (action_by (word_text words.Merge) d) (slots words.Merge d) (action_word_tells words.Merge d refl)
+body_tells words.Unglue d = done_tells (action_by (word_text words.Unglue) d) (slots words.Unglue d) (action_word_tells words.Unglue d refl)
+body_tells words.Group d = group_tells (group_at d) (only_field Actions _)
+body_tells words.Undo d = plain (body_by (word_text words.Undo) d) (slots words.Undo d) (step Seq (seq_at d) (λ seq. Ok (bodies.Change (requests.Undo seq))) [] (only_seq (get (codes "seq") d)) (λ seq e. tt))
+body_tells words.Redo d = plain (body_by (word_text words.Redo) d) (slots words.Redo d) (tt)
+body_tells words.Undos d = plain (body_by (word_text words.Undos) d) (slots words.Undos d) (tt)
+body_tells words.Get d = plain (body_by (word_text words.Get) d) (slots words.Get d) (step El (el_at d) (λ name. Ok (bodies.Get name)) [] (only_field El _) (λ name e. tt))
+body_tells words.Map d = plain (body_by (word_text words.Map) d) (slots words.Map d) (tt)
+body_tells words.Hello d = plain (body_by (word_text words.Hello) d) (slots words.Hello d) (step fields.Room (author_at fields.Room d) _ _ (only_field fields.Room _) (λ room e. step fields.Name (author_at fields.Name d) (λ name. Ok (bodies.Hello room name)) [] (only_field fields.Name _) (λ name e. tt)))
 
 abbrev bad : ℕ → Fault → Result Incoming Bad
 bad id fault = Err (record { id = id; fault = fault })
@@ -149,29 +97,116 @@ abbrev field_in : Fault → Field
 field_in (BadField field) = field
 field_in _ = El
 
-told : (id : ℕ) (r : Result Body Fault) (all : List Slot) (field : Field) → Tells r all → (under incoming id r ≡ bad id (BadField field)) ↔ IsFirstBad all field
-told id (Ok body) all field good = (λ e. absurd (ok_no_err _ _ e), λ first. absurd (none_good all field good first))
-  where
-    ok_no_err : (m : Incoming) (b : Bad) → Ok m ≡ Err b → ⊥
-    ok_no_err m b e = cc
-told id (Err fault) all field (f, is, first) = (
-  λ e. subst (IsFirstBad all) (ap (λ r. field_in (fault_in r)) (ap (bad id) (sym is) ∙ e)) first,
+-- a fault under an id
+fault_under : (id : ℕ) (f g : Fault) → under incoming id (Err f) ≡ bad id g → f ≡ g
+fault_under id f g e = ap fault_in e
+
+no_message : (id : ℕ) (body : Body) (fault : Fault) → under incoming id (Ok body) ≡ bad id fault → ⊥
+no_message id body fault e = cc
+
+told : (id : ℕ) (r : Result Body Fault) (all : List Slot) (ds : Items) (field : Field) → TellsAll r all ds → (under incoming id r ≡ bad id (BadField field)) ↔ IsFirstBad all field
+told id (Ok body) all ds field (good, actions) = (λ e. absurd (no_message id body (BadField field) e), λ first. absurd (none_good all field good first))
+told id (Err fault) all ds field (inl (f, is, first)) = (
+  λ e. subst (IsFirstBad all) (ap field_in (sym is ∙ fault_under id fault (BadField field) e)) first,
   λ h. ap (bad id) (is ∙ ap BadField (one_first all f field first h)),
 )
+told id (Err fault) all ds field (inr (good, actions)) = (
+  λ e. absurd (subst (λ f. ActionsTell f ds 0) (fault_under id fault (BadField field) e) actions),
+  λ first. absurd (none_good all field good first),
+)
 
-ok_told : (id : ℕ) (r : Result Body Fault) (all : List Slot) → Tells r all → IsOk (under incoming id r) ↔ AreGood all
-ok_told id (Ok body) all good = (λ ok. good, λ g. refl)
-ok_told id (Err fault) all (f, is, first) = (λ ok. absurd (true≢false (sym ok)), λ g. absurd (none_good all f g first))
+ok_told : (id : ℕ) (r : Result Body Fault) (all : List Slot) (ds : Items) → TellsAll r all ds → IsOk (under incoming id r) ↔ (AreGood all × AreGoodActions ds)
+ok_told id (Ok body) all ds good = (λ ok. good, λ g. refl)
+ok_told id (Err fault) all ds (inl (f, is, first)) = (λ ok. absurd (true≢false (sym ok)), λ g. absurd (none_good all f g.0 first))
+ok_told id (Err fault) all ds (inr (good, actions)) = (λ ok. absurd (true≢false (sym ok)), λ g. absurd (never fault actions g.1))
+  where
+    never : (f : Fault) → ActionsTell f ds 0 → AreGoodActions ds → ⊥
+    never (UnknownAction j) (n, at, first) g = none_unknown ds n g first
+    never (BadActionField j field) (n, at, first) g = none_bad field ds n g first
+    never NotJson h g = h
+    never NotObject h g = h
+    never BadId h g = h
+    never UnknownDo h g = h
+    never (BadField field) h g = h
+    never Memory h g = h
+
+-- the fault of an action of a group, at its position
+position_of : (j k n : ℕ) → j ≡ k → j ≡ 0 + n → n ≡ k
+position_of j k n is at = omega (arith, is, at)
+
+unknown_told_from : (id : ℕ) (r : Result Body Fault) (all : List Slot) (ds : Items) (k : ℕ) → TellsAll r all ds → under incoming id r ≡ bad id (UnknownAction k) → AreGood all × IsFirstBadAction ds k UnknownDo
+unknown_told_from id (Ok body) all ds k h e = absurd (no_message id body (UnknownAction k) e)
+unknown_told_from id (Err fault) all ds k (inl (f, is, first)) e = absurd (other (sym is ∙ fault_under id fault (UnknownAction k) e))
+  where
+    other : BadField f ≡ UnknownAction k → ⊥
+    other e = cc
+unknown_told_from id (Err fault) all ds k (inr (good, actions)) e =
+    let at = subst (λ f. ActionsTell f ds 0) (fault_under id fault (UnknownAction k) e) actions in
+    (good, subst (λ n. IsFirstBadAction ds n UnknownDo) (position_of k k at.0 refl at.1) at.2)
+
+bad_told_from : (id : ℕ) (r : Result Body Fault) (all : List Slot) (ds : Items) (k : ℕ) (field : Field) → TellsAll r all ds → under incoming id r ≡ bad id (BadActionField k field)
+    → AreGood all × IsFirstBadAction ds k (BadField field)
+bad_told_from id (Ok body) all ds k field h e = absurd (no_message id body (BadActionField k field) e)
+bad_told_from id (Err fault) all ds k field (inl (f, is, first)) e = absurd (other (sym is ∙ fault_under id fault (BadActionField k field) e))
+  where
+    other : BadField f ≡ BadActionField k field → ⊥
+    other e = cc
+bad_told_from id (Err fault) all ds k field (inr (good, actions)) e =
+    let at = subst (λ f. ActionsTell f ds 0) (fault_under id fault (BadActionField k field) e) actions in
+    (good, subst (λ n. IsFirstBadAction ds n (BadField field)) (position_of k k at.0 refl at.1) at.2)
+
+-- the actions of a message are those of a group
+grouped_fault : (fault : Fault) (r : Result Items Fault) (k : ℕ) (wrong : Fault) → IsFirstBadAction (actions_in r) k wrong → ((ds : Items) → r ≡ Ok ds → actions_from 0 ds ≡ Err fault) → grouped r ≡ Err fault
+grouped_fault fault (Ok ds) k wrong first told = ap (λ r. (r >>= λ group. Ok (Group group)) >>= λ edit. Ok (bodies.Change (requests.Do edit))) (told ds refl)
+grouped_fault fault (Err f) k wrong first told = absurd first
+
+module _ (d : Data) (fault wrong : Fault) (k : ℕ) (reads : (ds : Items) → IsFirstBadAction ds k wrong → actions_from 0 ds ≡ Err fault) where
+  body_fault : (word : Word) → IsFirstBadAction (group_items word d) k wrong → body_by (word_text word) d ≡ Err fault
+  body_fault words.Group first = grouped_fault fault (group_at d) k wrong first (λ ds is. reads ds (subst (λ r. IsFirstBadAction (actions_in r) k wrong) is first))
+  body_fault words.Create first = absurd first
+  body_fault words.Retag first = absurd first
+  body_fault words.Move first = absurd first
+  body_fault words.Reverse first = absurd first
+  body_fault words.Nodes first = absurd first
+  body_fault words.Members first = absurd first
+  body_fault words.Delete first = absurd first
+  body_fault words.Purge first = absurd first
+  body_fault words.Split first = absurd first
+  body_fault words.Join first = absurd first
+  body_fault words.Merge first = absurd first
+  body_fault words.Unglue first = absurd first
+  body_fault words.Undo first = absurd first
+  body_fault words.Redo first = absurd first
+  body_fault words.Undos first = absurd first
+  body_fault words.Get first = absurd first
+  body_fault words.Map first = absurd first
+  body_fault words.Hello first = absurd first
+
+from_none : (k : ℕ) → 0 + k ≡ k
+from_none k = omega arith
 
 module _ (text : List ℕ) (d : Data) (tree : read text ≡ Some d) where
   body_spelled : (id : ℕ) (word : Word) → MessageId d id → HasWord d word → spells text ≡ under incoming id (body_by (word_text word) d)
   body_spelled id word has asks = spells-body text d id tree (id_read d id has) ∙ ap (under incoming id) (word_read d word asks)
 
   pub bad_field_told : (id : ℕ) (word : Word) (field : Field) → MessageId d id → HasWord d word → (spells text ≡ bad id (BadField field)) ↔ IsFirstBad (slots word d) field
-  bad_field_told id word field has asks = rw (body_spelled id word has asks) (told id (body_by (word_text word) d) (slots word d) field (body_tells word d))
+  bad_field_told id word field has asks = rw (body_spelled id word has asks) (told id (body_by (word_text word) d) (slots word d) (group_items word d) field (body_tells word d))
 
-  pub message_told : (id : ℕ) (word : Word) → MessageId d id → HasWord d word → IsOk (spells text) ↔ AreGood (slots word d)
-  message_told id word has asks = rw (body_spelled id word has asks) (ok_told id (body_by (word_text word) d) (slots word d) (body_tells word d))
+  pub unknown_action_told : (id : ℕ) (word : Word) (k : ℕ) → MessageId d id → HasWord d word → (spells text ≡ bad id (UnknownAction k)) ↔ (AreGood (slots word d) × IsFirstBadAction (group_items word d) k UnknownDo)
+  unknown_action_told id word k has asks = (
+    λ e. unknown_told_from id (body_by (word_text word) d) (slots word d) (group_items word d) k (body_tells word d) (sym (body_spelled id word has asks) ∙ e),
+    λ h. body_spelled id word has asks ∙ ap (under incoming id) (body_fault d (UnknownAction k) UnknownDo k (λ ds first. unknown_told 0 ds k first ∙ ap (λ j. Err (UnknownAction j)) (from_none k)) word h.1),
+  )
+
+  pub bad_action_field_told : (id : ℕ) (word : Word) (k : ℕ) (field : Field) → MessageId d id → HasWord d word
+      → (spells text ≡ bad id (BadActionField k field)) ↔ (AreGood (slots word d) × IsFirstBadAction (group_items word d) k (BadField field))
+  bad_action_field_told id word k field has asks = (
+    λ e. bad_told_from id (body_by (word_text word) d) (slots word d) (group_items word d) k field (body_tells word d) (sym (body_spelled id word has asks) ∙ e),
+    λ h. body_spelled id word has asks ∙ ap (under incoming id) (body_fault d (BadActionField k field) (BadField field) k (λ ds first. bad_told field 0 ds k first ∙ ap (λ j. Err (BadActionField j field)) (from_none k)) word h.1),
+  )
+
+  pub message_told : (id : ℕ) (word : Word) → MessageId d id → HasWord d word → IsOk (spells text) ↔ (AreGood (slots word d) × AreGoodActions (group_items word d))
+  message_told id word has asks = rw (body_spelled id word has asks) (ok_told id (body_by (word_text word) d) (slots word d) (group_items word d) (body_tells word d))
 
   pub no_object_told : as_object d ≡ None → spells text ≡ bad 0 NotObject
   no_object_told none = ap message_of tree ∙ rw none refl
@@ -218,7 +253,7 @@ other_word w word other = go (bytes_eq w (word_text word)) refl
 unknown_word : (w : List ℕ) (d : Data) → ((word : Word) → w ≡ word_text word → ⊥) → body_by w d ≡ Err UnknownDo
 unknown_word w d other =
     let no : (word : Word) → bytes_eq w (word_text word) ≡ false = λ word. other_word w word (other word) in
-    rw (no words.Hello, no words.Undo, no words.Redo, no words.Undos, no words.Get, no words.Map, no words.Create, no words.Retag, no words.Move, no words.Reverse, no words.Nodes, no words.Members, no words.Delete, no words.Purge, no words.Split, no words.Join, no words.Merge, no words.Unglue) refl
+    rw (no words.Hello, no words.Undo, no words.Redo, no words.Undos, no words.Get, no words.Map, no words.Create, no words.Retag, no words.Move, no words.Reverse, no words.Nodes, no words.Members, no words.Delete, no words.Purge, no words.Split, no words.Join, no words.Merge, no words.Unglue, no words.Group) refl
 
 unknown_body : (d : Data) (o : Option Data) → ((word : Word) → o ≡ Some (string (word_text word)) → ⊥) → (or_fault UnknownDo (option_and_then as_str o) >>= λ w. body_by w d) ≡ Err UnknownDo
 unknown_body d None other = refl

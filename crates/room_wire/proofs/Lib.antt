@@ -1,3 +1,5 @@
+pub mod ActionFaults
+pub mod ActionLists
 pub mod Ascii
 pub mod CompactTexts
 pub mod ElementBack
@@ -6,6 +8,7 @@ pub mod EntryLists
 pub mod ExampleProofs
 pub mod FaultProofs
 pub mod FaultsToldOn
+pub mod FirstFaults
 pub mod Found
 pub mod ItemLists
 pub mod MemberPairs

@@ -1,6 +1,6 @@
 -- The definition of a message's fault never says that a growth was refused.
-use Rattle.std.proofs.Common.{◌≡◌, ◌≢◌, ℕ, List, Bool, true, false, cond, Option, Some, None, Result, Ok, Err, IfErr, codes, is_some, option_and_then, refl, sym, ◌∙◌}
-use Rattle.serde_json.specs.Data.{Data}
+use Rattle.std.proofs.Common.{◌≡◌, ◌≢◌, ◌+◌, ℕ, List, Bool, true, false, cond, Option, Some, None, Result, Ok, Err, IfErr, codes, is_some, option_and_then, refl, sym, ◌∙◌}
+use Rattle.serde_json.specs.Data.{Data, Items, no_items, item}
 use Rattle.serde_json.specs.Find.{get, as_str, as_object}
 use Rattle.serde_json.specs.Read.{read}
 use Rattle.room_wire.specs.Fields.{field_text}
@@ -8,15 +8,15 @@ use Rattle.osm_elements.specs.declared.name.Kind.{Kind}
 use Rattle.osm_elements.specs.declared.name.Kind.TheVariants as kinds
 use Rattle.room_history.specs.declared.call.Request.TheVariants.{Redo}
 use Rattle.room_wire.specs.declared.bad.Fault.{Fault}
-use Rattle.room_wire.specs.declared.bad.Fault.TheVariants.{Memory, BadField, NotObject, BadId, UnknownDo}
+use Rattle.room_wire.specs.declared.bad.Fault.TheVariants.{Memory, NotJson, BadField, NotObject, BadId, UnknownDo, UnknownAction, BadActionField}
 use Rattle.room_wire.specs.declared.incoming.Body.{Body}
 use Rattle.room_wire.specs.declared.incoming.Body.TheVariants.{Change, Map, Undos}
 use Rattle.std.specs.Str.{bytes_eq}
 use Rattle.room_wire.specs.declared.field.Field.{Field}
-use Rattle.room_wire.specs.declared.field.Field.TheVariants.{El, Els, Lat, Lon, Nodes, Members, Tags, Dlat, Dlon, At, Into, With, Seq}
+use Rattle.room_wire.specs.declared.field.Field.TheVariants.{El, Els, Lat, Lon, Nodes, Members, Tags, Dlat, Dlon, At, Into, With, Actions, Seq}
 use Rattle.room_wire.specs.declared.field.Field.TheVariants as fields
 use Rattle.room_wire.specs.Reading.{◌>>=◌, or_fault, under}
-use Rattle.room_wire.specs.Spelling.{spells, ordinal, word_at, message_of, by_id, incoming, id_at, body_at, body_by, action_by, create_at, retag_at, move_at, relist_way_at, relist_relation_at, split_at, join_at, merge_at, unglue_at, element_at, name_at, place_at, el_at, els_at, distance_at, lat_at, lon_at, nodes_at, members_at, tags_at, tags_from, given_tags_at, seq_at, seq_from, author_at, hello_at}
+use Rattle.room_wire.specs.Spelling.{action_at, actions_at, actions_from, at_action, edit_by, group_at, with_position, spells, ordinal, word_at, message_of, by_id, incoming, id_at, body_at, body_by, action_by, create_at, retag_at, move_at, relist_way_at, relist_relation_at, split_at, join_at, merge_at, unglue_at, element_at, name_at, place_at, el_at, els_at, distance_at, lat_at, lon_at, nodes_at, members_at, tags_at, tags_from, given_tags_at, seq_at, seq_from, author_at, hello_at}
 
 Fine : {X : Type 0} → Result X Fault → Type 0
 Fine r = IfErr r (λ f. f ≢ Memory)
@@ -119,6 +119,37 @@ action_is_fine word d =
     (fine_if (bytes_eq word (codes "merge")) _ _ (merge_is_fine d)
     (fine_if (bytes_eq word (codes "unglue")) _ _ (unglue_is_fine d) (err_is_fine UnknownDo _ refl (λ e. cc)))))))))))))
 
+-- the actions of a group
+position_is_fine : (k : ℕ) (fault : Fault) → fault ≢ Memory → at_action k fault ≢ Memory
+position_is_fine k NotJson h = h
+position_is_fine k NotObject h = h
+position_is_fine k BadId h = h
+position_is_fine k UnknownDo h = λ e. cc
+position_is_fine k (BadField field) h = λ e. cc
+position_is_fine k (UnknownAction j) h = h
+position_is_fine k (BadActionField j field) h = h
+position_is_fine k Memory h = h
+
+positioned_is_fine : {X : Type 0} (k : ℕ) (r : Result X Fault) → Fine r → Fine (with_position k r)
+unfolding Fine
+positioned_is_fine k (Ok x) h = tt
+positioned_is_fine k (Err fault) h = position_is_fine k fault h
+
+action_at_is_fine : (d : Data) → Fine (action_at d)
+action_at_is_fine d = fine_then (word_at d) (λ word. action_by word d) (fine_or UnknownDo (option_and_then as_str (get (codes "do") d)) (λ e. cc)) (λ word. action_is_fine word d)
+
+actions_are_fine : (k : ℕ) (ds : Items) → Fine (actions_from k ds)
+actions_are_fine k no_items = fine_ok _
+actions_are_fine k (item d ds) =
+    fine_then (with_position k (action_at d)) _ (positioned_is_fine k (action_at d) (action_at_is_fine d)) (λ action.
+    fine_then (actions_from (k + 1) ds) _ (actions_are_fine (k + 1) ds) (λ later. fine_ok _))
+
+edit_is_fine : (word : List ℕ) (d : Data) → Fine (edit_by word d)
+edit_is_fine word d =
+    fine_if (bytes_eq word (codes "group")) _ _
+    (fine_then (actions_at d) _ (fine_then (group_at d) _ (fine_or (BadField Actions) _ (λ e. cc)) (λ ds. actions_are_fine 0 ds)) (λ group. fine_ok _))
+    (fine_then (action_by word d) _ (action_is_fine word d) (λ action. fine_ok _))
+
 author_is_fine : (field : Field) (d : Data) → Fine (author_at field d)
 author_is_fine field d = fine_or (BadField field) _ (λ e. cc)
 
@@ -133,7 +164,7 @@ body_is_fine word d =
     (fine_if (bytes_eq word (codes "undos")) _ _ (fine_ok Undos)
     (fine_if (bytes_eq word (codes "get")) _ _ (fine_then (el_at d) _ (el_is_fine d) (λ name. fine_ok _))
     (fine_if (bytes_eq word (codes "map")) _ _ (fine_ok Map)
-    (fine_then (action_by word d) _ (action_is_fine word d) (λ action. fine_ok _)))))))
+    (fine_then (edit_by word d) _ (edit_is_fine word d) (λ edit. fine_ok _)))))))
 
 body_at_is_fine : (d : Data) → Fine (body_at d)
 body_at_is_fine d = fine_then (word_at d) (λ word. body_by word d) (fine_or UnknownDo (option_and_then as_str (get (codes "do") d)) (λ e. cc)) (λ word. body_is_fine word d)

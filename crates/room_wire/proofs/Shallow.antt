@@ -10,9 +10,10 @@ use Rattle.osm_elements.specs.TagRows.{Pairs}
 use Rattle.room_history.specs.declared.news.News.{News}
 use Rattle.room_history.specs.declared.news.NewsRow.{NewsRow}
 use Rattle.room_wire.specs.declared.answer.Answer.{Answer}
-use Rattle.room_wire.specs.declared.answer.Answer.TheVariants.{Done, Undid, Redid, Is, Map, Undos, Absent, Present, WrongKind, Same, OutOfRange, TooFew, TooMany, InUse, TagConflict, BadPosition, NotEndToEnd, Nothing, Repeat, Conflict, BadField, Memory, Full, NothingToUndo, NothingToRedo, NoSuch, NotYours, NotStanding, NotJson, NotObject, BadId, UnknownDo, BadLine, NoHello, NoRoom, HelloTwice}
+use Rattle.room_wire.specs.declared.answer.Answer.TheVariants.{Done, Undid, Redid, Is, Map, Undos, Absent, Present, WrongKind, Same, OutOfRange, TooFew, TooMany, InUse, TagConflict, BadPosition, NotEndToEnd, Nothing, Refused, Repeat, Conflict, BadField, BadActionField, Memory, Full, NothingToUndo, NothingToRedo, NoSuch, NotYours, NotStanding, NotJson, NotObject, BadId, UnknownDo, UnknownAction, BadLine, NoHello, NoRoom, HelloTwice}
 use Rattle.room_wire.specs.News.{news_rows_tree, news_tree, row_tree}
-use Rattle.room_wire.specs.Trees.{id_tree, member_tree, tag_members, element_tree, rows_tree, whole, map_tree, tree_of}
+use Rattle.room_wire.specs.Answers.{refusal_answer}
+use Rattle.room_wire.specs.Trees.{id_tree, member_tree, tag_members, element_tree, rows_tree, whole, map_tree, tree_of, why_members}
 
 items_are_shallow : {X : Type 0} (k : ℕ) (f : X → Data) → ((x : X) → depth (f x) ≤ k) → (xs : List X) → items_depth (items_of (map f xs)) ≤ k
 items_are_shallow k f h [] = omega arith
@@ -42,6 +43,48 @@ numbers_are_flat numbers = items_are_shallow 0 whole (λ n. omega arith) numbers
 
 pub map_is_shallow : {A : Type 0} (id : ℕ) (rows : List (Name × Element A)) (front : ℕ) → depth (map_tree id rows front) ≤ 127
 map_is_shallow id rows front = let r = rows_are_shallow rows in omega arith
+
+-- what tells why holds no array and no object
+why_is_flat : (answer : Answer) → members_depth (why_members answer) ≤ 0
+why_is_flat (Done seq) = omega arith
+why_is_flat (Undid seq of) = omega arith
+why_is_flat (Redid seq of) = omega arith
+why_is_flat (Is name element) = omega arith
+why_is_flat (Map rows front) = omega arith
+why_is_flat (Undos undos redos) = omega arith
+why_is_flat (Absent name) = omega arith
+why_is_flat (Present name) = omega arith
+why_is_flat (WrongKind name) = omega arith
+why_is_flat (Same name) = omega arith
+why_is_flat (OutOfRange name) = omega arith
+why_is_flat (TooFew name) = omega arith
+why_is_flat (TooMany name) = omega arith
+why_is_flat (InUse name user) = omega arith
+why_is_flat (TagConflict key) = omega arith
+why_is_flat (Repeat seq) = omega arith
+why_is_flat (Conflict blocker shared) = omega arith
+why_is_flat (BadField field) = omega arith
+why_is_flat BadPosition = omega arith
+why_is_flat NotEndToEnd = omega arith
+why_is_flat Nothing = omega arith
+why_is_flat Memory = omega arith
+why_is_flat Full = omega arith
+why_is_flat NothingToUndo = omega arith
+why_is_flat NothingToRedo = omega arith
+why_is_flat NoSuch = omega arith
+why_is_flat NotYours = omega arith
+why_is_flat NotStanding = omega arith
+why_is_flat NotJson = omega arith
+why_is_flat NotObject = omega arith
+why_is_flat BadId = omega arith
+why_is_flat UnknownDo = omega arith
+why_is_flat BadLine = omega arith
+why_is_flat NoHello = omega arith
+why_is_flat NoRoom = omega arith
+why_is_flat HelloTwice = omega arith
+why_is_flat (Refused k why) = omega arith
+why_is_flat (BadActionField k field) = omega arith
+why_is_flat (UnknownAction k) = omega arith
 
 pub tree_is_shallow : (id : ℕ) (answer : Answer) → depth (tree_of id answer) ≤ 127
 tree_is_shallow id (Done seq) = omega arith
@@ -80,6 +123,9 @@ tree_is_shallow id BadLine = omega arith
 tree_is_shallow id NoHello = omega arith
 tree_is_shallow id NoRoom = omega arith
 tree_is_shallow id HelloTwice = omega arith
+tree_is_shallow id (Refused k why) = let w = why_is_flat (refusal_answer why.now) in omega arith
+tree_is_shallow id (BadActionField k field) = omega arith
+tree_is_shallow id (UnknownAction k) = omega arith
 
 -- news
 row_is_shallow : {A : Type 0} (name : Name) (element : Option (Element A)) → depth (row_tree name element) ≤ 3

@@ -2,7 +2,7 @@
 use Rattle.std.proofs.Common.{◌≡◌, ◌&&◌, ℕ, ℤ, pos, suc, true, cond, List, [], ◌∷◌, Option, Some, None, IfSome, IfOk, inl, inr, is_some, option_and_then, refl, ap, subst, arith}
 use Rattle.std.specs.Prelude.{int_le, neg_ℤ}
 use Rattle.std.specs.declared.alloc.Global.{Global}
-use Rattle.serde_json.specs.Data.{Data}
+use Rattle.serde_json.specs.Data.{Data, Items, no_items, item}
 use Rattle.serde_json.specs.Read.{read}
 use Rattle.osm_coords.specs.Coordinate.{coordinate}
 use Rattle.osm_coords.specs.Latitude.{latitude}
@@ -17,13 +17,17 @@ use Rattle.osm_elements.specs.Members.{are_members}
 use Rattle.osm_elements.specs.Nodes.{AreNodes}
 use Rattle.osm_elements.specs.TagRows.{Pairs, are_tags}
 use Rattle.edit_simple.specs.Tagging.{are_given}
+use Rattle.edit_actions.specs.declared.action.Action.{Action}
 use Rattle.edit_actions.specs.declared.action.Action.TheVariants as actions
+use Rattle.edit_actions.specs.MadeActions.{is_made_action}
+use Rattle.edit_groups.specs.declared.edit.Edit.TheVariants.{One, Group}
+use Rattle.edit_groups.specs.Groups.{are_made}
 use Rattle.room_history.specs.declared.call.Request.TheVariants as requests
 use Rattle.room_wire.specs.declared.incoming.Body.{Body}
 use Rattle.room_wire.specs.declared.incoming.Body.TheVariants as bodies
 use Rattle.room_wire.specs.Made.{is_made_body}
 use Rattle.room_wire.specs.Spelling.{message_of, spells}
-use Rattle.room_wire.specs.WellFormed.{Asks, HasElement, HasTags, IsMessage}
+use Rattle.room_wire.specs.WellFormed.{Asks, AsksAction, AskActions, HasElement, HasTags, IsMessage}
 use Rattle.room_wire.proofs.Found.{if_any, if_passes, ok_more}
 use Rattle.room_wire.proofs.ReadBackProofs.{passed}
 use Rattle.room_wire.proofs.SpelledMessages.{message_has}
@@ -53,19 +57,29 @@ element_made d (elements.Node lat lon tags) (at, on, has) =
 element_made d (elements.Way nodes tags) (list, has) = both_true (are_nodes nodes) (are_tags tags) (nodes_made nodes list.1) (tags_made d tags has)
 element_made d (elements.Relation members tags) (list, has) = both_true (are_members members) (are_tags tags) (passed (are_members members) list.1) (tags_made d tags has)
 
+action_made : (d : Data) (action : Action Global) → AsksAction d action → is_made_action action ≡ true
+action_made d (actions.Create name element) asks = element_made d element asks.2
+action_made d (actions.Retag name given) asks = passed (are_given given) asks.2.1
+action_made d (actions.Move names dlat dlon) asks = refl
+action_made d (actions.Reverse name) asks = refl
+action_made d (actions.Nodes name list) asks = nodes_made list asks.2.1
+action_made d (actions.Members name list) asks = passed (are_members list) asks.2.1
+action_made d (actions.Delete name) asks = refl
+action_made d (actions.Purge name) asks = refl
+action_made d (actions.Split name place into) asks = refl
+action_made d (actions.Join name other) asks = refl
+action_made d (actions.Merge name other) asks = refl
+action_made d (actions.Unglue name place into) asks = refl
+
+actions_made : (ds : Items) (group : List (Action Global)) → AskActions ds group → are_made group ≡ true
+actions_made no_items [] asks = refl
+actions_made (item d ds) (a ∷ more) asks = both_true (is_made_action a) (are_made more) (action_made d a asks.0) (actions_made ds more asks.1)
+actions_made no_items (a ∷ more) asks = absurd asks
+actions_made (item d ds) [] asks = absurd asks
+
 asked_made : (d : Data) (body : Body) → Asks d body → is_made_body body ≡ true
-asked_made d (bodies.Change (requests.Do (actions.Create name element))) asks = element_made d element asks.2
-asked_made d (bodies.Change (requests.Do (actions.Retag name given))) asks = passed (are_given given) asks.2.1
-asked_made d (bodies.Change (requests.Do (actions.Move names dlat dlon))) asks = refl
-asked_made d (bodies.Change (requests.Do (actions.Reverse name))) asks = refl
-asked_made d (bodies.Change (requests.Do (actions.Nodes name list))) asks = nodes_made list asks.2.1
-asked_made d (bodies.Change (requests.Do (actions.Members name list))) asks = passed (are_members list) asks.2.1
-asked_made d (bodies.Change (requests.Do (actions.Delete name))) asks = refl
-asked_made d (bodies.Change (requests.Do (actions.Purge name))) asks = refl
-asked_made d (bodies.Change (requests.Do (actions.Split name place into))) asks = refl
-asked_made d (bodies.Change (requests.Do (actions.Join name other))) asks = refl
-asked_made d (bodies.Change (requests.Do (actions.Merge name other))) asks = refl
-asked_made d (bodies.Change (requests.Do (actions.Unglue name place into))) asks = refl
+asked_made d (bodies.Change (requests.Do (One action))) asks = action_made d action asks
+asked_made d (bodies.Change (requests.Do (Group group))) (word, has) = actions_made has.0 group has.3
 asked_made d (bodies.Change (requests.Undo seq)) asks = refl
 asked_made d (bodies.Change requests.Redo) asks = refl
 asked_made d (bodies.Get name) asks = refl

@@ -1,10 +1,11 @@
 -- What a text spells is a well-formed message of its tree.
-use Rattle.std.proofs.Common.{◌≡◌, ◌∙◌, inl, inr, All, ℕ, Bool, true, false, not, cond, List, map, Option, Some, None, IfSome, Result, Ok, Err, IfOk, codes, is_some, option_map, option_and_then, nat_le, refl, ap, subst, sym, arith}
+use Rattle.std.proofs.Common.{◌≡◌, ◌∙◌, ◌&&◌, ◌+◌, inl, inr, All, ℕ, suc, Bool, true, false, not, cond, List, [], ◌∷◌, length, map, Option, Some, None, IfSome, Result, Ok, Err, IfOk, codes, is_some, option_map, option_and_then, nat_le, refl, ap, subst, sym, arith}
 use Rattle.std.specs.declared.alloc.Global.{Global}
 use Rattle.std.specs.Str.{bytes_eq}
 use Rattle.std.proofs.lemmas.Bool.Decides.{nat_tests}
 use Rattle.std.proofs.lemmas.Slice.Eq.{bytes_eq-Decides}
-use Rattle.serde_json.specs.Data.{Data, string, array, object, Items, Members as ObjectMembers}
+use Rattle.serde_json.specs.Data.{Data, string, array, object, Items, no_items, item, Members as ObjectMembers}
+use Rattle.serde_json.specs.Events.{items_len}
 use Rattle.serde_json.specs.Find.{get, as_array, as_i64, as_number, as_object, as_str, as_u64}
 use Rattle.serde_json.specs.Read.{read}
 use Rattle.serde_json.specs.View.{items_of}
@@ -21,12 +22,15 @@ use Rattle.osm_elements.specs.KeyedValues.{is_none_or}
 use Rattle.edit_simple.specs.Tagging.{AreGiven}
 use Rattle.edit_actions.specs.declared.action.Action.{Action}
 use Rattle.edit_actions.specs.declared.action.Action.TheVariants as actions
+use Rattle.edit_groups.specs.declared.edit.Edit.{Edit}
+use Rattle.edit_groups.specs.declared.edit.Edit.TheVariants.{One, Group}
+use Rattle.edit_groups.specs.Groups.{is_group_length}
 use Rattle.room_stacks.specs.Authors.{author_of, is_author}
 use Rattle.room_history.specs.declared.call.Request.TheVariants as requests
 use Rattle.room_wire.specs.declared.bad.Fault.{Fault}
 use Rattle.room_wire.specs.declared.bad.Fault.TheVariants.{BadField, BadId, NotObject, UnknownDo}
 use Rattle.room_wire.specs.declared.field.Field.{Field}
-use Rattle.room_wire.specs.declared.field.Field.TheVariants.{El, Els, Lat, Lon, Nodes, Members, Tags, Dlat, Dlon, At, Into, With, Seq}
+use Rattle.room_wire.specs.declared.field.Field.TheVariants.{El, Els, Lat, Lon, Nodes, Members, Tags, Dlat, Dlon, At, Into, With, Actions, Seq}
 use Rattle.room_wire.specs.declared.field.Field.TheVariants as fields
 use Rattle.room_wire.specs.declared.incoming.Incoming.{Incoming}
 use Rattle.room_wire.specs.declared.incoming.Body.{Body}
@@ -34,9 +38,9 @@ use Rattle.room_wire.specs.declared.incoming.Body.TheVariants as bodies
 use Rattle.room_wire.specs.Fields.{field_text}
 use Rattle.room_wire.specs.ReadBack.{HasId}
 use Rattle.room_wire.specs.Reading.{◌>>=◌, or_fault, under}
-use Rattle.room_wire.specs.Spelling.{action_by, author_at, body_at, body_by, by_id, distance_at, el_at, element_at, els_at, given_tags_at, given_tags_of, given_of, id_at, incoming, items_in, lat_at, lon_at, member_of, members_at, message_of, name_at, name_item, node_of, nodes_at, ordinal, place_at, place_of, seq_at, seq_from, spells, tags_at, tags_from, tags_of, text_at, value_of}
+use Rattle.room_wire.specs.Spelling.{action_at, actions_at, action_by, actions_from, are_objects, edit_by, group_at, group_of, with_position, word_at, author_at, body_at, body_by, by_id, distance_at, el_at, element_at, els_at, given_tags_at, given_tags_of, given_of, id_at, incoming, items_in, lat_at, lon_at, member_of, members_at, message_of, name_at, name_item, node_of, nodes_at, ordinal, place_at, place_of, seq_at, seq_from, spells, tags_at, tags_from, tags_of, text_at, value_of}
 use Rattle.room_wire.specs.Trees.{id_tree, member_tree, name_tree, tags_tree, whole}
-use Rattle.room_wire.specs.WellFormed.{Asks, Has, HasAuthor, HasDistance, HasElement, HasGivenTags, HasMembers, HasName, HasNameAt, HasNames, HasNodes, HasPlace, HasSeq, HasTags, HasText, HasWord, IsMessage, MessageId, given_tree, given_tags_tree}
+use Rattle.room_wire.specs.WellFormed.{Asks, AskActions, AsksAction, HasGroup, Has, HasAuthor, HasDistance, HasElement, HasGivenTags, HasMembers, HasName, HasNameAt, HasNames, HasNodes, HasPlace, HasSeq, HasTags, HasText, HasWord, IsMessage, MessageId, given_tree, given_tags_tree}
 use Rattle.room_wire.specs.Words.{Word, word_text}
 use Rattle.room_wire.specs.Words as words
 use Rattle.room_wire.proofs.FaultProofs.{number_of_ordinal}
@@ -148,7 +152,7 @@ module _ (d : Data) (h : IsInOrder d) where
       ok_then (HasMembers d) _ (members_at d) _ members_has (λ members list. ok_then (HasTags d) _ (tags_at d) _ tags_has (λ tags has. ((list, has), refl)))
 
   abbrev IsAction : Action Global → Type 0
-  IsAction action = Asks d (bodies.Change (requests.Do action))
+  IsAction action = AsksAction d action
 
   -- an action that has a name, and one that has a field or two more
   named_has : (P : Action Global → Type 0) (action : Name → Action Global) → ((name : Name) → HasName d name → P (action name)) → IfOk (el_at d >>= λ name. Ok (action name)) P
@@ -193,22 +197,73 @@ module _ (d : Data) (h : IsInOrder d) where
         (ok_word IsAction text words.Merge _ _ (λ e. pair_has IsAction (λ name other. actions.Merge name other) (name_at With d) (HasNameAt d With) (name_has d With) (λ name other named is. (by_word words.Merge e, named, is)))
         (ok_word IsAction text words.Unglue _ _ (λ e. placed_has IsAction (λ name place into. actions.Unglue name place into) (λ name place into named at new. (by_word words.Unglue e, named, at, new))) tt)))))))))))
 
+  -- the word of a message
+  word_has : IfOk (word_at d) (λ text. get (codes "do") d ≡ Some (string text))
+  word_has = ok_or (λ text. get (codes "do") d ≡ Some (string text)) UnknownDo (option_and_then as_str (get (codes "do") d)) (string_found (get (codes "do") d))
+
+  action_at_has : IfOk (action_at d) IsAction
+  action_at_has = ok_then (λ text. get (codes "do") d ≡ Some (string text)) IsAction (word_at d) _ word_has action_has
+
+-- ---- the actions of a group
+
+positioned : {X : Type 0} (P : X → Type 0) (k : ℕ) (r : Result X Fault) → IfOk r P → IfOk (with_position k r) P
+positioned P k (Ok x) h = h
+positioned P k (Err fault) h = tt
+
+actions_have : (k : ℕ) (ds : Items) → AreInOrder ds → IfOk (actions_from k ds) (AskActions ds)
+actions_have k no_items h = tt
+actions_have k (item d ds) h =
+    ok_then (AsksAction d) (AskActions (item d ds)) (with_position k (action_at d)) _ (positioned (AsksAction d) k (action_at d) (action_at_has d h.0)) (λ a asks.
+    ok_then (AskActions ds) (AskActions (item d ds)) (actions_from (k + 1) ds) _ (actions_have (k + 1) ds h.1) (λ more others. (asks, others)))
+
+as_many : (ds : Items) (group : List (Action Global)) → AskActions ds group → items_len ds ≡ length group
+as_many no_items [] asks = refl
+as_many (item d ds) (a ∷ more) asks = ap suc (as_many ds more asks.1)
+as_many no_items (a ∷ more) asks = absurd asks
+as_many (item d ds) [] asks = absurd asks
+
+abbrev IsItems : Data → Items → Type 0
+IsItems d ds = Has d Actions (array ds) × AreInOrder ds × (is_group_length (items_len ds) ≡ true)
+
+first_true : (a b : Bool) → (a && b) ≡ true → a ≡ true
+first_true true b e = refl
+first_true false b e = e
+
+group_items_have : (d : Data) → IsInOrder d → IfOk (group_at d) (IsItems d)
+group_items_have d h =
+    let found : Option Items = option_and_then as_array (get (field_text Actions) d) in
+    ok_or (IsItems d) (BadField Actions) (option_and_then group_of found)
+    (if_then (λ ds. Has d Actions (array ds) × AreInOrder ds) (IsItems d) found group_of (array_found (get (field_text Actions) d) (get_in_order (field_text Actions) d h))
+    (λ ds has. if_passes (IsItems d) (is_group_length (items_len ds) && are_objects ds) (Some ds) (λ e. (has.0, has.1, first_true (is_group_length (items_len ds)) (are_objects ds) e))))
+
+group_has : (d : Data) → IsInOrder d → IfOk (actions_at d) (HasGroup d)
+group_has d h =
+    ok_then (IsItems d) (HasGroup d) (group_at d) _ (group_items_have d h) (λ ds is.
+    ok_more (AskActions ds) (HasGroup d) (actions_from 0 ds) (actions_have 0 ds is.1) (λ group asks.
+    (ds, is.0, sym (ap is_group_length (as_many ds group asks)) ∙ is.2, asks)))
+
+module _ (d : Data) (h : IsInOrder d) where
+  module _ (text : List ℕ) (has : get (codes "do") d ≡ Some (string text)) where
+    edit_has : IfOk (edit_by text d) (λ edit. Asks d (bodies.Change (requests.Do edit)))
+    edit_has =
+        let P : Edit Global → Type 0 = λ edit. Asks d (bodies.Change (requests.Do edit)) in
+        ok_word d h P text words.Group _ _
+        (λ e. ok_then (HasGroup d) P (actions_at d) _ (group_has d h) (λ group is. (by_word d h text has words.Group e, is)))
+        (ok_then (AsksAction d) P (action_by text d) _ (action_has d h text has) (λ action asks. asks))
+
     body_has : IfOk (body_by text d) (Asks d)
     body_has =
-        ok_word (Asks d) text words.Hello _ _ (λ e. ok_then (HasAuthor d fields.Room) (Asks d) (author_at fields.Room d) _ (author_has d fields.Room) (λ room at.
-        ok_then (HasAuthor d fields.Name) (Asks d) (author_at fields.Name d) _ (author_has d fields.Name) (λ name named. (by_word words.Hello e, at, named))))
-        (ok_word (Asks d) text words.Undo _ _ (λ e. ok_then (HasSeq d) (Asks d) (seq_at d) _ (seq_has d) (λ seq is. (by_word words.Undo e, is)))
-        (ok_word (Asks d) text words.Redo _ _ (λ e. by_word words.Redo e)
-        (ok_word (Asks d) text words.Undos _ _ (λ e. by_word words.Undos e)
-        (ok_word (Asks d) text words.Get _ _ (λ e. ok_then (HasName d) (Asks d) (el_at d) _ (name_has d El) (λ name named. (by_word words.Get e, named)))
-        (ok_word (Asks d) text words.Map _ _ (λ e. by_word words.Map e)
-        (ok_then IsAction (Asks d) (action_by text d) _ action_has (λ action asks. asks)))))))
+        ok_word d h (Asks d) text words.Hello _ _ (λ e. ok_then (HasAuthor d fields.Room) (Asks d) (author_at fields.Room d) _ (author_has d fields.Room) (λ room at.
+        ok_then (HasAuthor d fields.Name) (Asks d) (author_at fields.Name d) _ (author_has d fields.Name) (λ name named. (by_word d h text has words.Hello e, at, named))))
+        (ok_word d h (Asks d) text words.Undo _ _ (λ e. ok_then (HasSeq d) (Asks d) (seq_at d) _ (seq_has d) (λ seq is. (by_word d h text has words.Undo e, is)))
+        (ok_word d h (Asks d) text words.Redo _ _ (λ e. by_word d h text has words.Redo e)
+        (ok_word d h (Asks d) text words.Undos _ _ (λ e. by_word d h text has words.Undos e)
+        (ok_word d h (Asks d) text words.Get _ _ (λ e. ok_then (HasName d) (Asks d) (el_at d) _ (name_has d El) (λ name named. (by_word d h text has words.Get e, named)))
+        (ok_word d h (Asks d) text words.Map _ _ (λ e. by_word d h text has words.Map e)
+        (ok_then (λ edit. Asks d (bodies.Change (requests.Do edit))) (Asks d) (edit_by text d) _ edit_has (λ edit asks. asks)))))))
 
   body_at_has : IfOk (body_at d) (Asks d)
-  body_at_has =
-      ok_then (λ text. get (codes "do") d ≡ Some (string text)) (Asks d) (or_fault UnknownDo (option_and_then as_str (get (codes "do") d))) _
-      (ok_or (λ text. get (codes "do") d ≡ Some (string text)) UnknownDo (option_and_then as_str (get (codes "do") d)) (string_found (get (codes "do") d)))
-      body_has
+  body_at_has = ok_then (λ text. get (codes "do") d ≡ Some (string text)) (Asks d) (word_at d) _ (word_has d h) body_has
 
   id_has : IfOk (id_at d) (MessageId d)
   id_has = by (is_some (as_object d))

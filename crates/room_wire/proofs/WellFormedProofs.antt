@@ -1,9 +1,10 @@
 -- Every well-formed message spells itself.
-use Rattle.std.proofs.Common.{◌≡◌, ◌&&◌, ◌∙◌, ℕ, ℤ, List, codes, true, cond, Option, Some, None, Result, Ok, inl, inr, is_some, option_map, nat_le, refl, sym, ap, arith}
+use Rattle.std.proofs.Common.{◌≡◌, ◌&&◌, ◌∙◌, ◌+◌, ℕ, ℤ, suc, List, [], ◌∷◌, length, codes, true, cond, Option, Some, None, Result, Ok, inl, inr, is_some, option_map, nat_le, refl, sym, ap, arith}
 use Rattle.std.specs.declared.alloc.Global.{Global}
 use Rattle.std.specs.Option.{option_and_then}
 use Rattle.std.proofs.lemmas.Bool.Decides.{nat_tests}
-use Rattle.serde_json.specs.Data.{Data, Items, null, boolean, number, string, array, object}
+use Rattle.serde_json.specs.Data.{Data, Items, no_items, item, null, boolean, number, string, array, object}
+use Rattle.serde_json.specs.Events.{items_len}
 use Rattle.serde_json.specs.Find.{get, as_array, as_i64, as_number, as_object, as_str}
 use Rattle.serde_json.specs.Read.{read}
 use Rattle.osm_coords.specs.Latitude.{latitude_of}
@@ -18,22 +19,24 @@ use Rattle.osm_elements.specs.TagRows.{Pairs}
 use Rattle.edit_simple.specs.Tagging.{GivenTags}
 use Rattle.edit_actions.specs.declared.action.Action.{Action}
 use Rattle.edit_actions.specs.declared.action.Action.TheVariants as actions
+use Rattle.edit_groups.specs.declared.edit.Edit.TheVariants.{One, Group}
+use Rattle.edit_groups.specs.Groups.{is_group_length}
 use Rattle.room_stacks.specs.declared.author.Author.{Author}
 use Rattle.room_stacks.specs.Authors.{author_of}
 use Rattle.room_history.specs.declared.call.Request.TheVariants as requests
 use Rattle.room_wire.specs.declared.bad.Fault.{Fault}
 use Rattle.room_wire.specs.declared.bad.Fault.TheVariants.{BadField, UnknownDo}
 use Rattle.room_wire.specs.declared.field.Field.{Field}
-use Rattle.room_wire.specs.declared.field.Field.TheVariants.{El, Els, Lat, Lon, Nodes, Members, Tags, Dlat, Dlon, At, Into, With, Seq}
+use Rattle.room_wire.specs.declared.field.Field.TheVariants.{El, Els, Lat, Lon, Nodes, Members, Tags, Dlat, Dlon, At, Into, With, Actions, Seq}
 use Rattle.room_wire.specs.declared.field.Field.TheVariants as fields
 use Rattle.room_wire.specs.declared.incoming.Incoming.{Incoming}
 use Rattle.room_wire.specs.declared.incoming.Body.{Body}
 use Rattle.room_wire.specs.declared.incoming.Body.TheVariants as bodies
 use Rattle.room_wire.specs.Fields.{field_text}
 use Rattle.room_wire.specs.Reading.{◌>>=◌, or_fault, under}
-use Rattle.room_wire.specs.Spelling.{author_at, body_at, body_by, create_at, distance_at, el_at, element_at, els_at, given_tags_at, given_tags_of, id_at, lat_at, lon_at, name_at, place_at, place_of, names_in, by_id, incoming, message_of, members_at, members_in, nodes_at, nodes_in, ordinal, seq_at, seq_from, spells, tags_at, tags_from, text_at}
+use Rattle.room_wire.specs.Spelling.{action_at, action_by, actions_from, are_objects, group_of, author_at, body_at, body_by, create_at, distance_at, el_at, element_at, els_at, given_tags_at, given_tags_of, id_at, lat_at, lon_at, name_at, place_at, place_of, names_in, by_id, incoming, message_of, members_at, members_in, nodes_at, nodes_in, ordinal, seq_at, seq_from, spells, tags_at, tags_from, text_at}
 use Rattle.room_wire.specs.Trees.{whole}
-use Rattle.room_wire.specs.WellFormed.{Asks, Has, HasAuthor, HasDistance, HasElement, HasGivenTags, HasMembers, HasName, HasNameAt, HasNames, HasNodes, HasPlace, HasSeq, HasTags, HasText, HasWord, IsMessage, IsNumber, MessageId}
+use Rattle.room_wire.specs.WellFormed.{Asks, AskActions, AsksAction, Has, HasAuthor, HasDistance, HasElement, HasGivenTags, HasMembers, HasName, HasNameAt, HasNames, HasNodes, HasPlace, HasSeq, HasTags, HasText, HasWord, IsMessage, IsNumber, MessageId}
 use Rattle.room_wire.specs.Words.{Word, word_text}
 use Rattle.room_wire.specs.Words as words
 use Rattle.room_wire.proofs.ReadBackProofs.{as_i64-of_integer, given_tags_of-given_tag_members, members_in-trees, names_in-trees, nodes_in-ids, tags_of-tag_members, three, two}
@@ -122,39 +125,88 @@ element_read d (elements.Relation members tags) h =
 pub created : (d : Data) (name : Name) (element : Element Global) → el_at d ≡ Ok name → element_at name.kind d ≡ Ok element → create_at d ≡ Ok (actions.Create name element)
 created d name element h g = rw (h, g) refl
 
--- the action of a message, done
+-- the action of a message, done as one edit
 abbrev doing : Result (Action Global) Fault → Result Body Fault
-doing r = r >>= λ action. Ok (bodies.Change (requests.Do action))
+doing r = (r >>= λ action. Ok (One action)) >>= λ edit. Ok (bodies.Change (requests.Do edit))
+
+-- a word of a message, and what is read under it
+abbrev IsRead : Data → Action Global → Type 0
+IsRead d action = (word : Word) × HasWord d word × (action_by (word_text word) d ≡ Ok action) × (body_by (word_text word) d ≡ doing (action_by (word_text word) d))
+
+action_asked : (d : Data) (action : Action Global) → AsksAction d action → IsRead d action
+action_asked d (actions.Create name element) (word, named, has, kind) =
+    let element_is : element_at name.kind d ≡ Ok element = ap (λ k. element_at k d) (sym kind) ∙ element_read d element has in
+    (words.Create, word, (created d name element (el_read d name named) element_is), refl)
+action_asked d (actions.Retag name given) (word, named, has) = (words.Retag, word, (two {C = Action Global} (λ x y. actions.Retag x y) (el_at d) (given_tags_at d) name given (el_read d name named) (given_tags_read d given has)), refl)
+action_asked d (actions.Move names dlat dlon) (word, has, north, east) = (
+  words.Move,
+  word,
+  (three {D = Action Global} (λ x y z. actions.Move x y z) (els_at d) (distance_at Dlat d) (distance_at Dlon d) names dlat dlon
+      (els_read d names has) (distance_read d Dlat dlat north) (distance_read d Dlon dlon east)),
+  refl,
+)
+action_asked d (actions.Reverse name) (word, named) = (words.Reverse, word, ap (λ r. (r >>= λ name. Ok (actions.Reverse name))) (el_read d name named), refl)
+action_asked d (actions.Nodes name list) (word, named, has) = (words.Nodes, word, (two {C = Action Global} (λ x y. actions.Nodes x y) (el_at d) (nodes_at d) name list (el_read d name named) (nodes_read d list has)), refl)
+action_asked d (actions.Members name list) (word, named, has) = (words.Members, word, (two {C = Action Global} (λ x y. actions.Members x y) (el_at d) (members_at d) name list (el_read d name named) (members_read d list has)), refl)
+action_asked d (actions.Delete name) (word, named) = (words.Delete, word, ap (λ r. (r >>= λ name. Ok (actions.Delete name))) (el_read d name named), refl)
+action_asked d (actions.Purge name) (word, named) = (words.Purge, word, ap (λ r. (r >>= λ name. Ok (actions.Purge name))) (el_read d name named), refl)
+action_asked d (actions.Split name place into) (word, named, has, new) = (
+  words.Split,
+  word,
+  (three {D = Action Global} (λ x y z. actions.Split x y z) (el_at d) (place_at d) (name_at Into d) name place into
+      (el_read d name named) (place_read d place has) (name_read d Into into new)),
+  refl,
+)
+action_asked d (actions.Join name other) (word, named, has) = (words.Join, word, (two {C = Action Global} (λ x y. actions.Join x y) (el_at d) (name_at With d) name other (el_read d name named) (name_read d With other has)), refl)
+action_asked d (actions.Merge name other) (word, named, has) = (words.Merge, word, (two {C = Action Global} (λ x y. actions.Merge x y) (el_at d) (name_at With d) name other (el_read d name named) (name_read d With other has)), refl)
+action_asked d (actions.Unglue name place into) (word, named, has, new) = (
+  words.Unglue,
+  word,
+  (three {D = Action Global} (λ x y z. actions.Unglue x y z) (el_at d) (place_at d) (name_at Into d) name place into
+      (el_read d name named) (place_read d place has) (name_read d Into into new)),
+  refl,
+)
+
+pub action_word_read : (d : Data) (word : Word) → HasWord d word → action_at d ≡ action_by (word_text word) d
+action_word_read d word h = ap (λ o. or_fault UnknownDo (option_and_then as_str o) >>= λ text. action_by text d) h
+
+-- the actions of a group
+action_read : (d : Data) (action : Action Global) → AsksAction d action → action_at d ≡ Ok action
+action_read d action asks = let r = action_asked d action asks in action_word_read d r.0 r.1 ∙ r.2
+
+actions_read : (k : ℕ) (ds : Items) (group : List (Action Global)) → AskActions ds group → actions_from k ds ≡ Ok group
+actions_read k no_items [] asks = refl
+actions_read k (item d ds) (a ∷ more) asks = rw (action_read d a asks.0, actions_read (k + 1) ds more asks.1) refl
+actions_read k no_items (a ∷ more) asks = absurd asks
+actions_read k (item d ds) [] asks = absurd asks
+
+asks_object : (d : Data) (action : Action Global) → AsksAction d action → is_some (as_object d) ≡ true
+asks_object d action asks = let r = action_asked d action asks in is_object d (codes "do") (string (word_text r.0)) r.1
+
+objects_read : (ds : Items) (group : List (Action Global)) → AskActions ds group → are_objects ds ≡ true
+objects_read no_items [] asks = refl
+objects_read (item d ds) (a ∷ more) asks = rw (asks_object d a asks.0) (objects_read ds more asks.1)
+objects_read no_items (a ∷ more) asks = absurd asks
+objects_read (item d ds) [] asks = absurd asks
+
+as_many : (ds : Items) (group : List (Action Global)) → AskActions ds group → items_len ds ≡ length group
+as_many no_items [] asks = refl
+as_many (item d ds) (a ∷ more) asks = ap suc (as_many ds more asks.1)
+as_many no_items (a ∷ more) asks = absurd asks
+as_many (item d ds) [] asks = absurd asks
+
+group_read : (ds : Items) (group : List (Action Global)) → is_group_length (length group) ≡ true → AskActions ds group → group_of ds ≡ Some ds
+group_read ds group count asks = rw (as_many ds group asks, count, objects_read ds group asks) refl
+
+abbrev grouped : Result Items Fault → Result Body Fault
+grouped r = ((r >>= λ ds. actions_from 0 ds) >>= λ group. Ok (Group group)) >>= λ edit. Ok (bodies.Change (requests.Do edit))
 
 asked : (d : Data) (body : Body) → Asks d body → body_at d ≡ Ok body
-asked d (bodies.Change (requests.Do (actions.Create name element))) (word, named, has, kind) =
-    let element_is : element_at name.kind d ≡ Ok element = ap (λ k. element_at k d) (sym kind) ∙ element_read d element has in
-    word_read d words.Create word ∙ ap doing (created d name element (el_read d name named) element_is)
-asked d (bodies.Change (requests.Do (actions.Retag name given))) (word, named, has) =
-    word_read d words.Retag word ∙ ap doing (two {C = Action Global} (λ x y. actions.Retag x y) (el_at d) (given_tags_at d) name given (el_read d name named) (given_tags_read d given has))
-asked d (bodies.Change (requests.Do (actions.Move names dlat dlon))) (word, has, north, east) =
-    word_read d words.Move word ∙ ap doing (three {D = Action Global} (λ x y z. actions.Move x y z) (els_at d) (distance_at Dlat d) (distance_at Dlon d) names dlat dlon
-    (els_read d names has) (distance_read d Dlat dlat north) (distance_read d Dlon dlon east))
-asked d (bodies.Change (requests.Do (actions.Reverse name))) (word, named) =
-    word_read d words.Reverse word ∙ ap (λ r. doing (r >>= λ name. Ok (actions.Reverse name))) (el_read d name named)
-asked d (bodies.Change (requests.Do (actions.Nodes name list))) (word, named, has) =
-    word_read d words.Nodes word ∙ ap doing (two {C = Action Global} (λ x y. actions.Nodes x y) (el_at d) (nodes_at d) name list (el_read d name named) (nodes_read d list has))
-asked d (bodies.Change (requests.Do (actions.Members name list))) (word, named, has) =
-    word_read d words.Members word ∙ ap doing (two {C = Action Global} (λ x y. actions.Members x y) (el_at d) (members_at d) name list (el_read d name named) (members_read d list has))
-asked d (bodies.Change (requests.Do (actions.Delete name))) (word, named) =
-    word_read d words.Delete word ∙ ap (λ r. doing (r >>= λ name. Ok (actions.Delete name))) (el_read d name named)
-asked d (bodies.Change (requests.Do (actions.Purge name))) (word, named) =
-    word_read d words.Purge word ∙ ap (λ r. doing (r >>= λ name. Ok (actions.Purge name))) (el_read d name named)
-asked d (bodies.Change (requests.Do (actions.Split name place into))) (word, named, has, new) =
-    word_read d words.Split word ∙ ap doing (three {D = Action Global} (λ x y z. actions.Split x y z) (el_at d) (place_at d) (name_at Into d) name place into
-    (el_read d name named) (place_read d place has) (name_read d Into into new))
-asked d (bodies.Change (requests.Do (actions.Join name other))) (word, named, has) =
-    word_read d words.Join word ∙ ap doing (two {C = Action Global} (λ x y. actions.Join x y) (el_at d) (name_at With d) name other (el_read d name named) (name_read d With other has))
-asked d (bodies.Change (requests.Do (actions.Merge name other))) (word, named, has) =
-    word_read d words.Merge word ∙ ap doing (two {C = Action Global} (λ x y. actions.Merge x y) (el_at d) (name_at With d) name other (el_read d name named) (name_read d With other has))
-asked d (bodies.Change (requests.Do (actions.Unglue name place into))) (word, named, has, new) =
-    word_read d words.Unglue word ∙ ap doing (three {D = Action Global} (λ x y z. actions.Unglue x y z) (el_at d) (place_at d) (name_at Into d) name place into
-    (el_read d name named) (place_read d place has) (name_read d Into into new))
+asked d (bodies.Change (requests.Do (One action))) asks = let r = action_asked d action asks in word_read d r.0 r.1 ∙ r.3 ∙ ap doing r.2
+asked d (bodies.Change (requests.Do (Group group))) (word, has) =
+    let ds = has.0 in
+    word_read d words.Group word ∙ ap grouped (array_read d Actions group_of ds ds has.1 (group_read ds group has.2 has.3))
+    ∙ ap (λ r. (r >>= λ group. Ok (Group group)) >>= λ edit. Ok (bodies.Change (requests.Do edit))) (actions_read 0 ds group has.3)
 asked d (bodies.Change (requests.Undo seq)) (word, has) =
     word_read d words.Undo word ∙ ap (λ r. r >>= λ seq. Ok (bodies.Change (requests.Undo seq))) (seq_read d seq has)
 asked d (bodies.Change requests.Redo) word = word_read d words.Redo word

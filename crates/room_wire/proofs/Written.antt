@@ -5,14 +5,14 @@ use Rattle.std.specs.Ordering.{is_lt, ordering_reverse}
 use Rattle.std.specs.Cmp.Lexicographic.{slice_cmp}
 use Rattle.std.specs.FinMap.Entries.{is_sorted, below_all}
 use Rattle.std.proofs.lemmas.Cmp.{nat_list_cmp_total}
-use Rattle.json.specs.Token.{Token, key}
-use Rattle.json.specs.Tree.{ItemsHaveNumbers, MembersHaveNumbers, items_tokens, members_tokens}
+use Rattle.json.specs.Token.{Token, begin_object, end_object, key}
+use Rattle.json.specs.Tree.{ItemsHaveNumbers, MembersHaveNumbers, items_tokens, members_tokens as json_members_tokens}
 use Rattle.serde_json.specs.Data.{Data, array, object, member, put}
 use Rattle.serde_json.specs.Read.{of_json, of_items, of_members}
 use Rattle.serde_json.specs.View.{items_of}
 use Rattle.serde_json.specs.Written.{outline, items_outline, members_outline}
 use Rattle.osm_elements.specs.KeyedRows.{text_cmp}
-use Rattle.room_wire.specs.Inner.Writing.{IsReadable, members_of, tree_tokens}
+use Rattle.room_wire.specs.Inner.Writing.{IsReadable, members_of, members_tokens, tree_tokens}
 
 -- ---- tokens
 
@@ -21,7 +21,7 @@ abbrev pub items_left : List Data → List Token
 items_left ds = items_tokens (items_outline (items_of ds))
 
 abbrev pub members_left : List (List ℕ × Data) → List Token
-members_left ms = members_tokens (members_outline (members_of ms))
+members_left ms = json_members_tokens (members_outline (members_of ms))
 
 -- the bracket is written
 pub opened : (old new : List Token) (t : Token) → new ≡ old ++ t ∷ [] → (left : List Token) → new ++ left ≡ old ++ t ∷ left
@@ -31,8 +31,20 @@ opened old new t is left = ap (λ ts. ts ++ left) is ∙ append_assoc old (t ∷
 pub item_written : (old new whole : List Token) (d : Data) (ds : List Data) → new ≡ old ++ tree_tokens d → old ++ items_left (d ∷ ds) ≡ whole → new ++ items_left ds ≡ whole
 item_written old new whole d ds is h = ap (λ ts. ts ++ items_left ds) is ∙ append_assoc old (tree_tokens d) (items_left ds) ∙ h
 
-pub member_written : (old new whole : List Token) (m : List ℕ × Data) (ms : List (List ℕ × Data)) → new ≡ old ++ key m.0 ∷ tree_tokens m.1 → old ++ members_left (m ∷ ms) ≡ whole → new ++ members_left ms ≡ whole
-member_written old new whole m ms is h = ap (λ ts. ts ++ members_left ms) is ∙ append_assoc old (key m.0 ∷ tree_tokens m.1) (members_left ms) ∙ h
+-- the members of an object, without its brackets
+pub member_told : (old new whole : List Token) (m : List ℕ × Data) (ms : List (List ℕ × Data)) → new ≡ old ++ key m.0 ∷ tree_tokens m.1 → old ++ members_tokens (m ∷ ms) ≡ whole → new ++ members_tokens ms ≡ whole
+member_told old new whole m ms is h = ap (λ ts. ts ++ members_tokens ms) is ∙ append_assoc old (key m.0 ∷ tree_tokens m.1) (members_tokens ms) ∙ h
+
+pub then_members : (old middle new : List Token) (m : List ℕ × Data) (ms : List (List ℕ × Data)) → middle ≡ old ++ key m.0 ∷ tree_tokens m.1 → new ≡ middle ++ members_tokens ms → new ≡ old ++ members_tokens (m ∷ ms)
+then_members old middle new m ms first rest = rest ∙ ap (λ ts. ts ++ members_tokens ms) first ∙ append_assoc old (key m.0 ∷ tree_tokens m.1) (members_tokens ms)
+
+-- the brackets round them
+members_end : (ms : List (List ℕ × Data)) → members_tokens ms ++ end_object ∷ [] ≡ members_left ms
+members_end [] = refl
+members_end (m ∷ ms) = ap (λ ts. key m.0 ∷ ts) (append_assoc (tree_tokens m.1) (members_tokens ms) (end_object ∷ []) ∙ ap (λ ts. tree_tokens m.1 ++ ts) (members_end ms))
+
+pub members_closed : (old : List Token) (ms : List (List ℕ × Data)) → old ++ begin_object ∷ (members_tokens ms ++ end_object ∷ []) ≡ old ++ tree_tokens (object (members_of ms))
+members_closed old ms = ap (λ ts. old ++ begin_object ∷ ts) (members_end ms)
 
 -- ---- what is read
 

@@ -1,5 +1,7 @@
 -- What a reply of the room, a refusal and a fault are answered with.
 use denote.Bor.{Bor}
+use Rattle.std.specs.Prelude.{ℕ, Option, Some, None}
+use Rattle.std.specs.declared.alloc.Global.{Global}
 use Rattle.edit_simple.specs.declared.refusal.Refusal.{Refusal}
 use Rattle.edit_simple.specs.declared.refusal.Refusal.TheVariants as refusals
 use Rattle.room_history.specs.declared.reply.Reply.{Reply}
@@ -7,7 +9,7 @@ use Rattle.room_history.specs.declared.reply.Reply.TheVariants as replies
 use Rattle.room_wire.specs.declared.bad.Fault.{Fault}
 use Rattle.room_wire.specs.declared.bad.Fault.TheVariants as faults
 use Rattle.room_wire.specs.declared.answer.Answer.{Answer}
-use Rattle.room_wire.specs.declared.answer.Answer.TheVariants.{Done, Undid, Redid, Absent, Present, WrongKind, Same, OutOfRange, TooFew, TooMany, InUse, TagConflict, BadPosition, NotEndToEnd, Nothing, Repeat, Conflict, BadField, Memory, Full, NothingToUndo, NothingToRedo, NoSuch, NotYours, NotStanding, NotJson, NotObject, BadId, UnknownDo}
+use Rattle.room_wire.specs.declared.answer.Answer.TheVariants.{Done, Undid, Redid, Absent, Present, WrongKind, Same, OutOfRange, TooFew, TooMany, InUse, TagConflict, BadPosition, NotEndToEnd, Nothing, Refused, Repeat, Conflict, BadField, BadActionField, Memory, Full, NothingToUndo, NothingToRedo, NoSuch, NotYours, NotStanding, NotJson, NotObject, BadId, UnknownDo, UnknownAction}
 
 -- a reference to a value, wherever that stands
 abbrev pub to_value : {X : Type 0} → X → Bor X
@@ -28,7 +30,12 @@ refusal_answer (refusals.TagConflict key) = TagConflict (to_value key)
 refusal_answer refusals.Nothing = Nothing
 refusal_answer refusals.Memory = Memory
 
-abbrev pub reply_answer : {A : Type 0} → Reply A → Answer
+-- the refusal of an action at a position of a group, or of none in particular
+abbrev pub edit_answer : Option ℕ → Refusal Global → Answer
+edit_answer None why = refusal_answer why
+edit_answer (Some k) why = Refused k (to_value why)
+
+abbrev pub reply_answer : Reply Global → Answer
 reply_answer (replies.Done seq) = Done seq
 reply_answer (replies.Undid seq of) = Undid seq of
 reply_answer (replies.Redid seq of) = Redid seq of
@@ -40,7 +47,7 @@ reply_answer replies.NoSuch = NoSuch
 reply_answer replies.NotYours = NotYours
 reply_answer replies.NotStanding = NotStanding
 reply_answer (replies.Conflict blocker shared) = Conflict blocker shared
-reply_answer (replies.Refused refusal) = refusal_answer refusal
+reply_answer (replies.Refused refusal) = edit_answer refusal.action refusal.why
 reply_answer replies.Memory = Memory
 
 abbrev pub fault_answer : Fault → Answer
@@ -49,4 +56,6 @@ fault_answer faults.NotObject = NotObject
 fault_answer faults.BadId = BadId
 fault_answer faults.UnknownDo = UnknownDo
 fault_answer (faults.BadField field) = BadField field
+fault_answer (faults.UnknownAction k) = UnknownAction k
+fault_answer (faults.BadActionField k field) = BadActionField k field
 fault_answer faults.Memory = Memory

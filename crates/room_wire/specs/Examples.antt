@@ -7,13 +7,16 @@ use Rattle.osm_elements.specs.declared.element.Element.{Element}
 use Rattle.osm_elements.specs.declared.element.Element.TheVariants.{Node, Way, Relation}
 use Rattle.osm_elements.specs.NameTexts.{named}
 use Rattle.edit_actions.specs.declared.action.Action.TheVariants as actions
+use Rattle.edit_groups.specs.declared.edit.Edit.TheVariants.{One, Group}
+use Rattle.edit_simple.specs.declared.refusal.Refusal.{Refusal}
+use Rattle.edit_simple.specs.declared.refusal.Refusal.TheVariants as refusals
 use Rattle.edit_actions.specs.declared.action.Action.TheVariants.{Create, Delete}
 use Rattle.room_history.specs.declared.call.Request.TheVariants.{Do, Undo, Redo}
-use Rattle.room_wire.specs.declared.field.Field.TheVariants.{El, Els, Lat, Nodes, Members, Tags, Dlat, Dlon, At, Into, With, Seq}
+use Rattle.room_wire.specs.declared.field.Field.TheVariants.{El, Els, Lat, Nodes, Members, Tags, Dlat, Dlon, At, Into, With, Actions, Seq}
 use Rattle.room_wire.specs.declared.field.Field.TheVariants as fields
 use Rattle.room_wire.specs.declared.bad.Bad.{Bad}
 use Rattle.room_wire.specs.declared.bad.Fault.{Fault}
-use Rattle.room_wire.specs.declared.bad.Fault.TheVariants.{NotJson, NotObject, BadId, UnknownDo, BadField}
+use Rattle.room_wire.specs.declared.bad.Fault.TheVariants.{NotJson, NotObject, BadId, UnknownDo, UnknownAction, BadField, BadActionField}
 use Rattle.room_wire.specs.declared.incoming.Incoming.{Incoming}
 use Rattle.room_wire.specs.declared.incoming.Body.{Body}
 use Rattle.room_wire.specs.declared.incoming.Body.TheVariants.{Hello, Change, Get, Map, Undos}
@@ -51,24 +54,26 @@ fails id fault = Err (record { id = id; fault = fault })
 -- one message of each word, with needless space and members, and a doubled key whose last value counts
 unfoldable pub reads_messages : Type 0
 reads_messages =
-    (spells (codes "{\"id\":1,\"do\":\"create\",\"el\":\"n-1\",\"lat\":\"51.5\",\"lon\":\"-0.1\",\"tags\":{}}") ≡ asks 1 (Change (Do (Create n-1 greenwich))))
+    (spells (codes "{\"id\":1,\"do\":\"create\",\"el\":\"n-1\",\"lat\":\"51.5\",\"lon\":\"-0.1\",\"tags\":{}}") ≡ asks 1 (Change (Do (One (Create n-1 greenwich)))))
     × (spells (codes "{\"tags\": {\"b\": \"2\", \"a\": \"1\"}, \"nodes\": [-1, 7, -1], \"el\": \"w1\", \"x\": [null], \"do\": \"create\", \"id\": 2}")
-    ≡ asks 2 (Change (Do (Create w1 (Way (n-1 ∷ n7 ∷ n-1 ∷ []) ((codes "a", codes "1") ∷ (codes "b", codes "2") ∷ []))))))
+    ≡ asks 2 (Change (Do (One (Create w1 (Way (n-1 ∷ n7 ∷ n-1 ∷ []) ((codes "a", codes "1") ∷ (codes "b", codes "2") ∷ [])))))))
     × (spells (codes "{\"id\":2,\"do\":\"create\",\"el\":\"r-2\",\"members\":[[\"w1\",\"outer\"],[\"r-2\",\"\"],[\"w1\",\"outer\"]]}")
-    ≡ asks 2 (Change (Do (Create r-2 (Relation ((w1, codes "outer") ∷ (r-2, []) ∷ (w1, codes "outer") ∷ []) [])))))
-    × (spells (codes "{\"id\":2,\"do\":\"retag\",\"el\":\"r-2\",\"tags\":{\"b\":\"\",\"a\":null}}") ≡ asks 2 (Change (Do (actions.Retag r-2 ((codes "a", None) ∷ (codes "b", Some []) ∷ [])))))
-    × (spells (codes "{\"id\":2,\"do\":\"move\",\"els\":[\"w1\",\"n7\",\"w1\"],\"dlat\":-1,\"dlon\":9223372036854775807}") ≡ asks 2 (Change (Do (actions.Move (w1 ∷ n7 ∷ w1 ∷ []) (negsuc 0) (pos 9223372036854775807)))))
-    × (spells (codes "{\"id\":2,\"do\":\"move\",\"els\":[],\"dlat\":-9223372036854775808,\"dlon\":0}") ≡ asks 2 (Change (Do (actions.Move [] (negsuc 9223372036854775807) (pos 0)))))
-    × (spells (codes "{\"id\":2,\"do\":\"reverse\",\"el\":\"n7\"}") ≡ asks 2 (Change (Do (actions.Reverse n7))))
-    × (spells (codes "{\"id\":2,\"do\":\"nodes\",\"el\":\"w1\",\"nodes\":[7,-1,7]}") ≡ asks 2 (Change (Do (actions.Nodes w1 (n7 ∷ n-1 ∷ n7 ∷ [])))))
-    × (spells (codes "{\"id\":2,\"do\":\"members\",\"el\":\"r-2\",\"members\":[[\"n7\",\"\"],[\"w1\",\"outer\"]]}") ≡ asks 2 (Change (Do (actions.Members r-2 ((n7, []) ∷ (w1, codes "outer") ∷ [])))))
-    × (spells (codes "{\"id\":0,\"do\":\"delete\",\"el\":\"w1\",\"id\":3}") ≡ asks 3 (Change (Do (Delete w1))))
-    × (spells (codes "{\"id\":2,\"do\":\"purge\",\"el\":\"r-2\"}") ≡ asks 2 (Change (Do (actions.Purge r-2))))
-    × (spells (codes "{\"id\":2,\"do\":\"split\",\"el\":\"w1\",\"at\":0,\"into\":\"w9\"}") ≡ asks 2 (Change (Do (actions.Split w1 0 w9))))
-    × (spells (codes "{\"id\":2,\"do\":\"split\",\"el\":\"n7\",\"at\":4294967295,\"into\":\"n7\"}") ≡ asks 2 (Change (Do (actions.Split n7 4294967295 n7))))
-    × (spells (codes "{\"id\":2,\"do\":\"join\",\"el\":\"w1\",\"with\":\"w9\"}") ≡ asks 2 (Change (Do (actions.Join w1 w9))))
-    × (spells (codes "{\"id\":2,\"do\":\"merge\",\"el\":\"n7\",\"with\":\"n-1\"}") ≡ asks 2 (Change (Do (actions.Merge n7 n-1))))
-    × (spells (codes "{\"id\":2,\"do\":\"unglue\",\"el\":\"w1\",\"at\":0,\"into\":\"n7\"}") ≡ asks 2 (Change (Do (actions.Unglue w1 0 n7))))
+    ≡ asks 2 (Change (Do (One (Create r-2 (Relation ((w1, codes "outer") ∷ (r-2, []) ∷ (w1, codes "outer") ∷ []) []))))))
+    × (spells (codes "{\"id\":2,\"do\":\"retag\",\"el\":\"r-2\",\"tags\":{\"b\":\"\",\"a\":null}}") ≡ asks 2 (Change (Do (One (actions.Retag r-2 ((codes "a", None) ∷ (codes "b", Some []) ∷ []))))))
+    × (spells (codes "{\"id\":2,\"do\":\"move\",\"els\":[\"w1\",\"n7\",\"w1\"],\"dlat\":-1,\"dlon\":9223372036854775807}") ≡ asks 2 (Change (Do (One (actions.Move (w1 ∷ n7 ∷ w1 ∷ []) (negsuc 0) (pos 9223372036854775807))))))
+    × (spells (codes "{\"id\":2,\"do\":\"move\",\"els\":[],\"dlat\":-9223372036854775808,\"dlon\":0}") ≡ asks 2 (Change (Do (One (actions.Move [] (negsuc 9223372036854775807) (pos 0))))))
+    × (spells (codes "{\"id\":2,\"do\":\"reverse\",\"el\":\"n7\"}") ≡ asks 2 (Change (Do (One (actions.Reverse n7)))))
+    × (spells (codes "{\"id\":2,\"do\":\"nodes\",\"el\":\"w1\",\"nodes\":[7,-1,7]}") ≡ asks 2 (Change (Do (One (actions.Nodes w1 (n7 ∷ n-1 ∷ n7 ∷ []))))))
+    × (spells (codes "{\"id\":2,\"do\":\"members\",\"el\":\"r-2\",\"members\":[[\"n7\",\"\"],[\"w1\",\"outer\"]]}") ≡ asks 2 (Change (Do (One (actions.Members r-2 ((n7, []) ∷ (w1, codes "outer") ∷ []))))))
+    × (spells (codes "{\"id\":0,\"do\":\"delete\",\"el\":\"w1\",\"id\":3}") ≡ asks 3 (Change (Do (One (Delete w1)))))
+    × (spells (codes "{\"id\":2,\"do\":\"purge\",\"el\":\"r-2\"}") ≡ asks 2 (Change (Do (One (actions.Purge r-2)))))
+    × (spells (codes "{\"id\":2,\"do\":\"split\",\"el\":\"w1\",\"at\":0,\"into\":\"w9\"}") ≡ asks 2 (Change (Do (One (actions.Split w1 0 w9)))))
+    × (spells (codes "{\"id\":2,\"do\":\"split\",\"el\":\"n7\",\"at\":4294967295,\"into\":\"n7\"}") ≡ asks 2 (Change (Do (One (actions.Split n7 4294967295 n7)))))
+    × (spells (codes "{\"id\":2,\"do\":\"join\",\"el\":\"w1\",\"with\":\"w9\"}") ≡ asks 2 (Change (Do (One (actions.Join w1 w9)))))
+    × (spells (codes "{\"id\":2,\"do\":\"merge\",\"el\":\"n7\",\"with\":\"n-1\"}") ≡ asks 2 (Change (Do (One (actions.Merge n7 n-1)))))
+    × (spells (codes "{\"id\":2,\"do\":\"unglue\",\"el\":\"w1\",\"at\":0,\"into\":\"n7\"}") ≡ asks 2 (Change (Do (One (actions.Unglue w1 0 n7)))))
+    × (spells (codes "{\"id\":7,\"do\":\"group\",\"actions\":[{\"do\":\"create\",\"el\":\"n-1\",\"lat\":\"51.5\",\"lon\":\"-0.1\"},{\"id\":3,\"do\":\"delete\",\"el\":\"w1\"}]}")
+    ≡ asks 7 (Change (Do (Group (Create n-1 greenwich ∷ Delete w1 ∷ [])))))
     × (spells (codes "{\"id\":4,\"do\":\"undo\",\"seq\":9}") ≡ asks 4 (Change (Undo (Some 9))))
     × (spells (codes "{\"id\":5,\"do\":\"undo\"}") ≡ asks 5 (Change (Undo None)))
     × (spells (codes "{\"seq\":null,\"do\":\"redo\",\"id\":5}") ≡ asks 5 (Change Redo))
@@ -130,6 +135,14 @@ tells_an_id =
     × (spells (codes "{\"id\":1,\"do\":\"hello\",\"name\":\"Anna\"}") ≡ fails 1 (BadField fields.Room))
     × (spells (codes "{\"id\":1,\"do\":\"hello\",\"room\":\"paris\",\"name\":\"Anna\"}") ≡ fails 1 (BadField fields.Name))
     × (spells (codes "{\"id\":1,\"do\":\"undo\",\"seq\":null}") ≡ fails 1 (BadField Seq))
+    × (spells (codes "{\"id\":1,\"do\":\"group\"}") ≡ fails 1 (BadField Actions))
+    × (spells (codes "{\"id\":1,\"do\":\"group\",\"actions\":{}}") ≡ fails 1 (BadField Actions))
+    × (spells (codes "{\"id\":1,\"do\":\"group\",\"actions\":[]}") ≡ fails 1 (BadField Actions))
+    × (spells (codes "{\"id\":1,\"do\":\"group\",\"actions\":[{\"do\":\"dance\"},7]}") ≡ fails 1 (BadField Actions))
+    × (spells (codes "{\"id\":1,\"do\":\"group\",\"actions\":[{\"do\":\"delete\",\"el\":\"w1\"},{\"do\":\"dance\"}]}") ≡ fails 1 (UnknownAction 1))
+    × (spells (codes "{\"id\":1,\"do\":\"group\",\"actions\":[{\"do\":\"group\",\"actions\":[]}]}") ≡ fails 1 (UnknownAction 0))
+    × (spells (codes "{\"id\":1,\"do\":\"group\",\"actions\":[{\"do\":\"undo\"}]}") ≡ fails 1 (UnknownAction 0))
+    × (spells (codes "{\"id\":1,\"do\":\"group\",\"actions\":[{\"do\":\"delete\",\"el\":\"w1\"},{\"do\":\"nodes\",\"el\":\"w1\"},{}]}") ≡ fails 1 (BadActionField 1 Nodes))
 
 -- the texts of some replies
 unfoldable pub writes_replies : Type 0
@@ -140,6 +153,12 @@ writes_replies =
     × (compact_text (tree_of 3 (answers.Undos (to_value (2 ∷ 5 ∷ [])) (to_value (4 ∷ [])))) ≡ codes "{\"id\":3,\"ok\":{\"redo\":[4],\"undos\":[2,5]}}")
     × (compact_text (tree_of 3 (answers.Undos (to_value []) (to_value []))) ≡ codes "{\"id\":3,\"ok\":{\"redo\":[],\"undos\":[]}}")
     × (compact_text (tree_of 1 (answers.InUse n-1 w1)) ≡ codes "{\"id\":1,\"no\":{\"by\":\"w1\",\"el\":\"n-1\",\"why\":\"in_use\"}}")
+    × (let why : Refusal Global = refusals.InUse n-1 w1 in
+    compact_text (tree_of 7 (answers.Refused 1 (to_value why))) ≡ codes "{\"id\":7,\"no\":{\"action\":1,\"by\":\"w1\",\"el\":\"n-1\",\"why\":\"in_use\"}}")
+    × (let why : Refusal Global = refusals.Nothing in
+    compact_text (tree_of 7 (answers.Refused 0 (to_value why))) ≡ codes "{\"id\":7,\"no\":{\"action\":0,\"why\":\"nothing\"}}")
+    × (compact_text (tree_of 7 (answers.BadActionField 1 Nodes)) ≡ codes "{\"id\":7,\"no\":{\"action\":1,\"field\":\"nodes\",\"why\":\"bad_field\"}}")
+    × (compact_text (tree_of 7 (answers.UnknownAction 1)) ≡ codes "{\"id\":7,\"no\":{\"action\":1,\"why\":\"unknown_do\"}}")
     × (compact_text (tree_of 1 (answers.Same n-1)) ≡ codes "{\"id\":1,\"no\":{\"el\":\"n-1\",\"why\":\"same\"}}")
     × (compact_text (tree_of 1 (answers.OutOfRange n-1)) ≡ codes "{\"id\":1,\"no\":{\"el\":\"n-1\",\"why\":\"out_of_range\"}}")
     × (compact_text (tree_of 1 answers.BadPosition) ≡ codes "{\"id\":1,\"no\":{\"why\":\"bad_position\"}}")

@@ -1,7 +1,7 @@
 -- The keys of a message's fields. (RFC 8259, section 4: the names in an object. The keys are this project's.)
 use Rattle.std.specs.Prelude.{ℕ, List, codes}
 use Rattle.room_wire.specs.declared.field.Field.{Field}
-use Rattle.room_wire.specs.declared.field.Field.TheVariants.{El, Els, Lat, Lon, Nodes, Members, Tags, Dlat, Dlon, At, Into, With, Seq, Room, Name}
+use Rattle.room_wire.specs.declared.field.Field.TheVariants.{El, Els, Lat, Lon, Nodes, Members, Tags, Dlat, Dlon, At, Into, With, Actions, Seq, Room, Name}
 use Rattle.room_wire.specs.declared.field.Field.TheVariants as fields
 
 abbrev pub field_text : Field → List ℕ
@@ -17,6 +17,7 @@ field_text Dlon = codes "dlon"
 field_text At = codes "at"
 field_text Into = codes "into"
 field_text With = codes "with"
+field_text Actions = codes "actions"
 field_text Seq = codes "seq"
 field_text Room = codes "room"
 field_text Name = codes "name"

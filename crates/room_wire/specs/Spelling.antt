@@ -1,11 +1,11 @@
 -- What a message is, by cases of the tree that its text is. (RFC 8259: the tree. The words and fields are this
 -- project's.)
-use Rattle.std.specs.Prelude.{ℕ, ℤ, ◌&&◌, List, [], ◌∷◌, length, Option, Some, None, Result, Ok, Err, codes, is_some, nat_le, nat_eq, if◌then◌else◌}
+use Rattle.std.specs.Prelude.{ℕ, ℤ, Bool, true, ◌&&◌, ◌+◌, List, [], ◌∷◌, length, Option, Some, None, Result, Ok, Err, codes, is_some, nat_le, nat_eq, if◌then◌else◌}
 use Rattle.std.specs.Option.{option_and_then, option_map}
 use Rattle.std.specs.Str.{bytes_eq}
 use Rattle.std.specs.declared.alloc.Global.{Global}
 use Rattle.serde_json.specs.Data.{Data, Items, no_items, item, Members as ObjectMembers, no_members, member}
-use Rattle.serde_json.specs.Events.{members_len}
+use Rattle.serde_json.specs.Events.{items_len, members_len}
 use Rattle.serde_json.specs.Find.{get, as_null, as_str, as_number, as_array, as_object, as_u64, as_i64}
 use Rattle.serde_json.specs.Read.{read}
 use Rattle.osm_coords.specs.Latitude.{latitude_of}
@@ -23,14 +23,17 @@ use Rattle.osm_elements.specs.Texts.{is_long}
 use Rattle.edit_simple.specs.Tagging.{GivenTags}
 use Rattle.edit_actions.specs.declared.action.Action.{Action}
 use Rattle.edit_actions.specs.declared.action.Action.TheVariants as actions
+use Rattle.edit_groups.specs.declared.edit.Edit.{Edit}
+use Rattle.edit_groups.specs.declared.edit.Edit.TheVariants.{One, Group}
+use Rattle.edit_groups.specs.Groups.{is_group_length}
 use Rattle.room_stacks.specs.declared.author.Author.{Author}
 use Rattle.room_stacks.specs.Authors.{author_of}
 use Rattle.room_history.specs.declared.call.Request.TheVariants as requests
 use Rattle.room_wire.specs.declared.field.Field.{Field}
-use Rattle.room_wire.specs.declared.field.Field.TheVariants.{El, Els, Lat, Lon, Nodes, Members, Tags, Dlat, Dlon, At, Into, With, Seq}
+use Rattle.room_wire.specs.declared.field.Field.TheVariants.{El, Els, Lat, Lon, Nodes, Members, Tags, Dlat, Dlon, At, Into, With, Actions, Seq}
 use Rattle.room_wire.specs.declared.field.Field.TheVariants as fields
 use Rattle.room_wire.specs.declared.bad.Fault.{Fault}
-use Rattle.room_wire.specs.declared.bad.Fault.TheVariants.{NotJson, NotObject, BadId, UnknownDo, BadField, Memory}
+use Rattle.room_wire.specs.declared.bad.Fault.TheVariants.{NotJson, NotObject, BadId, UnknownDo, BadField, UnknownAction, BadActionField, Memory}
 use Rattle.room_wire.specs.declared.bad.Bad.{Bad}
 use Rattle.room_wire.specs.declared.incoming.Incoming.{Incoming}
 use Rattle.room_wire.specs.declared.incoming.Body.{Body}
@@ -234,6 +237,49 @@ action_by word d =
     else (if bytes_eq word (codes "unglue") then unglue_at d
     else Err UnknownDo)))))))))))
 
+-- the word of a message
+abbrev pub word_at : Data → Result (List ℕ) Fault
+word_at d = or_fault UnknownDo (option_and_then as_str (get (codes "do") d))
+
+-- an array of 1 to 10,000 objects, one for each action
+abbrev pub are_objects : Items → Bool
+are_objects no_items = true
+are_objects (item d ds) = is_some (as_object d) && are_objects ds
+
+abbrev pub group_of : Items → Option Items
+group_of ds = if is_group_length (items_len ds) && are_objects ds then Some ds else None
+
+abbrev pub group_at : Data → Result Items Fault
+group_at d = or_fault (BadField Actions) (option_and_then group_of (option_and_then as_array (get (field_text Actions) d)))
+
+-- what is wrong with a message, of the action at a position of a group
+abbrev pub at_action : ℕ → Fault → Fault
+at_action k UnknownDo = UnknownAction k
+at_action k (BadField field) = BadActionField k field
+at_action k fault = fault
+
+abbrev pub with_position : {X : Type 0} → ℕ → Result X Fault → Result X Fault
+with_position k (Ok x) = Ok x
+with_position k (Err fault) = Err (at_action k fault)
+
+-- the actions of a group in their order, up to the first fault; the first is at position k
+abbrev pub action_at : Data → Result (Action Global) Fault
+action_at d = word_at d >>= λ word. action_by word d
+
+abbrev pub actions_from : ℕ → Items → Result (List (Action Global)) Fault
+actions_from k no_items = Ok []
+actions_from k (item d ds) =
+    with_position k (action_at d) >>= λ action. actions_from (k + 1) ds >>= λ later. Ok (action ∷ later)
+
+abbrev pub actions_at : Data → Result (List (Action Global)) Fault
+actions_at d = group_at d >>= λ ds. actions_from 0 ds
+
+-- what a message with this word does: one action, or a group
+abbrev pub edit_by : List ℕ → Data → Result (Edit Global) Fault
+edit_by word d =
+    if bytes_eq word (codes "group") then (actions_at d >>= λ actions. Ok (Group actions))
+    else (action_by word d >>= λ action. Ok (One action))
+
 -- whom a hello asks for
 abbrev pub hello_at : Data → Result Body Fault
 hello_at d = author_at fields.Room d >>= λ room. author_at fields.Name d >>= λ name. Ok (Hello room name)
@@ -247,11 +293,7 @@ body_by word d =
     else (if bytes_eq word (codes "undos") then Ok Undos
     else (if bytes_eq word (codes "get") then (el_at d >>= λ name. Ok (Get name))
     else (if bytes_eq word (codes "map") then Ok Map
-    else (action_by word d >>= λ action. Ok (Change (requests.Do action))))))))
-
--- the word of a message
-abbrev pub word_at : Data → Result (List ℕ) Fault
-word_at d = or_fault UnknownDo (option_and_then as_str (get (codes "do") d))
+    else (edit_by word d >>= λ edit. Ok (Change (requests.Do edit))))))))
 
 abbrev pub body_at : Data → Result Body Fault
 body_at d = word_at d >>= λ word. body_by word d

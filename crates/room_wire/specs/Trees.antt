@@ -1,5 +1,5 @@
 -- The tree of each reply. (RFC 8259, sections 4 to 7. Which members a reply has is this project's.)
-use Rattle.std.specs.Prelude.{◌≡◌, ℕ, List, [], ◌∷◌, map, codes}
+use Rattle.std.specs.Prelude.{◌≡◌, ℕ, List, [], ◌∷◌, map, Option, Some, None, codes}
 use Rattle.serde_json.specs.Data.{Data, number, string, array, object, unsigned, no_items, item, Members, no_members, member}
 use Rattle.serde_json.specs.Find.{of_integer}
 use Rattle.serde_json.specs.View.{items_of}
@@ -10,7 +10,8 @@ use Rattle.osm_elements.specs.declared.element.Element.TheVariants as elements
 use Rattle.osm_elements.specs.NameTexts.{name_text}
 use Rattle.osm_elements.specs.TagRows.{Pairs}
 use Rattle.room_wire.specs.declared.answer.Answer.{Answer}
-use Rattle.room_wire.specs.declared.answer.Answer.TheVariants.{Done, Undid, Redid, Is, Map, Undos, Absent, Present, WrongKind, Same, OutOfRange, TooFew, TooMany, InUse, TagConflict, BadPosition, NotEndToEnd, Nothing, Repeat, Conflict, BadField, Memory, Full, NothingToUndo, NothingToRedo, NoSuch, NotYours, NotStanding, NotJson, NotObject, BadId, UnknownDo, BadLine, NoHello, NoRoom, HelloTwice}
+use Rattle.room_wire.specs.declared.answer.Answer.TheVariants.{Done, Undid, Redid, Is, Map, Undos, Absent, Present, WrongKind, Same, OutOfRange, TooFew, TooMany, InUse, TagConflict, BadPosition, NotEndToEnd, Nothing, Refused, Repeat, Conflict, BadField, BadActionField, Memory, Full, NothingToUndo, NothingToRedo, NoSuch, NotYours, NotStanding, NotJson, NotObject, BadId, UnknownDo, UnknownAction, BadLine, NoHello, NoRoom, HelloTwice}
+use Rattle.room_wire.specs.Answers.{refusal_answer}
 use Rattle.room_wire.specs.Fields.{field_text}
 
 abbrev pub whole : ℕ → Data
@@ -70,18 +71,61 @@ ok_tree id d = object (member (codes "id") (whole id) (member (codes "ok") d no_
 abbrev pub no_tree : ℕ → Data → Data
 no_tree id d = object (member (codes "id") (whole id) (member (codes "no") d no_members))
 
--- a refusal with nothing but its word, and one about an element
-abbrev pub bare : ℕ → List ℕ → Data
-bare id why = no_tree id (object (member (codes "why") (string why) no_members))
+-- the members of a refusal: why, and what it is about
+abbrev pub bare : List ℕ → Members
+bare why = member (codes "why") (string why) no_members
 
-abbrev pub about : ℕ → Name → List ℕ → Data
-about id name why =
-    no_tree id (object (member (codes "el") (name_tree name) (member (codes "why") (string why) no_members)))
+abbrev pub about : Name → List ℕ → Members
+about name why = member (codes "el") (name_tree name) (bare why)
 
 -- a whole map, after so many entries
 abbrev pub map_tree : {A : Type 0} → ℕ → List (Name × Element A) → ℕ → Data
 map_tree id rows front =
     ok_tree id (object (member (codes "map") (rows_tree rows) (member (codes "seq") (whole front) no_members)))
+
+-- the members of an answer that refuses; other answers have none
+abbrev pub why_members : Answer → Members
+why_members (Absent name) = about name (codes "absent")
+why_members (Present name) = about name (codes "present")
+why_members (WrongKind name) = about name (codes "wrong_kind")
+why_members (Same name) = about name (codes "same")
+why_members (OutOfRange name) = about name (codes "out_of_range")
+why_members (TooFew name) = about name (codes "too_few")
+why_members (TooMany name) = about name (codes "too_many")
+why_members (InUse name user) = member (codes "by") (name_tree user) (about name (codes "in_use"))
+why_members (TagConflict key) = member (codes "key") (string key.now) (bare (codes "tag_conflict"))
+why_members (Repeat seq) = member (codes "seq") (whole seq) (bare (codes "repeat"))
+why_members (Conflict blocker shared) =
+    member (codes "at") (name_tree shared)
+    (member (codes "why") (string (codes "conflict")) (member (codes "with") (whole blocker) no_members))
+why_members (BadField field) = member (codes "field") (string (field_text field)) (bare (codes "bad_field"))
+why_members BadPosition = bare (codes "bad_position")
+why_members NotEndToEnd = bare (codes "not_end_to_end")
+why_members Nothing = bare (codes "nothing")
+why_members Memory = bare (codes "memory")
+why_members Full = bare (codes "full")
+why_members NothingToUndo = bare (codes "nothing_to_undo")
+why_members NothingToRedo = bare (codes "nothing_to_redo")
+why_members NoSuch = bare (codes "no_such")
+why_members NotYours = bare (codes "not_yours")
+why_members NotStanding = bare (codes "not_standing")
+why_members NotJson = bare (codes "not_json")
+why_members NotObject = bare (codes "not_object")
+why_members BadId = bare (codes "bad_id")
+why_members UnknownDo = bare (codes "unknown_do")
+why_members BadLine = bare (codes "bad_line")
+why_members NoHello = bare (codes "no_hello")
+why_members NoRoom = bare (codes "no_room")
+why_members HelloTwice = bare (codes "hello_twice")
+why_members other = no_members
+
+-- a refusal of the action at a position of a group has the position too
+abbrev pub with_action : ℕ → Members → Members
+with_action k members = member (codes "action") (whole k) members
+
+abbrev pub with_position : Option ℕ → Members → Members
+with_position None members = members
+with_position (Some k) members = with_action k members
 
 -- the tree of the reply to the message with this id
 abbrev pub tree_of : ℕ → Answer → Data
@@ -95,45 +139,10 @@ tree_of id (Map rows front) = map_tree id rows.now front
 tree_of id (Undos undos redos) =
     ok_tree id (object (member (codes "redo") (numbers_tree redos.now)
     (member (codes "undos") (numbers_tree undos.now) no_members)))
-tree_of id (Absent name) = about id name (codes "absent")
-tree_of id (Present name) = about id name (codes "present")
-tree_of id (WrongKind name) = about id name (codes "wrong_kind")
-tree_of id (Same name) = about id name (codes "same")
-tree_of id (OutOfRange name) = about id name (codes "out_of_range")
-tree_of id (TooFew name) = about id name (codes "too_few")
-tree_of id (TooMany name) = about id name (codes "too_many")
-tree_of id (InUse name user) =
-    no_tree id (object (member (codes "by") (name_tree user)
-    (member (codes "el") (name_tree name) (member (codes "why") (string (codes "in_use")) no_members))))
-tree_of id (TagConflict key) =
-    no_tree id (object (member (codes "key") (string key.now)
-    (member (codes "why") (string (codes "tag_conflict")) no_members)))
-tree_of id (Repeat seq) =
-    no_tree id (object (member (codes "seq") (whole seq) (member (codes "why") (string (codes "repeat")) no_members)))
-tree_of id (Conflict blocker shared) =
-    no_tree id (object (member (codes "at") (name_tree shared)
-    (member (codes "why") (string (codes "conflict")) (member (codes "with") (whole blocker) no_members))))
-tree_of id (BadField field) =
-    no_tree id (object (member (codes "field") (string (field_text field))
-    (member (codes "why") (string (codes "bad_field")) no_members)))
-tree_of id BadPosition = bare id (codes "bad_position")
-tree_of id NotEndToEnd = bare id (codes "not_end_to_end")
-tree_of id Nothing = bare id (codes "nothing")
-tree_of id Memory = bare id (codes "memory")
-tree_of id Full = bare id (codes "full")
-tree_of id NothingToUndo = bare id (codes "nothing_to_undo")
-tree_of id NothingToRedo = bare id (codes "nothing_to_redo")
-tree_of id NoSuch = bare id (codes "no_such")
-tree_of id NotYours = bare id (codes "not_yours")
-tree_of id NotStanding = bare id (codes "not_standing")
-tree_of id NotJson = bare id (codes "not_json")
-tree_of id NotObject = bare id (codes "not_object")
-tree_of id BadId = bare id (codes "bad_id")
-tree_of id UnknownDo = bare id (codes "unknown_do")
-tree_of id BadLine = bare id (codes "bad_line")
-tree_of id NoHello = bare id (codes "no_hello")
-tree_of id NoRoom = bare id (codes "no_room")
-tree_of id HelloTwice = bare id (codes "hello_twice")
+tree_of id (Refused k why) = no_tree id (object (with_action k (why_members (refusal_answer why.now))))
+tree_of id (BadActionField k field) = no_tree id (object (with_action k (why_members (BadField field))))
+tree_of id (UnknownAction k) = no_tree id (object (with_action k (why_members UnknownDo)))
+tree_of id refusal = no_tree id (object (why_members refusal))
 
 -- two answers have the same replies
 abbrev pub AreToldAlike : Answer → Answer → Type 0

@@ -1,8 +1,9 @@
 -- Well-formed messages, and the first field of another one that is not well formed. (The words and fields are this
 -- project's.)
-use Rattle.std.specs.Prelude.{◌≡◌, ◌≤◌, ◌⊎◌, All, FitsSigned, ℕ, ℤ, Bool, true, false, List, [], ◌∷◌, map, Option, Some, None, Result, Ok, Err, codes, is_ok}
+use Rattle.std.specs.Prelude.{zero, suc, ◌≡◌, ◌≤◌, ◌⊎◌, All, FitsSigned, ℕ, ℤ, Bool, true, false, List, [], ◌∷◌, length, map, Option, Some, None, Result, Ok, Err, codes, is_ok}
 use Rattle.std.specs.Int.{w64}
-use Rattle.serde_json.specs.Data.{Data, null, number, string, array, object}
+use Rattle.std.specs.declared.alloc.Global.{Global}
+use Rattle.serde_json.specs.Data.{Data, null, number, string, array, object, Items, no_items, item}
 use Rattle.serde_json.specs.Find.{get, of_integer}
 use Rattle.serde_json.specs.View.{items_of}
 use Rattle.osm_coords.specs.Latitude.{latitude_of}
@@ -17,22 +18,26 @@ use Rattle.osm_elements.specs.Members.{AreMembers}
 use Rattle.osm_elements.specs.Nodes.{AreNodes}
 use Rattle.osm_elements.specs.TagRows.{AreTagRows, Pairs}
 use Rattle.edit_simple.specs.Tagging.{AreGiven, GivenTags}
+use Rattle.edit_actions.specs.declared.action.Action.{Action}
 use Rattle.edit_actions.specs.declared.action.Action.TheVariants as actions
+use Rattle.edit_groups.specs.declared.edit.Edit.TheVariants.{One, Group}
+use Rattle.edit_groups.specs.Groups.{is_group_length}
 use Rattle.room_stacks.specs.declared.author.Author.{Author}
 use Rattle.room_stacks.specs.Authors.{is_author}
 use Rattle.room_history.specs.declared.call.Request.TheVariants as requests
 use Rattle.room_wire.specs.declared.bad.Fault.{Fault}
+use Rattle.room_wire.specs.declared.bad.Fault.TheVariants.{BadField, UnknownDo}
 use Rattle.room_wire.specs.declared.field.Field.{Field}
-use Rattle.room_wire.specs.declared.field.Field.TheVariants.{El, Els, Lat, Lon, Nodes, Members, Tags, Dlat, Dlon, At, Into, With, Seq}
+use Rattle.room_wire.specs.declared.field.Field.TheVariants.{El, Els, Lat, Lon, Nodes, Members, Tags, Dlat, Dlon, At, Into, With, Actions, Seq}
 use Rattle.room_wire.specs.declared.field.Field.TheVariants as fields
 use Rattle.room_wire.specs.declared.incoming.Incoming.{Incoming}
 use Rattle.room_wire.specs.declared.incoming.Body.{Body}
 use Rattle.room_wire.specs.declared.incoming.Body.TheVariants as bodies
 use Rattle.room_wire.specs.Fields.{field_text}
 use Rattle.room_wire.specs.ReadBack.{HasId}
-use Rattle.room_wire.specs.Spelling.{author_at, distance_at, el_at, els_at, given_tags_at, lat_at, lon_at, members_at, name_at, nodes_at, place_at, seq_at, tags_at}
+use Rattle.room_wire.specs.Spelling.{author_at, distance_at, el_at, els_at, given_tags_at, group_at, lat_at, lon_at, members_at, name_at, nodes_at, place_at, seq_at, tags_at}
 use Rattle.room_wire.specs.Trees.{entry_members, members_tree, name_tree, nodes_tree, tags_tree, whole}
-use Rattle.room_wire.specs.Words.{Word, word_text}
+use Rattle.room_wire.specs.Words.{Word, is_action_word, word_text}
 use Rattle.room_wire.specs.Words as words
 
 -- a message asks for something by this word
@@ -118,29 +123,45 @@ HasElement d (elements.Node lat lon tags) =
 HasElement d (elements.Way nodes tags) = HasNodes d nodes × HasTags d tags
 HasElement d (elements.Relation members tags) = HasMembers d members × HasTags d tags
 
+-- the word and the fields of an action
+abbrev pub AsksAction : Data → Action Global → Type 0
+AsksAction d (actions.Create name element) =
+    HasWord d words.Create × HasName d name × HasElement d element × (kind_of element ≡ name.kind)
+AsksAction d (actions.Retag name given) =
+    HasWord d words.Retag × HasName d name × HasGivenTags d given
+AsksAction d (actions.Move names dlat dlon) =
+    HasWord d words.Move × HasNames d names × HasDistance d Dlat dlat × HasDistance d Dlon dlon
+AsksAction d (actions.Reverse name) = HasWord d words.Reverse × HasName d name
+AsksAction d (actions.Nodes name list) =
+    HasWord d words.Nodes × HasName d name × HasNodes d list
+AsksAction d (actions.Members name list) =
+    HasWord d words.Members × HasName d name × HasMembers d list
+AsksAction d (actions.Delete name) = HasWord d words.Delete × HasName d name
+AsksAction d (actions.Purge name) = HasWord d words.Purge × HasName d name
+AsksAction d (actions.Split name place into) =
+    HasWord d words.Split × HasName d name × HasPlace d place × HasNameAt d Into into
+AsksAction d (actions.Join name other) =
+    HasWord d words.Join × HasName d name × HasNameAt d With other
+AsksAction d (actions.Merge name other) =
+    HasWord d words.Merge × HasName d name × HasNameAt d With other
+AsksAction d (actions.Unglue name place into) =
+    HasWord d words.Unglue × HasName d name × HasPlace d place × HasNameAt d Into into
+
+-- each tree has the word and the fields of its action
+abbrev pub AskActions : Items → List (Action Global) → Type 0
+AskActions no_items [] = Unit {0}
+AskActions (item d ds) (a ∷ more) = AsksAction d a × AskActions ds more
+AskActions no_items (a ∷ more) = ⊥
+AskActions (item d ds) [] = ⊥
+
+-- 1 to 10,000 trees under `actions`, one for each action of a group
+abbrev pub HasGroup : Data → List (Action Global) → Type 0
+HasGroup d group = (ds : Items) × Has d Actions (array ds) × (is_group_length (length group) ≡ true) × AskActions ds group
+
 -- the word and the fields of a message, by what it asks for
 abbrev pub Asks : Data → Body → Type 0
-Asks d (bodies.Change (requests.Do (actions.Create name element))) =
-    HasWord d words.Create × HasName d name × HasElement d element × (kind_of element ≡ name.kind)
-Asks d (bodies.Change (requests.Do (actions.Retag name given))) =
-    HasWord d words.Retag × HasName d name × HasGivenTags d given
-Asks d (bodies.Change (requests.Do (actions.Move names dlat dlon))) =
-    HasWord d words.Move × HasNames d names × HasDistance d Dlat dlat × HasDistance d Dlon dlon
-Asks d (bodies.Change (requests.Do (actions.Reverse name))) = HasWord d words.Reverse × HasName d name
-Asks d (bodies.Change (requests.Do (actions.Nodes name list))) =
-    HasWord d words.Nodes × HasName d name × HasNodes d list
-Asks d (bodies.Change (requests.Do (actions.Members name list))) =
-    HasWord d words.Members × HasName d name × HasMembers d list
-Asks d (bodies.Change (requests.Do (actions.Delete name))) = HasWord d words.Delete × HasName d name
-Asks d (bodies.Change (requests.Do (actions.Purge name))) = HasWord d words.Purge × HasName d name
-Asks d (bodies.Change (requests.Do (actions.Split name place into))) =
-    HasWord d words.Split × HasName d name × HasPlace d place × HasNameAt d Into into
-Asks d (bodies.Change (requests.Do (actions.Join name other))) =
-    HasWord d words.Join × HasName d name × HasNameAt d With other
-Asks d (bodies.Change (requests.Do (actions.Merge name other))) =
-    HasWord d words.Merge × HasName d name × HasNameAt d With other
-Asks d (bodies.Change (requests.Do (actions.Unglue name place into))) =
-    HasWord d words.Unglue × HasName d name × HasPlace d place × HasNameAt d Into into
+Asks d (bodies.Change (requests.Do (One action))) = AsksAction d action
+Asks d (bodies.Change (requests.Do (Group group))) = HasWord d words.Group × HasGroup d group
 Asks d (bodies.Change (requests.Undo seq)) = HasWord d words.Undo × HasSeq d seq
 Asks d (bodies.Change requests.Redo) = HasWord d words.Redo
 Asks d (bodies.Get name) = HasWord d words.Get × HasName d name
@@ -184,6 +205,7 @@ slots words.Split d = slot El (el_at d) ∷ slot At (place_at d) ∷ slot Into (
 slots words.Join d = slot El (el_at d) ∷ slot With (name_at With d) ∷ []
 slots words.Merge d = slot El (el_at d) ∷ slot With (name_at With d) ∷ []
 slots words.Unglue d = slot El (el_at d) ∷ slot At (place_at d) ∷ slot Into (name_at Into d) ∷ []
+slots words.Group d = slot Actions (group_at d) ∷ []
 slots words.Undo d = slot Seq (seq_at d) ∷ []
 slots words.Redo d = []
 slots words.Undos d = []
@@ -202,3 +224,35 @@ abbrev pub AreGood : List Slot → Type 0
 AreGood [] = Unit {0}
 AreGood ((first, true) ∷ later) = AreGood later
 AreGood ((first, false) ∷ later) = ⊥
+
+-- ---- the actions of a group, in their order
+
+-- an action has a word of actions, and its fields are well formed
+abbrev pub IsGoodAction : Data → Type 0
+IsGoodAction d = (word : Word) × (is_action_word word ≡ true) × HasWord d word × AreGood (slots word d)
+
+-- what is wrong with an action: it has no word of actions, or its first field that is not well formed is this one
+abbrev pub IsBadAction : Data → Fault → Type 0
+IsBadAction d UnknownDo = (word : Word) → is_action_word word ≡ true → ¬ HasWord d word
+IsBadAction d (BadField field) = (word : Word) × (is_action_word word ≡ true) × HasWord d word × IsFirstBad (slots word d) field
+IsBadAction d fault = ⊥
+
+-- the actions before the n-th are well formed, and this is wrong with it
+abbrev pub IsFirstBadAction : Items → ℕ → Fault → Type 0
+IsFirstBadAction no_items n fault = ⊥
+IsFirstBadAction (item d ds) zero fault = IsBadAction d fault
+IsFirstBadAction (item d ds) (suc n) fault = IsGoodAction d × IsFirstBadAction ds n fault
+
+-- every action is well formed
+abbrev pub AreGoodActions : Items → Type 0
+AreGoodActions no_items = Unit {0}
+AreGoodActions (item d ds) = IsGoodAction d × AreGoodActions ds
+
+-- the actions of a message with this word: those of a well-formed group, and otherwise none
+abbrev pub actions_in : Result Items Fault → Items
+actions_in (Ok ds) = ds
+actions_in (Err fault) = no_items
+
+abbrev pub group_items : Word → Data → Items
+group_items words.Group d = actions_in (group_at d)
+group_items word d = no_items

@@ -1,5 +1,5 @@
 -- The words of messages. (They are this project's.)
-use Rattle.std.specs.Prelude.{ℕ, List, codes}
+use Rattle.std.specs.Prelude.{ℕ, Bool, true, false, List, codes}
 
 pub data Word : Type 0 where
   Create : Word
@@ -14,6 +14,7 @@ pub data Word : Type 0 where
   Join : Word
   Merge : Word
   Unglue : Word
+  Group : Word
   Undo : Word
   Redo : Word
   Undos : Word
@@ -34,9 +35,21 @@ word_text Split = codes "split"
 word_text Join = codes "join"
 word_text Merge = codes "merge"
 word_text Unglue = codes "unglue"
+word_text Group = codes "group"
 word_text Undo = codes "undo"
 word_text Redo = codes "redo"
 word_text Undos = codes "undos"
 word_text Get = codes "get"
 word_text Map = codes "map"
 word_text Hello = codes "hello"
+
+-- the word of an action, which a group may have
+abbrev pub is_action_word : Word → Bool
+is_action_word Group = false
+is_action_word Undo = false
+is_action_word Redo = false
+is_action_word Undos = false
+is_action_word Get = false
+is_action_word Map = false
+is_action_word Hello = false
+is_action_word word = true

@@ -3,6 +3,7 @@ ghost use Rattle.std.specs.Prelude.{◌≡◌};
 
 use crate::bad::Fault;
 use crate::field::Field;
+use edit_groups::refusal::EditRefusal;
 use edit_simple::refusal::Refusal;
 use osm_elements::element::Element;
 use osm_elements::map::Rows;
@@ -83,6 +84,13 @@ pub enum Answer<'a> {
     NotEndToEnd,
     /// The map after the action would be the map before it.
     Nothing,
+    /// An action of a group is refused.
+    Refused {
+        /// The position of the action in its group, from 0.
+        action: u32,
+        /// Why the action is refused.
+        why: &'a Refusal<Global>,
+    },
     /// The author's accepted entry of this number spent the id.
     Repeat {
         /// The number of that entry.
@@ -97,6 +105,13 @@ pub enum Answer<'a> {
     },
     /// A field of the message is missing or not of its form.
     BadField(Field),
+    /// A field of an action of a group is missing or not of its form.
+    BadActionField {
+        /// The position of the action in its group, from 0.
+        action: u32,
+        /// The field.
+        field: Field,
+    },
     /// A growth was refused.
     Memory,
     /// The journal has as many entries as it may have.
@@ -119,6 +134,11 @@ pub enum Answer<'a> {
     BadId,
     /// The message asks for nothing known.
     UnknownDo,
+    /// An action of a group asks for nothing known.
+    UnknownAction {
+        /// The position of the action in its group, from 0.
+        action: u32,
+    },
     /// The line is not an author, a space and a message.
     BadLine,
     /// The session has not begun: its first message is to be a hello.
@@ -130,10 +150,12 @@ pub enum Answer<'a> {
 }
 
 impl<'a> From<&'a Refusal<Global>> for Answer<'a> {
+    ghost use Rattle.std.specs.Prelude.{◌≡◌};
     ghost use Rattle.room_wire.specs.Answers.{refusal_answer};
-    ghost use Rattle.room_wire.specs.Trees.{AreToldAlike};
+    ghost use Rattle.room_wire.specs.Trees.{AreToldAlike, why_members};
 
-    ghost from_gives = { λ r a. AreToldAlike a (refusal_answer r.now) };
+    ghost from_gives = { λ r a. AreToldAlike a (refusal_answer r.now)
+        × (why_members a ≡ why_members (refusal_answer r.now)) };
 
     fn from(refusal: &'a Refusal<Global>) -> Self {
         match refusal {
@@ -153,6 +175,23 @@ impl<'a> From<&'a Refusal<Global>> for Answer<'a> {
             Refusal::TagConflict(key) => Answer::TagConflict(key),
             Refusal::Nothing => Answer::Nothing,
             Refusal::Memory => Answer::Memory,
+        }
+    }
+}
+
+impl<'a> From<&'a EditRefusal<Global>> for Answer<'a> {
+    ghost use Rattle.room_wire.specs.Answers.{edit_answer};
+    ghost use Rattle.room_wire.specs.Trees.{AreToldAlike};
+
+    ghost from_gives = { λ r a. AreToldAlike a (edit_answer r.now.action r.now.why) };
+
+    fn from(refusal: &'a EditRefusal<Global>) -> Self {
+        match refusal.action {
+            None => Answer::from(&refusal.why),
+            Some(action) => Answer::Refused {
+                action,
+                why: &refusal.why,
+            },
         }
     }
 }
@@ -197,6 +236,8 @@ impl From<Fault> for Answer<'_> {
             Fault::BadId => Answer::BadId,
             Fault::UnknownDo => Answer::UnknownDo,
             Fault::BadField(field) => Answer::BadField(field),
+            Fault::UnknownAction { action } => Answer::UnknownAction { action },
+            Fault::BadActionField { action, field } => Answer::BadActionField { action, field },
             Fault::Memory => Answer::Memory,
         }
     }

@@ -25,6 +25,20 @@ pub enum Fault {
     /// The first field that is missing or not of its form.
     #[error("the field `{0}` is bad", .0.as_str())]
     BadField(Field),
+    /// An action of a group has no `do`, or one that is no string or no word of an action.
+    #[error("action {action} asks for nothing known")]
+    UnknownAction {
+        /// The position of the action in its group, from 0.
+        action: u32,
+    },
+    /// The first field of an action of a group that is missing or not of its form.
+    #[error("action {action}: the field `{}` is bad", .field.as_str())]
+    BadActionField {
+        /// The position of the action in its group, from 0.
+        action: u32,
+        /// The field.
+        field: Field,
+    },
     /// A growth was refused.
     #[error("out of memory")]
     Memory,

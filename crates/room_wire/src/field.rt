@@ -29,6 +29,8 @@ pub enum Field {
     Into,
     /// The name of the element that a join or a merge takes in.
     With,
+    /// The actions of a group.
+    Actions,
     /// The number of an entry.
     Seq,
     /// The name of a room.
@@ -65,6 +67,7 @@ impl Field {
             Field::At => "at",
             Field::Into => "into",
             Field::With => "with",
+            Field::Actions => "actions",
             Field::Seq => "seq",
             Field::Room => "room",
             Field::Name => "name",

@@ -11,12 +11,12 @@ ghost use Rattle.room_wire.specs.News.{news_tree, spells_news};
 ghost use Rattle.room_wire.specs.Made.{is_made_body};
 ghost use Rattle.room_wire.specs.NewsBack.{AreNews, IsWelcome};
 ghost use Rattle.room_wire.specs.Welcomes.{spells_welcome, welcome_tree};
-ghost use Rattle.room_wire.specs.declared.bad.Fault.TheVariants.{BadField, BadId, Memory, NotJson, NotObject, UnknownDo};
+ghost use Rattle.room_wire.specs.declared.bad.Fault.TheVariants.{BadActionField, BadField, BadId, Memory, NotJson, NotObject, UnknownAction, UnknownDo};
 ghost use Rattle.room_wire.specs.declared.field.Field.{Field};
 ghost use Rattle.room_wire.specs.ReadBack.{HasId, IsWhole};
 ghost use Rattle.room_wire.specs.Spelling.{spells, create_at, ordinal};
 ghost use Rattle.room_wire.specs.Trees.{element_tree, whole};
-ghost use Rattle.room_wire.specs.WellFormed.{AreGood, HasWord, IsFirstBad, IsMessage, MessageId, slots};
+ghost use Rattle.room_wire.specs.WellFormed.{AreGood, AreGoodActions, HasWord, IsFirstBad, IsFirstBadAction, IsMessage, MessageId, group_items, slots};
 ghost use Rattle.room_wire.specs.Words.{Word};
 ghost use Rattle.room_wire.specs.declared.incoming.Incoming.{Incoming};
 ghost use Rattle.serde_json.specs.Data.{Data};
@@ -106,8 +106,9 @@ pub fn what_is_spelled_is_made()
 {}
 
 /// Each fault of a text comes exactly where it should: by the tree of the text, by its id and its word, and then by
-/// the first field, in the order in which they are read, that is not well formed. Under the same premises the text
-/// spells a message exactly where every field is well formed.
+/// the first field, in the order in which they are read, that is not well formed; of a group by its first action that
+/// has no word or such a field, with its position. Under the same premises the text spells a message exactly where every
+/// field and every action is well formed.
 pub fn each_fault_is_told()
     ensures not_json { (text : List ℕ) → read text ≡ None → spells text ≡ Err (record { id = 0; fault = NotJson }) }
     ensures not_object { (text : List ℕ) (d : Data) → read text ≡ Some d → as_object d ≡ None
@@ -119,6 +120,14 @@ pub fn each_fault_is_told()
     ensures bad_field { (text : List ℕ) (d : Data) (id : ℕ) (word : Word) (field : Field) → read text ≡ Some d
         → MessageId d id → HasWord d word
         → (spells text ≡ Err (record { id = id; fault = BadField field })) ↔ IsFirstBad (slots word d) field }
+    ensures unknown_action { (text : List ℕ) (d : Data) (id : ℕ) (word : Word) (k : ℕ) → read text ≡ Some d
+        → MessageId d id → HasWord d word → (spells text ≡ Err (record { id = id; fault = UnknownAction k }))
+        ↔ (AreGood (slots word d) × IsFirstBadAction (group_items word d) k UnknownDo) }
+    ensures bad_action_field { (text : List ℕ) (d : Data) (id : ℕ) (word : Word) (k : ℕ) (field : Field)
+        → read text ≡ Some d → MessageId d id → HasWord d word
+        → (spells text ≡ Err (record { id = id; fault = BadActionField k field }))
+        ↔ (AreGood (slots word d) × IsFirstBadAction (group_items word d) k (BadField field)) }
     ensures well_formed { (text : List ℕ) (d : Data) (id : ℕ) (word : Word) → read text ≡ Some d
-        → MessageId d id → HasWord d word → IsOk (spells text) ↔ AreGood (slots word d) }
+        → MessageId d id → HasWord d word
+        → IsOk (spells text) ↔ (AreGood (slots word d) × AreGoodActions (group_items word d)) }
 {}

@@ -12,6 +12,7 @@ pub mod bad;
 mod element;
 pub mod field;
 mod forms;
+mod group;
 pub mod incoming;
 pub mod json_text;
 pub mod laws;

@@ -58,7 +58,7 @@ pub fn rows_of<T: Listed>(alloc: Global, field: Field, message: &mut Value) -> R
 }
 
 // The items of a field that is an array, taken out of the message.
-fn items_at(field: Field, message: &mut Value) -> Option<Vec<Value>>
+pub fn items_at(field: Field, message: &mut Value) -> Option<Vec<Value>>
     ensures { option_map (λ v. items_view v.items) result
         ≡ option_and_then as_array (get (field_text field) (view message.old)) }
 {

@@ -5,7 +5,7 @@ ghost use Rattle.serde_json.specs.Read.{read};
 ghost use Rattle.serde_json.specs.View.{view};
 ghost use Rattle.room_wire.specs.declared.bad.Fault.TheVariants.{NotJson, Memory, UnknownDo};
 ghost use Rattle.room_wire.specs.Reading.{Gives, GivesMessage, under};
-ghost use Rattle.room_wire.specs.Spelling.{spells, incoming, id_at, body_at, body_by, hello_at, action_by, element_at};
+ghost use Rattle.room_wire.specs.Spelling.{spells, incoming, id_at, body_at, body_by, edit_by, hello_at, action_at, action_by, element_at};
 
 use crate::bad::{Bad, Fault};
 use crate::field::Field;
@@ -13,11 +13,13 @@ use crate::forms::{
     author_at, distance_of, el_of, els_of, lat_of, lon_of, members_of, name_at, nodes_of, place_at,
     seq_of,
 };
+use crate::group::group_of;
 use crate::incoming::{Body, Incoming};
 use crate::numbers::ordinal;
 use crate::tag_forms::{given_tags_of, tags_of};
 use edit_actions::action::Action;
 use edit_actions::each_action;
+use edit_groups::edit::Edit;
 use osm_elements::element::Element;
 use osm_elements::name::Kind;
 use room_history::call::Request;
@@ -79,6 +81,7 @@ macro_rules! field {
 /// | `reverse`, `delete`, `purge`, `get` | `el` |
 /// | `split`, `unglue` | `el`, `at`, `into` |
 /// | `join`, `merge` | `el`, `with` |
+/// | `group` | `actions`; then of each action its `do`, one of the twelve above, and that word's fields |
 /// | `undo` | `seq`, which may be missing |
 /// | `redo`, `undos`, `map` | none |
 /// | `hello` | `room`, `name` |
@@ -91,11 +94,13 @@ macro_rules! field {
 /// object of at most 1,000 keys, each of 1 to 255 characters, whose values are strings of at most 255 characters
 /// (OpenStreetMap wiki, "Elements"); those of `retag` may be `null` too, which removes the key. `dlat` and `dlon`
 /// are whole numbers, each an `i64`, in ten-millionths of a degree. `seq` has the form of `id`. `room` and
-/// `name` are strings of 1 to 32 characters of `a-z`, `0-9` and `_`.
+/// `name` are strings of 1 to 32 characters of `a-z`, `0-9` and `_`. `actions` is an array of 1 to 10,000 objects. The
+/// first fault of an action of a group is told with its position, from 0 (`UnknownAction`, `BadActionField`).
 ///
 /// A whole number is one that is written without a point and an exponent and fits 64 bits, and is not
 /// `-0`. Of members with the same key the last counts, `null` is a value, and members that no message
-/// has are ignored. `UnknownDo` and `BadField` carry the id that was read, and the faults before them the id 0.
+/// has are ignored. `UnknownDo`, `BadField` and the faults of actions carry the id that was read, and the faults before
+/// them the id 0.
 ///
 /// `Memory` stands in the place of any other answer where a growth was refused, under the id if that was read
 /// before, or else under 0. The time is linear in
@@ -159,7 +164,9 @@ fn known(word: &str) -> Option<&'static str>
     ensures known { IfSome result (λ w. w.now ≡ word.now) }
     ensures unknown { IfNone result ((d : Data) → body_by word.now d ≡ Err UnknownDo) }
 {
-    each_action!(word_among(word, "hello", "undo", "redo", "undos", "get", "map"))
+    each_action!(word_among(
+        word, "hello", "undo", "redo", "undos", "get", "map", "group"
+    ))
 }
 
 // What a message with this word asks for.
@@ -173,7 +180,17 @@ fn body_by(alloc: Global, word: &str, message: &mut Value) -> Result<Body, Fault
         "undos" => Ok(Body::Undos),
         "get" => Ok(Body::Get(el_of(message)?)),
         "map" => Ok(Body::Map),
-        _ => Ok(Body::Change(Request::Do(action_by(alloc, word, message)?))),
+        _ => Ok(Body::Change(Request::Do(edit_by(alloc, word, message)?))),
+    }
+}
+
+// What a message with this word does to the map.
+fn edit_by(alloc: Global, word: &str, message: &mut Value) -> Result<Edit<Global>, Fault>
+    ensures { Gives result (edit_by word.now (view message.old)) }
+{
+    match word {
+        "group" => Ok(Edit::Group(group_of(alloc, message)?)),
+        _ => Ok(Edit::One(action_by(alloc, word, message)?)),
     }
 }
 
@@ -184,6 +201,28 @@ fn hello_of(message: &Value) -> Result<Body, Fault>
     let room = author_at(message, Field::Room)?;
     let name = author_at(message, Field::Name)?;
     Ok(Body::Hello { room, name })
+}
+
+// The action that an object asks for, whose values are taken out of it.
+pub fn action_of(alloc: Global, object: &mut Value) -> Result<Action<Global>, Fault>
+    ensures { Gives result (action_at (view object.old)) }
+{
+    let word = object
+        .get("do")
+        .and_then(Value::as_str)
+        .ok_or(Fault::UnknownDo)?;
+    match known_action(word) {
+        Some(word) => action_by(alloc, word, object),
+        None => Err(Fault::UnknownDo),
+    }
+}
+
+// The word of an action as it stands here, or none where it is no action's.
+fn known_action(word: &str) -> Option<&'static str>
+    ensures known { IfSome result (λ w. w.now ≡ word.now) }
+    ensures unknown { IfNone result ((d : Data) → action_by word.now d ≡ Err UnknownDo) }
+{
+    each_action!(word_among(word,))
 }
 
 // The action that a message with this word asks for. Its fields are read in the order of the list of actions, up to the

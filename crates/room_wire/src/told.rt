@@ -1,10 +1,10 @@
 //! JSON written token by token: values, arrays and objects (RFC 8259).
-ghost use Rattle.std.specs.Prelude.{◌≡◌, T, map, OnOk};
+ghost use Rattle.std.specs.Prelude.{◌≡◌, ◌∷◌, T, map, OnOk};
 ghost use Rattle.std.specs.FinMap.Entries.{is_sorted};
 ghost use Rattle.serde_json.specs.Data.{array, object};
 ghost use Rattle.serde_json.specs.View.{items_of};
 ghost use Rattle.osm_elements.specs.KeyedRows.{text_cmp};
-ghost use Rattle.room_wire.specs.Inner.Writing.{Tells, TellsMember, members_of};
+ghost use Rattle.room_wire.specs.Inner.Writing.{Tells, TellsMember, TellsMembers, members_of};
 
 use json::Writer;
 use osm_elements::Memory;
@@ -63,9 +63,33 @@ pub fn write_object<M: ToldMember>(out: &mut Writer, members: &[M]) -> Result<()
     ensures { OnOk result (Tells out.old out.new (object (members_of (map M.pair members.now)))) }
 {
     out.begin_object()?;
+    write_members(out, members)?;
+    out.end_object()?;
+    Ok(())
+}
+
+// Writes an object of a member and these members after it, whose keys rise.
+pub fn write_object_from<F: ToldMember, M: ToldMember>(
+    out: &mut Writer,
+    first: &F,
+    members: &[M],
+) -> Result<(), Memory>
+    requires { T (is_sorted text_cmp (F.pair first.now ∷ map M.pair members.now)) }
+    ensures { OnOk result (Tells out.old out.new (object (members_of (F.pair first.now ∷ map M.pair members.now)))) }
+{
+    out.begin_object()?;
+    first.write(out)?;
+    write_members(out, members)?;
+    out.end_object()?;
+    Ok(())
+}
+
+// Writes these members of an object that has begun.
+fn write_members<M: ToldMember>(out: &mut Writer, members: &[M]) -> Result<(), Memory>
+    ensures { OnOk result (TellsMembers out.old out.new (map M.pair members.now)) }
+{
     for member in members {
         member.write(out)?;
     }
-    out.end_object()?;
     Ok(())
 }

@@ -1,5 +1,5 @@
 //! The texts of replies.
-ghost use Rattle.std.specs.Prelude.{◌≡◌, T, Some, codes, map, IfOk, OnOk};
+ghost use Rattle.std.specs.Prelude.{◌≡◌, ◌∷◌, T, Some, codes, map, IfOk, OnOk};
 ghost use Rattle.std.specs.Ordering.{is_lt};
 ghost use Rattle.std.specs.FinMap.Entries.{is_sorted};
 ghost use Rattle.serde_json.specs.Data.{object};
@@ -7,13 +7,13 @@ ghost use Rattle.serde_json.specs.Read.{read};
 ghost use Rattle.serde_json.specs.Written.{compact_text};
 ghost use Rattle.osm_elements.specs.KeyedRows.{text_cmp};
 ghost use Rattle.room_wire.specs.Inner.Writing.{Tells, members_of, shown_tree, under_tree};
-ghost use Rattle.room_wire.specs.Trees.{tree_of, ok_tree, no_tree, bare, about};
+ghost use Rattle.room_wire.specs.Trees.{tree_of, ok_tree, no_tree, bare, about, whole, why_members, with_action, with_position};
 
 use crate::answer::Answer;
 use crate::field::Field;
 use crate::json_text::Json;
 use crate::shown::Shown;
-use crate::told::write_object;
+use crate::told::{write_object, write_object_from};
 use json::Writer;
 use osm_elements::Memory;
 use osm_elements::name::Name;
@@ -44,6 +44,7 @@ use std::alloc::Global;
 /// | `Conflict` | `{"at":SHARED,"why":"conflict","with":BLOCKER}` |
 /// | `BadField` | `{"field":FIELD,"why":"bad_field"}` |
 /// | every other | `{"why":WHY}` |
+/// | `Refused`, `BadActionField`, `UnknownAction` | as without a group, with `"action":POSITION` as the first member |
 ///
 /// WHY is the answer's name in lower case, as `wrong_kind`. A node is
 /// `{"el":NAME,"lat":TEXT,"lon":TEXT,"tags":{..}}`, a way is
@@ -92,40 +93,12 @@ fn write_reply(out: &mut Writer, id: u64, answer: &Answer<'_>) -> Result<(), Mem
                 ("undos", Shown::Numbers(undos)),
             ],
         ),
-        Answer::Absent(name) => about(out, id, name, "absent"),
-        Answer::Present(name) => about(out, id, name, "present"),
-        Answer::WrongKind(name) => about(out, id, name, "wrong_kind"),
-        Answer::Same(name) => about(out, id, name, "same"),
-        Answer::OutOfRange(name) => about(out, id, name, "out_of_range"),
-        Answer::TooFew(name) => about(out, id, name, "too_few"),
-        Answer::TooMany(name) => about(out, id, name, "too_many"),
-        Answer::InUse { name, user } => in_use(out, id, name, user),
-        Answer::TagConflict(key) => tag_conflict(out, id, key),
-        Answer::Repeat { seq } => refused(
-            out,
-            id,
-            &[("seq", Shown::Number(seq)), ("why", Shown::Text("repeat"))],
-        ),
-        Answer::Conflict { blocker, shared } => conflict(out, id, blocker, shared),
-        Answer::BadField(field) => bad_field(out, id, field),
-        Answer::BadPosition => bare(out, id, "bad_position"),
-        Answer::NotEndToEnd => bare(out, id, "not_end_to_end"),
-        Answer::Nothing => bare(out, id, "nothing"),
-        Answer::Memory => bare(out, id, "memory"),
-        Answer::Full => bare(out, id, "full"),
-        Answer::NothingToUndo => bare(out, id, "nothing_to_undo"),
-        Answer::NothingToRedo => bare(out, id, "nothing_to_redo"),
-        Answer::NoSuch => bare(out, id, "no_such"),
-        Answer::NotYours => bare(out, id, "not_yours"),
-        Answer::NotStanding => bare(out, id, "not_standing"),
-        Answer::NotJson => bare(out, id, "not_json"),
-        Answer::NotObject => bare(out, id, "not_object"),
-        Answer::BadId => bare(out, id, "bad_id"),
-        Answer::UnknownDo => bare(out, id, "unknown_do"),
-        Answer::BadLine => bare(out, id, "bad_line"),
-        Answer::NoHello => bare(out, id, "no_hello"),
-        Answer::NoRoom => bare(out, id, "no_room"),
-        Answer::HelloTwice => bare(out, id, "hello_twice"),
+        Answer::Refused { action, why } => refused(out, id, Some(action), &Answer::from(why)),
+        Answer::UnknownAction { action } => refused(out, id, Some(action), &Answer::UnknownDo),
+        Answer::BadActionField { action, field } => {
+            refused(out, id, Some(action), &Answer::BadField(field))
+        }
+        _ => refused(out, id, None, answer),
     }
 }
 
@@ -138,13 +111,203 @@ pub fn answered(out: &mut Writer, id: u64, members: &[(&str, Shown<'_>)]) -> Res
     under(out, id, "ok", members)
 }
 
-// Writes the reply to a message that was refused, with these members, whose keys rise.
-fn refused(out: &mut Writer, id: u64, members: &[(&str, Shown<'_>)]) -> Result<(), Memory>
-    requires { T (is_sorted text_cmp (map (λ m. (m.0.now, shown_tree m.1)) members.now)) }
+// Writes the reply to a message that was refused, with the position of the action in its group, if there is one.
+fn refused(
+    out: &mut Writer,
+    id: u64,
+    action: Option<u32>,
+    answer: &Answer<'_>,
+) -> Result<(), Memory>
     ensures { OnOk result
-        (Tells out.old out.new (no_tree id (object (members_of (map (λ m. (m.0.now, shown_tree m.1)) members.now))))) }
+        (Tells out.old out.new (no_tree id (object (with_position action (why_members answer.now))))) }
 {
-    under(out, id, "no", members)
+    match *answer {
+        Answer::Absent(name) => about(out, id, action, name, "absent"),
+        Answer::Present(name) => about(out, id, action, name, "present"),
+        Answer::WrongKind(name) => about(out, id, action, name, "wrong_kind"),
+        Answer::Same(name) => about(out, id, action, name, "same"),
+        Answer::OutOfRange(name) => about(out, id, action, name, "out_of_range"),
+        Answer::TooFew(name) => about(out, id, action, name, "too_few"),
+        Answer::TooMany(name) => about(out, id, action, name, "too_many"),
+        Answer::InUse { name, user } => in_use(out, id, action, name, user),
+        Answer::TagConflict(key) => tag_conflict(out, id, action, key),
+        Answer::Repeat { seq } => repeat(out, id, action, seq),
+        Answer::Conflict { blocker, shared } => conflict(out, id, action, blocker, shared),
+        Answer::BadField(field) => bad_field(out, id, action, field),
+        Answer::BadPosition => bare(out, id, action, "bad_position"),
+        Answer::NotEndToEnd => bare(out, id, action, "not_end_to_end"),
+        Answer::Nothing => bare(out, id, action, "nothing"),
+        Answer::Memory => bare(out, id, action, "memory"),
+        Answer::Full => bare(out, id, action, "full"),
+        Answer::NothingToUndo => bare(out, id, action, "nothing_to_undo"),
+        Answer::NothingToRedo => bare(out, id, action, "nothing_to_redo"),
+        Answer::NoSuch => bare(out, id, action, "no_such"),
+        Answer::NotYours => bare(out, id, action, "not_yours"),
+        Answer::NotStanding => bare(out, id, action, "not_standing"),
+        Answer::NotJson => bare(out, id, action, "not_json"),
+        Answer::NotObject => bare(out, id, action, "not_object"),
+        Answer::BadId => bare(out, id, action, "bad_id"),
+        Answer::UnknownDo => bare(out, id, action, "unknown_do"),
+        Answer::BadLine => bare(out, id, action, "bad_line"),
+        Answer::NoHello => bare(out, id, action, "no_hello"),
+        Answer::NoRoom => bare(out, id, action, "no_room"),
+        Answer::HelloTwice => bare(out, id, action, "hello_twice"),
+        // Other answers refuse nothing.
+        _ => why(out, id, action, &[]),
+    }
+}
+
+fn in_use(
+    out: &mut Writer,
+    id: u64,
+    action: Option<u32>,
+    name: Name,
+    user: Name,
+) -> Result<(), Memory>
+    ensures { OnOk result (Tells out.old out.new
+        (no_tree id (object (with_position action (why_members (Answer.InUse name user)))))) }
+{
+    why(
+        out,
+        id,
+        action,
+        &[
+            ("by", Shown::Name(user)),
+            ("el", Shown::Name(name)),
+            ("why", Shown::Text("in_use")),
+        ],
+    )
+}
+
+fn tag_conflict(
+    out: &mut Writer,
+    id: u64,
+    action: Option<u32>,
+    key: &Text<Global>,
+) -> Result<(), Memory>
+    ensures { OnOk result (Tells out.old out.new
+        (no_tree id (object (with_position action (why_members (Answer.TagConflict key.entry)))))) }
+{
+    why(
+        out,
+        id,
+        action,
+        &[
+            ("key", Shown::Text(key.as_str())),
+            ("why", Shown::Text("tag_conflict")),
+        ],
+    )
+}
+
+fn repeat(out: &mut Writer, id: u64, action: Option<u32>, seq: u64) -> Result<(), Memory>
+    ensures { OnOk result (Tells out.old out.new
+        (no_tree id (object (with_position action (why_members (Answer.Repeat seq)))))) }
+{
+    why(
+        out,
+        id,
+        action,
+        &[("seq", Shown::Number(seq)), ("why", Shown::Text("repeat"))],
+    )
+}
+
+fn conflict(
+    out: &mut Writer,
+    id: u64,
+    action: Option<u32>,
+    blocker: u64,
+    shared: Name,
+) -> Result<(), Memory>
+    ensures { OnOk result (Tells out.old out.new
+        (no_tree id (object (with_position action (why_members (Answer.Conflict blocker shared)))))) }
+{
+    why(
+        out,
+        id,
+        action,
+        &[
+            ("at", Shown::Name(shared)),
+            ("why", Shown::Text("conflict")),
+            ("with", Shown::Number(blocker)),
+        ],
+    )
+}
+
+fn bad_field(out: &mut Writer, id: u64, action: Option<u32>, field: Field) -> Result<(), Memory>
+    ensures { OnOk result (Tells out.old out.new
+        (no_tree id (object (with_position action (why_members (Answer.BadField field)))))) }
+{
+    why(
+        out,
+        id,
+        action,
+        &[
+            ("field", Shown::Text(field.as_str())),
+            ("why", Shown::Text("bad_field")),
+        ],
+    )
+}
+
+// Writes a refusal that shows nothing but why.
+fn bare(out: &mut Writer, id: u64, action: Option<u32>, reason: &str) -> Result<(), Memory>
+    ensures { OnOk result (Tells out.old out.new (no_tree id (object (with_position action (bare reason.now))))) }
+{
+    why(out, id, action, &[("why", Shown::Text(reason))])
+}
+
+// Writes a refusal that names an element.
+fn about(
+    out: &mut Writer,
+    id: u64,
+    action: Option<u32>,
+    name: Name,
+    reason: &str,
+) -> Result<(), Memory>
+    ensures { OnOk result (Tells out.old out.new (no_tree id (object (with_position action (about name reason.now))))) }
+{
+    why(
+        out,
+        id,
+        action,
+        &[("el", Shown::Name(name)), ("why", Shown::Text(reason))],
+    )
+}
+
+// Writes a refusal with these members, whose keys rise and come after `action`.
+fn why(
+    out: &mut Writer,
+    id: u64,
+    action: Option<u32>,
+    members: &[(&str, Shown<'_>)],
+) -> Result<(), Memory>
+    requires { T (is_sorted text_cmp ((codes "action", whole 0) ∷ map (λ m. (m.0.now, shown_tree m.1)) members.now)) }
+    ensures { OnOk result (Tells out.old out.new
+        (no_tree id (object (with_position action (members_of (map (λ m. (m.0.now, shown_tree m.1)) members.now)))))) }
+{
+    match action {
+        None => under(out, id, "no", members),
+        Some(action) => at_action(out, id, action.into(), members),
+    }
+}
+
+// Writes a refusal with the position of an action, and these members, whose keys rise and come after `action`.
+fn at_action(
+    out: &mut Writer,
+    id: u64,
+    position: u64,
+    members: &[(&str, Shown<'_>)],
+) -> Result<(), Memory>
+    requires { T (is_sorted text_cmp ((codes "action", whole 0) ∷ map (λ m. (m.0.now, shown_tree m.1)) members.now)) }
+    ensures { OnOk result (Tells out.old out.new (no_tree id (object
+        (with_action position (members_of (map (λ m. (m.0.now, shown_tree m.1)) members.now)))))) }
+{
+    out.begin_object()?;
+    out.key("id")?;
+    out.u64(id)?;
+    out.key("no")?;
+    write_object_from(out, &("action", Shown::Number(position)), members)?;
+    out.end_object()?;
+    Ok(())
 }
 
 // Writes an id, and behind a word that comes after it an object of these members, whose keys rise.
@@ -161,76 +324,4 @@ fn under(out: &mut Writer, id: u64, word: &str, members: &[(&str, Shown<'_>)]) -
     write_object(out, members)?;
     out.end_object()?;
     Ok(())
-}
-
-fn in_use(out: &mut Writer, id: u64, name: Name, user: Name) -> Result<(), Memory>
-    ensures { OnOk result (Tells out.old out.new (tree_of id (Answer.InUse name user))) }
-{
-    refused(
-        out,
-        id,
-        &[
-            ("by", Shown::Name(user)),
-            ("el", Shown::Name(name)),
-            ("why", Shown::Text("in_use")),
-        ],
-    )
-}
-
-fn tag_conflict(out: &mut Writer, id: u64, key: &Text<Global>) -> Result<(), Memory>
-    ensures { OnOk result (Tells out.old out.new (tree_of id (Answer.TagConflict key.entry))) }
-{
-    refused(
-        out,
-        id,
-        &[
-            ("key", Shown::Text(key.as_str())),
-            ("why", Shown::Text("tag_conflict")),
-        ],
-    )
-}
-
-fn conflict(out: &mut Writer, id: u64, blocker: u64, shared: Name) -> Result<(), Memory>
-    ensures { OnOk result (Tells out.old out.new (tree_of id (Answer.Conflict blocker shared))) }
-{
-    refused(
-        out,
-        id,
-        &[
-            ("at", Shown::Name(shared)),
-            ("why", Shown::Text("conflict")),
-            ("with", Shown::Number(blocker)),
-        ],
-    )
-}
-
-fn bad_field(out: &mut Writer, id: u64, field: Field) -> Result<(), Memory>
-    ensures { OnOk result (Tells out.old out.new (tree_of id (Answer.BadField field))) }
-{
-    refused(
-        out,
-        id,
-        &[
-            ("field", Shown::Text(field.as_str())),
-            ("why", Shown::Text("bad_field")),
-        ],
-    )
-}
-
-// Writes the reply with a refusal that shows nothing but why.
-fn bare(out: &mut Writer, id: u64, why: &str) -> Result<(), Memory>
-    ensures { OnOk result (Tells out.old out.new (bare id why.now)) }
-{
-    refused(out, id, &[("why", Shown::Text(why))])
-}
-
-// Writes the reply with a refusal that names an element.
-fn about(out: &mut Writer, id: u64, name: Name, why: &str) -> Result<(), Memory>
-    ensures { OnOk result (Tells out.old out.new (about id name why.now)) }
-{
-    refused(
-        out,
-        id,
-        &[("el", Shown::Name(name)), ("why", Shown::Text(why))],
-    )
 }

@@ -3,7 +3,7 @@ ghost use Rattle.std.specs.Prelude.{IfOk};
 ghost use Rattle.part_lines.specs.Applying.{MayApply};
 
 use edit_actions::action::Action;
-use edit_actions::plan::plan;
+use edit_actions::plan::plan_on;
 use edit_simple::refusal::Refusal;
 use osm_changes::changes::Changes;
 use osm_changes::laws::an_inverse_restores;
@@ -19,7 +19,7 @@ pub fn plan_of(
 ) -> Result<Changes<Global>, Refusal<Global>>
     ensures { IfOk result (λ cs. MayApply store.now.rows cs) }
 {
-    plan(alloc, store, action)
+    plan_on(alloc, store, action)
 }
 
 /// Applies changes, and answers those that take them back.

@@ -1,5 +1,6 @@
 //! What rooms are asked here.
 use edit_actions::action::Action;
+use edit_groups::edit::Edit;
 use osm_coords::{Lat, Lon};
 use osm_elements::element::Element;
 use osm_elements::name::{Kind, Name};
@@ -26,7 +27,8 @@ pub fn creation(alloc: Global, author: Author, id: u64, name: Name) -> Option<Ca
     let lon = Lon::new(0)?;
     let tags = SharedTags::empty();
     let element = Element::Node { lat, lon, tags };
-    Some(call(author, id, Request::Do(Action::Create { name, element })))
+    let create = Edit::One(Action::Create { name, element });
+    Some(call(author, id, Request::Do(create)))
 }
 
 /// The same, by the id of the node, which is not 0.

@@ -2,6 +2,7 @@
 use crate::rooms::bases;
 use crate::rooms::calls::{author, call, create, node};
 use edit_actions::action::Action;
+use edit_groups::edit::Edit;
 use osm_elements::Memory;
 use osm_elements::names::Names;
 use room_history::call::{Call, Calls, Request};
@@ -115,11 +116,11 @@ fn movement(alloc: Global) -> io::Result<Request<Global>> {
     let mut names = Vec::new(alloc);
     names.push(node(-5)?)?;
     let names = Names::from_vec(names);
-    Ok(Request::Do(Action::Move {
+    Ok(Request::Do(Edit::One(Action::Move {
         names,
         dlat: 1,
         dlon: 0,
-    }))
+    })))
 }
 
 // Creates of an author with the longest name that there is.

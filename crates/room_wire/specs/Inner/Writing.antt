@@ -1,5 +1,5 @@
 -- What the code's own functions say of the trees that they write, token by token. (RFC 8259)
-use Rattle.std.specs.Prelude.{◌≡◌, ◌++◌, ℕ, List, [], ◌∷◌, Some, true, codes}
+use Rattle.std.specs.Prelude.{◌≡◌, ◌++◌, All, ℕ, List, [], ◌∷◌, Some, true, codes}
 use Rattle.json.specs.Token.{Token, key}
 use Rattle.json.specs.Tree.{HasNumbers, json_tokens}
 use Rattle.json.specs.Written.{Written}
@@ -33,6 +33,16 @@ pub record TellsMember (old new : Written) (m : List ℕ × Data) : Type 0 where
   pub before : new.before ≡ old.before
   pub tokens : new.tokens ≡ old.tokens ++ key m.0 ∷ tree_tokens m.1
   pub readable : IsReadable m.1
+
+-- the same of members of an object, as they stand inside of its brackets
+abbrev pub members_tokens : List (List ℕ × Data) → List Token
+members_tokens [] = []
+members_tokens (m ∷ ms) = key m.0 ∷ (tree_tokens m.1 ++ members_tokens ms)
+
+pub record TellsMembers (old new : Written) (ms : List (List ℕ × Data)) : Type 0 where
+  pub before : new.before ≡ old.before
+  pub tokens : new.tokens ≡ old.tokens ++ members_tokens ms
+  pub readable : All (λ m. IsReadable m.1) ms
 
 abbrev pub members_of : List (List ℕ × Data) → Members
 members_of [] = no_members

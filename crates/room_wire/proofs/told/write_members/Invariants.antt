@@ -1,11 +1,10 @@
 use Rattle.std.proofs.Common.{◌≡◌, ◌++◌, All, map, take, drop}
-use Rattle.room_wire.specs.Inner.Writing.{IsReadable}
-use Rattle.room_wire.proofs.Written.{members_left}
-use Rattle.room_wire.proofs.told.write_object.Given as goal
+use Rattle.room_wire.specs.Inner.Writing.{IsReadable, members_tokens}
+use Rattle.room_wire.proofs.told.write_members.Given as goal
 
 -- what was written, and what is left, are the whole
 abbrev pub invariant-loop-member : goal.invariant-loop-member
 invariant-loop-member g l =
     (l.out.before ≡ l.initial.out.before)
-    × (l.out.tokens ++ members_left (map g.M.ToldMember.pair (drop l.member-index l.members)) ≡ l.initial.out.tokens ++ members_left (map g.M.ToldMember.pair l.members))
+    × (l.out.tokens ++ members_tokens (map g.M.ToldMember.pair (drop l.member-index l.members)) ≡ l.initial.out.tokens ++ members_tokens (map g.M.ToldMember.pair l.members))
     × All (λ x. IsReadable (g.M.ToldMember.pair x).1) (take l.member-index l.members)

@@ -1,0 +1,7 @@
+use Rattle.std.proofs.Common.{◌≡◌, drop}
+use Rattle.serde_json.specs.View.{items_view}
+use Rattle.room_wire.specs.Spelling.{are_objects}
+use Rattle.room_wire.proofs.group.all_objects.Given as goal
+
+abbrev pub invariant-loop-item : goal.invariant-loop-item
+invariant-loop-item l = are_objects (items_view (drop l.item-index l.items)) ≡ are_objects (items_view l.items)
