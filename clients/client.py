@@ -14,7 +14,7 @@ import json
 import os
 import sys
 
-sys.path.insert(0, os.path.join(os.path.dirname(os.path.abspath(__file__)), "python"))
+sys.path.insert(0, os.path.join(os.path.dirname(os.path.realpath(__file__)), "python"))
 from maproom.core import Core, HelloRefused, OutOfStep, compact, event_as_json
 from maproom.errors import error_of, short_words
 

@@ -17,7 +17,7 @@ import asyncio
 import os
 import sys
 
-sys.path.insert(0, os.path.join(os.path.dirname(os.path.abspath(__file__)), "python"))
+sys.path.insert(0, os.path.join(os.path.dirname(os.path.realpath(__file__)), "python"))
 import maproom
 from client import message_of, print_refusal
 from maproom.core import compact

@@ -114,6 +114,8 @@ export class Room extends EventTarget {
   join(el: string, other: string, options?: AskOptions): Promise<number>;
   merge(el: string, other: string, options?: AskOptions): Promise<number>;
   unglue(el: string, at: number, options?: AskOptions & { into?: string }): Promise<string>;
+  group(steps: Iterable<Message>, options?: AskOptions): Promise<number>;
+  newName(kind: "n" | "w" | "r"): string;
   undo(seq?: number, options?: AskOptions): Promise<{ seq: number; undid?: number }>;
   redo(options?: AskOptions): Promise<{ seq: number; redid?: number }>;
   get(el: string, options?: AskOptions): Promise<Element>;
@@ -144,11 +146,33 @@ export class NoAnswer extends MaproomError {}
 export class Refused extends MaproomError {
   readonly no: { why: string } & Record<string, unknown>;
   readonly author: string | null;
+  readonly action: number | null;
   readonly element: string | null;
   readonly entry: number | null;
 }
 
-export const actions: Record<string, (...values: any[]) => Message>;
+export const actions: {
+  createNode(el: string, lat: Degrees, lon: Degrees, tags?: Tags): Message;
+  createWay(el: string, nodes: Iterable<number | string>, tags?: Tags): Message;
+  createRelation(el: string, members: Members, tags?: Tags): Message;
+  retag(el: string, tags: Record<string, string | null>): Message;
+  move(els: string | readonly string[], dlat: Degrees, dlon: Degrees): Message;
+  reverse(el: string): Message;
+  setNodes(el: string, nodes: Iterable<number | string>): Message;
+  setMembers(el: string, members: Members): Message;
+  delete(el: string): Message;
+  purge(el: string): Message;
+  split(el: string, at: number, into: string): Message;
+  join(el: string, other: string): Message;
+  merge(el: string, other: string): Message;
+  unglue(el: string, at: number, into: string): Message;
+  group(steps: Iterable<Message>): Message;
+  undo(seq?: number): Message;
+  redo(): Message;
+  get(el: string): Message;
+  map(): Message;
+  undos(): Message;
+};
 
 // The core, for programs that have a connection of their own.
 export class OutOfStep extends Error {}

@@ -318,9 +318,12 @@
 
   // The members of a refusal as the command-line clients print them.
   function membersOf(no) {
-    const others = Object.keys(no).filter((key) => key !== "why");
+    const others = Object.keys(no).filter((key) => key !== "why" && key !== "action");
     return ["why", ...others.sort()].map((key) => no[key]).join(" ");
   }
+
+  // The words in front of the reason, if an action of a group was refused.
+  const placeOf = ({ action }) => (action === undefined ? "" : `action ${action}: `);
 
   // Anything that this file throws on purpose. `why` is a word for the reason.
   class MaproomError extends Error {
@@ -371,11 +374,13 @@
     }
   }
 
-  // The room refused a message. `why` is its word for the reason, and `no` has all that it said.
+  // The room refused a message. `why` is its word for the reason, and `no` has all that it said. `action` is the
+  // position of the refused action in a group, from 0, and null if there is none.
   class Refused extends MaproomError {
     constructor(no, author = null) {
-      super(no.why, Refused.inWords(no, author));
-      Object.assign(this, { no, author, element: no.el ?? no.at ?? null, entry: no.with ?? no.seq ?? null });
+      super(no.why, placeOf(no) + Refused.inWords(no, author));
+      const { action = null } = no;
+      Object.assign(this, { no, author, action, element: no.el ?? no.at ?? null, entry: no.with ?? no.seq ?? null });
     }
 
     static inWords(no, author) {
@@ -396,7 +401,7 @@
   // A refusal as the command-line clients print it: its word, with what it is about.
   function shortWords(error) {
     if (!(error instanceof Refused) || error.why === "conflict" || error.why === "in_use") return error.message;
-    return membersOf(error.no);
+    return placeOf(error.no) + membersOf(error.no);
   }
 
   // ---- The messages without their ids, one function for each action and each query of docs/PROTOCOL.md.
@@ -434,6 +439,7 @@
     join: (el, other) => ({ do: "join", el, with: other }),
     merge: (el, other) => ({ do: "merge", el, with: other }),
     unglue: (el, at, into) => ({ do: "unglue", el, at, into }),
+    group: (steps) => ({ do: "group", actions: [...steps] }),
     undo: (seq) => (seq === undefined ? { do: "undo" } : { do: "undo", seq }),
     redo: () => ({ do: "redo" }),
     get: (el) => ({ do: "get", el }),
@@ -845,6 +851,20 @@
 
     unglue(el, at, { into, ...options } = {}) {
       return this.#create("n", into, (name) => actions.unglue(el, at, name), options);
+    }
+
+    // Does several actions as one entry, or none of them, and gives the entry's number. `maproom.actions` has a
+    // function for each action. If the room refuses an action, it fails with a Refused that has the position `action`,
+    // and nothing was done. An undo takes all of them back. A server before version 1.1.0 refuses it as `unknown_do`.
+    group(steps, options) {
+      return this.#change(actions.group(steps), options);
+    }
+
+    // Gives a name for a new element of a kind, "n", "w" or "r". The room gives it out once, and `elements` does not
+    // have it. If somebody else is quicker, the room refuses it as `present`.
+    newName(kind) {
+      if (!["n", "w", "r"].includes(kind)) throw new RangeError(`${kind} is no kind of element`);
+      return this.#core.newName(kind);
     }
 
     // Gives {seq, undid}; `undid` is missing if the answer was lost on its way.

@@ -1,5 +1,5 @@
-"""A room of nodes over WebSockets that follows docs/PROTOCOL.md and can be told to fail: it loses answers, falls
-silent, leaves out news, and starts anew with another journal. It runs in threads of the script."""
+"""A room over WebSockets that follows docs/PROTOCOL.md and can be told to fail: it loses answers, falls silent, leaves
+out news, and starts anew with another journal. It does groups, and some actions. It runs in threads of the script."""
 import contextlib
 import json
 import re
@@ -105,11 +105,16 @@ class FakeRoom:
 
     def rows_of(self, message):
         """The rows that a change makes, or a refusal."""
+        if message["do"] == "group":
+            return self.rows_of_group(message["actions"])
         word, names = message["do"], message.get("els", [message.get("el")])
         if word == "create":
             if message["el"] in self.elements:
                 return {"el": message["el"], "why": "present"}
-            place = {key: f"{float(message[key]):.7f}" for key in ("lat", "lon")}
+            if "nodes" in message:
+                place = {"nodes": message["nodes"]}
+            else:
+                place = {key: f"{float(message[key]):.7f}" for key in ("lat", "lon")}
             return [{"el": message["el"], **place, "tags": message.get("tags", {})}]
         for name in names:
             if name not in self.elements:
@@ -124,12 +129,31 @@ class FakeRoom:
             return [{**self.elements[message["el"]], "tags": tags}]
         return [{"el": message["el"], "gone": True}]
 
+    def rows_of_group(self, actions):
+        """The rows that a group makes, or a refusal that has the position of its action."""
+        before, changed = self.elements, {}
+        self.elements = dict(before)
+        try:
+            for at, action in enumerate(actions):
+                rows = self.rows_of(action)
+                if isinstance(rows, dict):
+                    return {"action": at, **rows}
+                changed.update((row["el"], row) for row in rows)
+                self.elements.update((row["el"], row) for row in rows if not row.get("gone"))
+                for row in rows:
+                    if row.get("gone"):
+                        del self.elements[row["el"]]
+            return list(changed.values())
+        finally:
+            self.elements = before
+
 
 class Session:
     """A session of a fake room."""
 
     def __init__(self, room, connection):
         self.room, self.connection, self.data = room, connection, b""
+        connection.setsockopt(socket.IPPROTO_TCP, socket.TCP_NODELAY, 1)
         self.author, self.seq = None, 0
 
     def hold(self):

@@ -142,10 +142,44 @@ const stories = {
   },
 
   async speed(url) {
-    const room = await connect(url);
+    const room = await connect(url, { timeout: null });
     const begun = performance.now();
     await Promise.all(Array.from({ length: 10_000 }, (_, at) => room.createNode(1, 2, {}, { el: `n${at + 1}` })));
     say(room.elements.size, room.seq, ((performance.now() - begun) / 1000).toFixed(3));
+    room.close();
+  },
+
+  async groups(url) {
+    const room = await connect(url);
+    const [first, second, way] = [..."nnw"].map((kind) => room.newName(kind));
+    say(first, second, way);
+    const steps = [make.createNode(first, 1, 2), make.createNode(second, 1, 3), make.createWay(way, [first, second])];
+    await sayOutcome(room.group(steps.values()));
+    sayMap(room);
+    const more = [make.retag(first, { k: "v" }), make.delete(second)];
+    await room.group(more).catch((error) => say(error.why, error.action, error.message));
+    await sayOutcome(room.group([make.move(first, 1, 0)]));
+    await sayOutcome(room.group(more.slice(0, 1)));
+    sayMap(room);
+    room.close();
+  },
+
+  async groups_built(url) {
+    const room = await connect(url);
+    const [first, second, way] = [..."nnw"].map((kind) => room.newName(kind));
+    const steps = [make.createNode(first, 1, 2), make.createNode(second, 1, 3), make.createWay(way, [first, second])];
+    const groups = [
+      steps, [make.retag(first, { k: "v" }), make.delete(second)], [], [make.reverse(way), make.reverse(way)],
+      [make.undo()], [make.createWay("w-9", [1, 0])],
+    ];
+    for (const group of groups) {
+      await room.group(group).then(
+        (seq) => say("done", seq),
+        (error) => say(error.why, error.action ?? "None", error.message),
+      );
+    }
+    await sayOutcome(room.undo());
+    sayMap(room);
     room.close();
   },
 
@@ -163,8 +197,9 @@ const stories = {
       make.retag("n-1", { ref: "7", note: null }), make.move("n-1", 1, "-0.0000001"),
       make.move(["n-1", "w-1"], 0.1, -180.5), make.reverse("w-1"), make.setNodes("w-1", [1, "n-2"]),
       make.setMembers("r-1", []), make.delete("n-1"), make.purge("n-1"), make.split("w-1", 1, "w-2"),
-      make.join("w-1", "w-2"), make.merge("n-1", "n-2"), make.unglue("w-1", 0, "n-3"), make.undo(), make.undo(7),
-      make.redo(), make.get("n-1"), make.map(), make.undos(),
+      make.join("w-1", "w-2"), make.merge("n-1", "n-2"), make.unglue("w-1", 0, "n-3"),
+      make.group([make.delete("n-1"), make.reverse("w-1")]),
+      make.undo(), make.undo(7), make.redo(), make.get("n-1"), make.map(), make.undos(),
     ];
     for (const message of messages) say(JSON.stringify(message));
     for (const wrong of [NaN, Infinity]) {

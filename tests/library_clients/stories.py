@@ -181,11 +181,46 @@ async def built(url):
 
 
 async def speed(url):
-    """Ten thousand changes."""
-    async with connect(url) as room:
+    """Ten thousand changes. The last one waits for all others, so that it has no limit of its own."""
+    async with connect(url, timeout=None) as room:
         begun = time.monotonic()
         await asyncio.gather(*(room.create_node(1, 2, el=f"n{number}") for number in range(1, 10_001)))
         say(len(room.elements), room.seq, f"{time.monotonic() - begun:.3f}")
+
+
+async def groups(url):
+    """A group is accepted as one entry, or refused with the position of an action."""
+    make = maproom.actions
+    async with connect(url) as room:
+        first, second, way = (room.new_name(kind) for kind in "nnw")
+        say(first, second, way)
+        steps = [make.create_node(first, 1, 2), make.create_node(second, 1, 3), make.create_way(way, [first, second])]
+        await say_outcome(room.group(iter(steps)))
+        say_map(room)
+        steps = [make.retag(first, {"k": "v"}), make.delete(second)]
+        try:
+            await room.group(steps)
+        except maproom.Refused as error:
+            say(error.why, error.action, error)
+        await say_outcome(room.group([make.move(first, 1, 0)]))
+        await say_outcome(room.group(steps[:1]))
+        say_map(room)
+
+
+async def groups_built(url):
+    """The same with the built program, and what only a whole room refuses. `unknown_do` is of one without groups."""
+    make = maproom.actions
+    async with connect(url) as room:
+        first, second, way = (room.new_name(kind) for kind in "nnw")
+        steps = [make.create_node(first, 1, 2), make.create_node(second, 1, 3), make.create_way(way, [first, second])]
+        for group in (steps, [make.retag(first, {"k": "v"}), make.delete(second)], [],
+                      [make.reverse(way), make.reverse(way)], [make.undo()], [make.create_way("w-9", [1, 0])]):
+            try:
+                say("done", await room.group(group))
+            except maproom.Refused as error:
+                say(error.why, error.action, error)
+        await say_outcome(room.undo())
+        say_map(room)
 
 
 async def words(_):
@@ -204,8 +239,9 @@ async def messages(_):
         make.retag("n-1", {"ref": "7", "note": None}), make.move("n-1", 1, "-0.0000001"),
         make.move(["n-1", "w-1"], 0.1, -180.5), make.reverse("w-1"), make.set_nodes("w-1", [1, "n-2"]),
         make.set_members("r-1", []), make.delete("n-1"), make.purge("n-1"), make.split("w-1", 1, "w-2"),
-        make.join("w-1", "w-2"), make.merge("n-1", "n-2"), make.unglue("w-1", 0, "n-3"), make.undo(), make.undo(7),
-        make.redo(), make.get("n-1"), make.map_of_room(), make.undos(),
+        make.join("w-1", "w-2"), make.merge("n-1", "n-2"), make.unglue("w-1", 0, "n-3"),
+        make.group([make.delete("n-1"), make.reverse("w-1")]),
+        make.undo(), make.undo(7), make.redo(), make.get("n-1"), make.map_of_room(), make.undos(),
     ):
         say(compact(message))
     for wrong in (float("nan"), float("inf")):

@@ -1,7 +1,11 @@
 """The messages of a room, without their ids, as plain functions: one for each action and each query of
 docs/PROTOCOL.md.
 
-A coordinate is a number or a text of degrees, with up to seven decimals. So is the distance of a move.
+    tree, bench = room.new_name("n"), room.new_name("n")
+    await room.group([actions.create_node(tree, 51.5, -0.1), actions.create_node(bench, 51.5, -0.2)])
+
+A coordinate is a number or a text of degrees, with up to seven decimals. So is the distance of a move. A node of a way
+is an id or a name.
 """
 from __future__ import annotations
 
@@ -11,6 +15,7 @@ from typing import Any, Dict, Iterable, List, Mapping, Optional, Tuple, Union
 Degrees = Union[int, float, str, Decimal]
 Tags = Mapping[str, str]
 Members = Iterable[Tuple[str, str]]
+Nodes = Iterable[Union[int, str]]
 
 # A distance is sent in these units: ten-millionths of a degree.
 UNIT = Decimal("1e-7")
@@ -39,7 +44,7 @@ def create_node(el: str, lat: Degrees, lon: Degrees, tags: Optional[Tags] = None
     return {"do": "create", "el": el, "lat": degrees(lat), "lon": degrees(lon), "tags": dict(tags or {})}
 
 
-def create_way(el: str, nodes: Iterable[int], tags: Optional[Tags] = None) -> Dict[str, Any]:
+def create_way(el: str, nodes: Nodes, tags: Optional[Tags] = None) -> Dict[str, Any]:
     """Creates a way."""
     return {"do": "create", "el": el, "nodes": node_ids(nodes), "tags": dict(tags or {})}
 
@@ -65,7 +70,7 @@ def reverse(el: str) -> Dict[str, Any]:
     return {"do": "reverse", "el": el}
 
 
-def set_nodes(el: str, nodes: Iterable[int]) -> Dict[str, Any]:
+def set_nodes(el: str, nodes: Nodes) -> Dict[str, Any]:
     """Gives a way this list of nodes."""
     return {"do": "nodes", "el": el, "nodes": node_ids(nodes)}
 
@@ -105,6 +110,11 @@ def unglue(el: str, at: int, into: str) -> Dict[str, Any]:
     return {"do": "unglue", "el": el, "at": at, "into": into}
 
 
+def group(steps: Iterable[Mapping[str, Any]]) -> Dict[str, Any]:
+    """Does several actions as one entry, or none of them. They are values of the functions above."""
+    return {"do": "group", "actions": [dict(step) for step in steps]}
+
+
 def undo(seq: Optional[int] = None) -> Dict[str, Any]:
     """Undoes the author's entry of this number, or the last one that is active."""
     return {"do": "undo"} if seq is None else {"do": "undo", "seq": seq}
@@ -130,6 +140,6 @@ def undos() -> Dict[str, Any]:
     return {"do": "undos"}
 
 
-def node_ids(nodes: Iterable[Union[int, str]]) -> List[int]:
+def node_ids(nodes: Nodes) -> List[int]:
     """The ids of nodes, which may be given by their names."""
     return [int(node[1:]) if isinstance(node, str) else node for node in nodes]

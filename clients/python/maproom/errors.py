@@ -55,7 +55,7 @@ class Refused(Error):
     def __init__(self, no: Mapping[str, Any], author: Optional[str] = None) -> None:
         self.no, self.author = dict(no), author
         self.why: str = no["why"]
-        super().__init__(self.in_words())
+        super().__init__(self.place() + self.in_words())
 
     def in_words(self) -> str:
         """The refusal as a sentence, if this package knows the reason."""
@@ -66,8 +66,19 @@ class Refused(Error):
 
     def members(self) -> str:
         """The reason with what it is about, as the command-line clients print it."""
-        others = sorted(set(self.no) - {"why"})
+        others = sorted(set(self.no) - {"why", "action"})
         return " ".join(str(value) for value in (self.why, *(self.no[key] for key in others)))
+
+    def place(self) -> str:
+        """The words in front of the reason, if an action of a group was refused."""
+        return "" if self.action is None else f"action {self.action}: "
+
+    @property
+    def action(self) -> Optional[int]:
+        """The position of the refused action in a group, from 0. None if the message was no group, or is refused as a
+        whole."""
+        position: Optional[int] = self.no.get("action")
+        return position
 
     @property
     def element(self) -> Optional[str]:
@@ -238,4 +249,4 @@ def short_words(error: Error) -> str:
     """A refusal as the command-line clients print it: its word, with what it is about."""
     if not isinstance(error, Refused) or isinstance(error, (Conflict, InUse)):
         return str(error)
-    return error.members()
+    return error.place() + error.members()

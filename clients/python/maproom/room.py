@@ -7,7 +7,7 @@ import sys
 import time
 import types
 import weakref
-from typing import Any, AsyncIterator, Callable, Deque, Dict, Iterable, List, Mapping, NamedTuple, Optional
+from typing import Any, AsyncIterator, Callable, ClassVar, Deque, Dict, Iterable, List, Mapping, NamedTuple, Optional
 from typing import TYPE_CHECKING, Tuple, Type, Union
 
 from . import actions
@@ -63,13 +63,15 @@ def connect(url: str, *, room: str, name: str, open_timeout: Optional[float] = 1
 class Room:
     """A room on a server. Its mirror `elements` follows the news; docs/CLIENT.md has a program that uses it."""
 
+    core_class: ClassVar[Type[Core]] = Core
+
     def __init__(self, url: str, room: str, name: str, *, open_timeout: Optional[float] = 10,
                  timeout: Optional[float] = 60, heartbeat: float = 15) -> None:
         self.url, self.room, self.name = url, room, name
         self.open_timeout, self.timeout, self.heartbeat = open_timeout, timeout, heartbeat
         self.state = "closed"
         # Ids are spent for the life of the room, so each run of a program begins above those of earlier runs.
-        self._core = Core(room, name, first_id=time.time_ns() // 1000, window=WINDOW)
+        self._core = self.core_class(room, name, first_id=time.time_ns() // 1000, window=WINDOW)
         self._elements = types.MappingProxyType(self._core.elements)
         self._outbox: Deque[str] = collections.deque()
         self._has_texts = asyncio.Event()
@@ -115,6 +117,13 @@ class Room:
         if self._talking and not self._talking.done():
             self._talking.cancel()
             await asyncio.wait({self._talking})
+
+    async def wait_closed(self) -> None:
+        """Returns when the room is closed. Raises the error that ended it, if one did, such as NoRoom."""
+        if self._talking:
+            await asyncio.wait({self._talking})
+        if self._error:
+            raise self._error
 
     def _end(self, error: Optional[BaseException]) -> None:
         """Ends everything, perhaps for an error that ends the room for good."""
@@ -387,6 +396,22 @@ class Room:
         """Gives a way a new node at a position of its list. Returns the node's name: a new one, unless you give
         `into`."""
         return await self._create("n", into, lambda name: actions.unglue(el, at, name))
+
+    async def group(self, steps: Iterable[Message]) -> int:
+        """Does several actions as one entry, or none of them. Returns the entry's number.
+
+        `maproom.actions` has a function for each action, and `new_name` gives names for new elements. If the room
+        refuses an action, a Refused with its position `action` is raised, and nothing was done. An undo takes all of
+        them back. A server before version 1.1.0 raises UnknownDo.
+        """
+        return await self._change(actions.group(steps))
+
+    def new_name(self, kind: str) -> str:
+        """A name for a new element of a kind, "n", "w" or "r". The room gives it out once, and `elements` does not
+        have it. If somebody else is quicker, the room refuses it with Present."""
+        if kind not in ("n", "w", "r"):
+            raise ValueError(f"{kind!r} is no kind of element")
+        return self._core.new_name(kind)
 
     async def undo(self, seq: Optional[int] = None) -> Undone:
         """Undoes your entry of this number, or your last one that is active. Raises Conflict if a later entry touched

@@ -207,7 +207,7 @@ class Keeper:
         assert self._saved is not None
         saved = self._saved
         is_worthless = not saved.elements and saved.position == Position(1, 0)
-        found = lineage(saved.position, saved.recent, event.rows, event.seq, event.restarted)
+        found = lineage(saved, event.rows, event.seq, event.restarted)
         if found is Lineage.OTHER_MAP and not is_worthless:
             raise OtherMap(f"the room is at entry {event.seq}, and does not go on with the map that was saved at "
                            f"{saved.position}: {len(event.rows)} elements differ. Nothing more is saved. "

@@ -8,7 +8,8 @@ import enum
 from typing import Dict, Iterable, List, Optional, Set
 
 from ..core import Element, Row
-from .journal import Entry, Position
+from .folder import Saved
+from .journal import Entry
 
 
 class Lineage(enum.Enum):
@@ -19,33 +20,32 @@ class Lineage(enum.Enum):
     OTHER_MAP = enum.auto()
 
 
-def lineage(saved: Position, recent: Iterable[Entry], rows: List[Row], seq: int, restarted: Optional[bool]) -> Lineage:
+def lineage(saved: Saved, rows: List[Row], seq: int, restarted: Optional[bool]) -> Lineage:
     """How a room at entry `seq`, whose map differs by `rows`, continues the saved map.
 
-    `recent` has the last entries before the gap. `restarted` is None if it is not known whether the run of the server
-    is the same.
+    `restarted` is None if it is not known whether the run of the server is the same.
     """
     if restarted is False:
         return Lineage.SAME_RUN
-    is_new = restarted is True or seq < saved.seq
-    made = seq if is_new else seq - saved.seq
+    is_new = restarted is True or seq < saved.position.seq
+    made = seq if is_new else seq - saved.position.seq
     fine = Lineage.NEW_RUN if is_new else Lineage.SAME_RUN
     if not rows:
         return fine
-    if made == 0 or is_too_much(rows, made):
+    if made == 0 or is_mostly_gone(saved.elements, rows, made):
         return Lineage.OTHER_MAP
-    taken_back = entries_taken_back(recent, {row.el: row.after for row in rows})
+    taken_back = entries_taken_back(saved.recent, {row.el: row.after for row in rows})
     return Lineage.OTHER_MAP if taken_back > (0 if is_new else made) else fine
 
 
-def is_too_much(rows: List[Row], made: int) -> bool:
-    """Whether so many entries cannot have made this difference.
+def is_mostly_gone(elements: Iterable[str], rows: List[Row], made: int) -> bool:
+    """Whether the room lost more than half of the saved elements, and more than it made entries.
 
-    An entry creates or deletes one element at most. Ways are not counted, because a purge of a node can delete many.
+    A group can delete many elements in one entry, so a loss of fewer elements proves nothing. Ways are not counted,
+    because a purge of one node can delete many.
     """
-    counted = [row for row in rows if not row.el.startswith("w")]
-    gone, new = (sum(row[which] is None for row in counted) for which in (2, 1))
-    return gone > made or new > made
+    gone = sum(row.after is None and not row.el.startswith("w") for row in rows)
+    return gone > made and 2 * gone > sum(not el.startswith("w") for el in elements)
 
 
 def entries_taken_back(recent: Iterable[Entry], now: Dict[str, Optional[Element]]) -> int:

@@ -7,6 +7,6 @@ The modules build on each other in this order, and each can be tested without th
 - ``ledger``, ``grid``, ``room_map``: versions that never fall, bounding boxes, the map with both
 - ``planner``: an upload as actions of the room, or the API's error
 - ``connection``: what the rest needs of a room; ``memory_room`` is a room without a server
-- ``changesets``, ``uploads``, ``calls``, ``page``: the calls of the API
+- ``changesets``, ``preferences``, ``uploads``, ``calls``, ``page``: the calls of the API
 - ``http``, ``bridge``: the application that listens, and the whole program over a connection
 """

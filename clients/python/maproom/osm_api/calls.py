@@ -12,9 +12,10 @@ from .connection import RoomConnection
 from .documents import Bounds, Change, ChangeAction, Changeset, ElementState, Limits, ResultRow, user_id
 from .elements import MOST_MEMBERS, MOST_NODES, is_in_world, units_of
 from .errors import ApiError, already_deleted, bad_request, no_connection, not_found
-from .ids import KINDS_BY_WORD, Kind, api_order, number_of, room_name
+from .ids import KINDS_BY_WORD, Kind, api_order, room_name
 from .page import MOST_ENTRIES, page
 from .planner import MOST_CHANGES
+from .preferences import Preferences
 from .room_map import Entry, RoomMap
 from .uploads import Upload, Uploads
 
@@ -23,6 +24,9 @@ PREFIX = "/api"
 
 # A list of changesets has so many at most, the latest ones.
 MOST_LISTED = 100
+
+# A new connection to the room usually takes less than so many seconds.
+RECONNECTION_SECONDS = 3
 
 UNREACHABLE = "The room cannot be reached at the moment. Nothing was done."
 BUSY = "An upload is still under way. Nothing was done."
@@ -89,7 +93,7 @@ class Calls:
                  clock: Callable[[], float] = time.time, note: Callable[[str], None] = lambda line: None) -> None:
         self.uploads = Uploads(room, room_map, seconds, note)
         self._room, self._map, self._seconds, self._note = room, room_map, seconds, note
-        self._changesets = Changesets(clock)
+        self._changesets, self._preferences = Changesets(clock), Preferences()
         self._limits = Limits(MOST_NODES, MOST_MEMBERS, MOST_CHANGES, max(1, int(seconds)))
         self._lock = asyncio.Lock()
         self._routes = self._all_routes()
@@ -102,7 +106,10 @@ class Calls:
             ("GET", r"versions", self._versions),
             ("GET", r"0\.6/permissions", self._permissions),
             ("GET", r"0\.6/user/details", self._user),
-            ("GET", r"0\.6/user/preferences", self._preferences),
+            ("GET", r"0\.6/user/preferences", self._all_preferences),
+            ("GET", r"0\.6/user/preferences/([^/]+)", self._preference),
+            ("PUT", r"0\.6/user/preferences/([^/]+)", self._put_preference),
+            ("DELETE", r"0\.6/user/preferences/([^/]+)", self._delete_preference),
             ("GET", r"0\.6/notes", self._notes),
             ("GET", r"0\.6/map", self._whole_map),
             ("GET", rf"0\.6/{kind}s", self._several),
@@ -162,13 +169,20 @@ class Calls:
         except TimeoutError:
             raise no_connection(BUSY) from None
         try:
-            if not self._room.is_open:
-                raise no_connection(UNREACHABLE)
+            await self._reached()
             await self.uploads.settled()
             answered = handler(request, *groups)
             return await answered if isinstance(answered, Awaitable) else answered
         finally:
             self._lock.release()
+
+    async def _reached(self) -> None:
+        """Waits a moment for a connection that is being made anew. Raises ApiError 503 if there is none."""
+        deadline = time.monotonic() + min(RECONNECTION_SECONDS, self._seconds)
+        while not self._room.is_open:
+            if time.monotonic() > deadline:
+                raise no_connection(UNREACHABLE)
+            await asyncio.sleep(0.02)
 
     def lost(self, request: Request, response: Response) -> None:
         """Keeps the answer of an upload, since the connection broke before the editor had it."""
@@ -193,9 +207,24 @@ class Calls:
         """Returns the details of the author, who has to be named."""
         return self._either(request, osm_json.user, osm_xml.user, request.named_author)
 
-    def _preferences(self, request: Request) -> Response:
-        """Returns an empty list: the bridge keeps no preferences."""
-        return self._either(request, osm_json.preferences, osm_xml.preferences)
+    def _all_preferences(self, request: Request) -> Response:
+        """Returns what editors keep for the author."""
+        values = self._preferences.all_of(request.author or "")
+        return self._either(request, osm_json.preferences, osm_xml.preferences, values)
+
+    def _preference(self, request: Request, key: str) -> Response:
+        """Returns a value that an editor keeps for the author."""
+        return Response(self._preferences.get(request.named_author, key))
+
+    def _put_preference(self, request: Request, key: str) -> Response:
+        """Keeps a value for the author."""
+        self._preferences.put(request.named_author, key, request.body)
+        return Response("")
+
+    def _delete_preference(self, request: Request, key: str) -> Response:
+        """Forgets a value of the author."""
+        self._preferences.delete(request.named_author, key)
+        return Response("")
 
     def _notes(self, request: Request) -> Response:
         """Returns an empty list: a room has no notes."""
@@ -385,7 +414,7 @@ class Calls:
             if entry.author != author:
                 others.insert(0, entry)
         text = page(self._room.room, author, request.base, len(room_map.elements), others,
-                    self.uploads.done_by(author), self.uploads.undone_by(author), message)
+                    self.uploads.done_by(author), self.uploads.undone_by(author), self._changesets.comments(), message)
         return Response(text, HTML, status)
 
     async def _undo(self, request: Request) -> Response:

@@ -56,6 +56,10 @@ class Changesets:
         """Closes a changeset. Raises ApiError 409."""
         self.writable(number, author).closed = self._clock()
 
+    def comments(self) -> dict[int, str]:
+        """Returns the comments of all changesets that are remembered and have one."""
+        return {number: each.tags["comment"] for number, each in self._changesets.items() if "comment" in each.tags}
+
     def latest_first(self) -> Iterator[Changeset]:
         """Yields all changesets that are remembered."""
         return reversed(self._changesets.values())

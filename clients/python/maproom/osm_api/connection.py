@@ -14,11 +14,13 @@ UNKNOWN = "unknown"
 
 # What refusals say, by their reasons. The fields in braces are those of the refusal.
 WORDS = {
+    "full": "the journal is full",
     "absent": "{el} is not in the room",
     "present": "{el} is in the room already",
     "in_use": "{by} refers to {el}",
     "out_of_range": "{el} would leave the range of latitudes or longitudes",
     "nothing_to_redo": "there is nothing to redo",
+    "not_sent": "the server was restarted before the message was sent",
     UNKNOWN: "the server was restarted before it answered",
 }
 
@@ -43,10 +45,12 @@ class News:
 
 @dataclass(frozen=True)
 class Accepted:
-    """The room accepted a message. `other` is the entry that an undo took back or a redo did again."""
+    """The room accepted a message. `other` is the entry that an undo took back or a redo did again. `run` is the run of
+    the server that has the entry, if that may be another one than when the message was sent."""
 
     seq: int
     other: int | None = None
+    run: int | None = None
 
 
 @dataclass(frozen=True)

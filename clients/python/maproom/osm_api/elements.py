@@ -20,6 +20,9 @@ NOT_IN_XML = re.compile("[^\t\n\r\u0020-\ud7ff\ue000-\ufffd\U00010000-\U0010ffff
 
 GONE_DIGEST = "gone"
 
+# Made once, because `json.dumps` would make an encoder for each element of a map.
+ENCODER = json.JSONEncoder(ensure_ascii=False, separators=(",", ":"))
+
 
 class Row(TypedDict, total=False):
     """An element. A node has ``lat`` and ``lon``, a way ``nodes``, a relation ``members``."""
@@ -70,7 +73,7 @@ def is_in_world(latitude: int, longitude: int) -> bool:
 
 def compact(value: Any) -> str:
     """Returns a value as compact JSON."""
-    return json.dumps(value, ensure_ascii=False, separators=(",", ":"))
+    return ENCODER.encode(value)
 
 
 def digest(row: Row | None) -> str:

@@ -15,6 +15,7 @@ from .calls import HTML, JSON, NO_NAME, TEXT, XML, Calls, Request, Response
 from .errors import ApiError, bad_request
 
 NAME = re.compile(r"[a-z0-9_]{1,32}")
+LOOPBACK = ("127.0.0.1", "localhost", "[::1]")
 MEBIBYTE = 2**20
 
 # With these statuses the connection is closed, since the rest of the request may not have been read. The header says
@@ -37,7 +38,7 @@ class Settings:
 
 def loopback_hosts(port: int) -> frozenset[str]:
     """Returns the values of the header Host for a port of this machine."""
-    return frozenset(f"{host}:{port}" for host in ("127.0.0.1", "localhost", "[::1]"))
+    return frozenset(f"{host}:{port}" for host in LOOPBACK)
 
 
 def application(calls: Calls, settings: Settings, note: Callable[[str], None] = lambda line: None) -> web.Application:
@@ -94,8 +95,13 @@ class Front:
         """Reads a request."""
         accepted = request.headers.get("Accept", "")
         return Request(request.method, request.path, dict(request.query), await self._body(request),
-                       self._author(request), wants_json(accepted), HTML in accepted,
-                       self._settings.public_url or f"http://{request.host}")
+                       self._author(request), wants_json(accepted), HTML in accepted, self._base(request))
+
+    def _base(self, request: web.Request) -> str:
+        """Returns the URL of the root as the client knows it. Behind a proxy it is only known if it was given."""
+        if request.host.rpartition(":")[0] in LOOPBACK:
+            return self._settings.public_url or f"http://{request.host}"
+        return self._settings.public_url
 
     async def _body(self, request: web.Request) -> bytes:
         """Returns the body of a request. Raises ApiError 400, 408 and 413."""

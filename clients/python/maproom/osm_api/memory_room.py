@@ -96,6 +96,12 @@ class MemoryRoom:
     async def redo(self, author: str) -> Answer:
         """Redoes what the author undid last."""
         await asyncio.sleep(0)
+        return self.redo_now(author)
+
+    def redo_now(self, author: str) -> Answer:
+        """Redoes what an author undid last."""
+        if len(self.journal) >= self.limit:
+            return Refusal("full")
         undone = self._redo.get(author)
         if not undone:
             return Refusal("nothing_to_redo")
@@ -135,11 +141,15 @@ class MemoryRoom:
                 self._do(draft, action)
             except Refused as fault:
                 return Refusal(fault.refusal.why, {"action": at, **fault.refusal.fields})
+        if all(is_same(row, self.elements.get(name)) for name, row in draft.items()):
+            return Refusal("nothing")
         self._redo.pop(author, None)
         return Accepted(self._enter(author, draft, True))
 
     def take_back(self, author: str, seq: int) -> Answer:
         """Undoes an entry, unless a later active entry changed one of its elements."""
+        if len(self.journal) >= self.limit:
+            return Refusal("full")
         if seq > len(self.journal):
             return Refusal("no_such")
         entry = self.journal[seq - 1]

@@ -1,5 +1,5 @@
 """Documents of the API in JSON, which only the bridge writes."""
-from collections.abc import Iterable
+from collections.abc import Iterable, Mapping
 from typing import Any
 
 from .documents import Bounds, Changeset, ElementState, Limits, instant, user_id
@@ -79,9 +79,9 @@ def changesets(given: Iterable[Changeset]) -> str:
     return document({"changesets": [changeset_value(each) for each in given]})
 
 
-def preferences() -> str:
-    """Returns a mapper's preferences, of which the bridge keeps none."""
-    return document({"preferences": {}})
+def preferences(values: Mapping[str, str]) -> str:
+    """Returns a mapper's preferences."""
+    return document({"preferences": dict(values)})
 
 
 def versions() -> str:

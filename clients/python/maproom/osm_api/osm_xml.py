@@ -1,5 +1,5 @@
 """Documents of the API in XML: read from editors, and written for them."""
-from collections.abc import Iterable, Iterator, Sequence
+from collections.abc import Iterable, Iterator, Mapping, Sequence
 from xml.etree.ElementTree import Element, ParseError, tostring
 from xml.sax.saxutils import quoteattr
 
@@ -168,9 +168,10 @@ def user(name: str) -> str:
         '<messages><received count="0" unread="0"/><sent count="0"/></messages>', "</user>"])
 
 
-def preferences() -> str:
-    """Returns a mapper's preferences, of which the bridge keeps none."""
-    return document(["<preferences/>"])
+def preferences(values: Mapping[str, str]) -> str:
+    """Returns a mapper's preferences."""
+    parts = [f"<preference k={attribute(key)} v={attribute(value)}/>" for key, value in values.items()]
+    return document(["<preferences>", *parts, "</preferences>"] if parts else ["<preferences/>"])
 
 
 def changeset(given: Changeset) -> str:

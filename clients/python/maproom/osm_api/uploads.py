@@ -12,7 +12,7 @@ from .connection import UNKNOWN, Accepted, Answer, Refusal, RoomConnection
 from .documents import Change, ResultRow
 from .elements import digest, is_same
 from .errors import ApiError, bad_request, no_connection
-from .ids import KINDS_BY_WORD, api_id
+from .ids import KINDS_BY_WORD, api_id, room_name
 from .ledger import FIRST_VERSION, Known, PendingUpload
 from .planner import Plan, Planned, plan_upload
 from .room_map import RoomMap, rows_are
@@ -23,11 +23,16 @@ MOST_TRIES = 4
 # to be undone.
 MOST_KEPT, MOST_DONE = 100, 1_000
 
+# After so many seconds an editor has the answer to its upload.
+ANSWERED_SECONDS = 10
+
 # An error names so many elements at most.
 MOST_NAMED = 20
 
 BROKEN = "The connection to the room broke. Nothing of this upload stays in the room: if the room accepted it, it " \
          "is undone."
+LOST = "The server was restarted while the upload was on its way, and cannot be reached since. Update the data to " \
+       "see whether the room has the upload."
 UNSETTLED = "An earlier upload is still on its way to the room. Nothing of this upload was sent."
 FULL = "The room's journal is full, so nothing was uploaded. Ask who runs the server to save the map and start it " \
        "again."
@@ -138,12 +143,15 @@ class Uploads:
             if isinstance(answer, Refusal):
                 if answer.why == "nothing" and "action" not in answer.fields:  # the actions cancel each other out
                     return Outcome(None, attempt.versions)
-                return self._after_restart(attempt) if answer.why == UNKNOWN else Outcome(answer, {})
-            seq = answer.seq
+                if answer.why != UNKNOWN:
+                    return Outcome(answer, {})
+                await self._in_time(self._room.catch_up(), ApiError(409, LOST))
+                return self._after_restart(attempt)
+            seq, run = answer.seq, attempt.run if answer.run is None else answer.run
             self._undone.pop(attempt.upload.author, None)  # as the room forgets what its author could redo
-            await self._in_time(self._seen(seq, attempt.run), no_connection(BROKEN),
+            await self._in_time(self._seen(seq, run), no_connection(BROKEN),
                                 lambda: self._settle_soon(self._undo_given_up(attempt, seq)))
-            if self._map.run != attempt.run:
+            if self._map.run != run:
                 return self._after_restart(attempt)
             outcome = self._compared(attempt, seq)
             if outcome.refusal is None:
@@ -161,14 +169,39 @@ class Uploads:
         results = tuple((each.kind.value, each.old_id, each.name, self._planned_digest(plan, each.name))
                         for each in plan.results)
 
+        is_announced = False
+
         def announce(message: int) -> None:
+            nonlocal is_announced
+            if sent.cancelling():
+                raise asyncio.CancelledError
+            is_announced = True
             self._ledger.begin(PendingUpload(upload.request, upload.author, upload.changeset, message, results))
 
-        sent = asyncio.ensure_future(self._room.send_group(upload.author, plan.actions, announce))
-        answer = await self._in_time(asyncio.shield(sent), no_connection(BROKEN),
-                                     lambda: self._settle_soon(self._give_up(attempt, sent)))
-        self._ledger.settle(upload.request)
+        def give_up() -> None:
+            if is_announced:
+                self._settle_soon(self._give_up(attempt, sent))
+            else:  # it waits for a session of its author, and was not sent
+                sent.cancel()
+
+        sent = asyncio.create_task(self._room.send_group(upload.author, plan.actions, announce))
+        answer = await self._in_time(asyncio.shield(sent), no_connection(BROKEN), give_up)
+        if isinstance(answer, Accepted):
+            self._settle_later(upload.request)
+        else:
+            self._ledger.settle(upload.request)
         return answer
+
+    def _settle_later(self, request: str) -> None:
+        """Has the ledger forget an accepted upload after a while. If the bridge is killed before the editor has the
+        answer, the next bridge can still give it."""
+        pending = self._ledger.pending[request]
+
+        def settle() -> None:
+            if self._ledger.pending.get(request) is pending:
+                self._ledger.settle(request)
+
+        asyncio.get_running_loop().call_later(ANSWERED_SECONDS, settle)
 
     def _planned_digest(self, plan: Plan, name: str | None) -> str:
         """Returns the digest of an element as a plan leaves it."""
@@ -202,10 +235,11 @@ class Uploads:
 
     async def _take_back(self, attempt: Attempt, seq: int, conflict: Refusal) -> None:
         """Undoes a group that was accepted over others' changes. Raises ApiError 409 if the room refuses that."""
+        self._ledger.settle(attempt.upload.request)
         answer = await self._in_time(self._room.undo(attempt.upload.author, seq), no_connection(BROKEN),
                                      lambda: self._settle_soon(self._undo_given_up(attempt, seq)))
         if isinstance(answer, Accepted):
-            await self._in_time(self._seen(answer.seq, attempt.run), no_connection(BROKEN))
+            await self._in_time(self._seen(answer.seq, self._map.run), no_connection(BROKEN))
         elif answer.why != "not_standing":  # the author's other client undid it already
             authors = self._room.authors
             self._remember(attempt.upload, seq)
@@ -262,7 +296,7 @@ class Uploads:
                 self._settling = None
         self._settling = asyncio.get_running_loop().create_task(settle())
 
-    async def _give_up(self, attempt: Attempt, sent: "asyncio.Future[Answer]") -> None:
+    async def _give_up(self, attempt: Attempt, sent: "asyncio.Task[Answer]") -> None:
         """Waits for the answer to an upload that was given up, and undoes it if the room accepted it."""
         answer = await sent
         self._ledger.settle(attempt.upload.request)
@@ -272,27 +306,43 @@ class Uploads:
     async def _undo_given_up(self, attempt: Attempt, seq: int) -> None:
         """Undoes an upload that was given up. Versions are as before, since nobody saw it."""
         author = attempt.upload.author
+        self._ledger.settle(attempt.upload.request)
         self._undone.pop(author, None)
         answer = await self._room.undo(author, seq)
         if isinstance(answer, Accepted):
             await self._seen(answer.seq, attempt.run)
-            self._map.restore(attempt.before)
+        elif answer.why == "not_standing":  # an undo whose answer was lost
+            await self._room.catch_up()
         else:
             self._note(f"{author}'s upload, entry {seq}, stays: {answer.in_words(self._room.authors)}")
+            return
+        self._map.restore(attempt.before)
 
     async def recover(self) -> list[PendingUpload]:
         """Asks the room about the uploads that a killed bridge had sent. The answers of those that it accepted are
-        kept, since the editor may repeat the request. Returns those uploads."""
+        kept, since the editor may repeat the request. Returns those uploads.
+
+        If the server was restarted as well, it does not know the message. Then the map shows whether it was accepted,
+        and the upload cannot be undone."""
         accepted = []
         for pending in list(self._ledger.pending.values()):
             seq = await self._room.entry_of(pending.author, pending.message)
+            planned = [Planned(KINDS_BY_WORD[word], old, name) for word, old, name, _ in pending.results]
             if seq is not None:
-                planned = [Planned(KINDS_BY_WORD[word], old, name) for word, old, name, _ in pending.results]
-                self.keep(pending.request, results_of(planned, self._recovered_versions(pending)))
                 self._remember(Upload(pending.author, pending.changeset, (), pending.request), seq, len(planned))
+            if seq is not None or self._is_in_map(pending):
+                self.keep(pending.request, results_of(planned, self._recovered_versions(pending)))
                 accepted.append(pending)
             self._ledger.settle(pending.request)
         return accepted
+
+    def _is_in_map(self, pending: PendingUpload) -> bool:
+        """Returns whether the map has an element that an upload created, or all its elements as it left them."""
+        found = []
+        for word, old, name, state in pending.results:
+            known = self._ledger.known.get(name or room_name(KINDS_BY_WORD[word], old))
+            found.append((old, known is not None and known.digest == state))
+        return any(is_there for old, is_there in found if old < 0) or all(is_there for _, is_there in found)
 
     def _recovered_versions(self, pending: PendingUpload) -> dict[str, int]:
         """Returns the versions for the editor of an upload that was sent by a killed bridge.
@@ -355,7 +405,7 @@ class Uploads:
         if isinstance(answer, Refusal):
             raise ApiError(409, f"The upload cannot be redone: {answer.in_words(self._room.authors)}")
         last = undone[-1]
-        if answer.other != last.seq:  # another program of the author undid something since
+        if answer.other not in (None, last.seq):  # another program of the author undid something since
             return f"Redone: entry {answer.other}"
         undone.pop()
         again = Done(answer.seq, last.changeset, last.count, self._map.clock())
