@@ -11,6 +11,7 @@ from .websocket import TEXT, Broken, Client
 
 # What keys are called, beside letters: their codes.
 KEYS = {"Enter": 13, "Escape": 27, "Tab": 9, "ArrowLeft": 37, "ArrowUp": 38, "ArrowRight": 39, "ArrowDown": 40}
+KEYS |= {"Backspace": 8, "Delete": 46, " ": 32, "+": 187}
 
 
 @contextlib.contextmanager
@@ -76,9 +77,10 @@ class Page:
         """Asks the browser of this page."""
         return self.owner.ask(method, self.session, **how)
 
-    def resize(self, width, height):
-        """Gives the window another size."""
-        self.ask("Emulation.setDeviceMetricsOverride", width=width, height=height, deviceScaleFactor=1, mobile=False)
+    def resize(self, width, height, is_phone=False):
+        """Gives the window another size, perhaps that of a phone with a screen that is touched."""
+        self.ask("Emulation.setDeviceMetricsOverride", width=width, height=height, deviceScaleFactor=1, mobile=is_phone)
+        self.ask("Emulation.setTouchEmulationEnabled", enabled=is_phone, maxTouchPoints=5)
 
     def get(self, expression):
         """The value of an expression in the page."""
@@ -92,6 +94,18 @@ class Page:
         wait_for(lambda: f"{expression} does not come; the page has {self.get('document.body.innerText')!r}"[:1500],
                  lambda: self.get(f"!!({expression})"))
 
+    def reload(self):
+        """Loads the page anew."""
+        self.get("void (window.isOld = true)")
+        self.ask("Page.reload")
+
+        def is_new():
+            with contextlib.suppress(Broken):
+                return self.get("!window.isOld && document.readyState === 'complete'")
+            return False
+
+        wait_for("the page does not come again", is_new)
+
     def wait_text(self, selector, text):
         """Waits until an element has a text somewhere in it."""
         self.wait(f"document.querySelector({json.dumps(selector)})?.textContent.includes({json.dumps(text)})")
@@ -104,6 +118,28 @@ class Page:
         """Clicks at a point of the window."""
         self.mouse("mousePressed", x, y)
         self.mouse("mouseReleased", x, y)
+
+    def double_click_at(self, x, y):
+        """Clicks twice at a point of the window."""
+        self.click_at(x, y)
+        self.mouse("mousePressed", x, y, clickCount=2)
+        self.mouse("mouseReleased", x, y, clickCount=2)
+
+    def fingers(self, kind, *points):
+        """Tells the page where fingers are: `touchStart`, `touchMove` or `touchEnd`."""
+        places = [{"x": x, "y": y, "id": number} for number, (x, y) in enumerate(points)]
+        self.ask("Input.dispatchTouchEvent", type=kind, touchPoints=places)
+
+    def tap(self, x, y):
+        """Taps with a finger."""
+        self.fingers("touchStart", (x, y))
+        self.fingers("touchEnd")
+
+    def tree(self):
+        """The role and the name of each element that a screen reader is told of."""
+        nodes = self.ask("Accessibility.getFullAXTree")["nodes"]
+        value = lambda node, key: node.get(key, {}).get("value", "")
+        return [(value(node, "role"), value(node, "name")) for node in nodes if not node.get("ignored")]
 
     def drag(self, one, other):
         """Drags from one point of the window to another."""

@@ -1,0 +1,614 @@
+// The page: a session in a room, its map, its tools and its lists.
+"use strict";
+
+const given = new URLSearchParams(location.search);
+
+// Storage of the browser, which may be refused.
+const memory = {
+  get(key) {
+    try {
+      return JSON.parse(localStorage.getItem(key)) ?? {};
+    } catch {
+      return {};
+    }
+  },
+  set(key, value) {
+    try {
+      localStorage.setItem(key, JSON.stringify(value));
+    } catch {
+      // The page works without it.
+    }
+  },
+};
+
+// Does something when the browser has time.
+function whenIdle(work) {
+  if (window.requestIdleCallback) requestIdleCallback(work, { timeout: 1000 });
+  else setTimeout(work, 200);
+}
+
+class Page {
+  constructor() {
+    Object.assign(this, { session: null, selected: [], isHint: false, isByKeys: false });
+    this.timings = { map: 0, news: 0, find: 0 }; // milliseconds of script
+    this.shapes = new Shapes();
+    this.tools = new Tools(this);
+    this.panels = new Panels(this);
+  }
+
+  get elements() {
+    return this.session?.elements ?? new Map();
+  }
+
+  // Makes the map, once Leaflet is there.
+  makeMap() {
+    this.view = new View($("map"), this.shapes, {
+      paintOver: (context, frame) => this.tools.paintOver(context, frame),
+      labels: (box, zoom) => labelsIn(this, box, zoom),
+    });
+    this.view.hear(this.tools);
+  }
+
+  // ---- The session
+
+  connect(url, roomName, name) {
+    const session = new Session(url, roomName, name);
+    if (this.session && (this.session.url !== url || this.session.roomName !== roomName)) this.forgetRoom();
+    this.session = session;
+    const hear = (type, work) => session.addEventListener(type, (event) => session === this.session && work(event));
+    hear("state", () => this.showState());
+    hear("unsaved", () => this.showSaved());
+    hear("map", (event) => this.takeMap(event));
+    hear("change", ({ entry, rows }) => this.takeChange(entry, rows));
+    hear("history", () => this.showHistory());
+    hear("conflict", () => this.showConflict());
+    memory.set("maproom last", { url, room: roomName, name });
+    session.open();
+    return session;
+  }
+
+  // What was typed, drawn and selected in one room is nothing for another.
+  forgetRoom() {
+    this.tools.use("select");
+    this.selected = [];
+    this.panels.typed.clear();
+  }
+
+  leave() {
+    if (!this.mayLeave() && !confirm("Something is not saved. Leave all the same?")) return;
+    this.session?.end();
+  }
+
+  mayLeave() {
+    return !this.session?.unsaved && !this.tools.draft?.places.length && this.panels.typedElements().length === 0;
+  }
+
+  // Takes the whole map.
+  takeMap({ isFirst, restarted }) {
+    const began = performance.now();
+    this.shapes.reset(this.elements);
+    this.panels.texts = null;
+    this.selected = this.selected.filter((el) => this.elements.has(el));
+    this.tools.refreshDraft();
+    this.view.painted = null;
+    if (isFirst) this.fit();
+    if (!this.view.painted) this.view.paint();
+    this.timings.map = performance.now() - began;
+    if (restarted) this.say("The server was started anew. This is the map that it has now.");
+    setTimeout(() => this.panels.showAll(), 50); // after the map is seen
+    whenIdle(() => this.prepare());
+  }
+
+  // Makes ahead what the first change and the first search would wait for.
+  prepare() {
+    this.shapes.usersOf(1);
+    this.panels.searchTexts();
+  }
+
+  // Takes what an entry changed.
+  takeChange(entry, rows) {
+    const began = performance.now();
+    const boxes = this.shapes.change(rows);
+    const isOther = entry.by !== this.session.name;
+    if (isOther) this.tools.markFresh(rows.filter(({ after }) => after).map(({ el }) => el), entry.by);
+    this.view.repaint(boxes);
+    this.panels.showChange(entry);
+    for (const { el, after } of rows) this.panels.learnText(el, after);
+    this.tools.refreshDraft();
+    this.refreshSelected(rows);
+    if (rows.some(({ el }) => el[0] === "r")) this.panels.showRelations();
+    if (isOther) this.announce(`${entry.by} ${this.session.deed(entry)}`);
+    this.afterwards();
+    this.timings.news = performance.now() - began;
+  }
+
+  refreshSelected(rows) {
+    const changed = new Set(rows.map(({ el }) => el));
+    const there = this.selected.filter((el) => this.elements.has(el));
+    const isGone = there.length < this.selected.length;
+    this.selected = there;
+    const isChanged = (el) => changed.has(el) || this.elements.get(el).nodes?.some((id) => changed.has(nodeOf(id)));
+    if (isGone || there.some(isChanged)) this.panels.showSelected();
+  }
+
+  // Shows what may come a little later than the news.
+  afterwards() {
+    clearTimeout(this.later);
+    this.later = setTimeout(() => {
+      this.panels.showPeople();
+      this.panels.showFigures();
+    }, 100);
+  }
+
+  showHistory() {
+    this.panels.showUndos();
+    clearTimeout(this.changesLater);
+    this.changesLater = setTimeout(() => {
+      this.panels.showChanges();
+      this.panels.showPeople();
+    }, 50);
+  }
+
+  showConflict() {
+    const { conflict } = this.session;
+    this.panels.showUndos();
+    this.panels.showChanges();
+    if (!conflict && this.isConflictSaid) this.say("What was in the way is gone.");
+    this.isConflictSaid = Boolean(conflict);
+    this.view.paintOverSoon();
+  }
+
+  showState() {
+    const { state, text, isBad, name, roomName } = this.session;
+    const isInside = Boolean(this.session.room) && state !== "closed";
+    document.body.classList.toggle("inside", isInside);
+    $("hello").hidden = isInside;
+    $("here").hidden = !isInside;
+    $("who").textContent = `${name} in ${roomName}`;
+    const usual = { open: "Connected", closed: "Not connected" };
+    const shown = state === "closed" ? usual.closed : text || usual[state];
+    Object.assign($("state"), { textContent: shown, className: isBad ? "bad" : "" });
+    $("connect").textContent = state === "closed" || isInside ? "Connect" : "Stop";
+    if (state === "closed") {
+      if (text) this.say(text, { isRefusal: true });
+      this.tools.use("select");
+    }
+    this.showSaved();
+  }
+
+  showSaved() {
+    const { session } = this;
+    const parts = [];
+    if (session?.unsaved) parts.push(`${counted(session.unsaved, "change")} not saved`);
+    const typed = this.panels.typedElements().length;
+    if (typed) parts.push(`tags of ${typed === 1 ? "an element" : `${typed} elements`} not saved`);
+    const isInside = session?.room && session.state !== "closed";
+    $("saved").textContent = parts.join(", ") || (isInside ? "All saved" : "");
+    $("saved").className = parts.length ? "not" : "";
+  }
+
+  // ---- What is said
+
+  // Says something below the map. A refusal stays until it is closed or something else is said.
+  say(text, { isRefusal = false, show = null } = {}) {
+    this.isHint = false;
+    $("said").textContent = text;
+    $("said").setAttribute("role", isRefusal ? "alert" : "status");
+    $("message").className = isRefusal ? "refused" : text ? "" : "empty";
+    $("hush").hidden = !isRefusal;
+    this.shown = show;
+    $("show").hidden = !this.elements.has(show);
+  }
+
+  sayWrong(text) {
+    this.say(text, { isRefusal: true });
+  }
+
+  // Tells a screen reader what others do, a few times a second at most.
+  announce(text) {
+    const log = $("news");
+    log.append(make("p", { textContent: text }));
+    while (log.children.length > 5) log.firstChild.remove();
+  }
+
+  refused(error) {
+    const no = error.no ?? {};
+    if (no.why === "conflict") return this.sayConflict(no);
+    this.say(sentenceOf(error), { isRefusal: true, show: no.by ?? no.el ?? null });
+  }
+
+  sayConflict(no) {
+    const { session } = this;
+    const by = session.authorOf(no.with);
+    const whose = by === session.name ? "your" : by ? `${by}'s` : "an earlier";
+    const row = this.elements.get(no.at);
+    const deed = session.entries.has(no.with) ? ` (${session.textOf(no.with)})` : "";
+    const what = row ? titleOf(row) : no.at;
+    const text = `Not taken back: ${whose} entry ${no.with}${deed} also touched ${what}.`;
+    this.say(`${text} It has to be taken back first.`, { isRefusal: true, show: no.at });
+    this.isConflictSaid = true;
+  }
+
+  tellWhere(point) {
+    const { x, y } = point ? this.view.positionAt(point) : { x: NaN, y: 0 };
+    $("where").textContent = Number.isNaN(x) ? "" : `${Mercator.lat(y).toFixed(5)}, ${Mercator.lon(x).toFixed(5)}`;
+  }
+
+  tellUnder(el, point) {
+    const row = el && this.elements.get(el);
+    $("under").textContent = row && point ? titleOf(row) : "";
+    if (row && point) Object.assign($("under").style, { left: `${point.x + 14}px`, top: `${point.y + 12}px` });
+  }
+
+  titles(els) {
+    const rows = els.map((el) => this.elements.get(el)).filter(Boolean);
+    return rows.length === 1 ? titleOf(rows[0]) : counted(rows.length, "element");
+  }
+
+  openMenu(point, items) {
+    const { x } = this.view.size();
+    const close = (work) => () => {
+      this.closeMenu();
+      work();
+    };
+    $("menu").replaceChildren(...items.map(([text, work]) => button(text, close(work), { role: "menuitem" })));
+    $("menu").hidden = false;
+    Object.assign($("menu").style, { left: `${Math.max(4, Math.min(point.x, x - 200))}px`, top: `${point.y}px` });
+    const over = $("menu").offsetTop + $("menu").offsetHeight - this.view.size().y;
+    if (over > 0) $("menu").style.top = `${Math.max(4, point.y - over - 4)}px`;
+    $("menu").firstChild.focus();
+  }
+
+  closeMenu() {
+    $("menu").hidden = true;
+  }
+
+  // ---- What is done
+
+  // Does a gesture and says so, or says what refused it.
+  async perform(text, build, done = () => {}, failed = () => {}) {
+    const { session } = this;
+    if (!session?.room || session.isOver) return this.sayWrong("Connect first.");
+    try {
+      const names = await session.perform(text, build);
+      if (session !== this.session) return undefined;
+      this.say(`Saved: ${text}.`);
+      return done(names);
+    } catch (error) {
+      if (!error.why) console.error(error);
+      failed(error);
+      this.refused(error);
+    }
+    return undefined;
+  }
+
+  async undo(seqs) {
+    await this.tryThat(async () => this.say(`Taken back: ${await this.session.undo(seqs)}.`));
+  }
+
+  async redo() {
+    await this.tryThat(async () => this.say(`Done again: ${await this.session.redo()}.`));
+  }
+
+  async tryThat(work) {
+    try {
+      if (this.session?.room) await work();
+    } catch (error) {
+      this.refused(error);
+    }
+  }
+
+  deleteSelected(isEverywhere = false) {
+    const els = this.selected.filter((el) => this.elements.has(el));
+    if (els.length === 0) return;
+    const parents = els.flatMap((el) => this.shapes.parentsOf(el)).filter((el) => !els.includes(el));
+    if (parents.length && !isEverywhere) {
+      const [parent] = parents;
+      const rest = parents.length > 1 ? ` and ${parents.length - 1} more` : "";
+      const what = `${titleOf(this.elements.get(parent))}${rest}`;
+      const text = `${what} uses this. “Delete everywhere” takes it out there too.`;
+      return this.say(text, { isRefusal: true, show: parent });
+    }
+    const actions = Edits.delete(els, this.elements, this.shapes, isEverywhere);
+    const gone = actions.filter(({ do: word }) => word !== "nodes").length;
+    const rest = gone > els.length ? ` with ${counted(gone - els.length, "element")} that nothing else needs` : "";
+    this.perform(`deleted ${this.titles(els)}${rest}`,
+      () => Edits.delete(els.filter((el) => this.elements.has(el)), this.elements, this.shapes, isEverywhere));
+  }
+
+  join(one, other) {
+    const build = () => Edits.join(one, other, this.elements) ?? [];
+    this.perform(`joined ${one} and ${other}`, build, () => this.select(this.elements.has(one) ? one : other));
+  }
+
+  merge(one, other) {
+    const build = () => [{ do: "merge", el: one, with: other }];
+    this.perform(`merged ${other} into ${one}`, build, () => this.select(one));
+  }
+
+  split(el, at) {
+    this.perform(`split ${this.titles([el])}`, (newName) => [{ do: "split", el, at, into: newName("w") }],
+      ([into]) => this.select(into));
+  }
+
+  unglue(node, el, at) {
+    const build = (newName) => [{ do: "unglue", el, at, into: newName("n") }];
+    this.perform(`unglued ${el} from ${node}`, build, ([into]) => {
+      this.select(into);
+      this.say(`${el} has ${into} now, where it had ${node}: drag it away.`);
+    });
+  }
+
+  moveTo(row, lat, lon) {
+    const [north, east] = [degreesOf(lat, 90), degreesOf(lon, 180)];
+    if (north === null) return this.sayWrong("The latitude is a number from -90 to 90, such as 47.1234567.");
+    if (east === null) return this.sayWrong("The longitude is a number from -180 to 180, such as 9.5212345.");
+    const [dlat, dlon] = [Math.round((north - row.lat) * 1e7), Math.round((east - row.lon) * 1e7)];
+    this.perform(`moved ${titleOf(row)}`, () => [{ do: "move", els: [row.el], dlat, dlon }]);
+  }
+
+  saveNodes(el, text) {
+    const nodes = text.split(/[\s,]+/).filter(Boolean).map((word) => Number(word.replace(/^n/, "")));
+    const wrong = nodes.findIndex((id) => !Number.isSafeInteger(id) || id === 0);
+    if (wrong >= 0) return this.sayWrong("The nodes of a way are their numbers, with spaces between them.");
+    this.perform(`changed the line of ${this.titles([el])}`, () => [{ do: "nodes", el, nodes }]);
+  }
+
+  makeRelation(els) {
+    const members = els.map((el) => [el, ""]);
+    const build = (newName) => [{ do: "create", el: newName("r"), members, tags: {} }];
+    this.perform(`made a relation of ${this.titles(els)}`, build, ([el]) => this.select(el));
+  }
+
+  toggleMember(relation, el) {
+    const row = this.elements.get(relation);
+    if (!row) return this.tools.use("select");
+    const isMember = row.members.some(([name]) => name === el);
+    const members = isMember ? row.members.filter(([name]) => name !== el) : [...row.members, [el, ""]];
+    const what = isMember ? `removed ${el} from` : `added ${el} to`;
+    this.perform(`${what} ${titleOf(row)}`, () => [{ do: "members", el: relation, members }]);
+  }
+
+  // ---- Selecting and showing
+
+  select(...els) {
+    this.selected = els.filter((el) => this.elements.has(el));
+    this.panels.showSelected(true);
+    this.panels.showTyped();
+    this.view.paintOverSoon();
+  }
+
+  // Selects an element, and has it in the window.
+  show(el) {
+    const row = this.elements.get(el);
+    if (!row) return;
+    this.select(el);
+    const box = emptyBox();
+    for (const [name] of row.members ?? [[el]]) if (name[0] !== "r") stretchBy(box, this.shapes.boxOf(name));
+    this.view.show(box);
+  }
+
+  // Shows where an entry was, also if it deleted what was there.
+  showEntry({ rows }) {
+    const box = emptyBox();
+    for (const { el, before } of rows) {
+      stretchBy(box, this.shapes.boxOf(el));
+      if (before?.lat !== undefined) stretch(box, Mercator.x(before.lon), Mercator.y(before.lat));
+    }
+    if (isEmptyBox(box)) return this.say("What that entry changed is nowhere on the map now.");
+    this.view.fit(box, Math.max(17, Math.min(19, this.view.zoom)));
+    const there = rows.filter(({ after }) => after && this.elements.has(after.el)).map(({ el }) => el);
+    if (there.length) this.select(...there.slice(0, 50));
+  }
+
+  fit() {
+    this.view.fit(this.shapes.whole());
+  }
+
+  // A link that fills in the address and the room.
+  link() {
+    const fields = { address: this.session.url, room: this.session.roomName };
+    const { url, credit } = this.tiles ?? {};
+    if (url) Object.assign(fields, { tiles: url, credit });
+    return `${location.href.split(/[?#]/)[0]}?${new URLSearchParams(fields)}`;
+  }
+
+  async share() {
+    const link = this.link();
+    try {
+      await navigator.clipboard.writeText(link);
+      this.say("The link is copied. It fills in the address and the room; everybody gives a name of their own.");
+    } catch {
+      prompt("Copy this link:", link);
+    }
+  }
+}
+
+// A number of degrees that somebody typed, or null.
+function degreesOf(text, most) {
+  const isNumber = /^-?\d{1,3}([.,]\d+)?$/.test(text.trim());
+  const value = Number(text.trim().replace(",", "."));
+  return isNumber && Math.abs(value) <= most ? value : null;
+}
+
+// ---- Labels
+
+// The name of an element on the map: a number of a house only where there is room for it.
+const labelOf = (row, zoom) => row.tags.name ?? row.tags.ref ?? (zoom >= 17.75 ? row.tags["addr:housenumber"] : null);
+
+// The names in a box, the most important first.
+function* labelsIn(page, box, zoom) {
+  const { shapes, elements } = page;
+  let count = 0;
+  const inWindow = (x, y) => x > box.west && x < box.east && y > box.north && y < box.south;
+  for (const slot of shapes.slotsIn(box, Math.min(zoom, 15))) {
+    const row = elements.get(shapes.names[slot]);
+    const name = row && labelOf(row, zoom);
+    if (!name || (zoom < 16 && !row.tags.place)) continue;
+    yield { text: name, x: shapes.xs[slot], y: shapes.ys[slot], lift: -12 };
+    if ((count += 1) > 150) return;
+  }
+  if (zoom < 15.5) return;
+  for (const way of shapes.ways.values()) {
+    if (!doMeet(way, box) || way.slots.length === 0) continue;
+    const row = elements.get(way.el);
+    const name = row && labelOf(row, zoom);
+    if (!name) continue;
+    const centre = { x: (way.west + way.east) / 2, y: (way.north + way.south) / 2 };
+    const label = way.isClosed ? centre : middleOf(shapes, way);
+    if (!inWindow(label.x, label.y)) continue;
+    yield { text: name, ...label };
+    if ((count += 1) > 400) return;
+  }
+}
+
+// The middle of a way's longest segment, and its direction.
+function middleOf({ xs, ys }, { slots }) {
+  let [best, longest] = [0, -1];
+  for (let index = 1; index < slots.length; index++) {
+    const length = Math.hypot(xs[slots[index]] - xs[slots[index - 1]], ys[slots[index]] - ys[slots[index - 1]]);
+    if (length > longest) [best, longest] = [index, length];
+  }
+  const [one, other] = [slots[Math.max(0, best - 1)], slots[best]];
+  const angle = Math.atan2(ys[other] - ys[one], xs[other] - xs[one]);
+  const upright = Math.abs(angle) > Math.PI / 2 ? angle + Math.PI : angle;
+  return { x: (xs[one] + xs[other]) / 2, y: (ys[one] + ys[other]) / 2, angle: upright };
+}
+
+// ---- The background
+
+// Offers the tiles of the address, those that were typed last, and others.
+class Background {
+  constructor(page) {
+    this.page = page;
+    const last = memory.get("maproom tiles");
+    this.choices = [{ label: "nothing", url: "", credit: "" }];
+    const [url, credit] = [given.get("tiles"), given.get("credit") ?? ""];
+    if (url) this.choices.push({ label: "tiles of the link", url, credit });
+    if (last.url && last.url !== url) this.choices.push({ label: "tiles used last", ...last });
+    const options = this.choices.map(({ label }, at) => new Option(label, at));
+    $("tiles-choice").replaceChildren(...options, new Option("other tiles ..", "own"));
+    $("tiles-choice").onchange = () => this.choose();
+    $("tiles").onsubmit = (event) => {
+      event.preventDefault();
+      this.useOwn();
+    };
+    if (url) this.use(this.choices[1], 1);
+  }
+
+  choose() {
+    const { value } = $("tiles-choice");
+    $("tiles-own").hidden = value !== "own";
+    if (value !== "own") this.use(this.choices[value], value);
+  }
+
+  use(choice, at) {
+    $("tiles-choice").value = at;
+    this.page.tiles = choice.url ? choice : null;
+    this.page.view.setTiles(choice.url, choice.credit);
+  }
+
+  useOwn() {
+    const own = { url: $("tiles-url").value.trim(), credit: $("tiles-credit").value.trim() };
+    if (!/^https?:\/\/.*\{z\}/.test(own.url) || !own.url.includes("{x}") || !/\{-?y\}/.test(own.url)) {
+      return this.page.say("The address of tiles has {z}, {x} and {y} in it.", { isRefusal: true });
+    }
+    memory.set("maproom tiles", own);
+    this.page.tiles = own;
+    this.page.view.setTiles(own.url, own.credit);
+  }
+}
+
+// ---- Start
+
+// The address of the server that is filled in: behind a proxy a room has a path of its own.
+function usualAddress(room) {
+  if (location.protocol === "https:") return `wss://${location.host}/${room}`;
+  const isHere = location.protocol === "file:" || ["127.0.0.1", "localhost", "[::1]"].includes(location.hostname);
+  return isHere ? "ws://127.0.0.1:9001" : `ws://${location.host}/${room}`;
+}
+
+function fillIn() {
+  const last = memory.get("maproom last");
+  $("name").value = given.get("name") ?? last.name ?? "";
+  $("room").value = given.get("room") ?? (given.has("address") ? "" : last.room ?? "");
+  const isLast = !given.has("room") && last.url;
+  $("address").value = given.get("address") ?? (isLast ? last.url : usualAddress($("room").value));
+  let isUsual = !given.has("address") && !isLast;
+  $("address").oninput = () => (isUsual = false);
+  $("room").oninput = () => {
+    if (isUsual) $("address").value = usualAddress($("room").value);
+  };
+}
+
+function listen(page) {
+  const { tools, panels } = page;
+  $("hello").onsubmit = (event) => {
+    event.preventDefault();
+    if (page.session && !page.session.isOver) return page.session.end();
+    page.connect($("address").value.trim(), $("room").value, $("name").value);
+  };
+  const clicks = {
+    leave: () => page.leave(), share: () => page.share(), undo: () => page.undo(), redo: () => page.redo(),
+    closer: () => page.view.zoomBy(1), farther: () => page.view.zoomBy(-1), fit: () => page.fit(),
+    finish: () => tools.finish(), back: () => tools.removeLast(), cancel: () => tools.escape(),
+    show: () => page.show(page.shown), hush: () => page.say(""), sheet: () => openSheet(),
+  };
+  for (const id of ["select", "point", "line", "area"]) clicks[id] = () => tools.use(id);
+  for (const [id, work] of Object.entries(clicks)) $(id).onclick = work;
+  $("find").oninput = () => {
+    panels.mostFound = MOST_SHOWN;
+    panels.showFound();
+  };
+  listenToKeys(page);
+  addEventListener("beforeunload", (event) => page.mayLeave() || event.preventDefault());
+  document.addEventListener("pointerdown", (event) => event.target.closest("#menu") || page.closeMenu(), true);
+}
+
+function openSheet(isOpen = !document.body.classList.contains("open")) {
+  document.body.classList.toggle("open", isOpen);
+  $("sheet").setAttribute("aria-expanded", String(isOpen));
+}
+
+function listenToKeys(page) {
+  document.addEventListener("keydown", (event) => {
+    const isTyping = /INPUT|TEXTAREA|SELECT/.test(event.target.tagName) && event.target.type !== "checkbox";
+    if (event.key === "Escape" && !$("menu").hidden) return page.closeMenu();
+    if (event.ctrlKey || event.metaKey) return isTyping ? undefined : undoKeys(page, event);
+    if (isTyping && event.key === "Escape") return event.target.blur();
+    if (!isTyping && !event.altKey) page.tools.key(event);
+    return undefined;
+  });
+  const showCross = () => {
+    page.isByKeys = $("map").matches(":focus-visible");
+    page.view.paintOverSoon();
+  };
+  for (const kind of ["focus", "blur"]) $("map").addEventListener(kind, showCross);
+}
+
+// Caps lock makes letters large, so it is the shift key that counts.
+function undoKeys(page, event) {
+  const key = event.key.toLowerCase();
+  if (key === "z" && page.tools.draft?.places.length) page.tools.removeLast();
+  else if (key === "z" && !event.shiftKey) page.undo();
+  else if (key === "y" || key === "z") page.redo();
+  else return;
+  event.preventDefault();
+}
+
+const page = new Page();
+fillIn();
+page.ready = loadLeaflet().then(() => {
+  page.makeMap();
+  page.background = new Background(page);
+  listen(page);
+  page.panels.showAll();
+  if (!$("room").value) $("room").focus();
+  else $("name").focus();
+  return true;
+}, () => {
+  $("connect").disabled = true;
+  page.sayWrong("This page cannot draw a map: Leaflet is neither beside it (Debian's package libjs-leaflet) nor can it "
+    + "be loaded from the internet.");
+  return false;
+});

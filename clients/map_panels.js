@@ -1,0 +1,545 @@
+// The lists and fields beside the map. Whatever others wrote is put in as text.
+"use strict";
+
+const $ = (id) => document.getElementById(id);
+const MOST_SHOWN = 50;
+
+function make(tag, properties = {}, ...children) {
+  const made = Object.assign(document.createElement(tag), properties);
+  made.append(...children);
+  return made;
+}
+
+function button(text, onclick, properties = {}) {
+  return make("button", { type: "button", textContent: text, onclick, ...properties });
+}
+
+const soft = (tag, text) => make(tag, { className: "soft", textContent: text });
+const line = (...children) => make("div", { className: "row" }, ...children);
+const timeOf = (date) => soft("time", date.toTimeString().slice(0, 5));
+
+function dotOf(author) {
+  const dot = make("span", { className: "dot" });
+  dot.style.background = colourOf(author);
+  return dot;
+}
+
+// The tags of an element in fields, of which those that were typed stay until they are saved, whatever comes.
+class TagDraft {
+  constructor(row) {
+    this.el = row.el;
+    this.lines = [];
+    this.take(row);
+  }
+
+  // Takes the element as it is now: lines that nobody typed in follow it.
+  take(row) {
+    this.lines = this.lines.filter((each) => this.isTyped(each) || (each.was && each.was.key in row.tags));
+    for (const [key, value] of Object.entries(row.tags)) {
+      const had = this.lines.find(({ was }) => was?.key === key);
+      if (!had) this.lines.push({ key, value, was: { key, value }, isRemoved: false });
+      else if (!this.isTyped(had)) Object.assign(had, { value, was: { key, value } });
+      else had.was = { key, value };
+    }
+  }
+
+  isTyped({ key, value, was, isRemoved }) {
+    return was ? isRemoved || key !== was.key || value !== was.value : key !== "" || value !== "";
+  }
+
+  typed() {
+    return this.lines.filter((each) => this.isTyped(each));
+  }
+
+  set(key, value) {
+    const had = this.lines.find((each) => each.key === key && !each.isRemoved);
+    if (had) had.value = value;
+    else this.lines.push({ key, value, was: null, isRemoved: false });
+  }
+
+  // What a retag has to say: the tags that differ, and null for those that go.
+  changes() {
+    const changes = {};
+    const typed = this.typed();
+    for (const { key, was, isRemoved } of typed) {
+      if (was && (isRemoved || key.trim() !== was.key)) changes[was.key] = null;
+    }
+    for (const { key, value, isRemoved } of typed) if (key.trim() && !isRemoved) changes[key.trim()] = value;
+    return changes;
+  }
+}
+
+const TOWNS = ["city", "town", "village"];
+
+// How early an element is found by a word: towns, then other places, then names, then other tags.
+function rankOf(word, name, place) {
+  if (!name.includes(word)) return 5;
+  if (place) return TOWNS.includes(place) ? 0 : 1;
+  if (name === word) return 2;
+  return name.startsWith(word) ? 3 : 4;
+}
+
+class Panels {
+  constructor(page) {
+    Object.assign(this, { page, typed: new Map(), formOf: null, places: null, mostFound: MOST_SHOWN });
+  }
+
+  showAll() {
+    this.showSelected(true);
+    this.showRelations();
+    this.texts = null;
+    this.showFound();
+    this.showUndos();
+    this.showChanges();
+    this.showPeople();
+    this.showTyped();
+    this.showFigures();
+  }
+
+  showFigures() {
+    const { page } = this;
+    const { session } = page;
+    if (!session?.room) return $("figures").replaceChildren();
+    const drawn = page.view.drawn ?? { ways: 0, nodes: 0 };
+    $("figures").textContent = `${session.elements.size.toLocaleString("en")} elements, entry ${session.room.seq}; `
+      + `${drawn.ways} ways and ${drawn.nodes} nodes drawn in ${page.view.lastPaint.toFixed(0)} ms; the last news took `
+      + `${page.timings.news.toFixed(1)} ms`;
+  }
+
+  // ---- What is selected
+
+  elementButton(el) {
+    const row = this.page.elements.get(el);
+    return button(row ? titleOf(row) : el, () => this.page.show(el), { className: "item" });
+  }
+
+  // Shows what is selected. Fields in which somebody types are left alone, unless `isAnew`.
+  showSelected(isAnew = false) {
+    const { selected, elements } = this.page;
+    const rows = selected.map((el) => elements.get(el)).filter(Boolean);
+    const [row] = rows;
+    const title = row ? titleOf(row) : "Nothing selected";
+    $("selected-title").textContent = rows.length > 1 ? `${rows.length} selected` : title;
+    const key = selected.join(" ");
+    const box = $("selected");
+    const focus = !isAnew && this.formOf === key ? this.focusIn(box) : null;
+    const values = focus ? this.unsavedFields(box) : [];
+    this.formOf = key;
+    if (rows.length === 0) box.replaceChildren(soft("p", "Choose something on the map, or from a list below."));
+    else if (rows.length > 1) box.replaceChildren(...this.severalPart(rows));
+    else box.replaceChildren(this.tagsPart(row), ...this.partsOf(row));
+    if (focus) this.restoreFocus(box, focus, values);
+  }
+
+  partsOf(row) {
+    const makers = { n: () => this.nodePart(row), w: () => this.wayPart(row), r: () => this.relationPart(row) };
+    return [this.actionsPart([row]), ...makers[row.el[0]](), ...this.usersPart(row)];
+  }
+
+  focusIn(box) {
+    const active = document.activeElement;
+    if (!box.contains(active)) return {};
+    const fields = [...box.querySelectorAll("input, textarea, select, button")];
+    return { at: fields.indexOf(active), start: active.selectionStart, end: active.selectionEnd };
+  }
+
+  // What was typed into fields other than tags.
+  unsavedFields(box) {
+    return [...box.querySelectorAll("[data-field]")].filter((each) => each.value !== each.defaultValue)
+      .map((each) => [each.dataset.field, each.value]);
+  }
+
+  restoreFocus(box, { at, start, end }, values) {
+    for (const [name, value] of values) {
+      const field = box.querySelector(`[data-field="${CSS.escape(name)}"]`);
+      if (field) field.value = value;
+    }
+    const field = at === undefined ? null : box.querySelectorAll("input, textarea, select, button")[at];
+    field?.focus({ preventScroll: true });
+    if (field && typeof start === "number" && field.setSelectionRange) field.setSelectionRange(start, end);
+  }
+
+  draftOf(row) {
+    const draft = this.typed.get(row.el) ?? new TagDraft(row);
+    draft.take(row);
+    return draft;
+  }
+
+  tagsPart(row) {
+    const draft = this.draftOf(row);
+    this.typed.set(row.el, draft);
+    const hasEmpty = draft.lines.some(({ key, was }) => !was && !key);
+    if (!hasEmpty) draft.lines.push({ key: "", value: "", was: null, isRemoved: false });
+    const lines = make("div", { className: "list" }, ...draft.lines.map((each) => this.tagLine(draft, each)));
+    const submit = (event) => {
+      event.preventDefault();
+      this.saveTags(row.el);
+    };
+    const presets = PRESETS.filter(({ on }) => on.includes(row.el[0]));
+    const choice = make("select", { ariaLabel: "Set the tags of a usual thing" }, new Option("Presets ..", ""),
+      ...presets.map(({ label }) => new Option(label, label)));
+    choice.onchange = () => this.usePreset(draft, presets.find(({ label }) => label === choice.value));
+    const discard = button("Discard", () => this.discard(row.el), { hidden: draft.typed().length === 0 });
+    return make("form", { onsubmit: submit, ariaLabel: "Tags" }, lines,
+      line(choice, make("button", { textContent: "Save tags", className: "main" }), discard));
+  }
+
+  tagLine(draft, each) {
+    const field = (about, value, list, set) => make("input", {
+      value, ariaLabel: about, maxLength: 255, autocomplete: "off", autocapitalize: "off", spellcheck: false,
+      oninput: (event) => {
+        set(event.target.value);
+        this.markLine(made, draft, each);
+      },
+      onfocus: (event) => this.complete(event.target, list, each),
+    });
+    const key = field("Key", each.key, "keys", (text) => (each.key = text));
+    const value = field(`Value of ${each.key || "the new key"}`, each.value, "values", (text) => (each.value = text));
+    const remove = button("×", () => {
+      each.isRemoved = !each.isRemoved;
+      if (!each.was) draft.lines = draft.lines.filter((other) => other !== each);
+      this.showSelected(true);
+      this.showTyped();
+    }, { ariaLabel: `${each.isRemoved ? "Keep" : "Remove"} ${each.key || "this tag"}` });
+    const made = make("div", { className: "tag" }, key, value, remove);
+    this.markLine(made, draft, each);
+    return made;
+  }
+
+  markLine(made, draft, each) {
+    made.classList.toggle("typed", draft.isTyped(each));
+    made.classList.toggle("removed", each.isRemoved);
+    this.showTyped();
+  }
+
+  // Offers keys and values that the map has.
+  complete(field, list, { key }) {
+    const counts = new Map();
+    for (const { tags } of this.page.elements.values()) {
+      if (list === "values") {
+        if (tags[key]) counts.set(tags[key], (counts.get(tags[key]) ?? 0) + 1);
+      } else {
+        for (const each in tags) counts.set(each, (counts.get(each) ?? 0) + 1);
+      }
+    }
+    const best = [...counts].sort((one, other) => other[1] - one[1]).slice(0, 100);
+    $(list).replaceChildren(...best.map(([text]) => new Option(text, text)));
+    field.setAttribute("list", list);
+  }
+
+  usePreset(draft, preset) {
+    if (!preset) return;
+    for (const [key, value] of Object.entries(preset.tags)) draft.set(key, value);
+    for (const key of preset.asks) if (!draft.lines.some((each) => each.key === key)) draft.set(key, "");
+    draft.lines.sort((one, other) => (one.key === "") - (other.key === ""));
+    this.showSelected(true);
+    this.showTyped();
+    const [asked] = preset.asks;
+    const at = draft.lines.findIndex(({ key }) => key === asked);
+    if (at >= 0) $("selected").querySelectorAll(".tag")[at].querySelectorAll("input")[1].focus();
+  }
+
+  saveTags(el) {
+    const draft = this.typed.get(el);
+    const row = this.page.elements.get(el);
+    const nameless = draft.typed().find(({ key, value, isRemoved }) => !key.trim() && value && !isRemoved);
+    if (nameless) return this.page.sayWrong(`A tag needs a key: “${nameless.value}” has none.`);
+    const changes = draft.changes();
+    for (const [key, value] of Object.entries(changes)) if (value === "" && !(key in row.tags)) delete changes[key];
+    const real = Object.entries(changes).filter(([key, value]) => (row.tags[key] ?? null) !== value);
+    if (real.length === 0) return this.page.say("There is no tag to save.");
+    const tags = Object.fromEntries(real);
+    const words = real.slice(0, 2).map(([key, value]) => (value === null ? `no ${key}` : `${key}=${value}`)).join(", ");
+    this.page.perform(`tagged ${titleOf(row)} with ${words}`, () => [{ do: "retag", el, tags }], () => {
+      this.typed.delete(el);
+      this.showSelected(true);
+      this.showTyped();
+    });
+  }
+
+  discard(el) {
+    this.typed.delete(el);
+    this.showSelected(true);
+    this.showTyped();
+  }
+
+  // The elements whose tags were typed and not saved.
+  typedElements() {
+    return [...this.typed.values()].filter((draft) => draft.typed().length > 0 && this.page.elements.has(draft.el));
+  }
+
+  showTyped() {
+    const { page } = this;
+    const drafts = this.typedElements();
+    const hidden = drafts.filter(({ el }) => page.selected.length !== 1 || page.selected[0] !== el);
+    for (const [el, draft] of this.typed) {
+      if (draft.typed().length === 0 && el !== page.selected[0]) this.typed.delete(el);
+    }
+    const discard = $("selected").querySelector("form > .row > button:last-child");
+    if (discard) discard.hidden = drafts.length === hidden.length;
+    $("unsaved-tags").hidden = hidden.length === 0;
+    $("typed").replaceChildren(...hidden.map(({ el }) => make("li", {}, this.elementButton(el),
+      button("Save", () => this.saveTags(el), { ariaLabel: `Save the tags of ${el}` }),
+      button("Discard", () => this.discard(el), { ariaLabel: `Discard the tags of ${el}` }))));
+    page.showSaved();
+  }
+
+  actionsPart(rows) {
+    const { page } = this;
+    const els = rows.map(({ el }) => el);
+    const isUsed = els.some((el) => page.shapes.parentsOf(el).length > 0);
+    const isMovable = els.some((el) => el[0] !== "r");
+    const offers = [
+      ["Delete", () => page.deleteSelected(), "Also nodes that nothing else needs (Delete)", true],
+      ["Delete everywhere", () => page.deleteSelected(true), "Also out of relations", isUsed],
+      ["Move", () => page.tools.use("move"), "Drag it, or use the arrow keys (M)", isMovable],
+      ["New relation", () => page.makeRelation(els), "A relation with this as its member", true],
+    ];
+    return line(...offers.filter(([, , , isOffered]) => isOffered)
+      .map(([text, work, title]) => button(text, work, { title })));
+  }
+
+  // Several elements: what can be done to all of them.
+  severalPart(rows) {
+    const { page } = this;
+    const ways = rows.filter(({ nodes }) => nodes);
+    const nodes = rows.filter(({ lat }) => lat !== undefined);
+    const buttons = [];
+    if (rows.length === 2 && ways.length === 2) {
+      buttons.push(button("Join", () => page.join(ways[0].el, ways[1].el), { title: "Make one way of the two" }));
+    }
+    if (rows.length === 2 && nodes.length === 2) {
+      const [one, other] = nodes.map(({ el }) => el);
+      buttons.push(button("Merge", () => page.merge(one, other)));
+    }
+    if (ways.length === 1 && nodes.length === 1) buttons.push(...this.splitButtons(nodes[0], ways));
+    const items = rows.slice(0, 100).map(({ el }) => make("li", {}, this.elementButton(el)));
+    return [make("ul", { className: "list" }, ...items), this.actionsPart(rows), line(...buttons)];
+  }
+
+  usersPart(row) {
+    const { page } = this;
+    const users = [...(row.lat !== undefined ? page.shapes.usersOf(row.el) : []), ...page.shapes.parentsOf(row.el)];
+    const items = users.slice(0, 20).map((el) => make("li", {}, this.elementButton(el)));
+    return users.length ? [soft("p", "Used by"), make("ul", { className: "list" }, ...items)] : [];
+  }
+
+  field(label, value, properties = {}) {
+    const input = make("input", { defaultValue: value, size: 13, ...properties });
+    input.dataset.field = label;
+    return [input, make("label", {}, label, input)];
+  }
+
+  nodePart(row) {
+    const { page } = this;
+    const [lat, latLabel] = this.field("Latitude", row.lat, { inputMode: "decimal" });
+    const [lon, lonLabel] = this.field("Longitude", row.lon, { inputMode: "decimal" });
+    const ways = page.shapes.usersOf(row.el).map((el) => page.elements.get(el)).filter(Boolean);
+    return [
+      line(latLabel, lonLabel, button("Move to", () => page.moveTo(row, lat.value, lon.value))),
+      line(...this.splitButtons(row, ways), ...this.unglueButtons(row, ways), ...this.mergeButtons(row)),
+    ];
+  }
+
+  splitButtons(row, ways) {
+    const id = idOf(row.el);
+    const inner = ways.map(({ el, nodes }) => [el, nodes.indexOf(id, 1), nodes.length - 1]);
+    return inner.filter(([, at, last]) => at > 0 && at < last)
+      .map(([el, at]) => button(`Split ${el} here`, () => this.page.split(el, at)));
+  }
+
+  // Where ways are held by a node that is used elsewhere too.
+  unglueButtons(row, ways) {
+    const id = idOf(row.el);
+    const places = ways.flatMap(({ el, nodes }) => nodes.flatMap((node, at) => (node === id ? [[el, at]] : [])));
+    const isShared = places.length > 1 || this.page.shapes.parentsOf(row.el).length > 0;
+    const areMany = (way) => places.filter(([el]) => el === way).length > 1;
+    const title = "The way gets a node of its own here, so that each can be moved alone";
+    const text = (el, at) => `Unglue ${el}${areMany(el) ? ` at ${at}` : ""}`;
+    return (isShared ? places : []).slice(0, 20)
+      .map(([el, at]) => button(text(el, at), () => this.page.unglue(row.el, el, at), { title }));
+  }
+
+  // Nodes so near that they may be meant to be the same.
+  mergeButtons(row) {
+    const { page } = this;
+    const at = page.shapes.positionOf(row.el);
+    const near = page.shapes.nodesAt(at, 15 / page.view.scale).filter(({ el }) => el !== row.el).slice(0, 2);
+    return near.map(({ el }) => button(`Merge with ${el}`, () => page.merge(row.el, el)));
+  }
+
+  wayPart(row) {
+    const { page } = this;
+    const { nodes } = row;
+    if (!areSafe(nodes)) return [soft("p", "The id of a node is too large: the line cannot be changed here.")];
+    const isClosed = nodes[0] === nodes[nodes.length - 1];
+    const reverse = () => page.perform(`reversed ${titleOf(row)}`, () => [{ do: "reverse", el: row.el }]);
+    const buttons = [button("Reverse", reverse)];
+    if (!isClosed) {
+      buttons.push(button("Continue", () => page.tools.goOn(row.el, false), { title: "Draw on from its last node" }),
+        button("Continue at the start", () => page.tools.goOn(row.el, true), { title: "Draw on from its first node" }));
+      const next = [nodes[0], nodes[nodes.length - 1]].flatMap((id) => page.shapes.usersOf(id));
+      const joined = [...new Set(next)].filter((el) => el !== row.el && Edits.join(row.el, el, page.elements));
+      buttons.push(...joined.slice(0, 4).map((el) => button(`Join ${el}`, () => page.join(row.el, el))));
+    }
+    const list = make("textarea", { defaultValue: nodes.join(" "), rows: 2 });
+    list.dataset.field = "Nodes";
+    const save = button("Save nodes", () => page.saveNodes(row.el, list.value));
+    const details = make("details", {}, make("summary", { textContent: counted(nodes.length, "node") }),
+      make("label", {}, "Their numbers in order", list), save);
+    details.open = this.isListOpen;
+    details.ontoggle = () => (this.isListOpen = details.open);
+    return [line(...buttons), details];
+  }
+
+  relationPart(row) {
+    const { page } = this;
+    const members = row.members.map(([el, role], at) => this.memberLine(row, el, role, at));
+    const pick = button("Pick members on the map", () => page.tools.use("members", { relation: row.el }));
+    const list = make("div", { className: "list" }, ...members.slice(0, 300));
+    return [soft("p", counted(row.members.length, "member")), list, line(pick)];
+  }
+
+  memberLine(row, el, role, at) {
+    const { page } = this;
+    const change = (what, ...members) => page.perform(`${what} in ${titleOf(row)}`,
+      () => [{ do: "members", el: row.el, members: row.members.toSpliced(at, 1, ...members) }]);
+    const about = { ariaLabel: `Role of ${el}`, placeholder: "role", maxLength: 255 };
+    const field = make("input", { defaultValue: role, ...about });
+    field.dataset.field = `role ${at}`;
+    field.onchange = () => change("set a role", [el, field.value]);
+    const remove = button("×", () => change(`removed ${el}`), { ariaLabel: `Remove ${el}` });
+    return make("div", { className: "member" }, this.elementButton(el), field, remove);
+  }
+
+  // ---- Lists
+
+  showRelations() {
+    const { page } = this;
+    const names = [...page.shapes.relations].sort((one, other) => idOf(one) - idOf(other));
+    $("relations").replaceChildren(...names.slice(0, 200).map((el) => make("li", {}, this.elementButton(el))),
+      ...(names.length > 200 ? [soft("li", `${names.length - 200} more: use Find.`)] : []),
+      ...(names.length ? [] : [soft("li", "None.")]));
+  }
+
+  showUndos() {
+    const { session } = this.page;
+    const { undos = [], redos = [] } = session ?? {};
+    const undoItem = (seqs) => this.undoItem(session, seqs);
+    const redoItem = (seqs, index) => {
+      const first = index ? [] : [button("Redo", () => this.page.redo(), { ariaLabel: `Do entry ${seqs[0]} again` })];
+      const text = `${seqs[0]}, taken back: ${session.textOf(seqs[0])}`;
+      return make("li", { className: "soft" }, make("span", { textContent: text }), ...first);
+    };
+    const items = [...undos.slice(-100).reverse().map(undoItem), ...redos.slice(-20).reverse().map(redoItem)];
+    $("undos").replaceChildren(...items);
+    if (!undos.length && !redos.length) $("undos").append(soft("li", "Nothing yet."));
+    const [last, taken] = [undos[undos.length - 1], redos[redos.length - 1]];
+    const title = (seqs, what, keys) => (seqs ? `${what}: ${session.textOf(seqs[0])} (${keys})` : "");
+    Object.assign($("undo"), { disabled: !last, title: title(last, "Take back", "Ctrl+Z") });
+    Object.assign($("redo"), { disabled: !taken, title: title(taken, "Do again", "Ctrl+Y") });
+  }
+
+  undoItem(session, seqs) {
+    const isBlocked = seqs.includes(session.conflict?.seq);
+    const text = `${seqs[0]}: ${session.textOf(seqs[0])}`;
+    return make("li", { className: isBlocked ? "blocks" : "" }, make("span", { textContent: text }),
+      button("Undo", () => this.page.undo(seqs), { ariaLabel: `Take back entry ${text}` }));
+  }
+
+  changeItem(entry) {
+    const { page } = this;
+    const { session } = page;
+    const author = make("b", { textContent: entry.by });
+    const text = make("span", {}, `${entry.seq} `, author, ` ${session.deed(entry)} `, timeOf(entry.at));
+    const go = button("Go", () => page.showEntry(entry), { ariaLabel: `Go to entry ${entry.seq} on the map` });
+    const item = make("li", {}, dotOf(entry.by), text, go);
+    item.classList.toggle("blocks", entry.seq === session.conflict?.with);
+    item.dataset.seq = entry.seq;
+    return item;
+  }
+
+  showChange(entry) {
+    const list = $("changes");
+    if (!this.page.session.entries.has(entry.seq - 1)) return this.showChanges();
+    list.prepend(this.changeItem(entry));
+    while (list.children.length > MOST_SHOWN) list.lastChild.remove();
+  }
+
+  showChanges() {
+    const entries = [...(this.page.session?.entries.values() ?? [])].slice(-MOST_SHOWN).reverse();
+    $("changes").replaceChildren(...entries.map((entry) => this.changeItem(entry)));
+    if (!entries.length) $("changes").append(soft("li", "Nothing since you came."));
+  }
+
+  showPeople() {
+    const latest = new Map();
+    const { session } = this.page;
+    for (const entry of session?.entries.values() ?? []) {
+      latest.delete(entry.by);
+      latest.set(entry.by, entry);
+    }
+    const entries = [...latest.values()].reverse().slice(0, 64);
+    $("people").replaceChildren(...entries.map((entry) => this.personItem(entry)));
+    if (!latest.size) $("people").append(soft("li", "Nobody has changed anything since you came."));
+  }
+
+  personItem(entry) {
+    const { session } = this.page;
+    const author = make("b", { textContent: entry.by });
+    const text = make("span", {}, author, ` ${session.deed(entry)} `, timeOf(entry.at));
+    const go = button("Go", () => this.page.showEntry(entry), { ariaLabel: `Go to where ${entry.by} was last` });
+    return make("li", {}, dotOf(entry.by), text, go);
+  }
+
+  // ---- Find
+
+  // The texts that are looked through, by name: made once, and then as news come.
+  searchTexts() {
+    if (this.texts) return this.texts;
+    this.texts = new Map();
+    for (const row of this.page.elements.values()) this.learnText(row.el, row);
+    return this.texts;
+  }
+
+  learnText(el, row) {
+    if (!this.texts) return;
+    this.texts.delete(el);
+    let text = "";
+    if (row) for (const key in row.tags) text += `\n${key}=${row.tags[key]}`;
+    if (!text) return;
+    const { name = "", place } = row.tags;
+    this.texts.set(el, { text: text.toLowerCase(), name: name.toLowerCase(), place });
+  }
+
+  // The names of what fits, towns first, then other names, then other tags.
+  foundFor(word) {
+    const { elements } = this.page;
+    const groups = Array.from({ length: 6 }, () => []);
+    for (const [el, { text, name, place }] of this.searchTexts()) {
+      if (!text.includes(word)) continue;
+      groups[rankOf(word, name, place)].push(el);
+    }
+    const size = (el) => TOWNS.indexOf(elements.get(el)?.tags.place);
+    groups[0].sort((one, other) => size(one) - size(other));
+    return [...(elements.has(word) ? [word] : []), ...groups.flat()];
+  }
+
+  showFound() {
+    const began = performance.now();
+    const word = $("find").value.trim().toLowerCase();
+    const found = word && this.page.session?.room ? this.foundFor(word) : [];
+    const shown = found.slice(0, this.mostFound);
+    $("found").replaceChildren(...shown.map((el) => make("li", {}, this.elementButton(el))));
+    const rest = found.length - shown.length;
+    const count = rest ? `${shown.length} of ${found.length} found` : `${found.length} found`;
+    $("found-count").textContent = word ? count : "";
+    if (rest) $("found").append(make("li", {}, button(`Show ${Math.min(rest, 200)} more`, () => this.showMoreFound())));
+    this.page.timings.find = performance.now() - began;
+  }
+
+  showMoreFound() {
+    this.mostFound += 200;
+    this.showFound();
+  }
+}

@@ -1,0 +1,459 @@
+// A mapper's session in a room, over the library maproom.js: gestures, of which each is one group of actions, what is
+// not saved, what entries did, and what can be taken back. It knows no page but the storage of the browser.
+"use strict";
+
+// After so many milliseconds without a word a connection is given up. A large map may need as long on its way.
+const HEARTBEAT = 30_000;
+const SLOW = 4000; // after so many milliseconds without an answer it is said that none came
+const FIRST_PAUSE = 500;
+const LONGEST_PAUSE = 10_000;
+const MOST_ENTRIES = 1000; // that are remembered
+const MOST_TRIES = 20; // of names for new elements
+const MOST_ACTIONS = 10_000; // of a group
+const LEAST_ID = -(2 ** 52);
+
+// Why a WebSocket cannot be opened, which the browser does not tell: asked over HTTP at the same address.
+const STATUSES = {
+  401: "wants a name and a password, and those of your browser are missing or wrong. Load this page again.",
+  403: "refuses this page. Open the page that it hands out itself.",
+  404: "has no room at this path. Look at what stands behind the host in the address.",
+  429: "has as many connections from your network as it allows. Ask whoever runs it to allow more.",
+  502: "cannot reach its maproom server. It may be starting.",
+  503: "cannot reach its maproom server. It may be starting.",
+  504: "cannot reach its maproom server. It may be starting.",
+};
+
+async function whyUnreachable(url) {
+  const { host, origin, href } = new URL(url.replace(/^ws/, "http"));
+  const how = { cache: "no-store", signal: AbortSignal.timeout(5000) };
+  try {
+    if (origin !== location.origin) await fetch(href, { ...how, mode: "no-cors" });
+    else {
+      const { status } = await fetch(href, how);
+      return STATUSES[status] ? `${host} ${STATUSES[status]}` : `What answers at ${host} is no maproom server.`;
+    }
+  } catch {
+    return `No server answers at ${host}.`;
+  }
+  const page = origin.startsWith("https") ? ` Open ${origin}/ instead.` : "";
+  const why = location.protocol === "file:" ? "since the page was opened as a file" : "since it is from another site";
+  return `${host} answers, but does not let this page in, perhaps ${why}.${page}`;
+}
+
+const pauseOf = (milliseconds) => new Promise((done) => setTimeout(done, milliseconds));
+
+// Events: `state`, `unsaved`, `map` (the whole map came), `change` (with `entry`, `rows`), `history`, `conflict`.
+class Session extends EventTarget {
+  static heartbeat = HEARTBEAT;
+
+  constructor(url, roomName, name) {
+    super();
+    Object.assign(this, { url, roomName, name, room: null, state: "connecting", text: "", isOver: false });
+    Object.assign(this, { unsaved: 0, entries: new Map(), conflict: null, hasGroups: null });
+    Object.assign(this, { texts: new Map(), gestures: new Map(), undos: [], redos: [] });
+    Object.assign(this, { run: 0, waiting: [] }); // how often the server was started anew, and who waits for it
+    this.lowest = null;
+    this.leaving = new AbortController();
+    this.key = `maproom ${url} ${roomName} ${name}`;
+  }
+
+  tell(type, about = {}) {
+    this.dispatchEvent(Object.assign(new Event(type), about));
+  }
+
+  become(state, text, isBad = false) {
+    Object.assign(this, { state, text, isBad });
+    this.tell("state");
+  }
+
+  get elements() {
+    return this.room?.elements ?? new Map();
+  }
+
+  // Connects, and tries again until it is there or is refused for good. Returns whether it is there.
+  async open() {
+    let pause = FIRST_PAUSE;
+    if (!/^wss?:\/\/[^/]/.test(this.url)) return this.end("The address has to begin with ws:// or wss://.");
+    while (!this.isOver) {
+      if (this.state === "connecting") this.become("connecting", "Connecting ..");
+      const wait = () => this.become("waiting", "Waiting: perhaps all places of the server are taken");
+      const late = setTimeout(wait, 3000);
+      try {
+        const { name, roomName: room, leaving: { signal } } = this;
+        const times = { openTimeout: null, timeout: null, heartbeat: Session.heartbeat };
+        this.room = await maproom.connect(this.url, { room, name, signal, ...times });
+        clearTimeout(late);
+        return await this.begin();
+      } catch (error) {
+        if (this.isOver) return false;
+        if (error.why !== "connection_failed") return this.end(sentenceOf(error));
+        clearTimeout(late);
+        this.become("lost", `${await whyUnreachable(this.url)} Trying again ..`, true);
+        await pauseOf(pause);
+        pause = Math.min(2 * pause, LONGEST_PAUSE);
+      } finally {
+        clearTimeout(late);
+      }
+    }
+    return false;
+  }
+
+  async begin() {
+    const { room } = this;
+    room.addEventListener("change", (event) => this.takeChange(event));
+    room.addEventListener("reset", (event) => this.takeReset(event));
+    room.addEventListener("state", () => this.takeState());
+    room.addEventListener("error", ({ error }) => this.takeError(error));
+    this.become("open", "");
+    this.tell("map", { isFirst: true });
+    await this.askUndos(true);
+    return true;
+  }
+
+  takeState() {
+    const { state } = this.room;
+    if (state === "connecting") this.become("lost", "Connection lost, trying again ..", true);
+    if (state !== "open") return;
+    this.become("open", "");
+    for (const done of this.waiting.splice(0)) done();
+  }
+
+  // Waits while there is no connection, so that a gesture is made for the map that comes then.
+  async whenOpen() {
+    if (this.room.state !== "connecting") return;
+    const { run } = this;
+    await new Promise((done) => this.waiting.push(done));
+    if (this.isOver) throw { why: "closed" };
+    if (run !== this.run) throw { why: "not_sent" };
+  }
+
+  takeError(error) {
+    if (this.room.state === "closed") this.end(sentenceOf(error));
+    else console.error(error);
+  }
+
+  // Leaves the room, perhaps for a reason.
+  end(why = "") {
+    if (this.isOver) return false;
+    this.isOver = true;
+    for (const done of this.waiting.splice(0)) done();
+    this.leaving.abort(new Error("left"));
+    this.room?.close();
+    this.become("closed", why, Boolean(why));
+    return false;
+  }
+
+  // ---- What comes
+
+  takeReset({ restarted }) {
+    this.lowest = null;
+    if (restarted !== false) this.run += 1;
+    if (restarted) this.forget();
+    this.setConflict(null);
+    this.tell("map", { isFirst: false, restarted });
+    this.askUndos(restarted === null);
+  }
+
+  // Another run of the server has other entries.
+  forget() {
+    for (const each of [this.entries, this.texts, this.gestures]) each.clear();
+    this.store();
+  }
+
+  takeChange({ seq, by, rows }) {
+    const entry = { seq, by, rows, at: new Date(), text: "", isTakenBack: false, undoes: null, redoes: null };
+    this.recognize(entry);
+    this.entries.set(seq, entry);
+    if (this.entries.size > MOST_ENTRIES) this.entries.delete(this.entries.keys().next().value);
+    for (const { el } of rows) this.learnName(el);
+    this.tell("change", { entry, rows });
+    this.lookAtConflict(rows);
+    if (by === this.name && this.unsaved === 0) this.askUndos();
+  }
+
+  // News do not say that an entry was taken back or done again: that is seen by what they put back.
+  recognize(entry) {
+    const { by, rows } = entry;
+    if (by === this.name) return;
+    const older = [...this.entries.values()].filter((other) => other.by === by && other.rows.length === rows.length
+      && other.rows[0]?.el === rows[0]?.el && other.undoes === null).reverse();
+    const undone = older.find((other) => !other.isTakenBack && puts(rows, other.rows, "before"));
+    const redone = older.find((other) => other.isTakenBack && puts(rows, other.rows, "after"));
+    if (undone) {
+      undone.isTakenBack = true;
+      entry.undoes = undone.seq;
+    } else if (redone) {
+      entry.redoes = redone.seq;
+    }
+  }
+
+  // What an entry did, in words.
+  deed(entry) {
+    const about = (seq) => `entry ${seq}: ${this.textOf(seq)}`;
+    const whose = `${entry.by === this.name ? "your" : "their"} `;
+    if (entry.undoes) return `took back ${whose}${about(entry.undoes)}`;
+    if (entry.redoes) return `did ${about(entry.redoes)} again`;
+    return this.texts.get(entry.seq) ?? (entry.text ||= deedsOf(entry.rows));
+  }
+
+  // What an entry did, also one from before a reload.
+  textOf(seq) {
+    const entry = this.entries.get(seq);
+    return this.texts.get(seq) ?? (entry ? (entry.text ||= deedsOf(entry.rows)) : "made before you came");
+  }
+
+  authorOf(seq) {
+    return this.entries.get(seq)?.by ?? this.room?.authors.get(seq) ?? null;
+  }
+
+  setConflict(conflict) {
+    if (this.conflict === conflict) return;
+    this.conflict = conflict;
+    this.tell("conflict");
+  }
+
+  lookAtConflict(rows) {
+    const { conflict } = this;
+    if (!conflict) return;
+    const blocking = this.entries.get(conflict.with);
+    const isGone = blocking ? blocking.isTakenBack : rows.some(({ el }) => el === conflict.at);
+    if (isGone || this.entries.get(conflict.seq)?.isTakenBack) this.setConflict(null);
+  }
+
+  // ---- Names of new elements
+
+  // The lowest ids are looked up when the first name is wanted.
+  learnNames() {
+    this.lowest = { n: 0, w: 0, r: 0 };
+    for (const el of this.elements.keys()) this.learnName(el);
+  }
+
+  learnName(el) {
+    if (!this.lowest || el[1] !== "-") return;
+    const id = Number(el.slice(1));
+    if (id > LEAST_ID && id < this.lowest[el[0]]) this.lowest[el[0]] = id;
+  }
+
+  newName(kind) {
+    if (!this.lowest) this.learnNames();
+    this.lowest[kind] -= 1;
+    return `${kind}${this.lowest[kind]}`;
+  }
+
+  // ---- What is done
+
+  // Does a gesture: `build` gets a function that gives names, and returns the actions. Returns the names that were
+  // given, or throws what refused it.
+  async perform(text, build) {
+    if (!this.room) throw new Error("Connect first.");
+    return this.count(async () => {
+      await this.whenOpen();
+      for (let tries = 1; ; tries += 1) {
+        const names = [];
+        const actions = this.build(build, names);
+        try {
+          this.remember(await this.send(actions), text);
+          return names;
+        } catch (error) {
+          // Somebody else was quicker with a name.
+          if (error.why !== "present" || !names.includes(error.no?.el) || tries === MOST_TRIES) throw error;
+        }
+      }
+    });
+  }
+
+  // The actions of a gesture for the map as it is now, and the names that it gives.
+  build(build, names) {
+    const newName = (kind) => {
+      names.push(this.newName(kind));
+      return names[names.length - 1];
+    };
+    let actions;
+    try {
+      actions = build(newName);
+    } catch (error) {
+      // What the gesture is about went while it waited.
+      if (error instanceof TypeError) throw { why: "gone" };
+      throw error;
+    }
+    if (actions.length === 0) throw { why: "nothing" };
+    return actions;
+  }
+
+  // Counts a change as not saved while it is under way.
+  async count(work) {
+    this.unsaved += 1;
+    this.tell("unsaved");
+    this.watchAnswers();
+    try {
+      return await work();
+    } catch (error) {
+      if (error.why === "conflict") this.setConflict({ seq: this.asked, with: error.no.with, at: error.no.at });
+      throw error;
+    } finally {
+      this.unsaved -= 1;
+      this.tell("unsaved");
+      this.watchAnswers();
+      if (this.unsaved === 0) this.askUndos();
+    }
+  }
+
+  // Says that the server does not answer, if an answer is awaited for long.
+  watchAnswers() {
+    clearTimeout(this.slowTimer);
+    if (this.state !== "open") return;
+    if (this.text) this.become("open", "");
+    const tell = () => this.state === "open" && this.become("open", "The server does not answer yet", true);
+    if (this.unsaved > 0) this.slowTimer = setTimeout(tell, SLOW);
+  }
+
+  // Sends the actions of a gesture as one group or, if the server knows none, one after another. Returns the numbers
+  // of the entries.
+  async send(actions) {
+    if (actions.length > MOST_ACTIONS) throw new Error("That is more than can be done at once. Do it in parts.");
+    if (actions.length === 1) return [(await this.room.ask(actions[0])).seq];
+    if (this.hasGroups !== false) {
+      try {
+        const { seq } = await this.room.ask({ do: "group", actions });
+        this.hasGroups = true;
+        return [seq];
+      } catch (error) {
+        if (error.why !== "unknown_do" || error.no.action !== undefined) throw error;
+        this.hasGroups = false;
+      }
+    }
+    return this.sendEach(actions);
+  }
+
+  // Does one action after another. If one is refused, those before it are taken back.
+  async sendEach(actions) {
+    const seqs = [];
+    try {
+      for (const action of actions) seqs.push((await this.room.ask(action)).seq);
+      return seqs;
+    } catch (error) {
+      if (error.no) for (const seq of seqs.reverse()) await this.room.undo(seq);
+      throw error;
+    }
+  }
+
+  remember(seqs, text) {
+    for (const seq of seqs) {
+      this.texts.set(seq, text);
+      this.gestures.set(seq, seqs);
+    }
+    this.store();
+    this.tell("history");
+  }
+
+  // ---- What can be taken back
+
+  async askUndos(isRestored = false) {
+    try {
+      const { undos, redo } = await this.room.undos();
+      if (isRestored) this.restore(undos);
+      Object.assign(this, { undos: this.inGestures(undos), redos: this.inGestures(redo) });
+      this.tell("history");
+    } catch (error) {
+      if (error.why !== "closed") console.error(error);
+    }
+  }
+
+  // The numbers of entries, those of one gesture together.
+  inGestures(seqs) {
+    const all = new Set(seqs);
+    const items = [];
+    for (const seq of seqs) {
+      const gesture = (this.gestures.get(seq) ?? [seq]).filter((each) => all.has(each));
+      if (gesture[0] === seq || !gesture.includes(seq)) items.push(gesture.length ? gesture : [seq]);
+    }
+    return items;
+  }
+
+  // Takes back the entries of a gesture, or those of the last.
+  async undo(seqs = this.undos[this.undos.length - 1]) {
+    if (!seqs) throw { why: "nothing_to_undo" };
+    return this.count(async () => {
+      const done = [];
+      try {
+        for (const seq of [...seqs].reverse()) {
+          this.asked = seq;
+          this.noteUndo(seq, (await this.room.undo(seq)).seq);
+          done.push(seq);
+        }
+      } catch (error) {
+        if (error.no) for (const _ of done) await this.room.redo();
+        throw error;
+      }
+      this.setConflict(null);
+      return this.textOf(seqs[0]);
+    });
+  }
+
+  // Notes that an entry of the mapper's own took back another.
+  noteUndo(seq, by) {
+    const [entry, undo] = [this.entries.get(seq), this.entries.get(by)];
+    if (entry) entry.isTakenBack = true;
+    if (undo) undo.undoes = seq;
+  }
+
+  // Does again what was taken back last.
+  async redo() {
+    const seqs = this.redos[this.redos.length - 1];
+    if (!seqs) throw { why: "nothing_to_redo" };
+    return this.count(async () => {
+      const text = this.textOf(seqs[0]);
+      const made = [];
+      for (const _ of seqs) {
+        const { seq, redid } = await this.room.redo();
+        made.push(seq);
+        if (this.entries.has(seq)) this.entries.get(seq).redoes = redid ?? null;
+      }
+      this.remember(made, text);
+      return text;
+    });
+  }
+
+  // ---- What outlives a reload: what the mapper's own entries did
+
+  store() {
+    const entries = [...this.texts].slice(-300).map(([seq, text]) => [seq, text, this.gestures.get(seq)]);
+    try {
+      localStorage.setItem(this.key, JSON.stringify({ seq: this.room.seq, entries }));
+    } catch {
+      // Without storage a reload forgets what entries did.
+    }
+  }
+
+  // Reads what was kept, if it fits this run of the server: entries have numbers below the last, and of those that are
+  // remembered the newest that can be undone is known.
+  restore(undos) {
+    let kept = null;
+    try {
+      kept = JSON.parse(localStorage.getItem(this.key));
+    } catch {
+      return;
+    }
+    if (!kept || kept.seq > this.room.seq || !undos.some((seq) => kept.entries.some(([each]) => each === seq))) return;
+    for (const [seq, text, gesture] of kept.entries) {
+      this.texts.set(seq, text);
+      this.gestures.set(seq, gesture ?? [seq]);
+    }
+  }
+}
+
+// Whether rows put each part that an entry changed where it was before it (or after it), and leave the rest.
+function puts(rows, changed, when) {
+  const byName = new Map(changed.map((row) => [row.el, row]));
+  return rows.every(({ el, before, after }) => {
+    const row = byName.get(el);
+    if (!row) return false;
+    const [wanted, now, then] = [partsOf(row[when]), partsOf(after), partsOf(before)];
+    if (!wanted || !now) return wanted === now;
+    const [from, to] = [partsOf(row.before), partsOf(row.after)];
+    return ["tags", "place"].every((part) => {
+      const isChanged = !from || !to || !isSameValue(from[part], to[part]);
+      return isSameValue(now[part], isChanged || !then ? wanted[part] : then[part]);
+    });
+  });
+}

@@ -1,0 +1,500 @@
+// The shapes of a map's elements on the plane of web maps (Mercator), on which the world is the square from 0 to 1. It
+// knows no Leaflet and no page: it draws on the canvas that it is given, and finds what is near a position.
+"use strict";
+
+const idOf = (el) => Number(el.slice(1));
+const nodeOf = (id) => `n${id}`;
+
+const Mercator = {
+  x: (lon) => Number(lon) / 360 + 0.5,
+  y(lat) {
+    const sine = Math.sin((Math.max(-85.0511, Math.min(85.0511, Number(lat))) * Math.PI) / 180);
+    return 0.5 - Math.log((1 + sine) / (1 - sine)) / (4 * Math.PI);
+  },
+  lon: (x) => (x - 0.5) * 360,
+  lat: (y) => (Math.atan(Math.exp((0.5 - y) * 2 * Math.PI)) * 2 - Math.PI / 2) * (180 / Math.PI),
+};
+
+// How ways look, in the order in which they are drawn. A way is drawn in the first style whose test it passes.
+const STYLES = [
+  { id: "green", fill: "#d5e8c8", stroke: "#6c9a4d", width: 1 },
+  { id: "water-area", fill: "#c4def2", stroke: "#2f76b5", width: 1 },
+  { id: "outline", stroke: "#6c7780", width: 1.2 },
+  { id: "building", fill: "#dcd3c8", stroke: "#8d7f70", width: 1, isApart: true },
+  { id: "boundary", stroke: "#8a5b9b", width: 1.2, dash: [8, 5] },
+  { id: "water", stroke: "#2f76b5", width: 1.8 },
+  { id: "other", stroke: "#6c7780", width: 1.2 },
+  { id: "rail", stroke: "#444c55", width: 1.8, dash: [7, 3] },
+  { id: "footway", stroke: "#a4502a", width: 1.6, dash: [5, 4] },
+  { id: "street", stroke: "#8a5a1c", width: 2.2 },
+  { id: "main", stroke: "#7a3b0c", width: 3 },
+];
+const STYLE_AT = Object.fromEntries(STYLES.map(({ id }, at) => [id, at]));
+const MAIN_STREETS = /^(motorway|trunk|primary|secondary)/;
+const FOOTWAYS = /foot|path|steps|cycle|bridleway/;
+
+// The place in STYLES of a way.
+function styleOf(tags, isClosed) {
+  const { highway } = tags;
+  if (highway) return STYLE_AT[FOOTWAYS.test(highway) ? "footway" : MAIN_STREETS.test(highway) ? "main" : "street"];
+  if (tags.building && isClosed) return STYLE_AT.building;
+  if (tags.waterway || tags.natural === "water") return STYLE_AT[isClosed ? "water-area" : "water"];
+  if (tags.railway) return STYLE_AT.rail;
+  if (tags.boundary) return STYLE_AT.boundary;
+  if (!isClosed) return STYLE_AT.other;
+  return STYLE_AT[tags.landuse || tags.leisure || tags.natural || tags.place ? "green" : "outline"];
+}
+
+const hasTags = (tags) => {
+  for (const key in tags) if (key !== "created_by" && key !== "source") return true;
+  return false;
+};
+
+// A box that has nothing in it yet.
+const emptyBox = () => ({ west: Infinity, north: Infinity, east: -Infinity, south: -Infinity });
+
+function stretch(box, x, y) {
+  if (x < box.west) box.west = x;
+  if (x > box.east) box.east = x;
+  if (y < box.north) box.north = y;
+  if (y > box.south) box.south = y;
+}
+
+function stretchBy(box, other) {
+  if (other.west > other.east) return;
+  stretch(box, other.west, other.north);
+  stretch(box, other.east, other.south);
+}
+
+const isEmptyBox = (box) => box.west > box.east;
+const doMeet = (one, other) => one.west <= other.east && one.east >= other.west && one.north <= other.south
+  && one.south >= other.north;
+
+// A way: its style, its box, and the slots of its nodes in the lists of a Shapes.
+class WayShape {
+  constructor(el, slots, style, isClosed) {
+    this.el = el;
+    this.slots = slots;
+    this.style = style;
+    this.isClosed = isClosed;
+    this.west = this.north = this.east = this.south = 0;
+  }
+}
+
+// Of so many nodes in a window all are drawn, and of more only those with tags, or only places.
+const MOST_NODES = 1500;
+
+// The shapes of all elements. Positions of nodes stand in lists of numbers, by the slot of the node.
+class Shapes {
+  constructor() {
+    this.clear(0);
+  }
+
+  clear(count) {
+    const room = Math.max(64, Math.ceil(count * 1.1));
+    this.slots = new Map(); // by the id of a node, its slot
+    this.names = []; // by slot, the name; null if the slot is free
+    this.xs = new Float64Array(room);
+    this.ys = new Float64Array(room);
+    this.areTagged = new Uint8Array(room); // 1 if the node has tags, 2 if it is a place
+    this.freeSlots = [];
+    this.users = null; // by the id of a node, the name of its way, or a list of names; made when it is asked for
+    this.parents = new Map(); // by name, the relations that have it as a member
+    this.ways = new Map();
+    this.layers = STYLES.map(() => new Set());
+    this.relations = new Set();
+  }
+
+  // Takes a whole map.
+  reset(elements) {
+    this.clear(elements.size);
+    const others = [];
+    for (const row of elements.values()) {
+      if (row.lat === undefined) others.push(row);
+      else this.addNode(row, idOf(row.el), this.names.length);
+    }
+    for (const row of others) {
+      if (row.nodes) this.putWay(row);
+      else this.putRelation(row);
+    }
+  }
+
+  // Takes changes. Returns the boxes of what changed, before and after.
+  change(rows) {
+    const [old, now] = [emptyBox(), emptyBox()];
+    for (const { el, before, after } of rows) {
+      stretchBy(old, this.boxOf(el));
+      if (before?.nodes) this.removeUsers(before);
+      if (before?.members) this.removeMembers(before);
+      if (!after) this.remove(el);
+    }
+    const moved = new Map();
+    for (const { after } of rows) if (after?.lat !== undefined) this.moveNode(after, moved);
+    for (const { after } of rows) {
+      if (after?.nodes) this.putWay(after);
+      else if (after?.members) this.putRelation(after);
+    }
+    for (const [el, slots] of moved) this.moveWay(this.ways.get(el), slots, old, now);
+    for (const { el } of rows) stretchBy(now, this.boxOf(el));
+    return [old, now];
+  }
+
+  // Puts a node, and adds the ways that it moves, each with the slots of its nodes that moved.
+  moveNode(row, moved) {
+    const was = this.positionOf(row.el);
+    this.putNode(row);
+    const now = this.positionOf(row.el);
+    if (was && was.x === now.x && was.y === now.y) return;
+    for (const el of this.usersOf(row.el)) {
+      if (!this.ways.has(el)) continue;
+      if (!moved.has(el)) moved.set(el, new Set());
+      moved.get(el).add(this.slots.get(idOf(row.el)));
+    }
+  }
+
+  // Measures a way some of whose nodes moved. What changed of a plain line are the segments at these nodes.
+  moveWay(way, moved, old, now) {
+    const isWhole = way.isClosed || Boolean(STYLES[way.style].dash);
+    if (isWhole) stretchBy(old, way);
+    this.measure(way);
+    if (isWhole) return stretchBy(now, way);
+    for (let index = 0; index < way.slots.length; index++) {
+      if (!moved.has(way.slots[index])) continue;
+      for (const slot of [way.slots[index - 1], way.slots[index], way.slots[index + 1]]) {
+        if (slot === undefined) continue;
+        stretch(old, this.xs[slot], this.ys[slot]);
+        stretch(now, this.xs[slot], this.ys[slot]);
+      }
+    }
+    return undefined;
+  }
+
+  putNode(row) {
+    const id = idOf(row.el);
+    const slot = this.slots.get(id) ?? this.freeSlots.pop() ?? this.names.length;
+    if (slot >= this.xs.length) this.grow();
+    this.addNode(row, id, slot);
+  }
+
+  addNode(row, id, slot) {
+    this.slots.set(id, slot);
+    this.names[slot] = row.el;
+    this.xs[slot] = Mercator.x(row.lon);
+    this.ys[slot] = Mercator.y(row.lat);
+    this.areTagged[slot] = hasTags(row.tags) ? (row.tags.place ? 2 : 1) : 0;
+  }
+
+  grow() {
+    for (const key of ["xs", "ys", "areTagged"]) {
+      const longer = new this[key].constructor(2 * this[key].length);
+      longer.set(this[key]);
+      this[key] = longer;
+    }
+  }
+
+  putWay(row) {
+    const { nodes } = row;
+    const slots = new Int32Array(nodes.length);
+    let count = 0;
+    for (const id of nodes) {
+      const slot = this.slots.get(id);
+      if (slot === undefined) continue;
+      slots[count++] = slot;
+      if (this.users) this.addUser(id, row.el);
+    }
+    const isClosed = nodes.length > 3 && nodes[0] === nodes[nodes.length - 1];
+    const old = this.ways.get(row.el);
+    if (old) this.layers[old.style].delete(old);
+    const known = count === slots.length ? slots : slots.slice(0, count);
+    const way = new WayShape(row.el, known, styleOf(row.tags, isClosed), isClosed);
+    this.ways.set(row.el, way);
+    this.layers[way.style].add(way);
+    this.measure(way);
+  }
+
+  measure(way) {
+    const { xs, ys } = this;
+    let [west, north, east, south] = [Infinity, Infinity, -Infinity, -Infinity];
+    for (const slot of way.slots) {
+      const [x, y] = [xs[slot], ys[slot]];
+      if (x < west) west = x;
+      if (x > east) east = x;
+      if (y < north) north = y;
+      if (y > south) south = y;
+    }
+    way.west = west;
+    way.north = north;
+    way.east = east;
+    way.south = south;
+  }
+
+  putRelation(row) {
+    this.relations.add(row.el);
+    for (const [name] of row.members) {
+      const parents = this.parents.get(name);
+      if (parents) parents.add(row.el);
+      else this.parents.set(name, new Set([row.el]));
+    }
+  }
+
+  remove(el) {
+    const way = this.ways.get(el);
+    if (way) this.layers[way.style].delete(way);
+    this.ways.delete(el);
+    this.relations.delete(el);
+    if (el[0] !== "n") return;
+    const id = Number(el.slice(1));
+    const slot = this.slots.get(id);
+    if (slot === undefined) return;
+    this.slots.delete(id);
+    this.names[slot] = null;
+    this.freeSlots.push(slot);
+  }
+
+  // Lists the ways of each node.
+  indexUsers() {
+    this.users = new Map();
+    for (const { el, slots } of this.ways.values()) {
+      for (const slot of slots) this.addUser(Number(this.names[slot].slice(1)), el);
+    }
+  }
+
+  addUser(id, el) {
+    const had = this.users.get(id);
+    if (had === undefined) this.users.set(id, el);
+    else if (typeof had === "string" && had !== el) this.users.set(id, [had, el]);
+    else if (typeof had !== "string" && !had.includes(el)) had.push(el);
+  }
+
+  removeUsers({ el, nodes }) {
+    if (!this.users) return;
+    for (const id of nodes) {
+      const had = this.users.get(id);
+      if (had === el) this.users.delete(id);
+      else if (Array.isArray(had)) this.users.set(id, had.filter((other) => other !== el));
+    }
+  }
+
+  removeMembers({ el, members }) {
+    for (const [name] of members) {
+      const parents = this.parents.get(name);
+      parents?.delete(el);
+      if (parents?.size === 0) this.parents.delete(name);
+    }
+  }
+
+  // The ways that have a node, by its name or id.
+  usersOf(node) {
+    if (!this.users) this.indexUsers();
+    const had = this.users.get(typeof node === "number" ? node : Number(node.slice(1)));
+    return had === undefined ? [] : typeof had === "string" ? [had] : had;
+  }
+
+  // The relations that have an element as a member.
+  parentsOf(el) {
+    return [...(this.parents.get(el) ?? [])];
+  }
+
+  // The position of a node by its name or id, or null.
+  positionOf(node) {
+    const slot = this.slots.get(typeof node === "number" ? node : Number(node.slice(1)));
+    return slot === undefined ? null : { x: this.xs[slot], y: this.ys[slot] };
+  }
+
+  // The box of a node or a way; an empty one if it is not there.
+  boxOf(el) {
+    if (el[0] === "w") return { ...emptyBox(), ...this.boxOfWay(this.ways.get(el)) };
+    const box = emptyBox();
+    const position = el[0] === "n" ? this.positionOf(el) : null;
+    if (position) stretch(box, position.x, position.y);
+    return box;
+  }
+
+  boxOfWay(way) {
+    return way && { west: way.west, north: way.north, east: way.east, south: way.south };
+  }
+
+  // The box of all.
+  whole() {
+    const box = emptyBox();
+    for (const slot of this.slots.values()) stretch(box, this.xs[slot], this.ys[slot]);
+    return box;
+  }
+
+  // ---- Finding
+
+  // The nodes within a distance, the nearest first; of several at one place the preferred come first.
+  nodesAt({ x, y }, reach, isPreferred = () => false) {
+    const found = [];
+    const { names, xs, ys } = this;
+    for (let slot = 0; slot < names.length; slot++) {
+      const [dx, dy] = [xs[slot] - x, ys[slot] - y];
+      if (dx > reach || dx < -reach || dy > reach || dy < -reach || names[slot] === null) continue;
+      const distance = Math.hypot(dx, dy);
+      if (distance <= reach) found.push({ el: names[slot], x: xs[slot], y: ys[slot], distance });
+    }
+    const rank = ({ el, distance }) => distance - (isPreferred(el) ? reach : 0);
+    return found.sort((one, other) => rank(one) - rank(other));
+  }
+
+  // The segments within a distance, the nearest first: the way, the place of the segment's end in its list, and the
+  // nearest position on it, which is the part `part` of the segment.
+  segmentsAt(at, reach) {
+    const found = [];
+    const window = { west: at.x - reach, east: at.x + reach, north: at.y - reach, south: at.y + reach };
+    for (const way of this.ways.values()) if (doMeet(way, window)) this.segmentsOf(way, at, reach, found);
+    return found.sort((one, other) => one.distance - other.distance);
+  }
+
+  segmentsOf(way, at, reach, found) {
+    const { xs, ys } = this;
+    for (let index = 1; index < way.slots.length; index++) {
+      const [one, other] = [way.slots[index - 1], way.slots[index]];
+      const [dx, dy] = [xs[other] - xs[one], ys[other] - ys[one]];
+      const along = ((at.x - xs[one]) * dx + (at.y - ys[one]) * dy) / (dx * dx + dy * dy || 1);
+      const part = Math.max(0, Math.min(1, along));
+      const [x, y] = [xs[one] + part * dx, ys[one] + part * dy];
+      const distance = Math.hypot(at.x - x, at.y - y);
+      if (distance <= reach) found.push({ el: way.el, index, part, x, y, distance });
+    }
+  }
+
+  // The smallest building that a position is in, or null.
+  buildingAt({ x, y }) {
+    let [best, least] = [null, Infinity];
+    for (const way of this.layers[STYLE_AT.building]) {
+      if (x < way.west || x > way.east || y < way.north || y > way.south || !this.isInside(way, x, y)) continue;
+      const size = (way.east - way.west) * (way.south - way.north);
+      if (size < least) [best, least] = [way.el, size];
+    }
+    return best;
+  }
+
+  isInside(way, x, y) {
+    const { xs, ys } = this;
+    let isIn = false;
+    for (let index = 1; index < way.slots.length; index++) {
+      const [one, other] = [way.slots[index - 1], way.slots[index]];
+      if (ys[one] > y === ys[other] > y) continue;
+      if (x < xs[one] + ((xs[other] - xs[one]) * (y - ys[one])) / (ys[other] - ys[one])) isIn = !isIn;
+    }
+    return isIn;
+  }
+
+  // The nodes and ways that lie whole in a box: ways, and nodes that are no part of a way.
+  within(box) {
+    const isWithin = (shape) => shape.west >= box.west && shape.east <= box.east && shape.north >= box.north
+      && shape.south <= box.south;
+    const found = [];
+    for (const way of this.ways.values()) if (isWithin(way)) found.push(way.el);
+    for (const [id, slot] of this.slots) {
+      const [x, y] = [this.xs[slot], this.ys[slot]];
+      const isAlone = this.areTagged[slot] || this.usersOf(id).length === 0;
+      if (isAlone && isWithin({ west: x, east: x, north: y, south: y })) found.push(this.names[slot]);
+    }
+    return found;
+  }
+
+  // ---- Drawing. `frame` says where the world lies on the canvas: the pixel of a position is its part of the world
+  // times `scale`, less `left` and `top`.
+
+  // Draws what meets a box. Returns how many ways and nodes were drawn.
+  paint(context, frame, box, zoom) {
+    let ways = 0;
+    context.lineJoin = context.lineCap = "round";
+    for (const [at, style] of STYLES.entries()) {
+      if (this.layers[at].size > 0) ways += this.paintLayer(context, frame, box, style, this.layers[at], zoom);
+    }
+    context.setLineDash([]);
+    return { ways, nodes: this.paintNodes(context, frame, box, zoom) };
+  }
+
+  paintLayer(context, frame, box, style, layer, zoom) {
+    const isThin = zoom < 15;
+    context.strokeStyle = style.stroke;
+    context.lineWidth = style.width * (zoom < 13 ? 0.5 : isThin ? 0.7 : zoom > 17.5 ? 1.6 : 1);
+    context.setLineDash(isThin || !style.dash ? [] : style.dash);
+    context.fillStyle = style.fill ?? "transparent";
+    const isEach = Boolean(style.fill) && !style.isApart;
+    let count = 0;
+    context.beginPath();
+    for (const way of layer) {
+      if (!doMeet(way, box)) continue;
+      count += 1;
+      if (isEach) context.beginPath();
+      this.trace(context, frame, way);
+      if (isEach) {
+        context.fill();
+        context.stroke();
+      }
+    }
+    if (isEach) return count;
+    if (style.fill) context.fill();
+    context.stroke();
+    return count;
+  }
+
+  // Adds a way to the path of a canvas, without the nodes that lie within a pixel of the last. A way that is smaller
+  // than that becomes a dot.
+  trace(context, { scale, left, top }, way) {
+    const { xs, ys } = this;
+    const { slots } = way;
+    const last = slots.length - 1;
+    if (last < 0) return;
+    let x = xs[slots[0]] * scale - left;
+    let y = ys[slots[0]] * scale - top;
+    context.moveTo(x, y);
+    if ((way.east - way.west) * scale < 1.5 && (way.south - way.north) * scale < 1.5) {
+      context.lineTo(x + 1, y);
+      return;
+    }
+    for (let index = 1; index <= last; index++) {
+      const nextX = xs[slots[index]] * scale - left;
+      const nextY = ys[slots[index]] * scale - top;
+      if (index < last && Math.abs(nextX - x) + Math.abs(nextY - y) < 1.5) continue;
+      x = nextX;
+      y = nextY;
+      context.lineTo(x, y);
+    }
+  }
+
+  paintNodes(context, frame, box, zoom) {
+    const slots = this.slotsIn(box, zoom);
+    const place = (slot) => [this.xs[slot] * frame.scale - frame.left, this.ys[slot] * frame.scale - frame.top];
+    const tagged = slots.filter((slot) => this.areTagged[slot]);
+    context.fillStyle = "#5b6771";
+    for (const slot of slots) {
+      const [x, y] = place(slot);
+      if (!this.areTagged[slot]) context.fillRect(x - 2, y - 2, 4, 4);
+    }
+    context.fillStyle = "#7a2f8f";
+    context.strokeStyle = "#fff";
+    context.lineWidth = 1;
+    const radius = zoom < 16 ? 3 : 4;
+    context.beginPath();
+    for (const slot of tagged) {
+      const [x, y] = place(slot);
+      context.moveTo(x + radius, y);
+      context.arc(x, y, radius, 0, 7);
+    }
+    context.fill();
+    context.stroke();
+    return slots.length;
+  }
+
+  // The nodes that are drawn in a box: all if they are few, else those with tags, else places.
+  slotsIn(box, zoom) {
+    const { names, xs, ys, areTagged } = this;
+    const least = zoom < 12 ? 2 : zoom < 16 ? 1 : 0;
+    const found = [[], [], []];
+    for (let slot = 0; slot < names.length; slot++) {
+      const rank = areTagged[slot];
+      if (rank < least || names[slot] === null) continue;
+      const isIn = xs[slot] >= box.west && xs[slot] <= box.east && ys[slot] >= box.north && ys[slot] <= box.south;
+      if (isIn) found[rank].push(slot);
+    }
+    const [plain, tagged, places] = found;
+    if (tagged.length > MOST_NODES) return places;
+    return plain.length > 2 * MOST_NODES ? [...tagged, ...places] : [...plain, ...tagged, ...places];
+  }
+}

@@ -1,0 +1,125 @@
+// What the page says: titles of elements, what entries did, and refusals in sentences.
+"use strict";
+
+const KINDS = { n: "node", w: "way", r: "relation" };
+const PLAIN_KEYS = ["amenity", "shop", "tourism", "leisure", "natural", "landuse", "railway", "waterway", "barrier",
+  "man_made", "historic", "place", "boundary", "type"];
+
+// What an element is, in a word or two.
+function kindOf({ el, tags }) {
+  const { highway } = tags;
+  if (highway && el[0] === "w") return FOOTWAYS.test(highway) ? highway : "street";
+  if (highway) return highway.replaceAll("_", " ");
+  if (tags.building) return "building";
+  const key = PLAIN_KEYS.find((each) => tags[each]);
+  if (key) return tags[key].replaceAll("_", " ");
+  return tags["addr:housenumber"] ? "address" : KINDS[el[0]];
+}
+
+// The name of an element, or an address, or nothing.
+function nameOf({ tags }) {
+  const house = tags["addr:housenumber"];
+  return tags.name ?? tags.ref ?? (house ? [tags["addr:street"], house].filter(Boolean).join(" ") : "");
+}
+
+// An element for people: “Mill Lane, street w12”.
+function titleOf(row) {
+  const name = nameOf(row);
+  return `${name ? `${name}, ` : ""}${kindOf(row)} ${row.el}`;
+}
+
+const counted = (count, word) => `${count} ${word}${count === 1 ? "" : "s"}`;
+
+const isSameValue = (one, other) => JSON.stringify(one) === JSON.stringify(other);
+
+// The two parts of an element, each of which an entry changes or leaves.
+const partsOf = (row) => (row ? { tags: row.tags, place: row.nodes ?? row.members ?? [row.lat, row.lon] } : null);
+
+// What was done to an element.
+function deedTo({ before, after }) {
+  if (!before) return "made";
+  if (!after) return "deleted";
+  if (!isSameValue(before.tags, after.tags)) return "changed the tags of";
+  return after.lat !== undefined ? "moved" : after.nodes ? "changed the line of" : "changed the members of";
+}
+
+// What an entry did: “made Mill Lane, street w-1 and 3 nodes”.
+function deedsOf(rows) {
+  const deeds = new Map();
+  for (const row of rows) {
+    const deed = deedTo(row);
+    if (!deeds.has(deed)) deeds.set(deed, []);
+    deeds.get(deed).push(row.after ?? row.before);
+  }
+  return [...deeds].map(([deed, elements]) => `${deed} ${listOf(elements)}`).join(", ") || "changed nothing";
+}
+
+// Some elements: those with names first, and of plain nodes only how many.
+function listOf(elements) {
+  const plain = elements.filter((row) => row.el[0] === "n" && !hasTags(row.tags));
+  const rest = elements.filter((row) => !plain.includes(row)).reverse();
+  if (rest.length === 0 && plain.length === 1) return titleOf(plain[0]);
+  const parts = rest.slice(0, 2).map(titleOf);
+  if (rest.length > 2) parts.push(`${rest.length - 2} more`);
+  if (plain.length) parts.push(counted(plain.length, "node"));
+  return parts.length > 1 ? `${parts.slice(0, -1).join(", ")} and ${parts[parts.length - 1]}` : parts[0];
+}
+
+const REFUSALS = {
+  repeat: (no) => `Another client with your name spent the number of entry ${no.seq}. Try again.`,
+  full: () => "The room is full: it takes no more changes. Save its map and serve it anew.",
+  nothing_to_undo: () => "You have nothing to undo.",
+  nothing_to_redo: () => "You have nothing to redo.",
+  no_such: () => "There is no such entry.",
+  not_yours: () => "This entry is another mapper's.",
+  not_standing: () => "This entry was taken back already.",
+  wrong_kind: (no) => `${no.el} is of the wrong kind for this.`,
+  present: (no) => `${no.el} is there already.`,
+  same: (no) => `${no.el} cannot be used twice.`,
+  absent: (no) => `${no.el} is not there, or not any more.`,
+  bad_position: () => "The way cannot be split or unglued there.",
+  not_end_to_end: () => "The ways do not meet at their ends.",
+  tag_conflict: (no) => `The two have different values of “${no.key}”. Make them equal first.`,
+  out_of_range: (no) => `${no.el} would leave the world.`,
+  too_few: (no) => `${no.el} would have fewer than 2 nodes.`,
+  too_many: (no) => `${no.el} would have more nodes, members or tags than it may.`,
+  in_use: (no) => `${no.by} uses ${no.el}. “Delete everywhere” takes it out of ${no.by} too.`,
+  nothing: () => "That would change nothing.",
+  memory: () => "The server is out of memory. Try again later.",
+  no_room: () => "The server has no room of this name.",
+  bad_field: (no) => `The server does not accept this: “${no.field}” is missing, or is not of its form.`,
+  unknown_do: () => "This server does not know that action.",
+  unknown: () => "The connection ended before the answer came. Look at the map: the change may be there or not.",
+  not_sent: () => "The server was started anew before this was sent. It was not done.",
+  no_answer: () => "No answer came. Look at the map: the change may be there or not.",
+  gone: () => "What this is about is not there any more.",
+  closed: () => "You left the room before the answer came.",
+};
+
+// A refusal, or another error of a call, as a sentence.
+function sentenceOf(error) {
+  const no = error.no ?? error;
+  return REFUSALS[no.why]?.(no) ?? error.message ?? `The server refused: ${no.why}.`;
+}
+
+// A colour for each author: the same in every browser.
+function colourOf(author) {
+  let sum = 0;
+  for (const sign of author) sum = (sum * 31 + sign.charCodeAt(0)) % 360;
+  return `hsl(${(sum * 47) % 360} 75% 36%)`;
+}
+
+const PRESETS = [
+  { label: "Building", on: "w", tags: { building: "yes" }, asks: ["addr:street", "addr:housenumber"] },
+  { label: "House", on: "w", tags: { building: "house" }, asks: ["addr:street", "addr:housenumber"] },
+  { label: "Street", on: "w", tags: { highway: "residential" }, asks: ["name"] },
+  { label: "Footpath", on: "w", tags: { highway: "footway" }, asks: [] },
+  { label: "Track", on: "w", tags: { highway: "track" }, asks: ["surface"] },
+  { label: "Crossing", on: "n", tags: { highway: "crossing" }, asks: ["crossing"] },
+  { label: "Tree", on: "n", tags: { natural: "tree" }, asks: [] },
+  { label: "Bench", on: "n", tags: { amenity: "bench" }, asks: [] },
+  { label: "Bus stop", on: "n", tags: { highway: "bus_stop" }, asks: ["name"] },
+  { label: "Shop", on: "nw", tags: { shop: "yes" }, asks: ["name"] },
+  { label: "Parking", on: "nw", tags: { amenity: "parking" }, asks: [] },
+  { label: "Playground", on: "nw", tags: { leisure: "playground" }, asks: ["name"] },
+];

@@ -1,0 +1,100 @@
+"""A web server of a test's own: it hands out the page with its files, Leaflet as Debian has it, and tiles that it draws
+itself; and it refuses paths with the status that it is told."""
+import http.server
+import os
+import ssl
+import struct
+import threading
+import urllib.parse
+import zlib
+
+from .cases import TOP
+
+LEAFLET = "/usr/share/javascript/leaflet"
+
+KINDS = {".html": "text/html", ".js": "text/javascript", ".css": "text/css"}
+
+
+def is_leaflet_there():
+    """Whether Debian's libjs-leaflet is installed."""
+    return os.path.isfile(f"{LEAFLET}/leaflet.js")
+
+
+def tile_of(red, green, blue, size=256):
+    """A picture of one colour, as PNG."""
+    def part(name, data):
+        return struct.pack(">I", len(data)) + name + data + struct.pack(">I", zlib.crc32(name + data))
+
+    head = struct.pack(">IIBBBBB", size, size, 8, 2, 0, 0, 0)
+    lines = (b"\0" + bytes((red, green, blue)) * size) * size
+    return b"\x89PNG\r\n\x1a\n" + part(b"IHDR", head) + part(b"IDAT", zlib.compress(lines)) + part(b"IEND", b"")
+
+
+class PageFiles:
+    """The server, on a free port. `statuses` has a status for each path that is refused, `asked` the paths of tiles
+    that were asked for. Without `has_leaflet` it has no Leaflet."""
+
+    def __init__(self, has_leaflet=True, statuses=(), folder=f"{TOP}/clients"):
+        self.has_leaflet, self.statuses, self.folder = has_leaflet, dict(statuses), folder
+        self.asked = []
+        self.server = http.server.ThreadingHTTPServer(("127.0.0.1", 0), self.handler())
+        self.server.daemon_threads = True
+        self.port = self.server.server_address[1]
+        self.url = f"http://127.0.0.1:{self.port}"
+
+    def __enter__(self):
+        threading.Thread(target=self.server.serve_forever, daemon=True).start()
+        return self
+
+    def __exit__(self, *_):
+        self.server.shutdown()
+        self.server.server_close()
+
+    def use_tls(self, key, certificate):
+        """Answers over TLS from now on."""
+        context = ssl.SSLContext(ssl.PROTOCOL_TLS_SERVER)
+        context.load_cert_chain(certificate, key)
+        self.server.socket = context.wrap_socket(self.server.socket, server_side=True)
+        self.url = f"https://127.0.0.1:{self.port}"
+
+    def answer(self, path):
+        """The status, the kind and the content for a path."""
+        if path in self.statuses:
+            return self.statuses[path], "text/plain", b"refused"
+        if path.startswith("/tiles/"):
+            self.asked.append(path)
+            return 200, "image/png", tile_of(160, 190, 210)
+        name = path.lstrip("/") or "map.html"
+        if name.startswith(("javascript/leaflet/", "leaflet@")):
+            name = f"{LEAFLET}/{name.rpartition('/')[2]}" if self.has_leaflet else "/nowhere"
+        else:
+            name = os.path.normpath(f"{self.folder}/{name}")
+        kind = KINDS.get(os.path.splitext(name)[1])
+        if kind is None or not os.path.isfile(name):
+            return 404, "text/plain", b"not there"
+        with open(name, "rb") as file:
+            return 200, f"{kind}; charset=utf-8", file.read()
+
+    def handler(self):
+        """What answers the requests of this server."""
+        owner = self
+
+        class Handler(http.server.BaseHTTPRequestHandler):
+            """Answers a request."""
+
+            protocol_version = "HTTP/1.1"
+
+            def do_GET(self):
+                """Hands out a file."""
+                status, kind, content = owner.answer(urllib.parse.urlsplit(self.path).path)
+                self.send_response(status)
+                self.send_header("Content-Type", kind)
+                self.send_header("Content-Length", str(len(content)))
+                self.send_header("Access-Control-Allow-Origin", "*")
+                self.end_headers()
+                self.wfile.write(content)
+
+            def log_message(self, *_):
+                """Says nothing."""
+
+        return Handler
