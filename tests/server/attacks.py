@@ -1,0 +1,224 @@
+"""Checks of the server under clients that want to use up its memory, and with a standard error that is closed, that is
+full, or that nobody reads."""
+import contextlib
+import functools
+import os
+import tempfile
+import threading
+import time
+
+from lib.cases import case, case_if, each_case, given, want
+from lib.others import is_there
+from lib.serving import Server, Session, ends_of
+from lib.talk import PATIENCE, SILENCE, create, hello, leave, news, node, ok, serve_next, talk, welcome
+from lib.websocket import CLOSE, TEXT, Broken, Client, Gone, Late, head_of_request, make_key, text_frame
+
+# The address space that the server gets, in KiB, and what of it the C library may spread over threads.
+LIMIT = 700_000
+LIMITED = ["sh", "-c", f'ulimit -v {LIMIT}; exec env MALLOC_ARENA_MAX=2 "$@"', "sh"]
+
+# A message whose reading takes 128 times its own size, and how many bytes it has.
+PART, SIZE = '{"":0}', 8_000_000
+HOSTILE = f'{{"id":1,"do":"get","el":"n1","x":[{",".join([PART] * (SIZE // (len(PART) + 1)))}]}}'
+
+# How many clients send it, and for how many seconds.
+ATTACKERS, SECONDS = 3, 3
+
+# The beginning of a handshake.
+KEY = make_key()
+HEAD = head_of_request(KEY)
+
+# How the server's answer to such a message ends, if it has no memory for it.
+MEMORY = b'"no":{"why":"memory"}}'
+
+
+class StartedBy(Server):
+    """A server that is started by some words before its own."""
+
+    def __init__(self, before, **how):
+        super().__init__(given.program, **{"patience": PATIENCE * given.slow, **how})
+        self.before = before
+
+    def words(self, addr):
+        return [*self.before, *super().words(addr)]
+
+
+@functools.lru_cache(maxsize=None)
+def can_be_limited():
+    """Whether the program runs in so little address space. One that is made with address checks does not."""
+    return is_there(*LIMITED, given.program, "--version")
+
+
+class Attacker:
+    """A client that sends hostile messages, one after another, until it is to end. `told` counts what came for them."""
+
+    def __init__(self, server, ends):
+        self.server, self.ends = server, ends
+        self.frame = text_frame(HOSTILE)
+        self.told = {"memory": 0, "ended": 0}
+        self.fault = None
+
+    def run(self):
+        """Attacks; a session that ends is begun again."""
+        while not self.ends.is_set() and not self.fault:
+            try:
+                with Client(self.server.port, self.server.patience) as client:
+                    client.shake_hands().say(hello("mallory"))
+                    client.text()
+                    while not self.ends.is_set():
+                        client.send_bytes(self.frame)
+                        self.take(client)
+            except (Gone, ConnectionError):
+                self.told["ended"] += 1
+            except (Broken, Late, AssertionError) as fault:
+                self.fault = fault
+
+    def take(self, client):
+        """Takes news, up to an answer or the end."""
+        while True:
+            opcode, payload = client.read()
+            if opcode == CLOSE:
+                raise Gone("it was closed")
+            if opcode != TEXT or not payload.startswith(b'{"news"'):
+                break
+        if opcode != TEXT or not payload.endswith(MEMORY):
+            raise Broken(f"a hostile message is answered {payload[:100]!r}")
+        self.told["memory"] += 1
+
+
+class Mapper:
+    """A mapper who creates one node after another. A change without an answer, or that is answered `memory`, is sent
+    again under its id, after a new hello if the session ended. `again` counts how often."""
+
+    def __init__(self, server):
+        self.server, self.again = server, 0
+        self.client, self.session = None, None
+        self.begin()
+
+    def create(self, number):
+        """Creates the node of a number, which makes the entry before this number."""
+        message, seq = {"id": number, "do": "create", "el": f"n{number}", "lat": "1", "lon": "2"}, number - 1
+        while True:
+            try:
+                reply = self.session.ask(message)
+            except (Broken, Gone, ConnectionError):
+                reply = None
+                self.begin()
+            if reply in ({"id": number, "ok": {"seq": seq}}, {"id": number, "no": {"seq": seq, "why": "repeat"}}):
+                return
+            if reply is not None:
+                want(reply, {"id": reply["id"], "no": {"why": "memory"}})
+            self.again += 1
+
+    def begin(self):
+        """Begins a session, as often as that takes."""
+        deadline = time.monotonic() + self.server.patience
+        while True:
+            if self.client:
+                self.client.drop()
+            try:
+                self.client = Client(self.server.port, self.server.patience)
+                self.session = Session(self.client.shake_hands(), "anna", "paris")
+                return
+            except (Broken, Gone, ConnectionError):
+                if time.monotonic() > deadline:
+                    raise
+                time.sleep(0.05)
+
+
+@case_if(can_be_limited)
+def messages_that_want_all_memory():
+    """Three clients send messages of 8 MB that would take a gigabyte each, and the server has 700 MB of addresses. It
+    answers `memory`, or ends the session, and never ends itself. A mapper has each change accepted meanwhile, once."""
+    with StartedBy(LIMITED, workers=ATTACKERS + 1, sessions=1_000_000) as server:
+        mapper, ends = Mapper(server), threading.Event()
+        attackers = [Attacker(server, ends) for _ in range(ATTACKERS)]
+        threads = [threading.Thread(target=attacker.run, daemon=True) for attacker in attackers]
+        for thread in threads:
+            thread.start()
+        number, deadline = 1, time.monotonic() + SECONDS * given.slow
+        try:
+            while time.monotonic() < deadline:
+                number += 1
+                mapper.create(number)
+        finally:
+            ends.set()
+        for thread in threads:
+            thread.join(server.patience)
+        told = [attacker.told for attacker in attackers]
+        print(f"messages that want all memory: {number - 1} changes accepted, {mapper.again} sent again, beside {told}")
+        want([attacker.fault for attacker in attackers], [None] * ATTACKERS)
+        want((server.process.poll(), all(sum(each.values()) for each in told), number > 10), (None, True, True))
+        mapper.session.follow(number - 1)
+        want(len(mapper.session.rows), number - 1)
+        mapper.session.leave()
+
+
+def two_sessions(server):
+    """Two clients share a room, and leave; then a third one comes."""
+    anna, bob = server.client(), server.client()
+    talk(anna, hello("anna"), welcome(0))
+    talk(anna, create(2), ok(2, '"seq":1'), news("anna", 1, node()))
+    talk(bob, hello("bob"), welcome(1, node()))
+    leave(anna)
+    leave(bob)
+    serve_next(server, "zoe", 1, node())
+    want(server.process.wait(server.patience), 0)
+    want(server.told(server.output), "listening\nparis 1\n")
+
+
+def without_a_log(redirection):
+    """A server whose standard error takes nothing serves its clients, and tells them nothing of its log."""
+    with StartedBy(["sh", "-c", f'exec "$@" {redirection}', "sh"], sessions=3) as server:
+        two_sessions(server)
+        want(server.told(server.errors), "")
+
+
+each_case(without_a_log, {"a_closed_standard_error": "2>&-", "a_full_standard_error": "2>/dev/full"})
+
+
+@contextlib.contextmanager
+def full_pipe():
+    """A pipe that has as much as it takes: its path, and a descriptor to read from it."""
+    with tempfile.TemporaryDirectory(prefix="maproom-pipe-") as folder:
+        path = f"{folder}/log"
+        os.mkfifo(path)
+        pipe = os.open(path, os.O_RDWR | os.O_NONBLOCK)
+        try:
+            for size in (1 << 16, 1):
+                with contextlib.suppress(BlockingIOError):
+                    while True:
+                        os.write(pipe, b" " * size)
+            yield path, pipe
+        finally:
+            os.close(pipe)
+
+
+def read_lines(pipe, seconds, count):
+    """Reads a pipe until so many lines came, or for so many seconds. Gives them."""
+    text, deadline = b"", time.monotonic() + seconds
+    while text.count(b"\n") < count and time.monotonic() < deadline:
+        try:
+            text += os.read(pipe, 1 << 16)
+        except BlockingIOError:
+            time.sleep(0.01)
+    return text.decode().strip(" ")
+
+
+@case
+def a_standard_error_that_nobody_reads():
+    """Where the pipe of the log is full, the server waits until somebody reads it. Then it serves whoever waited, and
+    the log has each line."""
+    with full_pipe() as (path, pipe), StartedBy(["sh", "-c", 'exec "$@" 2>"$0"', path], sessions=3) as server:
+        with server.connect(patience=server.patience) as client:
+            client.send_bytes(HEAD)
+            want(client.is_quiet(SILENCE), True)
+            log = read_lines(pipe, server.patience, 1)
+            client.read_answer(KEY)
+            talk(client, hello("anna"), welcome(0))
+            leave(client)
+        serve_next(server)
+        serve_next(server)
+        want(server.process.wait(server.patience), 0)
+        log += read_lines(pipe, server.patience, 6 - log.count("\n"))
+        want(ends_of(log), {1: "left", 2: "left", 3: "left"})
