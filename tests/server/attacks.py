@@ -1,5 +1,5 @@
-"""Checks of the server under clients that want to use up its memory, and with a standard error that is closed, that is
-full, or that nobody reads."""
+"""Checks of the server under clients that want to use up its memory or its descriptors, and with a standard error that is
+closed, that is full, or that nobody reads."""
 import contextlib
 import functools
 import os
@@ -152,6 +152,24 @@ def messages_that_want_all_memory():
         mapper.session.follow(number - 1)
         want(len(mapper.session.rows), number - 1)
         mapper.session.leave()
+
+
+# How many descriptors the server may have, fewer than the clients that come, and how many accepts may fail in a second.
+FEW, MANY, MOST_FAILED = 10, 12, 25
+
+
+@case
+def few_descriptors():
+    """A server with too few descriptors waits after each accept that fails, so it uses up few sessions. When clients
+    leave, it serves the next one."""
+    with StartedBy(["sh", "-c", f'ulimit -n {FEW}; exec "$@"', "sh"], workers=MANY, sessions=1_000_000) as server:
+        clients = [server.connect() for _ in range(MANY)]
+        time.sleep(1)
+        failed = server.told(server.errors).count(" end fault")
+        want(1 <= failed <= MOST_FAILED, True, f"{failed} accepts failed in a second")
+        for client in clients:
+            client.drop()
+        serve_next(server)
 
 
 def two_sessions(server):

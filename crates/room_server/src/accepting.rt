@@ -3,10 +3,10 @@ use crate::job::Job;
 use crossbeam_channel::Sender;
 use log::{Log, info};
 use std::alloc::Global;
-use std::io;
 use std::net::{TcpListener, TcpStream};
 use std::sync::Wait;
-use std::time::Duration;
+use std::time::{Clock, Duration};
+use std::{io, thread};
 
 // How long a read waits until it is quiet, in milliseconds.
 const QUIET_MILLIS: u64 = 50;
@@ -14,9 +14,13 @@ const QUIET_MILLIS: u64 = 50;
 // How long a write waits for a client that does not read until it fails, in seconds.
 const DEAF_SECONDS: u64 = 30;
 
+// How long the loop waits after an accept that failed, in milliseconds. The process mostly has no descriptor left then, so
+// the next accept would fail at once, and use up a session too.
+const FAILED_MILLIS: u64 = 50;
+
 /// Accepts so many times, and hands each connection on as a session, numbered from 1. An accept that fails is a session
-/// too: the log gets `session I end fault`.
-pub(crate) fn accept_all<R: Wait + Log>(
+/// too: the log gets `session I end fault`, and the next accept waits for 50 ms.
+pub(crate) fn accept_all<R: Wait + Log + Clock>(
     rt: &R,
     listener: &TcpListener,
     jobs: &Sender<Job<TcpStream>, Global>,
@@ -27,7 +31,10 @@ pub(crate) fn accept_all<R: Wait + Log>(
             Ok(stream) => {
                 let _ = jobs.send(rt, Job::Serve { session, stream });
             }
-            Err(_) => info!(rt; "session {session} end fault"),
+            Err(_) => {
+                info!(rt; "session {session} end fault");
+                thread::sleep(rt, Duration::from_millis(FAILED_MILLIS));
+            }
         }
     }
 }
