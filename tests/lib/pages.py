@@ -18,7 +18,7 @@ MARKS = re.compile(r"([-+*>|#]|\d+[.)])")
 
 def paths():
     """The pages, README first."""
-    return [f"{TOP}/README.md", f"{TOP}/CHANGELOG.md", f"{TOP}/SECURITY.md", *sorted(glob.glob(f"{TOP}/docs/*.md"))]
+    return [f"{TOP}/README.md", f"{TOP}/CONTRIBUTING.md", f"{TOP}/CHANGELOG.md", f"{TOP}/SECURITY.md", *sorted(glob.glob(f"{TOP}/docs/*.md"))]
 
 
 class Block:
