@@ -603,7 +603,8 @@ page.ready = loadLeaflet().then(() => {
   page.background = new Background(page);
   listen(page);
   page.panels.showAll();
-  if (!$("room").value) $("room").focus();
+  if (given.has("connect")) $("hello").requestSubmit();
+  else if (!$("room").value) $("room").focus();
   else $("name").focus();
   return true;
 }, () => {
