@@ -29,8 +29,8 @@ pub fn run<R: Print + Wait>(
         return Err(io::ErrorKind::OutOfMemory.into());
     };
     let mut rooms = Seated::new(&table, seats);
-    let mut anna = Session::new();
-    let mut bob = Session::new();
+    let mut anna = Session::new(alloc);
+    let mut bob = Session::new(alloc);
     hear_lines(rt, alloc, &mut anna, &mut bob, &mut rooms, lines)
 }
 

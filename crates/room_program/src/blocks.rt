@@ -8,6 +8,7 @@ use crate::answerer::Answerer;
 use crate::lines::split_line;
 use crate::replies::Replies;
 use osm_elements::Memory;
+use room_wire::Scratch;
 use std::alloc::Global;
 
 /// How many bytes a block has: so many a read asks for, and so many of replies are held before they are written.
@@ -20,6 +21,7 @@ fn answer_line<A: Answerer>(
     begun: &mut Vec<u8>,
     line: &[u8],
     replies: &mut Replies,
+    scratch: &mut Scratch,
 ) -> Result<(), Memory>
     requires { length replies.old < BLOCK }
     ensures ok { OnOk result ((loss : Loss) × (text : List ℕ) ×
@@ -29,10 +31,10 @@ fn answer_line<A: Answerer>(
     ensures err { OnErr result (replies.new ≡ replies.old) }
 {
     let reply = if begun.is_empty() {
-        answers.answer(alloc, line)?
+        answers.answer(alloc, line, scratch)?
     } else {
         begun.extend_from_slice(line)?;
-        answers.answer(alloc, begun.as_slice())?
+        answers.answer(alloc, begun.as_slice(), scratch)?
     };
     replies.push(reply)?;
     begun.clear();
@@ -47,6 +49,7 @@ pub fn answer_lines<'a, A: Answerer>(
     begun: &mut Vec<u8>,
     block: &'a [u8],
     replies: &mut Replies,
+    scratch: &mut Scratch,
 ) -> Result<&'a [u8], Memory>
     requires held { IsLine begun.old.items }
     requires empty { replies.old ≡ [] }
@@ -63,7 +66,7 @@ pub fn answer_lines<'a, A: Answerer>(
             begun.extend_from_slice(rest)?;
             return Ok(&[]);
         };
-        answer_line(alloc, answers, begun, line, replies)?;
+        answer_line(alloc, answers, begun, line, replies, scratch)?;
         rest = after;
     }
     Ok(rest)

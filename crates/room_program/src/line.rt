@@ -23,16 +23,21 @@ use room_wire::answer::Answer;
 use room_wire::bad::{Bad, Fault};
 use room_wire::incoming::{Body, Incoming};
 use room_wire::json_text::Json;
-use room_wire::{map_text, read_request, reply_text};
+use room_wire::{Scratch, map_text, read_request, reply_text};
 use std::alloc::Global;
 use std::str;
 
 impl Answerer for Room<Global> {
     ghost answered = { answered };
 
-    fn answer(&mut self, alloc: Global, line: &[u8]) -> Result<Json, Memory> {
+    fn answer(
+        &mut self,
+        alloc: Global,
+        line: &[u8],
+        scratch: &mut Scratch,
+    ) -> Result<Json, Memory> {
         match split_author(line) {
-            Some(said) => answer_message(alloc, self, said.author, said.message),
+            Some(said) => answer_message(alloc, self, said.author, said.message, scratch),
             None => reply_text(alloc, 0, &Answer::BadLine),
         }
     }
@@ -67,11 +72,11 @@ fn read_author(name: &[u8]) -> Option<Author>
 }
 
 // Reads the bytes of a message.
-fn read_message(alloc: Global, bytes: &[u8]) -> Result<Incoming, Bad>
+fn read_message(alloc: Global, bytes: &[u8], scratch: &mut Scratch) -> Result<Incoming, Bad>
     ensures { GivesMessage result (spelled bytes.now) }
 {
     match str::from_utf8(bytes) {
-        Ok(text) => read_request(alloc, text),
+        Ok(text) => read_request(alloc, text, scratch),
         Err(_) => Err(Bad::unread(Fault::NotJson)),
     }
 }
@@ -82,11 +87,12 @@ fn answer_message(
     room: &mut Room<Global>,
     author: Author,
     message: &[u8],
+    scratch: &mut Scratch,
 ) -> Result<Json, Memory>
     ensures { IfOk result (λ text. IsReply (message_answer room.old author (spelled message.now))
         (id_told (spelled message.now)) room.old text room.new) }
 {
-    match read_message(alloc, message) {
+    match read_message(alloc, message, scratch) {
         Ok(Incoming { id, body }) => answer_body(alloc, room, author, id, body),
         Err(bad) => reply_text(alloc, bad.id, &Answer::from(bad.fault)),
     }

@@ -22,6 +22,7 @@ use crate::replies::Replies;
 use crate::sink::Sink;
 use crate::source::Source;
 use room_history::room::Room;
+use room_wire::Scratch;
 use std::alloc::Global;
 
 // Answers each line that ends in the block, writes the replies, and holds what comes after the last.
@@ -31,6 +32,7 @@ fn answer_block<A: Answerer, W: Sink>(
     writer: &mut W,
     begun: &mut Vec<u8>,
     block: &[u8],
+    scratch: &mut Scratch,
 ) -> Result<(), StreamFault>
     requires works { W.has_failed writer.old ≡ false }
     requires held { IsLine begun.old.items }
@@ -51,7 +53,7 @@ fn answer_block<A: Answerer, W: Sink>(
     let mut replies = Replies::new(alloc);
     let mut rest = block;
     while !rest.is_empty() {
-        let answered = answer_lines(alloc, answers, begun, rest, &mut replies);
+        let answered = answer_lines(alloc, answers, begun, rest, &mut replies, scratch);
         replies.write_to(writer)?;
         replies.clear();
         rest = answered?;
@@ -90,18 +92,33 @@ fn replay_blocks<A: Answerer, S: Source, W: Sink>(
         → (S.has_failed reader.new ≡ false) × (W.has_failed writer.new ≡ false) }
 {
     let mut begun = Vec::new(alloc);
-    answer_block(alloc, answers, writer, &mut begun, held)?;
+    let mut scratch = Scratch::new(alloc);
+    answer_block(alloc, answers, writer, &mut begun, held, &mut scratch)?;
     for _ in 0..reads {
         let Ok(count) = reader.get(block) else {
             return Err(StreamFault::Read);
         };
         if count > 0 {
-            answer_block(alloc, answers, writer, &mut begun, &block[..count])?;
+            answer_block(
+                alloc,
+                answers,
+                writer,
+                &mut begun,
+                &block[..count],
+                &mut scratch,
+            )?;
         } else if begun.is_empty() {
             return Ok(());
         } else {
             // The last line is answered as if its line feed had come.
-            return answer_block(alloc, answers, writer, &mut begun, &[LINE_FEED]);
+            return answer_block(
+                alloc,
+                answers,
+                writer,
+                &mut begun,
+                &[LINE_FEED],
+                &mut scratch,
+            );
         }
     }
     Err(StreamFault::Read)

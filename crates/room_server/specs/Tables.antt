@@ -14,7 +14,7 @@ use Rattle.room_stacks.specs.Authors.{author_of}
 use Rattle.room_stacks.specs.SameAuthors.{is_same_author}
 use Rattle.room_server.specs.declared.table.TableFault.{TableFault}
 use Rattle.room_server.specs.declared.table.TableFault.TheVariants.{Unsound, Memory}
-use Rattle.turn_desk.specs.Desk.{DeskId, Sitting, IsAt, IsSameSeat, TurnsAt, LooksAt}
+use Rattle.turn_desk.specs.Desk.{DeskId, HasKin, IsAt, IsSameSeat, LooksAt, Sitting, TurnsAt}
 use Rattle.turn_desk.specs.History.{entries}
 
 abbrev pub DeskView : Type 0
@@ -99,6 +99,8 @@ pub record TurnsThere (desk : DeskView) (room : ℕ) (call : RoomCall Global) (r
   pub at : IsAt desk after
   pub same : IsSameSeat before after
   pub turn : TurnsAt IsTurn desk.fixed before call reply after
+  -- what the seat has seen has the entries of its own calls, and of those of each seat met into it, each once
+  pub kin : HasKin after.seen after
 
 -- the seat of a room looked at the desk's length, and no other seat changed
 pub record LooksThere (desk : DeskView) (room count : ℕ) (seats seats' : List SeatView) : Type 0 where
@@ -109,6 +111,7 @@ pub record LooksThere (desk : DeskView) (room count : ℕ) (seats seats' : List 
   pub at : IsAt desk after
   pub same : IsSameSeat before after
   pub look : LooksAt IsTurn desk.fixed before count after
+  pub kin : HasKin after.seen after
 
 -- what a fault of the map with which rooms were to begin is to the table
 abbrev pub base_fault : BaseFault Global → TableFault

@@ -1,7 +1,8 @@
 //! Workers.
-ghost use Rattle.std.specs.Prelude.{◌≡◌, map};
+ghost use Rattle.std.specs.Prelude.{◌≡◌, ℕ, map};
 ghost use Rattle.room_session.specs.Rooms.{KeepsKnown};
 ghost use Rattle.room_server.specs.Tables.{AreAt, known_through, mark};
+ghost use Rattle.room_socket.specs.Serving.{ServesEach};
 
 use crate::job::Job;
 use crate::seated::Seated;
@@ -33,6 +34,9 @@ pub fn worker<W: Wait + Clock + Log, G: Gate, S: Read + Write + Drop>(
     ensures at { AreAt table.now result.items }
     ensures same { map mark result.items ≡ map mark seats.items }
     ensures keeps { KeepsKnown (known_through table.now seats.items) (known_through table.now result.items) }
+    // The rooms were asked what some sessions ask, one after the other, and nothing else.
+    ensures serves { (sessions : ℕ)
+        × ServesEach turns sessions (known_through table.now seats.items) (known_through table.now result.items) }
 {
     let mut rooms = Seated::new(table, seats);
     for _ in rt.forever() {

@@ -23,7 +23,7 @@ use room_history::ask::{RoomCall, RoomReply};
 use room_stacks::author::Author;
 use room_wire::answer::Answer;
 use room_wire::incoming::{Body, Incoming};
-use room_wire::{read_request, reply_text};
+use room_wire::{Scratch, read_request, reply_text};
 use std::alloc::Global;
 use std::sync::Wait;
 
@@ -33,6 +33,7 @@ pub(crate) fn greet<R: Rooms, W: Wait>(
     rt: &W,
     rooms: &mut R,
     text: &str,
+    scratch: &mut Scratch,
 ) -> Result<Next, Memory>
     ensures text { (said : Result Incoming Bad) × GivesMessage said (spells text.now) × MatchResult result
         (λ next. Begins (R.known rooms.old) (only next.texts) next.state (R.known rooms.new) said)
@@ -41,7 +42,7 @@ pub(crate) fn greet<R: Rooms, W: Wait>(
     ensures kept { R.kept rooms.new ≡ R.kept rooms.old }
     ensures runs { IfOk result (λ next. IsRunOn next.state (R.known rooms.new)) }
 {
-    match read_request(alloc, text) {
+    match read_request(alloc, text, scratch) {
         Ok(message) => begin(alloc, rt, rooms, message),
         Err(bad) => refuse(alloc, bad.id, &Answer::from(bad.fault)),
     }

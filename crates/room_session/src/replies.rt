@@ -19,7 +19,7 @@ use room_wire::answer::Answer;
 use room_wire::asked::name_asked;
 use room_wire::incoming::{Body, Incoming};
 use room_wire::json_text::Json;
-use room_wire::{read_request, reply_text};
+use room_wire::{Scratch, read_request, reply_text};
 use std::alloc::Global;
 use std::sync::Wait;
 
@@ -32,6 +32,7 @@ pub(crate) fn reply_and_news<R: Rooms, W: Wait>(
     author: Author,
     told: u64,
     text: &str,
+    scratch: &mut Scratch,
 ) -> Result<Next, Memory>
     requires room { HasRoom (R.known rooms.old) room }
     requires told { told ≤ length ((R.known rooms.old).at room).seen }
@@ -42,7 +43,7 @@ pub(crate) fn reply_and_news<R: Rooms, W: Wait>(
     ensures kept { R.kept rooms.new ≡ R.kept rooms.old }
     ensures runs { IfOk result (λ next. IsRunOn next.state (R.known rooms.new)) }
 {
-    let reply = reply(alloc, rt, rooms, room, author, text)?;
+    let reply = reply(alloc, rt, rooms, room, author, text, scratch)?;
     let mut texts = Texts::empty(alloc);
     texts.push(reply)?;
     catch_up(alloc, rt, rooms, room, author, told, texts)
@@ -56,6 +57,7 @@ fn reply<R: Rooms, W: Wait>(
     room: usize,
     author: Author,
     text: &str,
+    scratch: &mut Scratch,
 ) -> Result<Json, Memory>
     requires { HasRoom (R.known rooms.old) room }
     ensures text { (said : Result Incoming Bad) × GivesMessage said (spells text.now) × (due : List ℕ)
@@ -63,7 +65,7 @@ fn reply<R: Rooms, W: Wait>(
     ensures keeps { KeepsKnown (R.known rooms.old) (R.known rooms.new) }
     ensures kept { R.kept rooms.new ≡ R.kept rooms.old }
 {
-    match read_request(alloc, text) {
+    match read_request(alloc, text, scratch) {
         Ok(Incoming { id, body }) => reply_to(alloc, rt, rooms, room, author, id, body),
         Err(bad) => reply_text(alloc, bad.id, &Answer::from(bad.fault)),
     }

@@ -17,7 +17,9 @@ use crate::rooms::Rooms;
 use crate::sent::{Sent, Texts};
 use osm_elements::Memory;
 use room_stacks::author::Author;
+use room_wire::Scratch;
 use std::alloc::Global;
+use std::fmt;
 use std::marker::Model;
 use std::sync::Wait;
 use thiserror::Error;
@@ -52,9 +54,17 @@ pub enum State {
 }
 
 /// A session with one client.
-#[derive(Debug, Drop)]
+#[derive(Drop)]
 pub struct Session {
     state: State,
+    // Working memory for the texts that the client sends.
+    scratch: Scratch,
+}
+
+impl fmt::Debug for Session {
+    fn fmt<W: fmt::Write>(&self, f: &mut fmt::Formatter<W>) -> fmt::Result {
+        write!(f, "Session({:?})", self.state)
+    }
 }
 
 // A session is seen as its state.
@@ -67,12 +77,13 @@ impl Model for Session {
 }
 
 impl Session {
-    /// A session whose client has said nothing yet.
-    pub fn new() -> Session
+    /// A session whose client has said nothing yet. It takes no memory: the allocator makes an empty list.
+    pub fn new(alloc: Global) -> Session
         ensures { result ≡ BeforeHello }
     {
         Session {
             state: State::BeforeHello,
+            scratch: Scratch::new(alloc),
         }
     }
 
@@ -102,10 +113,17 @@ impl Session {
         ensures kept { R.kept rooms.new ≡ R.kept rooms.old }
     {
         let next = match &self.state {
-            State::BeforeHello => greet(alloc, rt, rooms, text),
-            State::Open { room, author, told } => {
-                reply_and_news(alloc, rt, rooms, *room, *author, *told, text)
-            }
+            State::BeforeHello => greet(alloc, rt, rooms, text, &mut self.scratch),
+            State::Open { room, author, told } => reply_and_news(
+                alloc,
+                rt,
+                rooms,
+                *room,
+                *author,
+                *told,
+                text,
+                &mut self.scratch,
+            ),
             State::Closed => return Err(Ended),
         };
         Ok(self.go(alloc, next))

@@ -1,6 +1,6 @@
 -- What a session that is served over a stream makes of the rooms, event by event. (The rules of a session are this
 -- project's.)
-use Rattle.std.specs.Prelude.{◌≡◌, ◌≤◌, ℕ, List, [], ◌∷◌, Result, length}
+use Rattle.std.specs.Prelude.{◌≡◌, ◌≤◌, ℕ, zero, suc, List, [], ◌∷◌, Result, length}
 use Rattle.room_wire.specs.declared.bad.Bad.{Bad}
 use Rattle.room_wire.specs.declared.incoming.Incoming.{Incoming}
 use Rattle.room_wire.specs.Reading.{GivesMessage}
@@ -37,3 +37,9 @@ Follows (event ∷ later) state before state' after =
 abbrev pub Serves : ℕ → Known → Known → Type 0
 Serves turns before after =
     (events : List Event) × (length events ≤ turns) × ((state : State) × Follows events BeforeHello before state after)
+
+-- so many sessions were served, one after the other, each by so many events at most, and nothing else was asked
+abbrev pub ServesEach : ℕ → ℕ → Known → Known → Type 0
+ServesEach turns zero before after = after ≡ before
+ServesEach turns (suc sessions) before after =
+    (between : Known) × ServesEach turns sessions before between × Serves turns between after

@@ -70,7 +70,7 @@ fn run<S: Read + Write + Drop, R: Rooms, G: Gate, W: Wait + Clock>(
     ensures keeps { KeepsKnown (R.known rooms.old) (R.known rooms.new) }
     ensures kept { R.kept rooms.new ≡ R.kept rooms.old }
 {
-    let mut core = Session::new();
+    let mut core = Session::new(alloc);
     for _ in 0..turns {
         let step = turn(rt, alloc, socket, rooms, passage, &mut core);
         if let Some(end) = step {

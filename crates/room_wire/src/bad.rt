@@ -1,6 +1,6 @@
 //! What is wrong with a message.
-ghost use Rattle.std.specs.Prelude.{◌≡◌, ◌⊎◌};
-ghost use Rattle.serde_json.specs.Errors.{IsMemory};
+ghost use Rattle.std.specs.Prelude.{◌≡◌};
+ghost use Rattle.json_values.specs.declared.fault.Fault.TheVariants as values;
 ghost use Rattle.room_wire.specs.declared.bad.Fault.TheVariants.{Memory, NotJson};
 
 use crate::field::Field;
@@ -71,14 +71,13 @@ impl From<AllocError> for Fault {
     }
 }
 
-impl From<serde_json::Error> for Fault {
-    ghost from_gives = { λ e f. (IsMemory e × (f ≡ Memory)) ⊎ ((¬ IsMemory e) × (f ≡ NotJson)) };
+impl From<json_values::Fault> for Fault {
+    ghost from_gives = { λ v f. (v ≡ values.Memory → f ≡ Memory) × (v ≡ values.NotJson → f ≡ NotJson) };
 
-    fn from(error: serde_json::Error) -> Fault {
-        if error.is_memory() {
-            Fault::Memory
-        } else {
-            Fault::NotJson
+    fn from(fault: json_values::Fault) -> Fault {
+        match fault {
+            json_values::Fault::NotJson => Fault::NotJson,
+            json_values::Fault::Memory => Fault::Memory,
         }
     }
 }

@@ -29,6 +29,7 @@ mod write;
 mod write_map;
 mod write_news;
 
+pub use json_values::Scratch;
 pub use news::read_news;
 pub use read::read_request;
 pub use welcome::read_welcome;

@@ -12,6 +12,7 @@ use crate::forms::{author_at, el_of, object_at};
 use crate::listed::{Listed, rows_of};
 use crate::numbers::ordinal;
 use crate::read::parse;
+use json_values::Scratch;
 use osm_elements::map::Row;
 use room_history::news::{News, NewsRow, NewsRows};
 use serde_json::Value;
@@ -41,7 +42,7 @@ fn news_in(alloc: Global, text: &str) -> Result<News<Global>, Fault>
     ensures exact { Gives result (news_told (read text.now)) }
     ensures memory { IfErr result (λ f. f ≡ Memory → 0 < length text.now) }
 {
-    let mut message = parse(alloc, text)?;
+    let mut message = parse(alloc, text, &mut Scratch::new(alloc))?;
     news_of(alloc, &mut message)
 }
 

@@ -20,6 +20,7 @@ use crate::tag_forms::{given_tags_of, tags_of};
 use edit_actions::action::Action;
 use edit_actions::each_action;
 use edit_groups::edit::Edit;
+use json_values::{Scratch, read_value};
 use osm_elements::element::Element;
 use osm_elements::name::Kind;
 use room_history::call::Request;
@@ -103,26 +104,26 @@ macro_rules! field {
 /// them the id 0.
 ///
 /// `Memory` stands in the place of any other answer where a growth was refused, under the id if that was read
-/// before, or else under 0. The time is linear in
-/// the length of the text, but for the tags, whose number is limited.
-pub fn read_request(alloc: Global, text: &str) -> Result<Incoming, Bad>
+/// before, or else under 0. `scratch` is working memory, which grows to the length of the longest text. The time is
+/// linear in the length of the text, but for the tags, whose number is limited.
+pub fn read_request(alloc: Global, text: &str, scratch: &mut Scratch) -> Result<Incoming, Bad>
     ensures exact { GivesMessage result (spells text.now) }
     ensures memory { IfErr result (λ bad. bad.fault ≡ Memory → 0 < length text.now) }
 {
-    let mut message = parse(alloc, text).map_err(Bad::unread)?;
+    let mut message = parse(alloc, text, scratch).map_err(Bad::unread)?;
     let id = id_of(&message).map_err(Bad::unread)?;
     incoming_of(alloc, id, &mut message)
 }
 
 // The tree of a text.
 #[tactic(auto, using(crate::proofs::Empty::read_is_filled))]
-pub fn parse(alloc: Global, text: &str) -> Result<Value, Fault>
+pub fn parse(alloc: Global, text: &str, scratch: &mut Scratch) -> Result<Value, Fault>
     ensures ok { IfOk result (λ v. read text.now ≡ Some (view v)) }
     ensures filled { OnOk result (0 < length text.now) }
     ensures err { IfErr result (λ f. (f ≡ Memory) ⊎ ((f ≡ NotJson) × (read text.now ≡ None))) }
     ensures memory { IfErr result (λ f. f ≡ Memory → 0 < length text.now) }
 {
-    Ok(Value::from_str(alloc, text)?)
+    Ok(read_value(alloc, text, scratch)?)
 }
 
 // The id of a message.

@@ -13,6 +13,7 @@ use crate::forms::object_at;
 use crate::listed::rows_of;
 use crate::numbers::count_in;
 use crate::read::{id_of, parse};
+use json_values::Scratch;
 use osm_elements::map::{Row, Rows};
 use serde_json::Value;
 use std::alloc::Global;
@@ -45,7 +46,7 @@ pub fn read_welcome(alloc: Global, text: &str) -> Result<Welcome, Bad>
     ensures in_order { IfOk result (λ w. AreInOrder w.rows) }
     ensures kinds { IfOk result (λ w. are_of_kinds w.rows ≡ true) }
 {
-    let mut reply = parse(alloc, text).map_err(Bad::unread)?;
+    let mut reply = parse(alloc, text, &mut Scratch::new(alloc)).map_err(Bad::unread)?;
     let id = id_of(&reply).map_err(Bad::unread)?;
     welcomed(alloc, id, &mut reply)
 }

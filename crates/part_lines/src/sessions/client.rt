@@ -47,7 +47,7 @@ fn hear<R: Print + Wait>(
 {
     match event {
         Event::Connect => {
-            *session = Session::new();
+            *session = Session::new(alloc);
             println!(rt;)
         }
         Event::Quiet => show(rt, session.on_quiet(alloc, rt, rooms)),

@@ -1,13 +1,21 @@
-use Rattle.std.proofs.Common.{◌∙◌}
+use Rattle.std.proofs.Common.{◌∙◌, suc}
 use Rattle.room_session.specs.Facts.Running.{keeps_both}
 use Rattle.room_server.specs.Tables.{known_of, known_through}
 use Rattle.room_server.proofs.workers.worker.Goals as goal
 
--- a session keeps what is kept and known, and so do all of them
+-- a session keeps what is kept and known, and so do all of them; and it is one session more
 pub loop-preserved-in-loop : goal.loop-preserved-in-loop
 loop-preserved-in-loop g c =
-    (c.serve-end.ensures.kept ∙ c.loop.invariant.0, keeps_both (known_through c.args.table.now c.args.seats.items) (known_of c.loop.rooms) (known_of c.serve-end.new.rooms) c.loop.invariant.1 c.serve-end.ensures.keeps)
+    let served = c.loop.invariant.2 in (
+      c.serve-end.ensures.kept ∙ c.loop.invariant.0,
+      keeps_both (known_through c.args.table.now c.args.seats.items) (known_of c.loop.rooms) (known_of c.serve-end.new.rooms) c.loop.invariant.1 c.serve-end.ensures.keeps,
+      (suc served.0, (known_of c.loop.rooms, served.1, c.serve-end.ensures.serves)),
+    )
 
 pub loop-preserved : goal.loop-preserved
 loop-preserved g c =
-    (c.serve-end.ensures.kept ∙ c.loop.invariant.0, keeps_both (known_through c.args.table.now c.args.seats.items) (known_of c.loop.rooms) (known_of c.serve-end.new.rooms) c.loop.invariant.1 c.serve-end.ensures.keeps)
+    let served = c.loop.invariant.2 in (
+      c.serve-end.ensures.kept ∙ c.loop.invariant.0,
+      keeps_both (known_through c.args.table.now c.args.seats.items) (known_of c.loop.rooms) (known_of c.serve-end.new.rooms) c.loop.invariant.1 c.serve-end.ensures.keeps,
+      (suc served.0, (known_of c.loop.rooms, served.1, c.serve-end.ensures.serves)),
+    )

@@ -1,8 +1,12 @@
-use Rattle.std.specs.Prelude.{◌≡◌, map}
+use Rattle.std.proofs.Common.{◌≡◌, ℕ, map}
 use Rattle.room_session.specs.Rooms.{KeepsKnown}
 use Rattle.room_server.specs.Tables.{kept_of, known_of, known_through, mark}
 use Rattle.room_server.proofs.workers.worker.Given as goal
+use Rattle.room_socket.specs.Serving.{ServesEach}
 
--- the rooms are those of the table, through the seats that the worker was lent
+-- the rooms are those of the table, through the seats that the worker was lent, after the sessions so far
 abbrev pub invariant-loop : goal.invariant-loop
-invariant-loop g l = (kept_of l.rooms ≡ (l.table, map mark l.fn.seats.items)) × KeepsKnown (known_through l.table l.fn.seats.items) (known_of l.rooms)
+invariant-loop g l =
+    (kept_of l.rooms ≡ (l.table, map mark l.fn.seats.items))
+    × KeepsKnown (known_through l.table l.fn.seats.items) (known_of l.rooms)
+    × ((sessions : ℕ) × ServesEach l.turns sessions (known_through l.table l.fn.seats.items) (known_of l.rooms))

@@ -1,0 +1,4 @@
+mod Converted
+mod Items
+mod Members
+mod Values

@@ -1,0 +1,42 @@
+//! Why a text could not be read.
+ghost use Rattle.std.specs.Prelude.{◌≡◌};
+ghost use Rattle.json_values.specs.declared.fault.Fault.TheVariants as faults;
+
+use json::Invalid;
+use std::alloc::{AllocError, AllocFailed};
+use thiserror::Error;
+
+/// Why a text could not be read.
+#[derive(Clone, Copy, Debug, PartialEq, Eq, Error)]
+pub enum Fault {
+    /// The text is no JSON, nests deeper than 127, or has a number that is too large for a float.
+    #[error("the text is no JSON")]
+    NotJson,
+    /// An allocation failed.
+    #[error("out of memory")]
+    Memory,
+}
+
+impl From<AllocError> for Fault {
+    ghost from_gives = { λ _ fault. fault ≡ faults.Memory };
+
+    fn from(_error: AllocError) -> Fault {
+        Fault::Memory
+    }
+}
+
+impl<T: Drop> From<AllocFailed<T>> for Fault {
+    ghost from_gives = { λ _ fault. fault ≡ faults.Memory };
+
+    fn from(_error: AllocFailed<T>) -> Fault {
+        Fault::Memory
+    }
+}
+
+impl From<Invalid> for Fault {
+    ghost from_gives = { λ _ fault. fault ≡ faults.NotJson };
+
+    fn from(_invalid: Invalid) -> Fault {
+        Fault::NotJson
+    }
+}
