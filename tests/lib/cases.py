@@ -1,8 +1,8 @@
-"""The cases of a script, its words, and the report at its end.
+"""The cases of a script, its options, and the report at its end.
 
-A case is a function under a name. It fails where it raises something, as `want` does where another thing came than was
-wanted. A case counts as one check, or as each `check` that it makes, which is told where it fails and lets the case go
-on. So the last line of a script is `N passed, M failed`, behind `K skipped` where a case needs what is not there.
+A case is a function with a name. It fails if it raises an exception, for example by `want`. A case counts as one
+check, or as the number of its calls of `check`. If a `check` fails, the script prints it and the case goes on. The
+last line of a script is `N passed, M failed`, after `K skipped` if cases were skipped because software is missing.
 """
 import argparse
 import functools
@@ -15,24 +15,24 @@ LIBRARY = os.path.dirname(os.path.abspath(__file__))
 TESTS = os.path.dirname(LIBRARY)
 TOP = os.path.dirname(TESTS)
 
-# The programs that a script can be handed: by their word, where each is built, and what builds it.
+# The programs that a script can test: by their options, the path of each, and the command that builds it.
 PROGRAMS = {
     "program": ("crates/maproom/out/maproom", "cd crates/maproom && rt run -- replay <stdin"),
     "parts": ("crates/part_lines/out/part_lines", "cd crates/part_lines && rt run -- edits </dev/null"),
 }
 
-# What the script was given: the programs by their words, and how many times as long all may take.
+# The script's options: the programs, and the factor of its time limits.
 given = argparse.Namespace(slow=1.0)
 
-# Each case by its name: the function, and whether what it needs is there.
+# Each case by its name: the function, and whether its software is there.
 CASES = {}
 
-# So many characters of a value are printed where a check fails, the first that differs among them.
+# How many characters of a value are printed if a check fails, with the first that differs.
 MOST_CHARACTERS = 600
 
 
 class Differs(Exception):
-    """Another thing came than was wanted, perhaps at a place in a text, as `tests/texts/plans/x.txt:3`."""
+    """A value differs from the wanted value, perhaps at a place in a text, such as `tests/texts/plans/x.txt:3`."""
 
     def __init__(self, got, wanted, place=None):
         super().__init__(got, wanted)
@@ -40,18 +40,18 @@ class Differs(Exception):
 
 
 class Report:
-    """How many checks passed and failed and how many cases were skipped."""
+    """The numbers of checks that passed and failed, and of cases that were skipped."""
 
     def __init__(self):
         self.passed = self.failed = self.skipped = 0
 
     def fail(self, what, place, *lines):
-        """Counts a check that failed, and tells what, where and why."""
+        """Counts a check that failed, and prints its name, its place and the reason."""
         self.failed += 1
         print(f"{what} FAILED at {place}", *(f"  {line}" for line in lines), sep="\n", flush=True)
 
     def end(self):
-        """Prints the counts. Gives the status of the script."""
+        """Prints the counts. Returns the exit status of the script."""
         if self.skipped:
             print(f"{self.skipped} skipped")
         print(f"{self.passed} passed, {self.failed} failed", flush=True)
@@ -62,24 +62,24 @@ report = Report()
 
 
 def case(function, name=None, needs=None):
-    """Has a function be a case under its name or another. `needs` says whether what it needs is there."""
+    """Makes a function a case, under its own or another name. `needs` returns whether its software is there."""
     CASES[name or function.__name__] = (function, needs)
     return function
 
 
 def case_if(needs):
-    """The same of a case for which something has to be there."""
+    """Makes a function a case that needs software."""
     return functools.partial(case, needs=needs)
 
 
 def each_case(function, arguments, needs=None):
-    """Has a function be a case for each argument of some, by their names."""
+    """Makes a function a case for each argument, by the arguments' names."""
     for name, argument in arguments.items():
         case(functools.partial(function, argument), name, needs)
 
 
 def check(what, got, wanted, place=None):
-    """Counts a check of the case, and tells of it where it fails. Gives whether it passed."""
+    """Counts a check of the case, and prints it if it fails. Returns whether it passed."""
     if got == wanted:
         report.passed += 1
         return True
@@ -88,13 +88,13 @@ def check(what, got, wanted, place=None):
 
 
 def want(got, wanted, place=None):
-    """Fails the case where another thing came than is wanted."""
+    """Fails the case if a value differs from the wanted value."""
     if got != wanted:
         raise Differs(got, wanted, place)
 
 
 def both(got, wanted):
-    """The lines that tell what was wanted and what came, from a little before the first character in which they differ."""
+    """The lines with the wanted value and the value, from a little before the first character that differs."""
     texts = [repr(wanted), repr(got)]
     same = len(os.path.commonprefix(texts))
     start = max(0, same - MOST_CHARACTERS // 3)
@@ -102,21 +102,22 @@ def both(got, wanted):
 
 
 def cut(text, start):
-    """So much of a text as is printed."""
+    """The part of a text that is printed."""
     end = start + MOST_CHARACTERS
     return f"{'..' if start else ''}{text[start:end]}{'..' if end < len(text) else ''}"
 
 
 def place_in(frames):
-    """Where a case stands of which these are the frames: its lines in scripts, the outermost first."""
+    """The place of a case with these frames: its lines in scripts, the outermost first."""
     begins = [at for at, frame in enumerate(frames) if (frame.filename, frame.name) == (__file__, run.__name__)]
     frames = frames[begins[-1] + 1 :] if begins else frames
-    own = [frame for frame in frames if frame.filename.startswith(f"{TOP}/") and not frame.filename.startswith(LIBRARY)]
+    scripts = [frame for frame in frames if frame.filename.startswith(f"{TOP}/")]
+    own = [frame for frame in scripts if not frame.filename.startswith(f"{LIBRARY}/")]
     return ", ".join(f"{os.path.relpath(frame.filename, TOP)}:{frame.lineno}" for frame in own or frames[-1:])
 
 
 def run(name, function):
-    """Runs a case, and tells what came of it."""
+    """Runs a case, and prints its result."""
     passed, failed = report.passed, report.failed
     try:
         function()
@@ -137,7 +138,7 @@ def run(name, function):
 
 
 def chosen(names, words):
-    """The cases that are called so or, where none is, in whose names this stands; all where no name is given."""
+    """The cases with these names or, if no case has a name, those whose names contain it; without names all cases."""
     found = []
     for name in names:
         some = [name] if name in CASES else [other for other in CASES if name in other]
@@ -148,7 +149,7 @@ def chosen(names, words):
 
 
 def built(words, needs, may_need=()):
-    """Finds the programs that were named, or that are built."""
+    """Finds the programs that the options name, or that are built."""
     for word in (*needs, *may_need):
         path = os.path.abspath(getattr(given, word))
         setattr(given, word, path if os.path.isfile(path) else None)
@@ -157,24 +158,26 @@ def built(words, needs, may_need=()):
 
 
 def stop_when_told():
-    """Has a script that is told to stop end as by an exception, so that it ends what it started."""
+    """Makes SIGTERM raise an exception, so that the script ends what it started."""
     signal.signal(signal.SIGTERM, lambda *_: sys.exit("stopped"))
 
 
 def add_programs(words, needs, may_need=()):
-    """Adds the words for programs, each with where it is built."""
+    """Adds the options for programs, with the paths of the built programs."""
     for word in (*needs, *may_need):
         path = f"{TOP}/{PROGRAMS[word][0]}"
-        words.add_argument(f"--{word}", metavar="PATH", default=path, help=f"the program, else {PROGRAMS[word][0]}")
+        text = f"the program to test (otherwise {PROGRAMS[word][0]})"
+        words.add_argument(f"--{word}", metavar="PATH", default=path, help=text)
 
 
 def main(page, needs=("program",), may_need=(), options=None):
-    """Reads the words of a script, runs its cases or those that are named, reports, and ends. The page is what --help
-    prints first; `options` adds words of the script's own."""
+    """Reads the options of a script, runs its cases or the named cases, reports, and ends. --help prints `page` first;
+    `options` adds options of the script."""
     words = argparse.ArgumentParser(description=page, formatter_class=argparse.RawDescriptionHelpFormatter)
-    words.add_argument("names", nargs="*", metavar="CASE", help="a case to run, or a word in the names of some; else all")
+    names = "a case to run, or a word in the names of cases; without any, all"
+    words.add_argument("names", nargs="*", metavar="CASE", help=names)
     words.add_argument("--list", action="store_true", help="print the names of the cases")
-    words.add_argument("--slow", type=float, default=1, metavar="FACTOR", help="how many times as long all may take")
+    words.add_argument("--slow", type=float, default=1, metavar="FACTOR", help="multiply all time limits")
     add_programs(words, needs, may_need)
     if options:
         options(words)

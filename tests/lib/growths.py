@@ -1,11 +1,11 @@
-"""Runs in which each growth of a program's memory is refused in turn, by a library that is loaded before it
-(tests/preload/refusing.c)."""
+"""Runs in which one allocation of a program fails, each allocation in its own run. A library that is loaded before the
+program refuses it (tests/preload/refusing.c)."""
 import itertools
 
 from .cases import check
 from .preloaded import library
 
-# What the library tells on standard error when it has refused a growth.
+# What the library prints to standard error when it has refused an allocation.
 REFUSED = b"a growth was refused\n"
 
 # What may come of a growth that was refused in a line: the program ended there, or the line was answered so.
@@ -15,7 +15,7 @@ AS_IT_MAY = "each growth comes to what it may, and enough of them are told"
 
 
 def refusing(growth):
-    """The environment of a run in which the growth of this number is refused, counted from 1."""
+    """The environment of a run in which the allocation with this number fails, counted from 1."""
     return {"LD_PRELOAD": library("refusing"), "REFUSED_GROWTH": str(growth)}
 
 
@@ -31,7 +31,7 @@ def refused_runs(run):
 
 
 def place_of(blocks, wanted):
-    """The place of the first block that is not the one that is wanted, or that is missing."""
+    """The place of the first block that differs from the wanted block, or is missing."""
     return next((at for at, (block, other) in enumerate(zip(blocks, wanted)) if block != other), len(blocks))
 
 
@@ -66,6 +66,6 @@ def refuse_each(script, run, comes_of, is_enough):
 
 
 def told_at(script, ran, place):
-    """What a run told at the line of a place."""
+    """The output of a run for the line at a place."""
     blocks = script.blocks_of(ran.output)[place : place + 2]
     return f"status {ran.status}, {ran.errors[len(REFUSED):]!r}, {blocks}"

@@ -1,4 +1,4 @@
-"""The pages of the repository, in blocks: prose, which can be wrapped, tables, headings, and what stands as it is."""
+"""The pages of the repository in blocks: prose, which can be wrapped, tables, headings, and code."""
 import glob
 import os
 import re
@@ -10,27 +10,28 @@ WIDTH = 100
 
 FENCE = "```"
 ITEM = re.compile(r"( *)([-*]|\d+\.) +")
-# What stays together in a line: words, with the code in them whole.
+# Words, which stay in one line, with the code in them.
 WORD = re.compile(r"(?:`[^`]*`|[^\s`])+")
-# What would be read as something else at the front of a line.
+# Marks that have a meaning at the beginning of a line.
 MARKS = re.compile(r"([-+*>|#]|\d+[.)])")
 
 
 def paths():
-    """The pages, README first."""
-    return [f"{TOP}/README.md", f"{TOP}/CONTRIBUTING.md", f"{TOP}/CHANGELOG.md", f"{TOP}/SECURITY.md", *sorted(glob.glob(f"{TOP}/docs/*.md"))]
+    """The pages, README.md first."""
+    top = [f"{TOP}/{name}.md" for name in ("README", "CONTRIBUTING", "CHANGELOG", "SECURITY")]
+    return [*top, *sorted(glob.glob(f"{TOP}/docs/*.md")), f"{TOP}/tests/README.md", f"{TOP}/bench/README.md"]
 
 
 class Block:
-    """Lines of a page that belong together: of what kind they are, and the number of the first."""
+    """Lines of a page that belong together, their kind, and the number of the first."""
 
     def __init__(self, kind, number, lines):
         self.kind, self.number, self.lines = kind, number, lines
 
 
 def kind_of(line, is_fenced, depth):
-    """What a line begins where nothing goes on: code that is fenced or indented, a table, a heading, or prose. `depth` is
-    how far the text of a list's item stands in."""
+    """The kind of block that a line begins: code (fenced or indented), a table, a heading, or prose. `depth` is the
+    indentation of a list item's text."""
     if is_fenced or line.startswith(FENCE):
         return "fence"
     if not line.strip():
@@ -62,7 +63,7 @@ def blocks_of(text):
 
 
 def wrapped(lines):
-    """Lines of prose, or of one item of a list, wrapped anew."""
+    """Lines of prose, or of one item of a list, wrapped."""
     item = ITEM.match(lines[0])
     first = item[0] if item else re.match(" *", lines[0])[0]
     rest = " " * len(first)
@@ -79,7 +80,7 @@ def wrapped(lines):
 
 
 def wrap(text):
-    """A page with its prose wrapped anew."""
+    """A page with its prose wrapped."""
     return "\n".join(line for block in blocks_of(text) for line in (wrapped(block.lines) if block.kind == "prose" else block.lines))
 
 
@@ -91,12 +92,12 @@ def spans_of(block):
 
 
 def commands_of(block):
-    """The lines of a block of code, each with its number. One that is fenced has its language in the first line."""
+    """The lines of a block of code, each with its number. A fenced block has its language in the first line."""
     return list(enumerate(block.lines, block.number))[1 if block.kind == "fence" else 0 :]
 
 
 def anchors_of(text):
-    """What links can name of a page: its headings, as they are written in addresses."""
+    """The anchors of a page: its headings in the form of links."""
     headings = [block.lines[0].lstrip("#").strip() for block in blocks_of(text) if block.kind == "heading"]
     return {re.sub(r"[^\w\- ]", "", heading.lower()).replace(" ", "-") for heading in headings}
 
@@ -108,5 +109,5 @@ def read(path):
 
 
 def name_of(path):
-    """What a page is called."""
+    """The name of a page: its path from the top."""
     return os.path.relpath(path, TOP)

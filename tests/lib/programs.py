@@ -1,4 +1,4 @@
-"""What came of a command."""
+"""The result of a command."""
 import subprocess
 import time
 from typing import NamedTuple
@@ -6,12 +6,12 @@ from typing import NamedTuple
 from .cases import given
 from .websocket import Late
 
-# How many seconds a program may take that is waited for, with its start.
+# The time limit of a program in seconds, with its start.
 PATIENCE = 90
 
 
 class Ran(NamedTuple):
-    """What came of a command: its status, and all that it wrote to standard output and to standard error."""
+    """The result of a command: its status, its standard output and its standard error."""
 
     status: int
     output: bytes
@@ -27,7 +27,7 @@ class Ran(NamedTuple):
 
 
 def lines_of(text):
-    """The lines of a text that ends with a line feed, which alone ends a line."""
+    """The lines of a text that ends with a line feed. Only a line feed ends a line."""
     return text.split("\n")[:-1]
 
 
@@ -37,19 +37,19 @@ def text_of(lines):
 
 
 def run(*words, lines=b"", **how):
-    """What came of a command over an input, or over a stream that is named as `stdin`."""
+    """The result of a command over an input, or over a stream that is given as `stdin`."""
     streams = {"stdout": subprocess.PIPE, "stderr": subprocess.PIPE, **({} if "stdin" in how else {"input": lines})}
     ran = subprocess.run(words, check=False, **streams, **how)
     return Ran(ran.returncode, ran.stdout, ran.stderr)
 
 
 def run_soon(*words, **how):
-    """The same of one that may not take longer than anything that is waited for."""
+    """The same for a command with a time limit."""
     return run(*words, timeout=PATIENCE * given.slow, **how)
 
 
 def wait_for(what, value):
-    """Waits until something has a value that is true, and gives it."""
+    """Waits until `value` returns a true value, and returns it."""
     deadline = time.monotonic() + PATIENCE * given.slow
     while True:
         found = value()

@@ -1,11 +1,11 @@
-"""Files that tell runs by lines: what goes in stands behind a mark, and below each such line stands what comes out.
+"""Files of runs: a line with the mark `> ` is input, and the lines after it are the output that it has to cause.
 
     # A remark.
     limit 1
     > anna {"id":1,"do":"undo"}
     {"id":1,"no":{"why":"nothing_to_undo"}}
 
-The line `limit N` before them says how many entries the room takes, where that is told.
+A line `limit N` in front of the input is the limit of the room's journal.
 """
 import functools
 import glob
@@ -19,8 +19,7 @@ MARK = "> "
 
 
 class Text:
-    """What a text tells: the limit of the room, if one is told; the lines that go in, each with its number in the text;
-    and what comes out for each."""
+    """A run: the limit of the room or None, the input lines, their numbers in the file, and their output, in blocks."""
 
     def __init__(self, text, path):
         self.path, self.limit = path, None
@@ -36,38 +35,41 @@ class Text:
                 self.limit = line.split()[1]
 
     def place(self, at):
-        """Where the line of this place stands."""
+        """The file and line number of the input line at this index."""
         return f"{os.path.relpath(self.path, TOP)}:{self.numbers[at]}"
 
     def goes_as_told(self, run, blocks_of):
-        """Fails where a run over the lines does not tell what comes out, in blocks, or tells a fault."""
+        """Fails if a run over the input does not print exactly the blocks, or fails. The place of the failure is the
+        first input line whose block differs or is missing, otherwise the last input line."""
         ran = run(self)
         found = blocks_of(ran.output)
         at = next((at for at, (one, other) in enumerate(zip(found, self.blocks)) if one != other), None)
         if at is not None:
             raise Differs(found[at], self.blocks[at], f"{self.place(at)} {self.lines[at][:200]}")
         if (ran.status, ran.errors, len(found)) != (0, b"", len(self.blocks)):
-            raise Differs((ran.status, ran.errors, len(found)), (0, b"", len(self.blocks)), self.place(len(found) - 1))
+            at = min(len(found), len(self.blocks) - 1)
+            place = f"{self.place(at)} {self.lines[at][:200]}" if self.lines else os.path.relpath(self.path, TOP)
+            raise Differs((ran.status, ran.errors, len(found)), (0, b"", len(self.blocks)), place)
 
 
 def read(path):
-    """What a file tells."""
+    """The run in a file."""
     with open(path, encoding="utf-8", newline="\n") as file:
         return Text(file.read(), path)
 
 
 def files_in(folder):
-    """The files of a folder of tests/texts that tell runs, by what they are called, in that order."""
+    """The files of a folder of tests/texts that have runs: their paths by their names, in the order of the names."""
     return {os.path.basename(path)[: -len(".txt")]: path for path in sorted(glob.glob(f"{TEXTS}/{folder}/*.txt"))}
 
 
 def lines_of_output(output):
-    """The blocks of an output that has one line for each that went in."""
+    """The blocks of an output with one line for each input line."""
     return [[line] for line in lines_of(output.decode())]
 
 
 def blocks_of_output(output):
-    """The blocks of an output in which an empty line ends what is told for each line that went in."""
+    """The blocks of an output in which an empty line ends the block of each input line."""
     blocks = [[]]
     for line in lines_of(output.decode()):
         if line:
@@ -78,8 +80,8 @@ def blocks_of_output(output):
 
 
 class Script:
-    """A script of tests/texts/scripts or of another folder there, of which each growth is refused: its words, its
-    lines, its output, and that in blocks, one for each line. Lines before those are a base, which has none."""
+    """A script of tests/texts/scripts, or of another folder there, in which tests refuse each allocation. It has
+    arguments, lines, an output, and the output's blocks, one for each line. A base has no block."""
 
     def __init__(self, name, blocks_of, folder="scripts"):
         self.name, self.blocks_of, self.path = name, blocks_of, f"{folder}/{name}"
@@ -90,17 +92,17 @@ class Script:
         self.base, self.lines = lines[: -len(self.blocks)], lines[-len(self.blocks) :]
 
     def place(self, at):
-        """Where the line of this place stands."""
+        """The file and line number of the line at this index."""
         return f"tests/texts/{self.path}.in:{len(self.base) + at + 1}"
 
     def without(self, place):
-        """The lines but that of a place."""
+        """The lines without the one at this index."""
         return self.lines[:place] + self.lines[place + 1 :]
 
 
 @functools.lru_cache(maxsize=None)
 def content(name):
-    """The bytes of a file of tests/texts, or nothing where there is none."""
+    """The bytes of a file of tests/texts, or None if there is no such file."""
     path = f"{TEXTS}/{name}"
     if not os.path.exists(path):
         return None
@@ -109,5 +111,5 @@ def content(name):
 
 
 def bytes_of(lines):
-    """Lines as the input of a program."""
+    """Lines as the standard input of a program."""
     return text_of(lines).encode()

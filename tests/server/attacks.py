@@ -1,4 +1,4 @@
-"""Checks of the server under clients that want to use up its memory or its descriptors, and with a standard error that is
+"""Tests the server under clients that try to use up its memory or its descriptors, and with a standard error that is
 closed, that is full, or that nobody reads."""
 import contextlib
 import functools

@@ -1,4 +1,4 @@
-"""Checks of the server with rooms that begin with a map: what clients are told of it, and when the program reads it."""
+"""Tests the server with rooms that begin with a map: what clients receive of it, and when the program reads it."""
 import contextlib
 import json
 import os

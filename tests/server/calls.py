@@ -1,5 +1,5 @@
-"""Checks of the server in which one call of the system fails: of a session's reads and writes each in turn, and of those by which the
-program listens, accepts and starts its workers."""
+"""Tests the server if a system call fails: each read and each write of a session, and the calls by which the program
+listens, accepts and starts its workers."""
 import collections
 import errno
 import functools

@@ -1,4 +1,4 @@
-"""Checks of the server with each growth of its memory refused in turn, from its first to its last."""
+"""Tests the server if an allocation fails: each of a run, from the first to the last."""
 import collections
 import itertools
 

@@ -1,4 +1,4 @@
-"""Checks of the server with many clients, slow ones, and such that edit at random and keep mirrors of the map."""
+"""Tests the server with many clients, slow clients, and clients that edit at random and keep mirrors of the map."""
 import concurrent.futures
 import json
 import random

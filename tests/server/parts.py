@@ -1,5 +1,5 @@
-"""Checks of the server as part_lines runs it, where what `maproom serve` leaves to chance or to its bound is in hand: a
-message that is held back, and sessions that read few messages."""
+"""Tests the server of part_lines, which controls what `maproom serve` leaves to chance or to its limit: a message that
+waits, and sessions that read few messages."""
 from lib.cases import case_if, each_case, given, want
 from lib.talk import SILENCE, be_closed, create, finish, hear, hello, leave, news, node, ok, refused, serving_parts
 from lib.talk import talk, welcome

@@ -1,4 +1,4 @@
-"""Checks of the server: what is said in sessions, text by text, and what the program prints, logs and refuses."""
+"""Tests the sessions of the server, text by text, and what the program prints, logs and refuses."""
 import functools
 import json
 import socket

@@ -1,5 +1,4 @@
-"""Checks of the server against RFC 6455: what a client must not send, streams that halt, end or are reset, and what
-may come in pieces."""
+"""Tests the server against RFC 6455: forbidden messages, slow and broken streams, and messages in pieces."""
 import itertools
 
 from lib.cases import case, each_case, want
