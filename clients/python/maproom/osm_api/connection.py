@@ -12,6 +12,10 @@ Action = dict[str, Any]
 # map can show whether it accepted.
 UNKNOWN = "unknown"
 
+# The reasons of refusals that the bridge gives itself: another entry changed an element that a group had planned on;
+# entries were missed, so that this may be; and what has to be sent is too large for a group.
+OVERTAKEN, MISSED, TOO_LARGE = "overtaken", "missed", "too_large"
+
 # What refusals say, by their reasons. The fields in braces are those of the refusal.
 WORDS = {
     "full": "the journal is full",
@@ -20,8 +24,11 @@ WORDS = {
     "in_use": "{by} refers to {el}",
     "out_of_range": "{el} would leave the range of latitudes or longitudes",
     "nothing_to_redo": "there is nothing to redo",
+    "memory": "the server is out of memory",
     "not_sent": "the server was restarted before the message was sent",
     UNKNOWN: "the server was restarted before it answered",
+    MISSED: "others may have changed its elements just before it",
+    TOO_LARGE: "what would take it back is too large for a group",
 }
 
 
@@ -62,10 +69,11 @@ class Refusal:
 
     def in_words(self, authors: Mapping[int, str]) -> str:
         """Returns what the refusal says, with the name of the author that is in the way."""
-        if self.why == "conflict":
+        if self.why in ("conflict", OVERTAKEN):
             entry, author = self.fields.get("with", 0), authors.get(self.fields.get("with", 0))
             whose = f"entry {entry} of {author}" if author else f"entry {entry}"
-            return f"{whose} changed {self.fields.get('at')} since, and has to be undone first"
+            when = "since, and has to be undone first" if self.why == "conflict" else "just before it"
+            return f"{whose} changed {self.fields.get('at')} {when}"
         fields = {key: value for key, value in self.fields.items() if key != "action"}
         try:
             return WORDS[self.why].format_map(fields)

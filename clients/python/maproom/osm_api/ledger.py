@@ -51,13 +51,19 @@ class Known:
 class PendingUpload:
     """An upload that was sent to the room and not answered: what the editor has to be answered if the room accepted
     it. `request` identifies the editor's request, `message` is the id that the room spends for it, and each result has
-    the kind's word, the old id, the room's name or None, and the digest of the content."""
+    the kind's word, the old id, the room's name or None, and the digest of the content. `seen` is the last entry that
+    its plan knew, until it is sure that no other entry overtook the upload."""
 
     request: str
     author: str
     changeset: int
     message: int
     results: tuple[tuple[str, int, str | None, str], ...]
+    seen: int | None = None
+
+    def may_be_overtaken(self, seq: int) -> bool:
+        """Returns whether the upload, if it is this entry, may be overtaken by another."""
+        return self.seen is not None and seq > self.seen + 1
 
 
 def line_of(payload: str) -> bytes:
@@ -89,15 +95,15 @@ def element_in(rest: str) -> tuple[str, Known]:
 
 def upload_line(upload: PendingUpload) -> str:
     """Returns the line of an upload."""
-    values = [upload.request, upload.author, upload.changeset, upload.message, upload.results]
+    values = [upload.request, upload.author, upload.changeset, upload.message, upload.results, upload.seen]
     return f"{UPLOAD} {compact(values)}"
 
 
 def upload_in(rest: str) -> PendingUpload:
     """Returns the upload of a line."""
-    request, author, changeset, message, results = json.loads(rest)
+    request, author, changeset, message, results, seen = json.loads(rest)
     return PendingUpload(request, author, changeset, message,
-                         tuple((word, old, name, state) for word, old, name, state in results))
+                         tuple((word, old, name, state) for word, old, name, state in results), seen)
 
 
 class LedgerFile:
@@ -231,7 +237,7 @@ class Ledger:
     # uploads
 
     def begin(self, upload: PendingUpload) -> None:
-        """Notes that an upload is about to be sent."""
+        """Notes that an upload is about to be sent, or what is known of it since."""
         self.pending[upload.request] = upload
         self._write([upload_line(upload)])
 

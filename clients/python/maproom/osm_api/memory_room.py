@@ -1,7 +1,8 @@
 """A room in memory, for tests and trials without a server.
 
-It does what the API needs: groups of creates, retags, moves, nodes, members and deletes, undo and redo. An undo is
-blocked by any later change of the same element, while a room distinguishes between tags and the rest."""
+It does what the API needs: groups of creates, retags, moves, nodes, members and deletes, undo and redo. As in a room,
+an undo is blocked by a later change of the same part of an element: its tags or the rest. Here a group has changed what
+differs in the end, while a room also counts what a group changes and changes back."""
 import asyncio
 import copy
 from collections.abc import Awaitable, Callable, Mapping, Sequence
@@ -9,6 +10,11 @@ from dataclasses import dataclass
 
 from .connection import Accepted, Action, Answer, Listener, News, Refusal, RoomConnection, Welcome
 from .elements import Row, Rows, coordinate_text, is_in_world, is_same, references, text_units
+from .ids import KIND_ORDER
+
+# A part of an element: its name, and which part.
+Part = tuple[str, str]
+TAGS, REST = "tags", "rest"
 
 
 class Refused(Exception):
@@ -29,9 +35,19 @@ class JournalEntry:
     after: Rows
     is_active: bool
 
+    @property
+    def parts(self) -> set[Part]:
+        """The parts that the entry changed, with those of elements that others begin or cease to refer to."""
+        found: set[Part] = set()
+        for name, row in self.after.items():
+            before = self.before[name]
+            found |= {(name, part) for part in changed_parts(before, row)}
+            found |= {(used, REST) for used in set(references(before)) ^ set(references(row))}
+        return found
+
 
 class MemoryRoom:
-    """A room. Tests can hold news back, act before a group is applied, and lose answers."""
+    """A room. Tests can hold news back, act before a group or an undo is applied, and lose answers."""
 
     def __init__(self, rows: Sequence[Row] = (), room: str = "hamlet", limit: int = 1_000_000) -> None:
         self.room, self.limit, self.is_open = room, limit, True
@@ -43,6 +59,8 @@ class MemoryRoom:
         # awaited before a group is applied, and after it, before its answer
         self.before_group: Callable[[], Awaitable[None]] | None = None
         self.after_group: Callable[[], Awaitable[None]] | None = None
+        # awaited before an undo is applied
+        self.before_undo: Callable[[], Awaitable[None]] | None = None
         self._redo: dict[str, list[JournalEntry]] = {}
         self._listeners: list[Listener] = []
         self._held: list[News] = []
@@ -91,6 +109,8 @@ class MemoryRoom:
     async def undo(self, author: str, seq: int) -> Answer:
         """Undoes an entry."""
         await asyncio.sleep(0)
+        if self.before_undo:
+            await self.before_undo()
         return self.take_back(author, seq)
 
     async def redo(self, author: str) -> Answer:
@@ -147,7 +167,7 @@ class MemoryRoom:
         return Accepted(self._enter(author, draft, True))
 
     def take_back(self, author: str, seq: int) -> Answer:
-        """Undoes an entry, unless a later active entry changed one of its elements."""
+        """Undoes an entry, unless a later active entry changed a part of an element that it changed."""
         if len(self.journal) >= self.limit:
             return Refusal("full")
         if seq > len(self.journal):
@@ -157,13 +177,25 @@ class MemoryRoom:
             return Refusal("not_yours")
         if not entry.is_active:
             return Refusal("not_standing")
+        parts = entry.parts
         for later in self.journal[seq:]:
-            both = later.after.keys() & entry.after.keys()
-            if later.is_active and both:
-                return Refusal("conflict", {"with": later.seq, "at": min(both)})
+            both = parts & later.parts if later.is_active else None
+            if both:
+                return Refusal("conflict", {"with": later.seq, "at": min((name for name, _ in both), key=place_of)})
         entry.is_active = False
         self._redo.setdefault(author, []).append(entry)
-        return Accepted(self._enter(author, entry.before, False), seq)
+        rows = {name: self._without(name, before, entry.after[name]) for name, before in entry.before.items()}
+        return Accepted(self._enter(author, rows, False), seq)
+
+    def _without(self, name: str, before: Row | None, after: Row | None) -> Row | None:
+        """Returns an element with the parts that it had before it was changed, and with the others as they are now."""
+        now = self.elements.get(name)
+        if before is None or after is None or now is None:
+            return before
+        parts = changed_parts(before, after)
+        row = before.copy() if REST in parts else now.copy()
+        row["tags"] = before["tags"] if TAGS in parts else now["tags"]
+        return row
 
     def _enter(self, author: str, after: Rows, is_active: bool) -> int:
         """Makes an entry, and tells it."""
@@ -244,6 +276,24 @@ class MemoryRoom:
         for user in {*self.elements, *draft}:
             if user != name and name in references(self._row(draft, user)):
                 raise Refused("in_use", el=name, by=user)
+
+
+def place_of(name: str) -> tuple[int, int]:
+    """Sorts names as a room does."""
+    return KIND_ORDER[name[0]], int(name[1:])
+
+
+def changed_parts(before: Row | None, after: Row | None) -> set[str]:
+    """Returns the parts in which two rows of an element differ."""
+    if before is None or after is None:
+        return {TAGS, REST}
+    found = {TAGS} if before["tags"] != after["tags"] else set()
+    return found | {REST} if rest_of(before) != rest_of(after) else found
+
+
+def rest_of(row: Row) -> tuple[object, ...]:
+    """Returns the position or the list of a row."""
+    return row.get("lat"), row.get("lon"), row.get("nodes"), row.get("members")
 
 
 def changed(before: Row, action: Action) -> Row:

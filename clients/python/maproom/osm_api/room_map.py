@@ -1,5 +1,7 @@
 """The map of a room with all that the API asks of it: versions, users of an element, and bounding boxes."""
 import asyncio
+import contextlib
+import itertools
 import time
 from collections import deque
 from collections.abc import Callable, Collection, Iterable, Mapping
@@ -12,8 +14,17 @@ from .grid import Grid
 from .ids import Kind, room_name
 from .ledger import Known, Ledger
 
-# Entries of so many elements in all are remembered, for the page and to see who changed an element during an upload.
+# Entries of so many elements in all are remembered, for the page and to see which may be taken back.
 MOST_RECENT = 200_000
+
+# A watch keeps so many rows. An upload has at most half as many, and the rows of others come on top.
+MOST_WATCHED = 20_000
+
+# A bridge takes an upload back within so many seconds, if it has to.
+SETTLING_SECONDS = 2.0
+
+# So many entries that the bridge made itself are known, which is more than it makes in that time.
+MOST_OWN = 1_000
 
 # A name that an editor asks for and that nothing has is not given to a new element, unless its number is absurd.
 MOST_AVOIDED = 10**12
@@ -21,12 +32,60 @@ MOST_AVOIDED = 10**12
 
 @dataclass(frozen=True)
 class Entry:
-    """An entry, and the versions that it gave to the elements that it changed."""
+    """An entry, and the versions that it gave to the elements that it changed. `moment` is when it came, on a clock
+    that never goes back."""
 
     seq: int
     author: str
     versions: Mapping[str, int]
     time: float
+    moment: float
+
+
+@dataclass(frozen=True)
+class Step:
+    """What an entry did to watched elements: their rows before it and after it."""
+
+    entry: Entry
+    before: Rows
+    after: Rows
+
+
+class Watch:
+    """What entries do to some elements since an entry. `known` is the last entry up to which none was missed."""
+
+    def __init__(self, names: Iterable[str], since: int) -> None:
+        self.names, self.since, self.known = frozenset(names), since, since
+        self.steps: list[Step] = []
+        self._count = 0
+
+    def begin_again(self, seq: int) -> None:
+        """Forgets all, since another run of the server begins, whose entries are others."""
+        self.since = self.known = seq
+        self.steps.clear()
+        self._count = 0
+
+    def add(self, entry: Entry, before: Rows, after: Rows) -> None:
+        """Takes an entry, with the rows of the watched elements that it changed."""
+        self.known += self.known == entry.seq - 1
+        if after:
+            self.steps.append(Step(entry, before, after))
+            self._count += len(after)
+        while self._count > MOST_WATCHED and len(self.steps) > 1:
+            self._count -= len(self.steps.pop(0).after)
+            self.known = self.since
+
+    def step(self, seq: int) -> Step | None:
+        """Returns what an entry did, or None if it did nothing or was missed."""
+        return next((step for step in self.steps if step.entry.seq == seq), None)
+
+    def between(self, seq: int, other: int) -> list[Step] | None:
+        """Returns what the entries between two others did, or None if some of them may have been missed."""
+        if other <= seq + 1:
+            return []
+        if self.known < other - 1:
+            return None
+        return [step for step in self.steps if seq < step.entry.seq < other]
 
 
 class RoomMap:
@@ -36,9 +95,11 @@ class RoomMap:
         self.ledger, self.clock = ledger, clock
         self.elements: dict[str, Row] = {}
         self.grid = Grid()
-        self.seq, self.run, self.welcomes = -1, -1, 0
+        self.seq, self.run = -1, -1
         self.recent: deque[Entry] = deque()
         self._recent_count = 0
+        self._own: dict[int, bool] = {}
+        self._watch: Watch | None = None
         self._users: dict[str, set[str]] = {}
         # if a killed bridge had sent an upload, its new elements come with the first welcome
         self._created = frozenset(name for pending in ledger.pending.values() for _, old, name, _ in pending.results
@@ -53,23 +114,30 @@ class RoomMap:
         is_other_run = welcome.run != self.run
         if is_other_run:
             self.recent.clear()
+            self._own.clear()
             self._recent_count = 0
+            if self._watch:
+                self._watch.begin_again(welcome.seq)
         self.elements, self._users, self.grid = {}, {}, Grid()
         for name, row in welcome.elements.items():
             self._put(name, row)
         self.ledger.welcome(self.elements, self.clock(), self._created)
         self.seq, self.run = welcome.seq, welcome.run
-        self.welcomes += 1
         self._wake(is_other_run)
 
     def on_news(self, news: News) -> None:
         """Takes what an entry changed."""
+        watched = {name: row for name, row in news.rows.items() if self._watch and name in self._watch.names}
+        before = {name: self.row(name) for name in watched}
         for name, row in news.rows.items():
             self._put(name, row)
         now = self.clock()
         self.ledger.news(news.rows, news.seq, news.author, now, self._created)
         versions = {name: self.ledger.known[name].version for name in news.rows}
-        self._remember(Entry(news.seq, news.author, versions, now))
+        entry = Entry(news.seq, news.author, versions, now, time.monotonic())
+        self._remember(entry)
+        if self._watch:
+            self._watch.add(entry, before, watched)
         self.seq = news.seq
         self._wake()
 
@@ -83,6 +151,15 @@ class RoomMap:
     def expect(self, created: Iterable[str]) -> None:
         """Names the elements that an upload creates, which get version 1."""
         self._created = frozenset(created)
+
+    def watch(self, names: Iterable[str]) -> Watch:
+        """Keeps what entries do to some elements from now on, and no longer what they do to others."""
+        self._watch = Watch(names, self.seq)
+        return self._watch
+
+    def unwatch(self) -> None:
+        """Ends the last watch."""
+        self._watch = None
 
     async def reached(self, seq: int) -> None:
         """Waits until an entry is in the map."""
@@ -182,10 +259,47 @@ class RoomMap:
         ways = [used for used in names if used[0] == "w"]
         return names.union(*(references(self.elements[way]) for way in ways))
 
-    def entries_after(self, seq: int) -> list[Entry] | None:
-        """Returns the entries after an entry, or None if some of them are not remembered."""
-        entries = [entry for entry in self.recent if entry.seq > seq]
-        return entries if len(entries) == self.seq - seq else None
+    def note_own(self, seq: int, is_kept: bool = False) -> None:
+        """Notes that the bridge made an entry itself, and whether nobody overtook it, so that it is not taken back."""
+        self._own[seq] = is_kept
+        while len(self._own) > MOST_OWN:
+            del self._own[next(iter(self._own))]
+
+    def unsettled(self, moment: float) -> dict[str, Entry]:
+        """Returns the entries before a moment that another bridge may still take back, by the elements that they
+        changed. Of several on an element it is the last.
+
+        Another author's entry on the same elements came shortly before such an entry, and nothing of its author came
+        after it: a bridge takes an upload back before it sends the next. The bridge's own entries are settled, and so
+        is what those built on that it kept."""
+        found: dict[str, Entry] = {}
+        settled: set[str] = set()
+        since, later = time.monotonic() - SETTLING_SECONDS, set()
+        for entry in itertools.takewhile(lambda entry: entry.moment >= since, reversed(self.recent)):
+            if entry.seq in self._own:
+                settled.update(entry.versions if self._own[entry.seq] else ())
+                continue
+            if entry.moment < moment and entry.author not in later and self._may_be_overtaken(entry):
+                for name in entry.versions.keys() - settled:
+                    found.setdefault(name, entry)
+            later.add(entry.author)
+        return found
+
+    def _may_be_overtaken(self, entry: Entry) -> bool:
+        """Returns whether another author's entry on the same elements came shortly before an entry."""
+        since = entry.moment - SETTLING_SECONDS
+        return any(other.seq < entry.seq and other.author != entry.author
+                   and not other.versions.keys().isdisjoint(entry.versions)
+                   for other in itertools.takewhile(lambda other: other.moment >= since, reversed(self.recent)))
+
+    async def settled(self, entry: Entry) -> None:
+        """Waits until an entry cannot be taken back any more, or until its author made another one."""
+        while (left := entry.moment + SETTLING_SECONDS - time.monotonic()) > 0:
+            later = itertools.takewhile(lambda other: other.seq > entry.seq, reversed(self.recent))
+            if any(other.author == entry.author and other.seq not in self._own for other in later):
+                return
+            with contextlib.suppress(asyncio.TimeoutError):
+                await asyncio.wait_for(self.reached(self.seq + 1), left)
 
     def versions_of(self, rows: Rows) -> dict[str, int]:
         """Returns the versions of elements for an editor that has these contents.
@@ -200,3 +314,9 @@ class RoomMap:
 def rows_are(elements: RoomMap, rows: Rows) -> bool:
     """Returns whether the elements of a map are these."""
     return all(is_same(elements.row(name), row) for name, row in rows.items())
+
+
+def last_of(entries: Mapping[str, Entry], names: Iterable[str]) -> Entry | None:
+    """Returns the last of the entries on some elements."""
+    found = {entries[name].seq: entries[name] for name in names if name in entries}
+    return found[max(found)] if found else None

@@ -2,20 +2,22 @@
 
 An upload is planned on the map and sent. If the room refuses the group, somebody was quicker: the plan is made again
 on the map as it is then, so that a conflict is always reported by a plan, in the API's words. If another entry changed
-an element of the upload between the map of the plan and the group, the group is undone and planned again."""
+an element of the upload between the map of the plan and the group, the group is taken back and planned again."""
 import asyncio
-from collections.abc import Awaitable, Callable, Coroutine, Mapping, Sequence
-from dataclasses import dataclass
-from typing import Any, TypeVar
+import time
+from collections.abc import Awaitable, Callable, Iterator, Mapping, Sequence
+from dataclasses import dataclass, replace
+from typing import TypeVar
 
-from .connection import UNKNOWN, Accepted, Answer, Refusal, RoomConnection
+from .connection import MISSED, OVERTAKEN, UNKNOWN, Accepted, Answer, Refusal, RoomConnection
 from .documents import Change, ResultRow
-from .elements import digest, is_same
+from .elements import digest, is_same, references
 from .errors import ApiError, bad_request, no_connection
-from .ids import KINDS_BY_WORD, api_id, room_name
+from .ids import KINDS_BY_WORD, api_id, kind_of, room_name
 from .ledger import FIRST_VERSION, Known, PendingUpload
 from .planner import Plan, Planned, plan_upload
-from .room_map import RoomMap, rows_are
+from .room_map import RoomMap, Watch, last_of, rows_are
+from .taking_back import Group, Left, TakingBack
 
 MOST_TRIES = 4
 
@@ -60,16 +62,17 @@ class Outcome:
 
 @dataclass(frozen=True)
 class Attempt:
-    """A plan that is sent, and what the map was when it was made: its last entry, how many welcomes it had, the run of
-    the server, what the ledger knew of the elements that the plan touches, and the versions of those that it names."""
+    """A plan that is sent, and what the map was when it was made: its last entry, the run of the server, what the
+    ledger knew of the elements that the plan touches, and the versions of those that it names. `watch` has what entries
+    do to these elements since."""
 
     upload: Upload
     plan: Plan
     seen: int
-    welcomes: int
     run: int
     before: dict[str, Known]
     versions: dict[str, int]
+    watch: Watch
 
 
 @dataclass(frozen=True)
@@ -93,6 +96,7 @@ class Uploads:
     def __init__(self, room: RoomConnection, room_map: RoomMap, seconds: float,
                  note: Callable[[str], None] = lambda line: None) -> None:
         self._room, self._map, self._seconds, self._note = room, room_map, seconds, note
+        self._taking_back = TakingBack(room, room_map, note)
         self._ledger = room_map.ledger
         self._done: dict[str, list[Done]] = {}
         self._undone: dict[str, list[Done]] = {}
@@ -106,15 +110,22 @@ class Uploads:
         """Carries out an upload, and returns what became of its elements.
 
         Raises ApiError: what `plan_upload` raises; 400 if the journal is full; 409 if the room refuses the upload
-        again and again, or if another mapper's work was overwritten and cannot be given back; 503 if the connection
+        again and again, or if it was overtaken and something of it stays; 503 if the connection
         breaks or an earlier upload is not settled, and then nothing of the upload stays."""
         if upload.request in self._kept:
             return self._kept.pop(upload.request)
         await self.settled()
+        try:
+            return await self._uploaded(upload)
+        finally:
+            if self._settling is None:
+                self._map.unwatch()
+
+    async def _uploaded(self, upload: Upload) -> list[ResultRow]:
+        """Plans and sends an upload, again if another was quicker."""
         refusal: Refusal | None = None
         for _ in range(MOST_TRIES):
-            await self._in_time(self._room.catch_up(), no_connection(BROKEN))
-            plan = plan_upload(upload.changes, self._map, upload.changeset)
+            plan = await self._planned(upload)
             attempt = self._attempt(upload, plan)
             outcome = await self._carried_out(attempt) if plan.actions else Outcome(None, attempt.versions)
             if outcome.refusal is None:
@@ -127,16 +138,31 @@ class Uploads:
         assert refusal is not None
         raise ApiError(409, f"The room refused the upload {MOST_TRIES} times: {refusal.in_words(self._room.authors)}")
 
+    async def _planned(self, upload: Upload) -> Plan:
+        """Plans an upload on the present map.
+
+        If it builds on an entry that another bridge may still take back, it waits until that is over. Otherwise the
+        entry could not be undone any more, and the upload would count on what was never meant to stay."""
+        began = time.monotonic()
+        while True:
+            await self._in_time(self._room.catch_up(), no_connection(BROKEN))
+            plan = plan_upload(upload.changes, self._map, upload.changeset)
+            unsettled = self._map.unsettled(began) if plan.actions else {}
+            entry = last_of(unsettled, names_in(plan)) if unsettled else None
+            if entry is None:
+                return plan
+            await self._map.settled(entry)
+
     def _attempt(self, upload: Upload, plan: Plan) -> Attempt:
         """Returns an attempt with a plan, on the present map."""
         names = {each.name for each in plan.results if each.name}
         versions = {name: self._map.version(name) or FIRST_VERSION for name in names}
-        return Attempt(upload, plan, self._map.seq, self._map.welcomes, self._map.run,
-                       self._map.states_before(plan.rows), versions)
+        return Attempt(upload, plan, self._map.seq, self._map.run, self._map.states_before(plan.rows), versions,
+                       self._map.watch(plan.rows))
 
     async def _carried_out(self, attempt: Attempt) -> Outcome:
-        """Sends a plan. If it is accepted although others changed its elements in between, it is undone, and that is
-        reported as a conflict."""
+        """Sends a plan. If it is accepted although others changed its elements in between, it is taken back, and that
+        is reported as a conflict."""
         self._map.expect(attempt.plan.created)
         try:
             answer = await self._send(attempt)
@@ -145,22 +171,31 @@ class Uploads:
                     return Outcome(None, attempt.versions)
                 if answer.why != UNKNOWN:
                     return Outcome(answer, {})
-                await self._in_time(self._room.catch_up(), ApiError(409, LOST))
+                await self._in_time(self._room.catch_up(), ApiError(409, LOST),
+                                    lambda: self._ledger.settle(attempt.upload.request))
                 return self._after_restart(attempt)
-            seq, run = answer.seq, attempt.run if answer.run is None else answer.run
-            self._undone.pop(attempt.upload.author, None)  # as the room forgets what its author could redo
-            await self._in_time(self._seen(seq, run), no_connection(BROKEN),
-                                lambda: self._settle_soon(self._undo_given_up(attempt, seq)))
-            if self._map.run != run:
+            group = self._accepted(attempt, answer)
+            await self._in_time(self._taking_back.seen(group.seq, group.run), no_connection(BROKEN),
+                                lambda: self._settle_soon(self._taken_back(attempt, group)))
+            if self._map.run != group.run:
                 return self._after_restart(attempt)
-            outcome = self._compared(attempt, seq)
+            outcome = self._compared(attempt, group)
             if outcome.refusal is None:
-                self._remember(attempt.upload, seq)
+                self._settle_later(attempt.upload.request)
+                self._map.note_own(group.seq, True)
+                self._remember(attempt.upload, group.seq)
                 return Outcome(None, {**attempt.versions, **outcome.versions})
-            await self._take_back(attempt, seq, outcome.refusal)
+            await self._take_back(attempt, group, outcome.refusal)
             return outcome
         finally:
             self._map.expect(())
+
+    def _accepted(self, attempt: Attempt, answer: Accepted) -> Group:
+        """Returns the group of a plan that the room accepted. The room forgets what its author could redo."""
+        author = attempt.upload.author
+        self._map.note_own(answer.seq)
+        self._undone.pop(author, None)
+        return Group(author, answer.seq, attempt.run if answer.run is None else answer.run, attempt.watch)
 
     async def _send(self, attempt: Attempt) -> Answer:
         """Sends a plan as a group. The ledger has it until it is answered, so that after a kill the bridge can ask the
@@ -176,7 +211,8 @@ class Uploads:
             if sent.cancelling():
                 raise asyncio.CancelledError
             is_announced = True
-            self._ledger.begin(PendingUpload(upload.request, upload.author, upload.changeset, message, results))
+            pending = PendingUpload(upload.request, upload.author, upload.changeset, message, results, attempt.seen)
+            self._ledger.begin(pending)
 
         def give_up() -> None:
             if is_announced:
@@ -186,16 +222,15 @@ class Uploads:
 
         sent = asyncio.create_task(self._room.send_group(upload.author, plan.actions, announce))
         answer = await self._in_time(asyncio.shield(sent), no_connection(BROKEN), give_up)
-        if isinstance(answer, Accepted):
-            self._settle_later(upload.request)
-        else:
+        if isinstance(answer, Refusal) and answer.why != UNKNOWN:
             self._ledger.settle(upload.request)
         return answer
 
     def _settle_later(self, request: str) -> None:
-        """Has the ledger forget an accepted upload after a while. If the bridge is killed before the editor has the
-        answer, the next bridge can still give it."""
-        pending = self._ledger.pending[request]
+        """Has the ledger note that nobody overtook an upload, and forget it after a while. If the bridge is killed
+        before the editor has the answer, the next bridge can still give it."""
+        pending = replace(self._ledger.pending[request], seen=None)
+        self._ledger.begin(pending)
 
         def settle() -> None:
             if self._ledger.pending.get(request) is pending:
@@ -207,46 +242,50 @@ class Uploads:
         """Returns the digest of an element as a plan leaves it."""
         return digest(None if name is None else plan.rows[name] if name in plan.rows else self._map.row(name))
 
-    async def _seen(self, seq: int, run: int) -> None:
-        """Waits until the map has an entry of a run of the server, which another session than the map's may have made.
-        Ends as well if the server was restarted since."""
-        while self._map.run == run and self._map.seq < seq:
-            await self._room.catch_up()
-            await asyncio.wait_for(self._map.reached(seq), self._seconds)
-
-    def _compared(self, attempt: Attempt, seq: int) -> Outcome:
+    def _compared(self, attempt: Attempt, group: Group) -> Outcome:
         """Returns the versions that a group gave, or a conflict.
 
-        It is a conflict if another entry changed an element of the plan after the plan was made, and before the
-        group."""
+        It is a conflict if another entry changed an element of the plan after the plan was made, and before the group;
+        or if some entries in between were missed, so that nobody knows."""
         rows = attempt.plan.rows
-        entries = self._map.entries_after(attempt.seen) if self._map.welcomes == attempt.welcomes else None
-        if entries is None:  # some news were missed, so the contents have to tell
-            if rows_are(self._map, rows):
-                return Outcome(None, self._map.versions_of(rows))
-            return Outcome(Refusal("conflict", {"with": seq, "at": min(rows)}), {})
-        for entry in entries:
-            if entry.seq == seq:
-                return Outcome(None, entry.versions)
-            if entry.versions.keys() & rows.keys():
-                at = min(entry.versions.keys() & rows.keys())
-                return Outcome(Refusal("conflict", {"with": entry.seq, "at": at}), {})
-        return Outcome(None, self._map.versions_of(rows))
+        if group.run == attempt.run:
+            between = attempt.watch.between(attempt.seen, group.seq)
+        else:  # the same run, if the server was not restarted
+            between = [] if group.seq == attempt.seen + 1 and rows_are(self._map, rows) else None
+        if between is None:
+            return Outcome(Refusal(MISSED), {})
+        if between:
+            fields = {"with": between[0].entry.seq, "at": min(between[0].after)}
+            return Outcome(Refusal(OVERTAKEN, fields), {})
+        step = attempt.watch.step(group.seq)
+        return Outcome(None, step.entry.versions if step else self._map.versions_of(rows))
 
-    async def _take_back(self, attempt: Attempt, seq: int, conflict: Refusal) -> None:
-        """Undoes a group that was accepted over others' changes. Raises ApiError 409 if the room refuses that."""
+    async def _take_back(self, attempt: Attempt, group: Group, conflict: Refusal) -> None:
+        """Takes a group back that was accepted over others' changes. Raises ApiError 409 if something of it stays."""
+        why = conflict.in_words(self._room.authors)
+        self._note(f"entry {group.seq} of {group.author}, an upload, is taken back: {why}")
+        taking_back = asyncio.create_task(self._taken_back(attempt, group))
+        left = await self._in_time(asyncio.shield(taking_back), no_connection(BROKEN),
+                                   lambda: self._settle_soon(taking_back))
+        if not left.names:
+            return
+        if left.is_whole:
+            self._remember(attempt.upload, group.seq)
+        assert left.refusal is not None
+        authors, what = self._room.authors, "The upload" if left.is_whole else "A part of the upload"
+        names = ", ".join(f"{kind_of(name).value} {api_id(name)}" for name in left.names[:MOST_NAMED])
+        raise ApiError(409, f"{what} stays in the room, although {conflict.in_words(authors)}: "
+                            f"{left.refusal.in_words(authors)}. Update the data, and look at {names}")
+
+    async def _taken_back(self, attempt: Attempt, group: Group) -> Left:
+        """Takes a group back, and returns what is left. Versions are as before, since nobody saw the group."""
+        left = await self._taking_back.take_back(group)
         self._ledger.settle(attempt.upload.request)
-        answer = await self._in_time(self._room.undo(attempt.upload.author, seq), no_connection(BROKEN),
-                                     lambda: self._settle_soon(self._undo_given_up(attempt, seq)))
-        if isinstance(answer, Accepted):
-            await self._in_time(self._seen(answer.seq, self._map.run), no_connection(BROKEN))
-        elif answer.why != "not_standing":  # the author's other client undid it already
-            authors = self._room.authors
-            self._remember(attempt.upload, seq)
-            names = ", ".join(f"{each.kind.value} {each.old_id}" for each in attempt.plan.results[:MOST_NAMED])
-            raise ApiError(409, f"The upload stays in the room, although {conflict.in_words(authors)}: "
-                                f"{answer.in_words(authors)}. Update the data, and look at {names}")
         self._map.restore(attempt.before)
+        if left.names and left.refusal:
+            why = left.refusal.in_words(self._room.authors)
+            self._note(f"entry {group.seq} of {group.author} stays, with {len(left.names)} elements: {why}")
+        return left
 
     def _after_restart(self, attempt: Attempt) -> Outcome:
         """Finds out whether the room accepted a group before the server was restarted.
@@ -257,7 +296,9 @@ class Uploads:
         created = [(self._map.row(name), plan.rows[name]) for name in plan.created if plan.rows[name]]
         if any(is_same(row, planned) for row, planned in created) or rows_are(self._map, plan.rows):
             self._note(f"{attempt.upload.author}'s upload was accepted before the server was restarted")
+            self._settle_later(attempt.upload.request)
             return Outcome(None, {**attempt.versions, **self._map.versions_of(plan.rows)})
+        self._ledger.settle(attempt.upload.request)
         self._map.restore(attempt.before)
         return Outcome(Refusal(UNKNOWN), {})
 
@@ -285,7 +326,7 @@ class Uploads:
             self._done.clear()
             self._undone.clear()
 
-    def _settle_soon(self, settling: Coroutine[Any, Any, None]) -> None:
+    def _settle_soon(self, settling: Awaitable[object]) -> None:
         """Starts to settle an upload that was given up, in the background."""
         async def settle() -> None:
             try:
@@ -294,40 +335,31 @@ class Uploads:
                 self._note(f"an upload was not settled: {fault!r}")
             finally:
                 self._settling = None
+                self._map.unwatch()
         self._settling = asyncio.get_running_loop().create_task(settle())
 
     async def _give_up(self, attempt: Attempt, sent: "asyncio.Task[Answer]") -> None:
-        """Waits for the answer to an upload that was given up, and undoes it if the room accepted it."""
+        """Waits for the answer to an upload that was given up, and takes it back if the room accepted it."""
         answer = await sent
-        self._ledger.settle(attempt.upload.request)
         if isinstance(answer, Accepted):
-            await self._undo_given_up(attempt, answer.seq)
-
-    async def _undo_given_up(self, attempt: Attempt, seq: int) -> None:
-        """Undoes an upload that was given up. Versions are as before, since nobody saw it."""
-        author = attempt.upload.author
-        self._ledger.settle(attempt.upload.request)
-        self._undone.pop(author, None)
-        answer = await self._room.undo(author, seq)
-        if isinstance(answer, Accepted):
-            await self._seen(answer.seq, attempt.run)
-        elif answer.why == "not_standing":  # an undo whose answer was lost
-            await self._room.catch_up()
+            await self._taken_back(attempt, self._accepted(attempt, answer))
         else:
-            self._note(f"{author}'s upload, entry {seq}, stays: {answer.in_words(self._room.authors)}")
-            return
-        self._map.restore(attempt.before)
+            self._ledger.settle(attempt.upload.request)
 
     async def recover(self) -> list[PendingUpload]:
         """Asks the room about the uploads that a killed bridge had sent. The answers of those that it accepted are
         kept, since the editor may repeat the request. Returns those uploads.
 
+        An upload that may be overtaken is undone instead, and the editor's next try is planned anew.
         If the server was restarted as well, it does not know the message. Then the map shows whether it was accepted,
         and the upload cannot be undone."""
         accepted = []
         for pending in list(self._ledger.pending.values()):
             seq = await self._room.entry_of(pending.author, pending.message)
             planned = [Planned(KINDS_BY_WORD[word], old, name) for word, old, name, _ in pending.results]
+            if seq is not None and pending.may_be_overtaken(seq) and await self._is_undone(pending.author, seq):
+                self._ledger.settle(pending.request)
+                continue
             if seq is not None:
                 self._remember(Upload(pending.author, pending.changeset, (), pending.request), seq, len(planned))
             if seq is not None or self._is_in_map(pending):
@@ -335,6 +367,18 @@ class Uploads:
                 accepted.append(pending)
             self._ledger.settle(pending.request)
         return accepted
+
+    async def _is_undone(self, author: str, seq: int) -> bool:
+        """Undoes an upload of a killed bridge that may be overtaken. Returns whether it is undone."""
+        answer = await self._room.undo(author, seq)
+        if isinstance(answer, Accepted):
+            self._note(f"entry {seq} of {author}, an upload, is undone, as another may have overtaken it")
+            self._map.note_own(answer.seq)
+            await self._taking_back.seen(answer.seq, self._map.run)
+        elif answer.why != "not_standing":
+            self._note(f"the room refuses to undo entry {seq} of {author}: {answer.in_words(self._room.authors)}")
+            return False
+        return True
 
     def _is_in_map(self, pending: PendingUpload) -> bool:
         """Returns whether the map has an element that an upload created, or all its elements as it left them."""
@@ -418,8 +462,16 @@ class Uploads:
         run = self._map.run
         answer = await self._in_time(asked, fault)
         if isinstance(answer, Accepted):
-            await self._in_time(self._seen(answer.seq, run), fault)
+            self._map.note_own(answer.seq)
+            await self._in_time(self._taking_back.seen(answer.seq, run), fault)
         return answer
+
+
+def names_in(plan: Plan) -> Iterator[str]:
+    """Yields the names of the elements that a plan touches or refers to, perhaps several times."""
+    yield from plan.rows
+    for row in plan.rows.values():
+        yield from references(row)
 
 
 def results_of(planned: Sequence[Planned], versions: Mapping[str, int]) -> list[ResultRow]:
