@@ -62,8 +62,8 @@ class Page {
     hear("change", ({ entry, rows }) => this.takeChange(entry, rows));
     hear("history", () => this.showHistory());
     hear("conflict", () => this.showConflict());
-    memory.set("maproom last", { url, room: roomName, name });
     session.open();
+    memory.set("maproom last", { url, room: roomName, name });
     return session;
   }
 

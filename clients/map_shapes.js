@@ -2,8 +2,32 @@
 // knows no Leaflet and no page: it draws on the canvas that it is given, and finds what is near a position.
 "use strict";
 
-const idOf = (el) => Number(el.slice(1));
 const nodeOf = (id) => `n${id}`;
+
+const [ZERO, MINUS, POINT] = [48, 45, 46]; // codes of characters
+const DECIMALS = 7;
+const MOST_DIGITS = 15; // of which every number is exact
+
+// The number that the digits of a text make from a place on, without the character at `point`. A map has hundreds of
+// thousands of such texts, and Number() takes longer.
+function digitsOf(text, from, point) {
+  let value = 0;
+  for (let at = from; at < text.length; at++) if (at !== point) value = value * 10 + text.charCodeAt(at) - ZERO;
+  return value;
+}
+
+// The id in the name of an element.
+function idOf(el) {
+  if (el.length > MOST_DIGITS) return Number(el.slice(1));
+  return el.charCodeAt(1) === MINUS ? -digitsOf(el, 2, -1) : digitsOf(el, 1, -1);
+}
+
+// The number of a coordinate, which rows have as a text with seven decimals.
+function numberOf(text) {
+  const point = text.length - DECIMALS - 1;
+  if (text.length > MOST_DIGITS || text.charCodeAt(point) !== POINT) return Number(text);
+  return text.charCodeAt(0) === MINUS ? -digitsOf(text, 1, point) / 1e7 : digitsOf(text, 0, point) / 1e7;
+}
 
 const Mercator = {
   x: (lon) => Number(lon) / 360 + 0.5,
@@ -70,6 +94,40 @@ const isEmptyBox = (box) => box.west > box.east;
 const doMeet = (one, other) => one.west <= other.east && one.east >= other.west && one.north <= other.south
   && one.south >= other.north;
 
+// The slots of nodes by their ids. A whole map comes in the order of its ids, so that a list of them can be searched,
+// where a Map would take longer to make. A Map has the nodes that come later.
+class SlotTable {
+  constructor(count) {
+    Object.assign(this, { ids: new Float64Array(count), known: 0, later: new Map() });
+  }
+
+  // The slot of an id, or -1. A node that is gone may keep its slot.
+  get(id) {
+    const { ids, known } = this;
+    let low = 0;
+    let high = known;
+    while (low < high) {
+      const middle = (low + high) >> 1;
+      if (ids[middle] < id) low = middle + 1;
+      else high = middle;
+    }
+    return low < known && ids[low] === id ? low : this.later.get(id) ?? -1;
+  }
+
+  // Gives a slot to an id that has none.
+  set(id, slot) {
+    const { ids, known } = this;
+    const isNext = slot === known && slot < ids.length && (slot === 0 || ids[slot - 1] < id);
+    if (isNext) ids[this.known++] = id;
+    else this.later.set(id, slot);
+  }
+
+  // Returns whether the slot is free for another id now.
+  delete(id) {
+    return this.later.delete(id);
+  }
+}
+
 // A way: its style, its box, and the slots of its nodes in the lists of a Shapes.
 class WayShape {
   constructor(el, slots, style, isClosed) {
@@ -92,7 +150,7 @@ class Shapes {
 
   clear(count) {
     const room = Math.max(64, Math.ceil(count * 1.1));
-    this.slots = new Map(); // by the id of a node, its slot
+    this.slots = new SlotTable(count);
     this.names = []; // by slot, the name; null if the slot is free
     this.xs = new Float64Array(room);
     this.ys = new Float64Array(room);
@@ -109,10 +167,10 @@ class Shapes {
   reset(elements) {
     this.clear(elements.size);
     const others = [];
-    for (const row of elements.values()) {
+    elements.forEach((row) => { // an iterator would make an object for each row
       if (row.lat === undefined) others.push(row);
       else this.addNode(row, idOf(row.el), this.names.length);
-    }
+    });
     for (const row of others) {
       if (row.nodes) this.putWay(row);
       else this.putRelation(row);
@@ -171,16 +229,22 @@ class Shapes {
 
   putNode(row) {
     const id = idOf(row.el);
-    const slot = this.slots.get(id) ?? this.freeSlots.pop() ?? this.names.length;
+    const had = this.slots.get(id);
+    const slot = had >= 0 ? had : this.freeSlots.pop() ?? this.names.length;
     if (slot >= this.xs.length) this.grow();
-    this.addNode(row, id, slot);
+    if (had >= 0) this.fillSlot(row, slot);
+    else this.addNode(row, id, slot);
   }
 
   addNode(row, id, slot) {
     this.slots.set(id, slot);
+    this.fillSlot(row, slot);
+  }
+
+  fillSlot(row, slot) {
     this.names[slot] = row.el;
-    this.xs[slot] = Mercator.x(row.lon);
-    this.ys[slot] = Mercator.y(row.lat);
+    this.xs[slot] = Mercator.x(numberOf(row.lon));
+    this.ys[slot] = Mercator.y(numberOf(row.lat));
     this.areTagged[slot] = hasTags(row.tags) ? (row.tags.place ? 2 : 1) : 0;
   }
 
@@ -198,7 +262,7 @@ class Shapes {
     let count = 0;
     for (const id of nodes) {
       const slot = this.slots.get(id);
-      if (slot === undefined) continue;
+      if (slot < 0) continue;
       slots[count++] = slot;
       if (this.users) this.addUser(id, row.el);
     }
@@ -214,9 +278,14 @@ class Shapes {
 
   measure(way) {
     const { xs, ys } = this;
-    let [west, north, east, south] = [Infinity, Infinity, -Infinity, -Infinity];
-    for (const slot of way.slots) {
-      const [x, y] = [xs[slot], ys[slot]];
+    let west = Infinity;
+    let north = Infinity;
+    let east = -Infinity;
+    let south = -Infinity;
+    const { slots } = way;
+    for (let index = 0; index < slots.length; index++) {
+      const x = xs[slots[index]];
+      const y = ys[slots[index]];
       if (x < west) west = x;
       if (x > east) east = x;
       if (y < north) north = y;
@@ -243,19 +312,18 @@ class Shapes {
     this.ways.delete(el);
     this.relations.delete(el);
     if (el[0] !== "n") return;
-    const id = Number(el.slice(1));
+    const id = idOf(el);
     const slot = this.slots.get(id);
-    if (slot === undefined) return;
-    this.slots.delete(id);
+    if (slot < 0) return;
     this.names[slot] = null;
-    this.freeSlots.push(slot);
+    if (this.slots.delete(id)) this.freeSlots.push(slot);
   }
 
   // Lists the ways of each node.
   indexUsers() {
     this.users = new Map();
     for (const { el, slots } of this.ways.values()) {
-      for (const slot of slots) this.addUser(Number(this.names[slot].slice(1)), el);
+      for (const slot of slots) this.addUser(idOf(this.names[slot]), el);
     }
   }
 
@@ -286,7 +354,7 @@ class Shapes {
   // The ways that have a node, by its name or id.
   usersOf(node) {
     if (!this.users) this.indexUsers();
-    const had = this.users.get(typeof node === "number" ? node : Number(node.slice(1)));
+    const had = this.users.get(typeof node === "number" ? node : idOf(node));
     return had === undefined ? [] : typeof had === "string" ? [had] : had;
   }
 
@@ -297,8 +365,8 @@ class Shapes {
 
   // The position of a node by its name or id, or null.
   positionOf(node) {
-    const slot = this.slots.get(typeof node === "number" ? node : Number(node.slice(1)));
-    return slot === undefined ? null : { x: this.xs[slot], y: this.ys[slot] };
+    const slot = this.slots.get(typeof node === "number" ? node : idOf(node));
+    return slot < 0 || this.names[slot] === null ? null : { x: this.xs[slot], y: this.ys[slot] };
   }
 
   // The box of a node or a way; an empty one if it is not there.
@@ -316,8 +384,9 @@ class Shapes {
 
   // The box of all.
   whole() {
+    const { names, xs, ys } = this;
     const box = emptyBox();
-    for (const slot of this.slots.values()) stretch(box, this.xs[slot], this.ys[slot]);
+    for (let slot = 0; slot < names.length; slot++) if (names[slot] !== null) stretch(box, xs[slot], ys[slot]);
     return box;
   }
 
@@ -387,10 +456,10 @@ class Shapes {
       && shape.south <= box.south;
     const found = [];
     for (const way of this.ways.values()) if (isWithin(way)) found.push(way.el);
-    for (const [id, slot] of this.slots) {
+    for (const [slot, el] of this.names.entries()) {
       const [x, y] = [this.xs[slot], this.ys[slot]];
-      const isAlone = this.areTagged[slot] || this.usersOf(id).length === 0;
-      if (isAlone && isWithin({ west: x, east: x, north: y, south: y })) found.push(this.names[slot]);
+      if (el === null || !isWithin({ west: x, east: x, north: y, south: y })) continue;
+      if (this.areTagged[slot] || this.usersOf(el).length === 0) found.push(el);
     }
     return found;
   }
@@ -401,7 +470,9 @@ class Shapes {
   // Draws what meets a box. Returns how many ways and nodes were drawn.
   paint(context, frame, box, zoom) {
     let ways = 0;
-    context.lineJoin = context.lineCap = "round";
+    const isThin = zoom < 15; // nobody sees how thin lines end, and round ends take longer
+    context.lineJoin = isThin ? "bevel" : "round";
+    context.lineCap = isThin ? "butt" : "round";
     for (const [at, style] of STYLES.entries()) {
       if (this.layers[at].size > 0) ways += this.paintLayer(context, frame, box, style, this.layers[at], zoom);
     }
@@ -445,7 +516,7 @@ class Shapes {
     let y = ys[slots[0]] * scale - top;
     context.moveTo(x, y);
     if ((way.east - way.west) * scale < 1.5 && (way.south - way.north) * scale < 1.5) {
-      context.lineTo(x + 1, y);
+      context.lineTo(x + 1.5, y);
       return;
     }
     for (let index = 1; index <= last; index++) {

@@ -186,12 +186,12 @@ class View {
     const [across, down] = [Math.round(x * PADDING), Math.round(y * PADDING)];
     const { scale, left, top } = this.frame();
     const frame = { scale, left: left - across, top: top - down };
-    this.painted = { zoom: this.zoom, box: this.box(across, down), frame, across };
     const corner = this.map.containerPointToLayerPoint([-across, -down]);
-    for (const canvas of [this.base, this.texts]) {
-      this.fitCanvas(canvas, x + 2 * across, y + 2 * down);
-      L.DomUtil.setPosition(canvas, corner);
-    }
+    const [width, height] = [x + 2 * across, y + 2 * down];
+    this.painted = { zoom: this.zoom, box: this.box(across, down), frame, across, width, height };
+    for (const canvas of [this.base, this.texts]) L.DomUtil.setPosition(canvas, corner);
+    this.texts.hidden = true; // until they are drawn
+    this.fitCanvas(this.base, width, height);
     this.drawn = this.shapes.paint(this.contextOf(this.base), frame, this.painted.box, this.zoom);
     this.paintTextsSoon(60);
     this.paintOverSoon();
@@ -260,9 +260,10 @@ class View {
   // Draws the names, none over another.
   paintTexts() {
     if (!this.painted) return;
-    const { frame } = this.painted;
+    const { frame, width, height } = this.painted;
+    this.fitCanvas(this.texts, width, height);
+    this.texts.hidden = false;
     const context = this.contextOf(this.texts);
-    context.clearRect(0, 0, this.texts.width, this.texts.height);
     context.font = "600 12px system-ui, 'DejaVu Sans', sans-serif";
     context.textAlign = "center";
     context.textBaseline = "middle";

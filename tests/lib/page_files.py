@@ -1,7 +1,10 @@
 """A web server of a test's own: it hands out the page with its files, Leaflet as Debian has it, and tiles that it draws
-itself; and it refuses paths with the status that it is told."""
+itself; it refuses paths with the status that it is told, and passes WebSockets on to rooms."""
+import contextlib
 import http.server
 import os
+import select
+import socket
 import ssl
 import struct
 import threading
@@ -31,11 +34,11 @@ def tile_of(red, green, blue, size=256):
 
 
 class PageFiles:
-    """The server, on a free port. `statuses` has a status for each path that is refused, `asked` the paths of tiles
-    that were asked for. Without `has_leaflet` it has no Leaflet."""
+    """The server, on a free port. `statuses` has a status for each path that is refused, `rooms` the port of the server
+    for each path of a room, `asked` the paths of tiles that were asked for. Without `has_leaflet` it has no Leaflet."""
 
-    def __init__(self, has_leaflet=True, statuses=(), folder=f"{TOP}/clients"):
-        self.has_leaflet, self.statuses, self.folder = has_leaflet, dict(statuses), folder
+    def __init__(self, has_leaflet=True, statuses=(), folder=f"{TOP}/clients", rooms=()):
+        self.has_leaflet, self.statuses, self.folder, self.rooms = has_leaflet, dict(statuses), folder, dict(rooms)
         self.asked = []
         self.server = http.server.ThreadingHTTPServer(("127.0.0.1", 0), self.handler())
         self.server.daemon_threads = True
@@ -75,6 +78,20 @@ class PageFiles:
         with open(name, "rb") as file:
             return 200, f"{kind}; charset=utf-8", file.read()
 
+    @staticmethod
+    def pass_on(request, port):
+        """Passes a request on to a server, and then all that either side sends, until one of them ends."""
+        lines = [request.requestline, *(f"{name}: {value}" for name, value in request.headers.items()), "", ""]
+        with socket.create_connection(("127.0.0.1", port)) as server:
+            server.sendall("\r\n".join(lines).encode())
+            others = {server: request.connection, request.connection: server}
+            while True:
+                for each in select.select(list(others), [], [])[0]:
+                    data = each.recv(1 << 16)
+                    if not data:
+                        return
+                    others[each].sendall(data)
+
     def handler(self):
         """What answers the requests of this server."""
         owner = self
@@ -84,15 +101,24 @@ class PageFiles:
 
             protocol_version = "HTTP/1.1"
 
+            def handle(self):
+                """Answers, and says nothing if the browser breaks the connection."""
+                with contextlib.suppress(ConnectionError):
+                    super().handle()
+
             def do_GET(self):
-                """Hands out a file."""
-                status, kind, content = owner.answer(urllib.parse.urlsplit(self.path).path)
+                """Hands out a file, or passes a WebSocket on."""
+                path = urllib.parse.urlsplit(self.path).path
+                if path in owner.rooms and "Upgrade" in self.headers:
+                    self.close_connection = True
+                    return owner.pass_on(self, owner.rooms[path])
+                status, kind, content = owner.answer(path)
                 self.send_response(status)
                 self.send_header("Content-Type", kind)
                 self.send_header("Content-Length", str(len(content)))
                 self.send_header("Access-Control-Allow-Origin", "*")
                 self.end_headers()
-                self.wfile.write(content)
+                return self.wfile.write(content)
 
             def log_message(self, *_):
                 """Says nothing."""
