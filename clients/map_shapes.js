@@ -258,19 +258,17 @@ class Shapes {
 
   putWay(row) {
     const { nodes } = row;
-    const slots = new Int32Array(nodes.length);
-    let count = 0;
+    const slots = [];
     for (const id of nodes) {
       const slot = this.slots.get(id);
       if (slot < 0) continue;
-      slots[count++] = slot;
+      slots.push(slot);
       if (this.users) this.addUser(id, row.el);
     }
     const isClosed = nodes.length > 3 && nodes[0] === nodes[nodes.length - 1];
     const old = this.ways.get(row.el);
     if (old) this.layers[old.style].delete(old);
-    const known = count === slots.length ? slots : slots.slice(0, count);
-    const way = new WayShape(row.el, known, styleOf(row.tags, isClosed), isClosed);
+    const way = new WayShape(row.el, slots, styleOf(row.tags, isClosed), isClosed);
     this.ways.set(row.el, way);
     this.layers[way.style].add(way);
     this.measure(way);
@@ -385,9 +383,15 @@ class Shapes {
   // The box of all.
   whole() {
     const { names, xs, ys } = this;
-    const box = emptyBox();
-    for (let slot = 0; slot < names.length; slot++) if (names[slot] !== null) stretch(box, xs[slot], ys[slot]);
-    return box;
+    let [west, north, east, south] = [Infinity, Infinity, -Infinity, -Infinity];
+    for (let slot = 0; slot < names.length; slot++) {
+      if (names[slot] === null) continue;
+      if (xs[slot] < west) west = xs[slot];
+      if (xs[slot] > east) east = xs[slot];
+      if (ys[slot] < north) north = ys[slot];
+      if (ys[slot] > south) south = ys[slot];
+    }
+    return { west, north, east, south };
   }
 
   // ---- Finding

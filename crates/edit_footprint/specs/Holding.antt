@@ -7,9 +7,8 @@ use Rattle.osm_elements.specs.declared.name.Name.{Name}
 use Rattle.osm_elements.specs.NameOrder.{name_cmp}
 use Rattle.osm_changes.specs.declared.cell.Cell.{Cell}
 use Rattle.osm_changes.specs.Cells.{cell_cmp, has}
-use Rattle.rising_lists.specs.Lists.{has_none}
+use Rattle.rising_lists.specs.Lists.{has_none, listed}
 use Rattle.rising_lists.specs.Rising.{is_among, but}
-use Rattle.rising_lists.specs.Tables.{listed}
 
 -- each cell that is held, in cell order, with the numbers of the entries that hold it, rising
 abbrev pub Held : Type 0

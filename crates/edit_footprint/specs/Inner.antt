@@ -1,4 +1,3 @@
 -- How footprints are found, and what is kept of their holders. No contract that is seen from outside cites these.
-pub mod Keeping
 pub mod Searching
 pub mod Touching

@@ -24,18 +24,13 @@ pub struct Holders<A: Allocator> {
     lists: RisingLists<Cell, u64, A>,
 }
 
-// Holders are seen as the list of the cells that are held, in their order, each with the numbers that hold it. No
-// number is awaited.
+// Holders are seen as the list of the cells that are held, in their order, each with the numbers that hold it.
 impl<A: Allocator> Model for Holders<A> {
-    ghost use Rattle.rising_lists.specs.Tables.{as_table};
     ghost use Rattle.edit_footprint.specs.Holding.{Held};
-    ghost use Rattle.edit_footprint.specs.Inner.Keeping.{NoneAwaited};
 
     ghost Value = { Held };
 
-    ghost view = { λ h. as_table h.lists.lists.entries };
-
-    ghost invariant = { λ h. NoneAwaited h.lists.lists.entries };
+    ghost view = { λ h. h.lists.lists.entries };
 }
 
 impl<A: Allocator> Holders<A> {
@@ -62,8 +57,7 @@ impl<A: Allocator> Holders<A> {
         ensures err { OnErr result (self.new ≡ self.old) }
     {
         let cells = footprint.cells();
-        self.lists.await_all(&self.alloc, cells)?;
-        self.lists.add_all(cells, seq);
+        self.lists.add_all(&self.alloc, cells, seq)?;
         Ok(())
     }
 

@@ -13,12 +13,11 @@ use Rattle.osm_elements.specs.Facts.Dropped.{same_either_way}
 use Rattle.osm_elements.specs.Facts.Rows.{same_names}
 use Rattle.osm_elements.specs.Facts.Tests.{first_true}
 use Rattle.osm_refs.specs.References.{refers_to, users}
-use Rattle.osm_refs.specs.Tables.{UsersState, users_in, table_of}
+use Rattle.osm_refs.specs.Tables.{Table, users_in, table_of}
 use Rattle.osm_refs.specs.Facts.MapTables.{users_in-table_of}
 use Rattle.osm_refs.specs.Facts.RisingNames.{IsRising-name_set, is_among-passing}
 use Rattle.osm_changes.specs.declared.change.Change.{Change}
 use Rattle.osm_changes.specs.Changes.{rows_changes, differences}
-use Rattle.osm_changes.specs.Stores.{users_of}
 use Rattle.osm_changes.specs.SameRows.{is_same_row}
 use Rattle.osm_changes.specs.Sound.{is_sound}
 use Rattle.osm_changes.specs.Facts.SameElements.{same_row}
@@ -223,13 +222,13 @@ module _ {A : Type 0} (m : Rows A) (x : Name) (sound : is_sound m ≡ true) wher
 
     -- ---- the plan, with the names as they are found
 
-    module _ (known : UsersState) (known_is : known ≡ users_of m) (its keys names : List Name) (its_are : its ≡ users_in known.references x) (keys_are : keys ≡ name_set (all_gone m its x))
-        (names_are : names ≡ name_set (all_reached known.references keys x)) where
+    module _ (known : Table) (known_is : known ≡ table_of m) (its keys names : List Name) (its_are : its ≡ users_in known x) (keys_are : keys ≡ name_set (all_gone m its x))
+        (names_are : names ≡ name_set (all_reached known keys x)) where
       keys_gone : keys ≡ gone
-      keys_gone = keys_are ∙ ap (λ l. name_set (all_gone m l x)) (its_are ∙ ap (λ (u : UsersState). users_in u.references x) known_is ∙ users_in-table_of m x)
+      keys_gone = keys_are ∙ ap (λ l. name_set (all_gone m l x)) (its_are ∙ ap (λ (t : Table). users_in t x) known_is ∙ users_in-table_of m x)
 
       names_reached : names ≡ name_set reached
-      names_reached = names_are ∙ (λ i. name_set (all_reached (known_is i).references (keys_gone i) x)) ∙ ap name_set reached_is
+      names_reached = names_are ∙ (λ i. name_set (all_reached (known_is i) (keys_gone i) x)) ∙ ap name_set reached_is
 
       pub found_may : MayPurge m keys x names
       found_may = subst (λ k. MayPurge m k x names) (sym keys_gone) (subst (λ l. MayPurge m gone x l) (sym names_reached) may_purge)

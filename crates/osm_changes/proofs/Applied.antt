@@ -3,17 +3,16 @@ use Rattle.std.proofs.Common.{◌≡◌, not, T, List, [], map, sym, ap, subst, 
 use Rattle.std.specs.List.{filter, fold}
 use Rattle.osm_elements.specs.Maps.{Rows}
 use Rattle.osm_elements.specs.Rows.{AreInOrder}
-use Rattle.osm_refs.specs.Tables.{UsersState, noted, table_of}
+use Rattle.osm_refs.specs.Tables.{Table, table_of}
 use Rattle.osm_refs.specs.Facts.RisingNames.{IsRising-name_set}
 use Rattle.osm_changes.specs.declared.change.Change.{Change}
 use Rattle.osm_changes.specs.declared.row_after.RowAfter.{RowAfter}
 use Rattle.osm_changes.specs.Changes.{are_rising, changed, changed_names, rows_after}
 use Rattle.osm_changes.specs.Inner.Applying.{is_new, with_told, NoneIsNew}
-use Rattle.osm_changes.specs.Inner.Stores.{notes_of}
-use Rattle.osm_changes.specs.Stores.{users_of}
+use Rattle.osm_changes.specs.Inner.References.{gained, lost, reference_change_of}
 use Rattle.osm_changes.specs.Facts.Changing.{with_rows_after}
 use Rattle.osm_changes.proofs.Applying.{leads_to_changed, none_is_new}
-use Rattle.osm_changes.proofs.NotesTaken.{noted_is}
+use Rattle.osm_changes.proofs.ReferencesEntered.{entered}
 use Rattle.osm_changes.proofs.RowsTold.{names_told, names-rows_in, rising_filter}
 
 module _ {A : Type 0} (m : Rows A) (cs : List (Change A)) (rs : List (RowAfter A)) (made : rs ≡ rows_after m cs) where
@@ -41,11 +40,6 @@ module _ {A : Type 0} (m : Rows A) (cs : List (Change A)) (rs : List (RowAfter A
       map_became next replaced = replaced
           ∙ both_made (λ n l. fold with_told n l ≡ changed m cs) (leads_to_changed m order cs)
 
-  pub users_became : AreInOrder m → (u v : UsersState) → u ≡ record { references = table_of m; waiting = notes_of rs }
-      → v ≡ record { references = noted u.references u.waiting; waiting = [] }
-      → v ≡ users_of (changed m cs)
-  users_became order u v ready entered =
-      entered ∙ ap (λ (w : UsersState). record { references = noted w.references w.waiting; waiting = [] }) ready
-      ∙ ap (λ l. record { references = noted (table_of m) (notes_of l); waiting = [] }) made
-      ∙ ap (λ t. record { references = t; waiting = [] })
-      (noted_is (rows_after m cs) m order ∙ ap table_of (with_rows_after m cs))
+  pub users_became : AreInOrder m → (u v : Table) → u ≡ fold gained (table_of m) (map (reference_change_of m) rs) → v ≡ fold lost u (map (reference_change_of m) rs) → v ≡ table_of (changed m cs)
+  users_became order u v gains loses =
+      loses ∙ ap (λ t. fold lost t (map (reference_change_of m) rs)) gains ∙ entered m order rs names_rise ∙ ap (λ l. table_of (fold with_told m l)) made ∙ ap table_of (with_rows_after m cs)

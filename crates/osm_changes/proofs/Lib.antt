@@ -1,7 +1,7 @@
 pub mod Applied
 pub mod Applying
 pub mod ExampleProofs
-pub mod NotesTaken
+pub mod ReferencesEntered
 pub mod Parting
 pub mod Pushing
 pub mod Restoring

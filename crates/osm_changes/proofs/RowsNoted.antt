@@ -1,5 +1,5 @@
 -- The rows of a map, noted one after another.
-use Rattle.std.proofs.Common.{◌≡◌, [], ◌∷◌, ◌++◌, sym, ap, ◌∙◌}
+use Rattle.std.proofs.Common.{◌≡◌, List, [], ◌∷◌, ◌++◌, refl, sym, ap, ◌∙◌}
 use Rattle.std.proofs.lemmas.List.Sums.{fold-append}
 use Rattle.osm_elements.specs.declared.name.Name.{Name}
 use Rattle.osm_elements.specs.declared.element.Element.{Element}
@@ -7,9 +7,10 @@ use Rattle.osm_elements.specs.Maps.{Rows, name_set}
 use Rattle.osm_elements.specs.Rows.{AreInOrder, put_row}
 use Rattle.osm_elements.specs.Facts.MadeMaps.{put_all, AreInOrder-put_all, not_yet_put}
 use Rattle.osm_refs.specs.References.{references, row_references}
-use Rattle.osm_refs.specs.Tables.{UsersState, references_at, referring, table_of}
+use Rattle.osm_refs.specs.Tables.{Table, references_at, referring, table_of}
+use Rattle.osm_refs.specs.Facts.RisingNames.{IsRising-name_set, same_as_name_set}
+use Rattle.osm_refs.specs.Rising.{names_but}
 use Rattle.osm_refs.specs.Facts.MapTables.{table_of-put_row, references_at-table_of}
-use Rattle.osm_changes.specs.Stores.{users_of}
 
 module _ {A : Type 0} where
   -- a name that comes after others in order refers to nothing yet
@@ -18,10 +19,17 @@ module _ {A : Type 0} where
       references_at-table_of (put_all [] done) x (AreInOrder-put_all done [] tt) ∙ ap (λ o. name_set (row_references o)) (not_yet_put done [] x v later h)
 
   -- one row more
-  pub users_with_row : (done : Rows A) (x : Name) (v : Element A) (users users' : UsersState) → users ≡ users_of (put_all [] done)
-      → users' ≡ record { references = referring users.references x (name_set (references v)); waiting = [] }
-      → users' ≡ users_of (put_all [] (done ++ (x, v) ∷ []))
-  users_with_row done x v users users' is step =
-      step ∙ ap (λ (u : UsersState). record { references = referring u.references x (name_set (references v)); waiting = [] }) is
-      ∙ ap (λ t. record { references = t; waiting = [] }) (sym (table_of-put_row (put_all [] done) x v (AreInOrder-put_all done [] tt))
-      ∙ ap table_of (sym (fold-append (λ n (r : Name × Element A). put_row n r.0 r.1) [] done ((x, v) ∷ []))))
+  pub table_with_row : (done : Rows A) (x : Name) (v : Element A) (users users' : Table) → users ≡ table_of (put_all [] done) → users' ≡ referring users x (name_set (references v))
+      → users' ≡ table_of (put_all [] (done ++ (x, v) ∷ []))
+  table_with_row done x v users users' is step =
+      step ∙ ap (λ u. referring u x (name_set (references v))) is
+      ∙ sym (table_of-put_row (put_all [] done) x v (AreInOrder-put_all done [] tt))
+      ∙ ap table_of (sym (fold-append (λ n (r : Name × Element A). put_row n r.0 r.1) [] done ((x, v) ∷ [])))
+
+-- where nothing is there, all names are new
+pub all_are_new : (names : List Name) → names_but names [] ≡ names
+all_are_new [] = refl
+all_are_new (x ∷ xs) = ap (λ rest. x ∷ rest) (all_are_new xs)
+
+pub set_of_set : (names : List Name) → name_set (name_set names) ≡ name_set names
+set_of_set names = sym (same_as_name_set (name_set names) (name_set names) (IsRising-name_set names) (λ q. refl))

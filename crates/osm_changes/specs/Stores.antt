@@ -1,7 +1,6 @@
 -- A store is seen as its map and a count. (The count is this project's.)
 use Rattle.std.specs.Prelude.{◌+◌, ◌^◌, ◌-◌, ℕ, List, [], length, min}
 use Rattle.osm_elements.specs.Maps.{Rows}
-use Rattle.osm_refs.specs.Tables.{UsersState, table_of}
 use Rattle.osm_changes.specs.declared.change.Change.{Change}
 use Rattle.osm_changes.specs.Changes.{changed}
 
@@ -18,7 +17,3 @@ module _ {A : Type 0} where
   -- the store after changes
   abbrev pub applied_to : StoreState A → List (Change A) → StoreState A
   applied_to s cs = record { rows = changed s.rows cs; applied = counted s.applied cs }
-
-  -- the users of a map, where nothing waits
-  abbrev pub users_of : Rows A → UsersState
-  users_of m = record { references = table_of m; waiting = [] }

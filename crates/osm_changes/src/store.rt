@@ -5,18 +5,19 @@ ghost use Rattle.osm_elements.specs.Rows.{AreInOrder};
 ghost use Rattle.osm_refs.specs.Tables.{table_of};
 ghost use Rattle.osm_changes.specs.Changes.{changed, are_rising, rows_after, AreFrom};
 ghost use Rattle.osm_changes.specs.Sound.{is_sound};
-ghost use Rattle.osm_changes.specs.Stores.{applied_to, users_of};
+ghost use Rattle.osm_changes.specs.Stores.{applied_to};
 ghost use Rattle.osm_changes.specs.declared.row_after.RowAfter.{RowAfter as Row};
 ghost use Rattle.osm_changes.specs.Inner.Applying.{is_new, with_told};
-ghost use Rattle.osm_changes.specs.Inner.Stores.{notes_of};
+ghost use Rattle.osm_changes.specs.Inner.References.{gained, reference_change_of};
 
 use crate::apply::{part_new, put_new, replace};
 use crate::changes::Changes;
-use crate::noting::{note, ready, users_of};
+use crate::entering::{gain, give_back, lose, reference_changes, users_of};
 use crate::row_after::{RowAfter, RowsAfter};
 use crate::rows::rows_after;
 use osm_elements::Memory;
 use osm_elements::map::OsmMap;
+use osm_refs::change::ReferenceChange;
 use osm_refs::users::Users;
 use std::alloc::{AllocError, Allocator};
 use std::marker::Model;
@@ -86,9 +87,9 @@ impl<A: Allocator> Store<A> {
         &self.map
     }
 
-    /// The users of the map, where nothing waits.
+    /// The users of the map.
     pub fn users(&self) -> &Users<A>
-        ensures { result.now ≡ users_of self.now.rows }
+        ensures { result.now ≡ table_of self.now.rows }
     {
         &self.users
     }
@@ -146,9 +147,9 @@ impl<A: Allocator> Store<A> {
         ensures err { OnErr result (self.new ≡ self.old) }
     {
         let told = rows.as_slice();
-        let others = reserve(&mut self.map, &mut self.users, alloc, told)?;
-        replace(&mut self.map, others);
-        note(&mut self.users, told.len());
+        let prepared = prepare(alloc, &mut self.map, &mut self.users, told)?;
+        replace(&mut self.map, prepared.others);
+        lose(&mut self.users, &prepared.changes);
         self.applied = self.applied.saturating_add(changes.len() as u128);
         Ok(())
     }
@@ -179,47 +180,36 @@ impl<A: Allocator + Clone> Clone for Store<A> {
     }
 }
 
-// Does all of some changes that asks for memory: reserves room among the users, and puts the rows of the names that
-// were absent. It answers the other rows. After a refusal map and users are as they were.
-fn reserve<A: Allocator + Clone>(
-    rows: &mut OsmMap<A>,
-    users: &mut Users<A>,
-    alloc: A,
-    told: &[RowAfter<A>],
-) -> Result<Vec<RowAfter<A>, A>, Memory>
-    requires order { AreInOrder rows.old }
-    requires rising { T (are_rising (map (λ (r : Row A). r.name) told.now)) }
-    requires users { users.old ≡ users_of rows.old }
-    ensures ok { IfOk result (λ others. (others.items ≡ filter (λ r. not (is_new rows.old r)) told.now)
-        × (rows.new ≡ fold with_told rows.old (filter (is_new rows.old) told.now))
-        × (users.new ≡ record { references = table_of rows.old; waiting = notes_of told.now })) }
-    ensures err { OnErr result ((rows.new ≡ rows.old) × (users.new ≡ users.old)) }
-{
-    match prepare(rows, users, alloc, told) {
-        Ok(others) => Ok(others),
-        Err(memory) => {
-            users.forget();
-            Err(memory)
-        }
-    }
+// What is left to be done once all memory is taken: the rows of names that were there, and what rows cease to refer to.
+#[derive(Drop)]
+struct Prepared<A: Allocator> {
+    others: Vec<RowAfter<A>, A>,
+    changes: Vec<ReferenceChange<A>, A>,
 }
 
+// Does all of some changes that allocates: enters what rows begin to refer to, and puts the rows of names that were
+// absent. After a refusal map and users are unchanged.
 fn prepare<A: Allocator + Clone>(
+    alloc: A,
     rows: &mut OsmMap<A>,
     users: &mut Users<A>,
-    alloc: A,
     told: &[RowAfter<A>],
-) -> Result<Vec<RowAfter<A>, A>, Memory>
+) -> Result<Prepared<A>, Memory>
     requires order { AreInOrder rows.old }
     requires rising { T (are_rising (map (λ (r : Row A). r.name) told.now)) }
-    requires users { users.old ≡ users_of rows.old }
-    ensures ok { IfOk result (λ others. (others.items ≡ filter (λ r. not (is_new rows.old r)) told.now)
+    requires users { users.old ≡ table_of rows.old }
+    ensures ok { IfOk result (λ p. (p.others.items ≡ filter (λ r. not (is_new rows.old r)) told.now)
+        × (p.changes.items ≡ map (reference_change_of rows.old) told.now)
         × (rows.new ≡ fold with_told rows.old (filter (is_new rows.old) told.now))
-        × (users.new ≡ record { references = table_of rows.old; waiting = notes_of told.now })) }
-    ensures err { OnErr result ((rows.new ≡ rows.old) × (users.new.references ≡ table_of rows.old)) }
+        × (users.new ≡ fold gained (table_of rows.old) (map (reference_change_of rows.old) told.now))) }
+    ensures err { OnErr result ((rows.new ≡ rows.old) × (users.new ≡ users.old)) }
 {
-    ready(users, rows, told)?;
-    let (new, others) = part_new(alloc, rows, told)?;
-    put_new(rows, new)?;
-    Ok(others)
+    let changes = reference_changes(&alloc, rows, told)?;
+    let (new, others) = part_new(alloc.clone()?, rows, told)?;
+    gain(&alloc, users, &changes)?;
+    if let Err(memory) = put_new(rows, new) {
+        give_back(users, &changes);
+        return Err(memory);
+    }
+    Ok(Prepared { others, changes })
 }

@@ -5,8 +5,7 @@ use Rattle.osm_elements.specs.declared.name.Name.{Name}
 use Rattle.osm_elements.specs.declared.element.Element.{Element}
 use Rattle.osm_elements.specs.Maps.{Rows, is_among, is_present}
 use Rattle.osm_elements.specs.Rows.{put_row, AreInOrder}
-use Rattle.osm_refs.specs.Tables.{UsersState}
-use Rattle.osm_changes.specs.Stores.{users_of}
+use Rattle.osm_refs.specs.Tables.{Table, table_of}
 
 -- a name that was not written
 abbrev pub unwritten : List Name → Name → List Name
@@ -18,7 +17,7 @@ module _ {A : Type 0} where
   drafted m written here = fold (λ n (r : Name × Element A). put_row n r.0 r.1) (filter (λ r. not (is_among written r.0)) m) here
 
   -- each row that is there was written, and the users are those of these rows
-  pub record IsDraft (written : List Name) (here : Rows A) (users : UsersState) : Type 0 where
+  pub record IsDraft (written : List Name) (here : Rows A) (users : Table) : Type 0 where
     pub order : AreInOrder here
     pub inside : (x : Name) → is_present here x ≡ true → is_among written x ≡ true
-    pub users_are : users ≡ users_of here
+    pub users_are : users ≡ table_of here

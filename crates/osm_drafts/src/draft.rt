@@ -18,6 +18,7 @@ use osm_elements::element::Element;
 use osm_elements::map::OsmMap;
 use osm_elements::name::Name;
 use osm_elements::names::Names;
+use osm_refs::change::ReferenceChange;
 use osm_refs::users::Users;
 use std::alloc::Allocator;
 use std::collections::BTreeSet;
@@ -27,6 +28,7 @@ use std::marker::Model;
 /// stays as it is. It takes memory for what is written alone.
 #[derive(Drop)]
 pub struct Draft<'s, A: Allocator> {
+    alloc: A,
     store: &'s Store<A>,
     // Each name that was written, whether it is there or not.
     written: BTreeSet<Name, A>,
@@ -58,6 +60,7 @@ impl<'s, A: Allocator> Draft<'s, A> {
     {
         let _ = store.map();
         Draft {
+            alloc,
             store,
             written: BTreeSet::new(alloc),
             here: OsmMap::new(alloc),
@@ -115,17 +118,20 @@ impl<'s, A: Allocator> Draft<'s, A> {
         ensures { IfOk result (λ d. d ≡ with_row self.entry name element) }
     {
         let Draft {
+            alloc,
             store,
             mut written,
             mut here,
             mut users,
         } = self;
         let _ = store.map();
-        users.ready(&name, here.get(&name), element.as_ref())?;
+        let change = ReferenceChange::of(&alloc, name, here.get(&name), element.as_ref())?;
+        users.gain(&alloc, name, change.begun.as_slice())?;
         written.insert(name)?;
         put(&mut here, name, element)?;
-        users.note();
+        users.lose(&name, change.ceased.as_slice());
         Ok(Draft {
+            alloc,
             store,
             written,
             here,

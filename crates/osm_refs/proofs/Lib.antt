@@ -1,3 +1,4 @@
 pub mod Entering
 pub mod MemberNames
+mod SameReferences
 pub mod Turning

@@ -1,3 +1,2 @@
 -- How users are kept. No contract that is seen from outside cites these.
-pub mod Notes
 pub mod Turned

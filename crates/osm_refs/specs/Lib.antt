@@ -1,3 +1,4 @@
+pub mod Changes
 pub mod Facts
 pub mod Inner
 pub mod References

@@ -40,8 +40,3 @@ has_names (y ∷ ys) = true
 -- the table of a map: the rows that refer to any, each with the set of its references
 abbrev pub table_of : {A : Type 0} → Rows A → Table
 table_of m = filter (λ r. has_names r.1) (map (λ r. (r.0, name_set (references r.1))) m)
-
--- what users are kept of: the table, and the notes that wait, in order
-pub record UsersState : Type 0 where
-  pub references : Table
-  pub waiting : List Note

@@ -2,7 +2,7 @@
 #![tactic(auto)]
 
 pub mod but;
+pub mod change;
 pub mod laws;
-mod note;
 pub mod refs;
 pub mod users;

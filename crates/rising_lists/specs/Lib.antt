@@ -2,4 +2,3 @@ pub mod Facts
 pub mod Inner
 pub mod Lists
 pub mod Rising
-pub mod Tables

@@ -1,14 +1,13 @@
 //! The lists of all keys.
-ghost use Rattle.std.specs.Prelude.{◌≡◌, ◌<◌, [], ◌∷◌, IfOk, OnOk, OnErr};
+ghost use Rattle.std.specs.Prelude.{◌≡◌, [], ◌∷◌, IfOk, OnErr, OnOk};
 ghost use Rattle.std.specs.Mem.{FitsInMemory};
-ghost use Rattle.rising_lists.specs.Lists.{AreLists, values_at, awaited_at, SameValues, SameAwaited, AwaitsMore, AwaitsLess, Gains, Loses, AreAwaited};
+ghost use Rattle.rising_lists.specs.Lists.{AreLists, Gains, Lacks, Loses, SameLists, listed};
 
 use crate::list::RisingList;
 use std::alloc::{AllocError, Allocator};
 use std::collections::BTreeMap;
 
-/// The values of each key that has any, and of each that awaits one. A list is found in time logarithmic in the
-/// number of keys.
+/// A sorted multimap: the values of each key that has any. A lookup takes time logarithmic in the number of keys.
 #[derive(Drop)]
 #[derive_where(Debug; K, V)]
 pub struct RisingLists<K: Ord + Copy, V: Ord + Copy, A: Allocator> {
@@ -17,7 +16,7 @@ pub struct RisingLists<K: Ord + Copy, V: Ord + Copy, A: Allocator> {
 }
 
 impl<K: Ord + Copy, V: Ord + Copy, A: Allocator> RisingLists<K, V, A> {
-    /// No lists. They take no memory.
+    /// No lists. It does not allocate.
     pub fn new(alloc: A) -> RisingLists<K, V, A>
         ensures { result.lists.entries ≡ [] }
     {
@@ -29,7 +28,7 @@ impl<K: Ord + Copy, V: Ord + Copy, A: Allocator> RisingLists<K, V, A> {
     /// The values of a key, rising. `V` has to be of fewer than 2^63 bytes, which no bound says.
     pub fn of(&self, key: &K) -> &[V]
         requires { FitsInMemory V.row }
-        ensures { result.now ≡ values_at K.cmp self.now.lists.entries key.now }
+        ensures { result.now ≡ listed K.cmp self.now.lists.entries key.now }
     {
         match self.lists.get(key) {
             Some(list) => list.as_slice(),
@@ -37,60 +36,36 @@ impl<K: Ord + Copy, V: Ord + Copy, A: Allocator> RisingLists<K, V, A> {
         }
     }
 
-    /// Makes room for one more value of each of some keys, or refuses where there is no memory and leaves values and
-    /// room as they were.
-    pub fn await_all(&mut self, alloc: &A, keys: &[K]) -> Result<(), AllocError>
+    /// Puts a value among those of each of some keys, of which none has it. If an allocation fails, all lists are
+    /// unchanged.
+    pub fn add_all(&mut self, alloc: &A, keys: &[K], value: V) -> Result<(), AllocError>
     where
         A: Clone,
-        ensures values { SameValues K.cmp self.old.lists.entries self.new.lists.entries }
-        ensures ok { OnOk result (AwaitsMore K.cmp self.old.lists.entries self.new.lists.entries keys.now) }
-        ensures err { OnErr result (SameAwaited K.cmp self.old.lists.entries self.new.lists.entries) }
+        requires { Lacks K.cmp V.cmp self.old.lists.entries keys.now value }
+        ensures ok { OnOk result (Gains K.cmp V.cmp self.old.lists.entries self.new.lists.entries keys.now value) }
+        ensures err { OnErr result (SameLists K.cmp V.cmp self.old.lists.entries self.new.lists.entries) }
     {
         for at in 0..keys.len() {
-            if let Err(refused) = self.await_one(alloc, &keys[at]) {
-                self.release_all(&keys[..at]);
+            if let Err(refused) = self.add(alloc, &keys[at], value) {
+                self.take_out_all(&keys[..at], &value);
                 return Err(refused);
             }
         }
         Ok(())
     }
 
-    /// Gives up one value of each of some keys that was awaited. A key that has no value, and awaits none, goes.
-    pub fn release_all(&mut self, keys: &[K])
-        requires { AreAwaited K.cmp self.old.lists.entries keys.now }
-        ensures values { SameValues K.cmp self.old.lists.entries self.new.lists.entries }
-        ensures awaited { AwaitsLess K.cmp self.old.lists.entries self.new.lists.entries keys.now }
-    {
-        for key in keys {
-            self.release(key);
-        }
-    }
-
-    /// Puts a value that was awaited among those of each of some keys, where none is equal to it. It takes no memory.
-    pub fn add_all(&mut self, keys: &[K], value: V)
-        requires { AreAwaited K.cmp self.old.lists.entries keys.now }
-        ensures values { Gains K.cmp V.cmp self.old.lists.entries self.new.lists.entries keys.now value }
-        ensures awaited { AwaitsLess K.cmp self.old.lists.entries self.new.lists.entries keys.now }
-    {
-        for key in keys {
-            self.add(key, value);
-        }
-    }
-
-    /// Takes the value out that is equal to another, of each of some keys. A key that has no value, and awaits none,
-    /// goes. It takes no memory.
+    /// Removes the value that is equal to `value` from those of each of some keys. A key with no value left goes. It
+    /// does not allocate.
     pub fn take_out_all(&mut self, keys: &[K], value: &V)
-        ensures values { Loses K.cmp V.cmp self.old.lists.entries self.new.lists.entries keys.now value.now }
-        ensures awaited { SameAwaited K.cmp self.old.lists.entries self.new.lists.entries }
+        ensures { Loses K.cmp V.cmp self.old.lists.entries self.new.lists.entries keys.now value.now }
     {
         for key in keys {
             self.take_out(key, value);
         }
     }
 
-    /// The same lists once more, or a refusal where there is no memory. The room that the awaited values have is made
-    /// for the copy too. No bound says that a clone of a key is equal to it; so this is a call with a condition, and no
-    /// `Clone`.
+    /// The same lists once more. No bound says that a clone of a key is equal to it; so this is a call with a
+    /// condition, and no `Clone`.
     pub fn copy(&self) -> Result<RisingLists<K, V, A>, AllocError>
     where
         A: Clone,
@@ -101,63 +76,30 @@ impl<K: Ord + Copy, V: Ord + Copy, A: Allocator> RisingLists<K, V, A> {
         Ok(RisingLists { lists })
     }
 
-    // Makes room for one more value of a key, or refuses and leaves values and room as they were.
-    fn await_one(&mut self, alloc: &A, key: &K) -> Result<(), AllocError>
+    // Puts a value among those of a key.
+    fn add(&mut self, alloc: &A, key: &K, value: V) -> Result<(), AllocError>
     where
         A: Clone,
-        ensures values { SameValues K.cmp self.old.lists.entries self.new.lists.entries }
-        ensures ok { OnOk result (AwaitsMore K.cmp self.old.lists.entries self.new.lists.entries (key.now ∷ [])) }
-        ensures err { OnErr result (SameAwaited K.cmp self.old.lists.entries self.new.lists.entries) }
+        ensures ok { OnOk result (Gains K.cmp V.cmp self.old.lists.entries self.new.lists.entries (key.now ∷ []) value) }
+        ensures err { OnErr result (SameLists K.cmp V.cmp self.old.lists.entries self.new.lists.entries) }
     {
         match self.lists.get_mut(key) {
-            Some(list) => list.await_one(alloc),
+            Some(list) => list.add(alloc, value),
             None => {
-                let mut list = RisingList::new();
-                list.await_one(alloc)?;
-                self.lists.insert(*key, list)?;
+                self.lists.insert(*key, RisingList::one(value))?;
                 Ok(())
             }
         }
     }
 
-    // Gives up one value of a key that was awaited.
-    fn release(&mut self, key: &K)
-        requires { 0 < awaited_at K.cmp self.old.lists.entries key.now }
-        ensures values { SameValues K.cmp self.old.lists.entries self.new.lists.entries }
-        ensures awaited { AwaitsLess K.cmp self.old.lists.entries self.new.lists.entries (key.now ∷ []) }
-    {
-        match self.lists.get_mut(key) {
-            Some(list) => {
-                list.release();
-                if list.is_idle() {
-                    let _ = self.lists.remove(key);
-                }
-            }
-            None => unreachable!(),
-        }
-    }
-
-    // Puts a value that was awaited among those of a key.
-    fn add(&mut self, key: &K, value: V)
-        requires { 0 < awaited_at K.cmp self.old.lists.entries key.now }
-        ensures values { Gains K.cmp V.cmp self.old.lists.entries self.new.lists.entries (key.now ∷ []) value }
-        ensures awaited { AwaitsLess K.cmp self.old.lists.entries self.new.lists.entries (key.now ∷ []) }
-    {
-        match self.lists.get_mut(key) {
-            Some(list) => list.add(value),
-            None => unreachable!(),
-        }
-    }
-
-    // Takes a value out of those of a key, if it is there.
+    // Removes a value from those of a key, if it is there.
     fn take_out(&mut self, key: &K, value: &V)
-        ensures values { Loses K.cmp V.cmp self.old.lists.entries self.new.lists.entries (key.now ∷ []) value.now }
-        ensures awaited { SameAwaited K.cmp self.old.lists.entries self.new.lists.entries }
+        ensures { Loses K.cmp V.cmp self.old.lists.entries self.new.lists.entries (key.now ∷ []) value.now }
     {
         match self.lists.get_mut(key) {
             Some(list) => {
                 list.take_out(value);
-                if list.is_idle() {
+                if list.is_empty() {
                     let _ = self.lists.remove(key);
                 }
             }

@@ -12,7 +12,6 @@ use Rattle.osm_elements.specs.Facts.Names.{name_cmp_total}
 use Rattle.osm_elements.specs.Rows.{AreInOrder}
 use Rattle.osm_elements.specs.Facts.Entries.{first, second}
 use Rattle.osm_elements.specs.Maps.{Rows, lesser, least, names_of}
-use Rattle.osm_refs.specs.References.{users, refers_to}
 use Rattle.edit_simple.specs.Facts.LeastNames.{min_assoc}
 
 less : (r : Ordering) → T (is_lt r) → r ≡ Less

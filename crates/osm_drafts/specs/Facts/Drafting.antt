@@ -16,10 +16,11 @@ use Rattle.osm_elements.specs.Facts.MadeMaps.{or_else, or_none, row_at-put_all, 
 use Rattle.osm_elements.specs.Facts.Names.{name_cmp-IsAntisymmetric}
 use Rattle.osm_elements.specs.Facts.Rows.{same_names, same_rows, row_at_is_find}
 use Rattle.osm_refs.specs.References.{row_references, refers_to, users}
-use Rattle.osm_refs.specs.Tables.{Note, UsersState, referring, table_of}
-use Rattle.osm_refs.specs.Facts.MapTables.{table_of-put_row, table_of-rows_but}
-use Rattle.osm_changes.specs.Stores.{users_of}
-use Rattle.osm_refs.specs.Facts.RisingNames.{same_as_name_set}
+use Rattle.osm_refs.specs.Rising.{names_but}
+use Rattle.osm_refs.specs.Tables.{Table, references_at, referring, table_of}
+use Rattle.osm_refs.specs.Facts.Changes.{changed, gained, new_names}
+use Rattle.osm_refs.specs.Facts.MapTables.{IsTable-table_of, references_at-table_of, table_of-put_row, table_of-rows_but}
+use Rattle.osm_refs.specs.Facts.RisingNames.{IsRising-name_set, same_as_name_set}
 use Rattle.osm_changes.specs.Changes.{with_row}
 use Rattle.osm_changes.specs.Facts.Changing.{row_at-with_row, AreInOrder-with_row}
 use Rattle.osm_changes.specs.Facts.PassingRows.{passes_at, rising_names, among_rows}
@@ -159,31 +160,38 @@ module _ {A : Type 0} where
         by q false = refl
 
   -- the users of the rows that were written, after one more
-  pub users_with : (here : Rows A) (x : Name) (o : Option (Element A)) → AreInOrder here
-      → record { references = referring (table_of here) x (name_set (row_references o)); waiting = [] } ≡ users_of (with_row here x o)
-  users_with here x None h = λ i. record { references = sym (table_of-rows_but here x h) i; waiting = [] }
-  users_with here x (Some v) h = λ i. record { references = sym (table_of-put_row here x v h) i; waiting = [] }
+  users_with : (here : Rows A) (x : Name) (o : Option (Element A)) → AreInOrder here → referring (table_of here) x (name_set (row_references o)) ≡ table_of (with_row here x o)
+  users_with here x None h = sym (table_of-rows_but here x h)
+  users_with here x (Some v) h = sym (table_of-put_row here x v h)
 
-  -- what is told of one note entered
-  pub noted_one : (before ready after : UsersState) (here : Rows A) (x : Name) (o : Option (Element A)) → AreInOrder here → before ≡ users_of here
-      → ready ≡ record before { waiting = before.waiting ++ (x, name_set (row_references o)) ∷ [] }
-      → ((n : Note) (rest : List Note) → ready.waiting ≡ n ∷ rest → after ≡ record { references = referring ready.references n.0 n.1; waiting = rest })
-      → after ≡ users_of (with_row here x o)
-  noted_one before ready after here x o h are is told =
-      let now : ready ≡ record { references = table_of here; waiting = (x, name_set (row_references o)) ∷ [] } = is ∙ (λ i. record (are i) { waiting = (are i).waiting ++ (x, name_set (row_references o)) ∷ [] }) in
-      told (x, name_set (row_references o)) [] (ap (λ (u : UsersState). u.waiting) now)
-      ∙ ap (λ (u : UsersState). record { references = referring u.references x (name_set (row_references o)); waiting = [] }) now
-      ∙ users_with here x o h
+  -- what a row that is written does to the references of its name
+  module _ (here : Rows A) (x : Name) (o : Option (Element A)) (order : AreInOrder here) where
+    abbrev before : List Name
+    before = name_set (row_references (row_at here x))
+
+    abbrev after : List Name
+    after = name_set (row_references o)
+
+    pub begun_is_new : (users : Table) → users ≡ table_of here → names_but (names_but after before) (references_at users x) ≡ names_but after before
+    begun_is_new users are = ap (λ t. names_but (names_but after before) (references_at t x)) are ∙ ap (names_but (names_but after before)) (references_at-table_of here x order) ∙ new_names before after (IsRising-name_set (row_references o))
+
+    pub users_changed : (users gains loses : Table) → users ≡ table_of here → gains ≡ referring users x (name_set (references_at users x ++ names_but after before))
+        → loses ≡ referring gains x (names_but (references_at gains x) (names_but before after)) → loses ≡ table_of (with_row here x o)
+    users_changed users gains loses are gained_is lost_is =
+        let was : references_at (table_of here) x ≡ before = references_at-table_of here x order in
+        let came : gains ≡ gained (table_of here) x after (IsTable-table_of here order) (IsRising-name_set (row_references o)) =
+        gained_is ∙ ap (λ t. referring t x (name_set (references_at t x ++ names_but after before))) are ∙ ap (λ names. referring (table_of here) x (name_set (references_at (table_of here) x ++ names_but after names))) (sym was) in
+        lost_is ∙ ap (λ t. referring t x (names_but (references_at t x) (names_but before after))) came
+        ∙ ap (λ names. referring (gained (table_of here) x after (IsTable-table_of here order) (IsRising-name_set (row_references o))) x
+        (names_but (references_at (gained (table_of here) x after (IsTable-table_of here order) (IsRising-name_set (row_references o))) x) (names_but names after))) (sym was)
+        ∙ changed (table_of here) x after (IsTable-table_of here order) (IsRising-name_set (row_references o)) ∙ users_with here x o order
 
   -- a draft with one more row is one
-  pub is_draft_with : (m : Rows A) (w more : List Name) (here : Rows A) (x : Name) (o : Option (Element A)) (before ready after : UsersState) (put : Rows A) → IsDraft w here before
-      → ((q : Name) → is_among more q ≡ (is_same q x || is_among w q))
-      → ready ≡ record before { waiting = before.waiting ++ (x, name_set (row_references o)) ∷ [] }
-      → ((n : Note) (rest : List Note) → ready.waiting ≡ n ∷ rest → after ≡ record { references = referring ready.references n.0 n.1; waiting = rest })
-      → put ≡ with_row here x o → IsDraft more put after
-  is_draft_with m w more here x o before ready after put d is are told put_is =
+  pub is_draft_with : (w more : List Name) (here : Rows A) (x : Name) (o : Option (Element A)) (before after : Table) (put : Rows A) → IsDraft w here before
+      → ((q : Name) → is_among more q ≡ (is_same q x || is_among w q)) → after ≡ table_of (with_row here x o) → put ≡ with_row here x o → IsDraft more put after
+  is_draft_with w more here x o before after put d is users_are put_is =
       subst (λ k. IsDraft more k after) (sym put_is) (record {
         order = AreInOrder-with_row here x o d.order;
         inside = inside_with w more here x o d.inside is;
-        users_are = noted_one before ready after here x o d.order d.users_are are told;
+        users_are = users_are;
       })

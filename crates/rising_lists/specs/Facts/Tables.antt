@@ -1,6 +1,5 @@
 -- Tables whose keys rise and have values: each is known by the values that its keys have.
-use Rattle.std.proofs.lemmas.Bool.Decides.{nat_tests}
-use Rattle.std.proofs.Common.{nat_eq, ◌≡◌, Bool, true, false, not, cond, T, List, [], ◌∷◌, map, Option, Some, None, unwrap_or, refl, sym, ap, ◌∙◌, arith}
+use Rattle.std.proofs.Common.{◌≡◌, Bool, true, false, not, cond, T, List, [], ◌∷◌, map, Option, Some, None, unwrap_or, refl, sym, ap, ◌∙◌}
 use Rattle.std.specs.List.{filter, list_all}
 use Rattle.std.specs.Ordering.{is_eq}
 use Rattle.std.specs.Cmp.{IsTotalOrder}
@@ -8,8 +7,8 @@ use Rattle.std.specs.FinMap.{IsAntisymmetric}
 use Rattle.std.specs.FinMap.Entries.{put, find, is_sorted, by_order, find-put, is_sorted-put, same_entries}
 use Rattle.std.specs.declared.cmp.Ordering.{Ordering}
 use Rattle.std.specs.declared.cmp.Ordering.TheVariants.{Less, Equal, Greater}
-use Rattle.rising_lists.specs.Lists.{Listed, Lists, AreLists, has_none, is_idle, is_idle_row, values_of, awaited_of, values_at, awaited_at}
-use Rattle.rising_lists.specs.Tables.{Table, listed, as_table}
+use Rattle.rising_lists.specs.Facts.Rising.{same_rising}
+use Rattle.rising_lists.specs.Lists.{AreLists, SameLists, Table, has_none, has_none_at, listed}
 use Rattle.rising_lists.specs.Facts.Sorted.{both, first, second, find_first, is_sorted-filter, is_sorted-map, not_behind}
 
 -- a list, if it has any value
@@ -21,16 +20,6 @@ if_any_is : {V : Type 0} (values : List V) → T (not (has_none values)) → if_
 if_any_is [] h = absurd h
 if_any_is (x ∷ xs) h = refl
 
-some_value : {V : Type 0} (l : Listed V) → is_idle l ≡ false → l.awaited ≡ 0 → T (not (has_none l.values))
-some_value {V} l busy none = by l.values busy
-  where
-    is_none : nat_eq l.awaited 0 ≡ true
-    is_none = grind (arith, nat_tests)
-
-    by : (values : List V) → cond (has_none values) (nat_eq l.awaited 0) false ≡ false → T (not (has_none values))
-    by [] h = absurd (cc)
-    by (x ∷ xs) h = tt
-
 module _ {K V : Type 0} (order : K → K → Ordering) where
   abbrev has_values : Table K V → Bool
   has_values t = list_all (λ r. not (has_none r.1)) t
@@ -38,17 +27,6 @@ module _ {K V : Type 0} (order : K → K → Ordering) where
   -- the keys rise, and each has a value
   abbrev pub IsTable : Table K V → Type 0
   IsTable t = T (is_sorted order t) × T (has_values t)
-
-  pub listed-as_table : (lists : Lists K V) (k : K) → listed order (as_table lists) k ≡ values_at order lists k
-  listed-as_table [] k = refl
-  listed-as_table (r ∷ lists) k = by (is_eq (order k r.0)) (listed-as_table lists k)
-    where
-      by : (b : Bool) → listed order (as_table lists) k ≡ values_at order lists k → unwrap_or (cond b (Some r.1.values) (find order k (as_table lists))) [] ≡ values_of (cond b (Some r.1) (find order k lists))
-      by true i = refl
-      by false i = i
-
-  pub is_sorted-as_table : (lists : Lists K V) → T (is_sorted order lists) → T (is_sorted order (as_table lists))
-  is_sorted-as_table lists h = is_sorted-map order (λ (l : Listed V). l.values) lists h
 
   find_is_if_any : (t : Table K V) (k : K) → T (has_values t) → find order k t ≡ if_any (listed order t k)
   find_is_if_any [] k h = refl
@@ -114,20 +92,26 @@ module _ {K V : Type 0} (order : K → K → Ordering) where
       pub IsTable-kept : (t : Table K V) → T (is_sorted order t) → IsTable (kept f keeps_none t)
       IsTable-kept t h = (is_sorted-filter order (λ r. not (has_none r.1)) (map (λ r. (r.0, f r.1)) t) (is_sorted-map order f t h), has_values-kept f keeps_none t)
 
-    -- lists of which no value is awaited
-    all_have : (lists : Lists K V) → T (is_sorted order lists) → ((k : K) → is_idle_row (find order k lists) ≡ false) → ((k : K) → awaited_of (find order k lists) ≡ 0) → T (has_values (as_table lists))
-    all_have [] h busy none = tt
-    all_have (r ∷ lists) h busy none =
-        both _ _ (some_value r.1 (sym (ap is_idle_row (find_first order total r lists)) ∙ busy r.0) (sym (ap awaited_of (find_first order total r lists)) ∙ none r.0))
-        (all_have lists (second _ _ h) (λ k. busy_behind k (is_eq (order k r.0)) refl (busy k)) (λ k. none_behind k (is_eq (order k r.0)) refl (none k)))
+    -- lists are such a table
+    all_have : (lists : Table K V) → T (is_sorted order lists) → ((k : K) → has_none_at (find order k lists) ≡ false) → T (has_values lists)
+    all_have [] h some = tt
+    all_have (r ∷ lists) h some =
+        both _ _ (filled r.1 (sym (ap has_none_at (find_first order total r lists)) ∙ some r.0)) (all_have lists (second _ _ h) (λ k. behind k (is_eq (order k r.0)) refl (some k)))
       where
-        busy_behind : (k : K) (b : Bool) → is_eq (order k r.0) ≡ b → is_idle_row (cond b (Some r.1) (find order k lists)) ≡ false → is_idle_row (find order k lists) ≡ false
-        busy_behind k true e p = ap is_idle_row (not_behind order total k r lists h e)
-        busy_behind k false e p = p
+        filled : (values : List V) → has_none values ≡ false → T (not (has_none values))
+        filled [] e = absurd (cc)
+        filled (x ∷ xs) e = tt
 
-        none_behind : (k : K) (b : Bool) → is_eq (order k r.0) ≡ b → awaited_of (cond b (Some r.1) (find order k lists)) ≡ 0 → awaited_of (find order k lists) ≡ 0
-        none_behind k true e p = ap awaited_of (not_behind order total k r lists h e)
-        none_behind k false e p = p
+        behind : (k : K) (b : Bool) → is_eq (order k r.0) ≡ b → has_none_at (cond b (Some r.1) (find order k lists)) ≡ false → has_none_at (find order k lists) ≡ false
+        behind k true e p = ap has_none_at (not_behind order total k r lists h e)
+        behind k false e p = p
 
-    pub IsTable-as_table : {by_value : V → V → Ordering} (lists : Lists K V) → AreLists order by_value lists → ((k : K) → awaited_at order lists k ≡ 0) → IsTable (as_table lists)
-    IsTable-as_table lists kept none = (is_sorted-as_table lists kept.in_order, all_have lists kept.in_order kept.none_idle none)
+    pub IsTable-lists : {by_value : V → V → Ordering} (lists : Table K V) → AreLists order by_value lists → IsTable lists
+    IsTable-lists lists kept = (kept.in_order, all_have lists kept.in_order kept.none_empty)
+
+    -- and equal to others of which each key has the same values
+    pub same_lists : IsAntisymmetric order → {by_value : V → V → Ordering} → IsTotalOrder by_value → IsAntisymmetric by_value → (one other : Table K V) → AreLists order by_value one → AreLists order by_value other
+        → SameLists order by_value one other → other ≡ one
+    same_lists same {by_value} values_total values_same one other kept kept' is =
+        same_tables same other one (IsTable-lists other kept') (IsTable-lists one kept)
+        (λ k. same_rising by_value values_total values_same (listed order other k) (listed order one k) (kept'.rising k) (kept.rising k) (is k))

@@ -4,10 +4,7 @@ use Rattle.std.specs.Ordering.{nat_cmp}
 use Rattle.osm_elements.specs.declared.name.Name.{Name}
 use Rattle.osm_changes.specs.declared.cell.Cell.{Cell}
 use Rattle.osm_changes.specs.Cells as cells
-use Rattle.osm_changes.specs.Cells.{cell_cmp}
 use Rattle.rising_lists.specs.Rising.{IsRising}
-use Rattle.rising_lists.specs.Lists.{values_at}
-use Rattle.rising_lists.specs.Facts.Tables.{listed-as_table}
 use Rattle.edit_footprint.specs.Holding.{Held, holding, IsFirstAfter}
 use Rattle.edit_footprint.specs.Inner.Searching.{sooner}
 use Rattle.edit_footprint.proofs.Searching.{next, past_before, step}
@@ -22,8 +19,7 @@ loop-cell-preserved g c =
     let cell = c.cell-item.result in
     let lists = c.self.inside.lists.lists.entries in
     let held = c.args.self.now in
-    let told = listed-as_table cell_cmp lists cell in
-    let numbers : values_at cell_cmp lists cell ≡ holding held cell = sym told ∙ ap (λ (h : Held). holding h cell) c.self.view_is in
+    let numbers : holding lists cell ≡ holding held cell = ap (λ (h : Held). holding h cell) c.self.view_is in
     let own : c.of.result.now ≡ holding held cell = c.of.ensures ∙ numbers in
     let rises = subst (IsRising nat_cmp) numbers (c.self.inside.lists.kept.rising cell) in
     let cells_rise = subst cells.IsRising (sym c.cells-cells.ensures.cells) c.cells-cells.ensures.rising in

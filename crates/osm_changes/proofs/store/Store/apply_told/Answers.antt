@@ -1,13 +1,15 @@
-use Rattle.std.proofs.Common.{◌≡◌, ◌∙◌, refl, ap, sym, true}
+use Rattle.std.proofs.Common.{◌≡◌, ◌∙◌, refl, ap, map, sym, true}
+use Rattle.std.specs.List.{fold}
+use Rattle.osm_changes.specs.Inner.References.{lost, reference_change_of}
 use Rattle.osm_changes.specs.Changes.{changed, rows_after}
 use Rattle.osm_changes.specs.Sound.{is_sound}
-use Rattle.osm_changes.specs.Stores.{users_of}
+use Rattle.osm_refs.specs.Tables.{table_of}
 use Rattle.osm_changes.specs.Facts.SoundRows.{sound_in_order}
 use Rattle.osm_changes.proofs.Applied.{names_rise, others_rise, others_not_new, map_became, users_became}
 use Rattle.osm_changes.proofs.store.Store.apply_told.Goals as goal
 
-pub reserve-requires-clause-rising : goal.reserve-requires-clause-rising
-reserve-requires-clause-rising g c =
+pub prepare-requires-clause-rising : goal.prepare-requires-clause-rising
+prepare-requires-clause-rising g c =
     let m = c.self.inside.map in
     let cs = c.args.changes.now in
     let are : c.as_slice-told.result.now ≡ rows_after m cs = c.as_slice-told.ensures ∙ c.requires.rows ∙ ap (λ k. rows_after k cs) (sym (ap (λ s. s.rows) c.self.view_is)) in
@@ -18,15 +20,15 @@ replace-requires-clause-rising g c =
     let m = c.self.inside.map in
     let cs = c.args.changes.now in
     let are : c.as_slice-told.result.now ≡ rows_after m cs = c.as_slice-told.ensures ∙ c.requires.rows ∙ ap (λ k. rows_after k cs) (sym (ap (λ s. s.rows) c.self.view_is)) in
-    others_rise m cs c.as_slice-told.result.now are c.in_ok-others.others.items c.in_ok-others.ensures.ok.0
+    others_rise m cs c.as_slice-told.result.now are c.in_ok-prepared.prepared.others.items c.in_ok-prepared.ensures.ok.0
 
 pub replace-requires-clause-there : goal.replace-requires-clause-there
 replace-requires-clause-there g c =
     let m = c.self.inside.map in
     let cs = c.args.changes.now in
     let are : c.as_slice-told.result.now ≡ rows_after m cs = c.as_slice-told.ensures ∙ c.requires.rows ∙ ap (λ k. rows_after k cs) (sym (ap (λ s. s.rows) c.self.view_is)) in
-    others_not_new m cs c.as_slice-told.result.now are c.in_ok-others.others.items c.in_ok-others.ensures.ok.0
-    (sound_in_order m c.self.invariant.sound) c.reserve.new.rows c.in_ok-others.ensures.ok.1
+    others_not_new m cs c.as_slice-told.result.now are c.in_ok-prepared.prepared.others.items c.in_ok-prepared.ensures.ok.0
+    (sound_in_order m c.self.invariant.sound) c.prepare.new.rows c.in_ok-prepared.ensures.ok.2
 
 pub invariant_of-self-2 : goal.invariant_of-self-2
 invariant_of-self-2 g c =
@@ -34,10 +36,12 @@ invariant_of-self-2 g c =
     let cs = c.args.changes.now in
     let are : c.as_slice-told.result.now ≡ rows_after m cs = c.as_slice-told.ensures ∙ c.requires.rows ∙ ap (λ k. rows_after k cs) (sym (ap (λ s. s.rows) c.self.view_is)) in
     let order = sound_in_order m c.self.invariant.sound in
-    let map_is = map_became m cs c.as_slice-told.result.now are c.in_ok-others.others.items c.in_ok-others.ensures.ok.0 order c.reserve.new.rows c.in_ok-others.ensures.ok.1 c.replace.new.rows c.replace.ensures in
-    let users_are = users_became m cs c.as_slice-told.result.now are order c.reserve.new.users c.note.new.users c.in_ok-others.ensures.ok.2 c.note.ensures in
+    let map_is = map_became m cs c.as_slice-told.result.now are c.in_ok-prepared.prepared.others.items c.in_ok-prepared.ensures.ok.0 order c.prepare.new.rows c.in_ok-prepared.ensures.ok.2 c.replace.new.rows c.replace.ensures in
+    let others : c.in_ok-prepared.prepared.changes.items ≡ map (reference_change_of m) c.as_slice-told.result.now = c.in_ok-prepared.ensures.ok.1 in
+    let loses = c.lose.ensures ∙ ap (fold lost c.prepare.new.users) (c.deref.ensures.value ∙ others) in
+    let users_are = users_became m cs c.as_slice-told.result.now are order c.prepare.new.users c.lose.new.users c.in_ok-prepared.ensures.ok.3 loses in
     let sound : is_sound (changed m cs) ≡ true = ap (λ k. is_sound (changed k cs)) (ap (λ s. s.rows) c.self.view_is) ∙ c.requires.sound in
-    record { sound = ap is_sound map_is ∙ sound; users_are = users_are ∙ ap users_of (sym map_is) }
+    record { sound = ap is_sound map_is ∙ sound; users_are = users_are ∙ ap table_of (sym map_is) }
 
 pub returns-clause-ok : goal.returns-clause-ok
 returns-clause-ok g c =
@@ -45,5 +49,5 @@ returns-clause-ok g c =
     let cs = c.args.changes.now in
     let are : c.as_slice-told.result.now ≡ rows_after m cs = c.as_slice-told.ensures ∙ c.requires.rows ∙ ap (λ k. rows_after k cs) (sym (ap (λ s. s.rows) c.self.view_is)) in
     let order = sound_in_order m c.self.invariant.sound in
-    let map_is = map_became m cs c.as_slice-told.result.now are c.in_ok-others.others.items c.in_ok-others.ensures.ok.0 order c.reserve.new.rows c.in_ok-others.ensures.ok.1 c.replace.new.rows c.replace.ensures in
+    let map_is = map_became m cs c.as_slice-told.result.now are c.in_ok-prepared.prepared.others.items c.in_ok-prepared.ensures.ok.0 order c.prepare.new.rows c.in_ok-prepared.ensures.ok.2 c.replace.new.rows c.replace.ensures in
     rw (map_is, c.saturating_add-self-inside.ensures, c.len.ensures, ← c.self.view_is) refl

@@ -1,27 +1,56 @@
-use Rattle.std.proofs.Common.{◌++◌, ◌∷◌, [], sym, ap, ◌∙◌}
-use Rattle.osm_elements.specs.Maps.{name_set, is_among}
-use Rattle.osm_elements.specs.Facts.NameOrder.{name_cmp_is}
-use Rattle.osm_refs.specs.References.{row_references}
-use Rattle.osm_refs.specs.Tables.{UsersState, references_at, noted}
-use Rattle.osm_refs.specs.Facts.MapTables.{references_at-table_of}
+use Rattle.std.proofs.Common.{◌≡◌, ◌++◌, not, ap, subst, sym, ◌∙◌}
+use Rattle.std.specs.Option.{option_copied}
 use Rattle.osm_changes.specs.Changes.{with_row}
 use Rattle.osm_changes.specs.Facts.SoundRows.{sound_in_order}
-use Rattle.osm_drafts.specs.Drafts.{drafted}
-use Rattle.osm_drafts.specs.Facts.Drafting.{among_inserted, drafted_with, is_draft_with}
 use Rattle.osm_drafts.proofs.draft.Draft.with.Goals as goal
+use Rattle.osm_drafts.specs.Drafts.{drafted}
+use Rattle.osm_drafts.specs.Facts.Drafting.{among_inserted, begun_is_new, drafted_with, is_draft_with, users_changed}
+use Rattle.osm_elements.specs.Facts.NameOrder.{name_cmp_is}
+use Rattle.osm_elements.specs.Maps.{is_among, name_set}
+use Rattle.osm_elements.specs.Rows.{row_at}
+use Rattle.osm_refs.specs.Changes.{reference_change}
+use Rattle.osm_refs.specs.Facts.RisingNames.{IsRising-filter, IsRising-name_set}
+use Rattle.osm_refs.specs.References.{row_references}
+use Rattle.osm_refs.specs.Rising.{IsRising, names_but}
+use Rattle.osm_refs.specs.Tables.{references_at, referring}
 
-pub ready-requires : goal.ready-requires
-ready-requires g c =
-    ap (λ o. name_set (row_references o)) c.get.ensures
-    ∙ sym (references_at-table_of c.self.inside.here c.args.name c.self.invariant.order)
-    ∙ ap (λ (u : UsersState). references_at (noted u.references u.waiting) c.args.name) (sym c.self.invariant.users_are)
+pub gain-requires-clause-rising : goal.gain-requires-clause-rising
+gain-requires-clause-rising g c =
+    let here = c.self.inside.here in
+    let name = c.args.name in
+    let after = name_set (row_references c.args.element) in
+    let before = name_set (row_references (row_at here name)) in
+    let change : c.in_ok-change.change ≡ reference_change name before after =
+    c.in_ok-change.ensures ∙ ap (λ o. reference_change name (name_set (row_references o)) (name_set (row_references (option_copied c.as_ref.result)))) c.get.ensures
+    ∙ ap (λ o. reference_change name before (name_set (row_references o))) c.as_ref.ensures.value in
+    subst IsRising (sym (c.as_slice.ensures ∙ ap (λ k. k.begun) change)) (IsRising-filter (λ e. not (is_among before e)) after (IsRising-name_set (row_references c.args.element)))
+
+pub gain-requires-clause-new : goal.gain-requires-clause-new
+gain-requires-clause-new g c =
+    let here = c.self.inside.here in
+    let name = c.args.name in
+    let after = name_set (row_references c.args.element) in
+    let before = name_set (row_references (row_at here name)) in
+    let change : c.in_ok-change.change ≡ reference_change name before after =
+    c.in_ok-change.ensures ∙ ap (λ o. reference_change name (name_set (row_references o)) (name_set (row_references (option_copied c.as_ref.result)))) c.get.ensures
+    ∙ ap (λ o. reference_change name before (name_set (row_references o))) c.as_ref.ensures.value in
+    let begun : c.as_slice.result.now ≡ names_but after before = c.as_slice.ensures ∙ ap (λ k. k.begun) change in
+    subst (λ names. names_but names (references_at c.self.inside.users name) ≡ names) (sym begun) (begun_is_new here name c.args.element c.self.invariant.order c.self.inside.users c.self.invariant.users_are)
 
 pub invariant_of-result : goal.invariant_of-result
 invariant_of-result g c =
-    is_draft_with c.self.inside.store.now.rows c.self.inside.written.keys c.insert.new.self.keys c.self.inside.here c.args.name c.args.element c.self.inside.users c.ready.new.self c.note.new.self c.put.new.rows
-    c.self.invariant (λ q. ap (λ l. is_among l q) c.in_ok-insert.ensures.keys ∙ among_inserted _ name_cmp_is c.args.name c.self.inside.written.keys q)
-    (c.in_ok-ready.ensures.ok ∙ ap (λ o. record c.self.inside.users { waiting = c.self.inside.users.waiting ++ (c.args.name, name_set (row_references o)) ∷ [] }) c.as_ref.ensures.value)
-    c.note.ensures c.in_ok-put.ensures.ok
+    let here = c.self.inside.here in
+    let name = c.args.name in
+    let after = name_set (row_references c.args.element) in
+    let before = name_set (row_references (row_at here name)) in
+    let change : c.in_ok-change.change ≡ reference_change name before after =
+    c.in_ok-change.ensures ∙ ap (λ o. reference_change name (name_set (row_references o)) (name_set (row_references (option_copied c.as_ref.result)))) c.get.ensures
+    ∙ ap (λ o. reference_change name before (name_set (row_references o))) c.as_ref.ensures.value in
+    let gains = c.in_ok-gain.ensures.ok ∙ ap (λ names. referring c.self.inside.users name (name_set (references_at c.self.inside.users name ++ names))) (c.as_slice.ensures ∙ ap (λ k. k.begun) change) in
+    let loses = c.lose.ensures ∙ ap (λ names. referring c.gain.new.self name (names_but (references_at c.gain.new.self name) names)) (c.as_slice-2.ensures ∙ ap (λ k. k.ceased) change) in
+    is_draft_with c.self.inside.written.keys c.insert.new.self.keys here name c.args.element c.self.inside.users c.lose.new.self c.put.new.rows c.self.invariant
+    (λ q. ap (λ l. is_among l q) c.in_ok-insert.ensures.keys ∙ among_inserted _ name_cmp_is name c.self.inside.written.keys q)
+    (users_changed here name c.args.element c.self.invariant.order c.self.inside.users c.gain.new.self c.lose.new.self c.self.invariant.users_are gains loses) c.in_ok-put.ensures.ok
 
 pub returns : goal.returns
 returns g c =

@@ -1,41 +1,41 @@
-use Rattle.std.proofs.Common.{◌≡◌, ◌-◌, Some, sym, ap, subst, ◌∙◌, arith}
-use Rattle.rising_lists.specs.Rising.{IsRising}
-use Rattle.rising_lists.specs.Lists.{Listed, is_idle_row}
-use Rattle.rising_lists.specs.Facts.Rising.{IsRising-with_value}
-use Rattle.rising_lists.specs.Facts.Rows.{awaited_found, rising_found, changed, keeps_lists, gains, awaits_less, busy_with_value}
+use Rattle.std.proofs.Common.{[], ◌≡◌, ap, false, subst, sym}
 use Rattle.rising_lists.proofs.lists.RisingLists.add.Goals as goal
+use Rattle.rising_lists.specs.Facts.Rows.{OnErr-map, OnOk-map, add_keeps, begun, changed, filled_found, first_keeps, gains, keeps_lists, rising_found, same_lists}
+use Rattle.rising_lists.specs.Lists.{has_none}
+use Rattle.rising_lists.specs.Rising.{IsRising}
 
-pub add-requires-clause-awaited : goal.add-requires-clause-awaited
-add-requires-clause-awaited g c = let e = awaited_found c.args.self.now.kept c.args.key.now _ c.in-Some.ensures.value in omega (arith, e, c.requires)
-
-pub add-requires-clause-rising : goal.add-requires-clause-rising
-add-requires-clause-rising g c = rising_found c.args.self.now.kept c.args.key.now _ c.in-Some.ensures.value
-
-pub unreachable-requires : goal.unreachable-requires
-unreachable-requires g c = let e = awaited_found c.args.self.now.kept c.args.key.now _ c.in-None.ensures.value in omega (arith, e, c.requires)
+pub add-requires : goal.add-requires
+add-requires g c = rising_found c.args.self.now.kept c.args.key.now _ c.in-Some.ensures.value
 
 pub invariant_of-self : goal.invariant_of-self
 invariant_of-self g c =
-    let v = c.in-Some.list.now in
     let w = c.add.new.self in
-    let row = changed g.met.K.Ord.total c.args.self.now.kept c.args.key.now w c.in-Some.ensures.value (c.get_mut.follows.holds w).0 in
-    let rises = rising_found c.args.self.now.kept c.args.key.now _ c.in-Some.ensures.value in
+    let kept = c.args.self.now.kept in
+    let row = changed g.met.K.Ord.total kept c.args.key.now w c.in-Some.ensures.value (c.get_mut.follows.holds w).0 in
+    let keeps = add_keeps c.add.result g.V.Ord.cmp g.met.V.Ord.total c.args.value c.in-Some.list.now w c.add.ensures.ok c.add.ensures.err (rising_found kept c.args.key.now _ c.in-Some.ensures.value)
+    (filled_found kept c.args.key.now _ c.in-Some.ensures.value) in
+    record { kept = keeps_lists g.met.K.Ord.total row kept keeps.0 keeps.1 }
+
+pub returns-in-Some-clause-ok : goal.returns-in-Some-clause-ok
+returns-in-Some-clause-ok g c =
+    let row = changed g.met.K.Ord.total c.args.self.now.kept c.args.key.now c.add.new.self c.in-Some.ensures.value (c.get_mut.follows.holds c.add.new.self).0 in
+    OnOk-map c.add.result (gains g.met.K.Ord.total row g.met.V.Ord.total c.args.value) c.add.ensures.ok
+
+pub returns-in-Some-clause-err : goal.returns-in-Some-clause-err
+returns-in-Some-clause-err g c =
+    let row = changed g.met.K.Ord.total c.args.self.now.kept c.args.key.now c.add.new.self c.in-Some.ensures.value (c.get_mut.follows.holds c.add.new.self).0 in
+    OnErr-map c.add.result (same_lists g.met.K.Ord.total row g.met.V.Ord.total) c.add.ensures.err
+
+pub invariant_of-self-in-None : goal.invariant_of-self-in-None
+invariant_of-self-in-None g c =
+    let rises = subst (IsRising g.V.Ord.cmp) (sym c.one.ensures) tt in
+    let some : has_none c.one.result ≡ false = ap has_none c.one.ensures in
     record {
-      kept = keeps_lists g.met.K.Ord.total row c.args.self.now.kept
-          (subst (λ (l : Listed g.row.V.Denot). IsRising g.V.Ord.cmp l.values) (sym c.add.ensures) (IsRising-with_value g.V.Ord.cmp g.met.V.Ord.total c.args.value v.values rises))
-          (ap (λ (l : Listed g.row.V.Denot). is_idle_row (Some l)) c.add.ensures ∙ busy_with_value g.V.Ord.cmp c.args.value v.values (v.awaited - 1));
+      kept = first_keeps c.insert.result g.met.K.Ord.total c.args.key.now c.one.result rises some c.args.self.now.kept c.in-None.ensures.value (rw c.get_mut.follows.holds-at-none at c.insert.ensures.entries)
+          (rw c.get_mut.follows.holds-at-none at c.insert.ensures.err);
     }
 
-pub returns-clause-values : goal.returns-clause-values
-returns-clause-values g c =
-    let w = c.add.new.self in
-    let row = changed g.met.K.Ord.total c.args.self.now.kept c.args.key.now w c.in-Some.ensures.value (c.get_mut.follows.holds w).0 in
-    gains g.met.K.Ord.total row g.met.V.Ord.total c.args.value (ap (λ (l : Listed g.row.V.Denot). l.values) c.add.ensures)
-
-pub returns-clause-awaited : goal.returns-clause-awaited
-returns-clause-awaited g c =
-    let w = c.add.new.self in
-    let row = changed g.met.K.Ord.total c.args.self.now.kept c.args.key.now w c.in-Some.ensures.value (c.get_mut.follows.holds w).0 in
-    let before = awaited_found c.args.self.now.kept c.args.key.now _ c.in-Some.ensures.value in
-    let after : w.awaited ≡ c.in-Some.list.now.awaited - 1 = ap (λ (l : Listed g.row.V.Denot). l.awaited) c.add.ensures in
-    awaits_less g.met.K.Ord.total row (omega (arith, before, after, c.requires))
+pub returns-in_ok-insert-in-None-clause-ok : goal.returns-in_ok-insert-in-None-clause-ok
+returns-in_ok-insert-in-None-clause-ok g c =
+    let entries = rw c.get_mut.follows.holds-at-none at c.in_ok-insert-in-None.ensures.entries in
+    gains g.met.K.Ord.total (begun g.met.K.Ord.total c.args.self.now.kept c.args.key.now c.one.result c.in-None.ensures.value entries) g.met.V.Ord.total c.args.value c.one.ensures

@@ -1,0 +1,7 @@
+use Rattle.std.proofs.Common.{◌≡◌, take}
+use Rattle.std.specs.List.{fold}
+use Rattle.osm_changes.proofs.entering.gain.Given as goal
+use Rattle.osm_changes.specs.Inner.References.{gained}
+
+abbrev pub invariant-loop-at : goal.invariant-loop-at
+invariant-loop-at g l = l.users ≡ fold gained l.initial.users (take l.at l.changes)

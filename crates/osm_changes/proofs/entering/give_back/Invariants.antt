@@ -1,0 +1,7 @@
+use Rattle.std.proofs.Common.{◌≡◌, take}
+use Rattle.std.specs.List.{fold}
+use Rattle.osm_changes.proofs.entering.give_back.Given as goal
+use Rattle.osm_changes.specs.Inner.References.{given_back}
+
+abbrev pub invariant-loop-change : goal.invariant-loop-change
+invariant-loop-change g l = l.users ≡ fold given_back l.fn.users (take l.change-index l.changes)

@@ -1,0 +1,10 @@
+use Rattle.std.proofs.Common.{◌≡◌, [], ◌++◌, map}
+use Rattle.osm_changes.proofs.entering.users_of.Given as goal
+use Rattle.osm_elements.specs.Facts.MadeMaps.{put_all}
+use Rattle.osm_refs.specs.Tables.{table_of}
+
+abbrev pub invariant-loop-name : goal.invariant-loop-name
+invariant-loop-name g l = record {
+  all : map (λ r. (r.0.now, r.1.now)) l.yielded ++ l.name-iterator ≡ l.fn.rows;
+  users_are : l.users ≡ table_of (put_all [] (map (λ r. (r.0.now, r.1.now)) l.yielded));
+}

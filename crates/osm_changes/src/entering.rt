@@ -1,0 +1,97 @@
+//! The references of rows, entered among the users of a map: those of all rows of a map, and those of changed rows.
+ghost use Rattle.std.specs.Prelude.{◌≡◌, [], IfOk, OnErr, OnOk, map};
+ghost use Rattle.std.specs.List.{fold};
+ghost use Rattle.osm_elements.specs.Maps.{name_set};
+ghost use Rattle.osm_refs.specs.References.{references};
+ghost use Rattle.osm_refs.specs.Tables.{references_at, referring, table_of};
+ghost use Rattle.osm_changes.specs.Inner.References.{AreChangesOf, gained, given_back, lost, reference_change_of};
+
+use crate::row_after::RowAfter;
+use osm_elements::Memory;
+use osm_elements::element::Element;
+use osm_elements::map::OsmMap;
+use osm_elements::name::Name;
+use osm_refs::change::ReferenceChange;
+use osm_refs::refs::refs_of;
+use osm_refs::users::Users;
+use std::alloc::Allocator;
+
+/// The users of a map, or `Memory`. It goes over the rows once, and costs their references, times a logarithm.
+pub fn users_of<A: Allocator + Copy>(alloc: A, rows: &OsmMap<A>) -> Result<Users<A>, Memory>
+    ensures { IfOk result (λ users. users ≡ table_of rows.now) }
+{
+    let mut users = Users::new(alloc);
+    for (name, element) in rows.iter() {
+        enter_row(&alloc, &mut users, name, element)?;
+    }
+    Ok(users)
+}
+
+// Enters the row of a name that referred to nothing.
+fn enter_row<A: Allocator + Clone>(
+    alloc: &A,
+    users: &mut Users<A>,
+    name: &Name,
+    element: &Element<A>,
+) -> Result<(), Memory>
+    requires { references_at users.old name.now ≡ [] }
+    ensures { OnOk result (users.new ≡ referring users.old name.now (name_set (references element.now))) }
+{
+    let names = refs_of(alloc.clone()?, element)?;
+    users.gain(alloc, *name, names.as_slice())
+}
+
+/// What changes of rows do to their references, or `Memory`.
+pub fn reference_changes<A: Allocator + Clone>(
+    alloc: &A,
+    rows: &OsmMap<A>,
+    told: &[RowAfter<A>],
+) -> Result<Vec<ReferenceChange<A>, A>, Memory>
+    ensures { IfOk result (λ changes. changes.items ≡ map (reference_change_of rows.now) told.now) }
+{
+    let mut changes = Vec::with_capacity(alloc.clone()?, told.len())?;
+    for row in told {
+        let before = rows.get(&row.name);
+        let change = ReferenceChange::of(alloc, row.name, before, row.element.as_ref())?;
+        changes.push(change)?;
+    }
+    Ok(changes)
+}
+
+/// Enters what changed rows begin to refer to. If an allocation fails, the users are unchanged.
+pub fn gain<A: Allocator + Clone>(
+    alloc: &A,
+    users: &mut Users<A>,
+    changes: &[ReferenceChange<A>],
+) -> Result<(), Memory>
+    requires { AreChangesOf users.old changes.now }
+    ensures ok { OnOk result (users.new ≡ fold gained users.old changes.now) }
+    ensures err { OnErr result (users.new ≡ users.old) }
+{
+    for at in 0..changes.len() {
+        let change = &changes[at];
+        if let Err(memory) = users.gain(alloc, change.name, change.begun.as_slice()) {
+            give_back(users, &changes[..at]);
+            return Err(memory);
+        }
+    }
+    Ok(())
+}
+
+/// Takes out again what changed rows began to refer to. It does not allocate.
+pub fn give_back<A: Allocator>(users: &mut Users<A>, changes: &[ReferenceChange<A>])
+    ensures { users.new ≡ fold given_back users.old changes.now }
+{
+    for change in changes {
+        users.lose(&change.name, change.begun.as_slice());
+    }
+}
+
+/// Takes out what changed rows cease to refer to. It does not allocate.
+pub fn lose<A: Allocator>(users: &mut Users<A>, changes: &[ReferenceChange<A>])
+    ensures { users.new ≡ fold lost users.old changes.now }
+{
+    for change in changes {
+        users.lose(&change.name, change.ceased.as_slice());
+    }
+}

@@ -1,0 +1,28 @@
+-- References that are the same.
+use Rattle.std.proofs.Common.{◌≡◌, ◌&&◌, Bool, true, false, List, [], ◌∷◌, not, refl, ap, ◌∙◌}
+use Rattle.std.specs.Cmp.Lexicographic.{pointwise}
+use Rattle.osm_elements.specs.Facts.Rows.{same_names}
+use Rattle.osm_elements.specs.Maps.{is_among, is_same}
+use Rattle.osm_elements.specs.declared.name.Name.{Name}
+use Rattle.osm_refs.specs.Facts.RisingNames.{IsRising-filter, is_among-passing, same_rising}
+use Rattle.osm_refs.specs.Rising.{IsRising, names_but}
+
+both : (a b : Bool) → (a && b) ≡ true → (a ≡ true) × (b ≡ true)
+both true b e = (refl, e)
+both false b e = absurd (cc)
+
+pub same_lists : (xs ys : List Name) → pointwise is_same xs ys ≡ true → xs ≡ ys
+same_lists [] [] e = refl
+same_lists [] (y ∷ ys) e = absurd (cc)
+same_lists (x ∷ xs) [] e = absurd (cc)
+same_lists (x ∷ xs) (y ∷ ys) e =
+    let parts = both (is_same x y) (pointwise is_same xs ys) e in
+    ap (λ z. z ∷ xs) (same_names x y parts.0) ∙ ap (λ zs. y ∷ zs) (same_lists xs ys parts.1)
+
+-- none of some names is not among them
+pub none_but_itself : (names : List Name) → IsRising names → names_but names names ≡ []
+none_but_itself names rises = same_rising (names_but names names) [] (IsRising-filter (λ e. not (is_among names e)) names rises) tt (λ q. is_among-passing (λ e. not (is_among names e)) names q ∙ by (is_among names q))
+  where
+    by : (b : Bool) → (not b && b) ≡ false
+    by true = refl
+    by false = refl
