@@ -2,7 +2,7 @@
 import errno
 
 from .cases import given, want
-from .growths import REFUSED
+from .failed_allocations import REFUSED
 from .preloaded import library
 from .serving import LOG_LINE, Server
 from .talk import PATIENCE

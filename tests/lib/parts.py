@@ -23,31 +23,31 @@ def parts(subject: str, *commands: str) -> list[tuple[str, list[str]]]:
 
 # The parts that need no built program and no prover.
 TEXTS = [
-    *parts("documents", "tests/pages"),
-    *parts("proofs", "tests/wrong_bodies --check", "tests/borders"),
-    *parts("documents", "tests/lib_functions"),
+    *parts("documents", "tests/documents/pages"),
+    *parts("proofs", "tests/proofs/wrong_bodies --check", "tests/proofs/borders"),
+    *parts("documents", "tests/documents/lib_functions"),
 ]
 
 # The parts that run the built programs, in the order of tests/run.
 SCRIPTS = [
-    *parts("program", "tests/examples", "tests/streams", "tests/halts", "tests/line_by_line", "tests/command_line"),
-    *parts("program", "tests/replies", "tests/large", "tests/bases", "tests/growths", "tests/memory"),
-    *parts("documents", "tests/protocol"),
-    *parts("program", "tests/plans"),
-    *parts("server", "tests/sessions"),
-    *parts("program", "tests/mirrors", "tests/calls"),
-    *parts("clients", "tests/data", "tests/clients", "tests/libraries"),
-    *parts("program", "tests/groups"),
-    *parts("clients", "tests/editors", "tests/editors_rooms", "tests/keeper"),
-    *parts("packages", "tests/packages", "tests/rooms"),
-    *parts("documents", "tests/running"),
-    *parts("web", "tests/page"),
-    *parts("server", "tests/serve", "tests/serve_faults", "tests/foreign"),
-    *parts("program", "bench/run --sizes 50,100 --rounds 1", "bench/held --elements 100 --entries 100"),
-    *parts("program", "bench/groups --quick"),
-    *parts("server", "bench/serve --quick", "bench/rooms --elements 100 --rooms 1,3"),
+    *parts("program", "tests/program/examples", "tests/program/streams", "tests/program/halts", "tests/program/line_by_line", "tests/program/command_line"),
+    *parts("program", "tests/program/replies", "tests/program/large", "tests/program/bases", "tests/program/growths", "tests/program/memory"),
+    *parts("documents", "tests/documents/protocol"),
+    *parts("program", "tests/program/plans"),
+    *parts("server", "tests/server/sessions"),
+    *parts("program", "tests/program/mirrors", "tests/program/calls"),
+    *parts("clients", "tests/clients/converters", "tests/clients/example_clients", "tests/clients/libraries"),
+    *parts("program", "tests/program/groups"),
+    *parts("clients", "tests/clients/editors", "tests/clients/editors_rooms", "tests/clients/keeper"),
+    *parts("packages", "tests/packages/debian", "tests/packages/rooms"),
+    *parts("documents", "tests/documents/running"),
+    *parts("web", "tests/web/map_page"),
+    *parts("server", "tests/server/sockets", "tests/server/faults", "tests/server/foreign"),
+    *parts("program", "bench/lines --sizes 50,100 --rounds 1", "bench/held --elements 100 --entries 100"),
+    *parts("program", "bench/group_costs --quick"),
+    *parts("server", "bench/serve --quick", "bench/many_rooms --elements 100 --rooms 1,3"),
     *parts("program", "bench/turns --turns 1000"),
-    *parts("server", "bench/soak --seconds 5 --pace 20"),
+    *parts("server", "tests/server/soak --seconds 5 --pace 20"),
 ]
 
 
@@ -61,7 +61,7 @@ def subjects_of_scripts() -> dict[str, str]:
 
 
 def path_of(name: str) -> str:
-    """The script that a name means: `serve` and `tests/serve` mean tests/serve, and `bench/serve` the benchmark."""
+    """The script that a name means: `serve` and `tests/server/sockets` mean tests/server/sockets, and `bench/serve` the benchmark."""
     return name if "/" in name else f"tests/{name}"
 
 

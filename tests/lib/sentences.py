@@ -12,7 +12,7 @@ from .pages import ITEM, Block
 # How many words a sentence may have.
 MOST = 25
 # The file of the sentences that may be longer, and its lines.
-EXCEPTIONS = f"{TESTS}/long_sentences.txt"
+EXCEPTIONS = f"{TESTS}/documents/long_sentences.txt"
 EXCEPTION = re.compile(r"(\S+): (.+?) -- (.+)")
 
 CODE = re.compile(r"(`+)(.+?)\1", re.S)

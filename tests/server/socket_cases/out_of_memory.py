@@ -1,0 +1,168 @@
+"""Tests the server if an allocation fails: each of a run, from the first to the last."""
+import collections
+import itertools
+
+from lib.cases import each_case, want
+from lib.faulty import Faulty, logged
+from lib.failed_allocations import refusing
+from lib.talk import GONE, create, hello, news, node, ok, refused, welcome
+from lib.websocket import CLOSE, TEXT, Broken, Gone, close_payload
+
+# What the program tells where it ends for want of memory; the system needs some for a thread, too.
+NO_MEMORY, NO_WORKER = "maproom: no memory\n", "maproom: cannot start a worker\n"
+
+MEMORY = '"why":"memory"'
+
+# What comes of a growth that is refused, beside a session's end by `memory` or `fault`.
+BEGINNING, ANSWERED, DONE, END = "before all sessions", "answered", "done without", "after all sessions"
+
+# What each session says, the same again and again: under its ids nothing is done twice. The rows by the number of entries, before
+# those of the map that the room began with.
+MESSAGES = {1: hello("anna"), 2: create(2), 3: '{"id":3,"do":"map"}', 4: '{"id":4,"do":"undo"}'}
+ROWS = {0: (), 1: (node(),), 2: ()}
+
+# A run: how many sessions, which rooms, the first of which they are with, and the rows of the map that these begin with, if any.
+Run = collections.namedtuple("Run", "sessions rooms rows", defaults=(("paris",), None))
+
+# A map with an element of each kind.
+BASE_ROWS = (
+    node(el="n1", tags='{"name":"Café"}'),
+    '{"el":"w1","nodes":[1,1],"tags":{}}',
+    '{"el":"r1","members":[["w1","outer"],["r1",""]],"tags":{}}',
+)
+
+
+def answer(run, number, seq):
+    """What a room with so many entries answers to a message, and how many it has then."""
+    if number in (1, 3):
+        return [welcome(seq, *ROWS[seq], *(run.rows or ()), number=number)], seq
+    if number == 2 and seq == 0:
+        return [ok(2, '"seq":1'), news("anna", 1, node())], 1
+    if number == 4 and seq == 1:
+        return [ok(4, '"seq":2,"undid":1'), news("anna", 2, GONE)], 2
+    return [refused(number, f'"seq":{number // 2},"why":"repeat"')], seq
+
+
+class Closed(Exception):
+    """The server has closed the session for want of memory."""
+
+
+def next_text(client):
+    """The next text."""
+    opcode, payload = client.read()
+    if opcode == CLOSE:
+        want(payload, close_payload(1011))
+        raise Closed
+    want(opcode, TEXT)
+    return payload.decode()
+
+
+class Told:
+    """What a room told by now in the sessions of a run: how many entries it has, each number that is possible; how often it told want of
+    memory; and which message was told to be a repeat that had no answer before but a close."""
+
+    def __init__(self, run):
+        self.run, self.seqs = run, {0}
+        self.memory = self.asked = self.closed = 0
+        self.repeated = None
+
+    def ask(self, client, number):
+        """Sends a message, once more where want of memory is told, and is answered as a room answers that has such a number of entries."""
+        before, text = self.seqs, self.first_text(client, number)
+        if text in (refused(number, MEMORY), refused(0, MEMORY)):
+            self.memory, self.seqs = self.memory + 1, before
+            want(self.memory, 1)
+            text = self.first_text(client, number)
+        found = [told for told in (answer(self.run, number, seq) for seq in before) if told[0][0] == text]
+        if len(found) != 1:
+            raise Broken(f"the message {number} is answered {text!r} by a room with {before} entries")
+        texts, after = found[0]
+        self.seqs = {after}
+        if number == self.closed and '"why":"repeat"' in text:
+            self.repeated = number
+        for other in texts[1:]:
+            want(next_text(client), other)
+
+    def first_text(self, client, number):
+        """Sends a message, and gives the first text that comes for it. Where the session ends before that the message may have been heard.
+        Where it is closed it was: there was memory for all but the text of its answer."""
+        self.asked, afterwards = number, {answer(self.run, number, seq)[1] for seq in self.seqs}
+        self.seqs = self.seqs | afterwards
+        client.say(MESSAGES[number])
+        try:
+            return next_text(client)
+        except Closed:
+            self.seqs, self.closed = afterwards, number
+            raise
+
+    def play(self, server):
+        """Plays a session to its end, and gives how it ended."""
+        try:
+            client = server.client()
+        except (Gone, ConnectionError):
+            return "fault"
+        try:
+            for number in MESSAGES:
+                self.ask(client, number)
+            client.close()
+            want((client.closed(), client.rest()), (1000, b""))
+            return "left"
+        except Gone:
+            want(client.rest(), b"")
+            return "fault"
+        except Closed:
+            client.close(1011)
+            want(client.rest(), b"")
+            return "memory"
+
+
+def outcome(server, told, seen):
+    """Sees that the program ended as it may where a growth was refused in it, and gives what came of that."""
+    found = server.end()
+    served = {number: logged(end) for number, end in enumerate(seen, 1)}
+    first, *others = told.run.rooms
+    idle = "".join(f"{room} 0\n" for room in others)
+    if found in [(0, f"listening\n{first} {seq}\n{idle}", served, []) for seq in told.seqs]:
+        came = [end for end in seen if end != "left"] + [ANSWERED] * told.memory
+        want(len(came) <= 1, True)
+        return came[0] if came else DONE
+    if told.asked == 0:
+        lines = [NO_MEMORY, NO_WORKER] if found[1] else [NO_MEMORY]
+        want(found, (1, "listening\n" if seen else "", {}, [line for line in lines if [line] == found[3]]))
+        return BEGINNING
+    want((found, set(seen)), ((1, "listening\n", served, [NO_MEMORY]), {"left"}))
+    return END
+
+
+def refuse(growth, told):
+    """Refuses a growth in a run. Gives what came of it, or nothing where there was no such growth."""
+    sessions, rooms, rows = told.run
+    base = None if rows is None else welcome(7, *rows) + "\n"
+    with Faulty(refusing(growth), rooms, sessions=sessions, base=base) as server:
+        has_begun = server.told(server.output) == "listening\n"
+        seen = [told.play(server) for _ in range(sessions)] if has_begun else []
+        what = outcome(server, told, seen)
+        return what if server.has_failed() else None
+
+
+def each_growth(run):
+    """Each growth of a run is refused in turn, until a run has none that is refused. Each of what may come of it has come of some; and
+    where a second client came, each change was told to be a repeat in some of them."""
+    outcomes, repeated = collections.Counter(), set()
+    for growth in itertools.count(1):
+        told = Told(run)
+        what = refuse(growth, told)
+        if what is None:
+            break
+        outcomes[what] += 1
+        repeated.add(told.repeated)
+    print(f"{growth - 1} growths were refused: {', '.join(f'{count} {what}' for what, count in outcomes.items())}")
+    want(set(outcomes) - {DONE}, {BEGINNING, ANSWERED, "memory", "fault", END})
+    want(repeated, {None} if run.sessions == 1 else {None, 2, 4})
+
+
+each_case(each_growth, {
+    "each growth, one session": Run(1),
+    "each growth, two sessions": Run(2),
+    "each growth, two rooms on a base": Run(1, ("paris", "rome"), BASE_ROWS),
+})
