@@ -2,25 +2,42 @@
 
 A script defines its cases, and ends with `main(__doc__)`:
 
-    cases.py      the cases of a script, its options, and the report
-    programs.py   the result of a command
-    texts.py      files of runs, with the output of each input line
-    messages.py   messages, replies and rows of maps as values and as lines
-    growths.py    runs in which one allocation fails
-    preloaded.py  the libraries of tests/preload, which are loaded before a program
-    parts.py      the parts of tests/run, by subject
-    pages.py      the blocks of pages
-    sentences.py  the sentences of pages
+    cases.py               the cases of a script, its options, and the report
+    programs.py            the results of commands
+    texts.py               files of runs, with the output of each input line
+    messages.py            messages, replies and rows of maps as values and as lines
+    failed_allocations.py  runs in which one allocation fails
+    preloaded.py           the libraries of tests/preload, which are loaded before a program
+
+For measurements:
+
+    workloads.py           messages that make maps and edit them
+    measuring.py           the time, the memory and the allocations of runs
 
 For servers:
 
-    serving.py    a server that a script starts, and a client's session with its map
-    websocket.py  a client that sends any frames, also forbidden ones
-    talk.py       the messages of a session, in short forms
-    mappers.py    mappers who edit a map at random
-    answers.py    the replies that an author can get
-    proxy.py      a proxy of a server that loses replies
-    faulty.py     a server in which a system call or an allocation fails
-    others.py     unchanged client software and browsers, if they are installed
-    browser.py    pages in Chromium
+    serving.py             a server that a script starts, and a client's session with its map
+    websocket.py           a client that sends any frames, also forbidden ones
+    talk.py                the messages of a session, in short forms
+    mappers.py             mappers who edit a map at random
+    answers.py             the replies that an author can get
+    proxy.py               a proxy of a server that loses replies
+    faulty.py              a server in which a system call or an allocation fails
+    others.py              software of other projects, such as browsers, if it is installed
+
+For clients, editors and the map page:
+
+    fake_rooms.py          a room in threads of the script, which can fail
+    editor_rooms.py        rooms for editors, and the program clients/osm_api
+    josm.py                a story of JOSM's own classes
+    browser.py             pages in Chromium
+    page_files.py          a web server for the map page
+
+For tests/run and the pages of the repository:
+
+    parts.py               the parts of tests/run, by subject
+    crates.py              the crates of crates.txt
+    crates_drawing.py      their drawing, docs/crates.svg
+    pages.py               the blocks of pages
+    sentences.py           the sentences of pages
 """

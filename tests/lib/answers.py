@@ -1,6 +1,7 @@
-"""What may be answered (docs/PROTOCOL.md): to what is no message, and to an author by what he was answered before."""
+"""Knows the replies that docs/PROTOCOL.md allows: to a text that is no message, and to an author after earlier
+replies."""
 
-# What each refusal tells beside why.
+# The fields of each refusal besides `why`.
 TOLD = {
     **dict.fromkeys(("wrong_kind", "present", "same", "absent", "out_of_range", "too_few", "too_many"), {"el"}),
     **dict.fromkeys(("bad_position", "not_end_to_end", "nothing", "nothing_to_undo", "nothing_to_redo"), set()),
@@ -8,7 +9,7 @@ TOLD = {
     "tag_conflict": {"key"}, "in_use": {"by", "el"}, "conflict": {"at", "with"},
 }
 
-# Why an action may be refused, and a query.
+# The reasons for which an action may be refused, and a query.
 ACTIONS = {
     "create": {"present", "too_few", "too_many", "absent"},
     "retag": {"absent", "too_many", "nothing"},
@@ -27,11 +28,11 @@ QUERIES = {"get": {"absent"}, "undos": set()}
 
 
 def bad_field(field):
-    """The id and the refusal of a message under the id 1 in which this is wrong."""
+    """The id and the refusal of a message under the id 1 whose field is bad."""
     return 1, {"field": field, "why": "bad_field"}
 
 
-# What a session does not take for a message, and the id and the refusal with which it is answered.
+# Texts that are no messages in a session, each with the id and the refusal of the reply.
 ODDITIES = {
     "hello": (0, {"why": "not_json"}),
     '{"id":2,"do":"cre': (0, {"why": "not_json"}),
@@ -56,24 +57,24 @@ ODDITIES = {
 
 
 class Undos:
-    """What an author can undo and redo, by all that he was answered, in the order in which it was done; and what may be
-    answered to what he says next."""
+    """The entries that an author can undo and redo, according to the replies so far, in their order. So it knows the
+    possible replies to the author's next message."""
 
     def __init__(self):
-        # The word of each action that stands, and of each that can be redone, by the number of its entry: of the first
-        # the greatest stands last, of the others the one that was undone last.
+        # The word of each active action, and of each action that can be redone, by the number of its entry. The last
+        # active action has the greatest number; the last of the others was undone last.
         self.standing, self.undone = {}, {}
 
     def lists(self):
-        """Both as they are told."""
+        """The lists of both, as `undos` returns them."""
         return {"redo": list(self.undone), "undos": list(self.standing)}
 
     def meant(self, message):
-        """The number of the entry that an undo is of; of none, where none stands."""
+        """The number of the entry that an undo is for, or None if no entry is active."""
         return message.get("seq") or next(reversed(self.standing), None)
 
     def refusals(self, message):
-        """Why a message may be refused."""
+        """The reasons for which a message may be refused."""
         word = message["do"]
         if word == "undo" and self.meant(message) in self.standing:
             return {"conflict"}
@@ -84,7 +85,7 @@ class Undos:
         return ACTIONS.get(word) or QUERIES[word]
 
     def outcome(self, message, seq):
-        """What is told of a change that is accepted as the entry of this number; nothing, where it cannot be."""
+        """The reply to a change that is accepted as the entry of this number, or None if it cannot be accepted."""
         word = message["do"]
         if word == "undo":
             undid = self.meant(message)
@@ -94,7 +95,7 @@ class Undos:
         return {"seq": seq}
 
     def take(self, message, told):
-        """Takes it that a change was accepted, and what was told of it."""
+        """Notes that a change was accepted with this reply."""
         word = message["do"]
         if word == "undo":
             self.undone[told["undid"]] = self.standing.pop(told["undid"])
@@ -112,7 +113,7 @@ class Undos:
         return set(reply) == {"id", "ok"} and reply["id"] == message["id"] and self.is_ok(message, reply["ok"])
 
     def is_ok(self, message, told):
-        """Whether this may be told of a message that is not refused."""
+        """Whether this may be the reply to a message that is accepted."""
         if message["do"] == "get":
             return list(told) == ["is"] and told["is"]["el"] == message["el"]
         if message["do"] == "undos":

@@ -1,5 +1,4 @@
-"""Pages in Chromium without a window, driven over the DevTools protocol: a page is opened, clicked, typed into and
-asked."""
+"""Opens pages in Chromium without a window over the DevTools protocol, clicks and types in them, and reads them."""
 import base64
 import contextlib
 import json
@@ -9,14 +8,14 @@ from .others import browsing
 from .programs import PATIENCE, wait_for
 from .websocket import TEXT, Broken, Client
 
-# What keys are called, beside letters: their codes.
+# The codes of keys that are no letters.
 KEYS = {"Enter": 13, "Escape": 27, "Tab": 9, "ArrowLeft": 37, "ArrowUp": 38, "ArrowRight": 39, "ArrowDown": 40}
 KEYS |= {"Backspace": 8, "Delete": 46, " ": 32, "+": 187}
 
 
 @contextlib.contextmanager
 def browser(program, *words):
-    """A browser that is given some words, and is ended with the block."""
+    """Starts a browser with these arguments, and ends it with the block."""
     with browsing(program, "--remote-debugging-port=0", "--hide-scrollbars", *words, "about:blank") as folder:
         path = f"{folder}/DevToolsActivePort"
 
@@ -33,13 +32,13 @@ def browser(program, *words):
 
 
 class Browser:
-    """What a browser is told and tells over a socket, and its pages."""
+    """A browser at the other end of a socket, and its pages."""
 
     def __init__(self, client):
         self.client, self.number, self.pages = client, 0, {}
 
     def ask(self, method, session=None, **how):
-        """Asks the browser, or a page by its session, and gives the answer."""
+        """Sends a request to the browser, or to a page by its session, and returns the answer."""
         self.number += 1
         about = {"sessionId": session} if session else {}
         self.client.say(json.dumps({"id": self.number, "method": method, "params": how, **about}))
@@ -66,19 +65,19 @@ class Browser:
 
 
 class Page:
-    """A page in a browser. `rest` is an expression that is true where the page is at rest, so that what is clicked does
-    not move meanwhile."""
+    """A page in a browser. `rest` is an expression that is true when the page is at rest, so that nothing moves during
+    a click."""
 
     def __init__(self, owner, session):
         self.owner, self.session, self.faults = owner, session, []
         self.rest = "true"
 
     def ask(self, method, **how):
-        """Asks the browser of this page."""
+        """Sends a request to the browser for this page."""
         return self.owner.ask(method, self.session, **how)
 
     def resize(self, width, height, is_phone=False):
-        """Gives the window another size, perhaps that of a phone with a screen that is touched."""
+        """Gives the window another size, and a touch screen if it is a phone."""
         self.ask("Emulation.setDeviceMetricsOverride", width=width, height=height, deviceScaleFactor=1, mobile=is_phone)
         self.ask("Emulation.setTouchEmulationEnabled", enabled=is_phone, maxTouchPoints=5)
 
@@ -111,7 +110,7 @@ class Page:
         self.wait(f"document.querySelector({json.dumps(selector)})?.textContent.includes({json.dumps(text)})")
 
     def mouse(self, kind, x, y, **how):
-        """Tells the page of a pointer."""
+        """Sends an event of the pointer to the page."""
         self.ask("Input.dispatchMouseEvent", type=kind, x=x, y=y, **{"button": "left", "clickCount": 1, **how})
 
     def click_at(self, x, y):
@@ -126,7 +125,7 @@ class Page:
         self.mouse("mouseReleased", x, y, clickCount=2)
 
     def fingers(self, kind, *points):
-        """Tells the page where fingers are: `touchStart`, `touchMove` or `touchEnd`."""
+        """Sends the places of fingers to the page: `touchStart`, `touchMove` or `touchEnd`."""
         places = [{"x": x, "y": y, "id": number} for number, (x, y) in enumerate(points)]
         self.ask("Input.dispatchTouchEvent", type=kind, touchPoints=places)
 
@@ -136,7 +135,7 @@ class Page:
         self.fingers("touchEnd")
 
     def tree(self):
-        """The role and the name of each element that a screen reader is told of."""
+        """The role and the name of each element that a screen reader reads."""
         nodes = self.ask("Accessibility.getFullAXTree")["nodes"]
         value = lambda node, key: node.get(key, {}).get("value", "")
         return [(value(node, "role"), value(node, "name")) for node in nodes if not node.get("ignored")]
@@ -149,7 +148,7 @@ class Page:
         self.mouse("mouseReleased", *other)
 
     def click(self, selector, text=""):
-        """Clicks what a selector finds, the first that has a text."""
+        """Clicks the first element that a selector finds and that has the text."""
         found = (f"[...document.querySelectorAll({json.dumps(selector)})]"
                  f".find((each) => each.textContent.includes({json.dumps(text)}) && each.checkVisibility())")
         self.wait(f"{found} && !{found}.disabled && ({self.rest})")
@@ -169,18 +168,18 @@ class Page:
         self.ask("Input.dispatchKeyEvent", type="keyUp", **about)
 
     def fill(self, selector, text):
-        """Types a text into a field, in the place of what was there."""
+        """Replaces the text of a field by typing."""
         field = f"document.querySelector({json.dumps(selector)})"
         self.get(f"{field}.focus(), {field}.select()")
         self.ask("Input.insertText", text=text)
 
     def picture(self, path):
-        """Writes what the page looks like."""
+        """Writes a picture of the page to a file."""
         with open(path, "wb") as file:
             file.write(base64.b64decode(self.ask("Page.captureScreenshot", format="png")["data"]))
 
     def end(self):
-        """Fails where a fault went unnoticed in the page."""
+        """Fails if the page had a fault that no case noticed."""
         self.get("0")
         if self.faults:
             raise Broken(f"the page had the faults {json.dumps(self.faults)[:1000]}")

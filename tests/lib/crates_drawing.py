@@ -1,7 +1,7 @@
 """Draws the crates, docs/crates.svg, from the text of crates.txt: a band for each layer, the first at the bottom.
 
-An arrow leads from a crate to each library of ours that it stands on, except to those that it also reaches by other
-arrows. The same text always gives the same drawing.
+An arrow leads from a crate to each library of the repository that it uses, except to those that it also reaches by
+other arrows. The same text always gives the same drawing.
 """
 from __future__ import annotations
 
@@ -23,7 +23,7 @@ Arrow = tuple[str, str]
 
 
 class Layer(NamedTuple):
-    """A layer: its title, and its crates with the libraries that each stands on."""
+    """A layer: its title, and its crates with the libraries that each uses."""
 
     title: str
     crates: Arrows

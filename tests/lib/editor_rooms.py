@@ -1,5 +1,7 @@
-"""What tests of editors share: a server with groups that runs in threads of the script, the built program in its place,
-a way to both on which answers are lost or late, and the program clients/osm_api as a process."""
+"""Starts rooms and the program clients/osm_api for the tests of editors.
+
+A room is a server with groups in threads of the script, or the built program. The way to it can lose or delay replies.
+"""
 import base64
 import collections
 import contextlib
@@ -42,7 +44,7 @@ class GroupRoom(FakeRoom):
         self.memory.elements = dict(elements)
 
     def answer(self, author, message):
-        """Does a message. Returns what is answered, without its id."""
+        """Does a message. Returns the reply without its id."""
         word = message["do"]
         if word == "map":
             rows = sorted(self.elements.values(), key=lambda row: place_of(row["el"]))
@@ -61,7 +63,7 @@ class GroupRoom(FakeRoom):
         return {"ok": {"seq": told.seq, **({key: told.other} if key else {})}}
 
     def done(self, author, message):
-        """Does a change. Gives the answer, and under which key it has another entry."""
+        """Does a change. Returns the reply, and the key under which it has another entry."""
         from maproom.osm_api.connection import Refusal  # pylint: disable=import-outside-toplevel
         if message["do"] == "redo":
             return self.memory.redo_now(author), "redid"
@@ -73,7 +75,7 @@ class GroupRoom(FakeRoom):
         return self.memory.group(author, actions), None
 
     def start_anew(self, elements=None):
-        """Starts the server anew, with the map that it has or with another, and with an empty journal."""
+        """Starts the server anew, with its map or with another map, and with an empty journal."""
         with self.lock:
             self.memory.restart(None if elements is None else {row["el"]: row for row in elements})
             self.journal, self.spent = [], {}
@@ -81,8 +83,8 @@ class GroupRoom(FakeRoom):
 
 
 class Way(Proxy):
-    """A way to a server, on which everything takes `seconds` in each direction. Its connections can be broken, and
-    `is_lost` is asked of all that the server sends whether they break instead of it."""
+    """A way to a server, which takes `seconds` in each direction. A script can break its connections. They also break
+    if `is_lost` is true of what the server sends."""
 
     def __init__(self, port, seconds=0):
         super().__init__(port, lambda data: None if self.is_lost(data) else data)
@@ -111,7 +113,7 @@ class Way(Proxy):
 
     @staticmethod
     def send_late(waiting, one, other):
-        """Sends what waits, each piece when its time has come."""
+        """Sends the waiting pieces, each when its time has come."""
         with contextlib.suppress(OSError):
             while True:
                 when, data = waiting.get()
@@ -125,7 +127,7 @@ class Way(Proxy):
 
 
 class Place:
-    """A room behind a way. `url` stays the same when the server starts anew."""
+    """A room at the end of a way. `url` stays the same if the server starts anew."""
 
     def __init__(self, is_built, rows=(), limit=None, seconds=0):
         self.is_built, self.rows, self.limit, self.seconds = is_built, rows, limit, seconds
@@ -150,18 +152,18 @@ class Place:
         return self.kept.enter_context(serving(ROOM, workers=24, sessions=10_000, limit=self.limit, base=base))
 
     def session(self, name):
-        """A session of a mapper, without a way between."""
+        """A session of a mapper that does not use the way."""
         client = self.kept.enter_context(Client(self.server.port, patience=PATIENCE * given.slow))
         return Session(client.shake_hands(), name, ROOM)
 
     def map(self):
-        """The map as it is now, by names."""
+        """The present map, by names."""
         session = self.session("keeper")
         session.leave()
         return session.rows
 
     def lose_answers(self, count=1, then=lambda: None):
-        """Breaks the connections on which the next accepted changes are answered, after something is done."""
+        """Breaks the connections that have the replies to the next accepted changes, after calling `then`."""
         left = [None] * count
 
         def is_lost(data):
@@ -174,7 +176,7 @@ class Place:
         self.way.is_lost = is_lost
 
     def restart(self, rows=None):
-        """Ends the server, and starts another one on the map that it had, or on another map."""
+        """Ends the server, and starts another one on the same map or on another map."""
         rows = list(self.map().values()) if rows is None else rows
         if self.is_built:
             self.server.stop()
@@ -197,7 +199,7 @@ class Place:
 
 @functools.lru_cache(maxsize=None)
 def program_has_groups():
-    """Whether there is a built program, and it knows groups. A line says so if it does not."""
+    """Whether the program is built and knows groups. If it does not know them, it prints a line."""
     if not given.program:
         return False
     with serving(ROOM, workers=1, sessions=1) as server:
@@ -239,13 +241,13 @@ class OsmApi:
         self.end()
 
     def end(self, kill=False):
-        """Ends the program. Gives its status."""
+        """Ends the program. Returns its status."""
         if self.process.poll() is None:
             (self.process.kill if kill else self.process.terminate)()
         return self.status()
 
     def status(self):
-        """Waits for the end of the program, and gives its status."""
+        """Waits for the end of the program. Returns its status."""
         try:
             status = self.process.wait(PATIENCE * given.slow)
         except subprocess.TimeoutExpired:

@@ -1,4 +1,4 @@
-"""Runs in which one allocation of a program fails, each allocation in its own run. A library that is loaded before the
+"""Runs a program once for each of its allocations, and lets this allocation fail. A library that is loaded before the
 program refuses it (tests/preload/refusing.c)."""
 import itertools
 
@@ -8,9 +8,9 @@ from .preloaded import library
 # What the library prints to standard error when it has refused an allocation.
 REFUSED = b"a growth was refused\n"
 
-# What may come of a growth that was refused in a line: the program ended there, or the line was answered so.
+# The results of a refused allocation in a line: the program ended there, or it answered the line `memory`.
 ENDED, ANSWERED = "ended", "answered"
-# What is wanted of all growths of a line.
+# The wanted result of all allocations of a line.
 AS_IT_MAY = "each growth comes to what it may, and enough of them are told"
 
 
@@ -20,8 +20,8 @@ def refusing(growth):
 
 
 def refused_runs(run):
-    """The run in an environment in which the first growth is refused, the one in which the second is, and so on, each
-    with the number of the growth; at last the run which comes to its end before, with 0."""
+    """Runs with the first allocation refused, then with the second, and so on. Yields each run with the number of the
+    allocation, and at last the run that ends before the refusal, with 0."""
     for growth in itertools.count(1):
         ran = run(refusing(growth))
         if not ran.errors.startswith(REFUSED):
@@ -36,18 +36,17 @@ def place_of(blocks, wanted):
 
 
 class Line:
-    """A line of a script: what came of each growth that was refused in it, and the first of which none of that came
-    which may."""
+    """A line of a script: the results of the runs that refused one of its allocations, and the first fault."""
 
     def __init__(self):
         self.came, self.fault = [], None
 
 
 def refuse_each(script, run, comes_of, is_enough):
-    """Refuses each growth of a script in turn. Checks the run in which none is refused and, of each line, that what
-    came of each growth which was refused in it is what may: `comes_of(ran, place, growth)` gives all that this can be,
-    and nothing for a fault; and that it `is_enough(place, came)`, the list of all these. A program may also do without,
-    where it asked ahead for more than it needs."""
+    """Refuses each allocation of a script, each in its own run. Checks the run without a refusal and, for each line,
+    the runs that refused one of its allocations. `comes_of(ran, place, growth)` returns the results that such a run may
+    be, and nothing for a fault. `is_enough(place, came)` says whether the results of all these runs are enough. A run
+    may also print the whole output, because the program asked for more memory than it needed."""
     lines, without = [Line() for _ in script.blocks], 0
     for growth, ran in refused_runs(run):
         if growth == 0:
@@ -66,6 +65,6 @@ def refuse_each(script, run, comes_of, is_enough):
 
 
 def told_at(script, ran, place):
-    """The output of a run for the line at a place."""
+    """The output of a run for the line at a place, for the report of a fault."""
     blocks = script.blocks_of(ran.output)[place : place + 2]
     return f"status {ran.status}, {ran.errors[len(REFUSED):]!r}, {blocks}"

@@ -1,5 +1,8 @@
-"""A room over WebSockets that follows docs/PROTOCOL.md and can be told to fail: it loses answers, falls silent, leaves
-out news, and starts anew with another journal. It does groups, and some actions. It runs in threads of the script."""
+"""Plays a room over WebSockets that follows docs/PROTOCOL.md, and fails if a test wants it to.
+
+It can lose replies, fall silent, leave out news, and start anew with another journal. It does groups, and some actions.
+It runs in threads of the script.
+"""
 import contextlib
 import json
 import re
@@ -15,8 +18,8 @@ QUIET = 0.02
 
 
 class FakeRoom:
-    """A room on a free port. `before` and `after` are asked for each message, before it is done and after: they return
-    None, or what goes wrong: `break` ends the connection, `stall` has the session read and send nothing any more."""
+    """A room on a free port. It calls `before` with each message before doing it, and `after` afterwards. They return
+    None or a fault: `break` ends the connection, and `stall` makes the session read and send nothing more."""
 
     def __init__(self, elements=(), name="paris"):
         self.name = name
@@ -42,7 +45,7 @@ class FakeRoom:
         self.drop_all()
 
     def accept(self):
-        """Takes one connection after another."""
+        """Accepts connections."""
         with contextlib.suppress(OSError):
             while True:
                 connection, _ = self.listening.accept()
@@ -58,7 +61,7 @@ class FakeRoom:
         self.connections.clear()
 
     def start_anew(self, elements=None):
-        """Starts the server anew, with the map that it has or with another, and with an empty journal."""
+        """Starts the server anew, with its map or with another map, and with an empty journal."""
         with self.lock:
             if elements is not None:
                 self.elements = {element["el"]: element for element in elements}
@@ -84,7 +87,7 @@ class FakeRoom:
             Session(self, connection).hold()
 
     def answer(self, author, message):
-        """Does a message. Returns what is answered, without its id."""
+        """Does a message. Returns the reply without its id."""
         word = message["do"]
         if word == "get":
             element = self.elements.get(message["el"])
@@ -190,7 +193,7 @@ class Session:
         self.data += data
 
     def take_frame(self):
-        """Takes a frame of a client: what it is, and what it has."""
+        """Takes a client's frame. Returns its opcode and its payload."""
         while True:
             if len(self.data) >= 6:
                 length, at = self.data[1] & 127, 2
@@ -228,7 +231,7 @@ class Session:
         self.send_news()
 
     def send_news(self):
-        """Sends the news of the entries that the client was not told of."""
+        """Sends the news that the client does not have yet."""
         if self.author is None:
             return
         with self.room.lock:
@@ -238,7 +241,7 @@ class Session:
                 self.say({"news": each})
 
     def fails(self, how):
-        """Fails as it was told. Returns whether it did."""
+        """Fails as the test wants. Returns whether it did."""
         if how == "break":
             with contextlib.suppress(ValueError):
                 self.room.connections.remove(self.connection)

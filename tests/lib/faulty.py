@@ -1,4 +1,4 @@
-"""A server in which a call of the system fails, or a growth of its memory is refused, by a library that is loaded before it."""
+"""Starts a server in which a system call or an allocation fails, by a library that is loaded before it."""
 import errno
 
 from .cases import given, want
@@ -7,15 +7,15 @@ from .preloaded import library
 from .serving import LOG_LINE, Server
 from .talk import PATIENCE
 
-# What the libraries tell on standard error (tests/preload/failing.c and refusing.c).
+# What the libraries print to standard error (tests/preload/failing.c and refusing.c).
 LINES = ("a call was failed\n", REFUSED.decode())
 
-# So many bytes that no read or write is cut.
+# More bytes than any read or write moves.
 WHOLE = 1 << 30
 
 
 class Faulty(Server):
-    """A server for a run in an environment in which something fails. It may end before it listens."""
+    """A server in an environment in which a call fails. It may end before it listens."""
 
     def __init__(self, environment, rooms=(), **how):
         super().__init__(given.program, *rooms, **{"patience": PATIENCE * given.slow, "workers": 1, **how})
@@ -26,17 +26,17 @@ class Faulty(Server):
         return ["env", *(f"{name}={value}" for name, value in self.environment.items()), *super().words(addr)]
 
     def start(self):
-        """Starts the server, and waits until it listens or has ended by what failed."""
+        """Starts the server, and waits until it listens or has ended because of the fault."""
         return super().start() or self.has_failed()
 
     def has_failed(self):
-        """Whether the library has told that something failed."""
+        """Whether the library reported a failed call."""
         told = self.told(self.errors)
         return any(line in told for line in LINES)
 
     def end(self):
-        """Waits for the program's end. Gives its status, what it printed, what the log has of each session, by its
-        number, and the other lines on standard error."""
+        """Waits for the program's end. Returns its status, its output, the lines of the log by the number of their
+        session, and the other lines on standard error."""
         status = self.process.wait(self.patience)
         sessions, others = {}, []
         for line in self.told(self.errors).splitlines(keepends=True):
@@ -49,18 +49,18 @@ class Faulty(Server):
 
 
 def failing(call, number, why=errno.ECONNRESET, piece=WHOLE, session=0, **how):
-    """A server in which the call of this number among its kind fails, perhaps among those of one session, with this error, and whose
-    reads and writes move so many bytes."""
+    """A server in which the call with this number of its kind fails with an error, in any session or in one. Reads and
+    writes move at most `piece` bytes."""
     words = {"FAILED_CALL": call, "FAILED_NUMBER": number, "FAILED_WHY": why, "PIECE": piece, "SESSION": session}
     return Faulty({"LD_PRELOAD": library("failing"), **words}, **how)
 
 
 def logged(end):
-    """What the log has of a session that ended so. None is one whose connection could not be accepted."""
+    """The lines of the log of a session with this end. None means that its connection could not be accepted."""
     return ["end fault"] if end is None else ["open", f"end {end}"]
 
 
 def finish(server, front, *ends):
-    """The program ends, tells how far its room came, and logged how each session ended, the first one first."""
+    """The program ends, and prints the number of entries of its room. Its log has these ends of sessions, in order."""
     sessions = {number: logged(end) for number, end in enumerate(ends, 1)}
     want(server.end(), (0, f"listening\nparis {front}\n", sessions, []))

@@ -1,4 +1,4 @@
-"""JOSM's own classes, without its windows, and the story that they have with a room."""
+"""Runs a story with JOSM's own classes, without its windows, over a room."""
 import os
 
 from . import others, texts
@@ -49,5 +49,5 @@ def has_its_story(url, home):
 
 
 def left(rows):
-    """What the story leaves in some elements."""
+    """The values that the story changes, at its end."""
     return rows["n102"]["lat"], rows["w11"]["tags"]

@@ -1,5 +1,5 @@
-"""A mapper who edits a map at random: mostly what can be done, by the map that he knows, and by mistake what cannot.
-The map keeps its size, some hundred elements."""
+"""Edits a map at random as a mapper would. Most edits are possible on the map that the mapper knows, and some are
+mistakes. The map keeps its size, some hundred elements."""
 import collections
 import itertools
 
@@ -12,7 +12,7 @@ FEW, MANY = 150, 400
 # The most nodes of a way that is made by a join.
 LONG = 40
 
-# How often each edit is thought of beside the others; and how often some are, where the map is to grow or to shrink.
+# The weight of each edit, and the weights if the map has to grow or to shrink.
 EDITS = {"create": 150, "retag": 150, "move": 150, "nodes": 70, "members": 50, "reverse": 70, "delete": 100,
          "purge": 20, "split": 70, "join": 60, "merge": 50, "unglue": 60}
 GROWING = {**EDITS, "create": 900}
@@ -22,12 +22,12 @@ KEYS = ("highway", "name", "ref", "surface", "note", "Größe", "addr:street", "
 VALUES = ("path", 'Main "Street"', "Straße", "", "yes", "47", "\\", "東京")
 ROLES = ("", "outer", "inner", "stop", "südlich")
 
-# Names that no mapper gives.
+# Names that no mapper creates.
 NOBODYS = ("n9000000000", "w9000000000", "r9000000000")
 
 
 def one_of(chance, weights):
-    """One of some words, each as often as it weighs."""
+    """A random key of `weights`, which has the weight of each."""
     return chance.choices(list(weights), list(weights.values()))[0]
 
 
@@ -40,7 +40,7 @@ class Mapper:
     """A mapper, with the rows of the map by their names, and the names of each kind."""
 
     def __init__(self, chance, place, mappers):
-        """One of so many mappers of a map, in a place of his own: none of them gives a name that another gives."""
+        """One of several mappers of a map, with this place among them. No two mappers create the same name."""
         self.chance, self.ids = chance, itertools.count(place + 1, mappers)
         self.rows, self.names = {}, {}
 
@@ -53,16 +53,16 @@ class Mapper:
         return {"do": word, **getattr(self, word)()}
 
     def errs(self):
-        """Whether he is mistaken."""
+        """Whether the mapper makes a mistake."""
         return self.chance.random() < MISTAKES
 
     def one(self, kinds):
-        """The name of an element of one of these kinds; by mistake of any kind, or of one that is not there."""
+        """The name of an element of one of these kinds. By mistake it is any name, also a missing one."""
         names = self.names[self.chance.choice(kinds)]
         return self.chance.choice([*self.rows, *NOBODYS] if self.errs() or not names else names)
 
     def new(self, kind):
-        """A name that was not given yet; by mistake one that was."""
+        """A new name. By mistake it may be a used name."""
         if self.errs():
             return self.one(kind)
         number = next(self.ids)
@@ -73,15 +73,15 @@ class Mapper:
         return f"{self.chance.randint(1 - most, most - 1)}.{self.chance.randrange(10 ** 7):07}"
 
     def distance(self):
-        """How far something moves; by mistake very far."""
+        """A distance of a move. By mistake it is very long."""
         return self.chance.randint(-1000, 1000) * (10 ** 6 if self.errs() else 1)
 
     def tags(self, least=0, values=VALUES):
-        """Some tags, so many at the least, with some of these values."""
+        """Some tags, at least `least`, with some of these values."""
         return {self.chance.choice(KEYS): self.chance.choice(values) for _ in range(self.chance.randint(least, 3))}
 
     def list_of_nodes(self):
-        """The list of a way; by mistake perhaps one that is too short."""
+        """The nodes of a way. By mistake there may be too few."""
         return [int(self.one("n")[1:]) for _ in range(self.chance.randint(2 - self.errs(), 8))]
 
     def list_of_members(self):
@@ -95,7 +95,7 @@ class Mapper:
     # What each edit is of.
 
     def create(self):
-        """An element more."""
+        """A new element."""
         el = self.new(self.chance.choice("nnnnnnwwwr"))
         if el[0] == "n":
             return {"el": el, "lat": self.degrees(90), "lon": self.degrees(180), "tags": self.tags()}
@@ -103,7 +103,7 @@ class Mapper:
         return {"el": el, **rest, "tags": self.tags()}
 
     def retag(self):
-        """Other tags, and some less."""
+        """Other tags, and some removed."""
         return {"el": self.one("nwr"), "tags": self.tags(1, (*VALUES, None))}
 
     def move(self):
@@ -124,22 +124,22 @@ class Mapper:
         return {"el": self.one("r"), "members": self.list_of_members()}
 
     def delete(self):
-        """An element less, which nothing names; by mistake any."""
+        """A delete of an element to which nothing refers. By mistake it is any element."""
         used = set(itertools.chain.from_iterable(map(names_in, self.rows.values())))
         free = [name for name in self.rows if name not in used]
         return {"el": self.chance.choice(free) if free and not self.errs() else self.one("nwr")}
 
     def purge(self):
-        """An element less, whatever names it."""
+        """A purge of any element."""
         return {"el": self.one("nwr")}
 
     def split(self):
-        """A way more, of the end of another, the longer of two."""
+        """A split of a way, the longer of two."""
         way = max(self.one("w"), self.one("w"), key=self.length)
         return {"el": way, "at": self.chance.randint(1, max(1, self.length(way) - 2)), "into": self.new("w")}
 
     def join(self):
-        """A way less, which goes on where another ends; by mistake any."""
+        """A join of a way with another way that begins at its end. By mistake these are any ways."""
         begins = collections.defaultdict(list)
         for way in self.names["w"]:
             begins[self.rows[way]["nodes"][0]].append(way)
@@ -149,10 +149,10 @@ class Mapper:
         return {"el": way, "with": other}
 
     def merge(self):
-        """A node less, in the place of which another is named."""
+        """A merge of a node with another node."""
         return {"el": self.one("n"), "with": self.one("n")}
 
     def unglue(self):
-        """A node more, in the place of one that a way names; by mistake perhaps beyond its end."""
+        """An unglue of a way from one of its nodes. By mistake the position may be after its end."""
         way = self.one("w")
         return {"el": way, "at": self.chance.randrange(self.length(way) + self.errs() or 1), "into": self.new("n")}

@@ -1,4 +1,4 @@
-"""Messages, replies and the rows of maps as values, and their compact texts as a room writes them."""
+"""Makes messages, replies and rows of maps as values, and their compact texts as a room writes them."""
 import json
 
 # The greatest and the least id of an element, and the greatest number of a message or an entry.
@@ -17,12 +17,12 @@ def line(message, author="anna"):
 
 
 def ok(number, what):
-    """The line of a reply to what was accepted."""
+    """The line of a reply that accepts a message."""
     return compact({"id": number, "ok": what}) + "\n"
 
 
 def no(number, what):
-    """The line of a reply to what was refused."""
+    """The line of a reply that refuses a message."""
     return compact({"id": number, "no": what}) + "\n"
 
 
@@ -42,5 +42,5 @@ def relation(number, members, tags=None):
 
 
 def map_of(rows, seq=0, number=1):
-    """The reply to a map that has some rows."""
+    """The reply to `map`, with these rows."""
     return compact({"id": number, "ok": {"map": rows, "seq": seq}})

@@ -1,5 +1,5 @@
-"""Software of others with which tests try the server and the clients, where it is installed: the package websockets of
-Python, the package ws of Node, and Chromium without a window."""
+"""Finds and starts software of other projects: the packages aiohttp and websockets of Python, the package ws of Node,
+and Chromium without a window."""
 import contextlib
 import functools
 import os
@@ -16,7 +16,7 @@ PACKAGES = "/usr/share/nodejs:/usr/lib/nodejs"
 
 
 def is_there(*words, **how):
-    """Whether a command can be run and succeeds."""
+    """Whether a command is there and succeeds."""
     try:
         return run_soon(*words, **how).status == 0
     except OSError:
@@ -24,29 +24,39 @@ def is_there(*words, **how):
 
 
 @functools.lru_cache(maxsize=None)
-def python_with_websockets():
-    """A Python that has the package, if there is one."""
+def python_with(package):
+    """A Python that has a package, or None."""
     pythons = (sys.executable, "python3", "/usr/bin/python3")
-    return next((python for python in pythons if is_there(python, "-c", "import websockets")), None)
+    return next((python for python in pythons if is_there(python, "-c", f"import {package}")), None)
+
+
+def python_with_aiohttp():
+    """A Python that has the package aiohttp, or None."""
+    return python_with("aiohttp")
+
+
+def python_with_websockets():
+    """A Python that has the package websockets, or None."""
+    return python_with("websockets")
 
 
 @functools.lru_cache(maxsize=None)
 def environment_with_ws():
-    """An environment in which Node finds the package, if there is one."""
+    """An environment in which Node finds the package ws, or None."""
     environment = {**os.environ, "NODE_PATH": f"{os.environ.get('NODE_PATH', '')}:{PACKAGES}"}
     return environment if is_there("node", "-e", 'require("ws")', env=environment) else None
 
 
 @functools.lru_cache(maxsize=None)
 def chromium():
-    """The program of Chromium, if it is there."""
+    """The path of Chromium, or None."""
     names = ("chromium", "chromium-browser", "chromium-headless-shell")
     return next((program for program in map(shutil.which, names) if program), None)
 
 
 @contextlib.contextmanager
 def browsing(program, *words):
-    """A browser that is given some words, and is ended with all that it started. Gives its folder."""
+    """Starts a browser with these arguments, and ends it with the block. Yields its folder."""
     folder = tempfile.mkdtemp(prefix="maproom-browser-")
     all_words = [program, "--headless", "--no-sandbox", "--disable-gpu", "--disable-dev-shm-usage", "--no-first-run"]
     all_words += ["--disable-background-networking", "--disable-component-update", f"--user-data-dir={folder}", *words]
@@ -66,5 +76,5 @@ def browsing(program, *words):
 
 
 def can_be_interrupted():
-    """Has a program that is started end by an interrupt, which is ignored in what a shell runs in the background."""
+    """Makes a program that is started end on an interrupt. A shell lets programs in the background ignore it."""
     signal.signal(signal.SIGINT, signal.SIG_DFL)

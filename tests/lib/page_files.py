@@ -1,5 +1,7 @@
-"""A web server of a test's own: it hands out the page with its files, Leaflet as Debian has it, and tiles that it draws
-itself; it refuses paths with the status that it is told, and passes WebSockets on to rooms."""
+"""Serves the map page with its files, Leaflet as Debian has it, and tiles that it draws itself.
+
+The web server refuses the paths that a test chooses, each with a status, and passes WebSockets on to rooms.
+"""
 import contextlib
 import http.server
 import os
@@ -34,8 +36,9 @@ def tile_of(red, green, blue, size=256):
 
 
 class PageFiles:
-    """The server, on a free port. `statuses` has a status for each path that is refused, `rooms` the port of the server
-    for each path of a room, `asked` the paths of tiles that were asked for. Without `has_leaflet` it has no Leaflet."""
+    """The server, on a free port. `statuses` has a status for each path that it refuses, and `rooms` the port of the
+    server for each path of a room. `asked` has the requested paths of tiles. Without `has_leaflet` it has no
+    Leaflet."""
 
     def __init__(self, has_leaflet=True, statuses=(), folder=f"{TOP}/clients", rooms=()):
         self.has_leaflet, self.statuses, self.folder, self.rooms = has_leaflet, dict(statuses), folder, dict(rooms)

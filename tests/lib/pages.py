@@ -1,4 +1,4 @@
-"""The pages of the repository in blocks: prose, which can be wrapped, tables, headings, and code."""
+"""Reads the pages of the repository in blocks: prose, which can be wrapped, tables, headings, and code."""
 import glob
 import os
 import re

@@ -1,7 +1,10 @@
-"""The parts of tests/run, each with its subject. One part is `rt ci`, which proves the crates and runs their tests."""
-from collections.abc import Collection
+"""Lists the parts of tests/run, each with its subject. The part `rt ci` proves the crates and runs their tests."""
+import re
+from collections.abc import Collection, Sequence
+from typing import Optional
 
-# The subjects: the options of `tests/run --only`, each with its heading in tests/README.md and bench/README.md.
+# The subjects: the folders of tests/ and options of `tests/run --only`, each with its heading in tests/README.md and
+# bench/README.md.
 SUBJECTS = {
     "documents": "Documents",
     "proofs": "Proofs",
@@ -15,41 +18,48 @@ SUBJECTS = {
 # The command that runs the gate.
 GATE = ["rt", "ci"]
 
+# The end of a part's output. `rt ci CRATE` adds in its last line that it is not the gate.
+END = re.compile(r"(?:(\d+) skipped\n)?(\d+) passed, (\d+) failed(?: \(.*\))?")
 
-def parts(subject: str, *commands: str) -> list[tuple[str, list[str]]]:
-    """Commands of one subject."""
-    return [(subject, command.split()) for command in commands]
+
+def scripts(subject: str, *commands: str) -> list[tuple[str, list[str]]]:
+    """The parts that run scripts of a subject, from its folder in tests/."""
+    return [(subject, f"tests/{subject}/{command}".split()) for command in commands]
+
+
+def benchmarks(subject: str, *commands: str) -> list[tuple[str, list[str]]]:
+    """The parts that run scripts of bench/, which measure a subject."""
+    return [(subject, f"bench/{command}".split()) for command in commands]
 
 
 # The parts that need no built program and no prover.
 TEXTS = [
-    *parts("documents", "tests/documents/pages"),
-    *parts("proofs", "tests/proofs/wrong_bodies --check", "tests/proofs/borders"),
-    *parts("documents", "tests/documents/lib_functions"),
+    *scripts("documents", "pages"),
+    *scripts("proofs", "wrong_bodies --check", "borders"),
+    *scripts("documents", "lib_functions"),
 ]
 
 # The parts that run the built programs, in the order of tests/run.
 SCRIPTS = [
-    *parts("program", "tests/program/examples", "tests/program/streams", "tests/program/halts", "tests/program/line_by_line", "tests/program/command_line"),
-    *parts("program", "tests/program/replies", "tests/program/large", "tests/program/bases", "tests/program/growths", "tests/program/memory"),
-    *parts("documents", "tests/documents/protocol"),
-    *parts("program", "tests/program/plans"),
-    *parts("server", "tests/server/sessions"),
-    *parts("program", "tests/program/mirrors", "tests/program/calls"),
-    *parts("clients", "tests/clients/converters", "tests/clients/example_clients", "tests/clients/libraries"),
-    *parts("program", "tests/program/groups"),
-    *parts("clients", "tests/clients/editors", "tests/clients/editors_rooms", "tests/clients/keeper"),
-    *parts("packages", "tests/packages/debian", "tests/packages/rooms"),
-    *parts("documents", "tests/documents/running"),
-    *parts("web", "tests/web/map_page"),
-    *parts("server", "tests/server/sockets", "tests/server/faults", "tests/server/foreign"),
-    *parts("program", "bench/lines --sizes 50,100 --rounds 1", "bench/held --elements 100 --entries 100"),
-    *parts("program", "bench/group_costs --quick"),
-    *parts("server", "bench/serve --quick", "bench/many_rooms --elements 100 --rooms 1,3"),
-    *parts("program", "bench/turns --turns 1000"),
-    *parts("server", "tests/server/soak --seconds 5 --pace 20"),
+    *scripts("program", "examples", "streams", "halts", "line_by_line", "command_line"),
+    *scripts("program", "replies", "large", "bases", "growths", "memory"),
+    *scripts("documents", "protocol"),
+    *scripts("program", "plans"),
+    *scripts("server", "sessions"),
+    *scripts("program", "mirrors", "calls"),
+    *scripts("clients", "converters", "example_clients", "libraries"),
+    *scripts("program", "groups"),
+    *scripts("clients", "editors", "editors_rooms", "keeper"),
+    *scripts("packages", "debian", "rooms"),
+    *scripts("documents", "running"),
+    *scripts("web", "map_page"),
+    *scripts("server", "sockets", "faults", "foreign"),
+    *benchmarks("program", "lines --sizes 50,100 --rounds 1", "held --elements 100 --entries 100"),
+    *benchmarks("program", "group_costs --quick"),
+    *benchmarks("server", "serve --quick", "many_rooms --elements 100 --rooms 1,3"),
+    *benchmarks("program", "turns --turns 1000"),
+    *scripts("server", "soak --seconds 5 --pace 20"),
 ]
-
 
 # All parts, in the order of tests/run.
 PARTS = [*TEXTS, ("proofs", GATE), *SCRIPTS]
@@ -61,10 +71,24 @@ def subjects_of_scripts() -> dict[str, str]:
 
 
 def path_of(name: str) -> str:
-    """The script that a name means: `serve` and `tests/server/sockets` mean tests/server/sockets, and `bench/serve` the benchmark."""
-    return name if "/" in name else f"tests/{name}"
+    """The script that a name means: for example `sockets`, `server/sockets` and `tests/server/sockets` mean the same.
+    If no part runs such a script, it is the name itself."""
+    wanted = f"/{name}"
+    return next((path for path in subjects_of_scripts() if f"/{path}".endswith(wanted)), name)
 
 
-def chosen(subjects: Collection[str], scripts: Collection[str]) -> list[tuple[str, list[str]]]:
+def chosen(subjects: Collection[str], paths: Collection[str]) -> list[tuple[str, list[str]]]:
     """The parts of these subjects, and those that run these scripts, each once."""
-    return [(subject, command) for subject, command in PARTS if subject in subjects or command[0] in scripts]
+    return [(subject, command) for subject, command in PARTS if subject in subjects or command[0] in paths]
+
+
+def proofs_of(crates: Collection[str]) -> list[tuple[str, list[str]]]:
+    """The part that proves crates and those below them, and runs their tests."""
+    return [("proofs", [*GATE, *crates])]
+
+
+def counts_of(lines: Sequence[str]) -> Optional[tuple[int, int, int]]:
+    """The numbers of skipped, passed and failed checks at the end of a part's output, or None if it ends otherwise.
+    `lines` are its last two lines or more."""
+    found = END.fullmatch("\n".join(lines[-2:])) or END.fullmatch("".join(lines[-1:]))
+    return (int(found[1] or 0), int(found[2]), int(found[3])) if found else None

@@ -1,4 +1,4 @@
-"""The libraries of tests/preload, which are loaded before a program: the kit's compiler makes them."""
+"""Compiles the libraries of tests/preload, which are loaded before a program, with the kit's compiler."""
 import functools
 import os
 import subprocess
@@ -9,13 +9,13 @@ from .cases import TESTS
 
 @functools.lru_cache(maxsize=None)
 def folder():
-    """A folder for the libraries, which goes with the script."""
+    """A folder for the libraries, which the script removes at its end."""
     return tempfile.TemporaryDirectory(prefix="maproom-preload-")
 
 
 @functools.lru_cache(maxsize=None)
 def library(name):
-    """The path of the library of a name, made when it is first asked for."""
+    """The path of the library with this name. The first call compiles it."""
     page = subprocess.run(["rt", "doc"], stdout=subprocess.PIPE, check=True).stdout.decode().split()[0]
     tools, path = f"{os.path.dirname(page)}/toolchain/bin", f"{folder().name}/{name}.so"
     words = [f"{tools}/clang", "--target=x86_64-unknown-linux-gnu", "--no-default-config", f"--ld-path={tools}/ld.lld"]

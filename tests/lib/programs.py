@@ -1,4 +1,4 @@
-"""The result of a command."""
+"""Runs commands and returns their results."""
 import subprocess
 import time
 from typing import NamedTuple
@@ -18,7 +18,7 @@ class Ran(NamedTuple):
     errors: bytes
 
     def texts(self):
-        """The same as texts."""
+        """The same, with texts in the place of bytes."""
         return self.status, self.output.decode(), self.errors.decode()
 
     def lines(self):
@@ -44,7 +44,7 @@ def run(*words, lines=b"", **how):
 
 
 def run_soon(*words, **how):
-    """The same for a command with a time limit."""
+    """The result of a command with a time limit."""
     return run(*words, timeout=PATIENCE * given.slow, **how)
 
 

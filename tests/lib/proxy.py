@@ -1,13 +1,14 @@
-"""A way between clients and a server on which answers can be lost, and on which one server can follow another."""
+"""Passes connections between clients and a server on. It can lose replies, and pass later connections to another
+server."""
 import contextlib
 import socket
 import threading
 
 
 class Proxy:
-    """A way to a server on which answers can be held back: `hold` is asked of all that the server says at once, and
-    gives what goes on to the client, or None to break the connection. Another server can take the place of one that
-    ended: its `port` is where the next connection goes."""
+    """A way to a server. It calls `hold` with each piece that the server sends. `hold` returns what goes on to the
+    client, or None to break the connection. `port` is the server of the next connection, so it can change when a server
+    ends."""
 
     def __init__(self, port, hold=bytes):
         self.port, self.hold = port, hold
@@ -22,7 +23,7 @@ class Proxy:
         self.listening.close()
 
     def accept(self):
-        """Takes one connection after another."""
+        """Accepts connections."""
         with contextlib.suppress(OSError):
             while True:
                 client, _ = self.listening.accept()
@@ -36,7 +37,7 @@ class Proxy:
 
     @staticmethod
     def pass_on(one, other, hold):
-        """Passes on what comes from one to the other."""
+        """Passes the data of one socket on to the other."""
         with contextlib.suppress(OSError):
             while True:
                 data = one.recv(1 << 16)
@@ -50,7 +51,8 @@ class Proxy:
 
 
 def once(wanted, then):
-    """What a proxy does where the server says something for the first time; all else it passes on."""
+    """A function for `hold`: if a piece has these bytes for the first time, it returns `then`. All other pieces
+    pass."""
     left = [wanted]
 
     def hold(data):

@@ -1,4 +1,4 @@
-"""The sentences of a page: their lines, their lengths, and the turns of phrase that make readers stumble.
+"""Finds the sentences of a page: their lines, their lengths, and turns of phrase to avoid.
 
 Code counts as one word, a link as its text, and an image as its caption. Each item of a list is a paragraph.
 """

@@ -1,5 +1,5 @@
-"""A server that a script starts on a free port, with the clients that it connects to it; and what a client knows of
-its room's map by its session (docs/PROTOCOL.md)."""
+"""Starts a server on a free port with its clients, and keeps a client's map of its room by its session
+(docs/PROTOCOL.md)."""
 import contextlib
 import json
 import os
@@ -11,10 +11,10 @@ import time
 
 from .websocket import Broken, Client, Late
 
-# A line of the log, of which only what stands behind the logger's own words is compared.
+# A line of the log. Only the part after the logger's prefix is compared.
 LOG_LINE = re.compile(r"(?:.*\] )?session (\d+) (open|end (\w+))")
 
-# How often another port is tried, where somebody else took the one that was free.
+# How many ports are tried, because another program may take a free port.
 TRIES = 10
 
 
@@ -26,7 +26,8 @@ def free_port():
 
 
 def ends_of(log):
-    """How each session ended, by its number: the log opens each before it ends it, and says no more of it."""
+    """How each session ended, by its number. The log has the begin of each session and then its end, and nothing
+    else."""
     ends, opened = {}, set()
     for line in log.splitlines():
         told = LOG_LINE.fullmatch(line)
@@ -43,8 +44,8 @@ def ends_of(log):
 
 
 class Server:
-    """A server of some rooms for so many sessions, which begin with the map of a text if there is one. Whoever leaves its block closes
-    its clients, and ends it."""
+    """A server of some rooms, for a number of sessions. With `base` the rooms begin with its map. The end of its block
+    closes its clients, and ends it."""
 
     def __init__(self, program, *rooms, workers=2, sessions=1, limit=None, base=None, patience=20):
         self.program, self.rooms = program, rooms or ("paris",)
@@ -79,7 +80,8 @@ class Server:
         self.stop()
 
     def start(self):
-        """Starts the server on a free port and waits until it listens; or finds that the port was taken meanwhile."""
+        """Starts the server on a free port and waits until it listens. Returns False if another program took the
+        port."""
         for file in (self.output, self.errors):
             os.ftruncate(file.fileno(), 0)
             os.lseek(file.fileno(), 0, os.SEEK_SET)
@@ -97,7 +99,7 @@ class Server:
         return True
 
     def stop(self):
-        """Ends all that was begun."""
+        """Ends the server and its clients."""
         if self.process is not None:
             self.process.kill()
             self.process.wait()
@@ -105,23 +107,23 @@ class Server:
 
     @staticmethod
     def told(file):
-        """All that was written to a file by now."""
+        """The present content of a file."""
         return os.pread(file.fileno(), 1 << 24, 0).decode()
 
     def connect(self, **how):
-        """A client that has connected and has sent nothing yet."""
+        """A client that is connected and has sent nothing yet."""
         return self.kept.enter_context(Client(self.port, **{"patience": self.patience, **how}))
 
     def client(self, **how):
-        """A client that has shaken hands."""
+        """A client after its handshake."""
         return self.connect(**how).shake_hands()
 
     def session(self, name, room=None, **how):
-        """A client that has said hello, as a session."""
+        """A session of a client that has sent its hello."""
         return Session(self.client(**how), name, room or self.rooms[0])
 
     def finish(self, seconds=None):
-        """Waits for the program's end. Gives its status, what it printed, and how each session ended by its number."""
+        """Waits for the program's end. Returns its status, its output, and how each session ended, by its number."""
         try:
             status = self.process.wait(self.patience if seconds is None else seconds)
         except subprocess.TimeoutExpired as error:
@@ -130,8 +132,8 @@ class Server:
 
 
 class PartServer(Server):
-    """The same server as part_lines runs it: of one room, with a bound on what a session reads, and perhaps with a
-    gate, which holds the third message of session 1 back until the second one of session 2 was answered."""
+    """The same server, run by part_lines: with one room, and with a limit on the messages that a session reads. With
+    `is_held` the third message of session 1 waits until the second message of session 2 is answered."""
 
     def __init__(self, program, turns, is_held=False, **how):
         super().__init__(program, **how)
@@ -143,7 +145,7 @@ class PartServer(Server):
 
 
 def place_of(name):
-    """Where the name of an element stands in the order of names: by its kind, and then by its number."""
+    """The place of an element's name in the order of names: its kind, and then its number."""
     return "nwr".index(name[0]), int(name[1:])
 
 
@@ -151,7 +153,7 @@ class Session:
     """A client's session with a room: the map that it knows by its welcome and its news."""
 
     def __init__(self, client, name, room):
-        """Says hello, under the id 1, and takes the welcome."""
+        """Sends hello under the id 1, and reads the welcome."""
         self.client, self.name = client, name
         self.authors = {}
         reply = self.send({"id": 1, "do": "hello", "room": room, "name": name}).reply()
@@ -161,19 +163,19 @@ class Session:
 
     @staticmethod
     def rows_of(told):
-        """The rows of a map that is told, by their names, which have to rise."""
+        """The rows of a map, by their names, which have to be sorted."""
         names = [element["el"] for element in told["map"]]
         if any(place_of(one) >= place_of(other) for one, other in zip(names, names[1:])):
             raise Broken(f"the names of a map do not rise: {names}")
         return {element["el"]: element for element in told["map"]}
 
     def send(self, message):
-        """Sends a message and waits for nothing. Gives itself."""
+        """Sends a message without waiting. Returns the session."""
         self.client.say(json.dumps(message, separators=(",", ":")))
         return self
 
     def hear(self, seconds=None):
-        """Reads a text. News are taken, and nothing is given for them; else it is a reply, and is given."""
+        """Reads a text. Returns a reply; if the text is news, it applies them and returns None."""
         text = self.client.text(seconds)
         told = json.loads(text)
         if "news" not in told:
@@ -182,7 +184,7 @@ class Session:
         return None
 
     def take(self, news):
-        """Takes news, which have to be the next."""
+        """Applies news, which have to be the next."""
         if news["seq"] != self.seq + 1:
             raise Broken(f"{self.name} is told the news {news['seq']} after {self.seq}")
         for row in news["rows"]:
@@ -193,28 +195,28 @@ class Session:
         self.seq, self.authors[news["seq"]] = news["seq"], news["by"]
 
     def reply(self, seconds=None):
-        """The next reply, with the news before it taken."""
+        """Reads until the next reply, and applies the news before it."""
         while True:
             told = self.hear(seconds)
             if told is not None:
                 return told
 
     def ask(self, message, seconds=None):
-        """Sends a message and waits for its reply, which is under its id."""
+        """Sends a message and returns its reply, which has to have its id."""
         reply = self.send(message).reply(seconds)
         if reply["id"] != message["id"]:
             raise Broken(f"{message} is answered {reply}")
         return reply
 
     def follow(self, seq, seconds=None):
-        """Takes news until this one, which nothing else may come before."""
+        """Applies news up to this entry. No reply may come before."""
         while self.seq < seq:
             reply = self.hear(seconds)
             if reply is not None:
                 raise Broken(f"{self.name} is told {reply} in the place of news")
 
     def leave(self):
-        """Closes, and sees the answer and the end. Before them may come news."""
+        """Closes, and reads the answer and the end. News may come before them."""
         self.client.close()
         while not self.client.is_close_next():
             self.take(json.loads(self.client.text())["news"])

@@ -1,10 +1,10 @@
-"""What the checks of the server share: the texts that go to and fro, and short forms of what they do and want."""
+"""Sends and expects the messages of sessions in short forms, for tests of the server."""
 from .cases import given, want
 from .serving import PartServer, Server
 
-# How many seconds whatever is waited for may take. Only a check that fails is held up by that.
+# How many seconds each wait may take. Only a failing check takes that long.
 PATIENCE = 20
-# How long it is watched that nothing comes: several of the 50 milliseconds after which a server looks for news.
+# How many seconds a check of silence takes: several of the 50 milliseconds after which a server looks for news.
 SILENCE = 0.3
 
 
@@ -14,18 +14,18 @@ def serving(*rooms, **how):
 
 
 def serving_parts(turns, **how):
-    """The server that part_lines runs, whose sessions read so many messages at most."""
+    """The server that part_lines runs, whose sessions read at most this number of messages."""
     return PartServer(given.parts, turns, **{"patience": PATIENCE * given.slow, **how})
 
 
 def talk(client, message, *texts):
-    """Says a message, and is told these texts for it."""
+    """Sends a message, and expects these texts."""
     client.say(message)
     hear(client, *texts)
 
 
 def hear(client, *texts):
-    """Is told these texts."""
+    """Expects these texts."""
     for text in texts:
         want(client.text(), text)
 
@@ -45,12 +45,12 @@ def node(lat="51.5000000", el="n-1", tags="{}"):
     return f'{{"el":"{el}","lat":"{lat}","lon":"-0.1000000","tags":{tags}}}'
 
 
-# The row of one that is gone.
+# The row of a deleted node.
 GONE = '{"el":"n-1","gone":true}'
 
 
 def welcome(seq, *rows, number=1):
-    """The answer to a hello, or to the question for the map."""
+    """The reply to a hello, or to `map`."""
     return f'{{"id":{number},"ok":{{"map":[{",".join(rows)}],"seq":{seq}}}}}'
 
 
@@ -60,17 +60,17 @@ def news(author, seq, *rows):
 
 
 def ok(number, what):
-    """The answer to a message that was accepted."""
+    """The reply to a message that was accepted."""
     return f'{{"id":{number},"ok":{{{what}}}}}'
 
 
 def refused(number, what):
-    """The answer to a message that was refused."""
+    """The reply to a message that was refused."""
     return f'{{"id":{number},"no":{{{what}}}}}'
 
 
 def leave(client, code=1000):
-    """Closes with a code, which is answered, and then the connection ends, without a reset."""
+    """Closes with a code. The server answers it and ends the connection without a reset."""
     client.close(code)
     want(client.closed(), code)
     want((client.rest(), client.was_reset), (b"", False))
@@ -78,7 +78,7 @@ def leave(client, code=1000):
 
 
 def be_closed(client, code):
-    """Is closed with a code, answers, and then the connection ends."""
+    """Expects a close with this code, and answers it. Then the connection ends."""
     want(client.closed(), code)
     client.close(code)
     want(client.rest(), b"")
@@ -86,13 +86,13 @@ def be_closed(client, code):
 
 
 def serve_next(server, name="zoe", seq=0, *rows):
-    """A client comes, is served, and leaves."""
+    """A client comes, gets its welcome, and leaves."""
     client = server.client()
     talk(client, hello(name), welcome(seq, *rows))
     leave(client)
 
 
 def finish(server, fronts, *ends):
-    """The program ends, tells how far each room came, and logged how each session ended, the first one first."""
+    """The program ends, and prints the number of entries of each room. Its log has these ends of sessions, in order."""
     printed = "".join(f"{line}\n" for line in ("listening", *fronts))
     want(server.finish(), (0, printed, dict(enumerate(ends, 1))))

@@ -1,4 +1,4 @@
-"""Files of runs: a line with the mark `> ` is input, and the lines after it are the output that it has to cause.
+"""Reads files of runs: a line with the mark `> ` is input, and the lines after it are the output that it has to cause.
 
     # A remark.
     limit 1

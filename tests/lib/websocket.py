@@ -1,9 +1,9 @@
-"""A client of a WebSocket (RFC 6455) for tests. It frames whatever it is asked to, also what a client must not send,
-and refuses what a server must not.
+"""Speaks WebSockets (RFC 6455) as a client, for tests. It sends any frames, also those that a client must not send, and
+refuses those that a server must not send.
 
-`Client(port)` connects, `shake_hands` sends the head of the request and looks at the answer, `send` sends a frame, and
-`read` gives the next that comes. What does not come in time is `Late`, what is against the protocol `Broken`, and
-after the end of the connection comes `Gone`.
+`Client(port)` connects, `shake_hands` sends the head of the request and checks the answer, `send` sends a frame, and
+`read` returns the next frame. They raise `Late` if nothing comes in time, `Broken` if the server breaks the protocol,
+and `Gone` after the end of the connection.
 """
 import base64
 import hashlib
@@ -18,16 +18,16 @@ NAMES = {CONTINUATION: "continuation", TEXT: "text", BINARY: "binary", CLOSE: "c
 # The longest payload of a control frame.
 MOST_OF_CONTROL = 125
 
-# What a server adds to the key of a request before it answers with the hash of both.
+# A server adds this to the key of a request, and answers with the hash of both.
 SALT = b"258EAFA5-E914-47DA-95CA-C5AB0DC85B11"
 
 
 class Late(Exception):
-    """What was waited for did not come in time."""
+    """Nothing came in time."""
 
 
 class Broken(Exception):
-    """What came is against the protocol, or another thing than was waited for."""
+    """The other side broke the protocol, or sent something unexpected."""
 
 
 class Gone(Exception):
@@ -35,17 +35,17 @@ class Gone(Exception):
 
 
 def make_key():
-    """A key for a request, of sixteen bytes that nobody can tell beforehand."""
+    """A key for a request: sixteen random bytes."""
     return base64.b64encode(os.urandom(16)).decode()
 
 
 def answer_to(key):
-    """What a server answers to a key."""
+    """The server's answer to a key."""
     return base64.b64encode(hashlib.sha1(key.encode() + SALT).digest()).decode()
 
 
 def head_of_request(key, **others):
-    """The head of a request. Other values of its lines are given by name, and None leaves a line out."""
+    """The head of a request. `others` changes its lines by name, and None leaves a line out."""
     first = others.pop("first", "GET / HTTP/1.1")
     fields = {"host": "maproom.test", "upgrade": "websocket", "connection": "Upgrade"}
     fields.update({"sec_websocket_key": key, "sec_websocket_version": "13"}, **others)
@@ -54,7 +54,7 @@ def head_of_request(key, **others):
 
 
 def check_answer(head, key):
-    """Refuses the head of an answer that does not open a WebSocket, or that chooses what was not offered."""
+    """Refuses the head of an answer if it does not open a WebSocket, or chooses something that was not offered."""
     first, *lines = head.decode("latin-1").split("\r\n")
     fields = {}
     for line in lines:
@@ -74,13 +74,13 @@ def check_answer(head, key):
 
 
 def masked(payload, mask):
-    """A payload under a mask, and of one that is under it the payload."""
+    """A payload under a mask. The mask of a masked payload gives the payload back."""
     stream = (mask * (len(payload) // len(mask) + 1))[: len(payload)]
     return (int.from_bytes(payload, "big") ^ int.from_bytes(stream, "big")).to_bytes(len(payload), "big")
 
 
 def head_of_frame(opcode, length, last=True, reserved=0, mask=None):
-    """The bytes of a frame before its payload, of which only the length is asked."""
+    """The bytes of a frame before its payload of this length."""
     first, bit = last << 7 | reserved << 4 | opcode, (mask is not None) << 7
     if length <= MOST_OF_CONTROL:
         head = struct.pack("!BB", first, bit | length)
@@ -92,7 +92,7 @@ def head_of_frame(opcode, length, last=True, reserved=0, mask=None):
 
 
 def frame(opcode, payload=b"", last=True, reserved=0, is_masked=True):
-    """The bytes of a frame, as a client sends it if nothing else is asked for."""
+    """The bytes of a frame, by default as a client sends it."""
     mask = os.urandom(4) if is_masked else None
     head = head_of_frame(opcode, len(payload), last, reserved, mask)
     return head + (masked(payload, mask) if is_masked else payload)
@@ -104,20 +104,20 @@ def text_frame(text):
 
 
 def close_payload(code, reason=b""):
-    """The payload of a close frame, which is empty where there is no code."""
+    """The payload of a close frame, which is empty without a code."""
     return b"" if code is None else struct.pack("!H", code) + reason
 
 
 def code_of(payload):
-    """The code in the payload of a close frame, or none."""
+    """The code in the payload of a close frame, or None."""
     return struct.unpack("!H", payload[:2])[0] if payload else None
 
 
 class Client:
-    """A connection to a server on this machine, with what came and was not yet read."""
+    """A connection to a server on this machine, with the bytes that came and are not read yet."""
 
     def __init__(self, port, patience=20, buffer=None):
-        """Connects. What is waited for has to come within `patience` seconds. `buffer` bounds what waits unread."""
+        """Connects. Each wait may take `patience` seconds. `buffer` limits the unread bytes that the system keeps."""
         self.patience = patience
         self.came = bytearray()
         self.was_reset = False
@@ -142,20 +142,20 @@ class Client:
         self.drop()
 
     def drop(self):
-        """Closes the connection without a word."""
+        """Closes the connection without a close frame."""
         self.socket.close()
 
     def reset(self):
-        """Has the system reset the connection, as where a program is killed with something unread."""
+        """Makes the system reset the connection, as if the program were killed with unread bytes."""
         self.socket.setsockopt(socket.SOL_SOCKET, socket.SO_LINGER, struct.pack("ii", 1, 0))
         self.socket.close()
 
     def end(self):
-        """Sends the end of the stream. What comes can still be read."""
+        """Sends the end of the stream. The client can still read."""
         self.socket.shutdown(socket.SHUT_WR)
 
     def send_bytes(self, data):
-        """Sends bytes as they are."""
+        """Sends bytes unchanged."""
         self.socket.settimeout(self.patience)
         try:
             self.socket.sendall(data)
@@ -165,7 +165,7 @@ class Client:
             raise Gone(f"the connection was lost in sending: {error}") from error
 
     def send_pieces(self, data, size, pause):
-        """Sends bytes in pieces of this size, and waits so many seconds after each."""
+        """Sends bytes in pieces of this size, with a pause of `pause` seconds after each."""
         for start in range(0, len(data), size):
             self.send_bytes(data[start : start + size])
             time.sleep(pause)
@@ -179,15 +179,15 @@ class Client:
         self.send_bytes(text_frame(text))
 
     def close(self, code=1000, reason=b""):
-        """Sends a close frame, without a code where that is None."""
+        """Sends a close frame, without a code if it is None."""
         self.send(CLOSE, close_payload(code, reason))
 
     def deadline(self, seconds=None):
-        """When what is waited for is late."""
+        """The time after which a wait is late."""
         return time.monotonic() + (self.patience if seconds is None else seconds)
 
     def wait(self, deadline):
-        """Waits for more to come, and keeps it. What is there already is never late."""
+        """Waits for more bytes, and keeps them. Bytes that are there already are never late."""
         self.socket.settimeout(max(0.001, deadline - time.monotonic()))
         try:
             more = self.socket.recv(1 << 18)
@@ -201,25 +201,25 @@ class Client:
         self.came += more
 
     def wait_for(self, count, deadline):
-        """Waits until so many bytes are there."""
+        """Waits until `count` bytes are there."""
         while len(self.came) < count:
             self.wait(deadline)
 
     def take(self, count):
-        """Takes so many bytes of what came."""
+        """Takes `count` bytes of those that came."""
         taken = bytes(self.came[:count])
         del self.came[:count]
         return taken
 
     def read_answer(self, key, seconds=None):
-        """Reads the head of the answer to a request with this key, and looks at it."""
+        """Reads the head of the answer to a request with this key, and checks it."""
         deadline = self.deadline(seconds)
         while b"\r\n\r\n" not in self.came:
             self.wait(deadline)
         check_answer(self.take(self.came.index(b"\r\n\r\n") + 4)[:-4], key)
 
     def shake_hands(self, size=None, pause=0.0, **others):
-        """Sends the head of a request, in pieces where a size is given, and reads the answer. Gives itself."""
+        """Sends the head of a request, in pieces if a size is given, and reads the answer. Returns the client."""
         key = make_key()
         head = head_of_request(key, **others)
         self.send_pieces(head, size or len(head), pause)
@@ -227,7 +227,8 @@ class Client:
         return self
 
     def read(self, seconds=None):
-        """The next frame, its opcode and its payload. A frame that is not all there in time stays where it is."""
+        """Reads the next frame. Returns its opcode and its payload. If the frame is not complete in time, nothing is
+        read."""
         deadline = self.deadline(seconds)
         self.wait_for(2, deadline)
         first, length, start = self.came[0], self.came[1], 2
@@ -244,18 +245,18 @@ class Client:
         return opcode, self.take(start + length)[start:]
 
     def read_kind(self, wanted, seconds=None):
-        """The payload of the next frame, which has to be of this opcode."""
+        """The payload of the next frame, which has to have this opcode."""
         opcode, payload = self.read(seconds)
         if opcode != wanted:
             raise Broken(f"a {NAMES[opcode]} came in the place of a {NAMES[wanted]}: {payload[:200]!r}")
         return payload
 
     def text(self, seconds=None):
-        """The next frame's text."""
+        """The text of the next frame."""
         return self.read_kind(TEXT, seconds).decode()
 
     def closed(self, seconds=None):
-        """The code of the next frame, a close; or none, where it has none."""
+        """The code of the next frame, which has to be a close, or None if it has no code."""
         payload = self.read_kind(CLOSE, seconds)
         if len(payload) == 1:
             raise Broken("a close has half a code")
@@ -263,12 +264,12 @@ class Client:
         return code_of(payload)
 
     def is_close_next(self, seconds=None):
-        """Whether the next frame is a close, which is not read yet."""
+        """Whether the next frame is a close. It is not read yet."""
         self.wait_for(1, self.deadline(seconds))
         return self.came[0] & 15 == CLOSE
 
     def rest(self, seconds=None):
-        """All that comes before the end of the connection, be it an end or a reset."""
+        """All bytes before the end of the connection or its reset."""
         deadline = self.deadline(seconds)
         try:
             while time.monotonic() < deadline:
@@ -278,7 +279,7 @@ class Client:
         raise Late("the connection does not end")
 
     def is_quiet(self, seconds):
-        """Whether nothing comes for so many seconds, and what came before has been read."""
+        """Whether nothing comes for this many seconds, and all earlier bytes have been read."""
         try:
             self.wait_for(1, self.deadline(seconds))
         except Late:

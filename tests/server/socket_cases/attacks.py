@@ -33,7 +33,7 @@ MEMORY = b'"no":{"why":"memory"}}'
 
 
 class StartedBy(Server):
-    """A server that is started by some words before its own."""
+    """A server that another command starts."""
 
     def __init__(self, before, **how):
         super().__init__(given.program, **{"patience": PATIENCE * given.slow, **how})
@@ -50,7 +50,7 @@ def can_be_limited():
 
 
 class Attacker:
-    """A client that sends hostile messages, one after another, until it is to end. `told` counts what came for them."""
+    """A client that sends hostile messages until it has to end. `told` counts the replies."""
 
     def __init__(self, server, ends):
         self.server, self.ends = server, ends
@@ -129,7 +129,7 @@ class Mapper:
 @case_if(can_be_limited)
 def messages_that_want_all_memory():
     """Three clients send messages of 8 MB that would take a gigabyte each, and the server has 700 MB of addresses. It
-    answers `memory`, or ends the session, and never ends itself. A mapper has each change accepted meanwhile, once."""
+    answers `memory`, or ends the session, and never ends itself. Meanwhile it accepts each change of a mapper once."""
     with StartedBy(LIMITED, workers=ATTACKERS + 1, sessions=1_000_000) as server:
         mapper, ends = Mapper(server), threading.Event()
         attackers = [Attacker(server, ends) for _ in range(ATTACKERS)]
@@ -186,7 +186,7 @@ def two_sessions(server):
 
 
 def without_a_log(redirection):
-    """A server whose standard error takes nothing serves its clients, and tells them nothing of its log."""
+    """A server that cannot write to standard error serves its clients, and sends them nothing about its log."""
     with StartedBy(["sh", "-c", f'exec "$@" {redirection}', "sh"], sessions=3) as server:
         two_sessions(server)
         want(server.told(server.errors), "")
@@ -213,7 +213,7 @@ def full_pipe():
 
 
 def read_lines(pipe, seconds, count):
-    """Reads a pipe until so many lines came, or for so many seconds. Gives them."""
+    """Reads a pipe until `count` lines came, or for `seconds` seconds. Returns them."""
     text, deadline = b"", time.monotonic() + seconds
     while text.count(b"\n") < count and time.monotonic() < deadline:
         try:
@@ -225,7 +225,7 @@ def read_lines(pipe, seconds, count):
 
 @case
 def a_standard_error_that_nobody_reads():
-    """Where the pipe of the log is full, the server waits until somebody reads it. Then it serves whoever waited, and
+    """If the pipe of the log is full, the server waits until somebody reads it. Then it serves the waiting clients, and
     the log has each line."""
     with full_pipe() as (path, pipe), StartedBy(["sh", "-c", 'exec "$@" 2>"$0"', path], sessions=3) as server:
         with server.connect(patience=server.patience) as client:

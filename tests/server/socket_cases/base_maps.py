@@ -1,4 +1,4 @@
-"""Tests the server with rooms that begin with a map: what clients receive of it, and when the program reads it."""
+"""Tests the server with rooms that begin with a map: the welcomes of clients, and when the program reads the map."""
 import contextlib
 import json
 import os
@@ -17,7 +17,7 @@ from lib.websocket import BINARY
 from .many_clients import at_the_same_time, edit
 from .one_room import BAD_NAME, CANNOT_LISTEN, TOO_MANY, TWICE, connected
 
-# The map of the worked example on_a_base, by the line that tells it and as a room tells it.
+# The map of the worked example on_a_base: as its line has it, and as a room sends it.
 BASE = (
     '{"id":1,"ok":{"map":[{"el":"n1","lat":"0","lon":"0","tags":{}},{"el":"n2","lat":"1","lon":"1","tags":{}},'
     '{"el":"w1","nodes":[1,2],"tags":{}}],"seq":7}}\n'
@@ -34,7 +34,7 @@ READ_FAILED = (1, "", "maproom: read failed\n")
 
 @case
 def two_sessions_on_a_base():
-    """Both welcomes hold the base. Each change is told to both clients, and nothing of the base can be undone."""
+    """Both welcomes have the base. Both clients get each change, and nobody can undo anything of the base."""
     with serving(sessions=2, base=BASE) as server:
         anna = server.client()
         talk(anna, hello("anna"), welcome(0, N1, N2, W1))
@@ -85,7 +85,7 @@ def rooms_apart_on_one_base():
 
 @case
 def a_full_room_on_a_base():
-    """A base takes none of the entries that a room may have."""
+    """A base uses up no entries of a room."""
     with serving(limit=1, base=BASE) as server:
         anna = server.client()
         talk(anna, hello("anna"), welcome(0, N1, N2, W1))
@@ -97,7 +97,8 @@ def a_full_room_on_a_base():
 
 @case
 def what_stands_behind_a_base():
-    """It is not served, and not read as messages. A base may lack its line feed, and it may tell an empty map."""
+    """The server does not read text after the base as messages. A base may lack its line feed, and its map may be
+    empty."""
     for base in (BASE + f"anna {create(1)}\n" + BASE, BASE + "x" * 200_000, BASE.removesuffix("\n"), BASE.replace("\n", "\r\n")):
         with serving(base=base) as server:
             serve_next(server, "zoe", 0, N1, N2, W1)
@@ -109,7 +110,7 @@ def what_stands_behind_a_base():
 
 @case
 def what_is_not_a_base():
-    """Where it was not asked for, nothing is read: what stands on standard input is nothing to a server."""
+    """Without --base the server reads nothing from standard input."""
     with serving() as server:
         server.input.write(b"anna\n")
         serve_next(server)
@@ -117,7 +118,8 @@ def what_is_not_a_base():
 
 
 class Begun:
-    """A program that is to serve, with a pipe to its standard input, which stays open. Whoever leaves its block ends it."""
+    """A program that has to serve, with a pipe as its standard input, which stays open. The end of its block ends
+    it."""
 
     def __init__(self, *rooms, addr="127.0.0.1:0", base=True):
         words = ["serve", "--addr", addr, "--workers", "1", "--sessions", "1", *(["--base"] if base else []), *rooms]
@@ -136,23 +138,23 @@ class Begun:
         self.kept.close()
 
     def say(self, text):
-        """Writes to its standard input, of which a program that has ended reads no more. Gives itself."""
+        """Writes to its standard input, if the program has not ended. Returns itself."""
         with contextlib.suppress(BrokenPipeError):
             self.process.stdin.write(text.encode())
         return self
 
     def told(self):
-        """What was printed by now, and told on standard error."""
+        """What the program has printed so far, to standard output and to standard error."""
         return tuple(os.pread(file.fileno(), 1 << 20, 0).decode() for file in (self.output, self.errors))
 
     def ended(self):
-        """Waits for the end, without one of standard input."""
+        """Waits for the program's end while standard input stays open. Returns the status and the output."""
         return self.process.wait(PATIENCE * given.slow), *self.told()
 
 
 @case
 def an_input_that_stays_open():
-    """The rooms are opened when the line is there, whether more comes or not; and before that nobody is served."""
+    """The program opens the rooms when the line is there, even if the input goes on. It serves nobody before that."""
     addr = f"127.0.0.1:{free_port()}"
     with Begun("paris", addr=addr) as program:
         for part in (BASE[:40], BASE[40:-1]):
@@ -170,7 +172,7 @@ def an_input_that_stays_open():
 
 
 def run(text, *rooms, addr="127.0.0.1:0"):
-    """What the program comes to where it is to serve these rooms on the base of a text."""
+    """The result of a program that has to serve these rooms on the base of a text."""
     with Begun(*rooms, addr=addr).say(text) as program:
         program.process.stdin.close()
         return program.ended()
@@ -178,7 +180,7 @@ def run(text, *rooms, addr="127.0.0.1:0"):
 
 @case
 def bad_bases():
-    """A first line that is no welcome, or that tells a map which is not sound. Nothing listens, and nothing is printed."""
+    """If the first line is no welcome, or its map is not sound, the server does not listen and prints nothing."""
     others = ("{}\n", f"anna {create(1)}\n", refused(1, '"why":"full"') + "\n")
     for text in ("", "\n", "\n" + BASE, BASE[:-2], BASE[:-3] + "\n" + BASE, BASE[:-1] + BASE, *others):
         want((text, run(text, "paris", "rome")), (text, BAD_BASE))
@@ -191,7 +193,8 @@ def bad_bases():
 
 @case
 def faults_in_their_order():
-    """The names are looked at before anything is read, so that no end of the input is waited for; then the base, and then the address."""
+    """The program checks the names before it reads anything, so it does not wait for the input. Then it checks the
+    base, and then the address."""
     for rooms, wanted in [
         (["Paris"], BAD_NAME),
         (["paris", "paris"], TWICE),
@@ -210,7 +213,7 @@ def faults_in_their_order():
             want(run("", "paris", addr=addr), BAD_BASE)
             want(run(UNSOUND, "paris", addr=addr), UNSOUND_BASE)
             want(run(BASE, "paris", addr=addr), CANNOT_LISTEN)
-    # A bad base is told when its line is there, also where more could come.
+    # The program reports a bad base as soon as its line is there, also if the input goes on.
     for text, wanted in (("{}\n", BAD_BASE), (UNSOUND, UNSOUND_BASE)):
         with Begun("paris").say(text) as program:
             want(program.ended(), wanted)
@@ -218,7 +221,7 @@ def faults_in_their_order():
 
 @case
 def an_input_that_cannot_be_read():
-    """A folder, and none, where a base is asked for. Without one neither is read."""
+    """A folder or nothing as standard input, if a base is asked for. Without --base the server reads neither."""
     words = [given.program, "serve", "--addr", "nowhere", "--workers", "1", "--sessions", "1"]
 
     def run_on(stdin, *more, shell=()):

@@ -1,4 +1,4 @@
-"""Tests the server against RFC 6455: forbidden messages, slow and broken streams, and messages in pieces."""
+"""Tests the server against RFC 6455: forbidden frames, slow and broken streams, and messages in pieces."""
 import itertools
 
 from lib.cases import case, each_case, want
@@ -71,7 +71,8 @@ def bad_frame(data):
 
 @case
 def a_fragment_too_many():
-    """A fragment comes behind the last of a message. The message is answered."""
+    """A fragment comes after the last fragment of a message. The server answers the message, and the session ends as a
+    fault."""
     with serving(workers=1, sessions=2) as server:
         anna = after_the_hello(server)
         anna.send_bytes(begun() + frame(CONTINUATION, b"}") + frame(CONTINUATION, b"}"))
@@ -123,7 +124,8 @@ def bad_head(data):
 
 @case
 def other_heads():
-    """Whatever path is asked for is served, also with more lines than there must be. What is offered is not taken."""
+    """The server serves each path, also if the head has more lines than needed. It takes no offered extension or
+    protocol."""
     heads = (
         {"first": "GET /any/path?room=paris HTTP/1.1"},
         {"connection": "keep-alive, Upgrade", "upgrade": "WebSocket"},
@@ -138,7 +140,7 @@ def other_heads():
         finish(server, ["paris 0"], *["left"] * len(heads))
 
 
-# The phases of a session. Each gives a client that came so far.
+# The phases of a session. Each function returns a client in this phase.
 
 
 def before_the_head(server):
@@ -216,7 +218,7 @@ def end(phase):
 
 
 def silence(phase):
-    """The client says nothing more. It hinders none of those who come after it, since there is another worker."""
+    """The client sends nothing more. Another worker serves the clients after it."""
     with serving(workers=2, sessions=4) as server:
         client = phase(server)
         for _ in range(3):
@@ -265,7 +267,7 @@ def a_frame_in_pieces():
 
 @case
 def many_in_one_piece():
-    """Messages that come together are answered in their order, each with its news right behind the reply."""
+    """Messages that come together are answered in their order, each with its news right after the reply."""
     numbers = range(2, 52)
     with serving() as server:
         anna = server.client()
@@ -354,7 +356,7 @@ def closes():
 
 @case
 def closes_with_more():
-    """A close may give a reason. What comes behind it is not read."""
+    """A close may give a reason. The server does not read what comes after it."""
     with serving(workers=1, sessions=2) as server:
         for more in ({"reason": "Tschüß".encode()}, {"reason": b""}):
             anna = after_the_hello(server)
@@ -366,8 +368,8 @@ def closes_with_more():
 
 @case
 def binaries():
-    """A binary message closes the session with 1003, before the hello and after it, whether that is answered or not.
-    What comes behind it is not read."""
+    """A binary message closes the session with 1003, before the hello and after it, also if the client does not answer
+    the close. The server does not read what comes after it."""
     cases = list(itertools.product((after_the_hello, before_the_hello), (b"", b"\x01\x02"), (True, False)))
     with serving(workers=1, sessions=len(cases)) as server:
         for phase, payload, answers in cases:

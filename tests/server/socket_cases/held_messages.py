@@ -1,11 +1,11 @@
-"""Tests the server of part_lines, which controls what `maproom serve` leaves to chance or to its limit: a message that
-waits, and sessions that read few messages."""
+"""Tests the server of part_lines, which controls two things that `maproom serve` leaves to chance or to its limit: a
+message that waits, and sessions that read few messages."""
 from lib.cases import case_if, each_case, given, want
 from lib.talk import SILENCE, be_closed, create, finish, hear, hello, leave, news, node, ok, refused, serving_parts
 from lib.talk import talk, welcome
 from lib.websocket import text_frame
 
-# How many messages a session reads at most, where that is few.
+# How many messages a session reads at most.
 FEW = 20
 
 

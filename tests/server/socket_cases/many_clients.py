@@ -10,19 +10,19 @@ from lib.talk import PATIENCE, SILENCE, create, finish, serving
 # The tags of an element whose text has a quarter of a megabyte.
 BIG_TAGS = {f"key{number}": "v" * 250 for number in range(1000)}
 
-# The numbers under which a map of two such elements is asked for, so that the answers are more than the system keeps.
+# The ids of requests for a map of two such elements. The replies are more than the system keeps for a client.
 ASKED = range(10, 22)
 
 
 def at_the_same_time(count, work):
-    """Does something for each number below a count, all at the same time, and gives what each came to."""
+    """Calls a function concurrently for each number below a count. Returns the results."""
     with concurrent.futures.ThreadPoolExecutor(count) as pool:
         return list(pool.map(work, range(count)))
 
 
 @case
 def two_hundred_at_once():
-    """Two hundred clients connect at once where there are four workers: all are served, and none is dropped."""
+    """If two hundred clients connect at once, four workers serve all of them, and drop none."""
     count = 200
     with serving(workers=4, sessions=count, patience=10 * PATIENCE * given.slow) as server:
 
@@ -127,8 +127,8 @@ def random_edit(chance):
 
 
 def edit(session, chance, count=60):
-    """Edits at random, follows what is told of it, and gives the numbers of what was accepted. Where the map is asked
-    for, it is the mirror's after the same entry."""
+    """Edits at random, applies the news, and returns the numbers of the accepted changes. If it asks for the map, the
+    reply is the mirror's map after the same entry."""
     accepted = []
     for number in range(2, count + 2):
         answer = session.ask({"id": number, **random_edit(chance)}).get("ok", {})
@@ -144,8 +144,8 @@ def edit(session, chance, count=60):
 
 
 def mirrors(seed):
-    """Eight edit at random at the same time, from different moments on. From its welcome on each is told each entry
-    once, in order and by its author, and in the end all have the same map, which is the room's."""
+    """Eight clients edit at random concurrently, and begin at different times. From its welcome on each gets each entry
+    once, in order and with its author. At the end all have the room's map."""
     with serving(workers=8, sessions=8) as server:
 
         def begin_and_edit(at):

@@ -13,13 +13,13 @@ from lib.talk import GONE, PATIENCE, SILENCE, be_closed, create, finish, hear, h
 from lib.talk import serve_next, serving, talk, welcome
 from lib.websocket import BINARY, Client, head_of_request, make_key
 
-# The page that tells the sessions of two clients.
+# The page that has the sessions of two clients.
 PAGE = f"{TOP}/docs/CLIENT.md"
 
 
 @case
 def two_sessions():
-    """Each change is told to both clients, to the other one unasked, and an undo meets what the other did since."""
+    """Both clients get each change, and an undo conflicts with later changes of the other client."""
     with serving(sessions=2) as server:
         anna = server.client()
         talk(anna, hello("anna"), welcome(0))
@@ -58,7 +58,7 @@ def an_undo_is_told():
 
 @case
 def before_and_after_a_hello():
-    """Until a hello names a room that is there nothing is done or told. A second hello is refused."""
+    """Before a hello that names an existing room, the server does and sends nothing. It refuses a second hello."""
     with serving(sessions=2) as server:
         anna, bob = server.client(), server.client()
         talk(bob, hello("bob"), welcome(0))
@@ -79,7 +79,7 @@ def before_and_after_a_hello():
 
 @case
 def two_at_once():
-    """A session that stays silent does not keep a second from being served, and is then told what that one did."""
+    """A second session is served while the first is silent. Then the first gets the news of the second."""
     with serving(sessions=2) as server:
         anna = server.client()
         talk(anna, hello("anna"), welcome(0))
@@ -94,7 +94,7 @@ def two_at_once():
 
 @case
 def a_session_waits_for_a_worker():
-    """Where each worker has a session the next one waits, and is served when one has ended."""
+    """If each worker has a session, the next session waits, and is served when a session has ended."""
     with serving(workers=1, sessions=2) as server:
         anna = server.client()
         talk(anna, hello("anna"), welcome(0))
@@ -167,7 +167,7 @@ def sent_again():
 
 @case
 def sent_again_unanswered():
-    """So where the reset comes at any moment after the change was sent: done by now or not, it is never done twice."""
+    """The same if the reset comes at any moment after the change was sent: the change is never done twice."""
     count = 24
     with serving(sessions=2 * count + 1) as server:
         for number in range(2, count + 2):
@@ -191,7 +191,7 @@ def sent_again_unanswered():
 
 @case
 def a_full_room():
-    """A room that took as many entries as it may refuses each change, and is asked as ever."""
+    """A room whose journal is full refuses each change, and still answers queries."""
     with serving(limit=1) as server:
         anna = server.client()
         talk(anna, hello("anna"), welcome(0))
@@ -208,7 +208,7 @@ def a_full_room():
 
 @case
 def a_room_that_takes_nothing():
-    """Where a room may take no entry it refuses the first change."""
+    """If a room may have no entries, it refuses the first change."""
     with serving(limit=0) as server:
         anna = server.client()
         talk(anna, hello("anna"), welcome(0))
@@ -220,8 +220,8 @@ def a_room_that_takes_nothing():
 
 
 class Told:
-    """A connection of a client of which a file tells: what it was told, and what it should have been told. When news
-    come to a client that says nothing is left open, so replies are compared in their order, and news in theirs."""
+    """A client's connection in a session of a file: the texts that it got, and those that it should get. The time at
+    which news come to a silent client is open. So replies are compared in their order, and news in theirs."""
 
     def __init__(self, server):
         self.client = server.client()
@@ -229,7 +229,7 @@ class Told:
         self.found, self.wanted = ([], []), ([], [])
 
     def hear(self, told, place):
-        """Is told these texts, by a line at this place."""
+        """Expects these texts, by a line at this place."""
         for text in told:
             self.wanted[is_news(text)].append(text)
         while any(len(found) < len(wanted) for found, wanted in zip(self.found, self.wanted)):
@@ -254,7 +254,7 @@ class Told:
             self.hear(told, place)
 
     def end(self):
-        """Closes, if that was not done. Before the answer may come news of which the file does not tell any more."""
+        """Closes, if it has not closed yet. News that the file does not have may come before the answer."""
         if self.is_open:
             self.client.close()
             while not self.client.is_close_next():
@@ -269,7 +269,7 @@ def is_news(text):
 
 
 def sessions_of_page():
-    """The sessions that the page tells, in all its blocks of texts together. All else there is a remark."""
+    """The sessions of the page, from all its blocks of texts together. All other text there is a remark."""
     lines, is_told = [], False
     with open(PAGE, encoding="utf-8") as page:
         for line in page:
@@ -279,7 +279,7 @@ def sessions_of_page():
 
 
 def told_sessions(read):
-    """The sessions that a text tells, over sockets. The first event of a client connects it, whatever it is."""
+    """The sessions of a text, over sockets. The first event of a client connects it."""
     text = read()
     events = [line.split(" ", 1) for line in text.lines]
     first = {name: event for name, event in reversed(events)}
@@ -301,7 +301,8 @@ def told_sessions(read):
 
 @case
 def end_of_the_program():
-    """After its last session the program tells how far each room came, in the order of the words, and ends."""
+    """After its last session the program prints the number of entries of each room, in the order of the arguments, and
+    ends."""
     with serving("rome", "paris", "a_b_9", workers=1, sessions=4) as server:
         anna = server.client()
         talk(anna, hello("anna", "paris"), welcome(0))
@@ -324,7 +325,7 @@ def end_of_the_program():
 
 @case
 def a_full_disk():
-    """Where the disk takes nothing of what is printed, clients are served all the same."""
+    """If the disk is full, so that the program cannot print, it still serves its clients."""
     port, patience = free_port(), PATIENCE * given.slow
     words = [given.program, "serve", "--addr", f"127.0.0.1:{port}", "--workers", "1", "--sessions", "1", "paris"]
     with open("/dev/full", "wb") as full:
@@ -364,12 +365,12 @@ def as_many_as_there_may_be():
 
 
 def run(*words):
-    """What the program comes to over words, where it does not serve."""
+    """The result of a program with arguments with which it does not serve."""
     return run_soon(given.program, *words).texts()
 
 
 def serve(*rooms, addr="127.0.0.1:0"):
-    """What the program comes to where it is to serve these rooms at an address."""
+    """The result of a program that has to serve these rooms at an address."""
     return run("serve", "--addr", addr, "--workers", "1", "--sessions", "1", *rooms)
 
 
@@ -381,7 +382,7 @@ CANNOT_LISTEN = (1, "", "maproom: cannot listen\n")
 
 @case
 def bad_rooms():
-    """The number of rooms is looked at first, then their names one after another, and then the address."""
+    """The program checks the number of rooms, then their names in order, and then the address."""
     want(serve("Paris"), BAD_NAME)
     want(serve("paris", "paris"), TWICE)
     want(serve(*(f"room{number}" for number in range(65))), TOO_MANY)
@@ -405,7 +406,7 @@ def bad_addresses():
 
 @case
 def a_taken_port():
-    """Where another listens nothing else does; but the names of rooms are looked at before that."""
+    """If another program listens at the address, the program ends. It checks the names of rooms before that."""
     with socket.socket() as other:
         other.bind(("127.0.0.1", 0))
         other.listen()
@@ -416,7 +417,7 @@ def a_taken_port():
 
 @case
 def refused_words():
-    """Numbers out of their range, and words that are none, twice there or missing: what reads the words says so."""
+    """The program refuses numbers out of range, and options that are unknown, repeated or missing."""
     words = ["serve", "--addr", "127.0.0.1:0", "--workers", "1", "--sessions", "1", "paris"]
     lines = [["serve"], words[:-1], [words[0], *words[3:]], [*words[:3], *words[5:]], [*words[:5], *words[7:]]]
     lines += [[*words, "--limit"], [*words, "--port", "1"], [*words, "--workers", "2"]]

@@ -1,27 +1,27 @@
-"""Tests the server if an allocation fails: each of a run, from the first to the last."""
+"""Tests the server if an allocation fails: each allocation of a run, from the first to the last."""
 import collections
 import itertools
 
 from lib.cases import each_case, want
-from lib.faulty import Faulty, logged
 from lib.failed_allocations import refusing
+from lib.faulty import Faulty, logged
 from lib.talk import GONE, create, hello, news, node, ok, refused, welcome
 from lib.websocket import CLOSE, TEXT, Broken, Gone, close_payload
 
-# What the program tells where it ends for want of memory; the system needs some for a thread, too.
+# What the program prints if it ends because an allocation failed. The system also allocates for a thread.
 NO_MEMORY, NO_WORKER = "maproom: no memory\n", "maproom: cannot start a worker\n"
 
 MEMORY = '"why":"memory"'
 
-# What comes of a growth that is refused, beside a session's end by `memory` or `fault`.
+# The outcomes of a refused allocation, besides a session's end by `memory` or `fault`.
 BEGINNING, ANSWERED, DONE, END = "before all sessions", "answered", "done without", "after all sessions"
 
-# What each session says, the same again and again: under its ids nothing is done twice. The rows by the number of entries, before
-# those of the map that the room began with.
+# The messages of each session, with the same ids each time, so nothing is done twice. The rows by the number of
+# entries, in front of those of the map that the room began with.
 MESSAGES = {1: hello("anna"), 2: create(2), 3: '{"id":3,"do":"map"}', 4: '{"id":4,"do":"undo"}'}
 ROWS = {0: (), 1: (node(),), 2: ()}
 
-# A run: how many sessions, which rooms, the first of which they are with, and the rows of the map that these begin with, if any.
+# A run: the number of sessions, the rooms, the first of which is used, and the rows of their map, if any.
 Run = collections.namedtuple("Run", "sessions rooms rows", defaults=(("paris",), None))
 
 # A map with an element of each kind.
@@ -33,7 +33,7 @@ BASE_ROWS = (
 
 
 def answer(run, number, seq):
-    """What a room with so many entries answers to a message, and how many it has then."""
+    """The texts with which a room that has `seq` entries answers a message, and its number of entries afterwards."""
     if number in (1, 3):
         return [welcome(seq, *ROWS[seq], *(run.rows or ()), number=number)], seq
     if number == 2 and seq == 0:
@@ -44,7 +44,7 @@ def answer(run, number, seq):
 
 
 class Closed(Exception):
-    """The server has closed the session for want of memory."""
+    """The server has closed the session because an allocation failed."""
 
 
 def next_text(client):
@@ -58,8 +58,8 @@ def next_text(client):
 
 
 class Told:
-    """What a room told by now in the sessions of a run: how many entries it has, each number that is possible; how often it told want of
-    memory; and which message was told to be a repeat that had no answer before but a close."""
+    """What a room sent so far in the sessions of a run: the numbers of entries that it may have, how often it answered
+    `memory`, and the message that it answered `repeat` although only a close had answered it before."""
 
     def __init__(self, run):
         self.run, self.seqs = run, {0}
@@ -67,7 +67,8 @@ class Told:
         self.repeated = None
 
     def ask(self, client, number):
-        """Sends a message, once more where want of memory is told, and is answered as a room answers that has such a number of entries."""
+        """Sends a message, and once more if the answer is `memory`. Expects the texts of a room with a possible number
+        of entries."""
         before, text = self.seqs, self.first_text(client, number)
         if text in (refused(number, MEMORY), refused(0, MEMORY)):
             self.memory, self.seqs = self.memory + 1, before
@@ -84,8 +85,8 @@ class Told:
             want(next_text(client), other)
 
     def first_text(self, client, number):
-        """Sends a message, and gives the first text that comes for it. Where the session ends before that the message may have been heard.
-        Where it is closed it was: there was memory for all but the text of its answer."""
+        """Sends a message, and returns the first text that comes. If the session ends before, the server may have done
+        the message. If the server closes the session, it has done it: only the allocation for the text failed."""
         self.asked, afterwards = number, {answer(self.run, number, seq)[1] for seq in self.seqs}
         self.seqs = self.seqs | afterwards
         client.say(MESSAGES[number])
@@ -96,7 +97,7 @@ class Told:
             raise
 
     def play(self, server):
-        """Plays a session to its end, and gives how it ended."""
+        """Plays a session to its end. Returns how it ended."""
         try:
             client = server.client()
         except (Gone, ConnectionError):
@@ -117,7 +118,7 @@ class Told:
 
 
 def outcome(server, told, seen):
-    """Sees that the program ended as it may where a growth was refused in it, and gives what came of that."""
+    """Checks that the program ended as it may if an allocation was refused. Returns what came of it."""
     found = server.end()
     served = {number: logged(end) for number, end in enumerate(seen, 1)}
     first, *others = told.run.rooms
@@ -135,7 +136,7 @@ def outcome(server, told, seen):
 
 
 def refuse(growth, told):
-    """Refuses a growth in a run. Gives what came of it, or nothing where there was no such growth."""
+    """Refuses an allocation in a run. Returns what came of it, or None if the run has no such allocation."""
     sessions, rooms, rows = told.run
     base = None if rows is None else welcome(7, *rows) + "\n"
     with Faulty(refusing(growth), rooms, sessions=sessions, base=base) as server:
@@ -146,8 +147,8 @@ def refuse(growth, told):
 
 
 def each_growth(run):
-    """Each growth of a run is refused in turn, until a run has none that is refused. Each of what may come of it has come of some; and
-    where a second client came, each change was told to be a repeat in some of them."""
+    """Refuses each allocation of a run, each in a run of its own. Each possible outcome comes at least once. With a
+    second client, each change is answered `repeat` in at least one run."""
     outcomes, repeated = collections.Counter(), set()
     for growth in itertools.count(1):
         told = Told(run)
@@ -156,7 +157,7 @@ def each_growth(run):
             break
         outcomes[what] += 1
         repeated.add(told.repeated)
-    print(f"{growth - 1} growths were refused: {', '.join(f'{count} {what}' for what, count in outcomes.items())}")
+    print(f"{growth - 1} allocations were refused: {', '.join(f'{count} {what}' for what, count in outcomes.items())}")
     want(set(outcomes) - {DONE}, {BEGINNING, ANSWERED, "memory", "fault", END})
     want(repeated, {None} if run.sessions == 1 else {None, 2, 4})
 

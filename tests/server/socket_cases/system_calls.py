@@ -10,7 +10,7 @@ from lib.faulty import WHOLE, failing, finish
 from lib.talk import GONE, create, hello, leave, news, node, ok, refused, serve_next, serving, talk, welcome
 from lib.websocket import BINARY, CLOSE, PING, PONG, TEXT, Gone, close_payload, frame, head_of_request, make_key, text_frame
 
-# What a client sends, what comes for it, and how many entries the room has once it was heard.
+# What a client sends, what it gets, and how many entries the room has afterwards.
 Step = collections.namedtuple("Step", "sent wanted seq")
 
 KEY = make_key()
@@ -26,7 +26,7 @@ def closing(code, is_masked):
     return frame(CLOSE, close_payload(code), is_masked=is_masked)
 
 
-# What is said in a session, behind the handshake and before its end. Its rows by the number of entries.
+# The steps of a session, after the handshake and before its end. Its rows by the number of entries.
 STORY = [
     Step(text_frame(hello("anna")), said(welcome(0)), 0),
     Step(frame(PING, b"ping"), frame(PONG, b"ping", is_masked=False), 0),
@@ -35,7 +35,7 @@ STORY = [
 ]
 ROWS = {0: (), 1: (node(),), 2: ()}
 
-# The ways in which a session ends: what is sent last, and where the server closes what answers it.
+# The ways in which a session ends: what the client sends last and, if the server closes, the client's answer.
 ENDINGS = {
     "left": [Step(closing(1000, True), closing(1000, False), 2)],
     "binary": [Step(frame(BINARY, b"\x00"), closing(1003, False), 2), Step(closing(1003, True), b"", 2)],
@@ -44,7 +44,7 @@ ENDINGS = {
 
 @functools.lru_cache(maxsize=None)
 def handshake():
-    """The first step: the head of a request, and the answer, which is asked of a server in which nothing fails."""
+    """The first step: the head of a request, and the answer of a server without faults."""
     with serving(workers=1, sessions=1) as server:
         client = server.connect()
         client.send_bytes(head_of_request(KEY))
@@ -54,7 +54,7 @@ def handshake():
 
 
 def play(client, story):
-    """Plays a story as far as it goes. Gives how many steps were answered, and what else came before the end."""
+    """Plays a story as far as possible. Returns how many steps were answered, and what else came before the end."""
     for place, step in enumerate(story):
         try:
             client.send_bytes(step.sent)
@@ -65,27 +65,29 @@ def play(client, story):
     return len(story), client.rest()
 
 
-# Calls of a session that fail, each in turn: a kind, an error, how much moves at a time, and how the session else ends.
+# A kind of calls that fail: the call, the error, how many bytes move at once, and the usual end of the session.
 Fault = collections.namedtuple("Fault", "call why piece ending")
 
 
 def is_passed_over(fault, place):
-    """Whether a call that fails so, when so many steps were answered, is only made again: a read in which nothing comes, and one that a
-    signal interrupts, as a write behind the handshake."""
+    """Whether the program repeats a call that fails so after this number of answered steps. These are reads in which
+    nothing comes, and reads and writes that a signal interrupts, but no write of the handshake."""
     if fault.call == "read":
         return fault.why in (errno.EINTR, errno.EAGAIN)
     return fault.why == errno.EINTR and place > 0
 
 
 def end_of(fault, place):
-    """How a session ends in which so many steps were answered before the fault: as ever where the close was going out."""
+    """How a session ends if the fault comes after this number of answered steps: as usual if the close is on its
+    way."""
     close = 1 + len(STORY)
     is_closing = place > close or (place == close and fault.call == "write")
     return fault.ending if is_closing or is_passed_over(fault, place) else "fault"
 
 
 def serve_after(server, seq):
-    """The client after it finds what was accepted, and is told so where it sends a change again. Gives the entries then."""
+    """The next client finds the accepted changes, and gets `repeat` if it sends a change again. Returns the number of
+    entries then."""
     client = server.client()
     talk(client, hello("anna"), welcome(seq, *ROWS[seq]))
     if seq:
@@ -97,8 +99,9 @@ def serve_after(server, seq):
 
 
 def fail_in_session(fault, number):
-    """Fails a call. Where it is one of the first client's connection, this ends, and the second client is served at the same worker.
-    Else it is the first one of the second connection, in which nothing comes. Gives whether it was one of the first."""
+    """Fails a call. If it belongs to the first client's connection, this session ends, and the same worker serves the
+    second client. Otherwise it is the first call of the second connection, in which nothing comes. Returns whether it
+    belongs to the first."""
     story = [handshake(), *STORY, *ENDINGS[fault.ending]]
     with failing(fault.call, number, fault.why, fault.piece, sessions=2) as server:
         place, rest = play(server.connect(), story)
@@ -117,7 +120,7 @@ def fail_in_session(fault, number):
 
 
 def each_call(fault):
-    """Each call of a session fails in turn."""
+    """Fails each call of a session, each in a run of its own."""
     for number in itertools.count(1):
         if not fail_in_session(fault, number):
             want(number > len(STORY), True)
@@ -125,7 +128,7 @@ def each_call(fault):
 
 
 ERRORS = {"read": (errno.ECONNRESET, errno.EINTR, errno.EAGAIN), "write": (errno.EPIPE, errno.EAGAIN, errno.EINTR)}
-# A few bytes, so that most of what goes either way is cut.
+# So few bytes that most reads and writes are cut.
 PIECE = 15
 FAULTS = [
     Fault(call, why, piece, ending)
@@ -145,7 +148,7 @@ each_case(each_call, {name_of(fault): fault for fault in FAULTS})
 
 @case
 def news_that_cannot_be_sent():
-    """The session of a silent client ends where its news cannot be sent. That of the other one goes on."""
+    """If the server cannot send news to a silent client, this session ends. The other session goes on."""
     with failing("write", 3, errno.EPIPE, session=1, workers=2, sessions=3) as server:
         anna, bob = server.client(), server.client()
         for client, name in ((anna, "anna"), (bob, "bob")):
@@ -191,7 +194,7 @@ def an_accept_that_is_interrupted():
 
 @case
 def all_accepts_that_fail():
-    """Where no accept succeeds the program ends with the last one."""
+    """If no accept succeeds, the program ends with the last one."""
     with failing("accept", 1, sessions=1) as server:
         finish(server, 0, None)
 
@@ -213,7 +216,7 @@ each_case(time_limit, {f"a connection without its {option}": option for option i
 
 @case
 def no_delay_that_fails():
-    """That a write goes out at once is asked for, and not needed."""
+    """TCP_NODELAY is best effort: the server serves the client without it."""
     with failing("no_delay", 1, sessions=1) as server:
         front = serve_after(server, 0)
         want(server.has_failed(), True)
@@ -222,7 +225,8 @@ def no_delay_that_fails():
 
 @case
 def workers_that_do_not_start():
-    """Where the thread of one is not started nobody is served, those that were started stop, and the program ends."""
+    """If the thread of a worker does not start, the server serves nobody. The other workers stop, and the program
+    ends."""
     for number in (1, 2, 3):
         with failing("thread", number, errno.EAGAIN, workers=3) as server:
             want(server.end(), (1, "listening\n", {}, ["maproom: cannot start a worker\n"]))
@@ -232,7 +236,7 @@ def workers_that_do_not_start():
 
 @case
 def addresses_that_are_refused():
-    """A program that cannot listen says so, before it prints anything."""
+    """A program that cannot listen reports it, before it prints anything."""
     for call, why in (("bind", errno.EACCES), ("bind", errno.EADDRINUSE), ("listen", errno.EADDRINUSE), ("reuse", errno.ENOMEM)):
         with failing(call, 1, why) as server:
             want(server.end(), (1, "", {}, ["maproom: cannot listen\n"]))

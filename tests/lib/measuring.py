@@ -1,0 +1,133 @@
+"""Measures runs of the built program over messages (workloads.py): their time, their memory and their allocations."""
+import argparse
+import os
+import re
+import subprocess
+import sys
+import threading
+import time
+
+from .cases import given
+from .preloaded import library
+from .programs import run
+
+
+def number_from(least):
+    """A reader of an option that is a whole number, at least this one."""
+    def read(word):
+        if not word.isdecimal() or int(word) < least:
+            raise argparse.ArgumentTypeError(f"no whole number from {least} on: {word}")
+        return int(word)
+    return read
+
+
+def messages_in(path):
+    """The messages of a file of lines, each with its author, without their ids."""
+    with open(path, encoding="utf-8") as file:
+        return [re.fullmatch(r'(\S+) \{"id":\d+,(.*)\}\n?', line).groups() for line in file]
+
+
+def write_script(path, messages, base):
+    """Writes a base, if any, and messages as lines, numbered from 1. A message is a pair of an author and a text, or a
+    text of anna's."""
+    with open(path, "w", encoding="utf-8") as file:
+        file.write(base)
+        for number, message in enumerate(messages, 1):
+            author, message = ("anna", message) if isinstance(message, str) else message
+            file.write(f'{author} {{"id":{number},{message}}}\n')
+
+
+def refused(replies):
+    """The first reply in a file that is a refusal, or None."""
+    with open(replies, encoding="utf-8") as lines:
+        return next((line for line in lines if re.match(r'\{"id":\d+,"no":', line)), None)
+
+
+def map_line(program, scratch, messages):
+    """The line with which a room sends the map that messages make. It can be the base of another room."""
+    write_script(f"{scratch}/script", (*messages, '"do":"map"'), "")
+    measure(program, f"{scratch}/script", f"{scratch}/replies")
+    with open(f"{scratch}/replies", encoding="utf-8") as replies:
+        return next(line for line in replies if '"ok":{"map":' in line)
+
+
+def watch(process, peaks):
+    """Samples the peak memory of a process, in MiB, until it ends."""
+    while True:
+        try:
+            with open(f"/proc/{process}/status", encoding="utf-8") as lines:
+                found = [line for line in lines if line.startswith("VmHWM")]
+        except OSError:
+            return
+        if not found:
+            return
+        peaks.append(int(found[0].split()[1]) / 1024)
+        time.sleep(0.002)
+
+
+def measure(program, script, replies, *words):
+    """The time of a run in seconds and its peak memory in MiB. The run has to end with status 0."""
+    peaks = [0.0]
+    with open(script, "rb") as lines, open(replies, "wb") as written:
+        began = time.perf_counter()
+        with subprocess.Popen([program, "replay", *words], stdin=lines, stdout=written) as ran:
+            watching = threading.Thread(target=watch, args=(ran.pid, peaks))
+            watching.start()
+            status = ran.wait()
+        taken = time.perf_counter() - began
+        watching.join()
+    if status:
+        sys.exit(f"{program} ended with status {status}")
+    return taken, max(peaks)
+
+
+def memory_of(process):
+    """The memory of a process and its peak, in MiB."""
+    with open(f"/proc/{process}/status", encoding="utf-8") as lines:
+        found = dict(line.split(":", 1) for line in lines)
+    return tuple(int(found[word].split()[0]) / 1024 for word in ("VmRSS", "VmHWM"))
+
+
+def held(script, *words):
+    """The bytes that the program holds at the end of a script, and the number of its allocations until then."""
+    with open(script, "rb") as lines:
+        ran = run(given.program, "replay", *words, stdin=lines, env={"LD_PRELOAD": library("held")})
+    found = re.fullmatch(rb"(\d+) bytes held, memory asked for (\d+) times\n", ran.errors)
+    if ran.status or not found:
+        sys.exit(f"{given.program} ended with status {ran.status} and printed {ran.errors[:200]!r}")
+    return int(found[1]), int(found[2])
+
+
+def each_held(scratch, before, measured):
+    """The bytes that each of some messages adds to those held before, and its number of allocations."""
+    counts = []
+    for messages in (before, before + measured):
+        write_script(f"{scratch}/script", messages, "")
+        counts.append(held(f"{scratch}/script", "--limit", "1000000"))
+    return tuple((after - first) / len(measured) for first, after in zip(*counts))
+
+
+def most_given(scratch, messages, base, *words):
+    """The peak memory in bytes that the system gave the program until the last reply, and the length of that reply."""
+    write_script(f"{scratch}/script", messages, base)
+    with open(f"{scratch}/script", "rb") as script:
+        lines = script.read()
+    with open(f"{scratch}/replies", "w+b") as replies:
+        with subprocess.Popen([given.program, "replay", *words], stdin=subprocess.PIPE, stdout=replies) as program:
+            program.stdin.write(lines)
+            program.stdin.flush()
+            while len(found := written(replies)) < len(messages) and program.poll() is None:
+                time.sleep(0.01)
+            with open(f"/proc/{program.pid}/status", encoding="utf-8") as status:
+                most = next(int(line.split()[1]) * 1024 for line in status if line.startswith("VmHWM"))
+            program.stdin.close()
+            ended = program.wait()
+    if ended or len(found) < len(messages):
+        sys.exit(f"{given.program} ended with status {ended} after {len(found)} replies")
+    return most, len(found[-1])
+
+
+def written(replies):
+    """The complete replies in a file, each with its line feed."""
+    text = os.pread(replies.fileno(), os.fstat(replies.fileno()).st_size, 0)
+    return [line for line in text.splitlines(True) if line.endswith(b"\n")]
