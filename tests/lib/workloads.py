@@ -233,6 +233,18 @@ def edits_of_big_ways(size):
     return made
 
 
+def moves_of_big_ways(size):
+    """Moves, reverses, splits and joins of big ways, with undos of some."""
+    made = []
+    for turn in range(EDITS // EDITS_OF_A_BIG_EDIT // 8):
+        way, other = 2 * size + turn % BIG_WAYS, 2 * size + BIG_WAYS + turn
+        half = NODES_OF_A_BIG_WAY // 4 + turn * 7 % (NODES_OF_A_BIG_WAY // 2)
+        made += [f'"do":"move","els":["w{way}"],"dlat":1,"dlon":1', '"do":"undo"', '"do":"redo"']
+        made += [f'"do":"split","el":"w{way}","at":{half},"into":"w{other}"', f'"do":"move","els":["w{other}"],"dlat":1,"dlon":0']
+        made += [f'"do":"join","el":"w{way}","with":"w{other}"', f'"do":"reverse","el":"w{way}"', f'"do":"get","el":"w{way}"']
+    return made
+
+
 def old_author(number):
     """The author of the old work of this number."""
     return f"old_{number % AUTHORS}"
