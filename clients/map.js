@@ -137,6 +137,7 @@ class Page {
     this.later = setTimeout(() => {
       this.panels.showPeople();
       this.panels.showFigures();
+      this.panels.refreshFound();
     }, 100);
   }
 

@@ -538,6 +538,11 @@ class Panels {
     this.page.timings.find = performance.now() - began;
   }
 
+  // Searches again after news, unless somebody uses the list at the moment.
+  refreshFound() {
+    if ($("find").value.trim() && !$("found").contains(document.activeElement)) this.showFound();
+  }
+
   showMoreFound() {
     this.mostFound += 200;
     this.showFound();
