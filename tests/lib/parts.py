@@ -55,7 +55,7 @@ SCRIPTS = [
     *scripts("web", "map_page"),
     *scripts("server", "sockets", "faults", "foreign"),
     *benchmarks("program", "lines --sizes 50,100 --rounds 1", "held --elements 100 --entries 100"),
-    *benchmarks("program", "group_costs --quick", "instructions --lines 2000"),
+    *benchmarks("program", "group_costs --quick", "instructions"),
     *benchmarks("server", "serve --quick", "many_rooms --elements 100 --rooms 1,3"),
     *benchmarks("program", "turns --turns 1000"),
     *scripts("server", "soak --seconds 5 --pace 20"),
