@@ -8,8 +8,8 @@ use std::test::Fail;
 use std::thread::{self, Threads, join};
 use turn_desk::{Desk, Seat, Turned};
 
-// A count of the calls that were made. A call says how often the turn yields while it is held, and is answered the
-// count before it.
+// A count of calls. A call has the number of times that it yields while it holds the turn. Its reply is the count
+// before it.
 #[derive(Drop)]
 struct Tally {
     count: u64,
@@ -63,7 +63,7 @@ fn others_calls_are_seen(rt: HostRuntime) -> Result<(), Fail> {
     Ok(())
 }
 
-// Splits so many seats off a seat, and when all are there each makes a call and is met into it again.
+// Splits `others` seats off a seat. When all are split off, each makes a call and is met into the first seat again.
 fn split_and_met<W: Wait>(
     rt: &W,
     desk: &Desk<Tally, Global>,
@@ -93,8 +93,8 @@ fn a_seat_is_split_into_sixty_five(rt: HostRuntime) -> Result<(), Fail> {
     Ok(())
 }
 
-// Makes so many calls. In the first the turn is held for so many yields, in each further one for one less, and after 1
-// for so many again.
+// Makes `count` calls. The first holds its turn for `yields` yields, and each further call for one yield less; after a
+// call with one yield, the next has `yields` again.
 fn calls<W: Wait>(
     rt: &W,
     desk: &Desk<Tally, Global>,
@@ -112,7 +112,7 @@ fn calls<W: Wait>(
     seat
 }
 
-// Makes the calls of a thread and of so many others, each at a seat of its own.
+// Makes the calls of `others` + 1 threads, each at a seat of its own.
 fn in_threads<R: Threads + Wait + Sync>(
     rt: &R,
     desk: &Desk<Tally, Global>,
@@ -164,7 +164,7 @@ fn eight_threads_take_ten_thousand_short_turns_each(rt: HostRuntime) -> Result<(
     Ok(())
 }
 
-// A turn is held for far longer than a waiting thread yields, so that those who wait sleep.
+// A turn is held for far longer than a waiting thread yields, so the waiting threads sleep.
 #[test]
 fn those_who_sleep_are_woken(rt: HostRuntime) -> Result<(), Fail> {
     let (desk, seat) = Desk::open(rt.alloc(), Tally { count: 0 })?;
@@ -173,7 +173,8 @@ fn those_who_sleep_are_woken(rt: HostRuntime) -> Result<(), Fail> {
     Ok(())
 }
 
-// A turn is held for about as long as a waiting thread yields, so that some go to sleep just as the turn is given on.
+// A turn is held for about as long as a waiting thread yields, so some threads go to sleep just when the turn is passed
+// on.
 #[test]
 fn no_wake_up_is_lost(rt: HostRuntime) -> Result<(), Fail> {
     let (desk, seat) = Desk::open(rt.alloc(), Tally { count: 0 })?;

@@ -4,15 +4,15 @@ use std::alloc::Global;
 use std::test::Fail;
 use turn_desk::{Desk, Turned};
 
-// A list of numbers that has at most so many.
+// A list of at most `limit` numbers.
 #[derive(Drop)]
 struct Numbers {
     limit: usize,
     items: Vec<u64>,
 }
 
-// A number is added to the list, and the reply is how many stood before it, or nothing where it was refused.
-// With no number, the reply is how many there are.
+// A call with a number adds it to the list. The reply is the count of numbers before it, or `None` if the number was
+// refused. A call without a number gets the count of numbers.
 impl Turned for Numbers {
     type Call = Option<u64>;
 

@@ -1,4 +1,4 @@
--- What a plan says of an action.
+-- Facts about the result of a plan.
 use Rattle.std.proofs.Common.{◌≡◌, ℤ, true, ◌&&◌, List, [], ◌∷◌, Result, Ok, Err, IfOk, refl, sym, ap, subst, ◌∙◌, arith, suc}
 use Rattle.osm_elements.specs.declared.name.Name.{Name}
 use Rattle.osm_elements.specs.Made.{is_node, are_nodes}
@@ -26,16 +26,16 @@ module _ {A : Type 0} where
   is_from m a (Ok cs) from p = subst (AreFrom m) (sym p.1) (from m (after m a))
   is_from m a (Err r) from p = tt
 
-  -- and they keep a sound map sound
+  -- the changes of a plan keep a sound map sound
   pub stays_sound : (m : Rows A) (a : Action A) (r : Result (List (Change A)) (Refusal A)) → is_sound m ≡ true → is_made_action a ≡ true → IsPlan m (checks m a) (after m a) r → IfOk r (λ cs. is_sound (changed m cs) ≡ true)
   stays_sound m a (Ok cs) sound made p = ap (λ ds. is_sound (changed m ds)) p.1 ∙ ap is_sound (changes_lead m a sound made p.0) ∙ (accepted_keeps_sound m a sound made p.0).0
   stays_sound m a (Err r) sound made p = tt
 
--- what holds at two distances holds at their equals
+-- a statement about two distances is true of equal distances
 pub at_distances : (P : ℤ → ℤ → Type 0) (d e dlat dlon : ℤ) → d ≡ dlat → e ≡ dlon → P d e → P dlat dlon
 at_distances P d e dlat dlon a b h = subst (λ z. P dlat z) b (subst (λ z. P z e) a h)
 
--- names that are all of nodes, as a test
+-- a list of nodes passes the test `are_nodes`
 pub nodes_test : (names : List Name) → AreNodes names → are_nodes names ≡ true
 nodes_test [] h = refl
 nodes_test (x ∷ xs) h = ap (λ k. is_node k && are_nodes xs) (h 0 x (omega arith)) ∙ nodes_test xs (λ k d l. h (suc k) d (omega (arith, l)))

@@ -1,4 +1,4 @@
--- What an accepted retag changes: the tags of its name alone.
+-- An accepted retag changes only the tags of its name.
 use Rattle.std.proofs.Common.{◌≡◌, ◌≢◌, Bool, true, false, not, cond, None, Some, List, [], ◌∷◌, refl, sym, ap, ◌∙◌}
 use Rattle.osm_elements.specs.declared.name.Name.{Name}
 use Rattle.osm_elements.specs.declared.element.Element.{Element}
@@ -31,7 +31,7 @@ module _ {A : Type 0} where
   rest_stays f (Way nodes tags) = refl
   rest_stays f (Relation members tags) = refl
 
-  -- an element that gets other tags changes in this cell alone
+  -- an element that gets different tags changes only in this cell
   tags_alone : (x : Name) (f : Pairs → Pairs) (v : Element A) → are_same_tags (tags_of v) (f (tags_of v)) ≡ false
       → changed_cells (row_changes x (Some v) (Some (with_tags f v))) ≡ tags_at x ∷ []
   tags_alone x f v other =

@@ -1,5 +1,4 @@
--- The map after an action that was accepted, and what the action changed. (The rules of the actions are this
--- project's.)
+-- The map after an accepted action, and the action's changes. (The rules of the actions are this project's.)
 use Rattle.std.specs.Prelude.{List}
 use Rattle.osm_elements.specs.Maps.{Rows}
 use Rattle.osm_changes.specs.declared.change.Change.{Change}
@@ -34,6 +33,6 @@ module _ {A : Type 0} where
   after m (Merge k g) = after_merge m k g
   after m (Unglue w i v) = after_unglue m w i v
 
-  -- the changes of an action
+  -- the changes of an action: the differences between the map and the map after the action
   abbrev pub changes : Rows A → Action A → List (Change A)
   changes m a = differences m (after m a)

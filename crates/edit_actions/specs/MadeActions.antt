@@ -1,4 +1,4 @@
--- What the types of an action's values keep. (The limits are this project's.)
+-- Values of actions that their types allow. (The limits are this project's.)
 use Rattle.std.specs.Prelude.{Bool, true}
 use Rattle.osm_elements.specs.Made.{are_nodes, is_made}
 use Rattle.osm_elements.specs.Members.{are_members}
@@ -6,7 +6,7 @@ use Rattle.edit_simple.specs.Tagging.{are_given}
 use Rattle.edit_actions.specs.declared.action.Action.{Action}
 use Rattle.edit_actions.specs.declared.action.Action.TheVariants.{Create, Retag, Move, Reverse, Nodes, Members, Delete, Purge, Split, Join, Merge, Unglue}
 
--- an action's own values are as their types keep them
+-- the values of an action are made: their types could hold them
 abbrev pub is_made_action : {A : Type 0} → Action A → Bool
 is_made_action (Create x v) = is_made v
 is_made_action (Retag x given) = are_given given

@@ -1,4 +1,4 @@
--- Why an action is refused on a map: the first of its checks, in order, that holds. (The rules of the actions are this
+-- The refusal of an action on a map: the first of its checks, in order, that holds. (The rules of the actions are this
 -- project's.)
 use Rattle.std.specs.Prelude.{List, Option}
 use Rattle.osm_elements.specs.Maps.{Rows}
@@ -34,6 +34,6 @@ module _ {A : Type 0} where
   checks m (Merge k g) = merge_checks m k g
   checks m (Unglue w i v) = unglue_checks m w i v
 
-  -- the refusal of an action on a map, or none: it is accepted
+  -- the refusal of an action on a map, or `None` if the action is accepted
   abbrev pub refusal : Rows A → Action A → Option (Refusal A)
   refusal m a = first_that_holds (checks m a)

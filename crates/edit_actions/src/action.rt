@@ -1,4 +1,4 @@
-//! What an author can do to the map.
+//! The actions that an author can do.
 ghost use Rattle.std.specs.Prelude.{◌≡◌, IfOk};
 
 use crate::each_action;
@@ -12,7 +12,7 @@ use osm_elements::nodes::Nodes;
 use osm_elements::shared::Shared;
 use std::alloc::{AllocError, Allocator};
 
-// An action with the same fields, each copied.
+// Copies each field of an action into an equal action.
 macro_rules! copied {
     (($action:expr) $($variant:ident $word:literal { $($field:ident: $how:ident from $source:ident $(by $name:ident)?),* } by $plan:ident about $part:ident $way:ident [$($subject:ident),*];)*) => {
         match $action {
@@ -27,54 +27,54 @@ macro_rules! copied {
 #[derive(Drop)]
 #[derive_where(Debug)]
 pub enum Action<A: Allocator> {
-    /// Makes an element under a name that is not there.
+    /// Creates an element under a name that is not in the map.
     Create {
         /// The name of the new element.
         name: Name,
         /// The new element.
         element: Element<A>,
     },
-    /// Gives an element's keys other values, or removes them.
+    /// Sets or removes tags of an element.
     Retag {
         /// The name of the element.
         name: Name,
-        /// The keys, each with its value, or with none to remove it.
+        /// The keys, each with its new value, or with no value to remove the tag.
         tags: Retag<A>,
     },
     /// Moves nodes, and the nodes of ways, by a distance, each once.
     Move {
         /// The names of the nodes and ways.
         names: Names<A>,
-        /// How far to the north, in ten-millionths of a degree.
+        /// The distance to the north, in ten-millionths of a degree.
         dlat: i64,
-        /// How far to the east, in ten-millionths of a degree.
+        /// The distance to the east, in ten-millionths of a degree.
         dlon: i64,
     },
-    /// Turns a way round.
+    /// Reverses the nodes of a way.
     Reverse {
         /// The name of the way.
         name: Name,
     },
-    /// Gives a way other nodes.
+    /// Replaces the nodes of a way.
     Nodes {
         /// The name of the way.
         name: Name,
-        /// Its nodes afterwards.
+        /// The new nodes.
         list: Shared<Nodes<A>, A>,
     },
-    /// Gives a relation other members.
+    /// Replaces the members of a relation.
     Members {
         /// The name of the relation.
         name: Name,
-        /// Its members afterwards.
+        /// The new members.
         list: Shared<Members<A>, A>,
     },
-    /// Takes an element away that nothing refers to.
+    /// Deletes an element that nothing refers to.
     Delete {
         /// The name of the element.
         name: Name,
     },
-    /// Takes an element away with every reference to it.
+    /// Deletes an element and all references to it.
     Purge {
         /// The name of the element.
         name: Name,
@@ -83,31 +83,31 @@ pub enum Action<A: Allocator> {
     Split {
         /// The name of the way.
         name: Name,
-        /// The position among its nodes, counted from 0, at which it is split. A `u32`, as `at` of a message is: a way
-        /// has far fewer nodes, and a position beyond its list is refused with `BadPosition`.
+        /// The position among its nodes, counted from 0, at which to split. It is a `u32`, as `at` of a message is. A
+        /// way has far fewer nodes, and a position after the last is refused with `BadPosition`.
         place: u32,
         /// The name of the new way.
         into: Name,
     },
-    /// Joins a way to another that begins where it ends.
+    /// Joins a way to another way that begins where it ends.
     Join {
         /// The name of the way.
         name: Name,
-        /// The name of the other, which goes.
+        /// The name of the other way, which is removed.
         other: Name,
     },
     /// Merges another node into a node.
     Merge {
         /// The name of the node.
         name: Name,
-        /// The name of the other, which goes.
+        /// The name of the other node, which is removed.
         other: Name,
     },
-    /// Unglues a way from a node: gives it a node of its own in that place.
+    /// Unglues a way from a node: replaces the node with a new node at one position of the way.
     Unglue {
         /// The name of the way.
         name: Name,
-        /// The position among its nodes, counted from 0, at which it is unglued.
+        /// The position among its nodes, counted from 0, at which to unglue.
         place: u32,
         /// The name of the new node.
         into: Name,
@@ -123,7 +123,11 @@ impl<A: Allocator + Clone> Clone for Action<A> {
 }
 
 impl<A: Allocator> Action<A> {
-    /// An action equal to this one. The one refusal is want of memory.
+    /// Returns an equal action.
+    ///
+    /// # Errors
+    ///
+    /// `Memory`, if an allocation fails.
     pub fn copy(&self) -> Result<Action<A>, Memory>
     where
         A: Clone,

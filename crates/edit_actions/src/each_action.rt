@@ -1,12 +1,17 @@
 //! The list of the actions.
 
-/// Writes the same for each action: hands the list of the actions to a macro, behind what the macro is given.
+/// Calls the macro `$write` with `$given`, followed by the list of the actions.
 ///
-/// A line of the list has the action, its word in a message, its fields, its plan, which takes the fields in this
-/// order, and what it is about: the `tags`, the `rest` or `both` parts of the rows of `names` that are fields, or of
-/// `each` name of a field that is a list. Each field says how the plan takes it, `lent`, as a `slice`, or as a
-/// `number`; and from which field of a message it is read, in this order, and by the `kind` of which name that is read,
-/// if it matters.
+/// A line of the list has, in this order:
+/// - the action, and its word in a message
+/// - its fields, in the order in which its plan takes them
+/// - its plan
+/// - its subjects: the `tags`, the `rest` or `both` parts of the rows of `names`, which are fields, or of `each` name
+///   in a field that is a list
+///
+/// A field says how the plan takes it: `lent`, as a `slice`, or as a `number`. After `from` comes the field of a
+/// message from which it is read. If reading depends on the kind of a name, `by` has the field of this name. Fields are
+/// read in this order.
 #[macro_export]
 macro_rules! each_action {
     ($write:ident $given:tt) => {

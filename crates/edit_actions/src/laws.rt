@@ -1,4 +1,4 @@
-//! Laws of the actions, each the contract of a function that does nothing.
+//! Laws of the actions. Each law is the contract of an empty function.
 ghost use Rattle.std.specs.Prelude.{◌≡◌, ◌≢◌, [], ◌∷◌, true, Some, None};
 ghost use Rattle.osm_elements.specs.declared.element.Element.{Element};
 ghost use Rattle.osm_elements.specs.declared.name.Name.{Name};
@@ -17,7 +17,7 @@ ghost use Rattle.edit_actions.specs.Refusals.{refusal};
 
 use std::alloc::Allocator;
 
-/// An accepted action, with values as their types keep them, keeps a sound map sound, and changes it.
+/// If a sound map accepts an action with made values, the map after it is sound too, and is a different map.
 #[tactic(auto, using(crate::specs::Facts::Accepted::accepted_keeps_sound))]
 pub fn accepted_keeps_sound<A: Allocator>()
     ensures { (m : Rows A) (a : Action A) → is_sound m ≡ true → is_made_action a ≡ true → refusal m a ≡ None
@@ -30,8 +30,8 @@ pub fn accepted_changes_lead_there<A: Allocator>()
         → changed m (changes m a) ≡ after m a }
 {}
 
-/// An accepted create changes both cells of its name, from nothing to the halves of the element, a delete of what is
-/// there both from these to nothing, and an accepted retag the tags of its name alone.
+/// An accepted create changes both cells of its name, from nothing to the halves of the element. A delete of an element
+/// changes both cells from these halves to nothing. An accepted retag changes only the tags of its name.
 pub fn one_name_is_changed<A: Allocator>()
     ensures create { (m : Rows A) (x : Name) (v : Element A) → row_at m x ≡ None
         → changes m (Create x v) ≡ half_change x None (Some v) Tags ∷ half_change x None (Some v) Rest ∷ [] }

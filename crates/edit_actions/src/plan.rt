@@ -1,4 +1,4 @@
-//! The plan of an action: what it would change in a store, or why it is refused.
+//! Plans: the changes that an action would make in a store, or its refusal.
 ghost use Rattle.std.specs.Prelude.{◌≡◌, true, IfOk};
 ghost use Rattle.osm_elements.specs.Maps.{Rows};
 ghost use Rattle.osm_changes.specs.Changes.{changed, differences, AreFrom};
@@ -22,7 +22,7 @@ use osm_changes::store::Store;
 use osm_drafts::draft::Draft;
 use std::alloc::Allocator;
 
-// What the action's plan answers.
+// Calls the plan of an action.
 macro_rules! planned {
     (($action:expr, $alloc:expr, $draft:expr) $($variant:ident $word:literal { $($field:ident: $how:ident from $source:ident $(by $name:ident)?),* } by $plan:ident about $part:ident $way:ident [$($subject:ident),*];)*) => {
         match $action {
@@ -31,16 +31,21 @@ macro_rules! planned {
     };
 }
 
-// A field of an action as its plan takes it.
+// Passes a field of an action as its plan takes it.
 macro_rules! handed {
     (lent $field:ident) => { $field };
     (slice $field:ident) => { $field.as_slice() };
     (number $field:ident) => { *$field };
 }
 
-/// Plans an action on a draft: answers the changes that lead to the map after it, or the first of its checks that
-/// holds, or `Memory` in place of any answer. It leaves the draft alone. It costs what the plan of the action does,
-/// which looks up the names that the action names and the users of what it takes away, and never the map.
+/// Plans an action on a draft, which is unchanged. Returns the changes that lead to the map after the action.
+///
+/// The cost is that of the action's plan. It looks up the names in the action and the users of what it removes, and
+/// never the whole map.
+///
+/// # Errors
+///
+/// The first of the action's checks that holds, or `Memory`, if an allocation fails.
 pub fn plan<A: Allocator + Clone>(
     alloc: A,
     draft: &Draft<'_, A>,
@@ -51,7 +56,7 @@ pub fn plan<A: Allocator + Clone>(
     // The changes can be applied to the store.
     ensures from { IfOk result (λ cs. AreFrom draft.now cs) }
     ensures sound { IfOk result (λ cs. is_sound (changed draft.now cs) ≡ true) }
-    // What holds of every action.
+    // True of every action.
     ensures made { is_made_action action.now ≡ true }
 {
     keeps(action);
@@ -59,6 +64,10 @@ pub fn plan<A: Allocator + Clone>(
 }
 
 /// Plans an action on a store, as [`plan`] does on a draft with nothing written.
+///
+/// # Errors
+///
+/// The first of the action's checks that holds, or `Memory`, if an allocation fails.
 pub fn plan_on<A: Allocator + Copy>(
     alloc: A,
     store: &Store<A>,
@@ -68,7 +77,7 @@ pub fn plan_on<A: Allocator + Copy>(
     // The changes can be applied to the store.
     ensures from { IfOk result (λ cs. AreFrom store.now.rows cs) }
     ensures sound { IfOk result (λ cs. is_sound (changed store.now.rows cs) ≡ true) }
-    // What holds of every action.
+    // True of every action.
     ensures made { is_made_action action.now ≡ true }
 {
     let _ = store.map();
@@ -76,7 +85,6 @@ pub fn plan_on<A: Allocator + Copy>(
     plan(alloc, &draft, action)
 }
 
-// The plan, by the action.
 fn plan_of<A: Allocator + Clone>(
     alloc: A,
     draft: &Draft<'_, A>,
@@ -88,8 +96,7 @@ fn plan_of<A: Allocator + Clone>(
     each_action!(planned(action, alloc, draft))
 }
 
-// What holds of every action by the types of its values, and of the differences between maps. It does
-// nothing.
+// Proves that the values of an action are made, and that differences are changes from the first map. It does nothing.
 fn keeps<A: Allocator>(action: &Action<A>)
     ensures made { is_made_action action.now ≡ true }
     ensures from { (m n : Rows A) → AreFrom m (differences m n) }
@@ -98,8 +105,9 @@ fn keeps<A: Allocator>(action: &Action<A>)
     keeps_values(action);
 }
 
-/// What holds of every action, by the types of its values. It does nothing. It is public, since a room that is shared
-/// by turns has to tell it of each call, and written by hand, since most actions have nothing to say.
+/// Proves that the values of an action are made, from the invariants of their types. It does nothing. It is public
+/// because a room that is shared by turns needs this fact for each call. It is written by hand because it needs nothing
+/// for most actions.
 pub fn keeps_values<A: Allocator>(action: &Action<A>)
     ensures { is_made_action action.now ≡ true }
 {

@@ -1,4 +1,4 @@
--- What the lists of numbers say once an entry came to stand or fell.
+-- The lists of numbers after an entry becomes active or ceases to be.
 use Rattle.std.proofs.Common.{◌≡◌, ◌&&◌, ◌||◌, ℕ, Result, Ok, Err, OnErr, Bool, true, false, not, cond, List, [], ◌∷◌, ◌++◌, refl, sym, ap, ◌∙◌, arith}
 use Rattle.std.proofs.lemmas.Cmp.{nat_cmp_total}
 use Rattle.std.specs.Ordering.{is_eq, nat_cmp}
@@ -18,7 +18,7 @@ use Rattle.edit_footprint.specs.Holding.{Held, IsNext, HoldsOnly, fallen, holdin
 same_numbers : (xs ys : List ℕ) → rising.IsRising nat_cmp xs → rising.IsRising nat_cmp ys → ((n : ℕ) → is_among nat_cmp xs n ≡ is_among nat_cmp ys n) → xs ≡ ys
 same_numbers = same_rising nat_cmp nat_cmp_total nat_cmp-IsAntisymmetric
 
--- lists that say the same are the same holders
+-- lists with the same content are the same holders
 pub same_held : (before after : Held) → AreLists cell_cmp nat_cmp before → AreLists cell_cmp nat_cmp after → SameLists cell_cmp nat_cmp before after → after ≡ before
 same_held before after h k same = same_lists cell_cmp cell_cmp_total cell_cmp-IsAntisymmetric nat_cmp_total nat_cmp-IsAntisymmetric before after h k same
 
@@ -43,7 +43,7 @@ module _ (before after : Held) (cells : List Cell) (seq : ℕ) where
             (λ n. g n ∙ sym (is_among-last seq (holding before c) n))
         by false g = same_numbers (holding after c) (holding before c) (k.rising c) (h.rising c) g
 
-    -- an entry stands
+    -- an entry becomes active
     pub stands : IsRising cells → IsNext before seq → Gains cell_cmp nat_cmp before after cells seq → after ≡ standing before cells seq
     stands rises next gains =
         same_holders after (standing before cells seq) (IsTable-lists cell_cmp cell_cmp_total after k) (AreHeld-standing before cells seq (IsTable-lists cell_cmp cell_cmp_total before h))
@@ -63,7 +63,7 @@ module _ (before after : Held) (cells : List Cell) (seq : ℕ) where
         by n false e true f = held_here n (same_number n seq f) e (holds before c n) refl
         by n false e false f = refl
 
-    -- an entry fell
+    -- an entry ceases to be active
     pub falls : HoldsOnly before cells seq → Loses cell_cmp nat_cmp before after cells seq → after ≡ fallen before seq
     falls only loses =
         same_holders after (fallen before seq) (IsTable-lists cell_cmp cell_cmp_total after k) (AreHeld-fallen before seq h.in_order)

@@ -1,4 +1,4 @@
--- A walk over the names of a footprint finds the first entry behind another that holds one of them.
+-- A walk over the cells of a footprint finds the first entry after a number that holds one of them.
 use Prim.Native.Nat.{zero, suc}
 use Rattle.std.proofs.Common.{◌≡◌, ◌+◌, ◌||◌, ◌<◌, ◌≤◌, ℕ, Bool, true, false, T, cond, List, [], ◌∷◌, ◌++◌, Option, Some, None, Bor, length, get_or, take, nat_lt, leb, slice_get, refl, sym, ap, subst, ◌∙◌, arith}
 use Rattle.std.proofs.lemmas.Bool.Decides.{nat_tests}
@@ -33,7 +33,7 @@ never_falling (x ∷ xs) r zero (suc j) d up within =
 never_falling (x ∷ xs) r (suc i) zero d up within = absurd (omega arith)
 never_falling (x ∷ xs) r (suc i) (suc j) d up within = never_falling xs (second _ _ r) i j d (omega arith) (omega arith)
 
--- the first number above another is where those at most it end
+-- the first number above another is at the end of those that are not above it
 pub first_at_point : (s : ℕ) (xs : List ℕ) (i : ℕ) → IsPartitionPoint (λ y. leb y s ≡ true) (λ y. leb y s ≡ false) xs i → find (nat_lt s) xs ≡ slice_get xs i
 first_at_point s [] i point = refl
 first_at_point s (x ∷ xs) zero point =
@@ -44,16 +44,16 @@ first_at_point s (x ∷ xs) (suc i) point =
     ap (λ b. cond b (Some x) (find (nat_lt s) xs)) low
     ∙ first_at_point s xs i (λ k d l h. point.0 (suc k) d (omega arith) (omega arith), λ k d l h. point.1 (suc k) d (omega arith) (omega arith))
 
--- what is lent of a place, copied
+-- the item lent at a position, copied
 pub lent_at : {X : Type 0} (xs : List X) (i : ℕ) (r : Option (Bor X)) → IsItemAt xs i r → option_copied r ≡ slice_get xs i
 lent_at xs i None item = sym (slice_get_past xs i item.3)
 lent_at xs i (Some x) item = ap Some (item.3.1 x.now) ∙ sym (slice_get-get_or xs i x.now item.3.0)
 
--- a cell has a lesser name than none of some
+-- no cell of the list has a greater name than c
 abbrev pub IsPast : List Cell → Cell → Type 0
 IsPast cs c = (d : Cell) → has cs d ≡ true → is_lt (name_cmp c.name d.name) ≡ false
 
--- each of rising cells is past those before it
+-- each of rising cells is past the cells in front of it
 pub past_before : (cells : List Cell) (i : ℕ) (c : Cell) → IsRising cells → i < length cells → c ≡ get_or cells i c → IsPast (take i cells) c
 past_before [] i c r within is d there = absurd (omega arith)
 past_before (z ∷ zs) zero c r within is d there = absurd (cc)
@@ -70,7 +70,7 @@ pub next : (cells : List Cell) (i : ℕ) (c : Cell) → i < length cells → c �
 next cells i c within is = take_more cells i c within ∙ ap (λ z. take i cells ++ z ∷ []) (sym is)
 
 module _ (held : Held) (cs : List Cell) (c : Cell) (seq : ℕ) (past : IsPast cs c) (rises : rising.IsRising nat_cmp (holding held c)) where
-  -- an entry that holds one of the cells holds one of those before the last, or the last
+  -- an entry that holds one of the cells holds one in front of the last, or the last
   split : {P : Type 0} (n : ℕ) (d : Cell) → (Meets held cs seq n d → P) → (d ≡ c → holds held c n ≡ true → P) → Meets held (cs ++ c ∷ []) seq n d → P
   split {P} n d before last meets = by (has cs d) refl (is_same_cell d c) refl (sym (has-append d cs (c ∷ [])) ∙ meets.1)
     where
@@ -92,7 +92,7 @@ module _ (held : Held) (cs : List Cell) (c : Cell) (seq : ℕ) (past : IsPast cs
   not_less_same : (d : Cell) → d ≡ c → is_lt (name_cmp d.name c.name) ≡ false
   not_less_same d same = ap (λ (q : Cell). is_lt (name_cmp q.name c.name)) same ∙ not_less_itself c.name
 
-  -- the next of the cells has no number behind the other, or a first
+  -- one step: the next cell has no number after seq, or a first one
   pub step : (found : Option (ℕ × Name)) → IsFirstAfter held cs seq found → IsFirstAfter held (cs ++ c ∷ []) seq (sooner found (find (nat_lt seq) (holding held c)) c.name)
   step found first = by (find (nat_lt seq) (holding held c)) refl found first
     where
@@ -115,7 +115,7 @@ module _ (held : Held) (cs : List Cell) (c : Cell) (seq : ℕ) (past : IsPast cs
             none_less = λ d meets. split m d (less d) (λ same there. not_less_same d same) meets;
           }
 
-      -- the first of those before stays it
+      -- the first of the earlier cells stays the first
       kept : (f : ℕ × Name) → IsFirst held cs seq f.0 f.1 → ((n : ℕ) (d : Cell) → Meets held (cs ++ c ∷ []) seq n d → holds held c n ≡ true → f.0 ≤ n) → IsFirst held (cs ++ c ∷ []) seq f.0 f.1
       kept f first later = record {
         cell = first.cell;

@@ -19,7 +19,7 @@ use Rattle.rising_lists.specs.Rising.{bare_rows}
 use Rattle.rising_lists.specs.Facts.Sorted.{both}
 use Rattle.edit_footprint.specs.Facts.CellSets.{has-more}
 
--- a cell is among a list exactly where the list contains it
+-- a list has a cell exactly if it contains it
 has_contains : (cs : List Cell) (q : Cell) → has cs q ≡ true → Contains cs q
 has_contains [] q e = absurd (cc)
 has_contains (c ∷ cs) q e = by (is_same_cell q c) refl e (has_contains cs q)
@@ -48,7 +48,7 @@ unfolding IsStrictlySortedBy
 IsRising-from_strict [] h = tt
 IsRising-from_strict (c ∷ cs) h = both _ _ (below_from_strict c cs h.0) (IsRising-from_strict cs h.1)
 
--- what sorting and dropping repeats leaves
+-- the result of sorting and dropping repeats
 pub sorted_is_cell_set : (cells xs ys : List Cell) → IsPermutation cells xs → IsSorted cell_cmp xs
     → IsFiltered (DiffersFromLast is_same_cell) [] xs ys → ys ≡ cell_set cells
 sorted_is_cell_set cells xs ys moved sorted filtered =

@@ -1,4 +1,4 @@
--- What changes touch is the same by the sets of their halves' references.
+-- The cells that changes touch follow from the sets of their halves' references.
 use Rattle.std.proofs.Common.{◌≡◌, ◌&&◌, ◌||◌, Bool, false, not, List, [], ◌∷◌, ◌++◌, map, refl, sym, ap, ◌∙◌}
 use Rattle.std.specs.List.{flat_map}
 use Rattle.osm_elements.specs.declared.name.Name.{Name}
@@ -16,7 +16,7 @@ use Rattle.edit_footprint.specs.Footprints.{half_references, begun_or_ceased}
 use Rattle.edit_footprint.specs.Facts.CellSets.{has-rests}
 use Rattle.edit_footprint.specs.Inner.Touching.{begun_or_ceased_once, all_begun_or_ceased}
 
--- no tags are among what is the rest of some names
+-- the rest of names has no tags
 no_tags : (names : List Name) (x : Name) → has (map rest_at names) (tags_at x) ≡ false
 no_tags [] x = refl
 no_tags (y ∷ ys) x = λ i. tags_rest x y i || no_tags ys x i
@@ -64,7 +64,7 @@ module _ {A : Type 0} where
       ∙ ap (λ b. is_among (begun_or_ceased c) q || b) (among_all_begun_or_ceased cs q)
       ∙ sym (is_among-append q (begun_or_ceased c) (flat_map begun_or_ceased cs))
 
-  -- what is collected between others has the cells of the footprint
+  -- the collected cells are the cells of the footprint
   pub collected_is_touched : (cells more : List Cell) (cs : List (Change A))
       → cell_set (cells ++ map rest_at (all_begun_or_ceased cs) ++ more) ≡ cell_set (cells ++ map rest_at (flat_map begun_or_ceased cs) ++ more)
   collected_is_touched cells more cs =

@@ -1,4 +1,4 @@
--- A walk over two rising lists of cells finds the first that both have.
+-- A walk over two rising lists of cells finds the first cell that both have.
 use Prim.Native.Nat.{zero}
 use Rattle.std.proofs.Common.{◌≡◌, ℕ, suc, ◌+◌, ◌<◌, ◌≤◌, ◌||◌, cond, T, List, [], ◌∷◌, Option, Some, None, length, get_or, drop, refl, sym, ap, subst, ◌∙◌, add-one, arith}
 use Rattle.std.proofs.Math.Seq.{drop-cons}
@@ -18,7 +18,7 @@ use Rattle.rising_lists.specs.Facts.Sorted.{less}
 use Rattle.edit_footprint.specs.Facts.CellSets.{none_above}
 use Rattle.edit_footprint.specs.Footprints.{meets}
 
--- the first cell of the one list that the other has
+-- the first cell of one list that the other has
 abbrev shared : List Cell → List Cell → Option Cell
 shared xs ys = find (has ys) xs
 
@@ -51,7 +51,7 @@ IsRising-drop zero xs h = h
 IsRising-drop (suc i) [] h = h
 IsRising-drop (suc i) (x ∷ xs) h = IsRising-drop i xs (second _ _ h)
 
--- what is left of a list from a place on
+-- the rest of a list from a position on
 pub left_from : (xs : List Cell) (i : ℕ) (x : Cell) → i < length xs → x ≡ get_or xs i x → drop i xs ≡ x ∷ drop (i + 1) xs
 left_from xs i x within is = drop-cons xs i x within ∙ ap (λ y. y ∷ drop (suc i) xs) (sym is) ∙ ap (λ j. x ∷ drop j xs) (sym (add-one i))
 
@@ -92,7 +92,7 @@ meets_none : (xs : List Cell) → meets xs [] ≡ None
 meets_none [] = refl
 meets_none (x ∷ xs) = meets_none xs
 
--- a list that is walked to its end shares no more
+-- after the end of a list, no more cells are shared
 pub no_cells_left : (xs ys : List Cell) (i : ℕ) → length xs ≤ i → meets (drop i xs) ys ≡ None
 no_cells_left xs ys i h = ap (λ l. meets l ys) (all_passed xs i h)
 

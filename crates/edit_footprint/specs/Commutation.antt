@@ -1,11 +1,11 @@
--- Two actions that change places. (Footprints are this project's.)
+-- Commutation of two actions. (Footprints are this project's.)
 use Rattle.std.specs.Prelude.{◌≡◌}
 use Rattle.osm_elements.specs.Maps.{Rows}
 use Rattle.edit_actions.specs.declared.action.Action.{Action}
 use Rattle.edit_actions.specs.After.{after}
 use Rattle.edit_footprint.specs.Locality.{AcceptedAlike}
 
--- b, which came after a, is accepted alike before it, a is accepted alike after b, and both orders lead to the same map
+-- the second action b is accepted alike before a, a is accepted alike after b, and both orders lead to the same map
 pub record ChangePlaces {A : Type 0} (m : Rows A) (a b : Action A) : Type 0 where
   pub second_first : AcceptedAlike (after m a) m b
   pub first_second : AcceptedAlike m (after m b) a

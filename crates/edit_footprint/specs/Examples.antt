@@ -1,4 +1,4 @@
--- What was worked out by hand of footprints. The start has the ways w1 of n-1 and n-2, and w2 of n-1, n-3 and n-2, and
+-- Examples of footprints, worked out by hand. `start` has the ways w1 of n-1 and n-2, and w2 of n-1, n-3 and n-2, and
 -- the relation r1 of n-1, w2, w1 and w2.
 use Rattle.std.specs.Prelude.{◌≡◌, ◌++◌, [], ◌∷◌, Option, Some, None, pos}
 use Rattle.osm_elements.specs.declared.name.Name.{Name}
@@ -17,91 +17,90 @@ use Rattle.edit_footprint.specs.Footprints.{footprint, meets}
 abbrev pub w9 : Name
 w9 = named kinds.Way (pos 9) tt
 
--- of a create: both parts of the new name, and the rest of what the new row begins to name, each once; a relation that
--- is its own member names itself
+-- a create: both parts of the new name, and the rest of each name that the new row refers to; a relation that is its
+-- own member refers to itself
 unfoldable pub created : Type 0
 created =
     (footprint start (Create n5 (node_at 5)) ≡ both_at n5)
     × (footprint start (Create w3 (way_of (n-2 ∷ n-3 ∷ n-2 ∷ []))) ≡ rest_at n-3 ∷ rest_at n-2 ∷ both_at w3)
     × (footprint start (Create r9 (relation_of ((w2, outer) ∷ (r9, []) ∷ (n-3, []) ∷ []))) ≡ rest_at n-3 ∷ rest_at w2 ∷ both_at r9)
 
--- of a retag: its element's tags alone
+-- a retag: only its element's tags
 unfoldable pub retagged : Type 0
 retagged =
     (footprint start (Retag w1 ((x, Some outer) ∷ [])) ≡ tags_at w1 ∷ [])
     × (footprint start (Retag r1 ((x, Some []) ∷ [])) ≡ tags_at r1 ∷ [])
 
--- of a move: the rest of what is listed, also of a way, whose row stays, and of the nodes that are moved; no way or
--- relation that names them
+-- a move: the rest of each listed name, even of a way, whose row is unchanged, and of the moved nodes; no way or
+-- relation that refers to them
 unfoldable pub moved : Type 0
 moved =
     (footprint start (Move (n-3 ∷ []) (pos 10) (pos 0)) ≡ rest_at n-3 ∷ [])
     × (footprint start (Move (w1 ∷ []) (pos 10) (pos 0)) ≡ rest_at n-2 ∷ rest_at n-1 ∷ rest_at w1 ∷ [])
     × (footprint start (Move (w2 ∷ n-1 ∷ w2 ∷ []) (pos 0) (pos 10)) ≡ rest_at n-3 ∷ rest_at n-2 ∷ rest_at n-1 ∷ rest_at w2 ∷ [])
 
--- of a reverse: the way's rest alone, which names the same nodes after it
+-- a reverse: only the way's rest, because the way refers to the same nodes afterwards
 unfoldable pub reversed : Type 0
 reversed = footprint start (Reverse w2) ≡ rest_at w2 ∷ []
 
--- of new nodes: the rest of the way, of the nodes that it begins to name and of those that it ceases to; one in the
--- list that was there before is none, in whatever order
+-- new nodes: the rest of the way, and of the nodes that it begins or ceases to refer to; no node that it also had
+-- before, in any order
 unfoldable pub nodes_given : Type 0
 nodes_given =
     (footprint start (Nodes w1 (n-2 ∷ n-3 ∷ [])) ≡ rest_at n-3 ∷ rest_at n-1 ∷ rest_at w1 ∷ [])
     × (footprint start (Nodes w1 (n-1 ∷ n-3 ∷ n-2 ∷ [])) ≡ rest_at n-3 ∷ rest_at w1 ∷ [])
     × (footprint start (Nodes w1 (n-2 ∷ n-1 ∷ n-2 ∷ [])) ≡ rest_at w1 ∷ [])
 
--- of new members: the rest of the relation, of the members that it begins to name, itself among them, and of those that
--- it ceases to; w1 was there before, in another role
+-- new members: the rest of the relation, and of the members that it begins or ceases to refer to, also itself; not w1,
+-- which it had before in another role
 unfoldable pub members_given : Type 0
 members_given =
     (footprint start (Members r1 ((r1, x) ∷ (n-2, []) ∷ (w1, x) ∷ [])) ≡ rest_at n-2 ∷ rest_at n-1 ∷ rest_at w2 ∷ rest_at r1 ∷ [])
     × (footprint start (Members r1 ((w2, x) ∷ (w1, x) ∷ (n-1, x) ∷ [])) ≡ rest_at r1 ∷ [])
     × (footprint start (Members r1 []) ≡ rest_at n-1 ∷ rest_at w1 ∷ rest_at w2 ∷ rest_at r1 ∷ [])
 
--- of a delete: both parts of what goes, and the rest of what it ceases to name
+-- a delete: both parts of the element, and the rest of each name that it referred to
 unfoldable pub deleted : Type 0
 deleted =
     (footprint (put_row start n5 (node_at 5)) (Delete n5) ≡ both_at n5)
     × (footprint (beside (n-3 ∷ n-1 ∷ n-3 ∷ [])) (Delete w3) ≡ rest_at n-3 ∷ rest_at n-1 ∷ both_at w3)
     × (footprint start (Delete r1) ≡ rest_at n-1 ∷ rest_at w1 ∷ rest_at w2 ∷ both_at r1)
 
--- of a purge: both parts of what goes, and the rest of what it names; the rest of each way and relation that loses it;
--- and with w1, which goes too, that of its other node. A node that w2 keeps is none
+-- a purge: both parts of the element, and the rest of each name that it referred to and of each way and relation that
+-- loses it; the same for w1, which is removed too; no node that w2 keeps
 unfoldable pub purged : Type 0
 purged =
     (footprint start (Purge n-1) ≡ rest_at n-2 ∷ both_at n-1 ++ both_at w1 ++ rest_at w2 ∷ rest_at r1 ∷ [])
     × (footprint start (Purge n-3) ≡ both_at n-3 ++ rest_at w2 ∷ [])
     × (footprint start (Purge w1) ≡ rest_at n-2 ∷ rest_at n-1 ∷ both_at w1 ++ rest_at r1 ∷ [])
 
--- of a split: both parts of both ways, also the tags of the first, which the new one gets; the rest of the node that
--- the way ceases to name, of those that the new way begins to name, and of the relation that names both; where none
--- does, none
+-- a split: both parts of both ways, also the tags of the first, which the new way gets; the rest of the node that the
+-- way ceases to refer to, of the nodes that the new way refers to, and of each relation that has the way as a member
 unfoldable pub split : Type 0
 split =
     (footprint start (Split w2 1 w9) ≡ rest_at n-3 ∷ rest_at n-2 ∷ both_at w2 ++ both_at w9 ++ rest_at r1 ∷ [])
     × (footprint (beside (n-1 ∷ n-2 ∷ n-3 ∷ n-1 ∷ [])) (Split w3 2 w9) ≡ rest_at n-3 ∷ rest_at n-1 ∷ both_at w3 ++ both_at w9)
 
--- w3 goes on from w1's end to n-3
+-- w3 continues from the end of w1 to n-3
 abbrev pub further : Rows Any
 further = beside (n-2 ∷ n-3 ∷ [])
 
--- of a join: both parts of both ways, the rest of what the one begins to name and of what the other ceases to, and of
--- the relation that names the one in the place of the other; r1 names the one as before
+-- a join: both parts of both ways, the rest of each name that one way begins or the other ceases to refer to, and of
+-- each relation that had the other way; r1 has only the first way, and is unchanged
 unfoldable pub joined : Type 0
 joined =
     (footprint further (Join w1 w3) ≡ rest_at n-3 ∷ rest_at n-2 ∷ both_at w1 ++ both_at w3)
     × (footprint (put_row further r9 (relation_of ((w3, x) ∷ (n-1, []) ∷ []))) (Join w1 w3) ≡ rest_at n-3 ∷ rest_at n-2 ∷ both_at w1 ++ both_at w3 ++ rest_at r9 ∷ [])
 
--- of a merge: both parts of both nodes, also where the one keeps its row, and the rest of each way and relation that
--- named the other
+-- a merge: both parts of both nodes, even if the node that stays keeps its row, and the rest of each way and relation
+-- that referred to the other node
 unfoldable pub merged : Type 0
 merged =
     (footprint start (Merge n-1 n-3) ≡ both_at n-3 ++ both_at n-1 ++ rest_at w2 ∷ [])
     × (footprint start (Merge n-3 n-1) ≡ both_at n-3 ++ both_at n-1 ++ rest_at w1 ∷ rest_at w2 ∷ rest_at r1 ∷ [])
     × (footprint (nodes_tagged [] (a1 ∷ [])) (Merge n-1 n-3) ≡ both_at n-3 ++ both_at n-1 ++ rest_at w2 ∷ [])
 
--- the least name of a cell that two actions share, of which the second comes after the first
+-- the least name of a cell that two actions share, if b comes after a
 abbrev pub shared : Rows Any → Action Any → Action Any → Option Name
 shared m a b = meets (footprint m a) (footprint (after m a) b)
 
@@ -113,8 +112,8 @@ north = Move (n-1 ∷ []) (pos 10) (pos 0)
 abbrev pub tagged : Name → Action Any
 tagged y = Retag y ((x, Some outer) ∷ [])
 
--- of an unglue: both parts of the way, of the new node, and of the node that stood there, also where the way still
--- names it; so a move of that node meets it, and a retag
+-- an unglue: both parts of the way, of the new node, and of the node that was at the position, even if the way still
+-- refers to it; so a move and a retag of that node meet it
 unfoldable pub unglued : Type 0
 unglued =
     (footprint start (Unglue w2 0 n-7) ≡ both_at n-7 ++ both_at n-1 ++ both_at w2)
@@ -127,15 +126,15 @@ unglued =
 abbrev pub shorter : Action Any
 shorter = Nodes w2 (n-1 ∷ n-2 ∷ [])
 
--- the rest of a node that a way ceases to name is in the footprint, so the delete of the node meets it
+-- the footprint has the rest of a node that a way ceases to refer to, so a delete of the node meets it
 unfoldable pub ceased : Type 0
 ceased =
     (footprint start shorter ≡ rest_at n-3 ∷ rest_at w2 ∷ [])
     × (footprint (after start shorter) (Delete n-3) ≡ both_at n-3)
     × (shared start shorter (Delete n-3) ≡ Some n-3)
 
--- one author moves a node, the other gives it a tag: they share nothing, as other nodes and a tag of one way do not,
--- nor a tag of a relation and a purge of its member; but two moves do, and a tag of a way and its split
+-- a move and a tag of one node share nothing, nor do new nodes and a tag of one way, nor a tag of a relation and a
+-- purge of its member; two moves of a node share a cell, and so do a tag and a split of a way
 unfoldable pub by_parts : Type 0
 by_parts =
     (shared start north (tagged n-1) ≡ None)

@@ -15,11 +15,11 @@ use Rattle.edit_actions.specs.declared.action.Action.{Action}
 use Rattle.edit_actions.specs.declared.action.Action.TheVariants.{Create, Retag, Move, Reverse, Nodes, Members, Delete, Purge, Split, Join, Merge, Unglue}
 use Rattle.edit_actions.specs.After.{changes}
 
--- the least name of a cell that two footprints share
+-- the least name of a cell that both footprints have
 abbrev pub meets : List Cell → List Cell → Option Name
 meets one other = option_map (λ (c : Cell). c.name) (find (has other) one)
 
--- a cell of a name is in both
+-- both lists have a cell of the name x
 pub record Shares (one two : List Cell) (x : Name) : Type 0 where
   pub cell : Cell
   pub name : cell.name ≡ x
@@ -27,19 +27,19 @@ pub record Shares (one two : List Cell) (x : Name) : Type 0 where
   pub in_two : has two cell ≡ true
 
 module _ {A : Type 0} where
-  -- what a half names: the nodes of a way, the members of a relation
+  -- the names that a half refers to: the nodes of a way, or the members of a relation
   abbrev pub half_references : Option (Half A) → List Name
   half_references (Some (halves.Nodes nodes)) = nodes
   half_references (Some (halves.Members members)) = map (λ m. m.0) members
   half_references _ = []
 
-  -- the nodes of a way's half; none of another
+  -- the nodes of a way's half; another half has none
   abbrev pub half_nodes : Option (Half A) → List Name
   half_nodes (Some (halves.Nodes nodes)) = nodes
   half_nodes _ = []
 
-  -- the cells that an action is about: an element's tags, its rest, or both; a given list of nodes or members is not
-  -- among them
+  -- the subjects of an action: an element's tags, its rest, or both; the entries of a given list of nodes or members
+  -- are not subjects
   abbrev pub subjects : Action A → List Cell
   subjects (Create x v) = both_at x
   subjects (Retag x given) = tags_at x ∷ []
@@ -54,24 +54,24 @@ module _ {A : Type 0} where
   subjects (Merge k g) = both_at k ++ both_at g
   subjects (Unglue w i v) = both_at w ++ both_at v
 
-  -- what a half names before a change and not after it, or after it and not before
+  -- the names that a half refers to before a change and not after it, or after it and not before
   abbrev pub begun_or_ceased : Change A → List Name
   begun_or_ceased c =
       names_but (half_references c.before) (half_references c.after)
       ++ names_but (half_references c.after) (half_references c.before)
 
-  -- the half that a cell had before changes, none where they don't tell it
+  -- the half that a cell had before the changes, or `None` if no change has the cell
   abbrev pub half_before : List (Change A) → Cell → Option (Half A)
   half_before cs c =
       option_and_then (λ (d : Change A). d.before) (find (λ (d : Change A). is_same_cell c (cell_of d)) cs)
 
-  -- the node that an unglue takes the way from: it stood at the position in the list that the way had before
+  -- the node that an unglue takes from its way: the node at the position in the way's old list
   abbrev pub unglued_from : Action A → List (Change A) → Option Name
   unglued_from (Unglue w i v) cs = slice_get (half_nodes (half_before cs (rest_at w))) i
   unglued_from a cs = None
 
-  -- the subjects of an action, the cells that it changes, the rest of what their halves cease or begin to name, and
-  -- both cells of the node that it unglues a way from, rising, each once
+  -- the action's subjects, the cells that it changes, the rest of each name that their halves begin or cease to refer
+  -- to, and both cells of the node that an unglue takes from its way; rising, each once
   abbrev pub footprint_of : Action A → List (Change A) → List Cell
   footprint_of a cs =
       cell_set (subjects a ++ changed_cells cs ++ map rest_at (flat_map begun_or_ceased cs)

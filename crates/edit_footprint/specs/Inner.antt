@@ -1,3 +1,3 @@
--- How footprints are found, and what is kept of their holders. No contract that is seen from outside cites these.
+-- Definitions for private functions. No public contract cites them.
 pub mod Searching
 pub mod Touching

@@ -1,4 +1,4 @@
--- What an action leaves alone, and when it is accepted alike in two maps. (Footprints are this project's.)
+-- What an action does not change, and when two maps accept it with the same changes. (Footprints are this project's.)
 use Rattle.std.specs.Prelude.{◌≡◌, false, None}
 use Rattle.osm_elements.specs.declared.name.Name.{Name}
 use Rattle.osm_elements.specs.Maps.{Rows}

@@ -1,4 +1,4 @@
-//! Footprints: the cells that an action touches.
+//! Footprints: lists of the cells that an action touches.
 ghost use Rattle.std.specs.Prelude.{◌≡◌, IfOk};
 ghost use Rattle.osm_changes.specs.Cells.{cell_set, IsRising};
 ghost use Rattle.edit_footprint.specs.Footprints.{meets};
@@ -17,7 +17,7 @@ pub struct Footprint<A: Allocator> {
     cells: Vec<Cell, A>,
 }
 
-// A footprint is seen as the list of its cells.
+// The model of a footprint is the list of its cells.
 impl<A: Allocator> Model for Footprint<A> {
     ghost use Rattle.std.specs.Prelude.{List};
     ghost use Rattle.osm_changes.specs.declared.cell.Cell.{Cell};
@@ -31,8 +31,8 @@ impl<A: Allocator> Model for Footprint<A> {
 }
 
 impl<A: Allocator> Footprint<A> {
-    /// The footprint of some cells, in any order and however often each stands there. It takes no memory, and time
-    /// `n log n` for `n` cells.
+    /// Returns the footprint of the given cells, which can have any order and repetitions. For `n` cells it takes time
+    /// `n log n`.
     pub fn of(mut cells: Vec<Cell, A>) -> Footprint<A>
         ensures { result ≡ cell_set cells.items }
     {
@@ -41,24 +41,28 @@ impl<A: Allocator> Footprint<A> {
         Footprint { cells }
     }
 
-    /// The cells in their order.
+    /// Returns the cells in their order.
     pub fn cells(&self) -> &[Cell]
         ensures cells { result.now ≡ self.now }
-        // What holds of every footprint.
+        // True of every footprint.
         ensures rising { IsRising self.now }
     {
         &self.cells
     }
 
-    /// The least name of a cell that both footprints have, or none where they share no cell. It takes time linear in
-    /// the number of cells of both.
+    /// Returns the least name of a cell that both footprints have, or `None` if they share no cell. It takes time
+    /// linear in the number of cells of both.
     pub fn meets(&self, other: &Footprint<A>) -> Option<Name>
         ensures { result ≡ meets self.now other.now }
     {
         least_shared(&self.cells, &other.cells)
     }
 
-    /// A second footprint of the same cells, or `Memory`.
+    /// Returns an equal footprint.
+    ///
+    /// # Errors
+    ///
+    /// `Memory`, if an allocation fails.
     pub fn copy(&self) -> Result<Footprint<A>, Memory>
     where
         A: Clone,
@@ -77,7 +81,7 @@ impl<A: Allocator + Clone> Clone for Footprint<A> {
     }
 }
 
-// The name of the first of some cells that is among others too. Both rise.
+// Returns the name of the first cell that is in both lists. Both lists rise.
 fn least_shared(cells: &[Cell], others: &[Cell]) -> Option<Name>
     requires cells { IsRising cells.now }
     requires others { IsRising others.now }

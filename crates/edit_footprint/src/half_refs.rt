@@ -10,8 +10,8 @@ use osm_elements::name::Name;
 use osm_elements::names::Names;
 use std::alloc::Allocator;
 
-// What a half refers to, rising, each once: nothing where there is none. The names are sorted. A change has no whole
-// row, so `refs_of` of `osm_refs`, which tells the same of a row, cannot be asked.
+// Returns the names that a half refers to, in rising order, each once. `None` refers to nothing. A change has no whole
+// row, so `refs_of` of `osm_refs`, which returns the same for a row, cannot be used.
 pub(crate) fn half_refs<A: Allocator>(alloc: A, half: &Option<Half<A>>) -> Result<Names<A>, Memory>
     ensures { IfOk result (λ names. names ≡ name_set (half_references half.now)) }
 {
@@ -21,7 +21,7 @@ pub(crate) fn half_refs<A: Allocator>(alloc: A, half: &Option<Half<A>>) -> Resul
     }
 }
 
-// What a half that is there refers to, rising, each once.
+// Returns the names that a present half refers to, in rising order, each once.
 fn refs_of<A: Allocator>(alloc: A, half: &Half<A>) -> Result<Names<A>, Memory>
     ensures { IfOk result (λ names. names ≡ name_set (half_references (Some half.now))) }
 {
@@ -31,7 +31,7 @@ fn refs_of<A: Allocator>(alloc: A, half: &Half<A>) -> Result<Names<A>, Memory>
     Ok(Names::from_vec(names))
 }
 
-// The names in a half's own order.
+// Returns the names that a half refers to, in the half's own order.
 fn named<A: Allocator>(alloc: A, half: &Half<A>) -> Result<Vec<Name, A>, Memory>
     ensures { IfOk result (λ names. names.items ≡ half_references (Some half.now)) }
 {
@@ -42,7 +42,7 @@ fn named<A: Allocator>(alloc: A, half: &Half<A>) -> Result<Vec<Name, A>, Memory>
     }
 }
 
-// The names of members, in their order.
+// Returns the names of members, in their order.
 fn member_names<A: Allocator>(alloc: A, members: &[Member<A>]) -> Result<Vec<Name, A>, Memory>
     ensures { IfOk result (λ names. names.items ≡ map (λ m. m.name) members.now) }
 {

@@ -1,4 +1,4 @@
-//! Which standing entries hold a cell.
+//! The active entries that hold a cell.
 ghost use Rattle.std.specs.Prelude.{◌≡◌, [], nat_lt, OnOk, OnErr};
 ghost use Rattle.std.specs.List.{find};
 ghost use Rattle.std.specs.Ordering.{nat_cmp};
@@ -14,8 +14,8 @@ use rising_lists::lists::RisingLists;
 use std::alloc::Allocator;
 use std::marker::Model;
 
-/// The entries that stand, by the cells of their footprints: for each cell that any of them has their numbers,
-/// rising. The footprints themselves are kept by whoever lets an entry stand, and are lent when it falls.
+/// The numbers of the active entries, by the cells of their footprints. Each cell has its numbers in rising order. The
+/// caller keeps the footprints, and lends an entry's footprint when the entry ceases to be active.
 #[derive(Drop)]
 #[derive_where(Debug)]
 pub struct Holders<A: Allocator> {
@@ -24,7 +24,7 @@ pub struct Holders<A: Allocator> {
     lists: RisingLists<Cell, u64, A>,
 }
 
-// Holders are seen as the list of the cells that are held, in their order, each with the numbers that hold it.
+// The model of holders is the list of the held cells in their order, each with the numbers of the entries that hold it.
 impl<A: Allocator> Model for Holders<A> {
     ghost use Rattle.edit_footprint.specs.Holding.{Held};
 
@@ -34,7 +34,7 @@ impl<A: Allocator> Model for Holders<A> {
 }
 
 impl<A: Allocator> Holders<A> {
-    /// No entries. They take no memory. `A` is `Copy`, since it is kept beside the lists too, and a `Clone` may fail.
+    /// Returns holders without entries. `A` is `Copy` because it is kept next to the lists too, and a `Clone` may fail.
     pub fn new(alloc: A) -> Holders<A>
     where
         A: Copy,
@@ -46,9 +46,13 @@ impl<A: Allocator> Holders<A> {
         }
     }
 
-    /// Lets an entry stand whose number comes after those of all others, or refuses with `Memory` and leaves all as it
-    /// was. It takes time logarithmic in the number of held cells for each cell of the footprint. An entry can stand
-    /// before the store changes, and fall again where that is refused.
+    /// Adds an active entry. Its number must be greater than those of all active entries. For each cell of the
+    /// footprint, it takes time logarithmic in the number of held cells. An entry can be added before the store
+    /// changes, and removed again if the store refuses the change.
+    ///
+    /// # Errors
+    ///
+    /// `Memory`, if an allocation fails.
     pub fn stand(&mut self, footprint: &Footprint<A>, seq: u64) -> Result<(), Memory>
     where
         A: Clone,
@@ -61,9 +65,9 @@ impl<A: Allocator> Holders<A> {
         Ok(())
     }
 
-    /// Lets an entry fall that holds the cells of its footprint alone. A cell that no other entry holds leaves
-    /// nothing behind. It takes no memory, and for each cell of the footprint time logarithmic in the number of held
-    /// cells, and what it takes to move the later numbers of that cell.
+    /// Removes an entry, which must hold no cells outside the given footprint. A cell that no other entry holds is
+    /// removed too. For each cell of the footprint, it takes time logarithmic in the number of held cells, and the time
+    /// to move the later numbers of that cell.
     pub fn fall(&mut self, footprint: &Footprint<A>, seq: u64)
         requires { HoldsOnly self.old footprint.now seq }
         ensures { self.new ≡ fallen self.old seq }
@@ -71,10 +75,11 @@ impl<A: Allocator> Holders<A> {
         self.lists.take_out_all(footprint.cells(), &seq);
     }
 
-    /// The first entry behind a number that holds one of a footprint's cells, and the least name of those of them that
-    /// it holds; or none, where there is no such entry. For each cell of the footprint it takes time logarithmic in the
-    /// number of held cells and in how many entries hold the cell. It tells a name and not a cell, since a refusal says
-    /// which element it is. There is just one such answer (`just_one` of `specs/Facts/Holding.antt`).
+    /// Returns the first entry after the number `seq` that holds a cell of the footprint, with the least name of the
+    /// footprint's cells that it holds. Returns `None` if there is no such entry. For each cell of the footprint, it
+    /// takes time logarithmic in the number of held cells and in the number of entries that hold the cell. The result
+    /// has a name, not a cell, because a refusal names an element. There is exactly one such result (`just_one` of
+    /// `specs/Facts/Holding.antt`).
     pub fn first_after(&self, footprint: &Footprint<A>, seq: u64) -> Option<(u64, Name)>
         ensures { IsFirstAfter self.now footprint.now seq result }
     {
@@ -87,7 +92,7 @@ impl<A: Allocator> Holders<A> {
     }
 }
 
-// The least of rising numbers that is above another, in time logarithmic in how many there are.
+// Returns the least of rising numbers that is greater than `seq`, in time logarithmic in their number.
 fn next(numbers: &[u64], seq: u64) -> Option<u64>
     requires { IsRising nat_cmp numbers.now }
     ensures { result ≡ find (nat_lt seq) numbers.now }
@@ -96,7 +101,7 @@ fn next(numbers: &[u64], seq: u64) -> Option<u64>
     numbers.get(after).copied()
 }
 
-// The sooner of a first number with its name and the number of a cell of another name, or of the same.
+// Returns the sooner of two entries with their names. If both are the same entry, it keeps the first name.
 fn sooner(first: Option<(u64, Name)>, number: Option<u64>, name: Name) -> Option<(u64, Name)>
     ensures { result ≡ inner.sooner first number name }
 {

@@ -1,4 +1,4 @@
-//! Laws of footprints, each the contract of a function that does nothing.
+//! Laws of footprints. Each law is the contract of an empty function.
 ghost use Rattle.std.specs.Prelude.{◌≡◌, true, false, List, Some, None};
 ghost use Rattle.std.specs.Ordering.{is_lt};
 ghost use Rattle.osm_elements.specs.declared.name.Name.{Name};
@@ -19,33 +19,32 @@ ghost use Rattle.edit_footprint.specs.Locality.{LeavesTheRest, AcceptedAlike};
 
 use std::alloc::Allocator;
 
-/// An action, accepted or not, leaves each cell outside its footprint as it is: the half that stands there, and, of a
-/// name whose rest is outside, the users.
+/// An action, accepted or not, changes nothing outside its footprint: no half of a cell outside, and no users of a name
+/// whose rest is outside.
 pub fn leaves_the_rest<A: Allocator>()
     ensures { (m : Rows A) (a : Action A) → is_sound m ≡ true → LeavesTheRest m a }
 {}
 
-/// An action looks at its footprint alone: accepted in one sound map, it is accepted in each that has the same halves
-/// and the same users there, with the same changes and the same footprint. Nothing is asked of the action's own values.
-/// Users of a name are a matter of its rest: they are asked to be the same only at names whose rest is in the
-/// footprint.
+/// An action looks only at its footprint. If a sound map accepts it, so does every sound map with the same halves at
+/// the footprint and the same users of each name whose rest is in the footprint. The changes and the footprint are the
+/// same. The action's own values need not be made.
 pub fn locality<A: Allocator>()
     ensures { (m n : Rows A) (a : Action A) → is_sound m ≡ true → is_sound n ≡ true → refusal m a ≡ None
         → Agree m n (footprint m a)
         → AcceptedAlike m n a }
 {}
 
-/// Two actions, accepted one after the other, change places where their footprints share no cell: each is accepted,
-/// with its changes and its footprint as they were, and both orders lead to the same map. The actions' own values are
-/// as their types keep them, since the map after the first has to be sound.
+/// Two actions, accepted in sequence, commute if their footprints share no cell. The second is accepted before the
+/// first, both with the same changes and footprints, and both orders lead to the same map. The values of both actions
+/// must be made, so that the map after the first is sound.
 pub fn commutation<A: Allocator>()
     ensures { (m : Rows A) (a b : Action A) → is_sound m ≡ true → is_made_action a ≡ true → is_made_action b ≡ true
         → refusal m a ≡ None → refusal (after m a) b ≡ None
         → meets (footprint m a) (footprint (after m a) b) ≡ None → ChangePlaces m a b }
 {}
 
-/// What two footprints share first is the least name of a cell that both have, and nothing exactly where no cell is in
-/// both. So which of the two is asked does not matter.
+/// Two footprints meet in the least name of a cell that both have, and in none exactly if they share no cell. The order
+/// of the two does not matter.
 pub fn footprints_meet_in_their_least()
     ensures shared { (one two : List Cell) (x : Name) → meets one two ≡ Some x → Shares one two x }
     ensures least { (one two : List Cell) (x : Name) (c : Cell) → IsRising one → meets one two ≡ Some x
@@ -55,8 +54,8 @@ pub fn footprints_meet_in_their_least()
     ensures either_way { (one two : List Cell) → IsRising one → IsRising two → meets one two ≡ meets two one }
 {}
 
-/// What the definitions say of the worked examples, one or more of each action and of what two share, is what was
-/// worked out by hand.
+/// The definitions give the results that were worked out by hand: at least one footprint of each action, and the
+/// meetings of two footprints.
 pub fn examples_are_as_worked()
     ensures created { created }
     ensures retagged { retagged }

@@ -1,4 +1,4 @@
-//! What an action touches.
+//! Finds the cells that an action touches.
 ghost use Rattle.std.specs.Prelude.{◌≡◌, ◌++◌, find, map, IfOk, OnOk};
 ghost use Rattle.std.specs.List.{flat_map, slice_get};
 ghost use Rattle.std.specs.Option.{option_copied, option_to_list};
@@ -22,7 +22,7 @@ use osm_elements::name::Name;
 use osm_refs::but::names_but;
 use std::alloc::Allocator;
 
-// What an action is about, by the list of the actions.
+// Returns the subjects of an action, from the list of the actions.
 macro_rules! about {
     (($action:expr, $alloc:expr, $more:expr) $($variant:ident $word:literal { $($field:ident: $how:ident from $source:ident $(by $name:ident)?),* } by $plan:ident about $part:ident $way:ident [$($subject:ident),*];)*) => {
         match $action {
@@ -31,7 +31,7 @@ macro_rules! about {
     };
 }
 
-// The cells of a part of some names, or of both parts, as a list with room for some more.
+// Returns the cells of one part or both parts of names, as a list with capacity for `$more` cells.
 macro_rules! listed {
     (rest each $alloc:expr, $more:expr, $names:ident) => { rests_of($alloc, $names.as_slice(), $more) };
     (tags names $alloc:expr, $more:expr, $($name:ident),*) => { list_of($alloc, &[$(tags_of($name)),*], $more) };
@@ -39,9 +39,15 @@ macro_rules! listed {
     (both names $alloc:expr, $more:expr, $($name:ident),*) => { list_of($alloc, &[$(tags_of($name), rest_of($name)),*], $more) };
 }
 
-/// The footprint of an action with its changes, or `Memory`: the cells that the action is about, those that it changes,
-/// the rest of what their halves begin or cease to name, and both cells of the node that it unglues a way from. It
-/// takes time `n log n` for changes that name `n` elements.
+/// Returns the footprint of an action from the action and its changes.
+///
+/// It has the action's subjects and the cells that the action changes. It also has the rest of each name that a changed
+/// half begins or ceases to refer to, and both cells of the node that an unglue takes from its way. For changes that
+/// refer to `n` elements, it takes time `n log n`.
+///
+/// # Errors
+///
+/// `Memory`, if an allocation fails.
 pub fn footprint<A: Allocator + Clone>(
     alloc: A,
     action: &Action<A>,
@@ -56,14 +62,14 @@ pub fn footprint<A: Allocator + Clone>(
     Ok(Footprint::of(cells))
 }
 
-// The cells that an action is about, with room for so many more.
+// Returns the subjects of an action, with capacity for `more` cells.
 fn subjects<A: Allocator>(alloc: A, action: &Action<A>, more: usize) -> Result<Vec<Cell, A>, Memory>
     ensures { IfOk result (λ cells. cells.items ≡ subjects action.now) }
 {
     each_action!(about(action, alloc, more))
 }
 
-// These cells, with room for so many more.
+// Returns the given cells as a list with capacity for `more` cells.
 fn list_of<A: Allocator>(alloc: A, cells: &[Cell], more: usize) -> Result<Vec<Cell, A>, Memory>
     ensures { IfOk result (λ list. list.items ≡ cells.now) }
 {
@@ -72,21 +78,19 @@ fn list_of<A: Allocator>(alloc: A, cells: &[Cell], more: usize) -> Result<Vec<Ce
     Ok(list)
 }
 
-// The tags of a name.
 fn tags_of(name: &Name) -> Cell
     ensures { result ≡ tags_at name.now }
 {
     Cell::of(*name, Part::Tags)
 }
 
-// The rest of a name.
 fn rest_of(name: &Name) -> Cell
     ensures { result ≡ rest_at name.now }
 {
     Cell::of(*name, Part::Rest)
 }
 
-// The rest of each of some names, with room for so many cells more.
+// Returns the rest of each name, with capacity for `more` cells.
 fn rests_of<A: Allocator>(alloc: A, names: &[Name], more: usize) -> Result<Vec<Cell, A>, Memory>
     ensures { IfOk result (λ cells. cells.items ≡ map rest_at names.now) }
 {
@@ -95,7 +99,7 @@ fn rests_of<A: Allocator>(alloc: A, names: &[Name], more: usize) -> Result<Vec<C
     Ok(cells)
 }
 
-// Puts the cells of changes behind other cells.
+// Appends the cells of the changes.
 fn push_changed<A: Allocator>(cells: &mut Vec<Cell, A>, rows: &[Change<A>]) -> Result<(), Memory>
     ensures { OnOk result (cells.new.items ≡ cells.old.items ++ changed_cells rows.now) }
 {
@@ -105,7 +109,7 @@ fn push_changed<A: Allocator>(cells: &mut Vec<Cell, A>, rows: &[Change<A>]) -> R
     Ok(())
 }
 
-// Puts the rest of what halves begin or cease to name behind other cells.
+// Appends the rest of each name that a change's half begins or ceases to refer to.
 fn push_all_begun_or_ceased<A: Allocator + Clone>(
     alloc: &A,
     cells: &mut Vec<Cell, A>,
@@ -119,7 +123,7 @@ fn push_all_begun_or_ceased<A: Allocator + Clone>(
     Ok(())
 }
 
-// Puts the rest of what a half begins or ceases to name behind other cells.
+// Appends the rest of each name that one half begins or ceases to refer to.
 fn push_begun_or_ceased<A: Allocator + Clone>(
     alloc: &A,
     cells: &mut Vec<Cell, A>,
@@ -133,7 +137,7 @@ fn push_begun_or_ceased<A: Allocator + Clone>(
     push_but(alloc, cells, after.as_slice(), before.as_slice())
 }
 
-// Puts the rest of those of some names behind other cells that are not among a third list. Names and list rise.
+// Appends the rest of each name of `from` that is not in `others`. Both lists rise.
 fn push_but<A: Allocator + Clone>(
     alloc: &A,
     cells: &mut Vec<Cell, A>,
@@ -148,7 +152,7 @@ fn push_but<A: Allocator + Clone>(
     push_rests(cells, names.as_slice())
 }
 
-// Puts the rest of each of some names behind other cells.
+// Appends the rest of each name.
 fn push_rests<A: Allocator>(cells: &mut Vec<Cell, A>, names: &[Name]) -> Result<(), Memory>
     ensures { OnOk result (cells.new.items ≡ cells.old.items ++ map rest_at names.now) }
 {
@@ -158,7 +162,7 @@ fn push_rests<A: Allocator>(cells: &mut Vec<Cell, A>, names: &[Name]) -> Result<
     Ok(())
 }
 
-// Puts both cells of the node that an action unglues a way from behind other cells, if it does that.
+// If the action is an unglue, appends both cells of the node that it takes from the way.
 fn push_unglued_from<A: Allocator>(
     cells: &mut Vec<Cell, A>,
     action: &Action<A>,
@@ -174,7 +178,7 @@ fn push_unglued_from<A: Allocator>(
     Ok(())
 }
 
-// The node that an action unglues a way from.
+// Returns the node that an unglue takes from its way.
 fn unglued_from<A: Allocator>(action: &Action<A>, rows: &[Change<A>]) -> Option<Name>
     ensures { result ≡ unglued_from action.now rows.now }
 {
@@ -184,7 +188,7 @@ fn unglued_from<A: Allocator>(action: &Action<A>, rows: &[Change<A>]) -> Option<
     }
 }
 
-// The node that stood at a place of a way before changes.
+// Returns the node that was at a position of a way before the changes.
 fn node_before<A: Allocator>(rows: &[Change<A>], way: &Name, place: u32) -> Option<Name>
     ensures { result ≡ slice_get (half_nodes (half_before rows.now (rest_at way.now))) place }
 {
@@ -194,7 +198,7 @@ fn node_before<A: Allocator>(rows: &[Change<A>], way: &Name, place: u32) -> Opti
     }
 }
 
-// The half that a cell had before changes, none where they don't tell it.
+// Returns the half that a cell had before the changes, or `None` if no change has the cell.
 fn half_before<'c, A: Allocator>(rows: &'c [Change<A>], cell: &Cell) -> Option<&'c Half<A>>
     ensures { option_copied result ≡ half_before rows.now cell.now }
 {
@@ -204,7 +208,6 @@ fn half_before<'c, A: Allocator>(rows: &'c [Change<A>], cell: &Cell) -> Option<&
     }
 }
 
-// The change of a cell, if there is one.
 fn change_of<'c, A: Allocator>(rows: &'c [Change<A>], cell: &Cell) -> Option<&'c Change<A>>
     ensures { option_copied result ≡ find (λ c. is_same_cell cell.now (cell_of c)) rows.now }
 {
@@ -212,7 +215,6 @@ fn change_of<'c, A: Allocator>(rows: &'c [Change<A>], cell: &Cell) -> Option<&'c
         .find(|change| is_same_cell(cell, &change.cell()))
 }
 
-// Whether two cells are the same.
 fn is_same_cell(one: &Cell, other: &Cell) -> bool
     ensures { result ≡ is_same_cell one.now other.now }
 {

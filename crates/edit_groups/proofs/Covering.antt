@@ -1,4 +1,4 @@
--- The changes between two maps, made name by name of names that cover all that differ.
+-- The changes between two maps, made name by name from names that include all differing names.
 use Rattle.std.proofs.Common.{◌≡◌, ◌&&◌, Bool, true, false, not, List, refl, sym, ap, ◌∙◌}
 use Rattle.osm_elements.specs.declared.name.Name.{Name}
 use Rattle.osm_elements.specs.Maps.{Rows, is_among}

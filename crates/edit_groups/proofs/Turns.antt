@@ -1,4 +1,4 @@
--- A group that is planned action by action: what is so after the first of its actions.
+-- A group that is planned action by action: what is true after each of its actions.
 use Rattle.std.proofs.Common.{◌≡◌, ◌+◌, ◌<◌, ℕ, Bool, true, false, List, [], ◌∷◌, ◌++◌, Option, Some, None, Result, Ok, Err, IfOk, IfErr, OnOk, ◌⊎◌, inl, inr, ◌≤◌, suc, refl, sym, ap, subst, ◌∙◌, length, take, drop, get_or, map, arith, Fits, w32, ◌&&◌, append-nil, append_assoc}
 use Rattle.std.proofs.lemmas.Bool.{or_parts, and_parts}
 use Rattle.std.proofs.lemmas.Bool.Decides.{nat_tests}
@@ -49,7 +49,7 @@ module _ {A : Type 0} where
       let both = and_parts (is_made_action x) (are_made xs) made in
       (λ i. both.0 i && are_made-one xs a both.1 h i)
 
-  -- where no action of some is refused, what comes of more is what comes of the next
+  -- if no action so far is refused, the next one decides
   next_refused : (m : Rows A) (k : ℕ) (xs : List (Action A)) (a : Action A) (rest : List (Action A)) → first_refused m k xs ≡ None
       → first_refused m k (xs ++ a ∷ rest) ≡ refused_at (k + length xs) (refusal (after_all m xs) a) (first_refused (after (after_all m xs) a) (k + length xs + 1) rest)
   next_refused m k [] a rest none = ap (λ j. refused_at j (refusal m a) (first_refused (after m a) (j + 1) rest)) zero_more
@@ -65,7 +65,7 @@ module _ {A : Type 0} where
       one_more : k + 1 + length xs ≡ k + suc (length xs)
       one_more = omega arith
 
-  -- the actions up to one more are made
+  -- the actions and the next one are made
   pub are_made_next : (g : List (Action A)) (i : ℕ) (a : Action A) → i < length g → a ≡ get_or g i a → are_made (take i g) ≡ true → is_made_action a ≡ true → are_made (take (i + 1) g) ≡ true
   are_made_next g i a l is made own = ap are_made (take_more g i a l ∙ ap (λ y. take i g ++ y ∷ []) (sym is)) ∙ are_made-one (take i g) a made own
 
@@ -88,7 +88,7 @@ module _ {A : Type 0} where
     rest = λ y out. ap (λ n. row_at n y) rows;
   }
 
-  -- after all actions: what a group is planned to change and to touch
+  -- after all actions: the changes and the footprint of the group
   pub group_planned : (m : Rows A) (g : List (Action A)) (draft : Rows A) (names : List Name) (cells : List Cell) → IsAfter m g draft names cells → (cs : List (Change A)) → cs ≡ differences m draft
       → (r : Result (List (Change A) × List Cell) (EditRefusal A)) → IfOk r (λ p. p.0 ≡ cs) → IfOk r (λ p. p.1 ≡ cell_set cells) → OnOk r (nothing_changed cs ≡ None) → IfErr r (λ why. nothing_changed cs ≡ Some why)
       → IsEditPlan m (Group g) r
@@ -121,7 +121,7 @@ module _ {A : Type 0} where
             ∙ kept draft (changes draft a) y (is_among-name_set y (map (λ c. c.name) (changes draft a)) ∙ out.1)
             ∙ so_far.rest y out.0
 
-    -- the action is the first that is refused
+    -- the action is the first refused one
     pub then_refused : (why : Refusal A) → refusal draft a ≡ Some why → first_refused m 0 g ≡ Some (at_position i why)
     then_refused why told =
         ap (first_refused m 0) whole
@@ -135,7 +135,7 @@ module _ {A : Type 0} where
         whole : g ≡ take i g ++ a ∷ drop (i + 1) g
         whole = sym (take-append-drop i g) ∙ ap (λ r. take i g ++ r) (drop_at g i a l is)
 
-    -- the group's refusal, or out of memory
+    -- the group's refusal, or `Memory`
     pub group_refused : (why : Refusal A) (r : EditRefusal A) (position : ℕ) → position ≡ i → ((refusal draft a ≡ Some why) ⊎ (why ≡ Memory)) → (why ≡ Memory → r ≡ alone Memory)
         → ((r ≡ alone Memory) ⊎ (r ≡ at_position position why)) → (group_refusal m g ≡ Some r) ⊎ (r ≡ alone Memory)
     group_refused why r position at (inr out) memory told = inr (memory out)

@@ -1,4 +1,4 @@
--- What is said of actions, said of edits: one action, or a group. (Groups are this project's.)
+-- The definitions of actions for edits: one action, or a group. (Groups are this project's.)
 use Rattle.std.specs.Prelude.{Bool, List, Option, Some, None}
 use Rattle.osm_elements.specs.Maps.{Rows}
 use Rattle.osm_changes.specs.declared.cell.Cell.{Cell}
@@ -29,17 +29,17 @@ module _ {A : Type 0} where
   refused_alone None = None
   refused_alone (Some why) = Some (alone why)
 
-  -- why an edit is refused, with the position of the action in a group; or none: it is accepted
+  -- the refusal of an edit, with the position of the action in a group; `None` if the edit is accepted
   abbrev pub refusal : Rows A → Edit A → Option (EditRefusal A)
   refusal m (One a) = refused_alone (of_actions.refusal m a)
   refusal m (Group g) = group_refusal m g
 
-  -- the footprint of an edit on a map: of a group the cells that its actions touch, each where it comes
+  -- the footprint of an edit on a map; that of a group has the cells that each action touches on its map
   abbrev pub footprint : Rows A → Edit A → List Cell
   footprint m (One a) = cells_of.footprint m a
   footprint m (Group g) = cell_set (touched m g)
 
-  -- an edit's own values are as their types keep them
+  -- the values of an edit are made: their types could hold them
   abbrev pub is_made_edit : Edit A → Bool
   is_made_edit (One a) = is_made_action a
   is_made_edit (Group g) = are_made g

@@ -1,4 +1,4 @@
--- What was worked out by hand of groups. The start has the ways w1 of n-1 and n-2, and w2 of n-1, n-3 and n-2, and the
+-- Examples of groups, worked out by hand. `start` has the ways w1 of n-1 and n-2, and w2 of n-1, n-3 and n-2, and the
 -- relation r1 of n-1, w2, w1 and w2.
 use Rattle.std.specs.Prelude.{◌≡◌, ◌++◌, [], ◌∷◌, List, Option, Some, None, pos, negsuc}
 use Rattle.osm_elements.specs.Maps.{Rows}
@@ -14,7 +14,7 @@ use Rattle.edit_groups.specs.declared.edit.Edit.TheVariants.{Group}
 use Rattle.edit_groups.specs.Edits.{after, changes, refusal, footprint}
 use Rattle.edit_groups.specs.Groups.{at_position, alone}
 
--- a way is drawn: two nodes, and the way of them
+-- draws a way: two nodes, and the way of them
 abbrev pub drawing : Edit Any
 drawing = Group (Create n5 (node_at 5) ∷ Create n-7 (node_at 7) ∷ Create w3 (way_of (n5 ∷ n-7 ∷ [])) ∷ [])
 
@@ -24,24 +24,24 @@ drawn =
     × (footprint start drawing ≡ both_at n-7 ++ both_at n5 ++ both_at w3)
     × (changed_cells (changes start drawing) ≡ both_at n-7 ++ both_at n5 ++ both_at w3)
 
--- the first action that is refused is told with its position, also one that its group alone lets fail
+-- the first refused action is reported with its position, even if it is refused only because of the group
 unfoldable pub second_refused : Type 0
 second_refused =
     (refusal start (Group (Create n5 (node_at 5) ∷ Delete n-1 ∷ Delete n-7 ∷ [])) ≡ Some (at_position 1 (InUse n-1 w1)))
     × (refusal start (Group (Create n5 (node_at 5) ∷ Nodes w1 (n-1 ∷ n5 ∷ []) ∷ Delete n5 ∷ [])) ≡ Some (at_position 2 (InUse n5 w1)))
 
--- what a group makes and takes back is nothing; of no actions too
+-- a group that undoes what it does changes nothing, and neither does an empty group
 unfoldable pub there_and_back : Type 0
 there_and_back =
     (refusal start (Group (Create n5 (node_at 5) ∷ Delete n5 ∷ [])) ≡ Some (alone Nothing))
     × (refusal start (Group []) ≡ Some (alone Nothing))
 
--- w1 is laid to n5 and back, and r1 gets a tag
+-- routes w1 to n5 and back, and gives r1 a tag
 abbrev pub detour : Edit Any
 detour = Group (Nodes w1 (n-1 ∷ n5 ∷ []) ∷ Nodes w1 (n-1 ∷ n-2 ∷ []) ∷ Retag r1 ((x, Some outer) ∷ []) ∷ [])
 
--- the cells that a group changes are fewer than those that it looks at: beside the subjects this one has the rest of n5
--- and of n-2, which its actions begin and cease to name, and it is refused where n5 is not there
+-- a group looks at more cells than it changes: this one also has the rest of n5 and of n-2, which its actions begin and
+-- cease to refer to, and is refused if n5 is absent
 unfoldable pub looked_at : Type 0
 looked_at =
     (changed_cells (changes (put_row start n5 (node_at 5)) detour) ≡ tags_at r1 ∷ [])
@@ -53,7 +53,7 @@ looked_at =
 abbrev pub swing : Edit Any
 swing = Group (Move (w1 ∷ []) (pos 10) (pos 0) ∷ Move (w1 ∷ []) (negsuc 9) (pos 0) ∷ Retag r1 ((x, Some outer) ∷ []) ∷ [])
 
--- what is moved there and back is looked at too, also the nodes of a way
+-- a move there and back is in the footprint, with the nodes of a moved way
 unfoldable pub moved_back : Type 0
 moved_back =
     (changed_cells (changes start swing) ≡ tags_at r1 ∷ [])

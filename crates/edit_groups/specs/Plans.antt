@@ -1,4 +1,4 @@
--- What the plan of an edit returns. (Groups are this project's.)
+-- The result of planning an edit. (Groups are this project's.)
 use Rattle.std.specs.Prelude.{◌≡◌, ◌⊎◌, ℕ, List, Some, None, Result, Ok, Err}
 use Rattle.osm_elements.specs.Maps.{Rows}
 use Rattle.osm_changes.specs.declared.cell.Cell.{Cell}
@@ -11,7 +11,7 @@ use Rattle.edit_groups.specs.Edits.{changes, refusal, footprint}
 use Rattle.edit_groups.specs.Groups.{alone}
 
 module _ {A : Type 0} where
-  -- the changes and the footprint of an accepted edit; otherwise its refusal; or out of memory in place of any answer
+  -- the changes and the footprint of an accepted edit, or its refusal; `Memory` may replace either
   abbrev pub IsEditPlan : Rows A → Edit A → Result (List (Change A) × List Cell) (EditRefusal A) → Type 0
   IsEditPlan m e (Ok p) = (refusal m e ≡ None) × (p.0 ≡ changes m e) × (p.1 ≡ footprint m e)
   IsEditPlan m e (Err r) = (refusal m e ≡ Some r) ⊎ (r ≡ alone Memory)

@@ -1,4 +1,4 @@
-//! The actions of a group.
+//! A group's list of actions.
 ghost use Rattle.std.specs.Prelude.{◌≡◌, true, length, IfSome};
 ghost use Rattle.std.specs.Option.{is_some};
 ghost use Rattle.edit_groups.specs.Groups.{is_group_length};
@@ -7,17 +7,17 @@ use edit_actions::action::Action;
 use std::alloc::Allocator;
 use std::marker::Model;
 
-/// The most actions that a group has, a limit of this project.
+/// The greatest number of actions in a group, a limit of this project.
 pub const MOST_ACTIONS: usize = 10000;
 
-/// One to [`MOST_ACTIONS`] actions, in their order.
+/// A list of 1 to [`MOST_ACTIONS`] actions.
 #[derive(Drop)]
 #[derive_where(Debug)]
 pub struct Actions<A: Allocator> {
     actions: Vec<Action<A>, A>,
 }
 
-// Actions are modelled as the list of them.
+// The model of these actions is their list.
 impl<A: Allocator> Model for Actions<A> {
     ghost use Rattle.std.specs.Prelude.{◌≡◌, List, length, true};
     ghost use Rattle.edit_actions.specs.declared.action.Action.{Action};
@@ -31,7 +31,7 @@ impl<A: Allocator> Model for Actions<A> {
 }
 
 impl<A: Allocator> Actions<A> {
-    /// Returns the actions of a vector, in its order, or none if the vector has no action or more than
+    /// Returns the actions of a vector, in its order, or `None` if the vector has no action or more than
     /// [`MOST_ACTIONS`]. It allocates nothing.
     pub fn from_vec(actions: Vec<Action<A>, A>) -> Option<Actions<A>>
         ensures some { IfSome result (λ g. g ≡ actions.items) }
@@ -47,7 +47,7 @@ impl<A: Allocator> Actions<A> {
     /// Returns the actions in their order.
     pub fn as_slice(&self) -> &[Action<A>]
         ensures actions { result.now ≡ self.now }
-        // What holds of every group.
+        // True of every group.
         ensures length { is_group_length (length self.now) ≡ true }
     {
         &self.actions

@@ -13,8 +13,12 @@ use osm_elements::element::Element;
 use osm_elements::name::Name;
 use std::alloc::Allocator;
 
-/// Returns the changes from one map to another, which has other rows at the given names at most; or `Memory`. The names
-/// rise. It costs two look-ups for each name, and a copy of its rows.
+/// Returns the changes from one map to another, whose rows differ at most at the given names. The names rise. For each
+/// name, it costs two look-ups and a copy of both rows.
+///
+/// # Errors
+///
+/// `Memory`, if an allocation fails.
 pub fn changes_between<A: Allocator + Clone, M: Lookup<A>, N: Lookup<A>>(
     alloc: A,
     before: &M,
@@ -35,7 +39,6 @@ pub fn changes_between<A: Allocator + Clone, M: Lookup<A>, N: Lookup<A>>(
     Ok(changes)
 }
 
-// A copy of an element, if there is one.
 fn copy_of<A: Allocator + Clone>(element: Option<&Element<A>>) -> Result<Option<Element<A>>, Memory>
     ensures { IfOk result (λ copy. copy ≡ option_copied element.entry) }
 {

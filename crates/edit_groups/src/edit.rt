@@ -1,4 +1,4 @@
-//! What an author can do as one entry.
+//! Edits: what an author can do in one entry.
 ghost use Rattle.std.specs.Prelude.{◌≡◌, true};
 ghost use Rattle.edit_groups.specs.Edits.{is_made_edit};
 ghost use Rattle.edit_groups.specs.Groups.{are_made};
@@ -18,7 +18,7 @@ pub enum Edit<A: Allocator> {
     Group(Actions<A>),
 }
 
-/// What holds of every edit, by the types of its values. It does nothing.
+/// Proves that the values of an edit are made, from the invariants of their types. It does nothing.
 pub fn keeps_values<A: Allocator>(edit: &Edit<A>)
     ensures { is_made_edit edit.now ≡ true }
 {
@@ -28,7 +28,7 @@ pub fn keeps_values<A: Allocator>(edit: &Edit<A>)
     }
 }
 
-// What holds of the actions of every group. It does nothing.
+// Proves that the values of all actions are made. It does nothing.
 fn all_keep_values<A: Allocator>(actions: &[Action<A>])
     ensures { are_made actions.now ≡ true }
 {

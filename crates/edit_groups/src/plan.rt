@@ -1,4 +1,4 @@
-//! The plan of an edit: what it would change in a store, or why it is refused.
+//! Plans of edits: the changes that an edit would make in a store, or its refusal.
 ghost use Rattle.std.specs.Prelude.{◌≡◌, ◌⊎◌, true, Some, None, IfOk, IfErr, OnOk};
 ghost use Rattle.osm_changes.specs.Cells.{cell_set};
 ghost use Rattle.osm_changes.specs.Changes.{changed, AreFrom};
@@ -24,13 +24,15 @@ use osm_changes::store::Store;
 use osm_drafts::draft::Draft;
 use std::alloc::Allocator;
 
-/// Plans an edit on a store, which does not change. Returns the changes to the map after all of the edit, and the cells
-/// that the edit touches. It costs what its actions cost, times a logarithm, and never the map.
+/// Plans an edit on a store, which is unchanged. Returns the changes to the map after the whole edit, and the footprint
+/// of the edit. It costs what its actions cost, times a logarithm, and does not depend on the size of the map.
 ///
 /// # Errors
 ///
-/// The first action that is refused on the map that the actions before it lead to, with its position in a group;
-/// `Nothing` if a group leads to the map that is there; `Memory`, in place of any answer, if an allocation failed.
+/// - The refusal of the first action that is refused on the map that the previous actions lead to, with its position in
+///   a group
+/// - `Nothing`, if a group does not change the map
+/// - `Memory`, in place of any result, if an allocation fails
 pub fn plan_edit<A: Allocator + Copy>(
     alloc: A,
     store: &Store<A>,
@@ -40,7 +42,7 @@ pub fn plan_edit<A: Allocator + Copy>(
     // The changes can be applied to the store.
     ensures from { IfOk result (λ p. AreFrom store.now.rows p.0) }
     ensures sound { IfOk result (λ p. is_sound (changed store.now.rows p.0) ≡ true) }
-    // What holds of every edit.
+    // True of every edit.
     ensures made { is_made_edit edit.now ≡ true }
 {
     differences_are_changes::<A>();
@@ -49,7 +51,6 @@ pub fn plan_edit<A: Allocator + Copy>(
     planned_edit(alloc, store, edit)
 }
 
-// The plan, by the kind of the edit.
 fn planned_edit<A: Allocator + Copy>(
     alloc: A,
     store: &Store<A>,
@@ -63,7 +64,6 @@ fn planned_edit<A: Allocator + Copy>(
     }
 }
 
-// The plan of one action.
 fn plan_one<A: Allocator + Copy>(
     alloc: A,
     store: &Store<A>,
@@ -79,7 +79,6 @@ fn plan_one<A: Allocator + Copy>(
     }
 }
 
-// The plan of a group.
 fn plan_group<A: Allocator + Copy>(
     alloc: A,
     store: &Store<A>,
@@ -110,7 +109,7 @@ fn plan_group<A: Allocator + Copy>(
     }
 }
 
-// The refusal of the action at a position. If an allocation failed, it has none.
+// Returns the refusal of the action at a position. `Memory` has no position.
 fn refused_at<A: Allocator>(position: u32, why: Refusal<A>) -> EditRefusal<A>
     ensures memory { why ≡ OutOfMemory → result ≡ alone OutOfMemory }
     ensures position { (result ≡ alone OutOfMemory) ⊎ (result ≡ at_position position why) }
@@ -127,7 +126,7 @@ fn refused_at<A: Allocator>(position: u32, why: Refusal<A>) -> EditRefusal<A>
     }
 }
 
-// What a group without a refused action changes and touches; or `Nothing`, if it changes nothing.
+// Returns the changes and the footprint of a group without a refused action, or `Nothing` if it changes nothing.
 fn accepted<A: Allocator>(
     changes: Changes<A>,
     cells: Vec<Cell, A>,

@@ -1,4 +1,4 @@
-//! The plan of one action on a draft, and the draft after it.
+//! Plans one action on a draft, and writes its changes over the draft.
 ghost use Rattle.std.specs.Prelude.{◌≡◌, ◌⊎◌, ◌++◌, map, true, Some, None, IfOk, IfErr, OnOk};
 ghost use Rattle.osm_changes.specs.Sound.{is_sound};
 ghost use Rattle.edit_simple.specs.declared.refusal.Refusal.TheVariants.{Memory as OutOfMemory};
@@ -20,7 +20,7 @@ use osm_elements::Memory;
 use osm_elements::name::Name;
 use std::alloc::Allocator;
 
-/// Returns what an action changes and touches on a draft, or why it is refused.
+/// Returns the changes and the footprint of an action on a draft, or its refusal.
 pub fn planned<A: Allocator + Copy>(
     alloc: A,
     draft: &Draft<'_, A>,
@@ -39,8 +39,8 @@ pub fn planned<A: Allocator + Copy>(
     Ok((changes, footprint))
 }
 
-/// Returns the draft after an action, or why the action is refused on it. Appends the changed names, each once or
-/// twice, and the cells that the action touches.
+/// Returns the draft after an action, or the action's refusal. Appends the changed names, each once or twice, and the
+/// cells that the action touches.
 pub fn step<'s, A: Allocator + Copy>(
     alloc: A,
     draft: Draft<'s, A>,

@@ -1,4 +1,4 @@
--- The worked examples, by evaluation.
+-- The worked examples hold by evaluation.
 use Rattle.std.proofs.Common.{refl}
 use Rattle.osm_elements.specs.NameOrder.{name_cmp}
 use Rattle.edit_simple.specs.Examples.{in_use, own_member, nothing, created, retagged, moved, relisted, purged, create_refusals, retag_refusals, move_refusals, relist_refusals}

@@ -1,4 +1,4 @@
--- Moves of nodes one by one.
+-- Moves, node by node.
 use Rattle.std.proofs.Common.{◌≡◌, ◌≢◌, ◌⊎◌, ◌<◌, ◌+◌, ◌+ℤ◌, ℕ, ℤ, pos, zero, suc, Bool, true, false, not, ◌&&◌, T, List, [], ◌∷◌, ◌++◌, Option, Some, None, Result, Ok, Err, inl, inr, is_some, neg_ℤ, int_le, length, take, drop, get_or, refl, sym, ap, subst, ◌∙◌, cond, arith}
 use Rattle.std.proofs.lemmas.List.{take_more, take-append-drop}
 use Rattle.std.proofs.lemmas.List.Elements.{filter-append}
@@ -68,7 +68,7 @@ module _ {A : Type 0} (m : Rows A) (dlat dlon : ℤ) where
   moved_apart (Some (Way nodes tags)) far h = absurd (cc)
   moved_apart (Some (Relation members tags)) far h = absurd (cc)
 
-  -- the changes of one more
+  -- the changes of one more node
   module _ (xs : List Name) (i : ℕ) (x : Name) (l : i < length xs) (is : x ≡ get_or xs i x) where
     pub push_fits : (cs : List (Change A)) (o p : Option (Element A)) → MayMove m xs dlat dlon → cs ≡ rows_changes m (moved_row m dlat dlon) (take i xs) → o ≡ row_at m x → p ≡ moved_row m dlat dlon x
         → AreChanges (cs ++ row_changes x o p)
@@ -100,7 +100,7 @@ told_within limit z new e = by (int_le (neg_ℤ (pos limit)) z && int_le z (pos 
     by false f = absurd (cc)
 
 module _ {A : Type 0} (m : Rows A) (dlat dlon : ℤ) where
-  -- a node that is moved
+  -- the element of a moved node
   pub node_moved : (x : Name) (v : Element A) (lat lon new_lat new_lon : ℤ) (tags copied : Pairs) (before : Element A) → Some v ≡ row_at m x → v ≡ Node lat lon tags
       → Some new_lat ≡ latitude (lat +ℤ dlat) → Some new_lon ≡ longitude (lon +ℤ dlon) → copied ≡ tags → before ≡ v
       → (row_leaves dlat dlon (row_at m x) ≡ false) × (Some before ≡ row_at m x) × (Some (Node new_lat new_lon copied) ≡ moved_row m dlat dlon x)
@@ -116,13 +116,13 @@ module _ {A : Type 0} (m : Rows A) (dlat dlon : ℤ) where
       moved : Some (Node new_lat new_lon copied) ≡ moved_row m dlat dlon x
       moved = (λ i. Some (Node (told_within 900000000 (lat +ℤ dlat) new_lat lat_is i) (told_within 1800000000 (lon +ℤ dlon) new_lon lon_is i) (copy i))) ∙ ap (option_map (moved_by dlat dlon)) (sym row)
 
-  -- the refusal of one node, told of all
+  -- the refusal of one node is the refusal of the whole move
   pub leaving_told : (xs : List Name) (i : ℕ) (x : Name) → i < length xs → x ≡ get_or xs i x → MayMove m xs dlat dlon → leaving m dlat dlon (take i xs) ≡ [] → (r : Refusal A)
       → (((row_leaves dlat dlon (row_at m x) ≡ true) × (r ≡ OutOfRange x)) ⊎ (r ≡ Memory)) → ((y : Name) × (least (leaving m dlat dlon xs) ≡ Some y) × (r ≡ OutOfRange y)) ⊎ (r ≡ Memory)
   leaving_told xs i x l is may none r (inl h) = inl (x, first_leaving m dlat dlon xs i x l is may none h.0, h.1)
   leaving_told xs i x l is may none r (inr h) = inr h
 
--- a fact of two distances, for two that are equal to these
+-- a fact about two distances holds for equal distances
 pub of_distances : (P : ℤ → ℤ → Type 0) (d e dlat dlon : ℤ) → d ≡ dlat → e ≡ dlon → P d e → P dlat dlon
 of_distances P d e dlat dlon a b h = subst (λ z. P dlat z) b (subst (λ z. P z e) a h)
 

@@ -89,7 +89,7 @@ module _ {A : Type 0} (m : Rows A) (sound : is_sound m ≡ true) where
           none true = refl
           none false = refl
 
-  -- the names that are moved
+  -- the list of moved nodes contains exactly the nodes that move
   pub moved_are : (list : List Name) → list_all (is_present m) list ≡ true → (n : Name) → is_among (all_moved m list) n ≡ is_moved m list n
   moved_are [] here n = none (is_node n.kind)
     where
@@ -101,7 +101,7 @@ module _ {A : Type 0} (m : Rows A) (sound : is_sound m ≡ true) where
       ∙ (λ i. sym (one_moved w n (row_at m w) refl (first_true (is_present m w) (list_all (is_present m) ws) here)) i || moved_are ws (second_true (is_present m w) (list_all (is_present m) ws) here) n i)
       ∙ sym (apart (is_node n.kind) (is_same n w) (is_among (nodes_of (row_at m w)) n) (is_among ws n) (list_any (λ z. is_among (nodes_of (row_at m z)) n) ws))
 
-  -- what is moved is a node that is there
+  -- the map has each name in the list of moved nodes
   there : (list : List Name) → list_all (is_present m) list ≡ true → (n : Name) → is_among (all_moved m list) n ≡ true → is_present m n ≡ true
   there [] here n i = absurd (cc)
   there (w ∷ ws) here n i =

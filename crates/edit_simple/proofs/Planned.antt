@@ -1,4 +1,4 @@
--- Plans that were made.
+-- Results of plans.
 use Rattle.std.proofs.Common.{◌≡◌, false, not, List, [], ◌∷◌, Option, Some, None, Ok, Err, is_some, inl, refl, sym, ap, ◌∙◌}
 use Rattle.std.specs.Bool.{then_some}
 use Rattle.std.specs.Option.{option_map}

@@ -1,4 +1,4 @@
--- Purges name by name.
+-- Purges, name by name.
 use Rattle.std.proofs.Common.{◌≡◌, ◌<◌, ◌≤◌, ◌+◌, ℕ, suc, Bool, true, false, not, ◌&&◌, ◌||◌, List, [], ◌∷◌, ◌++◌, append-nil, length, take, get_or, count_by, nat_lt, refl, sym, ap, ◌∙◌, cond, arith}
 use Rattle.std.proofs.lemmas.Bool.Decides.{nat_tests}
 use Rattle.std.proofs.lemmas.List.Sums.{length-filter, fold-append}
@@ -15,7 +15,7 @@ use Rattle.edit_simple.specs.Purge.{without, falls_short}
 use Rattle.edit_simple.specs.Facts.Purging.{shorter}
 use Rattle.edit_simple.specs.Facts.LeastNames.{filter_more}
 
--- ---- what is left of a list
+-- ---- lists without a name
 
 below : (a b : ℕ) → a < b → nat_lt a b ≡ true
 below a b h = grind (arith, nat_tests)
@@ -30,7 +30,7 @@ one_more a b = by (nat_lt a b) refl
     by true e = grind (arith, nat_tests)
     by false e = grind (arith, nat_tests)
 
--- fewer are left where the name is among them
+-- a list gets shorter without a name if and only if it contains the name
 fewer : (x : Name) (xs : List Name) → nat_lt (length (without x xs)) (length xs) ≡ is_among xs x
 fewer x [] = refl
 fewer x (y ∷ ys) = by (is_same x y) (fewer x ys)
@@ -54,7 +54,7 @@ module _ (x : Name) (xs : List Name) (left : ℕ) (counted : left ≡ count_by (
       not_below left (length xs) h
       ∙ ap (λ b. b && nat_lt (length (without x xs)) 2) (sym (sym (fewer x xs) ∙ ap (λ n. nat_lt n (length xs)) (sym left_is) ∙ not_below left (length xs) h))
 
--- ---- the names that go
+-- ---- the removed names
 
 inserted : (x : Name) (xs : List Name) → insert_key name_cmp xs x ≡ with_name x xs
 inserted x [] = refl
@@ -64,7 +64,7 @@ module _ {A : Type 0} (m : Rows A) (x : Name) (users : List Name) (i : ℕ) (u :
   gone_next : name_set (all_gone m (take (i + 1) users) x) ≡ name_set (all_gone m (take i users) x ++ cond (falls_short x (nodes_of (row_at m u))) (u ∷ []) [])
   gone_next = ap (λ l. name_set (x ∷ l)) (filter_more (λ e. falls_short x (nodes_of (row_at m e))) users i u h is)
 
-  -- one user more, which goes
+  -- one more user, which is removed
   pub gone_more : (cmp : Name → Name → Ordering) → cmp ≡ name_cmp → (keys more : List Name) → keys ≡ name_set (all_gone m (take i users) x) → more ≡ insert_key cmp keys u
       → true ≡ falls_short x (nodes_of (row_at m u)) → more ≡ name_set (all_gone m (take (i + 1) users) x)
   gone_more cmp by_name keys more before put goes =
@@ -72,7 +72,7 @@ module _ {A : Type 0} (m : Rows A) (x : Name) (users : List Name) (i : ℕ) (u :
       ∙ sym (fold-append (λ set e. with_name e set) [] (all_gone m (take i users) x) (u ∷ []))
       ∙ ap (λ b. name_set (all_gone m (take i users) x ++ cond b (u ∷ []) [])) goes ∙ sym gone_next
 
-  -- one user more, which stays
+  -- one more user, which stays
   pub gone_still : (keys : List Name) → keys ≡ name_set (all_gone m (take i users) x) → false ≡ falls_short x (nodes_of (row_at m u)) → keys ≡ name_set (all_gone m (take (i + 1) users) x)
   gone_still keys before stays =
       before ∙ ap name_set (sym (append-nil (all_gone m (take i users) x))) ∙ ap (λ b. name_set (all_gone m (take i users) x ++ cond b (u ∷ []) [])) stays ∙ sym gone_next

@@ -1,4 +1,4 @@
--- Plans of purges: which rows change, and what they become.
+-- The plan of a purge: which rows change, and how.
 use Rattle.std.proofs.Common.{◌≡◌, ◌≢◌, ℕ, Bool, true, false, not, ◌&&◌, ◌||◌, List, [], ◌∷◌, Option, Some, None, Ok, is_some, length, map, nat_lt, refl, sym, ap, subst, ◌∙◌, cond}
 use Rattle.std.specs.Bool.{then_some}
 use Rattle.std.specs.List.{filter, flat_map}
@@ -54,7 +54,7 @@ to_flat_map f (x ∷ xs) u y i j = is_among-append y (f x) (flat_map f xs) ∙ b
     by true s k rest = or_left (is_among (f x) y) (is_among (flat_map f xs) y) (ap (λ z. is_among (f z) y) (sym (same_names u x s)) ∙ j)
     by false s k rest = or_right (is_among (f x) y) (is_among (flat_map f xs) y) (rest k j)
 
--- where all names pass, all members are left
+-- if all names pass, a filter keeps all members
 members_stay : (p : Name → Bool) (members : List (Name × List ℕ)) → ((e : Name) → is_among (map (λ r. r.0) members) e ≡ true → p e ≡ true) → filter (λ r. p r.0) members ≡ members
 members_stay p [] h = refl
 members_stay p (r ∷ members) h =
@@ -74,7 +74,7 @@ module _ {A : Type 0} (m : Rows A) (x : Name) (sound : is_sound m ≡ true) wher
       by None h = absurd (cc)
       by (Some v) h = refl
 
-  -- a way that falls short is a user
+  -- a way that would be too short is a user
   short_is_user : (e : Name) → falls_short x (nodes_of (row_at m e)) ≡ true → is_among (users m x) e ≡ true
   short_is_user e short = among_users x e ∙ by (row_at m e) short
     where
@@ -84,7 +84,7 @@ module _ {A : Type 0} (m : Rows A) (x : Name) (sound : is_sound m ≡ true) wher
       by (Some (Way nodes tags)) h = first_true (is_among nodes x) (nat_lt (length (without x nodes)) 2) h
       by (Some (Relation members tags)) h = absurd (cc)
 
-  -- a row that refers to what goes becomes another: the map after is sound
+  -- a row that refers to a removed name changes, because the map after is sound
   user_changes : (e y : Name) → goes m x e ≡ true → is_among (users m e) y ≡ true → row_at (after_purge m x) y ≢ row_at m y
   user_changes e y gone uses same = by (row_at m y) refl (sym (among_users e y) ∙ uses)
     where
@@ -92,7 +92,7 @@ module _ {A : Type 0} (m : Rows A) (x : Name) (sound : is_sound m ≡ true) wher
       by None is h = cc
       by (Some v) is h = cc (sym ((fine (after_purge m x) (purge_sound m x sound) y v (same ∙ is)).refs e h) ∙ ap is_some (is_gone m x e gone))
 
-  -- ---- what goes
+  -- ---- the removed names
 
   abbrev gone : List Name
   gone = name_set (all_gone m (users m x) x)
@@ -110,7 +110,7 @@ module _ {A : Type 0} (m : Rows A) (x : Name) (sound : is_sound m ≡ true) wher
   row_is y =
       (λ i. cond (gone_is y i) None (option_map (λ v. with_nodes (without x) (with_members (filter (λ r. not (gone_is r.0 i))) v)) (row_at m y))) ∙ sym (row_at-after_purge m x y)
 
-  -- ---- what is reached
+  -- ---- the reached names, whose rows change
 
   abbrev met : Name → List Name
   met u = u ∷ cond (goes m x u) (users m u) []
@@ -121,7 +121,7 @@ module _ {A : Type 0} (m : Rows A) (x : Name) (sound : is_sound m ≡ true) wher
   reached_is : all_reached (table_of m) gone x ≡ reached
   reached_is = λ i. x ∷ flat_map (λ u. u ∷ cond (gone_is u i) (users_in-table_of m u i) []) (users_in-table_of m x i)
 
-  -- the users of what goes are reached
+  -- the users of removed names are reached
   reaches : (e y : Name) → goes m x e ≡ true → is_among (users m e) y ≡ true → is_among reached y ≡ true
   reaches e y g uses = or_right (is_same y x) (is_among (flat_map met (users m x)) y) (by (is_same x e) refl g)
     where
@@ -132,7 +132,7 @@ module _ {A : Type 0} (m : Rows A) (x : Name) (sound : is_sound m ≡ true) wher
           to_flat_map met (users m x) e y (short_is_user e h)
           (or_right (is_same y e) (is_among (cond (goes m x e) (users m e) []) y) (ap (λ b. is_among (cond b (users m e) []) y) g ∙ uses))
 
-  -- what goes is reached
+  -- removed names are reached
   gone_reached : (y : Name) → goes m x y ≡ true → is_among reached y ≡ true
   gone_reached y g = by (is_same x y) refl g
     where
@@ -140,7 +140,7 @@ module _ {A : Type 0} (m : Rows A) (x : Name) (sound : is_sound m ≡ true) wher
       by true s h = or_left (is_same y x) (is_among (flat_map met (users m x)) y) (same_either_way y x ∙ s)
       by false s h = reaches x y (x_goes m x) (short_is_user y h)
 
-  -- what is reached is the purged name, or a user of what goes
+  -- a reached name is the purged name or a user of a removed name
   reached_from : (y : Name) → is_among reached y ≡ true → is_same y x ≡ false → (e : Name) × (goes m x e ≡ true) × (is_among (users m e) y ≡ true)
   reached_from y i other =
       let f = from_flat_map met (users m x) y (ap (λ b. b || is_among (flat_map met (users m x)) y) (sym other) ∙ i) in
@@ -152,7 +152,7 @@ module _ {A : Type 0} (m : Rows A) (x : Name) (sound : is_sound m ≡ true) wher
       by u j false s true g h = (u, g, h)
       by u j false s false g h = absurd (cc)
 
-  -- ---- each other row stays
+  -- ---- all other rows stay
 
   module _ (y : Name) (out : is_among reached y ≡ false) where
     refers_to_none : (v : Element A) → row_at m y ≡ Some v → (e : Name) → goes m x e ≡ true → refers_to v e ≡ false
@@ -185,7 +185,7 @@ module _ {A : Type 0} (m : Rows A) (x : Name) (sound : is_sound m ≡ true) wher
         by None is = refl
         by (Some v) is = ap Some (same_element v is)
 
-  -- ---- each that is reached becomes another
+  -- ---- each reached row changes
 
   module _ (here : is_present m x ≡ true) where
     reached_there : (y : Name) → is_among reached y ≡ true → is_present m y ≡ true
@@ -220,7 +220,7 @@ module _ {A : Type 0} (m : Rows A) (x : Name) (sound : is_sound m ≡ true) wher
     changes_are : rows_changes m (purged_row m gone x) (name_set reached) ≡ differences m (after_purge m x)
     changes_are = rows_differing m (after_purge m x) (purged_row m gone x) (name_set reached) (IsRising-name_set reached) set_differs (λ y i. row_is y)
 
-    -- ---- the plan, with the names as they are found
+    -- ---- the plan, with the names that the code finds
 
     module _ (known : Table) (known_is : known ≡ table_of m) (its keys names : List Name) (its_are : its ≡ users_in known x) (keys_are : keys ≡ name_set (all_gone m its x))
         (names_are : names ≡ name_set (all_reached known keys x)) where

@@ -1,4 +1,4 @@
--- Plans of other lists.
+-- The plans that give an element a new list.
 use Rattle.std.proofs.Common.{◌≡◌, ◌≢◌, ◌≤◌, ◌⊎◌, arith, ℕ, Bool, true, false, not, ◌&&◌, List, [], ◌∷◌, Option, Some, None, Result, Ok, Err, MatchResult, inl, inr, is_some, length, map, nat_lt, reverse, refl, sym, ap, ◌∙◌, cond}
 use Rattle.std.proofs.lemmas.Bool.Decides.{nat_tests}
 use Rattle.std.specs.Bool.{then_some}
@@ -29,7 +29,7 @@ use Rattle.edit_simple.specs.Facts.Differences.{one_rewritten}
 use Rattle.edit_simple.specs.Facts.Kinds.{way_there, relation_there}
 use Rattle.edit_simple.specs.Facts.Relisting.{same_nodes_itself, same_members_itself}
 
--- what a test of a length tells
+-- the result of a test of a length
 pub not_below : (n len k : ℕ) → n ≡ len → k ≤ n → false ≡ nat_lt len k
 not_below n len k e h = grind (arith, nat_tests)
 
@@ -37,12 +37,12 @@ pub not_above : (n len k : ℕ) → n ≡ len → n ≤ k → false ≡ nat_lt k
 not_above n len k e h = grind (arith, nat_tests)
 
 module _ {A : Type 0} where
-  -- what a change of one list answers
+  -- the result of changing one list
   abbrev pub Changed : Name → Bool → Element A → Element A → Result (List (Change A)) (Refusal A) → Type 0
   Changed x same v w r =
       MatchResult r (λ cs. (same ≡ false) × (cs ≡ row_changes x (Some v) (Some w))) (λ e. ((same ≡ true) × (e ≡ Nothing)) ⊎ (e ≡ Memory))
 
-  -- a plan where only the last check is left, that the list is another
+  -- a plan whose only remaining check is that the list changes
   pub changed_planned : (m n : Rows A) (checks : List (Option (Refusal A))) (x : Name) (same : Bool) (v w : Element A)
       → first_that_holds checks ≡ first_that_holds (then_some same Nothing ∷ []) → (same ≡ false → row_changes x (Some v) (Some w) ≡ differences m n)
       → (r : Result (List (Change A)) (Refusal A)) → Changed x same v w r → IsPlan m checks n r
@@ -56,7 +56,7 @@ module _ {A : Type 0} where
   members_apart : (members others : List (Name × List ℕ)) (t u : Pairs) → are_same_members members others ≡ false → ◌≢◌ {A = Option (Element A)} (Some (Relation others t)) (Some (Relation members u))
   members_apart members others t u other e = cc (sym (same_members_itself others) ∙ ap (λ o. are_same_members (members_of o) others) e ∙ other)
 
-  -- where the new name is there, nothing else is missing than what is absent
+  -- if the map has x, a name is missing if and only if it is absent
   missing_is_absent : (m : Rows A) (x : Name) → is_present m x ≡ true → (names : List Name) → filter (is_missing m x) names ≡ filter (is_absent m) names
   missing_is_absent m x here [] = refl
   missing_is_absent m x here (y ∷ ys) = by (is_same x y) refl (missing_is_absent m x here ys)
@@ -91,7 +91,7 @@ module _ {A : Type 0} where
 
   -- ---- nodes
 
-  -- what is left of the checks of a way that is there
+  -- the remaining checks of a way that is there
   nodes_left : (m : Rows A) (w : Name) (list nodes : List Name) (tags : Pairs) → is_way w.kind ≡ true → row_at m w ≡ Some (Way nodes tags) → false ≡ nat_lt (length list) 2 → false ≡ nat_lt most_nodes (length list)
       → (o : Option Name) → o ≡ least (filter (is_missing m w) list)
       → first_that_holds (nodes_checks m w list) ≡ first_that_holds (option_map {T = Name} {U = Refusal A} Absent o ∷ then_some (are_same_names nodes list) Nothing ∷ [])
@@ -142,7 +142,7 @@ module _ {A : Type 0} where
       (members_left m r list members tags relation is many None none)
       (λ other. one_rewritten m r (with_members (λ _. list)) (Relation members tags) is (members_apart members list tags tags other)) a h
 
-  -- ---- what is at a name of a kind
+  -- ---- the row at a name of a kind
 
   pub way_or_none : (m : Rows A) (w : Name) (v : Element A) → is_sound m ≡ true → true ≡ is_way w.kind → Some v ≡ row_at m w → ((nodes : List Name) (tags : Pairs) → v ≢ Way nodes tags) → ⊥
   way_or_none m w v sound way is apart =

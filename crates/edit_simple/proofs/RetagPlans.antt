@@ -1,4 +1,4 @@
--- Plans of retags.
+-- The plan of a retag.
 use Rattle.std.proofs.Common.{◌≡◌, ◌≢◌, ◌⊎◌, ◌≤◌, ◌<◌, ◌+◌, ℕ, true, false, not, T, List, [], ◌∷◌, ◌++◌, Option, Some, None, Ok, inl, inr, is_some, length, map, take, drop, get_or, nat_lt, refl, sym, ap, subst, ◌∙◌, arith}
 use Rattle.std.proofs.lemmas.Bool.Decides.{nat_tests}
 use Rattle.std.proofs.lemmas.List.{map-append, take-append-drop}
@@ -34,7 +34,7 @@ use Rattle.edit_simple.specs.Facts.Retagging.{tags_of-with_tags, same_tags_itsel
 use Rattle.edit_simple.proofs.Retagged.{two_goes, sorted-all_valued, too_many_in_the_end}
 
 module _ {A : Type 0} where
-  -- where a new key finds a thousand tags, there are more in the end
+  -- if a new key finds 1,000 tags, there are more than 1,000 in the end
   pub too_many_given : (rows : List (Keyed (Option (List ℕ)) A)) (t u : Pairs) (i : ℕ) (x : Keyed (Option (List ℕ)) A) → T (is_sorted text_cmp t) → i < length rows → x ≡ get_or rows i x → u ≡ all_valued t (map given_pair (take i rows))
       → is_some x.value ≡ true → is_some (value_at u x.key) ≡ false → 1000 ≤ length u → 1000 < length (all_valued t (map given_pair rows))
   too_many_given rows t u i x sorted l is inv some new full =
@@ -57,14 +57,14 @@ module _ {A : Type 0} where
       by None s = absurd (cc)
       by (Some value) s = too_many_in_the_end x.key value rest u sorted_u new full
 
-  -- the fault of one key, told of all
+  -- the fault of one key is the fault of all keys
   pub fault_told : (rows : List (Keyed (Option (List ℕ)) A)) (t u : Pairs) (i : ℕ) (x : Keyed (Option (List ℕ)) A) (f : TextFault) → T (is_sorted text_cmp t) → i < length rows → x ≡ get_or rows i x → u ≡ all_valued t (map given_pair (take i rows))
       → ((f ≡ faults.Memory) ⊎ ((f ≡ faults.TooManyTags) × (is_some x.value ≡ true) × (is_some (value_at u x.key) ≡ false) × (1000 ≤ length u)))
       → ((f ≡ faults.TooManyTags) × (1000 < length (all_valued t (map given_pair rows)))) ⊎ (f ≡ faults.Memory)
   fault_told rows t u i x f sorted l is inv (inl h) = inr h
   fault_told rows t u i x f sorted l is inv (inr h) = inl (h.0, too_many_given rows t u i x sorted l is inv h.1 h.2 h.3)
 
--- what the two goes make
+-- the tags after both passes
 module _ (t copied less new : Pairs) (g g2 g4 : GivenTags) (copy : copied ≡ t) (same2 : g2 ≡ g) (same4 : g4 ≡ g) (removed : less ≡ all_removed copied g2) (tags : AreTagRows t) (given : AreGiven g) where
   made : all_valued less g4 ≡ retagged t g
   made = (λ i. all_valued (removed i) (same4 i)) ∙ (λ i. all_valued (all_removed (copy i) (same2 i)) g) ∙ two_goes g t (sorted_rows (is_none_or is_short) g given) (sorted_rows is_short t tags)
@@ -80,7 +80,7 @@ module _ (t copied less new : Pairs) (g g2 g4 : GivenTags) (copy : copied ≡ t)
   retagged_over f is (inr e) = absurd (cc (sym is ∙ e))
 
 module _ {A : Type 0} where
-  -- elements of other tags
+  -- elements with different tags differ
   pub tags_apart : (v before after : Element A) (own tags : Pairs) → before ≡ v → after ≡ with_tags (λ _. tags) v → own ≡ tags_of v → false ≡ are_same_tags own tags → ◌≢◌ {A = Option (Element A)} (Some after) (Some before)
   tags_apart v before after own tags b a o other e =
       let same : tags ≡ own = sym (tags_of-with_tags (λ _. tags) v) ∙ ap tags_of (sym a) ∙ ap row_tags e ∙ ap tags_of b ∙ sym o in

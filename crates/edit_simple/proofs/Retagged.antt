@@ -1,4 +1,4 @@
--- A retag in two goes is the retag.
+-- A retag in two passes leads to the same tags as a retag in one.
 use Rattle.std.proofs.Common.{◌≡◌, ◌≤◌, ◌<◌, ◌+◌, ℕ, Bool, true, false, not, T, List, [], ◌∷◌, Option, Some, None, is_some, length, refl, sym, ap, ◌∙◌, cond, arith}
 use Rattle.std.specs.List.{fold}
 use Rattle.std.specs.Ordering.{is_eq}
@@ -41,7 +41,7 @@ found-without tags k q =
     by true e = ap (λ z. cond (not (is_eq (text_cmp k z))) (find text_cmp q tags) None) (told q k e) ∙ ap (λ b. cond (not b) (find text_cmp q tags) None) (itself k)
     by false e = ap (λ b. cond (not b) (find text_cmp q tags) None) (turned k q e)
 
--- the value at a key after a retag of one kind, from what is given there and from what was there
+-- the value at a key after the steps of one kind, given the value for the key and the value before
 from_given : (Value → Value → Value) → Option Value → Value → Value
 from_given F None old = old
 from_given F (Some o) old = F o old
@@ -84,7 +84,7 @@ sorted-all_removed = sorted-fold removed sorted-removed
 pub sorted-all_valued : (given : GivenTags) (t : Pairs) → T (is_sorted text_cmp t) → T (is_sorted text_cmp (all_valued t given))
 sorted-all_valued = sorted-fold valued sorted-valued
 
--- what is found after each kind of step
+-- the value after a step of each kind
 now_given : Value → Value → Value
 now_given o old = o
 
@@ -128,18 +128,18 @@ two_goes given tags g h =
     (λ q. found-fold valued now_valued found-valued given g (all_removed tags given) q ∙ ap (from_given now_valued (find text_cmp q given)) (found-fold removed now_removed found-removed given g tags q)
     ∙ both_goes (find text_cmp q given) (find text_cmp q tags) ∙ sym (found-fold tagged now_given found-tagged given g tags q))
 
--- ---- how many tags there are
+-- ---- the number of tags
 
 longer-valued : (t : Pairs) (k : List ℕ) (o : Value) → T (is_sorted text_cmp t) → length t ≤ length (valued t k o)
 longer-valued t k None h = omega arith
 longer-valued t k (Some v) h = longer-put k v t h
 
--- tags that get values grow no fewer
+-- setting values does not reduce the number of tags
 longer-all_valued : (given : GivenTags) (t : Pairs) → T (is_sorted text_cmp t) → length t ≤ length (all_valued t given)
 longer-all_valued [] t h = omega arith
 longer-all_valued (g ∷ gs) t h = omega (arith, longer-valued t g.0 g.1 h, longer-all_valued gs (valued t g.0 g.1) (sorted-valued t g.0 g.1 h))
 
--- a new key where a thousand tags are leaves more than a thousand in the end
+-- a new key added to 1,000 tags leaves more than 1,000 in the end
 pub too_many_in_the_end : (key value : List ℕ) (rest : GivenTags) (t : Pairs) → T (is_sorted text_cmp t) → is_some (find text_cmp key t) ≡ false → 1000 ≤ length t
     → 1000 < length (all_valued (put text_cmp key value t) rest)
 too_many_in_the_end key value rest t h new full =

@@ -1,4 +1,4 @@
--- What rows contain, and rows with other contents. (OpenStreetMap wiki, "Elements".)
+-- The contents of rows, and rows with new contents. (OpenStreetMap wiki, "Elements".)
 use Rattle.std.specs.Prelude.{ℕ, List, [], Option, Some, None, map, if◌then◌else◌}
 use Rattle.osm_elements.specs.declared.name.Name.{Name}
 use Rattle.osm_elements.specs.declared.element.Element.{Element}
@@ -8,19 +8,19 @@ use Rattle.osm_elements.specs.Maps.{Rows, is_same}
 use Rattle.osm_elements.specs.TagRows.{Pairs}
 
 module _ {A : Type 0} where
-  -- the tags of a row, none where there is no row
+  -- the tags of a row; an absent row has none
   abbrev pub row_tags : Option (Element A) → Pairs
   row_tags None = []
   row_tags (Some v) = tags_of v
 
-  -- a way's list; none of another kind
+  -- the nodes of a way; any other row has none
   abbrev pub nodes_of : Option (Element A) → List Name
   nodes_of None = []
   nodes_of (Some (Node lat lon tags)) = []
   nodes_of (Some (Way nodes tags)) = nodes
   nodes_of (Some (Relation members tags)) = []
 
-  -- a relation's members; none of another kind
+  -- the members of a relation; any other row has none
   abbrev pub members_of : Option (Element A) → List (Name × List ℕ)
   members_of None = []
   members_of (Some (Node lat lon tags)) = []
@@ -42,10 +42,10 @@ module _ {A : Type 0} where
   with_members f (Way nodes tags) = Way nodes tags
   with_members f (Relation members tags) = Relation (f members) tags
 
-  -- every row rewritten, by its name and its element
+  -- the map with every element replaced by a function of its name and itself
   abbrev pub each_row : (Name → Element A → Element A) → Rows A → Rows A
   each_row f m = map (λ r. (r.0, f r.0 r.1)) m
 
-  -- every row as it is, but that of x rewritten
+  -- replaces the element of x, and leaves all others
   abbrev pub at_name : Name → (Element A → Element A) → Name → Element A → Element A
   at_name x f y v = if is_same x y then f v else v

@@ -1,4 +1,5 @@
--- To create an element. (OpenStreetMap API v0.6: nothing absent is named. The greatest lengths are this project's.)
+-- The action that creates an element. (OpenStreetMap API v0.6: nothing absent is named. The greatest lengths are this
+-- project's.)
 use Rattle.std.specs.Prelude.{◌&&◌, Bool, false, not, List, [], ◌∷◌, Option, length, nat_lt}
 use Rattle.std.specs.Bool.{then_some}
 use Rattle.std.specs.List.{filter}
@@ -15,23 +16,23 @@ use Rattle.edit_simple.specs.declared.refusal.Refusal.TheVariants.{Absent, Prese
 use Rattle.edit_simple.specs.Checks.{the_least}
 
 module _ {A : Type 0} where
-  -- a way of fewer than 2 nodes
+  -- the element is a way of fewer than 2 nodes
   abbrev pub is_too_short : Element A → Bool
   is_too_short (Node lat lon tags) = false
   is_too_short (Way nodes tags) = nat_lt (length nodes) 2
   is_too_short (Relation members tags) = false
 
-  -- a way of more than 2,000 nodes, or a relation of more than 32,000 members
+  -- the element is a way of more than 2,000 nodes, or a relation of more than 32,000 members
   abbrev pub is_too_long : Element A → Bool
   is_too_long (Node lat lon tags) = false
   is_too_long (Way nodes tags) = nat_lt most_nodes (length nodes)
   is_too_long (Relation members tags) = nat_lt most_members (length members)
 
-  -- a name other than the new one that the map doesn't have
+  -- the map does not have the name e, and e is not the new name
   abbrev pub is_missing : Rows A → Name → Name → Bool
   is_missing m x e = not (is_same x e) && is_absent m e
 
-  -- the list has its length, and what is named is there
+  -- the list is too short, or too long, or refers to a missing name
   abbrev pub list_checks : Rows A → Name → Element A → List (Option (Refusal A))
   list_checks m x v =
       then_some (is_too_short v) (TooFew x)
@@ -39,13 +40,13 @@ module _ {A : Type 0} where
       ∷ the_least Absent (filter (is_missing m x) (references v))
       ∷ []
 
-  -- the kinds are one, the name is new, and the list can be so
+  -- the element is not of the name's kind, or the map has the name, or the list has a fault
   abbrev pub create_checks : Rows A → Name → Element A → List (Option (Refusal A))
   create_checks m x v =
       then_some (not (is_kind (kind_of v) x.kind)) (WrongKind x)
       ∷ then_some (is_present m x) (Present x)
       ∷ list_checks m x v
 
-  -- row x is v
+  -- the map in which x has the element v
   abbrev pub after_create : Rows A → Name → Element A → Rows A
   after_create m x v = put_row m x v

@@ -1,4 +1,4 @@
--- What the worked examples say of the definitions.
+-- Examples of the definitions, worked out by hand.
 use Rattle.std.specs.Prelude.{◌≡◌, ◌++◌, [], ◌∷◌, Some, None, pos, negsuc, replicate}
 use Rattle.osm_elements.specs.declared.element.Element.TheVariants.{Node, Way}
 use Rattle.osm_elements.specs.Maps.{Rows}
@@ -16,7 +16,7 @@ use Rattle.edit_simple.specs.Retag.{retag_checks, after_retag}
 use Rattle.edit_simple.specs.Reverse.{reverse_checks, after_reverse}
 use Rattle.edit_simple.specs.Scenes.{Any, n-1, n-2, n-3, n-7, n-8, n5, w1, w2, w3, w5, r1, r9, node_at, way_of, relation_of, outer, x, start, start_with, refused}
 
--- what is in use is not deleted, and the least user is named
+-- a used element is not deleted, and the refusal has its least user
 unfoldable pub in_use : Type 0
 in_use =
     (refused (delete_checks start n-1) ≡ Some (InUse n-1 w1))
@@ -26,21 +26,21 @@ in_use =
     × (after_delete start r1
     ≡ (n-3, node_at 3) ∷ (n-2, node_at 2) ∷ (n-1, node_at 1) ∷ (w1, way_of (n-1 ∷ n-2 ∷ [])) ∷ (w2, way_of (n-1 ∷ n-3 ∷ n-2 ∷ [])) ∷ [])
 
--- the start after a relation that is its own member was made
+-- the first map after creating a relation that is its own member
 abbrev pub with_itself : Rows Any
 with_itself = after_create start r9 (relation_of ((r9, []) ∷ []))
 
--- a relation may be its own member, and then it uses itself
+-- a relation can be its own member, and then it is its own user
 unfoldable pub own_member : Type 0
 own_member =
     (refused (create_checks start r9 (relation_of ((r9, []) ∷ []))) ≡ None)
     × (refused (delete_checks with_itself r9) ≡ Some (InUse r9 r9))
 
--- the start after a way was made that goes there and back
+-- the first map after creating a way that goes there and back
 abbrev pub with_return : Rows Any
 with_return = after_create start w3 (way_of (n-1 ∷ n-2 ∷ n-1 ∷ []))
 
--- what changes nothing is refused
+-- an action that changes nothing is refused
 unfoldable pub nothing : Type 0
 nothing =
     (refused (reverse_checks with_return w3) ≡ Some Nothing)
@@ -50,7 +50,7 @@ nothing =
     × (refused (nodes_checks with_return w3 (n-1 ∷ n-2 ∷ n-1 ∷ [])) ≡ Some Nothing)
     × (refused (members_checks with_itself r9 ((r9, []) ∷ [])) ≡ Some Nothing)
 
--- a way comes, and its row stands behind those of the lesser names
+-- a created way comes after all lesser names
 unfoldable pub created : Type 0
 created =
     (refused (create_checks start w3 (way_of (n-1 ∷ n-2 ∷ n-1 ∷ []))) ≡ None)
@@ -59,12 +59,11 @@ created =
     ∷ (w3, way_of (n-1 ∷ n-2 ∷ n-1 ∷ [])) ∷ (r1, relation_of ((n-1, []) ∷ (w2, outer) ∷ (w1, outer) ∷ (w2, outer) ∷ [])) ∷ [])
     × (refused (create_checks start n5 (node_at 5)) ≡ None)
 
--- the start with these tags on w1
+-- the first map with these tags on w1
 abbrev pub tagged : Pairs → Rows Any
 tagged tags = start_with (Way (n-1 ∷ n-2 ∷ []) tags) (way_of (n-1 ∷ n-3 ∷ n-2 ∷ [])) ((n-1, []) ∷ (w2, outer) ∷ (w1, outer) ∷ (w2, outer) ∷ [])
 
--- keys get their values in the order of their bytes, new ones or others, and a key with none loses its tag, where it
--- has one
+-- keys get new or other values in the order of their bytes; a key without a value loses its tag, if it has one
 unfoldable pub retagged : Type 0
 retagged =
     (refused (retag_checks start w1 ((outer, Some x) ∷ (x, Some []) ∷ [])) ≡ None)
@@ -74,8 +73,7 @@ retagged =
     × (after_retag (tagged ((x, outer) ∷ [])) w1 ((outer, Some []) ∷ []) ≡ tagged ((outer, []) ∷ (x, outer) ∷ []))
     × (after_retag (tagged ((x, outer) ∷ [])) w1 ((outer, None) ∷ []) ≡ tagged ((x, outer) ∷ []))
 
--- what is listed and the nodes of listed ways are moved once, however often they are named; where way w2 is not listed,
--- n-3 stays
+-- listed nodes and the nodes of listed ways move once, however often they are listed; n-3 stays if w2 is not listed
 unfoldable pub moved : Type 0
 moved =
     (refused (move_checks start (w2 ∷ n-1 ∷ []) (negsuc 9999999) (pos 5)) ≡ None)
@@ -85,7 +83,7 @@ moved =
     × (row_at (after_move start (w1 ∷ []) (pos 1) (pos 0)) n-3 ≡ Some (node_at 3))
     × (row_at (after_move start (w1 ∷ []) (pos 1) (pos 0)) n-2 ≡ Some (Node (pos 20000001) (pos 20000000) []))
 
--- a way is turned round, or gets other nodes, and a relation other members, itself among them, or none
+-- a way is reversed, or gets new nodes; a relation gets new members, among them itself, or none
 unfoldable pub relisted : Type 0
 relisted =
     (refused (reverse_checks start w2) ≡ None)
@@ -97,12 +95,12 @@ relisted =
     × (refused (members_checks start r1 []) ≡ None)
     × (row_at (after_members start r1 []) r1 ≡ Some (relation_of []))
 
--- the way that goes there and back, twice in a relation
+-- the map with the way that goes there and back, which is a member of r9 twice
 abbrev pub with_return_twice : Rows Any
 with_return_twice = after_create with_return r9 (relation_of ((w3, outer) ∷ (n-2, x) ∷ (w3, x) ∷ []))
 
--- with an element go the ways that keep fewer than two nodes, and out of each relation go the members that are gone; a
--- relation stays where it keeps none, and so does a way that keeps one node twice
+-- a purge removes the ways that keep fewer than two nodes, and all relations lose the removed members; a relation stays
+-- even if it keeps no member, and so does a way that keeps one node twice
 unfoldable pub purged : Type 0
 purged =
     (refused (purge_checks start n-1) ≡ None)
@@ -120,8 +118,7 @@ purged =
     × (row_at (after_purge (after_create start r9 (relation_of ((w2, x) ∷ []))) w2) r9 ≡ Some (relation_of []))
     × (refused (purge_checks start w3) ≡ Some (Absent w3))
 
--- a create is refused for its kind, then where the name is there, then for its length, and then by the least that is
--- absent
+-- the refusals of a create, in order: the kind, a present name, the length, and the least absent name
 unfoldable pub create_refusals : Type 0
 create_refusals =
     (refused (create_checks start n-1 (way_of [])) ≡ Some (WrongKind n-1))
@@ -136,12 +133,11 @@ create_refusals =
     × (refused (create_checks start w5 (way_of (n-7 ∷ n-8 ∷ n-7 ∷ []))) ≡ Some (Absent n-8))
     × (refused (create_checks start r9 (relation_of ((r9, []) ∷ (w5, x) ∷ (w3, x) ∷ []))) ≡ Some (Absent w3))
 
--- the start with a node at five degrees that has these tags
+-- the first map with a node at five degrees that has these tags
 abbrev pub with_tags_on : Pairs → Rows Any
 with_tags_on tags = put_row start n5 (Node (pos 50000000) (pos 50000000) tags)
 
--- a retag is refused where its element is absent, then where there would be more than a thousand tags, however many
--- there were
+-- the refusals of a retag, in order: an absent element, and more than 1,000 tags, however many there were before
 unfoldable pub retag_refusals : Type 0
 retag_refusals =
     (refused (retag_checks start w3 ((x, Some x) ∷ [])) ≡ Some (Absent w3))
@@ -150,8 +146,7 @@ retag_refusals =
     × (refused (retag_checks (with_tags_on thousand_tags) n5 ((48 ∷ 48 ∷ [], Some x) ∷ [])) ≡ None)
     × (refused (retag_checks (with_tags_on (thousand_tags ++ (x, []) ∷ [])) n5 ((48 ∷ 48 ∷ [], Some x) ∷ [])) ≡ Some (TooMany n5))
 
--- a move is refused by the least relation, then by the least that is absent, and then by the least node that would
--- leave the range
+-- the refusals of a move, in order: the least relation, the least absent name, and the least node that leaves the range
 unfoldable pub move_refusals : Type 0
 move_refusals =
     (refused (move_checks start (w3 ∷ r9 ∷ n-1 ∷ r1 ∷ []) (pos 0) (pos 0)) ≡ Some (WrongKind r1))
@@ -164,8 +159,8 @@ move_refusals =
     × (refused (move_checks start (n-1 ∷ []) (pos 0) (negsuc 1810000000)) ≡ Some (OutOfRange n-1))
     × (refused (move_checks start (n-1 ∷ []) (pos 0) (negsuc 1809999999)) ≡ None)
 
--- a reverse, nodes or members are refused for the kind, then where the element is absent, then for the length, and then
--- by the least that is absent
+-- the refusals of a reverse, nodes or members, in order: the kind, an absent element, the length, and the least absent
+-- name
 unfoldable pub relist_refusals : Type 0
 relist_refusals =
     (refused (reverse_checks start n5) ≡ Some (WrongKind n5))

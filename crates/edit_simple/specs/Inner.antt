@@ -1,4 +1,4 @@
--- Words of what is not public. No public contract cites these.
+-- Definitions for private functions, for `lookup::lesser` and for proofs.
 pub mod Least
 pub mod Moves
 pub mod Moving

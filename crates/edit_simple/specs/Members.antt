@@ -1,5 +1,5 @@
--- To give a relation other members. (OpenStreetMap API v0.6: nothing absent is named. The greatest length is this
--- project's.)
+-- The action that gives a relation new members. (OpenStreetMap API v0.6: nothing absent is named. The greatest length
+-- is this project's.)
 use Rattle.std.specs.Prelude.{ℕ, not, List, [], ◌∷◌, Option, length, map, nat_lt}
 use Rattle.std.specs.Bool.{then_some}
 use Rattle.std.specs.List.{filter}
@@ -15,7 +15,8 @@ use Rattle.edit_simple.specs.Kinds.{is_relation}
 use Rattle.edit_simple.specs.Contents.{members_of, with_members, each_row, at_name}
 
 module _ {A : Type 0} where
-  -- it is a relation, it is there, the list has at most 32,000 entries, which are there, and it is another than before
+  -- the name is not a relation's, or is absent, or the list has over 32,000 members, or an absent member, or is
+  -- unchanged
   abbrev pub members_checks : Rows A → Name → List (Name × List ℕ) → List (Option (Refusal A))
   members_checks m r list =
       then_some (not (is_relation r.kind)) (WrongKind r)
@@ -25,6 +26,6 @@ module _ {A : Type 0} where
       ∷ then_some (are_same_members (members_of (row_at m r)) list) Nothing
       ∷ []
 
-  -- r's members are these
+  -- the map in which r has these members
   abbrev pub after_members : Rows A → Name → List (Name × List ℕ) → Rows A
   after_members m r list = each_row (at_name r (with_members (λ _. list))) m

@@ -1,4 +1,5 @@
--- To move nodes and ways by a distance. (OpenStreetMap API v0.6: a node's latitude and longitude, and their ranges.)
+-- The action that moves nodes and ways by a distance. (OpenStreetMap API v0.6: a node's latitude and longitude, and
+-- their ranges.)
 use Rattle.std.specs.Prelude.{◌&&◌, ◌||◌, ◌+ℤ◌, Bool, false, not, ℤ, pos, List, [], ◌∷◌, Option, is_some, length, nat_eq, if◌then◌else◌}
 use Rattle.std.specs.Bool.{then_some}
 use Rattle.std.specs.List.{filter, list_any}
@@ -18,7 +19,7 @@ use Rattle.edit_simple.specs.Kinds.{is_relation}
 use Rattle.edit_simple.specs.Contents.{nodes_of, each_row}
 
 module _ {A : Type 0} where
-  -- a node that is listed, or is a node of a listed way
+  -- n is a node that is listed, or a node of a listed way
   abbrev pub is_moved : Rows A → List Name → Name → Bool
   is_moved m list n = is_node n.kind && (is_among list n || list_any (λ w. is_among (nodes_of (row_at m w)) n) list)
 
@@ -37,8 +38,8 @@ module _ {A : Type 0} where
   left_range m list dlat dlon =
       names_of (filter (λ r. is_moved m list r.0 && is_out_of_range (moved_by dlat dlon r.1)) m)
 
-  -- no relation is listed, what is listed is there, every moved node stays in range, and something is moved by some
-  -- distance
+  -- a relation is listed, or an absent name, or a moved node leaves the range, or the list is empty, or the distance is
+  -- 0
   abbrev pub move_checks : Rows A → List Name → ℤ → ℤ → List (Option (Refusal A))
   move_checks m list dlat dlon =
       the_least WrongKind (filter (λ e. is_relation e.kind) list)
@@ -47,10 +48,10 @@ module _ {A : Type 0} where
       ∷ then_some (nat_eq (length list) 0 || (int_eq dlat (pos 0) && int_eq dlon (pos 0))) Nothing
       ∷ []
 
-  -- what a row becomes: a node that is moved lies elsewhere
+  -- an element after the move: a moved node has a new position
   abbrev pub moves : Rows A → List Name → ℤ → ℤ → Name → Element A → Element A
   moves m list dlat dlon y v = if is_moved m list y then moved_by dlat dlon v else v
 
-  -- each listed node, and each node of each listed way, is moved once, however often it is named
+  -- the map in which each listed node, and each node of each listed way, is moved once, however often it is listed
   abbrev pub after_move : Rows A → List Name → ℤ → ℤ → Rows A
   after_move m list dlat dlon = each_row (moves m list dlat dlon) m

@@ -1,4 +1,5 @@
--- To give a way other nodes. (OpenStreetMap API v0.6: nothing absent is named. The greatest length is this project's.)
+-- The action that gives a way new nodes. (OpenStreetMap API v0.6: nothing absent is named. The greatest length is this
+-- project's.)
 use Rattle.std.specs.Prelude.{not, List, [], ◌∷◌, Option, length, nat_lt}
 use Rattle.std.specs.Bool.{then_some}
 use Rattle.std.specs.List.{filter}
@@ -14,7 +15,8 @@ use Rattle.edit_simple.specs.Kinds.{is_way}
 use Rattle.edit_simple.specs.Contents.{nodes_of, with_nodes, each_row, at_name}
 
 module _ {A : Type 0} where
-  -- it is a way, it is there, the list has 2 to 2,000 entries, which are there, and it is another than before
+  -- the name is not a way's, or is absent, or the list has under 2 or over 2,000 nodes, or an absent node, or is
+  -- unchanged
   abbrev pub nodes_checks : Rows A → Name → List Name → List (Option (Refusal A))
   nodes_checks m w list =
       then_some (not (is_way w.kind)) (WrongKind w)
@@ -25,6 +27,6 @@ module _ {A : Type 0} where
       ∷ then_some (are_same_names (nodes_of (row_at m w)) list) Nothing
       ∷ []
 
-  -- w's list is this one
+  -- the map in which w has these nodes
   abbrev pub after_nodes : Rows A → Name → List Name → Rows A
   after_nodes m w list = each_row (at_name w (with_nodes (λ _. list))) m

@@ -1,4 +1,4 @@
--- What a plan answers. (The rules of the actions are this project's.)
+-- The result of a plan. (The rules of the actions are this project's.)
 use Rattle.std.specs.Prelude.{◌≡◌, ◌⊎◌, List, Option, Some, None, Result, Ok, Err}
 use Rattle.osm_elements.specs.Maps.{Rows}
 use Rattle.osm_changes.specs.declared.change.Change.{Change}
@@ -7,8 +7,7 @@ use Rattle.edit_simple.specs.declared.refusal.Refusal.{Refusal}
 use Rattle.edit_simple.specs.declared.refusal.Refusal.TheVariants.{Memory}
 use Rattle.edit_simple.specs.Checks.{first_that_holds}
 
--- the changes to the map after, where no check holds; else the first that holds; or want of memory in place of any
--- answer
+-- the changes to the map after if no check holds, otherwise the first check that holds; `Memory` can replace either
 abbrev pub IsPlan : {A : Type 0} → Rows A → List (Option (Refusal A)) → Rows A → Result (List (Change A)) (Refusal A)
     → Type 0
 IsPlan m checks after (Ok cs) = (first_that_holds checks ≡ None) × (cs ≡ differences m after)

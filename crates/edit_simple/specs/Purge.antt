@@ -1,5 +1,5 @@
--- To purge an element: it is taken away with every reference to it. (OpenStreetMap API v0.6: nothing absent is named.
--- What goes with it is this project's.)
+-- The action that removes an element and every reference to it. (OpenStreetMap API v0.6: nothing absent is named. Which
+-- other elements are removed is this project's rule.)
 use Rattle.std.specs.Prelude.{◌&&◌, ◌||◌, Bool, not, List, [], ◌∷◌, Option, length, nat_lt}
 use Rattle.std.specs.Bool.{then_some}
 use Rattle.std.specs.List.{filter}
@@ -15,23 +15,23 @@ use Rattle.edit_simple.specs.Contents.{nodes_of, with_nodes, with_members, each_
 abbrev pub without : Name → List Name → List Name
 without x names = filter (λ n. not (is_same x n)) names
 
--- x is taken from the list, and fewer than 2 are left
+-- the list contains x, and has fewer than 2 nodes without it
 abbrev pub falls_short : Name → List Name → Bool
 falls_short x nodes = is_among nodes x && nat_lt (length (without x nodes)) 2
 
 module _ {A : Type 0} where
-  -- x itself, and each way that x is taken from and that then has fewer than 2 nodes
+  -- y is removed: it is x itself, or a way that contains x and has fewer than 2 nodes without it
   abbrev pub goes : Rows A → Name → Name → Bool
   goes m x y = is_same x y || falls_short x (nodes_of (row_at m y))
 
-  -- what is left of an element that stays: a way without x, a relation without the members that go
+  -- an element that stays: a way without x, or a relation without the removed members
   abbrev pub what_is_left : Rows A → Name → Element A → Element A
   what_is_left m x v = with_nodes (without x) (with_members (filter (λ r. not (goes m x r.0))) v)
 
-  -- it is there
+  -- the map does not have the element
   abbrev pub purge_checks : Rows A → Name → List (Option (Refusal A))
   purge_checks m x = then_some (is_absent m x) (Absent x) ∷ []
 
-  -- what goes is gone, and of each other row is left what names nothing that goes
+  -- the map without the removed elements, and without references to them
   abbrev pub after_purge : Rows A → Name → Rows A
   after_purge m x = each_row (λ _ v. what_is_left m x v) (filter (λ r. not (goes m x r.0)) m)

@@ -1,4 +1,5 @@
--- To give an element other tags. (OpenStreetMap wiki, "Elements". The greatest number of tags is this project's.)
+-- The action that sets tags of an element. (OpenStreetMap wiki, "Elements". The greatest number of tags is this
+-- project's.)
 use Rattle.std.specs.Prelude.{List, [], ◌∷◌, Option, length, nat_lt}
 use Rattle.std.specs.Bool.{then_some}
 use Rattle.osm_elements.specs.declared.name.Name.{Name}
@@ -11,7 +12,7 @@ use Rattle.edit_simple.specs.Contents.{row_tags, with_tags, each_row, at_name}
 use Rattle.edit_simple.specs.Tagging.{GivenTags, retagged, most_tags}
 
 module _ {A : Type 0} where
-  -- the element is there, it has at most a thousand tags afterwards, and they are others than before
+  -- the element is absent, or would have more than 1,000 tags, or the same tags as before
   abbrev pub retag_checks : Rows A → Name → GivenTags → List (Option (Refusal A))
   retag_checks m x given =
       then_some (is_absent m x) (Absent x)
@@ -19,6 +20,6 @@ module _ {A : Type 0} where
       ∷ then_some (are_same_tags (row_tags (row_at m x)) (retagged (row_tags (row_at m x)) given)) Nothing
       ∷ []
 
-  -- each key of what is given has its value in x, or is removed where it has none
+  -- the map in which each given key of x has its value, or no tag if it is given no value
   abbrev pub after_retag : Rows A → Name → GivenTags → Rows A
   after_retag m x given = each_row (at_name x (with_tags (λ tags. retagged tags given))) m

@@ -1,4 +1,4 @@
--- Names, elements and the start of the worked examples.
+-- Names, elements and the first map of the examples.
 use Rattle.std.specs.Prelude.{◌*◌, ℕ, ⊤, List, [], ◌∷◌, Option, pos, negsuc}
 use Rattle.osm_elements.specs.declared.name.Name.{Name}
 use Rattle.osm_elements.specs.declared.name.Kind.TheVariants as kinds
@@ -9,7 +9,7 @@ use Rattle.osm_elements.specs.NameTexts.{named}
 use Rattle.edit_simple.specs.Checks.{first_that_holds}
 use Rattle.edit_simple.specs.declared.refusal.Refusal.{Refusal}
 
--- nothing in a definition looks at the allocator
+-- the allocator, which no definition looks at
 abbrev pub Any : Type 0
 Any = ⊤
 
@@ -49,7 +49,7 @@ r1 = named kinds.Relation (pos 1) tt
 abbrev pub r9 : Name
 r9 = named kinds.Relation (pos 9) tt
 
--- a node with no tags, at so many degrees both ways
+-- a node without tags, whose latitude and longitude are both this number of degrees
 abbrev pub node_at : ℕ → Element Any
 node_at degrees = Node (pos (degrees * 10000000)) (pos (degrees * 10000000)) []
 
@@ -66,14 +66,14 @@ outer = 111 ∷ 117 ∷ 116 ∷ 101 ∷ 114 ∷ []
 abbrev pub x : List ℕ
 x = 120 ∷ []
 
--- three nodes, two ways and a relation, in the order of their names: w1 as this, w2 as this, and r1 of these members
+-- three nodes, two ways and a relation, in name order: w1 and w2 are the given elements, and r1 has the given members
 abbrev pub start_with : Element Any → Element Any → List (Name × List ℕ) → Rows Any
 start_with first second members = (n-3, node_at 3) ∷ (n-2, node_at 2) ∷ (n-1, node_at 1) ∷ (w1, first) ∷ (w2, second) ∷ (r1, relation_of members) ∷ []
 
--- the start
+-- the first map
 abbrev pub start : Rows Any
 start = start_with (way_of (n-1 ∷ n-2 ∷ [])) (way_of (n-1 ∷ n-3 ∷ n-2 ∷ [])) ((n-1, []) ∷ (w2, outer) ∷ (w1, outer) ∷ (w2, outer) ∷ [])
 
--- the first of an action's checks that holds
+-- the first check that holds
 abbrev pub refused : List (Option (Refusal Any)) → Option (Refusal Any)
 refused checks = first_that_holds checks

@@ -1,4 +1,4 @@
-//! Plans of creates.
+//! The plan of a create.
 ghost use Rattle.std.specs.Prelude.{◌≡◌};
 ghost use Rattle.osm_elements.specs.Elements.{kind_of};
 ghost use Rattle.osm_elements.specs.Maps.{is_kind};
@@ -17,7 +17,7 @@ use osm_elements::element::Element;
 use osm_elements::name::Name;
 use std::alloc::Allocator;
 
-/// Plans to make an element under a name.
+/// Plans to create an element.
 pub fn plan<A: Allocator + Clone>(
     alloc: A,
     rows: &Draft<'_, A>,
@@ -32,7 +32,7 @@ pub fn plan<A: Allocator + Clone>(
     Ok(one_change(alloc, name, None, Some(after))?)
 }
 
-// Whether an element can be made.
+// Returns the first check that holds, if any.
 fn check<A: Allocator>(
     rows: &Draft<'_, A>,
     name: &Name,
@@ -52,7 +52,7 @@ fn check<A: Allocator>(
     }
 }
 
-// Whether an element is of its name's kind.
+// Returns whether the element is of the name's kind.
 fn is_of_kind<A: Allocator>(element: &Element<A>, name: &Name) -> bool
     ensures { result ≡ is_kind (kind_of element.now) name.now.kind }
 {

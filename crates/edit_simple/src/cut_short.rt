@@ -1,4 +1,4 @@
-//! Lists of nodes that a purge cuts short.
+//! Lists of nodes that a purge makes too short.
 ghost use Rattle.std.specs.Prelude.{◌≡◌, not, count_by};
 ghost use Rattle.osm_elements.specs.Maps.{is_same};
 ghost use Rattle.edit_simple.specs.Purge.{falls_short};
@@ -7,7 +7,7 @@ use crate::limits::FEWEST_NODES;
 use osm_elements::name::Name;
 use osm_elements::names::is_same;
 
-/// Whether the purged name is taken from a list, and fewer than 2 names are left.
+/// Returns whether the list contains the purged name, and has fewer than 2 names without it.
 pub fn is_cut_short(names: &[Name], purged: &Name) -> bool
     ensures { result ≡ falls_short purged.now names.now }
 {
@@ -15,7 +15,7 @@ pub fn is_cut_short(names: &[Name], purged: &Name) -> bool
     left < names.len() && left < FEWEST_NODES
 }
 
-// How many names of a list are others than one.
+// Returns how many names of a list are not `one`.
 fn count_others(names: &[Name], one: &Name) -> usize
     ensures { result ≡ count_by (λ n. not (is_same one.now n)) names.now }
 {

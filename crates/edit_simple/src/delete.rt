@@ -1,4 +1,4 @@
-//! Plans of deletes.
+//! The plan of a delete.
 ghost use Rattle.std.specs.Prelude.{◌≡◌, true};
 ghost use Rattle.osm_changes.specs.Sound.{is_sound};
 ghost use Rattle.edit_simple.specs.Delete.{delete_checks, after_delete};
@@ -11,7 +11,7 @@ use osm_drafts::draft::Draft;
 use osm_elements::name::Name;
 use std::alloc::Allocator;
 
-/// Plans to take an element away.
+/// Plans to delete an element.
 pub fn plan<A: Allocator + Clone>(
     alloc: A,
     rows: &Draft<'_, A>,

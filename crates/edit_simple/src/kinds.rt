@@ -5,21 +5,21 @@ ghost use Rattle.edit_simple.specs.Kinds.{is_way, is_relation};
 
 use osm_elements::name::{Kind, Name};
 
-/// Whether the name is a node's.
+/// Returns whether the name is a node's.
 pub fn is_node(name: &Name) -> bool
     ensures { result ≡ is_node name.now.kind }
 {
     matches!(name.kind(), Kind::Node)
 }
 
-/// Whether the name is a way's.
+/// Returns whether the name is a way's.
 pub fn is_way(name: &Name) -> bool
     ensures { result ≡ is_way name.now.kind }
 {
     matches!(name.kind(), Kind::Way)
 }
 
-/// Whether the name is a relation's.
+/// Returns whether the name is a relation's.
 pub fn is_relation(name: &Name) -> bool
     ensures { result ≡ is_relation name.now.kind }
 {

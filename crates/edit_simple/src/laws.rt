@@ -1,4 +1,4 @@
-//! Laws of the actions, each the contract of a function that does nothing.
+//! Laws of the actions. Each is the contract of a function that does nothing.
 ghost use Rattle.std.specs.Prelude.{◌≡◌, ◌≢◌, ℕ, ℤ, true, List, Some, None};
 ghost use Rattle.osm_elements.specs.declared.name.Name.{Name};
 ghost use Rattle.osm_elements.specs.declared.element.Element.{Element};
@@ -21,7 +21,7 @@ ghost use Rattle.edit_simple.specs.Tagging.{GivenTags, are_given};
 
 use std::alloc::Allocator;
 
-/// An accepted action, with values as their types keep them, keeps a sound map sound, and changes it.
+/// An accepted action with made values leads from a sound map to another sound map.
 #[tactic(auto, using(crate::specs::Facts::Creating::create_accepted, crate::specs::Facts::Retagging::retag_accepted, crate::specs::Facts::Moving::move_accepted, crate::specs::Facts::Relisting::reverse_accepted, crate::specs::Facts::Relisting::nodes_accepted, crate::specs::Facts::Relisting::members_accepted, crate::specs::Facts::Deleting::delete_accepted, crate::specs::Facts::Purging::purge_accepted,))]
 pub fn accepted_keeps_sound<A: Allocator>()
     ensures create { (m : Rows A) (x : Name) (v : Element A) → is_sound m ≡ true → is_made v ≡ true
@@ -47,7 +47,7 @@ pub fn accepted_keeps_sound<A: Allocator>()
         → (is_sound (after_purge m x) ≡ true) × (after_purge m x ≢ m) }
 {}
 
-/// Where the first check that holds is that an action would change nothing, the map after it would be the one before.
+/// If `Nothing` is the first check that holds, the map after the action is the same.
 #[tactic(auto, using(crate::specs::Facts::SameMaps::retag_nothing, crate::specs::Facts::SameMaps::move_nothing, crate::specs::Facts::SameMaps::reverse_nothing, crate::specs::Facts::SameMaps::nodes_nothing, crate::specs::Facts::SameMaps::members_nothing,))]
 pub fn nothing_is_the_same_map<A: Allocator>()
     ensures retag { (m : Rows A) (x : Name) (given : GivenTags) → is_sound m ≡ true
@@ -66,7 +66,7 @@ pub fn nothing_is_the_same_map<A: Allocator>()
         → after_members m r list ≡ m }
 {}
 
-/// What the definitions say of the worked examples is what was worked out by hand.
+/// The definitions agree with examples that were worked out by hand.
 pub fn examples_are_as_worked()
     ensures in_use { in_use }
     ensures own_member { own_member }

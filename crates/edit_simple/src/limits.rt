@@ -1,10 +1,10 @@
 //! The limits of lists.
 
-/// The fewest nodes that a way has (OpenStreetMap wiki, "Elements").
+/// The fewest nodes of a way (OpenStreetMap wiki, "Elements").
 pub const FEWEST_NODES: usize = 2;
 
-/// The most nodes that a way has, a limit of this project.
+/// The most nodes of a way, a limit of this project.
 pub const MOST_NODES: usize = 2000;
 
-/// The most members that a relation has, a limit of this project.
+/// The most members of a relation, a limit of this project.
 pub const MOST_MEMBERS: usize = 32000;

@@ -1,4 +1,4 @@
-//! What the list of an element may be: its length, and what it names.
+//! Checks of the list of an element: its length, and the names in it.
 ghost use Rattle.std.specs.Prelude.{◌≡◌};
 ghost use Rattle.std.specs.List.{filter};
 ghost use Rattle.osm_elements.specs.Maps.{least};
@@ -14,10 +14,12 @@ use osm_elements::element::Element;
 use osm_elements::name::Name;
 use std::alloc::Allocator;
 
-/// Why an element cannot stand under a name beside the rows of a map, if it cannot: `TooFew` for a way of fewer than 2
-/// nodes, then `TooMany` for one of more than 2,000 or a relation of more than 32,000 members, then `Absent` with the
-/// least name that it refers to, other than its own, which the map doesn't have. It takes no memory, and a look-up for
-/// each reference.
+/// Returns the first fault of an element's list, if the element is to have `name` in the map:
+/// - `TooFew`, if it is a way of fewer than 2 nodes
+/// - `TooMany`, if it is a way of more than 2,000 nodes, or a relation of more than 32,000 members
+/// - `Absent`, with the least name that it refers to, other than `name`, that the map does not have
+///
+/// It looks up each reference.
 pub fn list_fault<A: Allocator, R: Lookup<A>>(
     rows: &R,
     name: &Name,
@@ -37,7 +39,7 @@ pub fn list_fault<A: Allocator, R: Lookup<A>>(
     }
 }
 
-// Whether it is a way of fewer than 2 nodes.
+// Returns whether the element is a way of fewer than 2 nodes.
 fn is_too_short<A: Allocator>(element: &Element<A>) -> bool
     ensures { result ≡ is_too_short element.now }
 {
@@ -47,7 +49,7 @@ fn is_too_short<A: Allocator>(element: &Element<A>) -> bool
     }
 }
 
-// Whether it is a way of more than 2,000 nodes or a relation of more than 32,000 members.
+// Returns whether the element is a way of more than 2,000 nodes or a relation of more than 32,000 members.
 fn is_too_long<A: Allocator>(element: &Element<A>) -> bool
     ensures { result ≡ is_too_long element.now }
 {
@@ -58,7 +60,7 @@ fn is_too_long<A: Allocator>(element: &Element<A>) -> bool
     }
 }
 
-// The least of the names that the element refers to, other than the new one, that the map doesn't have.
+// Returns the least name that the element refers to, other than `name`, that the map does not have.
 fn least_missing_reference<A: Allocator, R: Lookup<A>>(
     rows: &R,
     name: &Name,

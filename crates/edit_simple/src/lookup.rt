@@ -1,5 +1,4 @@
-//! What plans look up in a map. It is public, as `ways` and `kinds` are, so that the plans of `edit_topology` say it by
-//! the same functions.
+//! Look-ups of names in a map.
 ghost use Rattle.std.specs.Prelude.{◌≡◌, map};
 ghost use Rattle.std.specs.List.{filter};
 ghost use Rattle.osm_elements.specs.Maps.{is_present, least};
@@ -12,14 +11,14 @@ use osm_elements::name::Name;
 use osm_elements::names::is_same;
 use std::alloc::Allocator;
 
-/// Whether the map has the name.
+/// Returns whether the map has the name.
 pub fn is_present<A: Allocator, R: Lookup<A>>(rows: &R, name: &Name) -> bool
     ensures { result ≡ is_present (R.rows rows.now) name.now }
 {
     rows.element(name).is_some()
 }
 
-/// The least of the names, other than the new one, that the map doesn't have.
+/// Returns the least of the names, other than `new`, that the map does not have.
 pub fn least_missing<A: Allocator, R: Lookup<A>>(
     rows: &R,
     new: &Name,
@@ -36,7 +35,7 @@ pub fn least_missing<A: Allocator, R: Lookup<A>>(
     least
 }
 
-/// The least of the members' names, other than the new one, that the map doesn't have.
+/// Returns the least of the members' names, other than `new`, that the map does not have.
 pub fn least_missing_member<A: Allocator, R: Lookup<A>>(
     rows: &R,
     new: &Name,
@@ -53,14 +52,14 @@ pub fn least_missing_member<A: Allocator, R: Lookup<A>>(
     least
 }
 
-// Whether the name is neither the new one nor one of the map's.
+// Returns whether the map does not have the name, which is not `new` either.
 fn is_missing<A: Allocator, R: Lookup<A>>(rows: &R, new: &Name, name: &Name) -> bool
     ensures { result ≡ is_missing (R.rows rows.now) new.now name.now }
 {
     !is_same(new, name) && !is_present(rows, name)
 }
 
-/// The lesser of two names, if there are two.
+/// Returns the lesser of two names, or the second name if there is no first.
 pub fn lesser(least: Option<Name>, name: Name) -> Name
     ensures { result ≡ lesser_of least name }
 {

@@ -1,4 +1,4 @@
-//! Plans that give a relation other members.
+//! The plan that gives a relation new members.
 ghost use Rattle.std.specs.Prelude.{◌≡◌, ◌⊎◌, true, false, [], ◌∷◌, not, MatchResult, Some};
 ghost use Rattle.std.specs.Bool.{then_some};
 ghost use Rattle.osm_elements.specs.Maps.{is_absent};
@@ -28,7 +28,7 @@ use osm_elements::shared::Shared;
 use osm_elements::shared_tags::SharedTags;
 use std::alloc::Allocator;
 
-/// Plans to give a relation other members.
+/// Plans to give a relation new members.
 pub fn plan<A: Allocator + Clone>(
     alloc: A,
     rows: &Draft<'_, A>,
@@ -49,7 +49,7 @@ pub fn plan<A: Allocator + Clone>(
     change_members(alloc, name, members, tags, list)
 }
 
-// The members and tags of a relation, or the refusal of a name that is no relation's or is not there.
+// Returns the members and the tags of a relation, or the refusal if the name is not a relation's or is absent.
 fn relation_at<'m, A: Allocator>(
     rows: &'m Draft<'_, A>,
     name: &Name,
@@ -73,7 +73,7 @@ fn relation_at<'m, A: Allocator>(
     }
 }
 
-// The changes of a relation to other members, or the refusal of those that it has.
+// Returns the changes of a relation that gets the members `others`, or `Nothing` if it has these.
 fn change_members<A: Allocator + Clone>(
     alloc: A,
     name: &Name,

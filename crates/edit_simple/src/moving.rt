@@ -1,4 +1,4 @@
-//! Plans of moves.
+//! The plan of a move.
 ghost use Rattle.std.specs.Prelude.{◌≡◌, ◌⊎◌, ◌&&◌, ◌||◌, ◌++◌, pos, true, false, Some, length, nat_eq, IfOk, OnOk, MatchResult};
 ghost use Rattle.std.specs.List.{filter};
 ghost use Rattle.std.specs.Ordering.{int_eq};
@@ -47,14 +47,14 @@ pub fn plan<A: Allocator + Clone>(
     move_all(alloc, rows, &moved, dlat, dlon)
 }
 
-// Whether no name is listed, or there is no distance.
+// Returns whether the list is empty, or both distances are 0.
 fn moves_nothing(names: &[Name], dlat: i64, dlon: i64) -> bool
     ensures { result ≡ (nat_eq (length names.now) 0 || (int_eq dlat (pos 0) && int_eq dlon (pos 0))) }
 {
     names.is_empty() || (dlat == 0 && dlon == 0)
 }
 
-// The least of the names that is a relation's.
+// Returns the least name of a relation.
 fn least_relation(names: &[Name]) -> Option<Name>
     ensures { result ≡ least (filter (λ e. is_relation e.kind) names.now) }
 {
@@ -67,7 +67,7 @@ fn least_relation(names: &[Name]) -> Option<Name>
     least
 }
 
-// The least of the names that the map doesn't have.
+// Returns the least name that the map does not have.
 fn least_absent<A: Allocator>(rows: &Draft<'_, A>, names: &[Name]) -> Option<Name>
     ensures { result ≡ least (filter (is_absent rows.now) names.now) }
 {
@@ -80,7 +80,7 @@ fn least_absent<A: Allocator>(rows: &Draft<'_, A>, names: &[Name]) -> Option<Nam
     least
 }
 
-// The nodes that are moved, rising, each once.
+// Returns the nodes to move, rising, each once.
 fn all_moved<A: Allocator>(
     alloc: A,
     rows: &Draft<'_, A>,
@@ -94,7 +94,7 @@ fn all_moved<A: Allocator>(
     Ok(moved)
 }
 
-// The nodes that are listed, and those of listed ways, in the order of the list.
+// Returns the listed nodes and the nodes of listed ways, in the order of the list.
 fn listed<A: Allocator>(
     alloc: A,
     rows: &Draft<'_, A>,
@@ -109,7 +109,7 @@ fn listed<A: Allocator>(
     Ok(moved)
 }
 
-// Adds the node of a name, or the nodes of its way.
+// Appends the node with this name, or the nodes of the way with this name.
 fn add_moved<A: Allocator>(
     rows: &Draft<'_, A>,
     name: &Name,
@@ -125,7 +125,7 @@ fn add_moved<A: Allocator>(
     Ok(())
 }
 
-// The changes of nodes that are moved, or the refusal of the first that would leave the range.
+// Returns the changes of all moved nodes, or the refusal of the first node that would leave the range.
 fn move_all<A: Allocator + Clone>(
     alloc: A,
     rows: &Draft<'_, A>,
@@ -144,7 +144,7 @@ fn move_all<A: Allocator + Clone>(
     Ok(changes)
 }
 
-// The element of a node before it is moved and after, or the refusal to leave the range.
+// Returns the element of a moved node before and after, or the refusal if it would leave the range.
 fn moved_node<A: Allocator + Clone>(
     rows: &Draft<'_, A>,
     name: &Name,

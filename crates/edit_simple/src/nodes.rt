@@ -1,4 +1,4 @@
-//! Plans that give a way other nodes.
+//! The plan that gives a way new nodes.
 ghost use Rattle.std.specs.Prelude.{◌≡◌, true};
 ghost use Rattle.osm_changes.specs.Sound.{is_sound};
 ghost use Rattle.edit_simple.specs.Nodes.{nodes_checks, after_nodes};
@@ -16,7 +16,7 @@ use osm_elements::nodes::Nodes;
 use osm_elements::shared::Shared;
 use std::alloc::Allocator;
 
-/// Plans to give a way other nodes.
+/// Plans to give a way new nodes.
 pub fn plan<A: Allocator + Clone>(
     alloc: A,
     rows: &Draft<'_, A>,

@@ -1,10 +1,10 @@
-//! The plans of the actions on single elements: what each would change in a store, or why it is refused.
+//! The plans of the actions on single elements.
 //!
-//! A plan answers the changes that lead to the map after the action, the first of the action's checks that holds, or
-//! `Memory` in place of any answer. It leaves the store alone.
+//! Each plan returns the changes that lead to the map after the action, or the first of the action's checks that holds.
+//! `Memory` can replace either. The draft is unchanged. The errors of a plan are in the order of its checks.
 //!
-//! Plans take the allocator first, since a store hands out none. What is compared for `Nothing` are the element's own
-//! tags, nodes or members, and not two maps: no plan looks at the whole map.
+//! Plans take the allocator as their first argument because a store does not give out its allocator. For `Nothing`,
+//! they compare the tags, nodes or members of one element: no plan looks at the whole map.
 ghost use Rattle.std.specs.Prelude.{◌≡◌, true};
 ghost use Rattle.osm_changes.specs.Sound.{is_sound};
 ghost use Rattle.edit_simple.specs.Create.{create_checks, after_create};
@@ -29,11 +29,17 @@ use osm_elements::nodes::Nodes;
 use osm_elements::shared::Shared;
 use std::alloc::Allocator;
 
-/// Plans to make an element under a name. It refuses `WrongKind` where the element is not of the name's kind, `Present`
-/// where the name is there, `TooFew` for a way of fewer than 2 nodes, `TooMany` for a way of more than 2,000 nodes or a
-/// relation of more than 32,000 members, and `Absent` with the least name that the element refers to, other than its
-/// own, and that is not there (OpenStreetMap API v0.6: nothing absent is named; the maxima are this project's). It
-/// looks up each name that the element refers to.
+/// Plans to create an element with this name. It looks up each name that the element refers to.
+///
+/// # Errors
+///
+/// - `WrongKind`, if the element is not of the name's kind
+/// - `Present`, if the map has the name
+/// - `TooFew`, if it is a way of fewer than 2 nodes
+/// - `TooMany`, if it is a way of more than 2,000 nodes or a relation of more than 32,000 members (this project's
+///   limits)
+/// - `Absent`, with the least name that the element refers to, other than its own, that the map does not have
+///   (OpenStreetMap API v0.6: nothing absent is named)
 pub fn plan_create<A: Allocator + Clone>(
     alloc: A,
     draft: &Draft<'_, A>,
@@ -47,9 +53,13 @@ pub fn plan_create<A: Allocator + Clone>(
     create::plan(alloc, draft, name, element)
 }
 
-/// Plans to give an element other tags: each key of what is given has its value, or is removed where it has none. It
-/// refuses `Absent` where the name is not there, `TooMany` where the element would have more than 1,000 tags
-/// afterwards, a limit of this project, and `Nothing` where its tags would be the same.
+/// Plans to set tags of an element: each given key gets its value, or its tag is removed if it is given no value.
+///
+/// # Errors
+///
+/// - `Absent`, if the map does not have the name
+/// - `TooMany`, if the element would have more than 1,000 tags, a limit of this project
+/// - `Nothing`, if the tags of the element would be the same
 pub fn plan_retag<A: Allocator + Clone>(
     alloc: A,
     draft: &Draft<'_, A>,
@@ -63,11 +73,15 @@ pub fn plan_retag<A: Allocator + Clone>(
     retagging::plan(alloc, draft, name, given)
 }
 
-/// Plans to move each listed node, and each node of each listed way, by so many ten-millionths of a degree, once each
-/// however often it is named. It refuses `WrongKind` with the least relation that is listed, `Absent` with the least
-/// listed name that is not there, `OutOfRange` with the least node that would leave the range of latitudes or
-/// longitudes (OpenStreetMap API v0.6), and `Nothing` where no name is listed or both distances are 0. The moved nodes
-/// are sorted, and each is looked up.
+/// Plans to move each listed node, and each node of each listed way, by `dlat` and `dlon` ten-millionths of a degree.
+/// Each node moves once, however often it is listed. The plan sorts the moved nodes and looks up each of them.
+///
+/// # Errors
+///
+/// - `WrongKind`, with the least relation in the list
+/// - `Absent`, with the least listed name that the map does not have
+/// - `OutOfRange`, with the least node that would leave the range of latitudes or longitudes (OpenStreetMap API v0.6)
+/// - `Nothing`, if the list is empty or both distances are 0
 pub fn plan_move<A: Allocator + Clone>(
     alloc: A,
     draft: &Draft<'_, A>,
@@ -82,8 +96,13 @@ pub fn plan_move<A: Allocator + Clone>(
     moving::plan(alloc, draft, names, dlat, dlon)
 }
 
-/// Plans to turn a way round. It refuses `WrongKind` where the name is no way's, `Absent` where it is not there, and
-/// `Nothing` where the way's list reads the same backwards.
+/// Plans to reverse a way.
+///
+/// # Errors
+///
+/// - `WrongKind`, if the name is not a way's
+/// - `Absent`, if the map does not have the name
+/// - `Nothing`, if the nodes of the way are the same backwards
 pub fn plan_reverse<A: Allocator + Clone>(
     alloc: A,
     draft: &Draft<'_, A>,
@@ -96,9 +115,16 @@ pub fn plan_reverse<A: Allocator + Clone>(
     reverse::plan(alloc, draft, name)
 }
 
-/// Plans to give a way other nodes. It refuses `WrongKind` where the name is no way's, `Absent` where it is not there,
-/// `TooFew` for fewer than 2 nodes, `TooMany` for more than 2,000, a limit of this project, `Absent` with the least of
-/// the nodes that is not there, and `Nothing` where these are the way's nodes. It looks up each of the nodes.
+/// Plans to give a way new nodes. It looks up each of the nodes.
+///
+/// # Errors
+///
+/// - `WrongKind`, if the name is not a way's
+/// - `Absent`, if the map does not have the name
+/// - `TooFew`, if there are fewer than 2 nodes
+/// - `TooMany`, if there are more than 2,000 nodes, a limit of this project
+/// - `Absent`, with the least of the nodes that the map does not have
+/// - `Nothing`, if these are the nodes of the way
 pub fn plan_nodes<A: Allocator + Clone>(
     alloc: A,
     draft: &Draft<'_, A>,
@@ -112,9 +138,15 @@ pub fn plan_nodes<A: Allocator + Clone>(
     nodes::plan(alloc, draft, name, list)
 }
 
-/// Plans to give a relation other members. It refuses `WrongKind` where the name is no relation's, `Absent` where it is
-/// not there, `TooMany` for more than 32,000 members, a limit of this project, `Absent` with the least member that is
-/// not there, and `Nothing` where these are the relation's members. It looks up each of the members.
+/// Plans to give a relation new members. It looks up each of the members.
+///
+/// # Errors
+///
+/// - `WrongKind`, if the name is not a relation's
+/// - `Absent`, if the map does not have the name
+/// - `TooMany`, if there are more than 32,000 members, a limit of this project
+/// - `Absent`, with the least member that the map does not have
+/// - `Nothing`, if these are the members of the relation
 pub fn plan_members<A: Allocator + Clone>(
     alloc: A,
     draft: &Draft<'_, A>,
@@ -128,9 +160,13 @@ pub fn plan_members<A: Allocator + Clone>(
     members::plan(alloc, draft, name, list)
 }
 
-/// Plans to take an element away. It refuses `Absent` where the name is not there, and `InUse` where an element refers
-/// to it, with the least one that does, which may be the element itself (OpenStreetMap API v0.6: an element in use is
-/// not deleted). It looks at no other element.
+/// Plans to delete an element. It looks at no other element.
+///
+/// # Errors
+///
+/// - `Absent`, if the map does not have the name
+/// - `InUse`, with the least element that refers to the name, which can be the element itself (OpenStreetMap API v0.6:
+///   an element in use is not deleted)
 pub fn plan_delete<A: Allocator + Clone>(
     alloc: A,
     draft: &Draft<'_, A>,
@@ -143,11 +179,18 @@ pub fn plan_delete<A: Allocator + Clone>(
     delete::plan(alloc, draft, name)
 }
 
-/// Plans to take an element away with every reference to it (OpenStreetMap API v0.6: nothing absent is named). The
-/// other ways lose their references to it; one that loses any and keeps fewer than 2 nodes goes too. The other
-/// relations lose the members that name what goes; no relation goes for that. What goes along is this project's rule.
-/// It refuses `Absent` where the name is not there. It looks at the element's users and at the users of each way that
-/// goes, which all change, and at no other element; that costs what these hold, times a logarithm.
+/// Plans to remove an element and every reference to it (OpenStreetMap API v0.6: nothing absent is named).
+///
+/// All other ways lose their references to the element. A way that loses references and keeps fewer than 2 nodes is
+/// removed, too. All other relations lose the members that are removed, but no relation is removed for that. Which
+/// elements are removed is this project's rule.
+///
+/// The plan looks at the users of the element and at the users of each removed way, which all change, and at no other
+/// element. It takes time for the contents of these, times a logarithm.
+///
+/// # Errors
+///
+/// `Absent`, if the map does not have the name.
 pub fn plan_purge<A: Allocator + Clone>(
     alloc: A,
     draft: &Draft<'_, A>,

@@ -1,4 +1,4 @@
-//! Plans of purges.
+//! The plan of a purge.
 ghost use Rattle.std.specs.Prelude.{◌≡◌, ◌++◌, [], ◌∷◌, true, not, map, IfOk, OnOk, Some};
 ghost use Rattle.std.specs.List.{filter};
 ghost use Rattle.osm_elements.specs.Maps.{is_among, is_present, name_set};
@@ -29,7 +29,7 @@ use osm_elements::shared::Shared;
 use std::alloc::Allocator;
 use std::collections::BTreeSet;
 
-/// Plans to take an element away with every reference to it.
+/// Plans to remove an element and every reference to it.
 pub fn plan<A: Allocator + Clone>(
     alloc: A,
     rows: &Draft<'_, A>,
@@ -47,7 +47,7 @@ pub fn plan<A: Allocator + Clone>(
     Ok(change_all(alloc, rows, &gone, name, &reached)?)
 }
 
-// The names that refer to a name.
+// Returns the names that refer to a name.
 fn users_of<A: Allocator>(alloc: A, rows: &Draft<'_, A>, name: &Name) -> Result<Names<A>, Memory>
     ensures { IfOk result (λ names. names ≡ users_in (table_of rows.now) name.now) }
 {
@@ -55,7 +55,7 @@ fn users_of<A: Allocator>(alloc: A, rows: &Draft<'_, A>, name: &Name) -> Result<
     Ok(names)
 }
 
-// The names that go: the purged one, and each way among its users that is left with fewer than 2 nodes.
+// Returns the removed names: the purged name, and each way among its users that would keep fewer than 2 nodes.
 fn all_gone<A: Allocator + Clone>(
     alloc: A,
     rows: &Draft<'_, A>,
@@ -74,7 +74,7 @@ fn all_gone<A: Allocator + Clone>(
     Ok(gone)
 }
 
-// Whether the name is that of a way which the purged node is taken from, and which is left with fewer than 2.
+// Returns whether the name is that of a way that contains the purged node and would keep fewer than 2 nodes.
 fn falls_short<A: Allocator>(rows: &Draft<'_, A>, name: &Name, purged: &Name) -> bool
     ensures { result ≡ falls_short purged.now (nodes_of (row_at rows.now name.now)) }
 {
@@ -84,7 +84,7 @@ fn falls_short<A: Allocator>(rows: &Draft<'_, A>, name: &Name, purged: &Name) ->
     }
 }
 
-// The names whose rows change, rising, each once: the purged one, its users, and the users of those that go.
+// Returns the names whose rows change, rising, each once: the purged name, its users, and the users of removed names.
 fn all_reached<A: Allocator + Clone>(
     alloc: A,
     rows: &Draft<'_, A>,
@@ -100,7 +100,7 @@ fn all_reached<A: Allocator + Clone>(
     Ok(reached)
 }
 
-// The purged name, its users, and the users of those that go, in the order in which they are met.
+// Returns the same names in the order in which they are found, with repetitions.
 fn listed<A: Allocator + Clone>(
     alloc: A,
     rows: &Draft<'_, A>,
@@ -118,7 +118,7 @@ fn listed<A: Allocator + Clone>(
     Ok(reached)
 }
 
-// Adds a user of the purged name, and its own users where it goes.
+// Appends a user of the purged name, and the users of this user if it is removed.
 fn add_reached<A: Allocator + Clone>(
     alloc: &A,
     rows: &Draft<'_, A>,
@@ -137,14 +137,14 @@ fn add_reached<A: Allocator + Clone>(
     Ok(())
 }
 
-// Whether a name is one of those that go.
+// Returns whether a name is removed.
 fn goes<A: Allocator>(gone: &BTreeSet<Name, A>, name: &Name) -> bool
     ensures { result ≡ is_among gone.now.keys name.now }
 {
     gone.contains(name)
 }
 
-// The changes of the names that are reached.
+// Returns the changes of the names whose rows change.
 fn change_all<A: Allocator + Clone>(
     alloc: A,
     rows: &Draft<'_, A>,
@@ -164,7 +164,7 @@ fn change_all<A: Allocator + Clone>(
     Ok(changes)
 }
 
-// The element of a name that is reached before the purge, and what it becomes: none where the name goes.
+// Returns the element of a name before the purge and after it. `None` means that the name is removed.
 fn rows_of<A: Allocator + Clone>(
     alloc: &A,
     rows: &Draft<'_, A>,
@@ -184,7 +184,7 @@ fn rows_of<A: Allocator + Clone>(
     Ok((before, after))
 }
 
-// What a name's element becomes: none where the name goes.
+// Returns the element of a name after the purge. `None` means that the name is removed.
 fn row_left<A: Allocator + Clone>(
     alloc: &A,
     gone: &BTreeSet<Name, A>,
@@ -200,7 +200,7 @@ fn row_left<A: Allocator + Clone>(
     Ok(Some(element_left(alloc, gone, purged, element)?))
 }
 
-// What is left of an element that stays.
+// Returns an element that stays, without its removed references.
 fn element_left<A: Allocator + Clone>(
     alloc: &A,
     gone: &BTreeSet<Name, A>,
@@ -228,7 +228,7 @@ fn element_left<A: Allocator + Clone>(
     }
 }
 
-// The nodes of a list without one.
+// Returns the nodes of a list without the purged name.
 fn nodes_left<A: Allocator>(alloc: A, nodes: &[Name], purged: &Name) -> Result<Nodes<A>, Memory>
     requires { AreNodes nodes.now }
     ensures { IfOk result (λ left. left ≡ without purged.now nodes.now) }
@@ -242,7 +242,7 @@ fn nodes_left<A: Allocator>(alloc: A, nodes: &[Name], purged: &Name) -> Result<N
     Ok(left)
 }
 
-// The members of a list whose names don't go.
+// Returns the members of a list that are not removed.
 fn members_left<A: Allocator + Clone>(
     alloc: A,
     members: &[Member<A>],

@@ -1,4 +1,4 @@
-//! Why an action is refused.
+//! Refusals of actions.
 ghost use Rattle.std.specs.Prelude.{◌≡◌};
 ghost use Rattle.edit_simple.specs.declared.refusal.Refusal.TheVariants.{Memory as OutOfMemory};
 
@@ -7,36 +7,38 @@ use osm_elements::name::Name;
 use osm_elements::text::Text;
 use std::alloc::Allocator;
 
-/// Why an action is refused on a map. Where a check speaks of several names, the least in name order is named.
+/// The reason why an action is refused on a map. If several names fail a check, the refusal has the least of them in
+/// name order.
 #[derive(Drop)]
 #[derive_where(Debug)]
 pub enum Refusal<A: Allocator> {
-    /// The map has no element of this name.
+    /// The map has no element with this name.
     Absent(Name),
-    /// The map has an element of this name already.
+    /// The map already has an element with this name.
     Present(Name),
-    /// The name is of another kind than the element or the action wants.
+    /// The name is of another kind than the element or the action requires.
     WrongKind(Name),
-    /// The action wants two elements, and this name is given for both.
+    /// The action needs two elements, and this name was given for both.
     Same(Name),
-    /// A way is to be split where it has no two parts, or unglued where it has no node.
+    /// A split of the way at this position would not leave two parts, or an unglued way has no node at this position.
     BadPosition,
-    /// Two ways are to be joined, and the first does not end where the second begins.
+    /// The first of two ways to join does not end where the second begins.
     NotEndToEnd,
-    /// Two elements that are to be one have different values at this key.
+    /// Two elements to unite have different values at this key.
     TagConflict(Text<A>),
     /// This node would leave the range of latitudes or longitudes.
     OutOfRange(Name),
     /// This way would have fewer than 2 nodes.
     TooFew(Name),
-    /// This way would have more than 2,000 nodes, this relation more than 32,000 members, or this element
-    /// more than 1,000 tags.
+    /// This way would have more than 2,000 nodes, this relation more than 32,000 members, or this element more than
+    /// 1,000 tags.
     TooMany(Name),
-    /// The element of the first name is referred to; the second is the least name that does, which may be the first.
+    /// An element refers to the first name. The second name is the least that refers to it, which can be the first name
+    /// itself.
     InUse(Name, Name),
-    /// The map after the action would be the map before it.
+    /// The action would not change the map.
     Nothing,
-    /// A growth was refused: there was no memory for it.
+    /// An allocation failed.
     Memory,
 }
 

@@ -13,18 +13,18 @@ use osm_elements::text::Text;
 use std::alloc::{AllocError, Allocator};
 use std::marker::Model;
 
-/// A key and its new value; none removes the key's tag.
+/// A key and its new value. `None` removes the key's tag.
 pub type Given<A> = Keyed<Option<Text<A>>, A>;
 
-/// What a retag gives an element: at most 1,000 keys (this project's limit), in the order of their bytes, each
-/// with its new value or with none to remove it. No key stands twice, and none is empty.
+/// The values that a retag gives: at most 1,000 keys (this project's limit), in the order of their bytes, each with its
+/// new value, or with `None` to remove its tag. No key is empty, and no key occurs twice.
 #[derive(Drop)]
 #[derive_where(Debug)]
 pub struct Retag<A: Allocator> {
     rows: KeyedRows<Option<Text<A>>, A>,
 }
 
-// A retag is seen as pairs of the bytes of a key and those of its value, if it has one.
+// Contracts model a retag as pairs of the bytes of a key and of its value, if it has one.
 impl<A: Allocator> Model for Retag<A> {
     ghost use Rattle.edit_simple.specs.Tagging.{GivenTags};
 
@@ -34,7 +34,7 @@ impl<A: Allocator> Model for Retag<A> {
 }
 
 impl<A: Allocator> Retag<A> {
-    /// No keys. They take no memory.
+    /// Returns a retag without keys.
     pub fn empty(alloc: A) -> Retag<A>
         ensures { result ≡ [] }
     {
@@ -43,7 +43,7 @@ impl<A: Allocator> Retag<A> {
         }
     }
 
-    /// No keys, with room for so many, or `Memory`.
+    /// Returns a retag without keys, with room for `count` keys, or `Memory`.
     pub fn with_capacity(alloc: A, count: usize) -> Result<Retag<A>, Memory>
         ensures { IfOk result (λ t. t ≡ []) }
     {
@@ -51,32 +51,39 @@ impl<A: Allocator> Retag<A> {
         Ok(Retag { rows })
     }
 
-    /// The keys in the order of their bytes, each with what it is given.
+    /// Returns the keys in the order of their bytes, each with its new value.
     pub fn rows(&self) -> &[Given<A>]
         ensures rows { map given_pair result.now ≡ self.now }
-        // What holds of every retag.
+        // True of every retag.
         ensures sound { AreGiven self.now }
     {
         self.rows.rows()
     }
 
-    /// Gives a key its value, or none to remove its tag: a new row, or a new value of the row that has the key. It
-    /// refuses `EmptyKey`; then `TooManyTags` where the key is a new one and there are 1,000 keys; then `Memory`
-    /// where a new row asks for it. A new value of a key that is there takes no memory. After a refusal the rows
-    /// are as before. The key is found in time logarithmic in the number of rows, and the rows behind a new one
-    /// are moved: none, where keys come in their order.
+    /// Sets the value of a key, or sets `None` to remove its tag: adds a row, or replaces the value of the row that has
+    /// the key.
+    ///
+    /// Finding the key takes time logarithmic in the number of rows. The rows after a new row are moved, so keys that
+    /// come in order move no row. A new value of an existing row allocates nothing.
+    ///
+    /// # Errors
+    ///
+    /// The first of these that applies. The rows are then unchanged.
+    /// - `EmptyKey`, if the key is empty
+    /// - `TooManyTags`, if the key is new and there are 1,000 keys
+    /// - `Memory`, if the key is new and an allocation fails
     pub fn set(&mut self, key: Text<A>, value: Option<Text<A>>) -> Result<(), TextFault>
         ensures ok { OnOk result ((set_refusal self.old key ≡ None) × (self.new ≡ put text_cmp key value self.old)) }
         ensures err { IfErr result (λ e. (self.new ≡ self.old) × refuses (set_refusal self.old key) e) }
 
-        // The refusal that the tests name is the answer.
+        // `Memory` never replaces a refusal of `set_refusal`.
         ensures named { (e : TextFault) → set_refusal self.old key ≡ Some e → result ≡ Err e }
         ensures memory_only_for_new { result ≡ Err TextFault.Memory → value_at self.old key ≡ None }
     {
         self.rows.set(key, value)
     }
 
-    /// A second retag with the same keys and values, or `Memory`.
+    /// Returns a copy, or `Memory`.
     pub fn copy(&self) -> Result<Retag<A>, Memory>
     where
         A: Clone,

@@ -1,4 +1,4 @@
-//! Plans that give an element other tags.
+//! The plan that sets tags of an element.
 ghost use Rattle.std.specs.Prelude.{◌≡◌, ◌⊎◌, ◌<◌, ◌≤◌, true, false, T, map, length, nat_lt, nat_eq, is_some, MatchResult, IfOk, OnOk, IfErr};
 ghost use Rattle.std.specs.FinMap.Entries.{is_sorted};
 ghost use Rattle.osm_elements.specs.KeyedRows.{text_cmp, value_at};
@@ -26,7 +26,7 @@ use osm_elements::shared_tags::SharedTags;
 use osm_elements::tags::Tags;
 use std::alloc::Allocator;
 
-/// Plans to give an element other tags.
+/// Plans to set tags of an element.
 pub fn plan<A: Allocator + Clone>(
     alloc: A,
     rows: &Draft<'_, A>,
@@ -49,7 +49,7 @@ pub fn plan<A: Allocator + Clone>(
     Ok(one_change(alloc, name, Some(before), Some(after))?)
 }
 
-// The tags after each key valued its value or removed it, or the refusal of more than 1,000.
+// Returns the tags after each given key got its value or was removed, or `TooMany` if there are more than 1,000.
 fn retagged<A: Allocator + Clone>(
     alloc: A,
     name: &Name,
@@ -75,7 +75,7 @@ fn retagged<A: Allocator + Clone>(
     }
 }
 
-// Takes the tags away whose keys have no value.
+// Removes the tags of the keys without a value.
 fn remove_tags<A: Allocator>(tags: &mut Tags<A>, given: &[Given<A>])
     ensures { tags.new ≡ all_removed tags.old (map given_pair given.now) }
 {
@@ -86,7 +86,7 @@ fn remove_tags<A: Allocator>(tags: &mut Tags<A>, given: &[Given<A>])
     }
 }
 
-// Gives the keys that have a value that value. After a refusal the tags are of no use.
+// Sets the values of the keys with a value. If it returns an error, it may have set some of them.
 fn put_values<A: Allocator + Clone>(tags: &mut Tags<A>, given: &[Given<A>]) -> Result<(), TextFault>
     requires sorted { T (is_sorted text_cmp tags.old) }
     requires given { AreGiven (map given_pair given.now) }
@@ -101,7 +101,7 @@ fn put_values<A: Allocator + Clone>(tags: &mut Tags<A>, given: &[Given<A>]) -> R
     Ok(())
 }
 
-// Gives a key its value, where it has one.
+// Sets the value of a key, if the row has a value.
 fn put_value<A: Allocator + Clone>(tags: &mut Tags<A>, row: &Given<A>) -> Result<(), TextFault>
     requires key { nat_eq (length row.now.key) 0 ≡ false }
     ensures ok { OnOk result (tags.new ≡ valued tags.old row.now.key row.now.value) }
@@ -115,7 +115,7 @@ fn put_value<A: Allocator + Clone>(tags: &mut Tags<A>, row: &Given<A>) -> Result
     tags.set(row.key.copy()?, value.copy()?)
 }
 
-// The element with these tags.
+// Returns a copy of the element with these tags.
 fn with_tags<A: Allocator + Clone>(
     element: &Element<A>,
     tags: SharedTags<A>,

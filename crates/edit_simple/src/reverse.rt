@@ -1,4 +1,4 @@
-//! Plans that turn a way round.
+//! The plan that reverses a way.
 ghost use Rattle.std.specs.Prelude.{◌≡◌, true, reverse, IfOk};
 ghost use Rattle.osm_changes.specs.Sound.{is_sound};
 ghost use Rattle.edit_simple.specs.Plans.{IsPlan};
@@ -15,7 +15,7 @@ use osm_elements::nodes::Nodes;
 use osm_elements::shared::Shared;
 use std::alloc::Allocator;
 
-/// Plans to turn a way round.
+/// Plans to reverse a way.
 pub fn plan<A: Allocator + Clone>(
     alloc: A,
     rows: &Draft<'_, A>,
@@ -32,7 +32,7 @@ pub fn plan<A: Allocator + Clone>(
     change_nodes(alloc, name, nodes, tags, turned)
 }
 
-// The nodes of a way, the last first.
+// Returns the nodes of a way in reverse order.
 fn reversed<A: Allocator + Clone>(nodes: &Nodes<A>) -> Result<Nodes<A>, Memory>
     ensures { IfOk result (λ turned. turned ≡ reverse nodes.now) }
 {

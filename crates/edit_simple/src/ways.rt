@@ -1,4 +1,4 @@
-//! Ways in a map, and their change to other nodes.
+//! Ways in a map, and the change of their nodes.
 ghost use Rattle.std.specs.Prelude.{◌≡◌, ◌⊎◌, true, false, MatchResult, Some};
 ghost use Rattle.osm_elements.specs.Maps.{is_absent};
 ghost use Rattle.osm_elements.specs.Rows.{row_at};
@@ -21,7 +21,11 @@ use osm_elements::shared::Shared;
 use osm_elements::shared_tags::SharedTags;
 use std::alloc::Allocator;
 
-/// The nodes and tags of a way, in time logarithmic in the size of the map, or `Absent` where it is not there.
+/// Returns the nodes and the tags of a way. Takes time logarithmic in the size of the map.
+///
+/// # Errors
+///
+/// `Absent`, if the map does not have the way.
 pub fn way_at<'m, A: Allocator>(
     rows: &'m Draft<'_, A>,
     name: &Name,
@@ -41,7 +45,12 @@ pub fn way_at<'m, A: Allocator>(
     }
 }
 
-/// The changes of a way to other nodes, or `Nothing` where it has these, or `Memory`.
+/// Returns the changes of a way that gets the nodes `others`.
+///
+/// # Errors
+///
+/// - `Nothing`, if these are the nodes that it has
+/// - `Memory`, if otherwise an allocation fails
 pub fn change_nodes<A: Allocator + Clone>(
     alloc: A,
     name: &Name,

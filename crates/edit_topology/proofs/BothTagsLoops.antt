@@ -18,7 +18,7 @@ use Rattle.edit_topology.specs.BothTags.{both_tags}
 
 -- ---- how many tags there are
 
--- tags that get others grow no fewer
+-- adding tags never makes the list shorter
 longer-both : (others t : Pairs) → T (is_sorted text_cmp t) → length t ≤ length (both_tags t others)
 longer-both [] t h = omega arith
 longer-both (p ∷ ps) t h = omega (arith, longer-put p.0 p.1 t h, longer-both ps (put text_cmp p.0 p.1 t) (is_sorted-put text_cmp nat_list_cmp_total p.0 p.1 t h))
@@ -27,7 +27,7 @@ sorted-both : (others t : Pairs) → T (is_sorted text_cmp t) → T (is_sorted t
 sorted-both [] t h = h
 sorted-both (p ∷ ps) t h = sorted-both ps (put text_cmp p.0 p.1 t) (is_sorted-put text_cmp nat_list_cmp_total p.0 p.1 t h)
 
--- a new key where a thousand tags are leaves more than a thousand in the end
+-- if a thousand tags get a new key, more than a thousand are there at the end
 too_many_in_the_end : (key value : List ℕ) (rest t : Pairs) → T (is_sorted text_cmp t) → is_some (value_at t key) ≡ false → 1000 ≤ length t
     → 1000 < length (both_tags (put text_cmp key value t) rest)
 too_many_in_the_end key value rest t h new full =
@@ -37,7 +37,7 @@ too_many_in_the_end key value rest t h new full =
 -- ---- tag by tag
 
 module _ {A : Type 0} where
-  -- where a new key finds a thousand tags, there are more in the end
+  -- if a new key finds a thousand tags, there are more at the end
   too_many_put : (rows : List (Keyed (List ℕ) A)) (t u : Pairs) (i : ℕ) (x : Keyed (List ℕ) A) → T (is_sorted text_cmp t) → i < length rows → x ≡ get_or rows i x → u ≡ both_tags t (map tag_pair (take i rows))
       → is_some (value_at u x.key) ≡ false → 1000 ≤ length u → 1000 < length (both_tags t (map tag_pair rows))
   too_many_put rows t u i x sorted l is inv new full = subst (λ n. 1000 < length n) (sym split) (too_many_in_the_end x.key x.value rest u sorted_u new full)
@@ -55,7 +55,7 @@ module _ {A : Type 0} where
       sorted_u : T (is_sorted text_cmp u)
       sorted_u = subst (λ v. T (is_sorted text_cmp v)) (sym inv) (sorted-both (map tag_pair (take i rows)) t sorted)
 
-  -- the fault of one tag, told of all
+  -- from the fault of one tag to the fault of all
   pub fault_told : (rows : List (Keyed (List ℕ) A)) (t u : Pairs) (i : ℕ) (x : Keyed (List ℕ) A) (f : TextFault) → T (is_sorted text_cmp t) → i < length rows → x ≡ get_or rows i x → u ≡ both_tags t (map tag_pair (take i rows))
       → ((f ≡ faults.Memory) ⊎ ((f ≡ faults.TooManyTags) × (is_some (value_at u x.key) ≡ false) × (1000 ≤ length u)))
       → ((f ≡ faults.TooManyTags) × (1000 < length (both_tags t (map tag_pair rows)))) ⊎ (f ≡ faults.Memory)

@@ -1,4 +1,4 @@
--- The lists of a join, and the names that it touches one by one.
+-- The lists of a join, and the names whose rows it changes, one by one.
 use Rattle.std.proofs.Common.{◌≡◌, ◌<◌, ◌+◌, ◌-◌, ◌++◌, ◌||◌, ℕ, zero, suc, Bool, true, false, T, List, [], ◌∷◌, Option, Some, None, length, take, drop, get_or, slice_get, All, Bor, refl, sym, ap, subst, ◌∙◌, cond, arith}
 use Rattle.std.proofs.lemmas.List.{take_more}
 use Rattle.std.proofs.lemmas.List.Elements.{All-append, All-drop, All-take}
@@ -36,7 +36,7 @@ last_is (x ∷ xs) = behind x xs
     behind x [] = refl
     behind x (y ∷ ys) = let next : length (x ∷ y ∷ ys) - 1 ≡ suc (length (y ∷ ys) - 1) = omega arith in ap (slice_get (x ∷ y ∷ ys)) next ∙ behind y ys
 
--- the test that the last of a list is the first of another, by what the two are
+-- the test whether the last of a list is the first of another, from the meanings of both
 pub ends_meet : (E : Name → Name → Bool) → ((x y : Name) → E x y ≡ is_same x y) → (last begin : Option (Bor Name)) (one other : List Name)
     → option_copied last ≡ slice_get one (length one - 1) → option_copied begin ≡ slice_get other 0 → option_eq (λ (x y : Bor Name). E x.now y.now) last begin ≡ meet_end_to_end one other
 ends_meet E ties last begin one other is its = by last begin ∙ (λ i. option_eq is_same ((is ∙ last_is one) i) (its i))
@@ -47,7 +47,7 @@ ends_meet E ties last begin one other is its = by last begin ∙ (λ i. option_e
     by (Some x) None = refl
     by (Some x) (Some y) = ties x.now y.now
 
--- the names of two lists of nodes are those of nodes
+-- two lists of nodes together list nodes
 pub nodes_of_both : (one other both : List Name) (n : ℕ) → AreNodes one → AreNodes other → both ≡ one ++ take n (drop 1 other) → AreNodes both
 nodes_of_both one other both n h g is =
     subst (λ l. All (λ x. x.kind ≡ Node) l) (sym is)
@@ -55,7 +55,7 @@ nodes_of_both one other both n h g is =
 
 -- ---- the names whose rows change
 
--- a name below all of a list is not one of its places
+-- a name below all names of a list is at none of its positions
 below_other : (x : Name) (xs : List Name) (i : ℕ) (y : Name) → T (below_all name_cmp x (bare_rows xs)) → i < length xs → y ≡ get_or xs i y → is_same x y ≡ false
 below_other x [] i y h l is = absurd (omega (arith, l))
 below_other x (z ∷ zs) zero y h l is = ap (is_same x) is ∙ apart (name_cmp x z) (first (is_lt (name_cmp x z)) (below_all name_cmp x (bare_rows zs)) h)
@@ -66,7 +66,7 @@ below_other x (z ∷ zs) zero y h l is = ap (is_same x) is ∙ apart (name_cmp x
     apart Greater t = absurd t
 below_other x (z ∷ zs) (suc i) y h l is = below_other x zs i y (second (is_lt (name_cmp x z)) (below_all name_cmp x (bare_rows zs)) h) (omega (arith, l)) is
 
--- a name of a rising list is not among those before it
+-- a name of a rising list is not among those in front of it
 pub not_before : (xs : List Name) (i : ℕ) (y : Name) → IsRising xs → i < length xs → y ≡ get_or xs i y → is_among (take i xs) y ≡ false
 not_before xs zero y h l is = refl
 not_before [] (suc i) y h l is = refl
@@ -75,7 +75,7 @@ not_before (x ∷ xs) (suc i) y h l is =
     ∙ not_before xs i y (second (below_all name_cmp x (bare_rows xs)) (is_sorted name_cmp (bare_rows xs)) h) (omega (arith, l)) is
 
 module _ {A : Type 0} (m : Rows A) (w v : Name) (way : Element A) (names : List Name) (i : ℕ) (y : Name) (h : i < length names) (is : y ≡ get_or names i y) where
-  -- the way is still at hand where its name is met
+  -- the joined way has not been moved out when its name comes
   pub same_row : IsRising names → (joined : Option (Element A)) → (is_among (take i names) w ≡ false → joined ≡ Some way) → row_joined m w v joined y ≡ row_joined m w v (Some way) y
   same_row rising joined hand = by (is_same y w) refl
     where
@@ -86,7 +86,7 @@ module _ {A : Type 0} (m : Rows A) (w v : Name) (way : Element A) (names : List 
           rest : Option (Element A)
           rest = cond (is_same y v) None (option_map (with_members (joined_members w v)) (row_at m y))
 
-  -- and it is until then
+  -- it has not been moved out before that
   pub still_at_hand : (joined after : Option (Element A)) → (is_among (take i names) w ≡ false → joined ≡ Some way) → after ≡ cond (is_same y w) None joined
       → is_among (take (i + 1) names) w ≡ false → after ≡ Some way
   still_at_hand joined after hand left none = by (is_same y w) refl (sym more ∙ none)

@@ -38,7 +38,7 @@ use Rattle.edit_topology.specs.Facts.Joining.{Joins, joins}
 use Rattle.edit_topology.specs.Facts.Lists.{or_first, or_second}
 use Rattle.edit_topology.specs.Facts.Staying.{join_leaves}
 
--- a list gets longer by another of at least two names
+-- a list gets longer by a list of at least two names
 longer : (one other : List Name) → nat_le 2 (length other) ≡ true → length (end_to_end one other) ≡ length one → ⊥
 longer one other two same =
     let both : length (end_to_end one other) ≡ length one + length (drop 1 other) = length-append one (drop 1 other) in

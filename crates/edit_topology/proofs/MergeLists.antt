@@ -65,7 +65,7 @@ module _ (same : Name → Name → Bool) where
       by true i = i
       by false i = omega arith
 
-  -- one name is left where all that follow it are dropped
+  -- one name is left if all that follow it are dropped
   one_left : (x : Name) (xs : List Name) → nat_lt (length (dedup_from same x xs)) 2 ≡ list_all (λ z. same z x) xs
   one_left x [] = refl
   one_left x (z ∷ zs) = by (same z x) (one_left x zs)
@@ -92,7 +92,7 @@ second_not true b h = absurd (cc)
 second_not false b h = h
 
 module _ (k g : Name) where
-  -- k stands where k or g stood
+  -- k is where k or g was
   renamed_is : (n : Name) → is_same k (renamed g k n) ≡ is_either k g n
   renamed_is n = by (is_same g n)
     where
@@ -116,7 +116,7 @@ module _ (k g : Name) where
         by true = refl
         by false = refl
 
-  -- of a list that names g fewer than two are left where it has no names but k and g
+  -- a list that names g keeps fewer than two names exactly if all its names are k or g
   pub short_is : (nodes : List Name) → is_among nodes g ≡ true → nat_lt (length (replaced k g nodes)) 2 ≡ list_all (is_either k g) nodes
   short_is [] h = absurd (cc)
   short_is (n ∷ ns) h = one_left (λ m before. is_same k m && is_same k before) (renamed g k n) (map (renamed g k) ns) ∙ by (is_either k g n) refl
@@ -125,7 +125,7 @@ module _ (k g : Name) where
       by true e = all_dropped (renamed g k n) (renamed_is n ∙ e) ns
       by false e = none_dropped (renamed g k n) (renamed_is n ∙ e) ns (ap (λ b. b || is_among ns g) (sym (second_not (is_same k n) (is_same g n) e)) ∙ h)
 
-  -- nodes stay nodes
+  -- renamed nodes are nodes
   node_for : (n : Name) → is_node k.kind ≡ true → n.kind ≡ Node → (renamed g k n).kind ≡ Node
   node_for n node own = by (is_same g n)
     where
@@ -140,7 +140,7 @@ module _ (k g : Name) where
 
 -- ---- tags
 
--- no key of the others has another value among the tags
+-- no key of the others has a different value among the tags
 abbrev NoTwo : Pairs → Pairs → Type 0
 NoTwo tags [] = Unit
 NoTwo tags (p ∷ ps) = ((value : List ℕ) → value_at tags p.0 ≡ Some value → value ≡ p.1) × NoTwo tags ps
@@ -163,7 +163,7 @@ module _ (tags all : Pairs) (none : (key : List ℕ) → HasTwo tags all key →
     no_two ps (second (below_all text_cmp p.0 ps) (is_sorted text_cmp ps) h) (λ key value is. found key value (later p ps (first (below_all text_cmp p.0 ps) (is_sorted text_cmp ps) h) key value is)),
   )
 
--- a tag that is there is put
+-- putting a tag that is there changes nothing
 put_same : (tags : Pairs) (key value : List ℕ) → T (is_sorted text_cmp tags) → value_at tags key ≡ Some value → put text_cmp key value tags ≡ tags
 put_same tags key value h is =
     same_entries text_cmp nat_list_cmp_total (slice_cmp-IsAntisymmetric nat_cmp-IsAntisymmetric) (put text_cmp key value tags) tags (is_sorted-put text_cmp nat_list_cmp_total key value tags h) h
@@ -186,7 +186,7 @@ no_fewer (p ∷ ps) tags h =
 more : (a b c : ℕ) → b ≡ a + 1 → b ≤ c → nat_lt a c ≡ true
 more a b c e h = grind (arith, nat_tests)
 
--- where no tag is gained the tags stay
+-- if no tag is gained, the tags are unchanged
 none_gained : (others tags : Pairs) → T (is_sorted text_cmp tags) → NoTwo tags others → nat_lt (length tags) (length (both_tags tags others)) ≡ false → both_tags tags others ≡ tags
 none_gained [] tags h single few = refl
 none_gained (p ∷ ps) tags h single few = by (value_at tags p.0) refl (none_gained ps tags h single.1)

@@ -59,7 +59,7 @@ and_true : (b : Bool) → b ≡ (b && true)
 and_true true = refl
 and_true false = refl
 
--- what is found first passes first
+-- the first match is the first of all matches
 found_first : (p : Name → Bool) (xs : List Name) → find p xs ≡ slice_get (filter p xs) 0
 found_first p [] = refl
 found_first p (x ∷ xs) = by (p x) (found_first p xs)
@@ -68,7 +68,7 @@ found_first p (x ∷ xs) = by (p x) (found_first p xs)
     by true rest = refl
     by false rest = rest
 
--- after checks of which none holds the first of the others is the first
+-- if no check of the first list holds, the second list decides
 after_none : {X : Type 0} (os ps : List (Option X)) → first_that_holds os ≡ None → first_that_holds (os ++ ps) ≡ first_that_holds ps
 after_none [] ps e = refl
 after_none (None ∷ os) ps e = after_none os ps e
@@ -160,7 +160,7 @@ module _ {A : Type 0} (m : Rows A) (k g : Name) (sound : is_sound m ≡ true) wh
             from_short ∙ ap (λ o. first_that_holds (option_map TooFew o ∷ rest)) (sym e)
             ∙ (λ i. first_that_holds (tag_checks k ((ap row_tags at_k ∙ sym ours) i) ((ap row_tags at_g ∙ sym theirs) i)))
 
-  -- a refusal of the tags, told of all checks
+  -- from a refusal of the tags to a refusal of the whole merge
   pub refused : (r : Result (List (Change A)) (Refusal A)) (e : Refusal A) (checks : List (Option (Refusal A))) → IsErr r → IsErrAnd r (λ x. x ≡ e)
       → first_that_holds (merge_checks m k g) ≡ first_that_holds checks → ((first_that_holds checks ≡ Some e) ⊎ (e ≡ Memory)) → IsPlan m (merge_checks m k g) (after_merge m k g) r
   refused (Ok cs) e checks err is from why = absurd (cc)
@@ -214,7 +214,7 @@ module _ {A : Type 0} (m : Rows A) (k g : Name) (sound : is_sound m ≡ true) wh
     row_k : (y : Name) → is_same y k ≡ true → row_at m y ≡ Some (Node kept.0 kept.1 kept.2)
     row_k y same = ap (row_at m) (same_names y k same) ∙ kept.3
 
-    -- a name that is changed is g, or k where it gains a tag, or that of an element that names g
+    -- a changed name is g, or k if it gains a tag, or the name of an element that names g
     each : (P : Type 0) (y : Name) → is_among changed y ≡ true → (is_same y g ≡ true → P) → (is_same y g ≡ false → is_same y k ≡ true → gains ≡ true → P)
         → (is_same y g ≡ false → is_same y k ≡ false → is_among (row_references (row_at m y)) g ≡ true → P) → P
     each P y i at_g at_k named = by (is_same y g) refl (is_same y k) refl gains refl

@@ -9,7 +9,7 @@ use Rattle.osm_elements.specs.Members.{member_pair}
 use Rattle.edit_topology.specs.Inner.Splitting.{count_named, split_length}
 use Rattle.edit_topology.specs.Split.{split_members}
 
--- the first that passes is the first of those that pass
+-- the first match is the first of all matches
 pub find_is_first : {X : Type 0} (p : X → Bool) (xs : List X) → find p xs ≡ slice_get (filter p xs) 0
 find_is_first p [] = refl
 find_is_first p (x ∷ xs) = by (p x) (find_is_first p xs)
@@ -21,7 +21,7 @@ find_is_first p (x ∷ xs) = by (p x) (find_is_first p xs)
 one_if : (w : Name) (r : Name × List ℕ) (rs : List (Name × List ℕ)) (b : Bool) → is_same w r.0 ≡ b → count_named w (r ∷ rs) ≡ cond b 1 0 + count_named w rs
 one_if w r rs b e = sum_by-cons (λ s. cond (is_same w s.0) 1 0) r rs ∙ ap (λ c. cond c 1 0 + count_named w rs) e
 
--- how long the members of a relation get
+-- the number of a relation's members after the split
 pub length_split : (w v : Name) (members : List (Name × List ℕ)) → length (split_members w v members) ≡ split_length w members
 length_split w v [] = refl
 length_split w v (r ∷ rs) = by (is_same w r.0) refl (length_split w v rs)

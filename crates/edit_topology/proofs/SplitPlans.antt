@@ -54,7 +54,7 @@ and_turned true false = refl
 and_turned false true = refl
 and_turned false false = refl
 
--- the part up to a position inside a list is another list
+-- the part up to an inner position differs from the list
 shorter : (i n t : ℕ) → t ≡ min (i + 1) n → nat_lt (i + 1) n ≡ true → t ≡ n → ⊥
 shorter i n t a b c = grind (arith, nat_tests)
 
@@ -95,13 +95,13 @@ module _ {A : Type 0} where
         (rising_names (λ r. refers_to r.1 w && nat_lt most_members (length (split_members w v (members_of (Some r.1))))) m in_order)
         (IsRising-filter (is_overfull m w) (users m w) (rising_names (λ r. refers_to r.1 w) m in_order)) among_overfull
 
-    -- the first user that gets too long is the least relation that does
+    -- the first user that gets too long is the least such relation
     pub first_overfull_is : (its : List Name) → its ≡ users m w → find (is_overfull m w) its ≡ least (overfull m w v)
     first_overfull_is its e =
         ap (find (is_overfull m w)) e ∙ find_is_first (is_overfull m w) (users m w) ∙ ap (λ l. slice_get l 0) (sym overfull_is)
         ∙ first_is_least (λ r. nat_lt most_members (length (split_members w v (members_of (Some r.1))))) m in_order
 
-  -- ---- where all checks but the last don't hold
+  -- ---- if no check holds, except perhaps the last
 
   module _ (m : Rows A) (w : Name) (i : ℕ) (v : Name) (way : Element A) (its : List Name) (sound : is_sound m ≡ true) (its_are : its ≡ users m w) (way_w : is_way w.kind ≡ true) (way_v : is_way v.kind ≡ true)
       (row : row_at m w ≡ Some way) (new : is_present m v ≡ false) (inside : is_inside i (nodes_of (Some way)) ≡ true) where
@@ -155,7 +155,7 @@ module _ {A : Type 0} where
         row_at-after_split m w i v v ∙ ap (λ b. cond b (Some (split_off m w i)) (option_map (split_row w i v v) (row_at m v))) (is_eq-name_cmp_itself v)
         ∙ ap (λ o. Some (row_split m w i v o)) (sym fresh)
 
-    -- w's row, and one that names w
+    -- the row of w, and a row that names w
     becomes : (y : Name) (u : Element A) → row_at m y ≡ Some u → (is_same w y || refers_to u w) ≡ true → split_row w i v y u ≡ split_element w i v u
     becomes y (Node lat lon tags) is h = by (is_same w y)
       where

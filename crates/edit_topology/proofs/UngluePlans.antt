@@ -42,7 +42,7 @@ node_first v w p q = λ i. is_lt (ordering_then (nat_cmp (kind_rank (p i)) (kind
 
 -- ---- checks in a row
 
--- where none of the first holds, those that follow decide
+-- if no check of the first list holds, the second list decides
 rest_decides : {X : Type 0} (first rest : List (Option X)) → first_that_holds first ≡ None → first_that_holds (first ++ rest) ≡ first_that_holds rest
 rest_decides [] rest e = refl
 rest_decides (None ∷ first) rest e = rest_decides first rest e
@@ -52,11 +52,11 @@ less_test : (i n : ℕ) → i < n → nat_lt i n ≡ true
 less_test i n l = grind (arith, nat_tests)
 
 module _ {A : Type 0} where
-  -- the changes of the new node begin them
+  -- the changes of the new node come first
   pub first_fits : (v : Name) (node : Element A) (front : List (Change A)) → front ≡ [] → AreChanges (front ++ row_changes v None (Some node))
   first_fits v node front is = subst (λ cs. AreChanges (cs ++ row_changes v None (Some node))) (sym is) (AreChanges-row_changes v None (Some node))
 
-  -- those of the way go behind those of the new node
+  -- the changes of the way come after those of the new node
   pub second_fits : (v w : Name) (node unglued copy : Element A) → is_lt (name_cmp v w) ≡ true → (front : List (Change A)) → front ≡ row_changes v None (Some node)
       → AreChanges (front ++ row_changes w (Some copy) (Some unglued))
   second_fits v w node unglued copy lt front is =
@@ -77,7 +77,7 @@ module _ {A : Type 0} where
         rest_decides (name_checks m w v) (then_some (not (nat_lt i (length (nodes_of (row_at m w))))) BadPosition ∷ []) named
         ∙ ap (λ o. first_that_holds (then_some (not (nat_lt i (length (nodes_of o)))) BadPosition ∷ [])) row
 
-    -- where no node is found, the position lies beyond
+    -- if no node is found, the position lies after the last
     beyond : (u : Element A) → row_at m w ≡ Some u → None ≡ node_standing m (nodes_of (Some u)) i → nat_lt i (length (nodes_of (Some u))) ≡ false
     beyond (Node lat lon tags) is none = grind (arith, nat_tests)
     beyond (Way nodes tags) is none = by (nat_lt i (length nodes)) refl
@@ -90,7 +90,7 @@ module _ {A : Type 0} where
     pub no_position : None ≡ node_standing m (nodes_of (Some way)) i → Some BadPosition ≡ first_that_holds (unglue_checks m w i v)
     no_position none = sym (position ∙ ap (λ b. first_that_holds (then_some (not b) BadPosition ∷ [])) (beyond way row none))
 
-    -- and where one is, it does not
+    -- if a node is found, the position is in the list
     pub within : (node : Element A) → Some node ≡ node_standing m (nodes_of (Some way)) i → i < length (nodes_of (Some way))
     within node found = by (slice_get (nodes_of (Some way)) i) refl found
       where
@@ -122,7 +122,7 @@ module _ {A : Type 0} where
       way_becomes : row_at n w ≡ Some (with_nodes (λ list. set list i v) way)
       way_becomes = way_after m w i v (not_new m w i v s) way row
 
-      -- v and w have other rows, and no other name has
+      -- the rows of v and w differ, and no others do
       these_differ : (y : Name) → is_among (v ∷ w ∷ []) y ≡ not (is_same_row (row_at m y) (row_at n y))
       these_differ y = by (is_same y v) refl (is_same y w) refl
         where

@@ -1,5 +1,4 @@
--- The tags of two elements that become one. (OpenStreetMap wiki, "Elements": no two tags of an element have the same
--- key.)
+-- Unites the tags of two elements. (OpenStreetMap wiki, "Elements": no two tags of an element have the same key.)
 use Rattle.std.specs.Prelude.{◌≡◌, ◌≢◌, ℕ, Bool, false, not, List, Option, Some, None}
 use Rattle.std.specs.List.{fold, find}
 use Rattle.std.specs.Option.{option_map}
@@ -8,11 +7,11 @@ use Rattle.osm_elements.specs.KeyedRows.{text_cmp, value_at}
 use Rattle.osm_elements.specs.TagRows.{Pairs}
 use Rattle.osm_elements.specs.Texts.{is_same_text}
 
--- the tags of the one and of the other
+-- the tags of both elements; if both have a key, the value is the other element's
 abbrev pub both_tags : Pairs → Pairs → Pairs
 both_tags tags others = fold (λ t p. put text_cmp p.0 p.1 t) tags others
 
--- there is a value, and it is another one
+-- there is a value, and it differs from the given value
 abbrev pub is_another : Option (List ℕ) → List ℕ → Bool
 is_another None value = false
 is_another (Some other) value = not (is_same_text other value)
@@ -21,7 +20,7 @@ is_another (Some other) value = not (is_same_text other value)
 abbrev pub conflict : Pairs → Pairs → Option (List ℕ)
 conflict tags others = option_map (λ p. p.0) (find (λ p. is_another (value_at others p.0) p.1) tags)
 
--- the key has a value among the tags and another one among the others
+-- the key has a value in both lists, and the two values differ
 pub record HasTwo (tags others : Pairs) (key : List ℕ) : Type 0 where
   pub one : List ℕ
   pub other : List ℕ

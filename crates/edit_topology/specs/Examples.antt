@@ -1,4 +1,4 @@
--- What was worked out by hand of the definitions.
+-- Examples of the definitions, worked out by hand.
 use Rattle.std.specs.Prelude.{◌≡◌, ℕ, List, [], ◌∷◌, Option, Some, None, pos, replicate}
 use Rattle.osm_elements.specs.declared.name.Name.{Name}
 use Rattle.osm_elements.specs.declared.element.Element.{Element}
@@ -15,7 +15,7 @@ use Rattle.edit_topology.specs.Scenes.{a1, a2, b1, b2, c1, tagged_node, tagged_w
 use Rattle.edit_topology.specs.Split.{split_checks, after_split}
 use Rattle.edit_topology.specs.Unglue.{unglue_checks, after_unglue}
 
--- a closed way of three nodes, at each position and past the last
+-- splits of a closed way of three nodes, at each position and after the last
 unfoldable pub closed_way_split : Type 0
 closed_way_split =
     (refused (split_checks ring w3 0 w5) ≡ Some BadPosition)
@@ -28,7 +28,7 @@ closed_way_split =
     × (refused (split_checks ring w3 3 w5) ≡ Some BadPosition)
     × (refused (split_checks ring w3 4 w5) ≡ Some BadPosition)
 
--- each member is doubled where it stands, also one that stands in a row; the join takes it back
+-- a split doubles each member in its place, also members that repeat; the join restores the map
 unfoldable pub members_split : Type 0
 members_split =
     (refused (split_checks thrice w2 1 w5) ≡ None)
@@ -37,8 +37,8 @@ members_split =
     × (refused (join_checks (after_split thrice w2 1 w5) w2 w5) ≡ None)
     × (after_join (after_split thrice w2 1 w5) w2 w5 ≡ thrice)
 
--- each refusal of a split, in their order; a relation may get 32,000 members, and of two that get more the lesser is
--- named
+-- each refusal of a split, in their order; a relation may get 32,000 members; if two relations get more, the refusal
+-- names the lesser
 unfoldable pub split_refusals : Type 0
 split_refusals =
     (refused (split_checks start n-1 0 r1) ≡ Some (WrongKind n-1))
@@ -52,7 +52,7 @@ split_refusals =
     × (refused (split_checks (with_many (with_many start r9 16000 1) r1 16000 1) w2 1 w5) ≡ Some (TooMany r1))
     × (refused (split_checks (with_many start r9 16000 1) w2 2 w5) ≡ Some BadPosition)
 
--- the last of the one has to be the first of the other; no other pair of ends will do
+-- ways join only if the last node of one is the first node of the other; no other two ends join
 unfoldable pub ends_joined : Type 0
 ends_joined =
     (refused (join_checks (beside (n-2 ∷ n-3 ∷ [])) w1 w3) ≡ None)
@@ -65,15 +65,15 @@ ends_joined =
     × (row_at (after_join (beside (n-2 ∷ n-3 ∷ n-1 ∷ [])) w1 w3) w1 ≡ Some (way_of (n-1 ∷ n-2 ∷ n-3 ∷ n-1 ∷ [])))
     × (refused (join_checks ring w3 w3) ≡ Some (Same w3))
 
--- w1, a way w3 that begins where w1 ends, and a relation with these members
+-- w1, a way w3 that begins where w1 ends, and a relation with the given members
 abbrev pub with_members : List (Name × List ℕ) → Rows Any
 with_members members = put_row (beside (n-2 ∷ n-3 ∷ [])) r9 (relation_of members)
 
--- the refusal of their join, and the relation after it
+-- the refusal of a join of w1 and w3, and the relation after it
 abbrev pub joining_members : List (Name × List ℕ) → Option (Refusal Any) × Option (Element Any)
 joining_members members = (refused (join_checks (with_members members) w1 w3), row_at (after_join (with_members members) w1 w3) r9)
 
--- of members w3 only one right after w1 in the same role is dropped, as the list was before
+-- a join drops a member w3 only if it comes right after w1 in the same role in the list before the join
 unfoldable pub members_joined : Type 0
 members_joined =
     (joining_members ((w1, []) ∷ (w3, []) ∷ (w3, []) ∷ []) ≡ (None, Some (relation_of ((w1, []) ∷ (w1, []) ∷ []))))
@@ -83,7 +83,7 @@ members_joined =
     × (joining_members ((w1, []) ∷ (w1, []) ∷ []) ≡ (None, Some (relation_of ((w1, []) ∷ (w1, []) ∷ []))))
     × (joining_members ((w1, []) ∷ (w3, []) ∷ (w1, outer) ∷ (w3, outer) ∷ []) ≡ (None, Some (relation_of ((w1, []) ∷ (w1, outer) ∷ []))))
 
--- the tags of both, where no key has two values; else the least such key
+-- the tags of both ways if no key has two values, and otherwise a refusal with the least such key
 unfoldable pub tags_joined : Type 0
 tags_joined =
     (refused (join_checks (ways_tagged (b2 ∷ []) (a1 ∷ b2 ∷ [])) w3 w5) ≡ None)
@@ -94,7 +94,7 @@ tags_joined =
     × (refused (join_checks (ways_tagged thousand_tags (a1 ∷ [])) w3 w5) ≡ Some (TooMany w3))
     × (refused (join_checks (ways_tagged thousand_tags ((48 ∷ 48 ∷ [], 49 ∷ []) ∷ a1 ∷ [])) w3 w5) ≡ Some (TagConflict (48 ∷ 48 ∷ [])))
 
--- each other refusal of a join, in their order; a way may get 2,000 nodes
+-- the remaining refusals of a join, in their order; a way may get 2,000 nodes
 unfoldable pub join_refusals : Type 0
 join_refusals =
     (refused (join_checks start n-1 r1) ≡ Some (WrongKind n-1))
@@ -109,11 +109,11 @@ join_refusals =
     × (refused (join_checks (with_long 1001 (a1 ∷ []) 1001 (a2 ∷ [])) w3 w5) ≡ Some (TooMany w3))
     × (refused (join_checks (put_row (with_long 1001 [] 1001 []) w5 (way_of (replicate 1001 n-2))) w3 w5) ≡ Some NotEndToEnd)
 
--- the refusal of a merge of n-3 into n-1 beside a third way, and that way after it
+-- the refusal of a merge of n-3 into n-1 if there is a third way, and this way after it
 abbrev pub merging_beside : List Name → Option (Refusal Any) × Option (Element Any)
 merging_beside nodes = (refused (merge_checks (beside nodes) n-1 n-3), row_at (after_merge (beside nodes) n-1 n-3) w3)
 
--- neighbours in a closed way, in its middle and at its end; its two ends are no neighbours
+-- merges of neighbours in the middle and at the end of a closed way; its two ends are not neighbours
 unfoldable pub neighbours_merged : Type 0
 neighbours_merged =
     (refused (merge_checks ring n-2 n-3) ≡ None)
@@ -126,7 +126,7 @@ neighbours_merged =
     × (merging_beside (n-3 ∷ n-2 ∷ n-1 ∷ []) ≡ (None, Some (way_of (n-1 ∷ n-2 ∷ n-1 ∷ []))))
     × (merging_beside (n-3 ∷ n-2 ∷ n-3 ∷ []) ≡ (None, Some (way_of (n-1 ∷ n-2 ∷ n-1 ∷ []))))
 
--- doubles that stood there before: those of k are dropped where g was named, and no others
+-- repetitions before the merge: those of k are dropped if the list names g, and no others are dropped
 unfoldable pub doubles_merged : Type 0
 doubles_merged =
     (merging_beside (n-1 ∷ n-1 ∷ n-2 ∷ n-3 ∷ []) ≡ (None, Some (way_of (n-1 ∷ n-2 ∷ n-1 ∷ []))))
@@ -134,7 +134,7 @@ doubles_merged =
     × (merging_beside (n-2 ∷ n-2 ∷ n-3 ∷ []) ≡ (None, Some (way_of (n-2 ∷ n-2 ∷ n-1 ∷ []))))
     × (merging_beside (n-1 ∷ n-1 ∷ n-2 ∷ []) ≡ (None, Some (way_of (n-1 ∷ n-1 ∷ n-2 ∷ []))))
 
--- a relation that names both keeps doubled members
+-- a relation that names both nodes keeps the repeated members
 unfoldable pub members_merged : Type 0
 members_merged =
     (let m = put_row start r9 (relation_of ((n-1, []) ∷ (n-3, []) ∷ (w2, []) ∷ (n-3, outer) ∷ [])) in
@@ -151,8 +151,8 @@ tags_merged =
     × (refused (merge_checks (nodes_tagged thousand_tags (a1 ∷ [])) n-1 n-3) ≡ Some (TooMany n-1))
     × (refused (merge_checks (nodes_tagged thousand_tags ((48 ∷ 48 ∷ [], 49 ∷ []) ∷ a1 ∷ [])) n-1 n-3) ≡ Some (TagConflict (48 ∷ 48 ∷ [])))
 
--- each other refusal of a merge, in their order; of two ways that get too short the lesser is named, before a conflict
--- of tags
+-- the remaining refusals of a merge, in their order; if two ways get too short, the refusal names the lesser, and it
+-- comes before a conflict of tags
 unfoldable pub merge_refusals : Type 0
 merge_refusals =
     (refused (merge_checks start w1 r1) ≡ Some (WrongKind w1))
@@ -166,7 +166,7 @@ merge_refusals =
     × (refused (merge_checks (beside (n-1 ∷ n-3 ∷ n-1 ∷ [])) n-1 n-3) ≡ Some (TooFew w3))
     × (refused (merge_checks (put_row (nodes_tagged (a1 ∷ []) (a2 ∷ [])) w3 (way_of (n-3 ∷ n-1 ∷ []))) n-1 n-3) ≡ Some (TooFew w3))
 
--- the whole map after an unglue: the new node lies where the old one does, and nothing else changes than the way
+-- the whole map after an unglue: the new node has the old one's position, and otherwise only the way changes
 unfoldable pub map_unglued : Type 0
 map_unglued =
     (refused (unglue_checks start w1 1 n-7) ≡ None)
@@ -180,7 +180,7 @@ map_unglued =
     ∷ (r1, relation_of ((n-1, []) ∷ (w2, outer) ∷ (w1, outer) ∷ (w2, outer) ∷ []))
     ∷ [])
 
--- a closed way at both of its ends, where the other end stays, and past the last; a merge takes it back
+-- unglues at both ends of a closed way, where the other end stays, and after the last; a merge takes one back
 unfoldable pub closed_way_unglued : Type 0
 closed_way_unglued =
     (refused (unglue_checks ring w3 0 n-7) ≡ None)
@@ -191,18 +191,18 @@ closed_way_unglued =
     × (refused (merge_checks (after_unglue ring w3 3 n-7) n-1 n-7) ≡ None)
     × (after_merge (after_unglue ring w3 3 n-7) n-1 n-7 ≡ ring)
 
--- the refusal of an unglue of a third way at a position, that way after it, and the new node
+-- the refusal of an unglue of a third way at a position, this way after it, and the new node
 abbrev pub ungluing : List Name → ℕ → Option (Refusal Any) × Option (Element Any) × Option (Element Any)
 ungluing nodes i = (refused (unglue_checks (beside nodes) w3 i n-7), row_at (after_unglue (beside nodes) w3 i n-7) w3, row_at (after_unglue (beside nodes) w3 i n-7) n-7)
 
--- of a node that the way names twice, also side by side, one reference becomes the new node
+-- if a way names a node twice, also in a row, an unglue changes one of the two references
 unfoldable pub doubles_unglued : Type 0
 doubles_unglued =
     (ungluing (n-1 ∷ n-2 ∷ n-1 ∷ n-3 ∷ []) 2 ≡ (None, Some (way_of (n-1 ∷ n-2 ∷ n-7 ∷ n-3 ∷ [])), Some (node_at 1)))
     × (ungluing (n-1 ∷ n-1 ∷ []) 0 ≡ (None, Some (way_of (n-7 ∷ n-1 ∷ [])), Some (node_at 1)))
     × (ungluing (n-1 ∷ n-1 ∷ []) 1 ≡ (None, Some (way_of (n-1 ∷ n-7 ∷ [])), Some (node_at 1)))
 
--- the new node has the tags of the old one, which keeps them, and lies where that does now
+-- the new node has the tags of the old one, which keeps them, and the old one's position at that time
 unfoldable pub node_copied : Type 0
 node_copied =
     (row_at (after_unglue (nodes_tagged (a1 ∷ b2 ∷ []) []) w2 0 n-7) n-7 ≡ Some (tagged_node 1 (a1 ∷ b2 ∷ [])))

@@ -1,5 +1,4 @@
--- What is proved of the definitions beside this folder, for the proofs here and in the crates above. No contract cites
--- these.
+-- Facts about the definitions, for the proofs here and in crates that use this one. No contract cites them.
 pub mod BothTags
 pub mod Changing
 pub mod EachBut

@@ -1,4 +1,4 @@
--- Words of what is not public. No public contract cites these.
+-- Definitions for private functions. No public contract cites them.
 pub mod Joining
 pub mod Merging
 pub mod Splitting

@@ -1,4 +1,4 @@
--- To merge one node into another. (Editors' practice. Which doubles are dropped, and the greatest number of tags, are
+-- Merges one node into another. (Editors' practice. Which repetitions are dropped, and the greatest number of tags, are
 -- this project's.)
 use Rattle.std.specs.Prelude.{◌&&◌, not, List, [], ◌∷◌, Option, Some, length, map, nat_lt, if◌then◌else◌}
 use Rattle.std.specs.Bool.{then_some}
@@ -17,11 +17,11 @@ use Rattle.edit_simple.specs.Tagging.{most_tags}
 use Rattle.edit_topology.specs.BothTags.{both_tags, conflict}
 use Rattle.edit_topology.specs.Renaming.{renamed, renamed_members}
 
--- each run of k is one k
+-- each run of k becomes one k
 abbrev pub without_doubled : Name → List Name → List Name
 without_doubled k nodes = dedup (λ n before. is_same k n && is_same k before) nodes
 
--- in a list that names g, k stands for g, and a k right after a k is then dropped; any other list is left
+-- if the list names g, then k replaces g, and each run of k becomes one k; otherwise the list is unchanged
 abbrev pub merged_nodes : Name → Name → List Name → List Name
 merged_nodes k g nodes = if is_among nodes g then without_doubled k (map (renamed g k) nodes) else nodes
 
@@ -32,8 +32,8 @@ module _ {A : Type 0} where
       names_of (filter
       (λ r. is_among (nodes_of (Some r.1)) g && nat_lt (length (merged_nodes k g (nodes_of (Some r.1)))) 2) m)
 
-  -- both names are nodes' and not the same, both are there, no way gets too short, no key has two values, and the tags
-  -- get not too many
+  -- both names are nodes' and differ, both nodes are present, no way gets too short, no key has two values, and the
+  -- united tags are not too many
   abbrev pub merge_checks : Rows A → Name → Name → List (Option (Refusal A))
   merge_checks m k g =
       then_some (not (is_node k.kind)) (WrongKind k)
@@ -46,14 +46,14 @@ module _ {A : Type 0} where
       ∷ then_some (nat_lt most_tags (length (both_tags (row_tags (row_at m k)) (row_tags (row_at m g))))) (TooMany k)
       ∷ []
 
-  -- k with both nodes' tags, at its own position
+  -- k at its own position, with the tags of both nodes
   abbrev pub united : Rows A → Name → Element A → Element A
   united m g u = with_tags (λ tags. both_tags tags (row_tags (row_at m g))) u
 
-  -- what a row becomes: k has both nodes' tags, and k stands wherever g was named
+  -- a row after the merge: k has the tags of both nodes, and k replaces g in every list
   abbrev pub merge_row : Rows A → Name → Name → Name → Element A → Element A
   merge_row m k g y u = with_nodes (merged_nodes k g) (with_members (renamed_members g k) (at_name k (united m g) y u))
 
-  -- g is gone, and every other row becomes what it becomes
+  -- the map after the merge: g is absent, and every other row is the row after the merge
   abbrev pub after_merge : Rows A → Name → Name → Rows A
   after_merge m k g = each_row (merge_row m k g) (rows_but g m)

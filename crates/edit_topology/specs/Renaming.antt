@@ -1,9 +1,9 @@
--- One name in the place of another.
+-- Replaces one name with another.
 use Rattle.std.specs.Prelude.{ℕ, List, map, if◌then◌else◌}
 use Rattle.osm_elements.specs.declared.name.Name.{Name}
 use Rattle.osm_elements.specs.Maps.{is_same}
 
--- y for x, and any other name as it is
+-- y in place of x; any other name is unchanged
 abbrev pub renamed : Name → Name → Name → Name
 renamed x y n = if is_same x n then y else n
 

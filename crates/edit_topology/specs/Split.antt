@@ -1,5 +1,5 @@
--- To split a way in two at one of its nodes. (Editors' practice: both parts have the node, the tags and the
--- memberships. In which order a relation then names them, and how many members it may have, is this project's.)
+-- Splits a way in two at one of its nodes. (Editors' practice: both parts have the node, the tags and the memberships.
+-- The order of a relation's members, and their greatest number, are this project's.)
 use Rattle.std.specs.Prelude.{◌+◌, ◌&&◌, ℕ, Bool, not, List, [], ◌∷◌, Option, Some, length, take, drop, nat_lt, if◌then◌else◌}
 use Rattle.std.specs.Bool.{then_some}
 use Rattle.std.specs.List.{filter, flat_map}
@@ -15,11 +15,11 @@ use Rattle.edit_simple.specs.Checks.{the_least}
 use Rattle.edit_simple.specs.Kinds.{is_way}
 use Rattle.edit_simple.specs.Contents.{nodes_of, members_of, row_tags, with_nodes, with_members, each_row, at_name}
 
--- a position in the list, counted from 0, that is neither the first nor the last
+-- i is a position of the list, counted from 0, and neither the first nor the last
 abbrev pub is_inside : ℕ → List Name → Bool
 is_inside i list = nat_lt 0 i && nat_lt (i + 1) (length list)
 
--- each member w in a role becomes w and v in that role
+-- each member w becomes two members, w and v, in the same role
 abbrev pub split_members : Name → Name → List (Name × List ℕ) → List (Name × List ℕ)
 split_members w v members = flat_map (λ e. if is_same w e.0 then e ∷ (v, e.1) ∷ [] else e ∷ []) members
 
@@ -28,7 +28,7 @@ module _ {A : Type 0} where
   abbrev pub overfull : Rows A → Name → Name → List Name
   overfull m w v = names_of (filter (λ r. nat_lt most_members (length (split_members w v (members_of (Some r.1))))) m)
 
-  -- both names are ways', w is there and v is new, the position is inside w's list, and no relation gets too long
+  -- both names are ways', w is present and v absent, i is an inner position of w's list, and no relation gets too long
   abbrev pub split_checks : Rows A → Name → ℕ → Name → List (Option (Refusal A))
   split_checks m w i v =
       then_some (not (is_way w.kind)) (WrongKind w)
@@ -39,14 +39,14 @@ module _ {A : Type 0} where
       ∷ the_least TooMany (overfull m w v)
       ∷ []
 
-  -- what a row becomes: w keeps the positions from 0 to i, and a member w becomes w and v
+  -- a row after the split: w keeps the positions from 0 to i, and each member w becomes w and v
   abbrev pub split_row : Name → ℕ → Name → Name → Element A → Element A
   split_row w i v y u = with_members (split_members w v) (at_name w (with_nodes (take (i + 1))) y u)
 
-  -- the new way: the positions from i to the last, and w's tags
+  -- the new way: the nodes of w from position i to the last, and w's tags
   abbrev pub split_off : Rows A → Name → ℕ → Element A
   split_off m w i = Way (drop i (nodes_of (row_at m w))) (row_tags (row_at m w))
 
-  -- every row becomes what it becomes, and v is the new way
+  -- the map after the split: its rows after the split, and the new way v
   abbrev pub after_split : Rows A → Name → ℕ → Name → Rows A
   after_split m w i v = put_row (each_row (split_row w i v) m) v (split_off m w i)

@@ -1,5 +1,5 @@
--- To unglue a way from a node: in its place the way gets a node of its own. (Editors' practice: the new node lies where
--- the old one does, and has its tags. Which positions and names are refused, and in which order, is this project's.)
+-- Unglues a way from a node: the way gets a new node in place of the old. (Editors' practice: the new node has the
+-- position and the tags of the old one. Which positions and names are refused, and in which order, is this project's.)
 use Rattle.std.specs.Prelude.{ℕ, not, List, [], ◌∷◌, Option, length, nat_lt, set}
 use Rattle.std.specs.Bool.{then_some}
 use Rattle.std.specs.List.{slice_get}
@@ -16,11 +16,11 @@ use Rattle.edit_simple.specs.Kinds.{is_way}
 use Rattle.edit_simple.specs.Contents.{nodes_of, with_nodes, each_row, at_name}
 
 module _ {A : Type 0} where
-  -- the row of the node that stands at a position of w's list, counted from 0
+  -- the row of the node at position i of w's list, counted from 0
   abbrev pub row_standing : Rows A → Name → ℕ → Option (Element A)
   row_standing m w i = option_and_then (row_at m) (slice_get (nodes_of (row_at m w)) i)
 
-  -- w is a way's name and v a node's, w is there and v is new, and the position is one of w's list
+  -- w is a way's name and v a node's, w is present and v absent, and i is a position of w's list
   abbrev pub unglue_checks : Rows A → Name → ℕ → Name → List (Option (Refusal A))
   unglue_checks m w i v =
       then_some (not (is_way w.kind)) (WrongKind w)
@@ -30,6 +30,6 @@ module _ {A : Type 0} where
       ∷ then_some (not (nat_lt i (length (nodes_of (row_at m w))))) BadPosition
       ∷ []
 
-  -- v stands at the position of w's list, and has the row of the node that stood there; the rest of the list stays
+  -- the map after the unglue: w has v at position i, and v has the row of the node that was there
   abbrev pub after_unglue : Rows A → Name → ℕ → Name → Rows A
   after_unglue m w i v = with_row (each_row (at_name w (with_nodes (λ list. set list i v))) m) v (row_standing m w i)

@@ -1,4 +1,4 @@
-//! The tags of two elements that become one.
+//! Unites the tags of two elements.
 ghost use Rattle.std.specs.Prelude.{◌≡◌, ◌⊎◌, ◌<◌, ◌≤◌, true, false, T, map, length, nat_lt, nat_eq, is_some, MatchResult, OnOk, IfErr};
 ghost use Rattle.std.specs.FinMap.Entries.{is_sorted, put};
 ghost use Rattle.std.specs.Option.{option_copied};
@@ -17,8 +17,8 @@ use osm_elements::tags::{Tag, Tags};
 use osm_elements::text::{Text, is_same_text};
 use std::alloc::Allocator;
 
-/// The least key that has a value in both and not the same one; none where there is no such key. It is the first of the
-/// one's tags to which the other gives another value; keys rise, so it is the least.
+/// Returns the least key that has different values in `tags` and `others`, or `None` if there is no such key. Keys
+/// rise, so the first such key is the least.
 pub fn conflict<'a, A: Allocator>(
     tags: &'a SharedTags<A>,
     others: &SharedTags<A>,
@@ -33,7 +33,7 @@ pub fn conflict<'a, A: Allocator>(
     None
 }
 
-// Whether the tags have another value at a tag's key.
+// Whether `tags` has a different value at the key of `tag`.
 fn has_another<A: Allocator>(tags: &SharedTags<A>, tag: &Tag<A>) -> bool
     ensures { result ≡ is_another (value_at tags.now tag.now.key) tag.now.value }
 {
@@ -43,7 +43,11 @@ fn has_another<A: Allocator>(tags: &SharedTags<A>, tag: &Tag<A>) -> bool
     }
 }
 
-/// The tags of both: the other's value where both have a key. It refuses `TooMany` with the name for more than 1,000.
+/// Returns the tags of both elements. If both have a key, the value is that of `others`.
+///
+/// # Errors
+///
+/// `TooMany` with `name`, if there are more than 1,000 tags. `Memory`, if an allocation fails.
 pub fn both_tags<A: Allocator + Clone>(
     alloc: A,
     name: &Name,
@@ -68,7 +72,7 @@ pub fn both_tags<A: Allocator + Clone>(
     }
 }
 
-// Puts each of the others among the tags. After a refusal the tags are of no use.
+// Puts each of the others among the tags. If it refuses, the tags must be discarded.
 fn put_all<A: Allocator + Clone>(tags: &mut Tags<A>, others: &[Tag<A>]) -> Result<(), TextFault>
     requires sorted { T (is_sorted text_cmp tags.old) }
     requires others { AreTagRows (map tag_pair others.now) }
@@ -83,7 +87,7 @@ fn put_all<A: Allocator + Clone>(tags: &mut Tags<A>, others: &[Tag<A>]) -> Resul
     Ok(())
 }
 
-// Gives a tag's key its value.
+// Sets the value of one tag's key.
 fn put_one<A: Allocator + Clone>(tags: &mut Tags<A>, tag: &Tag<A>) -> Result<(), TextFault>
     requires key { nat_eq (length tag.now.key) 0 ≡ false }
     ensures ok { OnOk result (tags.new ≡ put text_cmp tag.now.key tag.now.value tags.old) }

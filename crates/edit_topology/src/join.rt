@@ -55,8 +55,8 @@ pub fn plan<A: Allocator + Clone>(
     Ok(change_all(alloc, rows, name, other, joined, &names)?)
 }
 
-// The way that both become, or the refusal of two that can't be joined. The whole way is made before any change, with
-// the checks in their order. It is then handed over, and never copied.
+// Returns the joined way, or the refusal of two ways that cannot be joined. The checks run in their order, and the
+// whole way is made before any change. It is later moved into the changes, never copied.
 fn way_of_both<A: Allocator + Clone>(
     alloc: A,
     rows: &Draft<'_, A>,
@@ -79,7 +79,7 @@ fn way_of_both<A: Allocator + Clone>(
     Ok(Element::Way { nodes, tags })
 }
 
-// Whether both names are ways' and not the same.
+// Refuses names that are not ways' or are the same.
 fn check_names<A: Allocator>(name: &Name, other: &Name) -> Result<(), Refusal<A>>
     ensures { result ≡ passed (first_that_holds (name_checks name.now other.now)) }
 {
@@ -95,7 +95,7 @@ fn check_names<A: Allocator>(name: &Name, other: &Name) -> Result<(), Refusal<A>
     Ok(())
 }
 
-// Whether the one list ends where the other begins, and both make a list that is not too long.
+// Refuses lists that do not meet end to end, and lists that are too long together.
 fn check_lists<A: Allocator>(name: &Name, nodes: &[Name], others: &[Name]) -> Result<(), Refusal<A>>
     requires some { 1 ≤ length others.now }
     requires few { length nodes.now ≤ most_nodes }
@@ -111,14 +111,14 @@ fn check_lists<A: Allocator>(name: &Name, nodes: &[Name], others: &[Name]) -> Re
     Ok(())
 }
 
-// Whether the last of the one list is the first of the other.
+// Whether the last node of the way is the first node of the other way.
 fn meet_end_to_end(nodes: &[Name], others: &[Name]) -> bool
     ensures { result ≡ meet_end_to_end nodes.now others.now }
 {
     nodes.last() == others.first()
 }
 
-// The refusal of tags of which a key has two values.
+// Refuses tags with two values of one key.
 fn check_tags<A: Allocator + Clone>(
     tags: &SharedTags<A>,
     others: &SharedTags<A>,
@@ -133,7 +133,7 @@ fn check_tags<A: Allocator + Clone>(
     }
 }
 
-// The one list, and the other without its first behind it.
+// Returns the way's nodes, followed by the other way's nodes except the first.
 fn end_to_end<A: Allocator + Clone>(nodes: &Nodes<A>, others: &Nodes<A>) -> Result<Nodes<A>, Memory>
     requires { 1 ≤ length others.now }
     ensures { IfOk result (λ both. both ≡ end_to_end nodes.now others.now) }
@@ -143,7 +143,7 @@ fn end_to_end<A: Allocator + Clone>(nodes: &Nodes<A>, others: &Nodes<A>) -> Resu
     Ok(Nodes::from_vec(names))
 }
 
-// The changes of the names whose rows change, of which the way becomes the joined one.
+// Returns the changes of the rows of `names`. The way becomes the joined way.
 fn change_all<A: Allocator + Clone>(
     alloc: A,
     rows: &Draft<'_, A>,
@@ -165,8 +165,8 @@ fn change_all<A: Allocator + Clone>(
     Ok(changes)
 }
 
-// The element of a name whose row changes before the join, and what it becomes: none where the name is the other's.
-// The joined way is given to the way.
+// Returns a name's element before and after the join: the way becomes the joined way, which is moved out of `joined`.
+// The other way has no element afterwards.
 fn rows_of<A: Allocator + Clone>(
     alloc: &A,
     rows: &Draft<'_, A>,
@@ -194,7 +194,7 @@ fn rows_of<A: Allocator + Clone>(
     Ok((before, after))
 }
 
-// The element with the way as a member wherever the other was one.
+// Returns an element whose members name the way in place of the other way.
 fn renamed<A: Allocator + Clone>(
     alloc: &A,
     name: &Name,
@@ -215,8 +215,8 @@ fn renamed<A: Allocator + Clone>(
     }
 }
 
-// The members without each that is the other right behind the way in the same role, and with the way for every other
-// one.
+// Returns the members after the join. A member that names the other way is dropped if it comes right after a member
+// that names the way in the same role. Otherwise it names the way.
 fn joined_members<A: Allocator + Clone>(
     alloc: A,
     name: &Name,
@@ -236,7 +236,7 @@ fn joined_members<A: Allocator + Clone>(
     Ok(joined)
 }
 
-// Whether a member is the other, and the one before it is the way in the same role.
+// Whether a member names the other way, and the member in front of it names the way in the same role.
 fn goes_on<A: Allocator>(
     name: &Name,
     other: &Name,
@@ -256,7 +256,7 @@ fn goes_on<A: Allocator>(
     }
 }
 
-// A member that is the other as the way in the same role, and any other member as it is.
+// Returns a member, with the way's name in place of the other way's.
 fn renamed_member<A: Allocator + Clone>(
     name: &Name,
     other: &Name,

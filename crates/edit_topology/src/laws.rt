@@ -1,4 +1,4 @@
-//! Laws of the actions, each the contract of a function that does nothing.
+//! Laws of the actions. Each law is the contract of an empty function.
 ghost use Rattle.std.specs.Prelude.{◌≡◌, ◌≢◌, ℕ, true, false, List, Some, None};
 ghost use Rattle.std.specs.Option.{option_or};
 ghost use Rattle.std.specs.declared.cmp.Ordering.TheVariants.{Less};
@@ -19,7 +19,7 @@ ghost use Rattle.edit_topology.specs.Unglue.{unglue_checks, after_unglue};
 
 use std::alloc::Allocator;
 
-/// An accepted action keeps a sound map sound, and changes it.
+/// If a sound map accepts an action, the map after it is sound too, and is a different map.
 #[tactic(auto, using(crate::specs::Facts::Splitting::split_accepted, crate::specs::Facts::Joining::join_accepted, crate::specs::Facts::Merging::merge_accepted, crate::specs::Facts::Ungluing::unglue_accepted,))]
 pub fn accepted_keeps_sound<A: Allocator>()
     ensures split { (m : Rows A) (w : Name) (i : ℕ) (v : Name) → is_sound m ≡ true
@@ -34,9 +34,9 @@ pub fn accepted_keeps_sound<A: Allocator>()
         → (is_sound (after_unglue m w i v) ≡ true) × (after_unglue m w i v ≢ m) }
 {}
 
-/// Every row stays as it is but those of the action's subjects, and of the elements that name w, v or g: the way that
-/// is split, the way that is joined to another, the node that is merged into another. An unglue changes its subjects'
-/// alone.
+/// An action changes no rows except those of its subjects and of some users. A split changes users of the split way, a
+/// join users of the way that it removes, and a merge users of the node that it removes. An unglue changes only its
+/// subjects' rows.
 #[tactic(auto, using(crate::specs::Facts::Staying::split_leaves, crate::specs::Facts::Staying::join_leaves, crate::specs::Facts::Staying::merge_leaves, crate::specs::Facts::Staying::unglue_leaves,))]
 pub fn the_rest_stays<A: Allocator>()
     ensures split { (m : Rows A) (w : Name) (i : ℕ) (v y : Name) → is_same y w ≡ false → is_same y v ≡ false
@@ -52,8 +52,8 @@ pub fn the_rest_stays<A: Allocator>()
         → row_at (after_unglue m w i v) y ≡ row_at m y }
 {}
 
-/// On a sound map every row that names w, v or g changes, where the action is accepted. So of the rows that are not its
-/// subjects' those change that name it, and no others.
+/// If a sound map accepts an action, every user of the split or removed element changes. With `the_rest_stays`: apart
+/// from the subjects, exactly these users change.
 #[tactic(auto, using(crate::specs::Facts::Changing::split_changes, crate::specs::Facts::Changing::join_changes, crate::specs::Facts::Changing::merge_changes,))]
 pub fn each_user_changes<A: Allocator>()
     ensures split { (m : Rows A) (w : Name) (i : ℕ) (v y : Name) → is_sound m ≡ true
@@ -67,8 +67,8 @@ pub fn each_user_changes<A: Allocator>()
         → row_at (after_merge m k g) y ≢ row_at m y }
 {}
 
-/// The parts of a split way join to the way that was split: after an accepted split on a sound map the join of the two
-/// is accepted, and leads to the map from before the split.
+/// After an accepted split of a sound map, a join of both parts is accepted, and leads back to the map before the
+/// split.
 #[tactic(auto, using(crate::specs::Facts::SplitJoined::split_joins, crate::specs::Facts::SplitJoined::split_joins_to,))]
 pub fn join_takes_back_split<A: Allocator>()
     ensures accepted { (m : Rows A) (w : Name) (i : ℕ) (v : Name) → is_sound m ≡ true
@@ -79,8 +79,8 @@ pub fn join_takes_back_split<A: Allocator>()
         → after_join (after_split m w i v) w v ≡ m }
 {}
 
-/// The tags of two elements that become one have at each key the other's value, and else the one's. Where there is no
-/// conflict, no key has two values, so neither goes before the other; and a conflict is the least key that has two.
+/// United tags have at each key the other element's value, or else the first element's. If there is no conflict, no key
+/// has two values, so the order does not matter. A conflict is the least key that has two values.
 pub fn tags_unite()
     ensures values { (tags others : Pairs) → are_tags others ≡ true → (key : List ℕ)
         → value_at (both_tags tags others) key ≡ option_or (value_at others key) (value_at tags key) }
@@ -89,7 +89,7 @@ pub fn tags_unite()
         → HasTwo tags others key × ((lesser : List ℕ) → HasTwo tags others lesser → text_cmp lesser key ≢ Less) }
 {}
 
-/// What the definitions say of the worked examples is what was worked out by hand.
+/// The definitions give the results that were worked out by hand for each example.
 pub fn examples_are_as_worked()
     ensures closed_way_split { closed_way_split }
     ensures members_split { members_split }

@@ -54,14 +54,13 @@ pub fn plan<A: Allocator + Clone>(
         return Err(Refusal::TooFew(way));
     }
     let tags = united(alloc.clone()?, name, kept.tags(), gone.tags())?;
-    // Where there is no conflict, the tags of the node that stays change exactly where both have more together than it
-    // had.
+    // If there is no conflict, the node's tags change exactly if both nodes together have more tags than the node.
     let gains = tags.len() > kept.tags().len();
     let changed = all_changed(alloc.clone()?, its_users, name, other, gains)?;
     Ok(change_all(alloc, rows, name, other, &tags, &changed)?)
 }
 
-// Whether both names are nodes', and not the same.
+// Refuses names that are not nodes' or are the same.
 fn check_names<A: Allocator>(name: &Name, other: &Name) -> Result<(), Refusal<A>>
     ensures { result ≡ passed (first_that_holds (name_checks name.now other.now)) }
 {
@@ -77,8 +76,8 @@ fn check_names<A: Allocator>(name: &Name, other: &Name) -> Result<(), Refusal<A>
     Ok(())
 }
 
-// The first of the other's users that is a way with no nodes but the two. The definition looks at every row, and finds
-// ways that name the other, which are among its users. Users rise, so the first that is found is the least.
+// Finds the least way among the other node's users that has no nodes except the two. The definition looks at every row,
+// but finds only ways that name the other node, which are its users. Users rise, so the first match is the least.
 fn first_cut_short<A: Allocator>(
     rows: &Draft<'_, A>,
     its_users: &[Name],
@@ -95,7 +94,7 @@ fn first_cut_short<A: Allocator>(
     None
 }
 
-// Whether the name of a user is that of a way with no nodes but the two, of which one is left.
+// Whether the user is a way with no nodes except the two. The merge would leave one of them.
 fn is_cut_short<A: Allocator>(rows: &Draft<'_, A>, user: &Name, name: &Name, other: &Name) -> bool
     ensures { result ≡ is_cut_short name.now other.now (row_at rows.now user.now) }
 {
@@ -105,7 +104,7 @@ fn is_cut_short<A: Allocator>(rows: &Draft<'_, A>, user: &Name, name: &Name, oth
     }
 }
 
-// Whether each name of a list is one of two.
+// Whether each name of the list is one of the two names.
 fn are_either(names: &[Name], name: &Name, other: &Name) -> bool
     ensures { result ≡ list_all (is_either name.now other.now) names.now }
 {
@@ -114,7 +113,7 @@ fn are_either(names: &[Name], name: &Name, other: &Name) -> bool
         .all(|node| is_same(name, node) || is_same(other, node))
 }
 
-// The tags of both nodes, or the refusal of a key with two values or of more than 1,000 tags.
+// Returns the tags of both nodes, or refuses a key with two values or more than 1,000 tags.
 fn united<A: Allocator + Clone>(
     alloc: A,
     name: &Name,
@@ -132,7 +131,7 @@ fn united<A: Allocator + Clone>(
     both_tags(alloc, name, tags, others)
 }
 
-// The names whose rows change, rising: the node's where it gains a tag, the other's, and those of the other's users.
+// Returns the names whose rows change, in rising order: the node if it gains a tag, the other node, and its users.
 fn all_changed<A: Allocator>(
     alloc: A,
     its_users: &[Name],
@@ -149,7 +148,7 @@ fn all_changed<A: Allocator>(
     }
 }
 
-// The changes of the names whose rows change.
+// Returns the changes of the rows of `changed`.
 fn change_all<A: Allocator + Clone>(
     alloc: A,
     rows: &Draft<'_, A>,
@@ -170,7 +169,7 @@ fn change_all<A: Allocator + Clone>(
     Ok(changes)
 }
 
-// The element of a name whose row changes before the merge, and what it becomes: none where the name is the other's.
+// Returns a name's element before and after the merge. The other node has no element afterwards.
 fn rows_of<A: Allocator + Clone>(
     alloc: &A,
     rows: &Draft<'_, A>,
@@ -192,7 +191,7 @@ fn rows_of<A: Allocator + Clone>(
     Ok((before, after))
 }
 
-// What the element of a name becomes: none where the name is the other's.
+// Returns a name's element after the merge, or `None` for the other node.
 fn merged_row<A: Allocator + Clone>(
     alloc: &A,
     name: &Name,
@@ -210,7 +209,7 @@ fn merged_row<A: Allocator + Clone>(
     Ok(Some(merged_element(alloc, name, other, both, element)?))
 }
 
-// What an element becomes that stays: the node gets the tags of both, and the others name it.
+// Returns an element after the merge: the node has the tags of both, and users of the other node name the node.
 fn merged_element<A: Allocator + Clone>(
     alloc: &A,
     name: &Name,

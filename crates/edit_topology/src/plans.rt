@@ -1,8 +1,8 @@
-//! The plans of the actions that change how elements meet: what each would change in a store, or why it is refused.
+//! Plans of split, join, merge and unglue: the changes that each action would make in a store, or its refusal.
 //!
-//! A plan answers the changes that lead to the map after the action, the first of the action's checks that holds, or
-//! `Memory` in place of any answer. It leaves the store alone. It looks at its subjects and at the users of one of
-//! them, which all change, or at the node that a way is unglued from, and at no other element; that costs what these
+//! A plan looks at its subjects and at the users of one subject, which all change. The plan of an unglue looks at its
+//! subjects and at the node at the position. No plan looks at any other element. The cost is the size of these
+//! elements, times a logarithm.
 //! hold, times a logarithm.
 ghost use Rattle.std.specs.Prelude.{◌≡◌, true};
 ghost use Rattle.osm_changes.specs.Sound.{is_sound};
@@ -19,12 +19,20 @@ use osm_drafts::draft::Draft;
 use osm_elements::name::Name;
 use std::alloc::Allocator;
 
-/// Plans to split a way in two at one of its positions, counted from 0: the way keeps the nodes up to this one, and a
-/// new way has those from it on, and the same tags. In every relation each member that names the way is followed by one
-/// that names the new way in the same role. It refuses `WrongKind` where a name is no way's, the way's before the new
-/// one's, `Absent` where the way is not there, `Present` where the new one is, `BadPosition` where the position is the
-/// first or the last or lies beyond, and `TooMany` with the least relation that would have more than 32,000 members, a
-/// limit of this project. (Editors' practice; the order of the members is this project's.)
+/// Plans to split the way `name` in two at position `place`, counted from 0.
+///
+/// The way keeps the nodes up to this position. The new way `into` gets the nodes from this position on, and the same
+/// tags. In every relation, each member that names the way is followed by a member that names the new way in the same
+/// role. (Editors' practice; the order of the members is this project's.)
+///
+/// # Errors
+///
+/// The first of these that applies:
+/// - `WrongKind`, if a name is not a way's; `name` is checked first
+/// - `Absent`, if the map does not have the way
+/// - `Present`, if the map has the new way
+/// - `BadPosition`, if `place` is the first or the last position, or lies after the last
+/// - `TooMany` with the least relation that would have more than 32,000 members, a limit of this project
 pub fn plan_split<A: Allocator + Clone>(
     alloc: A,
     draft: &Draft<'_, A>,
@@ -40,13 +48,23 @@ pub fn plan_split<A: Allocator + Clone>(
     split::plan(alloc, draft, its_users.as_slice(), name, place, into)
 }
 
-/// Plans to join a way to another that begins where it ends: the way gets the other's nodes but the first behind its
-/// own, and the tags of both; the other is gone. In every relation a member that names the other is dropped where it
-/// stands right behind one that names the way in the same role, and else it names the way. It refuses `WrongKind` where
-/// a name is no way's, `Same` where both are the same, `Absent` where one is not there, the way before the other in
-/// each, `NotEndToEnd` where the last node of the way is not the first of the other, `TooMany` for more than 2,000
-/// nodes, `TagConflict` with the least key that has two values, and `TooMany` for more than 1,000 tags. (Editors'
-/// practice; what becomes of members, and the limits, are this project's.)
+/// Plans to join the way `name` to the way `other`, which begins where `name` ends.
+///
+/// The way gets the other way's nodes except the first after its own, and the tags of both. The other way is removed.
+/// In every relation, a member that names the other way is dropped if it comes right after a member that names the way
+/// in the same role. Otherwise it names the way. (Editors' practice; the changes of members and the limits are this
+/// project's.)
+///
+/// # Errors
+///
+/// The first of these that applies:
+/// - `WrongKind`, if a name is not a way's; `name` is checked first
+/// - `Same`, if both names are the same
+/// - `Absent`, if the map does not have a way; `name` is checked first
+/// - `NotEndToEnd`, if the last node of the way is not the first node of the other way
+/// - `TooMany`, for more than 2,000 nodes
+/// - `TagConflict` with the least key that has two values
+/// - `TooMany`, for more than 1,000 tags
 pub fn plan_join<A: Allocator + Clone>(
     alloc: A,
     draft: &Draft<'_, A>,
@@ -61,12 +79,21 @@ pub fn plan_join<A: Allocator + Clone>(
     join::plan(alloc, draft, its_users.as_slice(), name, other)
 }
 
-/// Plans to merge another node into a node: wherever the other was named, this one is named, and in a way that named
-/// the other, of this node several times in a row one is kept. The node keeps its position and gets the tags of both;
-/// the other is gone. It refuses `WrongKind` where a name is no node's, `Same` where both are the same, `Absent` where
-/// one is not there, the node before the other in each, `TooFew` with the least way that named the other and would have
-/// fewer than 2 nodes, `TagConflict` with the least key that has two values, and `TooMany` for more than 1,000 tags, a
-/// limit of this project. (Editors' practice; which doubles are dropped is this project's.)
+/// Plans to merge the node `other` into the node `name`.
+///
+/// Every reference to the other node becomes a reference to the node. If a way that named the other node then has the
+/// node several times in a row, it keeps one of them. The node keeps its position and gets the tags of both nodes. The
+/// other node is removed. (Editors' practice; which repetitions are dropped is this project's.)
+///
+/// # Errors
+///
+/// The first of these that applies:
+/// - `WrongKind`, if a name is not a node's; `name` is checked first
+/// - `Same`, if both names are the same
+/// - `Absent`, if the map does not have a node; `name` is checked first
+/// - `TooFew` with the least way that named the other node and would have fewer than 2 nodes
+/// - `TagConflict` with the least key that has two values
+/// - `TooMany`, for more than 1,000 tags, a limit of this project
 pub fn plan_merge<A: Allocator + Clone>(
     alloc: A,
     draft: &Draft<'_, A>,
@@ -81,11 +108,19 @@ pub fn plan_merge<A: Allocator + Clone>(
     merge::plan(alloc, draft, its_users.as_slice(), name, other)
 }
 
-/// Plans to unglue a way from the node at one of its positions, counted from 0: there the way gets a new node, which
-/// lies where that node does, and has its tags. The node stays, and whatever else names it goes on naming it, also the
-/// way at another position. It refuses `WrongKind` where the one name is no way's, and then where the new one is no
-/// node's, `Absent` where the way is not there, `Present` where the new node is, and `BadPosition` where the position
-/// lies beyond the last. (Editors' practice; which names and positions are refused is this project's.)
+/// Plans to unglue the way `name` from the node at position `place`, counted from 0.
+///
+/// The way gets the new node `into` at this position. The new node has the position and the tags of the old node. The
+/// old node stays, and so do all other references to it, also those of the way at other positions. (Editors' practice;
+/// which names and positions are refused is this project's.)
+///
+/// # Errors
+///
+/// The first of these that applies:
+/// - `WrongKind`, if `name` is not a way's, and then if `into` is not a node's
+/// - `Absent`, if the map does not have the way
+/// - `Present`, if the map has the new node
+/// - `BadPosition`, if `place` lies after the last position
 pub fn plan_unglue<A: Allocator + Clone>(
     alloc: A,
     draft: &Draft<'_, A>,

@@ -1,4 +1,4 @@
-//! Lists in which one name stands in the place of another.
+//! Lists in which one name replaces another.
 ghost use Rattle.std.specs.Prelude.{◌≡◌, true, map, IfOk};
 ghost use Rattle.osm_elements.specs.Made.{is_node};
 ghost use Rattle.osm_elements.specs.Members.{member_pair};
@@ -14,7 +14,7 @@ use osm_elements::names::is_same;
 use osm_elements::nodes::Nodes;
 use std::alloc::Allocator;
 
-/// The nodes of a list with a name in the place of the other, once where it stands several times in a row.
+/// Returns the nodes with `name` in place of `other`. If `name` then occurs several times in a row, one is kept.
 pub fn replaced<A: Allocator>(
     alloc: A,
     nodes: &[Name],
@@ -30,7 +30,7 @@ pub fn replaced<A: Allocator>(
     Ok(Nodes::from_vec(new))
 }
 
-// The names of a list with one in the place of the other.
+// Returns the names with `name` in place of `other`, repetitions included.
 fn renamed_all<A: Allocator>(
     alloc: A,
     names: &[Name],
@@ -46,14 +46,13 @@ fn renamed_all<A: Allocator>(
     Ok(new)
 }
 
-// The name for the other, and any other as it is.
 fn renamed(named: &Name, name: &Name, other: &Name) -> Name
     ensures { result ≡ renamed other.now name.now named.now }
 {
     if is_same(other, named) { *name } else { *named }
 }
 
-/// The members of a list with a name in the place of the other, in its roles.
+/// Returns the members with `name` in place of `other`, in the same roles.
 pub fn renamed_members<A: Allocator + Clone>(
     alloc: A,
     members: &[Member<A>],

@@ -49,7 +49,7 @@ pub fn plan<A: Allocator + Clone>(
     Ok(change_all(alloc, rows, &names, name, place, into)?)
 }
 
-// Whether a way can be split.
+// Returns the first check of a split that holds, if any.
 fn check<A: Allocator>(
     rows: &Draft<'_, A>,
     its_users: &[Name],
@@ -80,7 +80,7 @@ fn check<A: Allocator>(
     }
 }
 
-// Whether the place is one of the list's, and neither its first nor its last.
+// Whether the position is in the list, and neither the first nor the last.
 fn is_inside(place: u32, nodes: &[Name]) -> bool
     ensures { result ≡ is_inside place nodes.now }
 {
@@ -88,9 +88,9 @@ fn is_inside(place: u32, nodes: &[Name]) -> bool
     0 < place && place + 1 < nodes.len()
 }
 
-// The first of the way's users that would have more than 32,000 members. The definition looks at every relation; on a
-// sound map only one that names the way can get too long (`specs/Facts/Refusing.antt`). Users rise, so the first that
-// is found is the least.
+// Finds the least of the way's users that would have more than 32,000 members. The definition looks at every relation.
+// On a sound map, only a relation that names the way can get too long (`specs/Facts/Refusing.antt`). Users rise, so the
+// first match is the least.
 fn first_overfull<A: Allocator>(rows: &Draft<'_, A>, its_users: &[Name], way: &Name) -> Option<Name>
     ensures { result ≡ find (is_overfull rows.now way.now) its_users.now }
 {
@@ -100,7 +100,7 @@ fn first_overfull<A: Allocator>(rows: &Draft<'_, A>, its_users: &[Name], way: &N
         .copied()
 }
 
-// Whether a name's element would have more than 32,000 members.
+// Whether the element of this name would have more than 32,000 members.
 fn is_overfull<A: Allocator>(rows: &Draft<'_, A>, way: &Name, user: &Name) -> bool
     ensures { result ≡ is_overfull rows.now way.now user.now }
 {
@@ -112,14 +112,14 @@ fn is_overfull<A: Allocator>(rows: &Draft<'_, A>, way: &Name, user: &Name) -> bo
     }
 }
 
-// How many members there are once each that names the way is two.
+// Counts the members after each one that names the way has become two.
 fn split_length<A: Allocator>(members: &[Member<A>], way: &Name) -> usize
     ensures { result ≡ split_length way.now (map member_pair members.now) }
 {
     members.len() + count_named(members, way)
 }
 
-// How many of the members name the way.
+// Counts the members that name the way.
 fn count_named<A: Allocator>(members: &[Member<A>], way: &Name) -> usize
     ensures { result ≡ count_by (λ m. is_same way.now m.name) members.now }
 {
@@ -129,7 +129,7 @@ fn count_named<A: Allocator>(members: &[Member<A>], way: &Name) -> usize
         .count()
 }
 
-// The changes of the names whose rows change.
+// Returns the changes of the rows of `names`.
 fn change_all<A: Allocator + Clone>(
     alloc: A,
     rows: &Draft<'_, A>,
@@ -149,7 +149,7 @@ fn change_all<A: Allocator + Clone>(
     Ok(changes)
 }
 
-// The row of a name whose row changes before the split, and the element after: the new way where nothing has the name.
+// Returns a name's element before and after the split. If there is no element before, the name is the new way's.
 fn rows_of<A: Allocator + Clone>(
     alloc: &A,
     rows: &Draft<'_, A>,
@@ -172,7 +172,7 @@ fn rows_of<A: Allocator + Clone>(
     Ok((before, after))
 }
 
-// The new way: the nodes of a way from a place on, and its tags.
+// Returns the new way: the way's nodes from a position on, and its tags.
 fn new_way<A: Allocator + Clone>(
     alloc: &A,
     rows: &Draft<'_, A>,
@@ -191,7 +191,8 @@ fn new_way<A: Allocator + Clone>(
     })
 }
 
-// What an element becomes: a way of the nodes up to a place, a relation whose members that name the way are two each.
+// Returns an element after the split: a way keeps the nodes up to the position, and a relation has two members for each
+// that names the way.
 fn split_element<A: Allocator + Clone>(
     alloc: &A,
     element: &Element<A>,
@@ -217,7 +218,7 @@ fn split_element<A: Allocator + Clone>(
     }
 }
 
-// The nodes up to a place.
+// Returns the nodes up to a position, with the node there.
 fn nodes_up_to<A: Allocator + Clone>(
     alloc: &A,
     nodes: &Nodes<A>,
@@ -231,7 +232,7 @@ fn nodes_up_to<A: Allocator + Clone>(
     Ok(Nodes::from_vec(names))
 }
 
-// The nodes from a place on.
+// Returns the nodes from a position on, with the node there.
 fn nodes_from<A: Allocator + Clone>(
     alloc: &A,
     nodes: &Nodes<A>,
@@ -244,7 +245,7 @@ fn nodes_from<A: Allocator + Clone>(
     Ok(Nodes::from_vec(names))
 }
 
-// The members, each that names the way followed by one that names the new way in the same role.
+// Returns the members. Each that names the way is followed by a member that names the new way in the same role.
 fn split_members<A: Allocator + Clone>(
     alloc: &A,
     members: &[Member<A>],
@@ -260,7 +261,7 @@ fn split_members<A: Allocator + Clone>(
     Ok(Members::from_vec(split))
 }
 
-// Adds a member, and one that names the new way in its role where it names the way.
+// Adds a member. If it names the way, adds a member that names the new way in the same role.
 fn add_split<A: Allocator + Clone>(
     member: &Member<A>,
     way: &Name,

@@ -6,7 +6,7 @@ use osm_elements::Memory;
 use osm_elements::name::Name;
 use std::alloc::Allocator;
 
-/// Subjects of an action and the users of one of them, rising, each once.
+/// Returns the subjects of an action and the users of one of them, in rising order, each once.
 pub fn subjects_and_users<A: Allocator>(
     alloc: A,
     subjects: &[Name],

@@ -47,8 +47,8 @@ pub fn plan<A: Allocator + Clone>(
     Ok(change_both(alloc, into, node, name, nodes, tags, unglued)?)
 }
 
-// The nodes and tags of the way, or the refusal of names of which one is not of its kind, the way's is not there, or
-// the new node's is.
+// Returns the nodes and tags of the way. Refuses a name of the wrong kind, an absent way, and a new node that is
+// present.
 fn way_to_unglue<'m, A: Allocator>(
     rows: &'m Draft<'_, A>,
     name: &Name,
@@ -73,7 +73,7 @@ fn way_to_unglue<'m, A: Allocator>(
     Ok(way)
 }
 
-// The node at a place of a list, none where the place lies beyond.
+// Returns the node at a position of the list, or `None` if the position lies after the last.
 fn node_at<'m, A: Allocator>(
     rows: &'m Draft<'_, A>,
     nodes: &Nodes<A>,
@@ -84,7 +84,7 @@ fn node_at<'m, A: Allocator>(
     rows.get(nodes.names().get(place as usize)?)
 }
 
-// The nodes with another one at a place.
+// Returns the list with another node at a position.
 fn with_node<A: Allocator + Clone>(
     nodes: &Nodes<A>,
     place: u32,
@@ -99,8 +99,8 @@ fn with_node<A: Allocator + Clone>(
     Ok(Nodes::from_vec(names))
 }
 
-// The changes of both: the new node is as the one that stood there, and the way gets the other nodes. The new node's
-// change comes first, since names of nodes come before those of ways.
+// Returns the changes of the new node and the way. The new node has the element of the old one, and comes first,
+// because names of nodes come before names of ways.
 fn change_both<A: Allocator + Clone>(
     alloc: A,
     into: &Name,

@@ -1,4 +1,4 @@
--- What was read of a list of tokens, where its parts are converted.
+-- The result of reading tokens, if the parts that were read are converted.
 use Rattle.std.proofs.Common.{◌≡◌, List, Option, Some, None, option_map, refl, ap, ◌∙◌}
 use Rattle.json.specs.Json as json
 use Rattle.json.specs.Json.{if_last, parse_map}
@@ -7,7 +7,7 @@ use Rattle.std.specs.Prelude.{[], ◌∷◌, option_and_then}
 use Rattle.serde_json.specs.Data.{Data}
 use Rattle.serde_json.specs.Read.{converted, of_json}
 
--- A pair's first part, or another one.
+-- The first part of a pair, or a default.
 abbrev first_or : {A B : Type 0} → A → Option (A × B) → A
 first_or a None = a
 first_or a (Some p) = p.0
@@ -24,7 +24,7 @@ without : {B : Type 0} (rest : List Token) (x : Option B) → option_map {U = B 
 without rest None e = refl
 without rest (Some y) e = absurd (cc)
 
--- What was converted had been read.
+-- A value that was converted was read.
 pub had_been_read : {A B : Type 0} (f : A → Option B) (o : Option (A × List Token)) (b : B) (rest : List Token) → converted f o ≡ Some (b, rest)
     → (a : A) × (o ≡ Some (a, rest)) × (f a ≡ Some b)
 had_been_read f None b rest e = absurd (cc)
@@ -32,7 +32,7 @@ had_been_read f (Some p) b rest e =
     let same = with_rest p.0 p.1 rest (f p.0) b e in
     (p.0, ap (λ r. Some (p.0, r)) same.0, same.1)
 
--- What is refused was not read, or is not converted.
+-- A value that is refused was not read, or cannot be converted.
 pub not_converted : {A B : Type 0} (f : A → Option B) (a : A) (rest : List Token) → converted f (Some (a, rest)) ≡ None → f a ≡ None
 not_converted f a rest e = without rest (f a) e
 
@@ -40,13 +40,13 @@ twice : {B D : Type 0} (k : B → D) (rest : List Token) (x : Option B) → opti
 twice k rest None = refl
 twice k rest (Some b) = refl
 
--- A conversion goes on under a constructor.
+-- A conversion commutes with a constructor.
 pub under : {A B C D : Type 0} (f : A → Option B) (g : C → Option D) (h : A → C) (k : B → D) → ((a : A) → g (h a) ≡ option_map k (f a)) → (o : Option (A × List Token))
     → converted g (parse_map h o) ≡ parse_map k (converted f o)
 under f g h k same None = refl
 under f g h k same (Some p) = ap (option_map (λ d. (d, p.1))) (same p.0) ∙ twice k p.1 (f p.0)
 
--- It refuses what a constructor refuses.
+-- A conversion refuses a value if it refuses the constructor of that value.
 pub refused_under : {A C D : Type 0} (g : C → Option D) (h : A → C) → ((a : A) → g (h a) ≡ None) → (o : Option (A × List Token)) → converted g (parse_map h o) ≡ None
 refused_under g h none None = refl
 refused_under g h none (Some p) = ap (option_map (λ d. (d, p.1))) (none p.0)

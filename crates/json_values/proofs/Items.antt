@@ -1,4 +1,4 @@
--- The items of an array, a turn of their loop at a time.
+-- The items of an array, for each iteration of the loop.
 use Rattle.std.proofs.Common.{◌≡◌, ℕ, zero, suc, ◌-◌, ◌<◌, ◌≤◌, List, [], ◌∷◌, ◌++◌, length, Option, Some, None, refl, ap, ◌∙◌}
 use Rattle.std.specs.Prelude.{option_and_then}
 use Rattle.json.proofs.Grammar.{items_end, items_more}
@@ -11,7 +11,7 @@ use Rattle.serde_json.specs.Read.{converted, of_items, of_json}
 use Rattle.serde_json.specs.View.{items_view, view}
 use Rattle.serde_json.specs.declared.value.Value.{Value}
 
--- The items of some values, and others after them.
+-- The items of these values, followed by further items.
 abbrev pub before : List Value → Items → Items
 before [] rest = rest
 before (v ∷ vs) rest = item (view v) (before vs rest)

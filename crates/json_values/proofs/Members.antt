@@ -1,4 +1,4 @@
--- The members of an object, a turn of their loop at a time.
+-- The members of an object, for each iteration of the loop.
 use Rattle.std.proofs.Common.{◌≡◌, ℕ, zero, suc, ◌-◌, ◌<◌, ◌≤◌, List, length, Option, Some, None, refl, ap, ◌∙◌}
 use Rattle.std.specs.Prelude.{option_and_then}
 use Rattle.json.proofs.Grammar.{members_end, members_more, members_no_key}
@@ -9,7 +9,7 @@ use Rattle.json_values.proofs.Converted.{had_been_read, not_converted, refused_u
 use Rattle.serde_json.specs.Data.{Data, Members, put}
 use Rattle.serde_json.specs.Read.{converted, of_json, of_members}
 
--- The members that tokens stand for, after those that were found.
+-- The members of these tokens, added to the members that were found.
 abbrev pub onto : Members → Option (json.Members × List Token) → Option (Members × List Token)
 onto found o = converted (λ ms. of_members ms found) o
 

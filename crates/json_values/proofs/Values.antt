@@ -1,4 +1,4 @@
--- A value, by the token that it begins with.
+-- A value, by its first token.
 use Rattle.std.proofs.Common.{◌≡◌, ℕ, ◌+◌, ◌-◌, ◌<◌, List, [], ◌∷◌, length, Option, Some, None, refl, sym, ap, ap₂, ◌∙◌, arith, rules}
 use Rattle.json.proofs.Grammar.{value-begin_array, value-begin_object, value_is}
 use Rattle.json.specs.Json as json
@@ -30,7 +30,7 @@ an_object depth ts rest e =
     ∙ under (λ ms. of_members ms no_members) of_json json.object object (λ ms. refl) (members (value (depth + 1 - 1)) (length rest) rest)
     ∙ ap (λ d. parse_map object (onto no_members (members (value d) (length rest) rest))) less
 
--- Where nothing more may nest, no array and no object begins.
+-- If nothing may nest any deeper, no array and no object begins.
 pub no_array : (ts rest : List Token) → ts ≡ Token.begin_array ∷ rest → converted of_json (value 0 ts) ≡ None
 unfolding value
 no_array ts rest e = ap (λ ks. converted of_json (value 0 ks)) e
@@ -39,7 +39,7 @@ pub no_object : (ts rest : List Token) → ts ≡ Token.begin_object ∷ rest �
 unfolding value
 no_object ts rest e = ap (λ ks. converted of_json (value 0 ks)) e
 
--- A text with a token has a character.
+-- A text with a token is not empty.
 pub filled : (text : List ℕ) → 0 < length (tokens text) → 0 < length text
 unfolding lex punctuate
 filled [] h = h

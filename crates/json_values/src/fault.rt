@@ -1,4 +1,4 @@
-//! Why a text could not be read.
+//! Refusals of a text.
 ghost use Rattle.std.specs.Prelude.{◌≡◌};
 ghost use Rattle.json_values.specs.declared.fault.Fault.TheVariants as faults;
 
@@ -6,10 +6,10 @@ use json::Invalid;
 use std::alloc::{AllocError, AllocFailed};
 use thiserror::Error;
 
-/// Why a text could not be read.
+/// The reason why a text could not be read.
 #[derive(Clone, Copy, Debug, PartialEq, Eq, Error)]
 pub enum Fault {
-    /// The text is no JSON, nests deeper than 127, or has a number that is too large for a float.
+    /// The text is not JSON, nests deeper than 127, or has a number that is too large for a float.
     #[error("the text is no JSON")]
     NotJson,
     /// An allocation failed.

@@ -1,7 +1,7 @@
-//! Reads JSON texts (RFC 8259) into [`serde_json::Value`], with working memory that the caller keeps.
+//! Reads JSON texts (RFC 8259) as [`serde_json::Value`], with working memory that the caller keeps.
 //!
 //! [`Value::from_str`](serde_json::Value::from_str) makes a [`Scratch`] of 16 KiB for each text. [`read_value`] borrows
-//! one instead, so a program that reads many short texts makes it once.
+//! a `Scratch` instead, so a program that reads many short texts makes it only once.
 #![tactic(auto)]
 
 mod fault;

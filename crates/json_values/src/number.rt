@@ -1,4 +1,4 @@
-//! Numbers of JSON texts.
+//! Numbers in JSON texts.
 ghost use Rattle.std.specs.Prelude.{◌≡◌, ◌<◌, ◌==◌, IsTrue, false, length, option_map, slice_index, true};
 ghost use Rattle.serde_json.specs.Read.{float_of, number_from, number_of};
 ghost use Rattle.serde_json.specs.View.{number_view};
@@ -6,7 +6,7 @@ ghost use Rattle.serde_json.specs.View.{number_view};
 use fast_float::Numeral;
 use serde_json::Number;
 
-// The number that a token stands for, if it is in range: an integer of 64 bits, or else the nearest float.
+// Returns the number of a token if it is in range: an integer if it fits 64 bits, otherwise the nearest float.
 pub fn number_of(token: &str) -> Option<Number>
     ensures { option_map number_view result ≡ number_of token.now }
 {
@@ -25,7 +25,7 @@ fn begins_with_minus(bytes: &[u8]) -> bool
     !bytes.is_empty() && bytes[0] == b'-'
 }
 
-// The number with these digits and no sign.
+// Returns the number with these digits and no sign.
 fn unsigned(digits: &Numeral<'_>) -> Option<Number>
     ensures { option_map number_view result ≡ number_from false digits.now }
 {
@@ -35,7 +35,7 @@ fn unsigned(digits: &Numeral<'_>) -> Option<Number>
     }
 }
 
-// The number with these digits after a minus. Of `-0` that is a float.
+// Returns the number with these digits and a minus sign. `-0` is a float.
 fn negative(digits: &Numeral<'_>) -> Option<Number>
     ensures { option_map number_view result ≡ number_from true digits.now }
 {
@@ -45,7 +45,7 @@ fn negative(digits: &Numeral<'_>) -> Option<Number>
     }
 }
 
-// The nearest float, if it is finite.
+// Returns the nearest float if it is finite.
 fn nearest(is_negative: bool, digits: &Numeral<'_>) -> Option<Number>
     ensures { option_map number_view result ≡ float_of is_negative digits.now }
 {

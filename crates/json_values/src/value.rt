@@ -1,4 +1,4 @@
-//! Values of JSON texts.
+//! Values in JSON texts.
 ghost use Rattle.std.specs.Prelude.{◌≡◌, ◌+◌, ◌<◌, Err, IfOk, MatchResult, None, OnOk, Some, length};
 ghost use Rattle.json.specs.Json.{items, members, value};
 ghost use Rattle.json_values.specs.declared.fault.Fault.TheVariants.{Memory, NotJson};
@@ -12,18 +12,19 @@ use json::{Reader, Scratch, Token};
 use serde_json::{Map, Value};
 use std::alloc::Global;
 
-// How deep arrays and objects nest at most.
+// The deepest nesting of arrays and objects.
 const MAX_DEPTH: usize = 127;
 
-/// Reads the value that a JSON text stands for (RFC 8259).
+/// Reads the value of a JSON text (RFC 8259).
 ///
-/// Of members with the same key the last counts. An integer of 64 bits is one, and any other number is the nearest
-/// float; so is `-0`. `scratch` grows to the length of the longest text that was read with it, in bytes.
+/// If members of an object have the same key, the last one counts. An integer that fits 64 bits stays an integer,
+/// except `-0`. Any other number becomes the nearest float. `scratch` grows to the length in bytes of the longest text
+/// that is read with it.
 ///
 /// # Errors
 ///
-/// `NotJson` if the text is no JSON, nests deeper than 127, or has a number that is too large for a float. `Memory` if
-/// an allocation failed.
+/// - `NotJson`, if the text is not JSON, nests deeper than 127, or has a number that is too large for a float
+/// - `Memory`, if an allocation fails
 pub fn read_value(alloc: Global, text: &str, scratch: &mut Scratch) -> Result<Value, Fault>
     ensures ok { IfOk result (λ v. read text.now ≡ Some (view v)) }
     ensures not_json { result ≡ Err NotJson → read text.now ≡ None }
@@ -37,7 +38,7 @@ pub fn read_value(alloc: Global, text: &str, scratch: &mut Scratch) -> Result<Va
     }
 }
 
-// The value that comes next, which nests at most `depth` deep.
+// Reads the next value, which may nest at most `depth` deep.
 #[cycle(value_of)]
 fn value_of(alloc: Global, reader: &mut Reader<'_>, depth: usize) -> Result<Value, Fault>
     ensures ok { IfOk result
@@ -67,7 +68,7 @@ fn value_of(alloc: Global, reader: &mut Reader<'_>, depth: usize) -> Result<Valu
     }
 }
 
-// How deep what is one level deeper may nest.
+// Returns how deep the contents of an array or object may nest, if it may nest at most `depth` deep.
 fn one_deeper(depth: usize) -> Result<usize, Fault>
     ensures { MatchResult result (λ less. depth ≡ less + 1) (λ fault. (fault ≡ NotJson) × (depth ≡ 0)) }
 {
@@ -77,7 +78,7 @@ fn one_deeper(depth: usize) -> Result<usize, Fault>
     Ok(depth - 1)
 }
 
-// The items of an array, up to its end.
+// Reads the items of an array up to its end.
 #[cycle(value_of)]
 fn items_of(alloc: Global, reader: &mut Reader<'_>, depth: usize) -> Result<Vec<Value>, Fault>
     ensures ok { IfOk result
@@ -95,7 +96,7 @@ fn items_of(alloc: Global, reader: &mut Reader<'_>, depth: usize) -> Result<Vec<
     Ok(found)
 }
 
-// The members of an object, up to its end.
+// Reads the members of an object up to its end.
 #[cycle(value_of)]
 fn members_of(
     alloc: Global,

@@ -1,4 +1,5 @@
-//! A room in which several mappers edit one OpenStreetMap map.
+//! The program `maproom`: rooms in which several mappers edit one OpenStreetMap map. It calls `room_program` with its
+//! arguments and the standard streams.
 #![tactic(auto)]
 
 use room_program::command::{FAILED, REFUSED, command};

@@ -1,4 +1,4 @@
--- What a store has become after the rows that its changes make were put and noted.
+-- A store after the rows of its changes are put and noted.
 use Rattle.std.proofs.Common.{◌≡◌, not, T, List, [], map, sym, ap, subst, ◌∙◌}
 use Rattle.std.specs.List.{filter, fold}
 use Rattle.osm_elements.specs.Maps.{Rows}

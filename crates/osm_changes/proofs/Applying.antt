@@ -1,4 +1,5 @@
--- Rows put in two goes, the new ones first, lead to the map that they are of; and what was put is taken out again.
+-- Putting the rows after changes in two passes, the new rows first, leads to the map after them. Rows that were put can
+-- be taken out again.
 use Rattle.std.proofs.Common.{◌≡◌, ◌||◌, ◌&&◌, ◌<◌, ◌+◌, ℕ, Bool, true, false, not, T, List, [], ◌∷◌, ◌++◌, Option, Some, None, is_some, is_none, length, get_or, take, drop, map, refl, sym, ap, subst, ◌∙◌, cond, arith}
 use Rattle.std.proofs.lemmas.List.{get_or-drop, get_or_default, map_more, take_more}
 use Rattle.std.proofs.lemmas.List.Sums.{fold-append}
@@ -17,7 +18,7 @@ use Rattle.osm_changes.specs.Inner.Applying.{is_new, with_told, AreNew, NoneIsNe
 use Rattle.osm_changes.specs.Facts.Changing.{AreInOrder-changed, kept}
 use Rattle.osm_changes.proofs.RowsTold.{AreOf, names_told, names-rows_in, AreOf-rows_in, AreOf-filter, AreInOrder-told, row_at-told, row_at-untold, earlier}
 
--- what waits in a list that was changed before it is still what waited
+-- the rest of a list is still the same if only items in front of it changed
 pub waits_still : {X : Type 0} (xs ys : List X) (i : ℕ) (d e : X) → i < length xs → drop i ys ≡ drop i xs
     → get_or ys i e ≡ get_or xs i d
 waits_still xs ys i d e l same =
@@ -43,7 +44,7 @@ module _ {A : Type 0} where
   pub taken_out : (m : Rows A) (x : Name) → AreInOrder m → without_row m x ≡ rows_but x m
   taken_out = without_row_is_filter
 
-  -- ---- the two goes
+  -- ---- the two passes
 
   either : (p : RowAfter A → Bool) (rs : List (RowAfter A)) (y : Name)
       → is_among (names_told rs) y ≡
@@ -107,7 +108,7 @@ module _ {A : Type 0} where
             sym (kept m cs y (ap (λ names. is_among names y) (sym (names-rows_in (changed m cs) (changed_names cs)))
             ∙ either (is_new m) told y ∙ (λ i. e i || f i)))
 
-    -- after the new rows none of the others is new
+    -- after the first pass, none of the other rows is new
     pub none_is_new : NoneIsNew (fold with_told m new) others
     none_is_new = over (changed_names cs)
       where
@@ -159,7 +160,7 @@ module _ {A : Type 0} where
       by true e i = All-cons (λ (r : RowAfter A). is_new m r ≡ true) r (filter (is_new m) rs) e i
       by false e i = i
 
-  -- a row whose turn it is is no newer than it was, since those before it have other names
+  -- the next row is as new as it was at the start, because the rows in front of it have other names
   pub none_newer : (rs : List (RowAfter A)) (now : Rows A) (done : List (RowAfter A)) (r : RowAfter A)
       (rest : List (RowAfter A)) → rs ≡ done ++ r ∷ rest
       → T (are_rising (names_told rs)) → is_new (fold with_told now done) r ≡ is_new now r
@@ -172,7 +173,7 @@ module _ {A : Type 0} where
       cut [] = refl
       cut (x ∷ xs) = ap (λ names. x.name ∷ names) (cut xs)
 
-  -- so where none was new, it is not
+  -- so it is not new if no row was new at the start
   pub none_is_new_then : (rs : List (RowAfter A)) (now : Rows A) (done : List (RowAfter A)) (r : RowAfter A)
       (rest : List (RowAfter A)) → rs ≡ done ++ r ∷ rest
       → T (are_rising (names_told rs)) → NoneIsNew now rs → is_new (fold with_told now done) r ≡ false
@@ -183,7 +184,7 @@ module _ {A : Type 0} where
       among [] h = h 0 r (omega arith)
       among (x ∷ xs) h = among xs (All-tail (λ (s : RowAfter A). is_new now s ≡ false) x (xs ++ r ∷ rest) h)
 
-  -- ---- what was put is taken out again
+  -- ---- taking the rows out again
 
   row_at-out : (xs : List Name) (now : Rows A) (y : Name)
       → row_at (fold (λ n x. rows_but x n) now xs) y ≡ cond (is_among xs y) None (row_at now y)

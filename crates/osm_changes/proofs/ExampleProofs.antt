@@ -1,4 +1,4 @@
--- What was worked out by hand is what the definitions say.
+-- The worked examples hold by evaluation.
 use Rattle.std.proofs.Common.{refl}
 use Rattle.osm_elements.specs.NameOrder.{name_cmp}
 use Rattle.osm_changes.specs.Examples.{retagged, come_and_gone, moved, both_parts}

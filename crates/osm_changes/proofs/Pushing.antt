@@ -1,4 +1,4 @@
--- The changes of one row, pushed one half after the other.
+-- The changes of one row, pushed half by half.
 use Rattle.std.proofs.Common.{◌≡◌, List, [], ◌∷◌, ◌++◌, Option, sym, ap, ◌∙◌, append_assoc}
 use Rattle.std.proofs.lemmas.List.Elements.{filter-append}
 use Rattle.std.specs.List.{filter}

@@ -1,4 +1,4 @@
--- What changed rows begin and cease to refer to, entered one row after another.
+-- The references that begin and cease with changed rows, entered row by row.
 use Rattle.std.proofs.Common.{◌≡◌, ◌<◌, ◌+◌, ◌||◌, ℕ, zero, suc, Bool, true, false, not, cond, T, List, [], ◌∷◌, ◌++◌, Option, Some, None, length, map, take, drop, get_or, refl, sym, ap, subst, ◌∙◌, arith}
 use Rattle.std.proofs.lemmas.List.{take-map}
 use Rattle.std.specs.FinMap.Entries.{below_all}
@@ -33,7 +33,7 @@ below_all_others : (x : Name) (names : List Name) → T (below_all name_cmp x (b
 below_all_others x [] h = refl
 below_all_others x (y ∷ ys) h = ap (λ b. b || is_among ys x) (below_is_other (name_cmp x y) (first _ _ h)) ∙ below_all_others x ys (second _ _ h)
 
--- the first of rising names is not among the others
+-- the first of rising names does not occur again
 first_is_apart : (x q : Name) (names : List Name) → T (are_rising (x ∷ names)) → is_same q x ≡ true → is_among names q ≡ false
 first_is_apart x q names h same = ap (is_among names) (same_names q x same) ∙ below_all_others x names (first _ _ h)
 
@@ -42,7 +42,7 @@ cut_at name [] i d h = absurd (omega (arith, h))
 cut_at name (c ∷ cs) zero d h = refl
 cut_at name (c ∷ cs) (suc i) d h = let e : suc i + 1 ≡ suc (i + 1) = omega arith in rw e (ap (λ rest. name c ∷ rest) (cut_at name cs i d (omega (arith, h))))
 
--- the name whose turn it is is not among those before it
+-- the next name is not among the names in front of it
 waits_at : {C : Type 0} (name : C → Name) (cs : List C) (i : ℕ) (d : C) → i < length cs → T (are_rising (map name cs)) → is_among (map name (take i cs)) (name (get_or cs i d)) ≡ false
 waits_at name cs i d l rising = earlier (map name (take i cs)) (name (get_or cs i d)) (map name (drop (i + 1) cs)) (subst (λ names. T (are_rising names)) (sym (cut_at name cs i d l)) rising)
 
@@ -97,7 +97,7 @@ module _ {A : Type 0} where
     names_of_notes [] = refl
     names_of_notes (r ∷ rs) = ap (λ names. r.name ∷ names) (names_of_notes rs)
 
-    -- after one change of a name, later ones leave its references
+    -- after the change of a name, later changes leave its references
     module _ (then : ReferenceChange A → List Name → List Name) (r : RowAfter A) (rs : List (RowAfter A)) (q : Name) (rising : T (are_rising (r.name ∷ names_told rs))) (same : is_same q r.name ≡ true) where
       left : (names : List Name) → becomes_at name_of then (all rs) q names ≡ names
       left names = untouched name_of then (all rs) q names (ap (λ ns. is_among ns q) (names_of_changes rs) ∙ first_is_apart r.name q (names_told rs) rising same)
@@ -110,7 +110,7 @@ module _ {A : Type 0} where
     before_at : (q : Name) (r : RowAfter A) → is_same q r.name ≡ true → name_set (row_references (row_at m r.name)) ≡ name_set (row_references (row_at m q))
     before_at q r same = ap (λ x. name_set (row_references (row_at m x))) (sym (same_names q r.name same))
 
-    -- what a name refers to once all were gained and lost is what is noted of it
+    -- after all gains and losses, the references of a name are those that its note has
     comes : (rs : List (RowAfter A)) → T (are_rising (names_told rs)) → (q : Name) (names : List Name) → names ≡ name_set (row_references (row_at m q))
         → becomes_at name_of lose (all rs) q (becomes_at name_of gain (all rs) q names) ≡ becomes_at note_name note (notes_of rs) q names
     comes [] rising q names is = refl
@@ -128,7 +128,7 @@ module _ {A : Type 0} where
             ∙ sym (untouched note_name note (notes_of rs) q after (ap (λ ns. is_among ns q) (names_of_notes rs) ∙ first_is_apart r.name q (names_told rs) rising same))
         by false other rest = rest
 
-    -- and what it refers to once all were gained and given back is what it referred to
+    -- after all gains are taken back, the references of a name are those of the map
     stays : (rs : List (RowAfter A)) → T (are_rising (names_told rs)) → (q : Name) (names : List Name) → names ≡ name_set (row_references (row_at m q))
         → becomes_at name_of give_back (all rs) q (becomes_at name_of gain (all rs) q names) ≡ names
     stays [] rising q names is = refl
@@ -166,7 +166,7 @@ module _ {A : Type 0} where
           (λ q. references_at-updated_all name_of give_back (fold gained t (all rs)) (all rs) q ∙ ap (becomes_at name_of give_back (all rs) q) (references_at-updated_all name_of gain t (all rs) q)
           ∙ stays rs rising q (references_at t q) (references_at-table_of m q order))
 
-  -- changes of the rows of a map
+  -- reference changes of the rows of a map
   module _ (users : Table) (cs : List (ReferenceChange A)) (are : AreChangesOf users cs) where
     abbrev m : Rows A
     m = are.0
@@ -174,7 +174,7 @@ module _ {A : Type 0} where
     abbrev rs : List (RowAfter A)
     rs = are.1
 
-    -- what the first of them gained is given back
+    -- the first gains, taken back, lead back to the users
     pub some_given : (i : ℕ) → fold given_back (fold gained users (take i cs)) (take i cs) ≡ users
     some_given i =
         let some : take i cs ≡ map (reference_change_of m) (take i rs) = ap (take i) are.5 ∙ take-map (reference_change_of m) i rs in
@@ -198,7 +198,7 @@ module _ {A : Type 0} where
           let long : i < length (map (reference_change_of m) rs) = subst (λ xs. i < length xs) are.5 within in
           subst Fits (sym (is ∙ ap (λ xs. get_or xs i c) are.5)) (fits_at rs i c long)
 
-      -- the next of the changes begins with names that rise
+      -- the references that begin with the next change rise
       pub next_rises : IsRising c.begun
       next_rises = fits.0
 

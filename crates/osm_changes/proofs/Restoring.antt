@@ -1,4 +1,4 @@
--- Changes taken back restore the map that they are from.
+-- Changes that are taken back restore the map that they are from.
 use Rattle.std.proofs.Common.{All, ◌≡◌, suc, Bool, true, false, List, [], ◌∷◌, ◌++◌, get_or, refl, sym, ap, subst, ◌∙◌, cond, arith}
 use Rattle.std.proofs.lemmas.List.Elements.{All-map}
 use Rattle.osm_elements.specs.declared.name.Name.{Name}
@@ -18,7 +18,7 @@ use Rattle.osm_changes.specs.Facts.RowChanges.{AreChanges-rows_changes, differen
 use Rattle.osm_changes.proofs.Told.{told_at}
 
 module _ {A : Type 0} where
-  -- the half at a cell, changed and changed back
+  -- a half that is changed and changed back stays the same
   there_and_back : (m : Rows A) (cs : List (Change A)) → All (λ (c : Change A). c.before ≡ half_at m (cell_of c)) cs
       → (c : Cell) → half_after (inverse cs) c (half_after cs c (half_at m c)) ≡ half_at m c
   there_and_back m [] from c = refl
@@ -31,12 +31,12 @@ module _ {A : Type 0} where
       by true e i = from 0 d (omega arith) ∙ ap (half_at m) (sym (same_cells c (cell_of d) e))
       by false e i = i
 
-  -- the halves after changes are those that the changes make
+  -- the halves of the map after changes are the halves after the changes
   half_at-changed : (m : Rows A) (cs : List (Change A)) → AreFrom m cs → (c : Cell)
       → half_at (changed m cs) c ≡ half_after cs c (half_at m c)
   half_at-changed m cs from c = ap (half c.part) (row_at-changed m cs c.name) ∙ from.whole c
 
-  -- and those after the inverse as they were
+  -- the inverse leads back to the halves before
   back : (m : Rows A) (cs : List (Change A)) → AreFrom m cs → (c : Cell)
       → half_after (inverse cs) c (half_at (changed m cs) c) ≡ half_at m c
   back m cs from c = ap (half_after (inverse cs) c) (half_at-changed m cs from c) ∙ there_and_back m cs from.before c

@@ -1,4 +1,4 @@
--- What is found in a map that is told rows one by one.
+-- The rows of a map to which rows are written one by one.
 use Rattle.std.proofs.Common.{◌≡◌, ◌||◌, Bool, true, false, T, List, [], ◌∷◌, ◌++◌, map, refl, sym, ap, ◌∙◌, cond}
 use Rattle.std.specs.List.{filter, fold}
 use Rattle.std.specs.Ordering.{is_lt, is_eq}
@@ -27,7 +27,7 @@ below_is_other Less h = refl
 below_is_other Equal h = absurd h
 below_is_other Greater h = absurd h
 
--- of rising names one that stands before is not among those after it
+-- in rising names, an earlier name does not occur later
 pub earlier : (done : List Name) (x : Name) (rest : List Name) → T (are_rising (done ++ x ∷ rest))
     → is_among done x ≡ false
 earlier [] x rest h = refl
@@ -42,7 +42,7 @@ module _ {A : Type 0} where
   abbrev pub names_told : List (RowAfter A) → List Name
   names_told rs = map (λ (r : RowAfter A). r.name) rs
 
-  -- the rows are told as they are in a map
+  -- the rows are those of a map
   abbrev pub AreOf : Rows A → List (RowAfter A) → Type 0
   AreOf n [] = Unit {0}
   AreOf n (r ∷ rs) = (row_at n r.name ≡ r.element) × AreOf n rs
@@ -59,7 +59,7 @@ module _ {A : Type 0} where
   AreInOrder-told [] now h = h
   AreInOrder-told (r ∷ rs) now h = AreInOrder-told rs (with_told now r) (AreInOrder-with_row now r.name r.element h)
 
-  -- a name that is told has the row of the map that is told, and any other keeps its row
+  -- a written name has the row of that map, and any other name keeps its row
   pub row_at-told : (n : Rows A) (rs : List (RowAfter A)) (now : Rows A) → AreOf n rs → (y : Name)
       → row_at (fold with_told now rs) y ≡ cond (is_among (names_told rs) y) (row_at n y) (row_at now y)
   row_at-told n [] now are y = refl
@@ -82,7 +82,7 @@ module _ {A : Type 0} where
       row_at-untold rs (with_told now r) y parts.1 ∙ row_at-with_row now r.name r.element y
       ∙ ap (λ s. cond s r.element (row_at now y)) parts.0
 
-  -- ---- those rows that pass a test
+  -- ---- the rows that a filter keeps
 
   pub AreOf-filter : (p : RowAfter A → Bool) (n : Rows A) (rs : List (RowAfter A)) → AreOf n rs → AreOf n (filter p rs)
   AreOf-filter p n [] are = tt

@@ -1,4 +1,4 @@
--- What is found in changes whose cells rise, and what a binary search in them tells.
+-- Look-ups in changes whose cells rise, and the result of a binary search.
 use Rattle.std.proofs.Common.{◌≡◌, ◌<◌, ◌≤◌, ◌+◌, ℕ, zero, suc, false, T, List, [], ◌∷◌, Option, length, get_or, map, refl, sym, ap, subst, ◌∙◌, cond, arith}
 use Rattle.std.proofs.lemmas.List.{get_or-map, length-map}
 use Rattle.std.specs.FinMap.Entries.{below_all}
@@ -21,7 +21,7 @@ use Rattle.osm_changes.specs.Facts.Cells.{cell_cmp_total, cell_cmp-IsAntisymmetr
 use Rattle.osm_changes.proofs.RowsTold.{below_is_other, or_false}
 
 module _ {A : Type 0} where
-  -- a cell of rising changes has the half that its change tells
+  -- the half after changes at a changed cell is that of its change
   pub told_at : (cs : List (Change A)) → IsRising (changed_cells cs) → (k : ℕ) (d : Change A) (h : Option (Half A))
       → k < length cs → half_after cs (cell_of (get_or cs k d)) h ≡ (get_or cs k d).after
   told_at [] up k d h l = absurd (omega (arith, l))
@@ -38,7 +38,7 @@ module _ {A : Type 0} where
       above (x ∷ xs) t zero d l = below_is_other (cell_cmp (cell_of c) (cell_of x)) (first _ _ t)
       above (x ∷ xs) t (suc k) d l = above xs (second _ _ t) k d (omega (arith, l))
 
-  -- and a cell that is not among them the half that it had
+  -- the half at a cell without a change stays
   pub untold : (cs : List (Change A)) (c : Cell) (h : Option (Half A)) → has (changed_cells cs) c ≡ false
       → half_after cs c h ≡ h
   untold [] c h e = refl
@@ -54,7 +54,7 @@ module _ {A : Type 0} where
   all_mapped P (d ∷ ds) low high fits h k e a b = subst P
       (sym (get_or-map cell_of (d ∷ ds) k d e (omega (arith, fits, b)))) (h k d a b)
 
-  -- a search that ends in a gap does so among the cells too
+  -- a search that finds no change finds no cell either
   gap_mapped : (c : Cell) (cs : List (Change A)) (i : ℕ) → i ≤ length cs
       → IsBinarySearchResult (λ d. cell_cmp (cell_of d) c) cs (gap_at i)
       → IsBinarySearchResult (λ e. cell_cmp e c) (changed_cells cs) (gap_at i)
@@ -89,7 +89,7 @@ module _ {A : Type 0} where
 
   -- ---- the names of the changes
 
-  -- they don't fall
+  -- the names do not fall
   pub names_sorted : (cs : List (Change A)) → IsRising (changed_cells cs)
       → IsSorted name_cmp (map (λ (c : Change A). c.name) cs)
   names_sorted [] up k d low within = absurd (omega (arith, within))

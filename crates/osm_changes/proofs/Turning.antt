@@ -1,4 +1,4 @@
--- Changes taken back one after the other.
+-- Changes that are taken back one by one.
 use Rattle.std.proofs.Common.{◌≡◌, ◌≢◌, ◌<◌, ◌≤◌, ◌+◌, ℕ, suc, zero, List, [], ◌∷◌, ◌++◌, length, take, drop, get_or, set, All, refl, sym, ap, ◌∙◌, arith, subst}
 use Rattle.std.proofs.lemmas.List.Elements.{All-map}
 use Rattle.osm_changes.specs.declared.change.Change.{Change}

@@ -14,7 +14,7 @@ use Rattle.osm_changes.specs.declared.part.Part.{Part}
 use Rattle.osm_changes.specs.declared.part.Part.TheVariants.{Tags, Rest}
 use Rattle.osm_changes.specs.Halves.{half}
 
--- a part of a name's row
+-- a name and a part of its row
 pub record Cell : Type 0 where
   pub name : Name
   pub part : Part
@@ -36,18 +36,18 @@ abbrev pub part_rank : Part → ℕ
 part_rank Tags = 0
 part_rank Rest = 1
 
--- cells go by their names, and tags come before the rest
+-- cells are ordered by name, and tags come in front of the rest
 abbrev pub cell_cmp : Cell → Cell → Ordering
 cell_cmp = then_cmp (on (λ (c : Cell). c.name) name_cmp) (on (λ (c : Cell). part_rank c.part) nat_cmp)
 
 abbrev pub is_same_cell : Cell → Cell → Bool
 is_same_cell c d = is_eq (cell_cmp c d)
 
--- a cell is among others
+-- the list contains the cell
 abbrev pub has : List Cell → Cell → Bool
 has cells c = is_among cell_cmp cells c
 
--- a list's cells, rising, each once
+-- the cells of a list, rising, each once
 abbrev pub cell_set : List Cell → List Cell
 cell_set cells = fold (λ set c. with_value cell_cmp c set) [] cells
 
@@ -55,6 +55,6 @@ cell_set cells = fold (λ set c. with_value cell_cmp c set) [] cells
 abbrev pub IsRising : List Cell → Type 0
 IsRising cells = lists.IsRising cell_cmp cells
 
--- what stands in a cell of a map
+-- the half in a cell of a map
 abbrev pub half_at : {A : Type 0} → Rows A → Cell → Option (Half A)
 half_at m c = half c.part (row_at m c.name)

@@ -1,4 +1,4 @@
--- What makes one map of another: the cells at which they differ, rising, each with both halves. (Changes are this
+-- Changes from a map to a map: the cells at which they differ, rising, each with both halves. (Changes are this
 -- project's.)
 use Rattle.std.specs.Prelude.{◌≡◌, ◌≢◌, ◌++◌, Bool, not, List, [], ◌∷◌, Option, Some, None, All, map, if◌then◌else◌}
 use Rattle.std.specs.List.{filter, flat_map, fold}
@@ -17,7 +17,7 @@ use Rattle.osm_changes.specs.declared.row_after.RowAfter.{RowAfter}
 use Rattle.osm_changes.specs.Cells.{tags_at, rest_at, cells_of, is_same_cell, IsRising, half_at}
 use Rattle.osm_changes.specs.Halves.{half, row_of, are_same_halves}
 
--- each name comes after the one before it
+-- the names strictly rise
 abbrev pub are_rising : List Name → Bool
 are_rising names = is_rising name_cmp names
 
@@ -34,19 +34,19 @@ module _ {A : Type 0} where
   abbrev pub differences : Rows A → Rows A → List (Change A)
   differences m n = map (change_at m n) (differing m n)
 
-  -- what becomes of one half of a name's row, when the row becomes another
+  -- the change of one half of a name's row if the row changes
   abbrev pub half_change : Name → Option (Element A) → Option (Element A) → Part → Change A
   half_change x before after p = record { name = x; part = p; before = half p before; after = half p after }
 
-  -- the halves of a change are not the same
+  -- the halves of a change differ
   abbrev pub differs : Change A → Bool
   differs c = not (are_same_halves c.before c.after)
 
-  -- the changes of a name from one row to another: of those halves that are not the same
+  -- the changes of a name whose row changes: those of the halves that differ
   abbrev pub row_changes : Name → Option (Element A) → Option (Element A) → List (Change A)
   row_changes x before after = filter differs (half_change x before after Tags ∷ half_change x before after Rest ∷ [])
 
-  -- the changes of some names, each from its row in the map to its row after
+  -- the changes of the given names, each from its row in the map to its row after
   abbrev pub rows_changes : Rows A → (Name → Option (Element A)) → List Name → List (Change A)
   rows_changes m after names = flat_map (λ x. row_changes x (row_at m x) (after x)) names
 
@@ -56,36 +56,36 @@ module _ {A : Type 0} where
   abbrev pub changed_cells : List (Change A) → List Cell
   changed_cells cs = map cell_of cs
 
-  -- the names of which changes tell, rising, each once
+  -- the names that change, rising, each once
   abbrev pub changed_names : List (Change A) → List Name
   changed_names cs = name_set (map (λ (c : Change A). c.name) cs)
 
-  -- a change taken back
+  -- the change that takes a change back
   abbrev pub taken_back : Change A → Change A
   taken_back c = record { name = c.name; part = c.part; before = c.after; after = c.before }
 
   abbrev pub inverse : List (Change A) → List (Change A)
   inverse cs = map taken_back cs
 
-  -- what changes make of the half of a cell: what the cell's change tells, and the half itself where none is the cell's
+  -- the half of a cell after changes: that of the cell's own change, otherwise the half before
   abbrev pub half_after : List (Change A) → Cell → Option (Half A) → Option (Half A)
   half_after [] c h = h
   half_after (d ∷ ds) c h = if is_same_cell c (cell_of d) then d.after else half_after ds c h
 
-  -- and of a name's row
+  -- the row of a name after changes
   abbrev pub row_after : List (Change A) → Name → Option (Element A) → Option (Element A)
   row_after cs x o = row_of (half_after cs (tags_at x) (half Tags o)) (half_after cs (rest_at x) (half Rest o))
 
-  -- the map with this row, or without it
+  -- the map in which a name has this row, or no row
   abbrev pub with_row : Rows A → Name → Option (Element A) → Rows A
   with_row m x None = rows_but x m
   with_row m x (Some v) = put_row m x v
 
-  -- the map with each half as it is after its change
+  -- the map after changes
   abbrev pub changed : Rows A → List (Change A) → Rows A
   changed m cs = fold (λ n x. with_row n x (row_after cs x (row_at m x))) m (changed_names cs)
 
-  -- a name with its row in a map, none where it has none
+  -- a name with its row in a map, if any
   abbrev pub row_in : Rows A → Name → RowAfter A
   row_in m x = record { name = x; element = row_at m x }
 
@@ -93,13 +93,13 @@ module _ {A : Type 0} where
   abbrev pub rows_after : Rows A → List (Change A) → List (RowAfter A)
   rows_after m cs = map (row_in (changed m cs)) (changed_names cs)
 
-  -- cells rise, and each has another half after than before
+  -- the cells rise, and the halves of each change differ
   pub record AreChanges (cs : List (Change A)) : Type 0 where
     pub rising : IsRising (changed_cells cs)
     pub differ : All (λ (c : Change A). c.after ≢ c.before) cs
 
-  -- each change is from what the map has, and each name has both parts or none afterwards: the row of the two halves
-  -- after has just these halves
+  -- each half before is the map's, and each name afterwards has both halves or none (`whole`: the row that the halves
+  -- after make has just these halves)
   pub record AreFrom (m : Rows A) (cs : List (Change A)) : Type 0 where
     pub before : All (λ (c : Change A). c.before ≡ half_at m (cell_of c)) cs
     pub whole : (c : Cell) → half c.part (row_after cs c.name (row_at m c.name)) ≡ half_after cs c (half_at m c)

@@ -1,4 +1,4 @@
--- What was worked out by hand of the definitions.
+-- Examples of the definitions, worked out by hand.
 use Rattle.std.specs.Prelude.{◌≡◌, List, [], ◌∷◌, Some, None, pos}
 use Rattle.osm_elements.specs.declared.element.Element.{Element}
 use Rattle.osm_elements.specs.declared.element.Element.TheVariants.{Node, Way}
@@ -20,7 +20,7 @@ way tags = Way (n-2 ∷ n-1 ∷ []) tags
 abbrev pub start : Rows Any
 start = (n-2, node []) ∷ (n-1, node two_tags) ∷ (w5, way []) ∷ []
 
--- other tags change one cell
+-- new tags change one cell
 abbrev pub retag : List (Change Any)
 retag = record { name = w5; part = parts.Tags; before = Some (Tags []); after = Some (Tags (path ∷ [])) } ∷ []
 
@@ -30,7 +30,7 @@ retagged =
     × (changed_names retag ≡ w5 ∷ [])
     × (rows_after start retag ≡ record { name = w5; element = Some (way (path ∷ [])) } ∷ [])
 
--- an element that goes changes both of its cells, and so does one that comes
+-- an element that is removed or added changes both of its cells
 abbrev pub go : List (Change Any)
 go = record { name = w5; part = parts.Tags; before = Some (Tags []); after = None }
     ∷ record { name = w5; part = parts.Rest; before = Some (Nodes (n-2 ∷ n-1 ∷ [])); after = None } ∷ []
@@ -42,7 +42,7 @@ come_and_gone =
     × (changed_names go ≡ w5 ∷ [])
     × (rows_after start go ≡ record { name = w5; element = None } ∷ [])
 
--- another position changes one cell, and the tags stay
+-- a new position changes one cell, and the tags stay
 abbrev pub move : List (Change Any)
 move = record {
   name = n-1;
@@ -57,7 +57,7 @@ moved =
     (differences start ((n-2, node []) ∷ (n-1, Node (pos 3) (pos 2) two_tags) ∷ (w5, way []) ∷ []) ≡ move)
     × (changed start move ≡ (n-2, node []) ∷ (n-1, Node (pos 3) (pos 2) two_tags) ∷ (w5, way []) ∷ [])
 
--- a move and then other tags of the same node: either can be taken back first, and leaves the other alone
+-- a move and then new tags of the same node: each can be taken back first, and leaves the half of the other
 abbrev pub later_tags : List (Change Any)
 later_tags = record { name = n-1; part = parts.Tags; before = Some (Tags two_tags); after = Some (Tags []) } ∷ []
 

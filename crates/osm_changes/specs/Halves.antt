@@ -13,7 +13,7 @@ use Rattle.osm_changes.specs.declared.part.Part.TheVariants as parts
 use Rattle.osm_changes.specs.SameRows.{are_same_names, are_same_tags, are_same_members}
 
 module _ {A : Type 0} where
-  -- what is left of an element without its tags
+  -- an element apart from its tags
   abbrev pub rest_of : Element A → Half A
   rest_of (Node lat lon tags) = Place lat lon
   rest_of (Way nodes tags) = Nodes nodes
@@ -23,19 +23,19 @@ module _ {A : Type 0} where
   half_in parts.Tags v = Tags (tags_of v)
   half_in parts.Rest v = rest_of v
 
-  -- the half of a row; an absent row has neither
+  -- a half of a row; an absent row has none
   abbrev pub half : Part → Option (Element A) → Option (Half A)
   half p None = None
   half p (Some v) = Some (half_in p v)
 
-  -- the element with these tags and this rest
+  -- the element with these tags and this rest, if the rest is not tags
   abbrev pub element_of : Pairs → Half A → Option (Element A)
   element_of tags (Tags others) = None
   element_of tags (Place lat lon) = Some (Node lat lon tags)
   element_of tags (Nodes nodes) = Some (Way nodes tags)
   element_of tags (Members members) = Some (Relation members tags)
 
-  -- the row of two halves
+  -- the row of two halves, if both are there and fit
   abbrev pub row_of : Option (Half A) → Option (Half A) → Option (Element A)
   row_of (Some (Tags tags)) (Some rest) = element_of tags rest
   row_of _ _ = None

@@ -1,10 +1,10 @@
--- A store is seen as its map and a count. (The count is this project's.)
+-- Stores, which contracts model as a map and a count. (The count is this project's.)
 use Rattle.std.specs.Prelude.{◌+◌, ◌^◌, ◌-◌, ℕ, List, [], length, min}
 use Rattle.osm_elements.specs.Maps.{Rows}
 use Rattle.osm_changes.specs.declared.change.Change.{Change}
 use Rattle.osm_changes.specs.Changes.{changed}
 
--- a sound map, and how many changes were applied to it
+-- the rows of a sound map, and the number of changes that were applied to it
 pub record StoreState (A : Type 0) : Type 0 where
   pub rows : Rows A
   pub applied : ℕ

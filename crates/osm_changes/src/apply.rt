@@ -1,5 +1,5 @@
-//! Rows put into a map: first those of names that were absent, which take memory and can be taken out again, and then
-//! all others, which take none.
+//! Writes rows to a map: first the rows of new names, which need memory and can be taken out again, and then all other
+//! rows, which need no memory.
 ghost use Rattle.std.specs.Prelude.{◌≡◌, true, not, T, map, IfOk, OnOk, OnErr};
 ghost use Rattle.std.specs.List.{fold, filter};
 ghost use Rattle.osm_elements.specs.Maps.{rows_but};
@@ -15,8 +15,7 @@ use osm_elements::map::OsmMap;
 use osm_elements::name::Name;
 use std::alloc::Allocator;
 
-/// Copies of some rows in two lists, each in order: those whose names a map has not and that are there, and all others.
-/// The one refusal is want of memory.
+/// Copies rows to two lists, each in order: rows that are there under names that the map does not have, and all others.
 pub fn part_new<A: Allocator + Clone>(
     alloc: A,
     rows: &OsmMap<A>,
@@ -37,14 +36,14 @@ pub fn part_new<A: Allocator + Clone>(
     Ok((new, others))
 }
 
-// Whether a row comes under a name that the map has not.
+// Returns whether a row is there, and the map does not have its name.
 fn is_new<A: Allocator>(rows: &OsmMap<A>, row: &RowAfter<A>) -> bool
     ensures { result ≡ is_new rows.now row.now }
 {
     rows.get(&row.name).is_none() && row.element.is_some()
 }
 
-/// Puts rows under names that are absent. After a refusal, which is want of memory, the map is as it was.
+/// Puts the rows of new names, or returns `Memory`.
 pub fn put_new<A: Allocator + Clone>(
     rows: &mut OsmMap<A>,
     mut new: Vec<RowAfter<A>, A>,
@@ -65,8 +64,7 @@ pub fn put_new<A: Allocator + Clone>(
     Ok(())
 }
 
-// Gives a name this row, or takes its row out. The one refusal is want of memory for a row that is new; then the map
-// is as it was.
+// Gives a name this row, or removes its row if `element` is `None`. It returns `Memory` only for a new row.
 #[tactic(auto, using(crate::proofs::Applying::taken_out))]
 fn put<A: Allocator + Clone>(
     rows: &mut OsmMap<A>,
@@ -89,7 +87,7 @@ fn put<A: Allocator + Clone>(
     }
 }
 
-// Takes the rows of some names out.
+// Removes the rows of these names.
 fn take_out<A: Allocator>(rows: &mut OsmMap<A>, told: &[RowAfter<A>])
     ensures { rows.new ≡ fold (λ n x. rows_but x n) rows.old (map (λ (r : Row A). r.name) told.now) }
 {
@@ -98,7 +96,7 @@ fn take_out<A: Allocator>(rows: &mut OsmMap<A>, told: &[RowAfter<A>])
     }
 }
 
-/// Gives names, each another, their rows, or takes their rows out, where none is new. It takes no memory.
+/// Gives the names their rows, or removes their rows. The names must rise, and no row may be new.
 pub fn replace<A: Allocator + Clone>(rows: &mut OsmMap<A>, told: Vec<RowAfter<A>, A>)
     requires rising { T (are_rising (map (λ (r : Row A). r.name) told.items)) }
     requires there { NoneIsNew rows.old told.items }

@@ -6,10 +6,11 @@ use osm_elements::name::{Kind, Name};
 use std::cmp::Ordering;
 use std::marker::Model;
 
-/// A part of the row of a name. Cells are ordered by their names, and the tags of a name come before the rest.
+/// A name and a part of its row. Cells are ordered by name, and the tags of a name come in front of its rest.
 #[derive(Clone, Copy, Debug)]
 pub struct Cell {
-    // The name's kind and id. With the part between them a cell takes 16 bytes, and with a name beside a part 24.
+    // The kind and the id of the name, with the part between them: so a cell takes 16 bytes. A `Name` next to a part
+    // would take 24.
     kind: Kind,
     part: Part,
     id: i64,
@@ -18,7 +19,7 @@ pub struct Cell {
 
 const _: () = prove!(size_of::<Cell>() == 16);
 
-// A cell is seen as its name and its part.
+// Contracts model a cell as its name and its part.
 impl Model for Cell {
     ghost use Rattle.osm_changes.specs.Cells.{Cell};
 
@@ -30,7 +31,7 @@ impl Model for Cell {
 }
 
 impl Cell {
-    /// The cell of a part of this name's row.
+    /// Returns the cell of a part of this name's row.
     pub fn of(name: Name, part: Part) -> Cell
         ensures { result ≡ record { name = name; part = part } }
     {
@@ -41,14 +42,14 @@ impl Cell {
         }
     }
 
-    /// The name of the row.
+    /// Returns the name of the row.
     pub fn name(&self) -> Name
         ensures { result ≡ self.now.name }
     {
         Name::new(self.kind, self.id).unwrap()
     }
 
-    /// Which part of the row it is.
+    /// Returns the part of the row.
     pub fn part(&self) -> Part
         ensures { result ≡ self.now.part }
     {

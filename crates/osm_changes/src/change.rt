@@ -1,4 +1,4 @@
-//! What a change does to one cell.
+//! The change of one cell.
 ghost use Rattle.std.specs.Prelude.{◌≡◌, IfOk};
 ghost use Rattle.osm_changes.specs.Changes.{cell_of, taken_back};
 
@@ -10,7 +10,7 @@ use osm_elements::name::Name;
 use std::alloc::{AllocError, Allocator};
 use std::mem::swap;
 
-/// One half of the row of a name before a change and after it; none where no element has the name.
+/// The change of a half of a name's row. A half is none if the map has no element with the name.
 #[derive(Drop)]
 #[derive_where(Debug)]
 pub struct Change<A: Allocator> {
@@ -21,21 +21,21 @@ pub struct Change<A: Allocator> {
 }
 
 impl<A: Allocator> Change<A> {
-    /// The cell that is changed.
+    /// Returns the cell that changes.
     pub fn cell(&self) -> Cell
         ensures { result ≡ cell_of self.now }
     {
         Cell::of(self.name, self.part)
     }
 
-    // Takes the change back: exchanges the halves before and after.
+    // Exchanges the halves before and after.
     pub(crate) fn take_back(&mut self)
         ensures { self.new ≡ taken_back self.old }
     {
         swap(&mut self.before, &mut self.after);
     }
 
-    /// An equal change, or `Memory`.
+    /// Returns a copy, or `Memory`.
     pub fn copy(&self) -> Result<Change<A>, Memory>
     where
         A: Clone,

@@ -13,15 +13,15 @@ use osm_elements::name::Name;
 use std::alloc::{AllocError, Allocator};
 use std::marker::Model;
 
-/// What is changed in a map: for each cell that has another half afterwards, or none where it had one, or one where it
-/// had none, its half before and after. Cells rise. A row that comes or goes has a change in both of its cells.
+/// The cells of a map that change, rising, each with its half before and its half after, which differ. An absent row
+/// has no halves, so a row that is added or removed has a change in both of its cells.
 #[derive(Drop)]
 #[derive_where(Debug)]
 pub struct Changes<A: Allocator> {
     changes: Vec<Change<A>, A>,
 }
 
-// Changes are seen as the list of them.
+// Contracts model changes as a plain list.
 impl<A: Allocator> Model for Changes<A> {
     ghost use Rattle.std.specs.Prelude.{List};
     ghost use Rattle.osm_changes.specs.declared.change.Change.{Change};
@@ -35,7 +35,7 @@ impl<A: Allocator> Model for Changes<A> {
 }
 
 impl<A: Allocator> Changes<A> {
-    /// No changes. They take no memory.
+    /// Returns an empty list of changes.
     pub fn empty(alloc: A) -> Changes<A>
         ensures { result ≡ [] }
     {
@@ -44,32 +44,36 @@ impl<A: Allocator> Changes<A> {
         }
     }
 
-    /// How many cells are changed.
+    /// Returns the number of changed cells.
     pub fn len(&self) -> usize
         ensures { result ≡ length self.now }
     {
         self.changes.len()
     }
 
-    /// Whether nothing is changed.
+    /// Returns whether nothing changes.
     pub fn is_empty(&self) -> bool
         ensures { IsTrue result ↔ (self.now ≡ []) }
     {
         self.changes.is_empty()
     }
 
-    /// The changes in the order of their cells.
+    /// Returns the changes in the order of their cells.
     pub fn rows(&self) -> &[Change<A>]
         ensures rows { result.now ≡ self.now }
-        // What holds of all changes.
+        // True of every list of changes.
         ensures changes { AreChanges self.now }
     {
         &self.changes
     }
 
-    /// Puts the changes of a name at the end, from its element before, or none, to another after, or none: one for
-    /// each half that is another afterwards. The name comes after all others. It takes the elements apart and copies
-    /// nothing. It refuses with `Memory`, and leaves the changes as they were.
+    /// Appends the changes of a name whose element changes from `before` to `after`: a change for each half that
+    /// differs. `None` is an absent element. The name must come after all names in the list. The elements are taken
+    /// apart and not copied.
+    ///
+    /// # Errors
+    ///
+    /// `Memory`, if an allocation fails. The changes are then unchanged.
     pub fn push_row(
         &mut self,
         name: Name,
@@ -104,7 +108,7 @@ impl<A: Allocator> Changes<A> {
         Ok(())
     }
 
-    /// The changes that take these back: each with its halves before and after exchanged. It takes no memory.
+    /// Returns the changes that take these back: each has its halves before and after exchanged.
     pub fn inverse(self) -> Changes<A>
         ensures { result ≡ inverse self }
     {
@@ -115,7 +119,7 @@ impl<A: Allocator> Changes<A> {
         Changes { changes }
     }
 
-    /// Equal changes, or `Memory`.
+    /// Returns a copy, or `Memory`.
     pub fn copy(&self) -> Result<Changes<A>, Memory>
     where
         A: Clone,
@@ -134,7 +138,7 @@ impl<A: Allocator + Clone> Clone for Changes<A> {
     }
 }
 
-// Makes room for the changes of one more row: for no more than these, where they are the first.
+// Reserves room for the changes of one more row. An empty list gets room for exactly these.
 fn reserve_row<A: Allocator>(changes: &mut Vec<Change<A>, A>) -> Result<(), Memory>
     ensures items { changes.new.items ≡ changes.old.items }
     ensures len { vec_len changes.new ≡ vec_len changes.old }
@@ -148,7 +152,7 @@ fn reserve_row<A: Allocator>(changes: &mut Vec<Change<A>, A>) -> Result<(), Memo
     Ok(())
 }
 
-// Puts a change at the end of others that have room for it, if its halves are not the same.
+// Appends a change if its halves differ. The list must have room for it.
 fn push_if_other<A: Allocator>(changes: &mut Vec<Change<A>, A>, change: Change<A>)
     requires room { vec_len changes.old < vec_capacity changes.old }
     ensures items { changes.new.items ≡ changes.old.items ++ filter differs (change ∷ []) }

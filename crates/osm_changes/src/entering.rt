@@ -1,4 +1,4 @@
-//! The references of rows, entered among the users of a map: those of all rows of a map, and those of changed rows.
+//! Enters the references of rows in the users of a map: of all rows of a map, and of changed rows.
 ghost use Rattle.std.specs.Prelude.{◌≡◌, [], IfOk, OnErr, OnOk, map};
 ghost use Rattle.std.specs.List.{fold};
 ghost use Rattle.osm_elements.specs.Maps.{name_set};
@@ -16,7 +16,8 @@ use osm_refs::refs::refs_of;
 use osm_refs::users::Users;
 use std::alloc::Allocator;
 
-/// The users of a map, or `Memory`. It goes over the rows once, and costs their references, times a logarithm.
+/// Returns the users of a map, or `Memory`. It goes over the rows once, and takes time for their references, times a
+/// logarithm.
 pub fn users_of<A: Allocator + Copy>(alloc: A, rows: &OsmMap<A>) -> Result<Users<A>, Memory>
     ensures { IfOk result (λ users. users ≡ table_of rows.now) }
 {
@@ -27,7 +28,7 @@ pub fn users_of<A: Allocator + Copy>(alloc: A, rows: &OsmMap<A>) -> Result<Users
     Ok(users)
 }
 
-// Enters the row of a name that referred to nothing.
+// Enters the row of a name that did not refer to anything.
 fn enter_row<A: Allocator + Clone>(
     alloc: &A,
     users: &mut Users<A>,
@@ -41,7 +42,7 @@ fn enter_row<A: Allocator + Clone>(
     users.gain(alloc, *name, names.as_slice())
 }
 
-/// What changes of rows do to their references, or `Memory`.
+/// Returns the references that begin and cease with each changed row, or `Memory`.
 pub fn reference_changes<A: Allocator + Clone>(
     alloc: &A,
     rows: &OsmMap<A>,
@@ -58,7 +59,7 @@ pub fn reference_changes<A: Allocator + Clone>(
     Ok(changes)
 }
 
-/// Enters what changed rows begin to refer to. If an allocation fails, the users are unchanged.
+/// Enters the references that begin, or returns `Memory`.
 pub fn gain<A: Allocator + Clone>(
     alloc: &A,
     users: &mut Users<A>,
@@ -78,7 +79,7 @@ pub fn gain<A: Allocator + Clone>(
     Ok(())
 }
 
-/// Takes out again what changed rows began to refer to. It does not allocate.
+/// Removes the references that [`gain`] entered.
 pub fn give_back<A: Allocator>(users: &mut Users<A>, changes: &[ReferenceChange<A>])
     ensures { users.new ≡ fold given_back users.old changes.now }
 {
@@ -87,7 +88,7 @@ pub fn give_back<A: Allocator>(users: &mut Users<A>, changes: &[ReferenceChange<
     }
 }
 
-/// Takes out what changed rows cease to refer to. It does not allocate.
+/// Removes the references that cease.
 pub fn lose<A: Allocator>(users: &mut Users<A>, changes: &[ReferenceChange<A>])
     ensures { users.new ≡ fold lost users.old changes.now }
 {

@@ -11,7 +11,7 @@ use osm_elements::shared::Shared;
 use osm_elements::shared_tags::SharedTags;
 use std::alloc::{AllocError, Allocator};
 
-/// What stands in one part of a row: the tags, or the rest of a node, a way or a relation.
+/// The value in a cell: the tags of an element, or the rest of a node, a way or a relation.
 #[derive(Drop)]
 #[derive_where(Debug)]
 pub enum Half<A: Allocator> {
@@ -26,7 +26,7 @@ pub enum Half<A: Allocator> {
 }
 
 impl<A: Allocator> Half<A> {
-    /// An equal half, or `Memory`.
+    /// Returns a copy, or `Memory`.
     pub fn copy(&self) -> Result<Half<A>, Memory>
     where
         A: Clone,
@@ -52,7 +52,7 @@ impl<A: Allocator + Clone> Clone for Half<A> {
     }
 }
 
-/// An equal half, where there is one. The one refusal is want of memory.
+/// Returns a copy of a half if there is one, or `Memory`.
 pub(crate) fn copy_of<A: Allocator + Clone>(
     half: &Option<Half<A>>,
 ) -> Result<Option<Half<A>>, Memory>
@@ -64,7 +64,7 @@ pub(crate) fn copy_of<A: Allocator + Clone>(
     }
 }
 
-/// Whether both halves are there and the same, or neither is there.
+/// Returns whether both halves are there and the same, or neither is there.
 pub(crate) fn are_same_halves<A: Allocator>(one: &Option<Half<A>>, other: &Option<Half<A>>) -> bool
     ensures { result ≡ are_same_halves one.now other.now }
 {
@@ -75,7 +75,7 @@ pub(crate) fn are_same_halves<A: Allocator>(one: &Option<Half<A>>, other: &Optio
     }
 }
 
-// Whether two halves are the same.
+// Returns whether two halves are the same.
 fn is_same_half<A: Allocator>(one: &Half<A>, other: &Half<A>) -> bool
     ensures { result ≡ is_same_half one.now other.now }
 {

@@ -1,4 +1,4 @@
-//! Rows taken apart into their halves, and put together again.
+//! Takes rows apart into their halves, and puts them together again.
 ghost use Rattle.std.specs.Prelude.{◌≡◌, IfOk};
 ghost use Rattle.std.specs.Option.{option_copied};
 ghost use Rattle.osm_changes.specs.Halves.{half, half_in, rest_of, row_of, element_of};
@@ -10,7 +10,7 @@ use osm_elements::element::Element;
 use osm_elements::shared_tags::SharedTags;
 use std::alloc::Allocator;
 
-/// The tags of a row and its rest; neither where there is no row. It takes no memory.
+/// Returns the two halves of a row, its tags and its rest. An absent row has none.
 pub fn halves<A: Allocator>(row: Option<Element<A>>) -> (Option<Half<A>>, Option<Half<A>>)
     ensures tags { result.0 ≡ half Part.Tags row }
     ensures rest { result.1 ≡ half Part.Rest row }
@@ -24,7 +24,7 @@ pub fn halves<A: Allocator>(row: Option<Element<A>>) -> (Option<Half<A>>, Option
     }
 }
 
-// The tags of an element, and what is left of it.
+// Returns the tags and the rest of an element.
 fn taken_apart<A: Allocator>(element: Element<A>) -> (Half<A>, Half<A>)
     ensures tags { result.0 ≡ half_in Part.Tags element }
     ensures rest { result.1 ≡ half_in Part.Rest element }
@@ -36,7 +36,7 @@ fn taken_apart<A: Allocator>(element: Element<A>) -> (Half<A>, Half<A>)
     }
 }
 
-/// A copy of one half of a row; none where there is no row. The one refusal is want of memory.
+/// Returns a copy of one half of a row, or `Memory`. An absent row has no halves.
 pub fn half_of<A: Allocator + Clone>(
     part: Part,
     row: Option<&Element<A>>,
@@ -49,7 +49,7 @@ pub fn half_of<A: Allocator + Clone>(
     }
 }
 
-// A copy of one half of an element.
+// Returns a copy of one half of an element.
 fn half_in<A: Allocator + Clone>(part: Part, element: &Element<A>) -> Result<Half<A>, Memory>
     ensures { IfOk result (λ h. h ≡ half_in part element.now) }
 {
@@ -59,7 +59,7 @@ fn half_in<A: Allocator + Clone>(part: Part, element: &Element<A>) -> Result<Hal
     }
 }
 
-// A copy of what is left of an element without its tags.
+// Returns a copy of an element's rest.
 fn rest_of<A: Allocator + Clone>(element: &Element<A>) -> Result<Half<A>, Memory>
     ensures { IfOk result (λ h. h ≡ rest_of element.now) }
 {
@@ -73,7 +73,7 @@ fn rest_of<A: Allocator + Clone>(element: &Element<A>) -> Result<Half<A>, Memory
     }
 }
 
-/// The row of two halves; none unless both are there and fit. It takes no memory.
+/// Returns the row of two halves, or `None` unless both are there and fit.
 pub fn row_of<A: Allocator>(tags: Option<Half<A>>, rest: Option<Half<A>>) -> Option<Element<A>>
     ensures { result ≡ row_of tags rest }
 {
@@ -83,7 +83,7 @@ pub fn row_of<A: Allocator>(tags: Option<Half<A>>, rest: Option<Half<A>>) -> Opt
     }
 }
 
-// The element with these tags and this rest; none where the rest is tags too.
+// Returns the element with these tags and this rest, or `None` if `rest` is tags.
 fn element_of<A: Allocator>(tags: SharedTags<A>, rest: Half<A>) -> Option<Element<A>>
     ensures { result ≡ element_of tags rest }
 {

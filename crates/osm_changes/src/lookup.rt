@@ -1,4 +1,4 @@
-//! What rows are looked up in.
+//! Look-ups of rows by name.
 ghost use Rattle.std.specs.Prelude.{◌≡◌, List};
 ghost use Rattle.std.specs.Option.{option_copied};
 ghost use Rattle.osm_elements.specs.declared.element.Element.{Element};
@@ -14,7 +14,7 @@ use std::alloc::Allocator;
 pub trait Lookup<A: Allocator> {
     ghost rows: { Self → List (Name × Element A) };
 
-    /// Returns the element with this name, or none.
+    /// Returns the element with this name, if any.
     fn element(&self, name: &Name) -> Option<&Element<A>>
         ensures { option_copied result ≡ row_at (rows self.now) name.now };
 }

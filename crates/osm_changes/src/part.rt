@@ -5,6 +5,6 @@
 pub enum Part {
     /// The tags.
     Tags,
-    /// What a row has without its tags.
+    /// All that a row has apart from its tags.
     Rest,
 }

@@ -7,18 +7,18 @@ use osm_elements::name::Name;
 use std::alloc::Allocator;
 use std::marker::Model;
 
-/// A changed name with the element that it has after the changes; none where the row is gone.
+/// A changed name with its element after the changes.
 #[derive(Drop)]
 #[derive_where(Debug)]
 pub struct RowAfter<A: Allocator> {
     /// The changed name.
     pub name: Name,
-    /// Its element after the changes.
+    /// The element after the changes, or `None` if the row is removed.
     pub element: Option<Element<A>>,
 }
 
 impl<A: Allocator> RowAfter<A> {
-    /// An equal row, or `Memory`.
+    /// Returns a copy, or `Memory`.
     pub fn copy(&self) -> Result<RowAfter<A>, Memory>
     where
         A: Clone,
@@ -35,14 +35,14 @@ impl<A: Allocator> RowAfter<A> {
     }
 }
 
-/// The rows of the names that some changes tell of, as they are after them, in the order of the names.
+/// The rows of all changed names after the changes, in name order.
 #[derive(Drop)]
 #[derive_where(Debug)]
 pub struct RowsAfter<A: Allocator> {
     rows: Vec<RowAfter<A>, A>,
 }
 
-// Rows after changes are seen as the list of them.
+// Contracts model rows after changes as a plain list.
 impl<A: Allocator> Model for RowsAfter<A> {
     ghost use Rattle.std.specs.Prelude.{List};
     ghost use Rattle.osm_changes.specs.declared.row_after.RowAfter.{RowAfter};
@@ -53,14 +53,14 @@ impl<A: Allocator> Model for RowsAfter<A> {
 }
 
 impl<A: Allocator> RowsAfter<A> {
-    /// Takes the rows of a vector and gives them as a list, in their order. It takes no memory.
+    /// Makes a list of the rows of a vector, in their order.
     pub fn from_vec(rows: Vec<RowAfter<A>, A>) -> RowsAfter<A>
         ensures { result ≡ rows.items }
     {
         RowsAfter { rows }
     }
 
-    /// Gives the rows back as a vector, in their order. It takes no memory.
+    /// Returns the rows as a vector, in their order.
     pub fn into_vec(self) -> Vec<RowAfter<A>, A>
         ensures { result.items ≡ self }
     {
@@ -68,7 +68,7 @@ impl<A: Allocator> RowsAfter<A> {
         rows
     }
 
-    /// The rows in order.
+    /// Returns the rows as a slice, in their order.
     pub fn as_slice(&self) -> &[RowAfter<A>]
         ensures { result.now ≡ self.now }
     {

@@ -1,4 +1,4 @@
-//! What changes make of the rows of a map.
+//! The rows of a map after changes.
 ghost use Rattle.std.specs.Prelude.{◌≡◌, IfOk, map};
 ghost use Rattle.std.specs.Option.{option_copied};
 ghost use Rattle.osm_changes.specs.Cells.{IsRising};
@@ -17,8 +17,12 @@ use osm_elements::element::Element;
 use osm_elements::name::Name;
 use std::alloc::Allocator;
 
-/// The names that some changes tell of, in their order, each with its row in the map after the changes. The one
-/// refusal is want of memory. It costs a copy of these rows, and for each a look-up in the map and two in the changes.
+/// Returns the changed names in order, each with its row in the map after the changes. It copies these rows. For each
+/// row it takes a look-up in the map and two look-ups in the changes.
+///
+/// # Errors
+///
+/// `Memory`, if an allocation fails.
 pub fn rows_after<A: Allocator + Clone, R: Lookup<A>>(
     alloc: A,
     rows: &R,
@@ -31,7 +35,7 @@ pub fn rows_after<A: Allocator + Clone, R: Lookup<A>>(
     rows_of(alloc, rows, changes, &names)
 }
 
-// The names that some changes tell of, each once.
+// Returns the changed names, each once.
 fn changed_names<A: Allocator>(alloc: A, changes: &[Change<A>]) -> Result<Vec<Name, A>, Memory>
     requires { IsRising (changed_cells changes.now) }
     ensures { IfOk result (λ names. names.items ≡ changed_names changes.now) }
@@ -44,7 +48,7 @@ fn changed_names<A: Allocator>(alloc: A, changes: &[Change<A>]) -> Result<Vec<Na
     Ok(names)
 }
 
-// Some names, each with its row after changes.
+// Returns the names, each with its row after the changes.
 fn rows_of<A: Allocator + Clone, R: Lookup<A>>(
     alloc: A,
     rows: &R,
@@ -61,7 +65,7 @@ fn rows_of<A: Allocator + Clone, R: Lookup<A>>(
     Ok(told)
 }
 
-// A name with its row after changes.
+// Returns a name with its row after the changes.
 fn row_after<A: Allocator + Clone, R: Lookup<A>>(
     rows: &R,
     changes: &[Change<A>],
@@ -81,7 +85,7 @@ fn row_after<A: Allocator + Clone, R: Lookup<A>>(
     Ok(RowAfter { name, element })
 }
 
-// A copy of what changes make of a cell's half of a name's row.
+// Returns a copy of a cell's half after the changes, given the row before.
 fn half_after<A: Allocator + Clone>(
     changes: &[Change<A>],
     cell: Cell,

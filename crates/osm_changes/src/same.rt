@@ -1,4 +1,4 @@
-//! Whether rows, and what they contain, are the same.
+//! Tests of equality on rows and their contents.
 ghost use Rattle.std.specs.Prelude.{◌≡◌, ◌&&◌, length, map};
 ghost use Rattle.std.specs.Option.{option_copied};
 ghost use Rattle.osm_elements.specs.Maps.{is_same};
@@ -17,7 +17,7 @@ use osm_elements::tags::Tag;
 use osm_elements::text::is_same_text;
 use std::alloc::Allocator;
 
-/// Whether both rows are there and the same, or neither is there.
+/// Returns whether both rows are there and the same, or neither is there.
 pub fn is_same_row<A: Allocator>(one: &Option<Element<A>>, other: Option<&Element<A>>) -> bool
     ensures { result ≡ is_same_row one.now (option_copied other.entry) }
 {
@@ -28,7 +28,7 @@ pub fn is_same_row<A: Allocator>(one: &Option<Element<A>>, other: Option<&Elemen
     }
 }
 
-// Whether two elements are the same.
+// Returns whether two elements are the same.
 fn is_same_element<A: Allocator>(one: &Element<A>, other: &Element<A>) -> bool
     ensures { result ≡ is_same_element one.now other.now }
 {
@@ -61,21 +61,21 @@ fn is_same_element<A: Allocator>(one: &Element<A>, other: &Element<A>) -> bool
     }
 }
 
-/// Whether two lists have the same names in the same order.
+/// Returns whether two lists have the same names in the same order.
 pub fn are_same_names(one: &[Name], other: &[Name]) -> bool
     ensures { result ≡ are_same_names one.now other.now }
 {
     one == other
 }
 
-/// Whether two lists of tags are the same.
+/// Returns whether two lists of tags are the same.
 pub fn are_same_tags<A: Allocator>(one: &SharedTags<A>, other: &SharedTags<A>) -> bool
     ensures { result ≡ are_same_tags one.now other.now }
 {
     one.len() == other.len() && tags_begin_alike(one.rows(), other.rows())
 }
 
-// Whether the tags of the first list, as many as the second has, are those of the second.
+// Returns whether two lists of tags of the same length are the same.
 fn tags_begin_alike<A: Allocator>(one: &[Tag<A>], other: &[Tag<A>]) -> bool
     requires { length one.now ≡ length other.now }
     ensures { result ≡ are_same_tags (map tag_pair one.now) (map tag_pair other.now) }
@@ -88,21 +88,21 @@ fn tags_begin_alike<A: Allocator>(one: &[Tag<A>], other: &[Tag<A>]) -> bool
     true
 }
 
-// Whether two tags have the same key and the same value.
+// Returns whether two tags have the same key and the same value.
 fn is_same_tag<A: Allocator>(one: &Tag<A>, other: &Tag<A>) -> bool
     ensures { result ≡ (is_same_text one.now.key other.now.key && is_same_text one.now.value other.now.value) }
 {
     is_same_text(&one.key, &other.key) && is_same_text(&one.value, &other.value)
 }
 
-/// Whether two lists have the same members in the same order.
+/// Returns whether two lists have the same members in the same order.
 pub fn are_same_members<A: Allocator>(one: &Members<A>, other: &Members<A>) -> bool
     ensures { result ≡ are_same_members one.now other.now }
 {
     one.len() == other.len() && members_begin_alike(one.as_slice(), other.as_slice())
 }
 
-// Whether the members of the first list, as many as the second has, are those of the second.
+// Returns whether two lists of members of the same length are the same.
 fn members_begin_alike<A: Allocator>(one: &[Member<A>], other: &[Member<A>]) -> bool
     requires { length one.now ≡ length other.now }
     ensures { result ≡ are_same_members (map member_pair one.now) (map member_pair other.now) }
@@ -115,7 +115,7 @@ fn members_begin_alike<A: Allocator>(one: &[Member<A>], other: &[Member<A>]) -> 
     true
 }
 
-// Whether two members are the same element in the same role.
+// Returns whether two members have the same name and the same role.
 fn is_same_member<A: Allocator>(one: &Member<A>, other: &Member<A>) -> bool
     ensures { result ≡ (is_same one.now.name other.now.name && is_same_text one.now.role other.now.role) }
 {

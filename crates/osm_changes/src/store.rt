@@ -22,11 +22,11 @@ use osm_refs::users::Users;
 use std::alloc::{AllocError, Allocator};
 use std::marker::Model;
 
-/// A sound map, and for each name the names that refer to it. It counts the changes that are applied to it.
+/// A sound map, the users of each name, and the number of changes that were applied.
 ///
-/// A map is sound where each element is of its name's kind and keeps the limits of its type, each way has 2 to 2,000
-/// nodes and each relation at most 32,000 members, and every reference names an element that is there (OpenStreetMap
-/// API v0.6: nothing absent is named; the greatest lengths are this project's).
+/// A map is sound if each element is of its name's kind and keeps the limits of its type, each way has 2 to 2,000
+/// nodes, each relation has at most 32,000 members, and the map has every element that an element refers to
+/// (OpenStreetMap API v0.6: nothing absent is named; the greatest lengths are this project's).
 #[derive(Drop)]
 #[derive_where(Debug)]
 pub struct Store<A: Allocator> {
@@ -35,7 +35,7 @@ pub struct Store<A: Allocator> {
     applied: u128,
 }
 
-// A store is seen as its rows and its count.
+// Contracts model a store as its rows and its count.
 impl<A: Allocator> Model for Store<A> {
     ghost use Rattle.osm_changes.specs.Stores.{StoreState};
     ghost use Rattle.osm_changes.specs.Inner.Stores.{IsStore};
@@ -48,8 +48,7 @@ impl<A: Allocator> Model for Store<A> {
 }
 
 impl<A: Allocator> Store<A> {
-    /// A store of the empty map. It takes no memory. `A` is `Copy`, since a map and its users are made, and a `Clone`
-    /// may fail.
+    /// Returns a store of the empty map. `A` is `Copy` because two allocators are needed, and a `Clone` may fail.
     pub fn new(alloc: A) -> Store<A>
     where
         A: Copy,
@@ -62,8 +61,12 @@ impl<A: Allocator> Store<A> {
         }
     }
 
-    /// A store of a sound map, to which no change was applied. It costs the map's references, times a logarithm, and
-    /// copies no element. The one refusal is want of memory.
+    /// Makes a store of a sound map, with a count of 0. It takes time for the references of the map, times a logarithm,
+    /// and copies no element.
+    ///
+    /// # Errors
+    ///
+    /// `Memory`, if an allocation fails.
     pub fn from_map(alloc: A, map: OsmMap<A>) -> Result<Store<A>, Memory>
     where
         A: Copy,
@@ -79,7 +82,7 @@ impl<A: Allocator> Store<A> {
         })
     }
 
-    /// The map, which is sound.
+    /// Returns the map, which is sound.
     pub fn map(&self) -> &OsmMap<A>
         ensures map { result.now ≡ self.now.rows }
         ensures sound { is_sound self.now.rows ≡ true }
@@ -87,23 +90,26 @@ impl<A: Allocator> Store<A> {
         &self.map
     }
 
-    /// The users of the map.
+    /// Returns the users of the map.
     pub fn users(&self) -> &Users<A>
         ensures { result.now ≡ table_of self.now.rows }
     {
         &self.users
     }
 
-    /// How many changes were applied to the store, at most 2^128 - 1.
+    /// Returns the number of changes that were applied to the store, at most 2^128 - 1.
     pub fn applied(&self) -> u128
         ensures { result ≡ self.now.applied }
     {
         self.applied
     }
 
-    /// The names that some changes tell of, in their order, each with its row in the map after the changes; the store
-    /// stays as it is. The one refusal is want of memory. It costs a copy of these rows, and for each a look-up in the
-    /// map and two in the changes.
+    /// Returns the changed names in order, each with its row in the map after the changes. The store is unchanged. It
+    /// copies these rows. For each row it takes a look-up in the map and two look-ups in the changes.
+    ///
+    /// # Errors
+    ///
+    /// `Memory`, if an allocation fails.
     pub fn rows_after(&self, alloc: A, changes: &Changes<A>) -> Result<RowsAfter<A>, Memory>
     where
         A: Clone,
@@ -113,11 +119,16 @@ impl<A: Allocator> Store<A> {
         Ok(RowsAfter::from_vec(rows))
     }
 
-    /// Applies changes, each from what the map has, to a map that stays sound: each cell has the half that it has
-    /// after its change, each name both of its halves or none, and the count is higher by the number of changes. All
-    /// that asks for memory is done before the first change that cannot be taken back, so after a refusal, which is
-    /// want of memory, the store is as it was. It costs the rows of the changed names and the references that come and
-    /// go, times a logarithm, and never the map.
+    /// Applies changes and adds their number to the count. They must be from the store's map: each half before is the
+    /// map's, and each name afterwards has both halves or none. The map must stay sound.
+    ///
+    /// It takes time for the changed rows and for the references that begin or cease, times a logarithm. It does not go
+    /// over the whole map.
+    ///
+    /// # Errors
+    ///
+    /// `Memory`, if an allocation fails. The store is then unchanged: all allocations come before the first step that
+    /// cannot be taken back.
     pub fn apply(&mut self, alloc: A, changes: &Changes<A>) -> Result<(), Memory>
     where
         A: Clone,
@@ -130,8 +141,11 @@ impl<A: Allocator> Store<A> {
         self.apply_told(alloc, changes, &rows)
     }
 
-    /// Applies changes as [`apply`](Store::apply) does, where the rows after them are told: they are not worked out
-    /// again.
+    /// Applies changes as [`apply`](Store::apply) does, given the result of [`rows_after`](Store::rows_after) for them.
+    ///
+    /// # Errors
+    ///
+    /// `Memory`, if an allocation fails. The store is then unchanged.
     pub fn apply_told(
         &mut self,
         alloc: A,
@@ -156,7 +170,7 @@ impl<A: Allocator> Store<A> {
 }
 
 impl<A: Allocator> Store<A> {
-    /// A second store with an equal map and the same count, or `Memory`.
+    /// Returns a copy, or `Memory`.
     pub fn copy(&self) -> Result<Store<A>, Memory>
     where
         A: Clone,
@@ -180,15 +194,14 @@ impl<A: Allocator + Clone> Clone for Store<A> {
     }
 }
 
-// What is left to be done once all memory is taken: the rows of names that were there, and what rows cease to refer to.
+// The work that remains after all allocations: rows of names that were there or are removed, and references that cease.
 #[derive(Drop)]
 struct Prepared<A: Allocator> {
     others: Vec<RowAfter<A>, A>,
     changes: Vec<ReferenceChange<A>, A>,
 }
 
-// Does all of some changes that allocates: enters what rows begin to refer to, and puts the rows of names that were
-// absent. After a refusal map and users are unchanged.
+// Does all that allocates: enters the references that begin, and puts the rows of new names.
 fn prepare<A: Allocator + Clone>(
     alloc: A,
     rows: &mut OsmMap<A>,

@@ -1,4 +1,4 @@
--- A text is read as a coordinate exactly where it has the form of one.
+-- A text is read as a coordinate if and only if it has a coordinate's form.
 use Rattle.std.proofs.Common.{◌≡◌, ◌≢◌, ℕ, ◌+◌, ◌*◌, ◌<◌, Bool, true, false, cond, List, [], ◌∷◌, ◌++◌, length, take, drop, get_or, Option, Some, None, ℤ, pos, neg_ℤ, length-append, refl, sym, ap, ◌∙◌, inl, inr, add-one, append-nil, arith}
 use Rattle.std.specs.Prelude.{◌==◌, ◌&&◌, ◌↔◌, nat_lt, not, suc}
 use Rattle.std.specs.Char.{is_ascii_digit}
@@ -14,12 +14,12 @@ use Rattle.osm_coords.specs.Coordinate.{is_numeral, numeral, filled, fraction, m
 use Rattle.osm_coords.specs.Form.{SaysMagnitude, SaysCoordinate}
 use Rattle.osm_coords.proofs.Numerals.{chosen, numeral-some, from_is_numeral, coordinate-unsigned}
 
--- two tests that hold together
+-- two tests that both pass
 pub both : (a b : Bool) → (a && b) ≡ true → (a ≡ true) × (b ≡ true)
 both true b e = (refl, e)
 both false b e = cc
 
--- what a value says that went through `option_map`, or through `option_and_then`
+-- a result of `option_map` or `option_and_then` comes from a value that was there
 mapped : {A : Type 0} (f : ℕ → A) (o : Option ℕ) (y : A) → option_map f o ≡ Some y → (n : ℕ) × (o ≡ Some n) × (f n ≡ y)
 mapped f None y e = cc
 mapped f (Some n) y e = (n, refl, cc)
@@ -41,7 +41,7 @@ cut_at_point text i e =
     let point : get_or text (position_or_len (λ c. c == 46) text) 0 ≡ 46 = grind (arith, nat_tests, stops) in
     cut text i (rw found.1 at within) (rw found.1 at point)
 
--- the first point stands behind digits
+-- digits in front of the first point do not move it
 position_or_len-digits : (xs ys : List ℕ) → all_ascii_digits xs ≡ true → position_or_len (λ c. c == 46) (xs ++ 46 ∷ ys) ≡ length xs
 position_or_len-digits [] ys e = refl
 position_or_len-digits (x ∷ xs) ys e =
@@ -49,7 +49,7 @@ position_or_len-digits (x ∷ xs) ys e =
     let other : (x == 46) ≡ false = grind (arith, nat_tests) in
     rw (other, position_or_len-digits xs ys parts.1) (omega arith)
 
--- so that is where the text is cut
+-- so the text is cut there
 position-digits : (xs ys : List ℕ) → all_ascii_digits xs ≡ true → position (λ c. c == 46) (xs ++ 46 ∷ ys) ≡ Some (length xs)
 position-digits xs ys e =
     grind (arith, nat_tests, position_or_len-digits xs ys e, length-append xs (46 ∷ ys))
@@ -71,11 +71,11 @@ no_point (x ∷ xs) e =
 position-none : (text : List ℕ) → all_ascii_digits text ≡ true → position (λ c. c == 46) text ≡ None
 position-none text e = grind (arith, nat_tests, no_point text e)
 
--- the same sum
+-- two equal sums
 same_sum : (w p v q n : ℕ) → v ≡ w → q ≡ p → w * 10000000 + p ≡ n → n ≡ v * 10000000 + q
 same_sum w p v q n front back sum = omega arith
 
--- what is read has the form
+-- a text that is read has the form
 says_at : (text : List ℕ) (point : Option ℕ) (n : ℕ) → position (λ c. c == 46) text ≡ point → magnitude_by_point text point ≡ Some n → SaysMagnitude text n
 says_at text None n at e =
     let whole = mapped (λ w. w * 10000000) (numeral 3 text) n e in
@@ -98,7 +98,7 @@ says_at text (Some i) n at e =
 magnitude-says : (text : List ℕ) (n : ℕ) → magnitude text ≡ Some n → SaysMagnitude text n
 magnitude-says text n e = says_at text (position (λ c. c == 46) text) n refl e
 
--- what has the form is read
+-- a text that has the form is read
 magnitude-said : (text : List ℕ) (n : ℕ) → SaysMagnitude text n → magnitude text ≡ Some n
 magnitude-said text n (inl s) =
     let t = from_is_numeral 3 text s.digits in
@@ -129,7 +129,7 @@ says-first text n (inr s) rest same =
     let t = from_is_numeral 3 s.whole s.whole_digits in
     digits-first s.whole (46 ∷ s.decimals) rest t.0 t.2 (sym s.parts ∙ same)
 
--- what is read with its sign has the form
+-- a text that is read with its sign has the form
 signed : (c : ℕ) (rest : List ℕ) (z : ℤ) (minus : Bool) → (c == 45) ≡ minus → cond minus (option_map (λ n. neg_ℤ (pos n)) (magnitude rest)) (option_map pos (magnitude (c ∷ rest))) ≡ Some z → SaysCoordinate (c ∷ rest) z
 signed c rest z true is e =
     let same : c ≡ 45 = grind (arith, nat_tests) in
@@ -149,6 +149,6 @@ coordinate-said text z (inl s) =
 coordinate-said text z (inr s) =
     rw (s.minus, magnitude-said s.unsigned s.size s.says) (ap (λ (y : ℤ). Some y) (sym s.value))
 
--- a text is read exactly where it has the form
+-- a text is read if and only if it has the form
 pub coordinate_is_said : (text : List ℕ) (z : ℤ) → (coordinate text ≡ Some z) ↔ SaysCoordinate text z
 coordinate_is_said text z = (coordinate-says text z, coordinate-said text z)

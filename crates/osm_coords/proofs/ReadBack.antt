@@ -1,4 +1,4 @@
--- Reading what was written gives the value.
+-- A written coordinate is read back as the same value.
 use Rattle.std.proofs.Common.{◌≡◌, ℕ, zero, suc, ◌+◌, ◌*◌, ◌/◌, ◌%◌, ◌^◌, ◌<◌, ◌≤◌, true, List, [], ◌∷◌, ◌++◌, length, refl, ap, ◌-◌, lit<, add-one, unsigned_abs, append-nil, ◌∙◌, arith, Some, length-append, ℤ, pos, negsuc}
 use Rattle.std.specs.Char.{digit_value, is_ascii_digit}
 use Rattle.std.specs.Str.{all_ascii_digits}
@@ -19,11 +19,11 @@ use Rattle.std.proofs.lemmas.Str.{IsAscii-append}
 use Rattle.std.proofs.lemmas.Str.Ascii.{IsAscii-cons}
 use Rattle.std.proofs.lemmas.Fmt.{IsAscii-from_digits}
 
--- a byte that ends the decimal text is a digit
+-- the value of a written digit
 digit_value-digit : (d : ℕ) → d < 10 → digit_value (48 + d) ≡ d
 digit_value-digit d small = grind (arith, nat_tests)
 
--- a digit more at the end
+-- digits with another digit at the end are digits
 all_ascii_digits-push : (xs : List ℕ) (d : ℕ) → all_ascii_digits xs ≡ true → d < 10 → all_ascii_digits (xs ++ (48 + d) ∷ []) ≡ true
 all_ascii_digits-push [] d e small = grind (arith, nat_tests)
 all_ascii_digits-push (x ∷ xs) d e small =
@@ -48,11 +48,11 @@ digits_value-last_digits (suc count) n small =
     let front = digits_value-last_digits count (n / 10) (omega arith) in
     digits_value_push 10 (last_digits count (n / 10)) (48 + n % 10) ∙ rw (digit_value-digit (n % 10) (omega arith), front) (omega arith)
 
--- the digits of a number of whole degrees
+-- a number of whole degrees below 1000 has enough digits
 digit_count-enough : (n : ℕ) → n < 1000 → (0 < digit_count n) × (digit_count n ≤ 3) × (n < 10 ^ digit_count n)
 digit_count-enough n small = grind (arith, nat_tests)
 
--- enough of the last digits write the number
+-- last digits, if there are enough of them, denote the number
 numeral-last_digits : (most count n : ℕ) → 0 < count → count ≤ most → n < 10 ^ count → numeral most (last_digits count n) ≡ Some n
 numeral-last_digits most count n some few small =
     let long = length-last_digits count n in
@@ -65,7 +65,7 @@ fraction-seven text n seven digits e =
     let missing : 7 - length text ≡ 0 = omega arith in
     rw (to_is_numeral 7 text (omega arith) (omega arith) digits, missing, append-nil, e) refl
 
--- reading what was written for a number with no sign
+-- the text of a number without a sign is read back
 magnitude-written : (n : ℕ) → n < 10 ^ 10 → magnitude (written_magnitude n) ≡ Some n
 magnitude-written n small =
     let whole = digit_count-enough (n / 10000000) (omega arith) in
@@ -76,7 +76,7 @@ magnitude-written n small =
     (fraction-seven (last_digits 7 (n % 10000000)) (n % 10000000) (length-last_digits 7 (n % 10000000)) (all_ascii_digits-last_digits 7 (n % 10000000)) (digits_value-last_digits 7 (n % 10000000) below))
     ∙ ap (λ (v : ℕ). Some v) (omega arith)
 
--- reading what was written for a number of up to 999 whole degrees
+-- the text of a number of up to 999 whole degrees is read back
 coordinate-written : (z : ℤ) → unsigned_abs z < 10 ^ 10 → coordinate (written z) ≡ Some z
 coordinate-written (pos n) small =
     let enough = digit_count-enough (n / 10000000) (omega arith) in
@@ -90,19 +90,19 @@ coordinate-written (negsuc n) small =
 value_within-kept : (limit : ℕ) (z : ℤ) → IsWithin limit z → value_within limit z ≡ Some z
 value_within-kept limit z h = grind (arith, nat_tests, ints)
 
--- and it is small
+-- a value in range is small
 small_within : (limit : ℕ) (z : ℤ) → limit < 10 ^ 10 → IsWithin limit z → unsigned_abs z < 10 ^ 10
 small_within limit z small h = grind (arith, ints)
 
--- reading what was written for a latitude gives it back
+-- the text of a latitude is read back
 pub latitude_read_back : (z : ℤ) → IsLatitude z → latitude_of (written z) ≡ Some z
 latitude_read_back z h = rw (coordinate-written z (small_within 900000000 z (lit< tt) h)) (value_within-kept 900000000 z h)
 
--- and likewise for a longitude
+-- the text of a longitude is read back
 pub longitude_read_back : (z : ℤ) → IsLongitude z → longitude_of (written z) ≡ Some z
 longitude_read_back z h = rw (coordinate-written z (small_within 1800000000 z (lit< tt) h)) (value_within-kept 1800000000 z h)
 
--- the text of a number of up to 999 whole degrees has at most 12 bytes
+-- a text has at most 11 bytes without its sign, and at most 12 with it
 length-written_magnitude : (n : ℕ) → n < 10 ^ 10 → length (written_magnitude n) ≤ 11
 length-written_magnitude n small =
     let enough = digit_count-enough (n / 10000000) (omega arith) in
@@ -119,7 +119,7 @@ written_fits (negsuc n) h =
     let small : suc n < 10 ^ 10 = small_within 1800000000 (negsuc n) (lit< tt) h in
     omega (arith, length-written_magnitude (n + 1) (omega arith))
 
--- a text of a coordinate is ASCII
+-- the text of a coordinate is ASCII
 IsAscii-last_digits : (count n : ℕ) → IsAscii (last_digits count n)
 IsAscii-last_digits count n = IsAscii-from_digits (last_digits count n) (own.to (last_digits count n) (all_ascii_digits-last_digits count n))
 

@@ -8,10 +8,10 @@ use Rattle.osm_coords.specs.Range.{value_within, IsWithin}
 abbrev pub IsLatitude : ℤ → Type 0
 IsLatitude z = IsWithin 900000000 z
 
--- z, where it is a latitude
+-- z if it is a latitude, otherwise none
 abbrev pub latitude : ℤ → Option ℤ
 latitude z = value_within 900000000 z
 
--- the latitude that a text says, where it says one
+-- the latitude that a text denotes, if any
 abbrev pub latitude_of : List ℕ → Option ℤ
 latitude_of text = option_and_then latitude (coordinate text)

@@ -9,10 +9,10 @@ use Rattle.osm_coords.specs.Range.{value_within, IsWithin}
 abbrev pub IsLongitude : ℤ → Type 0
 IsLongitude z = IsWithin 1800000000 z
 
--- z, where it is a longitude
+-- z if it is a longitude, otherwise none
 abbrev pub longitude : ℤ → Option ℤ
 longitude z = value_within 1800000000 z
 
--- the longitude that a text says, where it says one
+-- the longitude that a text denotes, if any
 abbrev pub longitude_of : List ℕ → Option ℤ
 longitude_of text = option_and_then longitude (coordinate text)

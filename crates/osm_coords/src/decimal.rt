@@ -4,19 +4,19 @@ ghost use Rattle.std.specs.Option.{option_map};
 ghost use Rattle.osm_coords.specs.Coordinate.{numeral, fraction, magnitude, coordinate};
 ghost use Rattle.osm_coords.specs.Written.{last_digits, digit_count, written};
 
-/// How many ten-millionths a degree has.
+/// The number of ten-millionths in a degree.
 const UNITS_PER_DEGREE: u32 = 10_000_000;
 
-/// At most how many digits stand before the point.
+/// The most digits in front of the point.
 const WHOLE_DIGITS: usize = 3;
 
-/// At most how many digits stand after the point.
+/// The most digits after the point.
 const DECIMALS: usize = 7;
 
-/// The length of the longest text of a coordinate, as `-180.0000000`, in bytes.
+/// The length in bytes of the longest text of a coordinate, for example `-180.0000000`.
 pub const COORDINATE_LENGTH: usize = 12;
 
-/// The ten-millionths that a text says, or `None` where it does not have a coordinate's form.
+/// Reads a text as ten-millionths of a degree. Returns `None` if the text does not have a coordinate's form.
 #[tactic(auto, using(crate::proofs::Numerals::coordinate_without_minus))]
 pub fn read(text: &str) -> Option<i64>
     ensures { result ≡ coordinate text.now }
@@ -27,7 +27,7 @@ pub fn read(text: &str) -> Option<i64>
     }
 }
 
-/// The ten-millionths that a text with no sign says.
+/// Reads a text without a sign.
 fn magnitude(text: &str) -> Option<i64>
     ensures { result ≡ option_map pos (magnitude text.now) }
 {
@@ -39,7 +39,7 @@ fn magnitude(text: &str) -> Option<i64>
     Some(i64::from(degrees) * i64::from(UNITS_PER_DEGREE) + i64::from(part))
 }
 
-/// The ten-millionths that the digits after the point say.
+/// Reads the digits after the point.
 #[tactic(auto, using(crate::proofs::Numerals::fraction_by_numeral))]
 fn fraction(digits: &str) -> Option<u32>
     ensures { result ≡ fraction digits.now }
@@ -49,20 +49,20 @@ fn fraction(digits: &str) -> Option<u32>
     Some(value * 10_u32.pow(missing as u32))
 }
 
-/// The number that a text of one to `most` ASCII digits writes, and `None` of any other text.
+/// Reads a text of one to `most` ASCII digits as a number. Returns `None` for any other text.
 #[tactic(auto, using(crate::proofs::Numerals::numeral_parsed, crate::proofs::Numerals::numeral_of_plus, crate::proofs::Numerals::numeral_of_long))]
 fn numeral(text: &str, most: usize) -> Option<u32>
     requires { most ≤ 9 }
     ensures { result ≡ numeral most text.now }
 {
-    // `parse` would take a plus.
+    // `parse` would accept a plus sign.
     if text.len() > most || text.starts_with('+') {
         return None;
     }
     text.parse().ok()
 }
 
-/// Writes the text of a coordinate at the front of the buffer, and answers how many bytes it has.
+/// Writes the text of a coordinate to the start of the buffer, and returns its length in bytes.
 pub fn write(units: i32, buffer: &mut [u8; COORDINATE_LENGTH]) -> usize
     requires { unsigned_abs units ≤ 1800000000 }
     ensures fits { result ≤ 12 }
@@ -83,7 +83,7 @@ pub fn write(units: i32, buffer: &mut [u8; COORDINATE_LENGTH]) -> usize
     end
 }
 
-/// How many digits a number of whole degrees has.
+/// Returns how many digits a whole number of degrees below 1000 has.
 fn digit_count(degrees: u32) -> usize
     ensures { result ≡ digit_count degrees }
 {

@@ -12,7 +12,7 @@ const LIMIT: u32 = 900_000_000;
 
 /// A latitude: whole ten-millionths of a degree, from -90 to 90 degrees.
 ///
-/// Contracts see it as that whole number.
+/// Contracts model it as that whole number.
 #[derive(Clone, Copy, Debug, PartialEq, Eq, PartialOrd, Ord, Hash)]
 pub struct Lat {
     ten_millionths: i32,
@@ -32,7 +32,7 @@ impl Model for Lat {
 }
 
 impl Lat {
-    /// The latitude of so many ten-millionths of a degree, or `None` where they are out of range.
+    /// Returns the latitude of `ten_millionths` of a degree, or `None` if the number is out of range.
     pub fn new(ten_millionths: i32) -> Option<Lat>
         ensures { result ≡ latitude ten_millionths }
     {
@@ -40,7 +40,7 @@ impl Lat {
         Some(Lat { ten_millionths })
     }
 
-    /// The ten-millionths of a degree.
+    /// Returns the latitude in ten-millionths of a degree.
     pub fn value(self) -> i32
         ensures value { result ≡ self }
         ensures range { IsLatitude result }
@@ -48,10 +48,10 @@ impl Lat {
         self.ten_millionths
     }
 
-    /// The latitude that a text says, as `51.5`, `-0.0000001` or `007.5`.
+    /// Reads a latitude from a text, for example `51.5`, `-0.0000001` or `007.5`.
     ///
-    /// `None` where the text does not have a coordinate's form, as `+5`, `.5`, `5.`, ` 5` or one
-    /// with eight decimals, and where its value is out of range.
+    /// Returns `None` if the value is out of range, or if the text does not have a coordinate's form. For example,
+    /// `+5`, `.5`, `5.`, ` 5` and texts with eight decimals do not have this form.
     pub fn read(text: &str) -> Option<Lat>
         ensures { result ≡ latitude_of text.now }
     {
@@ -59,10 +59,10 @@ impl Lat {
         Some(Lat { ten_millionths })
     }
 
-    /// Writes the text at the front of the buffer, and answers how many bytes it has.
+    /// Writes the latitude as a text to the start of the buffer, and returns the text's length in bytes, at most 12.
     ///
-    /// The text is a `-` where the value is negative, the degrees with no needless zero in front, a
-    /// point, and exactly seven digits. The rest of the buffer stays as it was.
+    /// The text is a `-` if the value is negative, the degrees without a needless leading zero, a point, and exactly
+    /// seven digits. The rest of the buffer is unchanged.
     #[tactic(auto, using(crate::proofs::ReadBack::written_is_ascii))]
     pub fn write(&self, buffer: &mut [u8; COORDINATE_LENGTH]) -> usize
         ensures fits { result ≤ 12 }
@@ -73,8 +73,7 @@ impl Lat {
         decimal::write(self.ten_millionths, buffer)
     }
 
-    /// The latitude that is `by` ten-millionths of a degree further, or `None` where that is out of
-    /// range.
+    /// Returns the sum of the latitude and `by` ten-millionths of a degree, or `None` if the sum is out of range.
     pub fn moved(self, by: i64) -> Option<Lat>
         ensures { result ≡ latitude (self +ℤ by) }
     {

@@ -1,13 +1,14 @@
 //! The latitude and the longitude of an OpenStreetMap node.
 //!
-//! A node's latitude lies in -90 to 90 degrees and its longitude in -180 to 180, both kept to seven
-//! decimals (OpenStreetMap wiki, "Node"). So a coordinate is a whole number of ten-millionths of a
-//! degree: [`Lat`] has one in `-900000000..=900000000`, and [`Lon`] one in
-//! `-1800000000..=1800000000`. No call of this crate takes memory, rounds, wraps or clamps.
+//! A latitude lies in -90 to 90 degrees and a longitude in -180 to 180, both kept to seven decimals (OpenStreetMap
+//! wiki, "Node"). So a coordinate is a whole number of ten-millionths of a degree: [`Lat`] holds a number in
+//! `-900000000..=900000000`, and [`Lon`] a number in `-1800000000..=1800000000`.
 //!
-//! A coordinate's text is an optional `-`, one to three ASCII digits, and optionally a `.` and one
-//! to seven digits, with nothing before or after. There is no `FromStr` and no `Display`: the error
-//! of the first would say no more than `None`.
+//! The text of a coordinate is an optional `-`, one to three ASCII digits, and optionally a `.` and one to seven
+//! digits, and nothing else.
+//!
+//! No function of this crate allocates, rounds, wraps or clamps. A value out of range, or a text without this form,
+//! gives `None`. There is no `FromStr`, because its error would say no more than `None`, and no `Display`.
 #![tactic(auto)]
 
 mod decimal;

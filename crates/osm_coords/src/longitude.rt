@@ -12,8 +12,8 @@ const LIMIT: u32 = 1_800_000_000;
 
 /// A longitude: whole ten-millionths of a degree, from -180 to 180 degrees.
 ///
-/// Contracts see it as that whole number. Longitudes do not wrap: 180 and -180 are different
-/// values, and a move past either end gives `None` ([`Lon::moved`]).
+/// Contracts model it as that whole number. Longitudes do not wrap: 180 and -180 are different values, and a move past
+/// either end gives `None` ([`Lon::moved`]).
 #[derive(Clone, Copy, Debug, PartialEq, Eq, PartialOrd, Ord, Hash)]
 pub struct Lon {
     ten_millionths: i32,
@@ -33,7 +33,7 @@ impl Model for Lon {
 }
 
 impl Lon {
-    /// The longitude of so many ten-millionths of a degree, or `None` where they are out of range.
+    /// Returns the longitude of `ten_millionths` of a degree, or `None` if the number is out of range.
     pub fn new(ten_millionths: i32) -> Option<Lon>
         ensures { result ≡ longitude ten_millionths }
     {
@@ -41,7 +41,7 @@ impl Lon {
         Some(Lon { ten_millionths })
     }
 
-    /// The ten-millionths of a degree.
+    /// Returns the longitude in ten-millionths of a degree.
     pub fn value(self) -> i32
         ensures value { result ≡ self }
         ensures range { IsLongitude result }
@@ -49,10 +49,10 @@ impl Lon {
         self.ten_millionths
     }
 
-    /// The longitude that a text says, as `51.5`, `-0.0000001` or `007.5`.
+    /// Reads a longitude from a text, for example `51.5`, `-0.0000001` or `007.5`.
     ///
-    /// `None` where the text does not have a coordinate's form, as `+5`, `.5`, `5.`, ` 5` or one
-    /// with eight decimals, and where its value is out of range.
+    /// Returns `None` if the value is out of range, or if the text does not have a coordinate's form. For example,
+    /// `+5`, `.5`, `5.`, ` 5` and texts with eight decimals do not have this form.
     pub fn read(text: &str) -> Option<Lon>
         ensures { result ≡ longitude_of text.now }
     {
@@ -60,10 +60,10 @@ impl Lon {
         Some(Lon { ten_millionths })
     }
 
-    /// Writes the text at the front of the buffer, and answers how many bytes it has.
+    /// Writes the longitude as a text to the start of the buffer, and returns the text's length in bytes, at most 12.
     ///
-    /// The text is a `-` where the value is negative, the degrees with no needless zero in front, a
-    /// point, and exactly seven digits. The rest of the buffer stays as it was.
+    /// The text is a `-` if the value is negative, the degrees without a needless leading zero, a point, and exactly
+    /// seven digits. The rest of the buffer is unchanged.
     #[tactic(auto, using(crate::proofs::ReadBack::written_is_ascii))]
     pub fn write(&self, buffer: &mut [u8; COORDINATE_LENGTH]) -> usize
         ensures fits { result ≤ 12 }
@@ -74,8 +74,7 @@ impl Lon {
         decimal::write(self.ten_millionths, buffer)
     }
 
-    /// The longitude that is `by` ten-millionths of a degree further, or `None` where that is out of
-    /// range.
+    /// Returns the sum of the longitude and `by` ten-millionths of a degree, or `None` if the sum is out of range.
     pub fn moved(self, by: i64) -> Option<Lon>
         ensures { result ≡ longitude (self +ℤ by) }
     {

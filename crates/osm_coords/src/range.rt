@@ -2,7 +2,7 @@
 ghost use Rattle.std.specs.Prelude.{◌≡◌, ◌<◌, ◌^◌, ◌+ℤ◌};
 ghost use Rattle.osm_coords.specs.Range.{value_within};
 
-/// `units` where they lie in `-limit..=limit`, and else `None`.
+/// Returns `units` if they lie in `-limit..=limit`, otherwise `None`.
 pub fn value_within(limit: u32, units: i64) -> Option<i32>
     requires { limit < 2 ^ 31 }
     ensures { result ≡ value_within limit units }
@@ -14,7 +14,7 @@ pub fn value_within(limit: u32, units: i64) -> Option<i32>
     }
 }
 
-/// The sum of `units` and `by` where it lies in `-limit..=limit`, and else `None`.
+/// Returns the sum of `units` and `by` if it lies in `-limit..=limit`, otherwise `None`.
 pub fn moved(limit: u32, units: i32, by: i64) -> Option<i32>
     requires { limit < 2 ^ 31 }
     ensures { result ≡ value_within limit (units +ℤ by) }

@@ -1,5 +1,5 @@
--- The first user of a name in a draft: the lesser of the first one of the store that was not written, and the first
--- one that was.
+-- The first user of a name in a draft: the lesser of the store's first user that was not written and the first user
+-- among the written rows.
 use Rattle.std.proofs.Common.{◌≡◌, ◌||◌, ◌++◌, Bool, true, false, not, cond, T, List, [], ◌∷◌, Option, Some, None, refl, sym, ap, subst, ◌∙◌, slice_get}
 use Rattle.std.specs.List.{filter, find, flat_map}
 use Rattle.std.specs.Ordering.{ord_min, is_eq, is_lt, ordering_reverse}
@@ -33,7 +33,7 @@ not_less_itself x = by (name_cmp x x) (is_eq-name_cmp_itself x)
     by Equal e = refl
     by Greater e = refl
 
--- what is not less than o is not less than y, if o is not less than y
+-- if x is not less than o, and o is not less than y, then x is not less than y
 not_less_still : (x y o : Name) → is_lt (name_cmp x o) ≡ false → is_lt (name_cmp o y) ≡ false → is_lt (name_cmp x y) ≡ false
 not_less_still x y o p q = by (is_lt (name_cmp x y)) refl
   where
@@ -59,7 +59,7 @@ not_less_among x (z ∷ zs) low q h = by (is_same q z) refl h (not_less_among x 
     by true e h go = ap (λ y. is_lt (name_cmp y x)) (same_names q z e) ∙ not_less x z (first _ _ low)
     by false e h go = go h
 
--- one of some names, and none of them is less
+-- the name is in the list, and no name of the list is less
 record IsLeast (names : List Name) (a : Name) : Type 0 where
   there : is_among names a ≡ true
   low : (q : Name) → is_among names q ≡ true → is_lt (name_cmp q a) ≡ false
@@ -67,7 +67,7 @@ record IsLeast (names : List Name) (a : Name) : Type 0 where
 itself_among : (x : Name) (xs : List Name) → is_among (x ∷ xs) x ≡ true
 itself_among x xs = ap (λ b. b || is_among xs x) (is_eq-name_cmp_itself x)
 
--- of rising names the first is the least
+-- the first of rising names is the least
 first_least : (zs : List Name) → IsRising zs → (a : Name) → slice_get zs 0 ≡ Some a → IsLeast zs a
 first_least [] rise a e = absurd (cc)
 first_least (x ∷ xs) rise a e = subst (IsLeast (x ∷ xs)) is (record { there = itself_among x xs; low = low })
@@ -106,7 +106,7 @@ least_is : (xs : List Name) (a : Name) → IsLeast xs a → least xs ≡ Some a
 least_is [] a is = absurd (cc (is.there))
 least_is (x ∷ xs) a is = by (is_same a x) refl is.there (λ rest. least_is xs a rest)
   where
-    -- no other name of the list is less than the first one, which it is
+    -- a is the first name, and no later name is less
     kept : (o : Option Name) → least xs ≡ o → a ≡ x → Some (lesser x o) ≡ Some a
     kept None f same = ap Some (sym same)
     kept (Some y) f same =
@@ -117,7 +117,7 @@ least_is (x ∷ xs) a is = by (is_same a x) refl is.there (λ rest. least_is xs 
         always true = refl
         always false = refl
 
-    -- and the first one is not less than it
+    -- a is a later name, and the first name is not less
     other : (r : Ordering) → name_cmp a x ≡ r → is_same a x ≡ false → is_lt (name_cmp x a) ≡ false → cond (is_lt r) a x ≡ a
     other Less e f h = refl
     other Equal e f h = sym (name_cmp-IsAntisymmetric a x e)
@@ -137,7 +137,7 @@ no_least : (xs : List Name) → ((q : Name) → is_among xs q ≡ false) → lea
 no_least [] none = refl
 no_least (x ∷ xs) none = absurd (cc (itself_among x xs, none x))
 
--- the lesser of two names, if there are two
+-- the lesser of two optional names
 abbrev pub lower : Option Name → Option Name → Option Name
 lower None own = own
 lower (Some a) None = Some a
@@ -147,12 +147,12 @@ or_nothing : (b : Bool) → (b || false) ≡ b
 or_nothing true = refl
 or_nothing false = refl
 
--- the least of all names of two rising lists
+-- the lesser of the first names of two rising lists is the least of all their names
 both_firsts : (xs ys us : List Name) → IsRising xs → IsRising ys → ((q : Name) → is_among us q ≡ (is_among xs q || is_among ys q))
     → lower (slice_get xs 0) (slice_get ys 0) ≡ least us
 both_firsts xs ys us rise rise' are = by (slice_get xs 0) refl (slice_get ys 0) refl
   where
-    -- a name of both lists is not less than one that is below the least of each
+    -- if no name of either list is less than c, no name of both together is
     low_in_both : (c : Name) → ((q : Name) → is_among xs q ≡ true → is_lt (name_cmp q c) ≡ false) → ((q : Name) → is_among ys q ≡ true → is_lt (name_cmp q c) ≡ false)
         → (q : Name) → is_among us q ≡ true → is_lt (name_cmp q c) ≡ false
     low_in_both c one two q h = split (is_among xs q) refl (is_among ys q) refl (sym (are q) ∙ h)

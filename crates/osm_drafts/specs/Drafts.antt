@@ -7,16 +7,16 @@ use Rattle.osm_elements.specs.Maps.{Rows, is_among, is_present}
 use Rattle.osm_elements.specs.Rows.{put_row, AreInOrder}
 use Rattle.osm_refs.specs.Tables.{Table, table_of}
 
--- a name that was not written
+-- the name if it was not written, otherwise nothing
 abbrev pub unwritten : List Name → Name → List Name
 unwritten written u = if is_among written u then [] else u ∷ []
 
 module _ {A : Type 0} where
-  -- the rows of the names that were not written, and the rows that were
+  -- the map's rows of the names that were not written, and the written rows
   abbrev pub drafted : Rows A → List Name → Rows A → Rows A
   drafted m written here = fold (λ n (r : Name × Element A). put_row n r.0 r.1) (filter (λ r. not (is_among written r.0)) m) here
 
-  -- each row that is there was written, and the users are those of these rows
+  -- the names rise, each row that is there was written, and the users are those of these rows
   pub record IsDraft (written : List Name) (here : Rows A) (users : Table) : Type 0 where
     pub order : AreInOrder here
     pub inside : (x : Name) → is_present here x ≡ true → is_among written x ≡ true

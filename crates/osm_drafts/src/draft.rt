@@ -1,4 +1,4 @@
-//! Drafts: a store that stays as it is, with rows written over it.
+//! Drafts: a borrowed store with rows written over it.
 ghost use Rattle.std.specs.Prelude.{◌≡◌, ◌++◌, not, true, IfOk, OnOk};
 ghost use Rattle.std.specs.List.{find, flat_map, fold};
 ghost use Rattle.std.specs.Option.{option_copied};
@@ -24,20 +24,20 @@ use std::alloc::Allocator;
 use std::collections::BTreeSet;
 use std::marker::Model;
 
-/// A store that is lent, with rows written over it: what is written is seen in place of the store's rows, and the store
-/// stays as it is. It takes memory for what is written alone.
+/// A borrowed store with rows written over it. Look-ups see the written rows in place of the store's rows. The store is
+/// unchanged, and a draft needs memory only for the written rows.
 #[derive(Drop)]
 pub struct Draft<'s, A: Allocator> {
     alloc: A,
     store: &'s Store<A>,
-    // Each name that was written, whether it is there or not.
+    // Each name that was written, whether it has a row or not.
     written: BTreeSet<Name, A>,
-    // The rows of those that are there, and who of them refers to a name.
+    // The written rows that are there, and the users of names among these rows.
     here: OsmMap<A>,
     users: Users<A>,
 }
 
-// A draft is seen as its rows.
+// Contracts model a draft as its rows.
 impl<'s, A: Allocator> Model for Draft<'s, A> {
     ghost use Rattle.std.specs.Prelude.{List};
     ghost use Rattle.osm_elements.specs.declared.element.Element.{Element};
@@ -52,7 +52,7 @@ impl<'s, A: Allocator> Model for Draft<'s, A> {
 }
 
 impl<'s, A: Allocator> Draft<'s, A> {
-    /// A store with nothing written over it. It takes no memory.
+    /// Returns a draft of a store, with nothing written.
     pub fn of(alloc: A, store: &'s Store<A>) -> Draft<'s, A>
     where
         A: Copy,
@@ -68,7 +68,7 @@ impl<'s, A: Allocator> Draft<'s, A> {
         }
     }
 
-    /// The element with this name, or none.
+    /// Returns the element with this name, if any.
     pub fn get(&self, name: &Name) -> Option<&Element<A>>
         ensures { option_copied result ≡ row_at self.now name.now }
     {
@@ -81,7 +81,7 @@ impl<'s, A: Allocator> Draft<'s, A> {
         }
     }
 
-    /// The names that refer to a name, in name order, or `Memory`.
+    /// Returns the names that refer to a name, in name order, or `Memory`.
     pub fn users_of(&self, alloc: A, name: &Name) -> Result<Names<A>, Memory>
         ensures { IfOk result (λ names. names ≡ users self.now name.now) }
     {
@@ -96,7 +96,7 @@ impl<'s, A: Allocator> Draft<'s, A> {
         Ok(Names::from_vec(names))
     }
 
-    /// Returns the least name that refers to a name, if any does. It allocates nothing.
+    /// Returns the least name that refers to a name, if any.
     pub fn first_user(&self, name: &Name) -> Option<Name>
         ensures { result ≡ least (users self.now name.now) }
     {
@@ -111,7 +111,11 @@ impl<'s, A: Allocator> Draft<'s, A> {
         }
     }
 
-    /// The draft with this row of a name, or without one; or `Memory`, and no draft.
+    /// Returns the draft in which a name has this row, or no row if `element` is `None`.
+    ///
+    /// # Errors
+    ///
+    /// `Memory`. The draft is then dropped.
     pub fn with(self, name: Name, element: Option<Element<A>>) -> Result<Draft<'s, A>, Memory>
     where
         A: Clone,
@@ -141,11 +145,11 @@ impl<'s, A: Allocator> Draft<'s, A> {
 }
 
 impl<'s, A: Allocator + Clone> Draft<'s, A> {
-    /// Returns the draft after changes. It costs a copy of the rows of the changed names, and look-ups of each.
+    /// Returns the draft after changes. It copies the rows of the changed names, and looks up each of them.
     ///
     /// # Errors
     ///
-    /// `Memory`; the draft is dropped.
+    /// `Memory`. The draft is then dropped.
     pub fn with_changes(self, alloc: A, changes: &Changes<A>) -> Result<Draft<'s, A>, Memory>
         ensures { IfOk result (λ d. d ≡ changed self.entry changes.now) }
     {
@@ -166,7 +170,7 @@ impl<'s, A: Allocator> Lookup<A> for Draft<'s, A> {
     }
 }
 
-// The draft with each of these rows, in their order.
+// Writes these rows to a draft, in their order.
 fn with_rows<'s, A: Allocator + Clone>(
     draft: Draft<'s, A>,
     rows: Vec<RowAfter<A>, A>,
@@ -180,7 +184,7 @@ fn with_rows<'s, A: Allocator + Clone>(
     Ok(draft)
 }
 
-// The first of some names that was not written.
+// Returns the first of these names that was not written.
 fn first_unwritten<A: Allocator>(names: &[Name], written: &BTreeSet<Name, A>) -> Option<Name>
     ensures { result ≡ find (λ name. not (is_among written.now.keys name)) names.now }
 {
@@ -190,7 +194,7 @@ fn first_unwritten<A: Allocator>(names: &[Name], written: &BTreeSet<Name, A>) ->
         .copied()
 }
 
-// Gives a name this row, or takes its row out.
+// Gives a name this row, or removes its row if `element` is `None`.
 fn put<A: Allocator + Clone>(
     rows: &mut OsmMap<A>,
     name: Name,
@@ -212,14 +216,14 @@ fn put<A: Allocator + Clone>(
     }
 }
 
-// Whether a name was written.
+// Returns whether a name was written.
 fn is_written<A: Allocator>(written: &BTreeSet<Name, A>, name: &Name) -> bool
     ensures { result ≡ is_among written.now.keys name.now }
 {
     written.contains(name)
 }
 
-// Puts those of some names behind others that were not written.
+// Appends those of the users that were not written.
 fn push_all_unwritten<A: Allocator>(
     names: &mut Vec<Name, A>,
     users: &[Name],
@@ -233,7 +237,7 @@ fn push_all_unwritten<A: Allocator>(
     Ok(())
 }
 
-// Puts a name behind others, if it was not written.
+// Appends a user, unless it was written.
 fn push_unwritten<A: Allocator>(
     names: &mut Vec<Name, A>,
     user: &Name,

@@ -1,4 +1,4 @@
--- A buffer after its first byte was written.
+-- A buffer after its first byte is written.
 use Rattle.std.proofs.Common.{◌≡◌, ◌<◌, ◌+◌, ℕ, List, [], ◌∷◌, length, take, drop, slice_set, refl, arith, add-one}
 
 pub take-slice_set_first : (xs : List ℕ) (v : ℕ) → 0 < length xs → take 1 (slice_set xs 0 v) ≡ v ∷ []

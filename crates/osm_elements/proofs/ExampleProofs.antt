@@ -1,4 +1,4 @@
--- The worked examples, by evaluation.
+-- The worked examples hold by evaluation.
 use Rattle.std.proofs.Common.{refl}
 use Rattle.std.specs.Fmt.{digits}
 use Rattle.std.specs.Str.{chars}

@@ -1,4 +1,4 @@
--- What the place of a key tells of the rows, and what an edit there does.
+-- The place of a key, and the rows after an edit there.
 use Rattle.std.proofs.Common.{◌≡◌, ℕ, ◌<◌, ◌≤◌, List, [], ◌∷◌, map, set, length, Option, Some, None, Result, Ok, Err, MatchResult, get_or, refl, ap, sym, subst, ◌∙◌, arith, add-one, Bool, true, false, not, T, is_some, nat_eq, nat_lt}
 use Rattle.std.specs.declared.cmp.Ordering.TheVariants.{Less, Equal, Greater}
 use Rattle.std.specs.List.{insert, remove}
@@ -13,7 +13,7 @@ use Rattle.osm_elements.specs.Facts.Entries.{both, first, second, find_below, wi
 use Rattle.osm_elements.specs.Facts.KeyedRows.{text_total, sorted_rows}
 use Rattle.osm_elements.specs.KeyedRows.{keyed_pair, text_cmp, further, place, AreRows, set_refusal, value_at, without_key}
 
--- the key is at i: its value is found there, a new value there is a put, and without that row the key is gone
+-- the key is at i: its value is found there, setting the value there is a put, and removing that row removes the key
 pub record FoundAt {V A : Type 0} (key : List ℕ) (rows : List (Keyed V A)) (i : ℕ) : Type 0 where
   pub in_range : i < length rows
   pub value : (t : Keyed V A) → t ≡ get_or rows i t → value_at (map keyed_pair rows) key ≡ Some t.value
@@ -21,7 +21,7 @@ pub record FoundAt {V A : Type 0} (key : List ℕ) (rows : List (Keyed V A)) (i 
   pub there : is_some (value_at (map keyed_pair rows) key) ≡ true
   pub gone : map keyed_pair (remove rows i) ≡ without_key (map keyed_pair rows) key
 
--- the key would go at i: it is not found, and a new row there is a put
+-- the key belongs at i: it is not found, and inserting a row there is a put
 pub record GapAt {V A : Type 0} (key : List ℕ) (rows : List (Keyed V A)) (i : ℕ) : Type 0 where
   pub in_range : i ≤ length rows
   pub none : value_at (map keyed_pair rows) key ≡ None
@@ -75,7 +75,7 @@ module _ {V A : Type 0} (key : List ℕ) where
         | Greater ↦ λ above. further_tells t rows _ above (place_tells rows (second _ _ sorted))
       ] refl
 
--- what the place of a key is, by its two answers
+-- the two cases of a key's place
 module _ {V A : Type 0} (keeps : V → Bool) (key : List ℕ) (rows : List (Keyed V A)) (h : AreRows keeps (map keyed_pair rows)) (i : ℕ) where
   pub found_at : Ok i ≡ place key (map keyed_pair rows) → FoundAt key rows i
   found_at e = MatchResult-at_ok (FoundAt key rows) (GapAt key rows) i (sym e) (place_tells key rows (sorted_rows keeps (map keyed_pair rows) h))
@@ -83,7 +83,7 @@ module _ {V A : Type 0} (keeps : V → Bool) (key : List ℕ) (rows : List (Keye
   pub gap_at : Err i ≡ place key (map keyed_pair rows) → GapAt key rows i
   gap_at e = MatchResult-at_err (FoundAt key rows) (GapAt key rows) i (sym e) (place_tells key rows (sorted_rows keeps (map keyed_pair rows) h))
 
--- which refusal the tests name
+-- which refusal `set_refusal` names
 module _ {V : Type 0} (key : List ℕ) (rows : List (List ℕ × V)) (some_key : nat_eq (length key) 0 ≡ false) where
   pub over_a_row : is_some (value_at rows key) ≡ true → set_refusal rows key ≡ None
   over_a_row there = rw (some_key, there) refl
@@ -94,6 +94,6 @@ module _ {V : Type 0} (key : List ℕ) (rows : List (List ℕ × V)) (some_key :
   pub full_refuses : value_at rows key ≡ None → 1000 ≤ length rows → set_refusal rows key ≡ Some TooManyTags
   full_refuses none full = let t : nat_lt (length rows) 1000 ≡ false = grind (arith, nat_tests) in rw (some_key, none, t) refl
 
--- where the tests name no refusal, none that they name is to be answered
+-- a refusal that is none is no other refusal
 pub not_refused : {X : Type 0} (r : Option TextFault) (e : TextFault) → r ≡ None → r ≡ Some e → X
 not_refused r e none some = absurd (subst (λ o. T (not (is_some o))) (sym none ∙ some) tt)

@@ -18,11 +18,11 @@ less Less p = refl
 less Equal p = absurd p
 less Greater p = absurd p
 
--- texts compared the other way round
+-- the comparison of two texts, reversed
 turned : (x y : List ℕ) (o : Ordering) → text_cmp x y ≡ o → text_cmp y x ≡ ordering_reverse o
 turned x y o e = text_total.antisymm y x ∙ ap ordering_reverse e
 
--- a lesser text compares with a key no higher than a greater one
+-- a lesser text compares with a key no higher than a greater text does
 rises : (x y key : List ℕ) → text_cmp x y ≡ Less → ordering_index (text_cmp x key) ≤ ordering_index (text_cmp y key)
 rises x y key less = by (text_cmp y key) refl
   where
@@ -46,7 +46,7 @@ module _ {V A : Type 0} (key : List ℕ) where
   below_at x (t ∷ rows) zero d h in_range = less _ (first _ _ h)
   below_at x (t ∷ rows) (suc j) d h in_range = below_at x rows j d (second _ _ h) (omega arith)
 
-  -- along rows that rise, comparing with a key does not fall
+  -- along rising rows, the comparison with a key does not fall
   rising : (rows : List (Keyed V A)) → T (is_sorted text_cmp (map keyed_pair rows)) → IsNonDecreasingBy (λ t. ordering_index (text_cmp t.key key)) rows
   rising [] h i j d up in_range = absurd (omega arith)
   rising (t ∷ rows) h zero zero d up in_range = omega arith

@@ -1,4 +1,4 @@
--- An element whose parts keep what their types keep is made.
+-- An element is made if its parts keep the invariants of their types.
 use Rattle.std.proofs.Common.{◌≡◌, ◌&&◌, ℕ, ℤ, Bool, true, false, T, List, [], ◌∷◌, Some, is_some, suc, refl, ap, arith}
 use Rattle.std.proofs.lemmas.Bool.Decides.{nat_tests}
 use Rattle.std.proofs.lemmas.Int.{ints}

@@ -1,4 +1,4 @@
--- Members, whose roles keep their limit.
+-- Members whose roles keep their limit.
 use Rattle.std.proofs.Common.{◌≡◌, ◌&&◌, ℕ, Bool, true, false, not, T, List, [], ◌∷◌, map}
 use mathlib.Core.HLevel.{Σ_prop_path}
 use Rattle.std.proofs.Math.Bool.{Bool-set}
@@ -12,7 +12,7 @@ kept true c e t = absurd (cc)
 kept false c e t = t
 
 module _ {A : Type 0} where
-  -- members of the same name and role are the same
+  -- members with the same name and role are equal
   pub same_member : (x y : Member A) → x.name ≡ y.name → x.role ≡ y.role → x ≡ y
   same_member x y p q =
       let e : ◌≡◌ {A = (n : Name × List ℕ) × (is_long n.1 ≡ false)} ((x.name, x.role), x.short) ((y.name, y.role), y.short) = Σ_prop_path (λ n. Bool-set (is_long n.1) false) (λ i. (p i, q i)) in

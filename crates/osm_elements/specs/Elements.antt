@@ -1,4 +1,4 @@
--- What every element has: a kind and tags. (OpenStreetMap wiki, "Elements".)
+-- The kind and the tags of an element. (OpenStreetMap wiki, "Elements".)
 use Rattle.std.specs.Prelude.{ℕ, List}
 use Rattle.osm_elements.specs.declared.name.Kind.{Kind}
 use Rattle.osm_elements.specs.declared.name.Kind.TheVariants as kinds

@@ -1,4 +1,4 @@
--- What was worked out by hand of the definitions.
+-- Examples of the definitions, worked out by hand.
 use Rattle.std.specs.Prelude.{◌≡◌, ◌++◌, [], ◌∷◌, Some, None, Ok, Err, true, false, pos, negsuc, codes}
 use Rattle.std.specs.FinMap.Entries.{put}
 use Rattle.osm_elements.specs.declared.name.Kind.TheVariants as kinds
@@ -16,7 +16,7 @@ use Rattle.osm_elements.specs.Scenes.{Any, n-1, n-2, n5, w-7, w5, r5, accents, p
 use Rattle.osm_elements.specs.TagRows.{are_tags}
 use Rattle.osm_elements.specs.Texts.{text_refusal, is_same_text}
 
--- a name is its letter and its number, which is no 0, fits 64 bits, and is written in one way
+-- the text of a name is a letter and an id; the id is not 0, fits 64 bits, and has one form
 unfoldable pub names_read : Type 0
 names_read =
     (name_of (codes "n5") ≡ Some n5)
@@ -36,7 +36,7 @@ names_read =
     × (name_of (codes "n") ≡ None)
     × (name_of [] ≡ None)
 
--- nodes come before ways and ways before relations, and each kind goes by its number
+-- nodes come before ways, and ways before relations; names of a kind are ordered by id
 unfoldable pub names_ordered : Type 0
 names_ordered =
     (name_set (r5 ∷ w5 ∷ n5 ∷ n-1 ∷ w-7 ∷ n5 ∷ n-2 ∷ []) ≡ n-2 ∷ n-1 ∷ n5 ∷ w-7 ∷ w5 ∷ r5 ∷ [])
@@ -50,7 +50,7 @@ names_ordered =
     × (is_kind n5.kind n-1.kind ≡ true)
     × (is_kind n5.kind w5.kind ≡ false)
 
--- a text has at most 255 characters, however many bytes each has
+-- a text has at most 255 characters, however many bytes a character has
 unfoldable pub texts_limited : Type 0
 texts_limited =
     (text_refusal [] ≡ None)
@@ -60,7 +60,7 @@ texts_limited =
     × (is_same_text (codes "Elm") (codes "elm") ≡ false)
     × (is_same_text (codes "Elm") (codes "Elms") ≡ false)
 
--- keys rise by their bytes, each once, with 1 to 255 characters, and values have at most 255
+-- keys rise by their bytes, each once, and have 1 to 255 characters; values have at most 255
 unfoldable pub tags_made : Type 0
 tags_made =
     (are_tags [] ≡ true)
@@ -81,7 +81,7 @@ tags_counted =
     (are_tags thousand_tags ≡ true)
     × (are_tags (thousand_tags ++ unnamed ∷ []) ≡ false)
 
--- a key gets its value at its place, or a new one, and the others stay
+-- a put replaces the value of a key, or inserts a row in order; all other rows stay
 unfoldable pub tags_changed : Type 0
 tags_changed =
     (put text_cmp (codes "lit") (codes "yes") two_tags ≡ path ∷ (codes "lit", codes "yes") ∷ unnamed ∷ [])
@@ -95,7 +95,7 @@ tags_changed =
     × (place (codes "lit") two_tags ≡ Err 1)
     × (place (codes "oneway") two_tags ≡ Err 2)
 
--- an empty key is refused, and a new key beside a thousand
+-- an empty key is refused, and so is a new key if there are 1,000 tags
 unfoldable pub tags_refused : Type 0
 tags_refused =
     (set_refusal two_tags (codes "lit") ≡ None)
@@ -104,7 +104,7 @@ tags_refused =
     × (set_refusal thousand_tags (codes "00") ≡ None)
     × (set_refusal thousand_tags (codes "name") ≡ Some TooManyTags)
 
--- the rows of a map stand in the order of their names, each name once
+-- the rows of a map are in name order, each name once
 module _ (e f : Element Any) where
   unfoldable pub rows_changed : Type 0
   rows_changed =
@@ -120,8 +120,7 @@ module _ (e f : Element Any) where
       × (is_present ((n5, e) ∷ []) n5 ≡ true)
       × (is_absent ((n5, e) ∷ []) w5 ≡ true)
 
--- an element has a kind and tags; coordinates lie in their ranges, ways list nodes, and roles have at most 255
--- characters
+-- elements have kinds and tags; coordinates lie in their ranges, ways list nodes, and roles have at most 255 characters
 unfoldable pub elements_made : Type 0
 elements_made =
     (kind_of {A = Any} (Way [] two_tags) ≡ kinds.Way)

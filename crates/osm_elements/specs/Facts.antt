@@ -1,5 +1,4 @@
--- What is proved of the definitions beside this folder, for the proofs here and in the crates above. No contract cites
--- these.
+-- Facts about these definitions, for the proofs of this crate and of crates that use it. No contract cites them.
 pub mod Among
 pub mod Dropped
 pub mod Entries

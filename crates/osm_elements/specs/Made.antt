@@ -1,5 +1,5 @@
--- What the types of an element keep. (OpenStreetMap API v0.6: the ranges of coordinates; its wiki, "Elements": a way
--- lists nodes. The limits of tags and roles are this project's.)
+-- The conditions that the type of an element keeps. (OpenStreetMap API v0.6: the ranges of coordinates; its wiki,
+-- "Elements": a way lists nodes. The limits of tags and roles are this project's.)
 use Rattle.std.specs.Prelude.{◌&&◌, Bool, true, false, List, is_some}
 use Rattle.std.specs.List.{list_all}
 use Rattle.osm_coords.specs.Latitude.{latitude}
@@ -18,7 +18,7 @@ is_node kinds.Node = true
 is_node kinds.Way = false
 is_node kinds.Relation = false
 
--- each name is that of a node
+-- each name is of kind node
 abbrev pub are_nodes : List Name → Bool
 are_nodes names = list_all (λ n. is_node n.kind) names
 

@@ -1,5 +1,5 @@
--- Words over maps, each the list of its rows in name order, and over lists of names. (OpenStreetMap wiki, "Elements":
--- nodes, ways and relations; each kind has its own ids.)
+-- Maps, each the list of its rows in name order, and lists of names. (OpenStreetMap wiki, "Elements": nodes, ways and
+-- relations; each kind has its own ids.)
 use Rattle.std.specs.Prelude.{Bool, not, List, [], ◌∷◌, Option, Some, None, is_some, map, nat_eq}
 use Rattle.std.specs.List.{fold, filter, list_any}
 use Rattle.std.specs.Ordering.{is_eq, match_ordering, ord_min}
@@ -18,7 +18,7 @@ Rows A = List (Name × Element A)
 abbrev pub is_same : Name → Name → Bool
 is_same a b = is_eq (name_cmp a b)
 
--- a name is among others
+-- the list contains the name
 abbrev pub is_among : List Name → Name → Bool
 is_among names x = list_any (is_same x) names
 
@@ -26,21 +26,21 @@ is_among names x = list_any (is_same x) names
 abbrev pub is_kind : Kind → Kind → Bool
 is_kind k j = nat_eq (kind_rank k) (kind_rank j)
 
--- a name put among rising ones, once
+-- a rising list with one more name, unless it is already there
 abbrev pub with_name : Name → List Name → List Name
 with_name x [] = x ∷ []
 with_name x (y ∷ ys) = match_ordering (name_cmp x y) (x ∷ y ∷ ys) (y ∷ ys) (y ∷ with_name x ys)
 
--- a list's names, rising, each once
+-- the names of a list, rising, each once
 abbrev pub name_set : List Name → List Name
 name_set names = fold (λ set x. with_name x set) [] names
 
--- the lesser of a name and another, if there is another
+-- the lesser of a name and a second name, if there is one
 abbrev pub lesser : Name → Option Name → Name
 lesser x None = x
 lesser x (Some y) = ord_min name_cmp x y
 
--- the least of a list's names
+-- the least name of a list
 abbrev pub least : List Name → Option Name
 least [] = None
 least (x ∷ xs) = Some (lesser x (least xs))

@@ -14,6 +14,6 @@ member_pair m = (m.name, m.role)
 abbrev pub are_members : List (Name × List ℕ) → Bool
 are_members members = list_all (λ m. not (is_long m.1)) members
 
--- what holds of the members of every relation
+-- the condition that every list of members keeps
 abbrev pub AreMembers : List (Name × List ℕ) → Type 0
 AreMembers members = T (are_members members)

@@ -4,6 +4,6 @@ use Rattle.std.specs.declared.cmp.Ordering.{Ordering}
 use Rattle.osm_elements.specs.declared.name.Name.{Name}
 use Rattle.osm_elements.specs.Names.{kind_rank}
 
--- nodes come before ways and ways before relations, and each kind goes by its id as a number
+-- nodes come before ways, and ways before relations; names of a kind are ordered by id as a number
 unfoldable pub name_cmp : Name → Name → Ordering
 name_cmp = then_cmp (on (λ n. kind_rank n.kind) nat_cmp) (on (λ n. n.id) int_cmp)

@@ -1,4 +1,4 @@
--- The one text of a name, and the name of a text, which are this project's.
+-- The text of a name, and the name that a text denotes, which are this project's.
 use Rattle.std.specs.Prelude.{◌≢◌, ◌^◌, ◌&&◌, ℕ, Bool, true, false, not, T, List, [], ◌∷◌, Option, Some, None, ℤ, pos, negsuc, nat_eq, nat_lt, if◌then◌else◌}
 use Rattle.std.specs.Fmt.{signed_decimal}
 use Rattle.std.specs.Ordering.{int_eq}
@@ -18,7 +18,7 @@ name_text n = letter_of n.kind ∷ signed_decimal n.id
 pub not_zero : (i : ℤ) → T (not (int_eq i (pos 0))) → i ≢ pos 0
 not_zero i t e = subst (λ z. T (not (int_eq z (pos 0)))) e t
 
--- the name of a kind and an id that passed the test
+-- the name of a kind and an id that is not 0
 abbrev pub named : Kind → (i : ℤ) → T (not (int_eq i (pos 0))) → Name
 named kind i t = record { kind = kind; id = i; not_zero = not_zero i t }
 
@@ -30,16 +30,16 @@ if_passed false f = None
 abbrev pub name_with : Kind → ℤ → Option Name
 name_with kind i = if_passed (not (int_eq i (pos 0))) (named kind i)
 
--- an id is an i64
+-- an id fits an i64
 abbrev pub is_id : ℤ → Bool
 is_id (pos n) = nat_lt n (2 ^ 63)
 is_id (negsuc n) = nat_lt n (2 ^ 63)
 
--- the id, if it is an i64 and these are its digits
+-- the id, if it fits an i64 and its decimal text is `digits`
 abbrev pub if_written : List ℕ → ℤ → Option ℤ
 if_written digits id = if is_id id && pointwise nat_eq digits (signed_decimal id) then Some id else None
 
--- the i64 whose decimal text this is
+-- the i64 with this decimal text, if any
 abbrev pub id_of : List ℕ → Option ℤ
 id_of digits = if_written digits (signed_digits_value 10 digits)
 
@@ -48,7 +48,7 @@ kind_of_letter c =
     if nat_eq c 110 then Some Node
     else (if nat_eq c 119 then Some Way else (if nat_eq c 114 then Some Relation else None))
 
--- the name whose text this is
+-- the name with this text, if any
 abbrev pub name_of : List ℕ → Option Name
 name_of [] = None
 name_of (c ∷ digits) = option_and_then (λ kind. option_and_then (name_with kind) (id_of digits)) (kind_of_letter c)

@@ -3,6 +3,6 @@ use Rattle.std.specs.Prelude.{◌≡◌, List, All}
 use Rattle.osm_elements.specs.declared.name.Name.{Name}
 use Rattle.osm_elements.specs.declared.name.Kind.TheVariants.{Node}
 
--- each name is that of a node
+-- each name is of kind node
 abbrev pub AreNodes : List Name → Type 0
 AreNodes names = All (λ n. n.kind ≡ Node) names

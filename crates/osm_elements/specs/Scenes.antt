@@ -1,4 +1,4 @@
--- Names, texts and tags of the worked examples.
+-- Names, texts and tags of the examples.
 use Rattle.std.specs.Prelude.{ℕ, ⊤, List, [], ◌∷◌, map, pos, negsuc, codes, replicate}
 use Rattle.std.specs.List.{flat_map, range_with_len}
 use Rattle.osm_elements.specs.declared.name.Name.{Name}
@@ -6,7 +6,7 @@ use Rattle.osm_elements.specs.declared.name.Kind.TheVariants as kinds
 use Rattle.osm_elements.specs.NameTexts.{named}
 use Rattle.osm_elements.specs.TagRows.{Pairs}
 
--- nothing in a definition looks at the allocator
+-- the allocator, which no definition looks at
 abbrev pub Any : Type 0
 Any = ⊤
 
@@ -28,7 +28,7 @@ w5 = named kinds.Way (pos 5) tt
 abbrev pub r5 : Name
 r5 = named kinds.Relation (pos 5) tt
 
--- the letter e with an acute accent, of two bytes, so often
+-- the letter e with an acute accent, which has two bytes, n times
 abbrev pub accents : ℕ → List ℕ
 accents n = flat_map (λ (x : ℕ). 195 ∷ 169 ∷ []) (replicate n 0)
 
@@ -42,6 +42,6 @@ unnamed = (codes "name", [])
 abbrev pub two_tags : Pairs
 two_tags = path ∷ unnamed ∷ []
 
--- a thousand tags with no value, their keys each of two characters
+-- 1,000 tags with empty values, and keys of two characters each
 abbrev pub thousand_tags : Pairs
 thousand_tags = flat_map (λ i. map (λ j. (i ∷ j ∷ [], [])) (range_with_len 48 40)) (range_with_len 48 25)

@@ -11,14 +11,14 @@ Pairs = List (List ℕ × List ℕ)
 abbrev pub tag_pair : {A : Type 0} → Keyed (List ℕ) A → List ℕ × List ℕ
 tag_pair t = (t.key, t.value)
 
--- a key has 1 to 255 characters, and a value at most 255
+-- the key has 1 to 255 characters, and the value at most 255
 abbrev pub is_tag : List ℕ × List ℕ → Bool
 is_tag e = is_row is_short e
 
--- the keys rise by their bytes, there are at most a thousand rows, and each row is a tag
+-- the keys rise by their bytes, there are at most 1,000 rows, and each row is a tag
 abbrev pub are_tags : Pairs → Bool
 are_tags rows = are_rows is_short rows
 
--- what holds of the tags of every element
+-- the condition that the tags of every element keep
 abbrev pub AreTagRows : Pairs → Type 0
 AreTagRows rows = T (are_tags rows)

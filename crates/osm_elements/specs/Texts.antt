@@ -5,7 +5,7 @@ use Rattle.std.specs.Str.{chars}
 use Rattle.osm_elements.specs.declared.fault.TextFault.{TextFault}
 use Rattle.osm_elements.specs.declared.fault.TextFault.TheVariants.{TextTooLong}
 
--- a text of more than 255 characters is too long
+-- the text has more than 255 characters
 unfoldable pub is_long : List ℕ → Bool
 is_long text = nat_lt 255 (length (chars text))
 

@@ -1,4 +1,4 @@
-//! Elements of a map.
+//! The elements of a map.
 ghost use Rattle.std.specs.Prelude.{◌≡◌, IfOk, true};
 
 use crate::Memory;
@@ -14,7 +14,7 @@ use std::alloc::{AllocError, Allocator};
 #[derive(Drop)]
 #[derive_where(Debug)]
 pub enum Element<A: Allocator> {
-    /// A point with a position.
+    /// A point with a latitude and a longitude.
     Node {
         lat: Lat,
         lon: Lon,
@@ -36,10 +36,10 @@ impl<A: Allocator> Element<A> {
     ghost use Rattle.osm_elements.specs.Elements.{kind_of, tags_of};
     ghost use Rattle.osm_elements.specs.Made.{is_made};
 
-    /// What kind of element it is.
+    /// Returns the kind of the element.
     pub fn kind(&self) -> Kind
         ensures kind { result ≡ kind_of self.now }
-        // What holds of every element.
+        // True of every element.
         ensures made { is_made self.now ≡ true }
     {
         self.keeps();
@@ -50,7 +50,7 @@ impl<A: Allocator> Element<A> {
         }
     }
 
-    // What the types of its parts keep. It does nothing.
+    // Does nothing. Its contract states what the types of the element's parts guarantee.
     #[tactic(auto, using(crate::proofs::MadeElements::made_node, crate::proofs::MadeElements::made_way, crate::proofs::MadeElements::made_relation))]
     fn keeps(&self)
         ensures { is_made self.now ≡ true }
@@ -72,7 +72,7 @@ impl<A: Allocator> Element<A> {
         }
     }
 
-    /// The tags of the element.
+    /// Returns the tags of the element.
     pub fn tags(&self) -> &SharedTags<A>
         ensures { result.now ≡ tags_of self.now }
     {
@@ -83,8 +83,11 @@ impl<A: Allocator> Element<A> {
         }
     }
 
-    /// A second element that is equal to this one: it shares its tags and its list, and takes no memory. `Memory` is
-    /// answered where one of these has 2^63 owners.
+    /// Returns a copy that shares the tags and the list of this element. It allocates nothing.
+    ///
+    /// # Errors
+    ///
+    /// `Memory`, if the tags or the list have 2^63 owners.
     pub fn copy(&self) -> Result<Element<A>, Memory>
     where
         A: Clone,

@@ -1,23 +1,23 @@
-//! What refuses a text or a tag.
+//! Refusals of texts and tags.
 ghost use Rattle.std.specs.Prelude.{◌≡◌};
 ghost use Rattle.osm_elements.specs.declared.fault.TextFault.TheVariants.{Memory};
 
 use std::alloc::{AllocError, AllocFailed};
 use thiserror::Error;
 
-/// Why a text was not made, or a tag was not set.
+/// The reason why a text was not made or a tag was not set.
 #[derive(Clone, Copy, Debug, PartialEq, Eq, Error)]
 pub enum TextFault {
-    /// The text has more than 255 Unicode characters, which is this project's limit.
+    /// The text has more than 255 Unicode characters, this project's limit.
     #[error("a text has at most 255 characters")]
     TextTooLong,
-    /// The key has no character, and this project asks for one at least.
+    /// The key is empty, which this project does not allow.
     #[error("a key has at least one character")]
     EmptyKey,
-    /// The key is a new one, and there are 1,000 tags already, which is this project's limit.
+    /// The key is new, and there are already 1,000 tags, this project's limit.
     #[error("an element has at most 1,000 tags")]
     TooManyTags,
-    /// A growth was refused: there was no memory for it.
+    /// An allocation failed.
     #[error("out of memory")]
     Memory,
 }

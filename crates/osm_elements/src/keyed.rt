@@ -1,4 +1,4 @@
-//! Rows under keys: the one list of which tags and retags are made.
+//! Rows under keys, of which tags and retags consist.
 ghost use Rattle.std.specs.Prelude.{◌≡◌, [], IfOk, OnOk, IfErr, None, map, is_some};
 ghost use Rattle.std.specs.FinMap.Entries.{put};
 ghost use Rattle.std.specs.Option.{option_copied};
@@ -13,7 +13,7 @@ use crate::text::Text;
 use std::alloc::{AllocError, Allocator};
 use std::marker::Model;
 
-/// The most rows that a list has, a limit of this project.
+/// The most rows in a list, a limit of this project.
 pub const MOST_ROWS: usize = 1000;
 
 /// A key and its value.
@@ -24,15 +24,15 @@ pub struct Keyed<V: KeyedValue, A: Allocator> {
     pub value: V,
 }
 
-/// Rows in the order of the bytes of their keys: at most 1,000 (this project's limit). No two have the same key, and no
-/// key is empty.
+/// A list of at most 1,000 rows (this project's limit), in the order of the bytes of their keys. No key is empty, and
+/// no two rows have the same key.
 #[derive(Drop)]
 #[derive_where(Debug; V)]
 pub struct KeyedRows<V: KeyedValue, A: Allocator> {
     rows: Vec<Keyed<V, A>, A>,
 }
 
-// Rows are seen as pairs of the bytes of a key and of its value.
+// Contracts model rows as pairs of the bytes of a key and its value.
 impl<V: KeyedValue, A: Allocator> Model for KeyedRows<V, A> {
     ghost use Rattle.std.specs.Prelude.{List, ℕ, map};
 
@@ -46,7 +46,7 @@ impl<V: KeyedValue, A: Allocator> Model for KeyedRows<V, A> {
 }
 
 impl<V: KeyedValue, A: Allocator> Keyed<V, A> {
-    /// A second row with the same key and value, or `Memory`.
+    /// Returns a copy, or `Memory`.
     pub fn copy(&self) -> Result<Keyed<V, A>, Memory>
     where
         V: CopiedValue,
@@ -58,7 +58,7 @@ impl<V: KeyedValue, A: Allocator> Keyed<V, A> {
 }
 
 impl<V: KeyedValue, A: Allocator> KeyedRows<V, A> {
-    /// No rows. They take no memory.
+    /// Returns a list without rows.
     pub fn empty(alloc: A) -> KeyedRows<V, A>
         ensures { result ≡ [] }
     {
@@ -67,7 +67,7 @@ impl<V: KeyedValue, A: Allocator> KeyedRows<V, A> {
         }
     }
 
-    /// No rows, with room for so many, or `Memory`.
+    /// Returns a list without rows, with room for `count` rows, or `Memory`.
     pub fn with_capacity(alloc: A, count: usize) -> Result<KeyedRows<V, A>, Memory>
         ensures { IfOk result (λ t. t ≡ []) }
     {
@@ -75,7 +75,7 @@ impl<V: KeyedValue, A: Allocator> KeyedRows<V, A> {
         Ok(KeyedRows { rows })
     }
 
-    /// The value at a key, or none where no row has it, in time logarithmic in the number of rows.
+    /// Returns the value at a key, if a row has the key. Takes time logarithmic in the number of rows.
     pub fn get(&self, key: &str) -> Option<&V>
         ensures { option_copied result ≡ value_at self.now key.now }
     {
@@ -85,25 +85,31 @@ impl<V: KeyedValue, A: Allocator> KeyedRows<V, A> {
         }
     }
 
-    /// The rows in the order of the bytes of their keys.
+    /// Returns the rows in the order of the bytes of their keys.
     pub fn rows(&self) -> &[Keyed<V, A>]
         ensures rows { map keyed_pair result.now ≡ self.now }
-        // What holds of all rows under keys.
+        // True of every list of rows.
         ensures sound { AreRows V.is_kept self.now }
     {
         &self.rows
     }
 
-    /// Gives a key its value: a new row, or a new value of the row that has the key. It refuses `EmptyKey`; then
-    /// `TooManyTags` where the key is a new one and there are 1,000 rows; then `Memory` where a new row asks for it. A
-    /// new value of a row that is there takes no memory. After a refusal the rows are as before. The key is found in
-    /// time logarithmic in the number of rows, and the rows behind a new one are moved: none, where keys come in their
-    /// order.
+    /// Sets the value of a key: adds a row, or replaces the value of the row that has the key.
+    ///
+    /// Finding the key takes time logarithmic in the number of rows. The rows after a new row are moved, so keys that
+    /// come in order move no row. A new value of an existing row allocates nothing.
+    ///
+    /// # Errors
+    ///
+    /// The first of these that applies. The rows are then unchanged.
+    /// - `EmptyKey`, if the key is empty
+    /// - `TooManyTags`, if the key is new and there are 1,000 rows
+    /// - `Memory`, if the key is new and an allocation fails
     pub fn set(&mut self, key: Text<A>, value: V) -> Result<(), TextFault>
         ensures ok { OnOk result ((set_refusal self.old key ≡ None) × (self.new ≡ put text_cmp key value self.old)) }
         ensures err { IfErr result (λ e. (self.new ≡ self.old) × refuses (set_refusal self.old key) e) }
 
-        // The refusal that the tests name is the answer.
+        // `Memory` never replaces a refusal of `set_refusal`.
         ensures named { (e : TextFault) → set_refusal self.old key ≡ Some e → result ≡ Err e }
         ensures memory_only_for_new { result ≡ Err TextFault.Memory → value_at self.old key ≡ None }
     {
@@ -126,8 +132,7 @@ impl<V: KeyedValue, A: Allocator> KeyedRows<V, A> {
         }
     }
 
-    /// Takes the row with this key away, and says whether there was one. It takes no memory. The rows behind it are
-    /// moved.
+    /// Removes the row with this key, and returns whether there was one. The rows after it are moved.
     pub fn clear(&mut self, key: &str) -> bool
         ensures there { result ≡ is_some (value_at self.old key.now) }
         ensures rest { self.new ≡ without_key self.old key.now }
@@ -141,7 +146,7 @@ impl<V: KeyedValue, A: Allocator> KeyedRows<V, A> {
         }
     }
 
-    /// Second rows with the same keys and values, or `Memory`.
+    /// Returns a copy, or `Memory`.
     pub fn copy(&self) -> Result<KeyedRows<V, A>, Memory>
     where
         V: CopiedValue,
@@ -172,7 +177,7 @@ impl<V: CopiedValue, A: Allocator + Clone> Clone for KeyedRows<V, A> {
     }
 }
 
-// Where the row with this key is, or where it would go.
+// Returns the position of the row with this key, or as `Err` the position where it would be inserted.
 fn place_of<V: KeyedValue, A: Allocator>(rows: &[Keyed<V, A>], key: &str) -> Result<usize, usize>
     requires { AreRows V.is_kept (map keyed_pair rows.now) }
     ensures { result ≡ place key.now (map keyed_pair rows.now) }

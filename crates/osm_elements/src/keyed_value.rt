@@ -1,4 +1,4 @@
-//! What stands under a key: a text, or maybe one.
+//! Values under keys: a text, or an optional value.
 ghost use Rattle.std.specs.Prelude.{◌≡◌, true, Bool, Some, None, refl};
 ghost use Rattle.std.proofs.Common.{ap};
 ghost use Rattle.osm_elements.specs.KeyedValues.{is_short, is_none_or};
@@ -8,17 +8,17 @@ use std::alloc::Allocator;
 
 /// A value under a key.
 pub trait KeyedValue: Drop {
-    // What the value's type keeps.
+    // The invariant of the value's type.
     ghost is_kept: { Self → Bool };
 
-    /// Tells what the value's type keeps. It does nothing.
+    /// Does nothing. Its contract states that the value keeps its type's invariant.
     fn keeps(&self)
         ensures { is_kept self.now ≡ true };
 }
 
 /// A value under a key that can be copied.
 pub trait CopiedValue: KeyedValue + Clone {
-    // A copy is equal to what it is a copy of.
+    // A clone is equal to its original.
     ghost copies: { (x y : Self) → Self.is_clone x y → y ≡ x };
 }
 

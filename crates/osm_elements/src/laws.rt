@@ -1,4 +1,4 @@
-//! Laws of names, texts, tags and maps, each the contract of a function that does nothing.
+//! Laws of names, texts, tags and maps. Each is the contract of a function that does nothing.
 ghost use Rattle.std.specs.Prelude.{◌≡◌, ◌≢◌, ◌↔◌, List, ℕ, Some, None, FitsSigned};
 ghost use Rattle.std.specs.Int.{w64};
 ghost use Rattle.std.specs.Cmp.{IsTotalOrder};
@@ -13,19 +13,19 @@ ghost use Rattle.osm_elements.specs.Scenes.{Any};
 
 use std::alloc::Allocator;
 
-/// A text is read as a name exactly where it is the text that is written for that name.
+/// A text is read as a name if and only if it is the text that is written for the name.
 #[tactic(auto, using(crate::specs::Facts::NameTexts::name_read_back))]
 pub fn a_name_has_one_text()
     ensures { (text : List ℕ) (n : Name) → FitsSigned w64 n.id → (name_of text ≡ Some n) ↔ (text ≡ name_text n) }
 {}
 
-/// Any two names stand in an order, and only equal names stand in the same place.
+/// The order of names is total, and only equal names compare as equal.
 pub fn names_are_ordered()
     ensures total { IsTotalOrder name_cmp }
     ensures equal { IsAntisymmetric name_cmp }
 {}
 
-/// A put gives its name the element, leaves what every other name has, and keeps the names rising.
+/// A put gives its name the element, leaves the elements of all other names, and keeps the names rising.
 pub fn a_put_changes_one_name<A: Allocator>()
     ensures same { (m : List (Name × Element A)) (x : Name) (v : Element A) → row_at (put_row m x v) x ≡ Some v }
     ensures other { (m : List (Name × Element A)) (x : Name) (v : Element A) (q : Name) → q ≢ x
@@ -34,7 +34,7 @@ pub fn a_put_changes_one_name<A: Allocator>()
         → AreInOrder (put_row m x v) }
 {}
 
-/// Taking a name out leaves no element at it and what every other name has, and keeps the names rising.
+/// Taking a name out removes its element, leaves the elements of all other names, and keeps the names rising.
 pub fn taking_out_changes_one_name<A: Allocator>()
     ensures same { (m : List (Name × Element A)) (x : Name) → AreInOrder m → row_at (without_row m x) x ≡ None }
     ensures other { (m : List (Name × Element A)) (x : Name) (q : Name) → q ≢ x → AreInOrder m
@@ -48,7 +48,7 @@ pub fn a_map_is_what_its_names_have<A: Allocator>()
         → m ≡ n }
 {}
 
-/// A row that was put is gone after it is taken out, and a row that was taken out is back after it is put.
+/// Taking a name out undoes a put of a new name, and putting the element back undoes taking its name out.
 pub fn putting_and_taking_out_undo_each_other<A: Allocator>()
     ensures put { (m : List (Name × Element A)) (x : Name) (v : Element A) → AreInOrder m → row_at m x ≡ None
         → without_row (put_row m x v) x ≡ m }
@@ -56,7 +56,7 @@ pub fn putting_and_taking_out_undo_each_other<A: Allocator>()
         → put_row (without_row m x) x v ≡ m }
 {}
 
-/// What the definitions say of the worked examples is what was worked out by hand.
+/// The definitions agree with examples that were worked out by hand.
 pub fn examples_are_as_worked()
     ensures names_read { names_read }
     ensures names_ordered { names_ordered }

@@ -1,11 +1,15 @@
-//! Elements of a map of OpenStreetMap, their names, texts and tags, and the map itself.
+//! The elements of an OpenStreetMap map, their names, texts and tags, and the map itself.
 //!
-//! The types are generic in their allocator. What grows answers [`Memory`] where a growth was refused,
-//! and then leaves everything as it was.
+//! A [`name::Name`] is a kind and an id. An [`element::Element`] is a node, a way or a relation with its
+//! [`tags::Tags`]. A [`map::OsmMap`] has at most one element for each name. Elements share their tags and lists
+//! ([`shared::Shared`]), so a copy of an element is cheap.
 //!
-//! There is no `==` of texts, tags and elements. Each place that compares some has a function whose
-//! contract says it by what contracts see of them; those of two names and of two texts stand here
-//! ([`names::is_same`], [`text::is_same_text`]).
+//! Types that allocate are generic in their allocator. A function that cannot return [`Memory`] allocates nothing. If a
+//! call returns `Memory`, an allocation failed, and the objects that the call borrows are unchanged. A copy of a shared
+//! value allocates nothing, and returns `Memory` only if the value has 2^63 owners. `copy` returns an equal value.
+//!
+//! Texts, tags and elements have no `==`. Code that compares them uses a function whose contract states the comparison
+//! in terms of the modelled values. Two of these functions are here: [`names::is_same`] and [`text::is_same_text`].
 #![tactic(auto)]
 
 pub mod element;
@@ -24,5 +28,5 @@ pub mod shared_tags;
 pub mod tags;
 pub mod text;
 
-/// A growth was refused: there was no memory for it.
+/// An allocation failed.
 pub use std::alloc::AllocError as Memory;

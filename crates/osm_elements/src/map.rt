@@ -1,4 +1,4 @@
-//! A map of elements by their names.
+//! Maps from names to elements.
 ghost use Rattle.std.specs.Prelude.{◌≡◌, ◌↔◌, [], length, map, IfOk, IfErr, IfSome, OnOk, OnErr, IsTrue, None};
 ghost use Rattle.std.specs.Option.{option_copied};
 ghost use Rattle.std.specs.Slice.Iter.{iter_rest};
@@ -11,7 +11,7 @@ use std::collections::{BTreeMap, btree_map};
 use std::marker::Model;
 use std::slice::Iter;
 
-/// A row of a map: a name and the element that has it.
+/// A row of a map: a name and its element.
 #[derive(Drop)]
 #[derive_where(Debug)]
 pub struct Row<A: Allocator> {
@@ -19,14 +19,14 @@ pub struct Row<A: Allocator> {
     pub element: Element<A>,
 }
 
-/// A list of rows, as [`OsmMap::rows`] answers it. It need not be in the order of the names.
+/// A list of rows, for example from [`OsmMap::rows`]. The names can be in any order.
 #[derive(Drop)]
 #[derive_where(Debug)]
 pub struct Rows<A: Allocator> {
     rows: Vec<Row<A>, A>,
 }
 
-// Rows are seen as pairs of a name and an element.
+// Contracts model rows as pairs of a name and an element.
 impl<A: Allocator> Model for Rows<A> {
     ghost use Rattle.std.specs.Prelude.{List, map};
     ghost use Rattle.osm_elements.specs.declared.name.Name.{Name};
@@ -40,7 +40,7 @@ impl<A: Allocator> Model for Rows<A> {
 }
 
 impl<A: Allocator> Row<A> {
-    /// A second row with the same name and an equal element, or `Memory`.
+    /// Returns a copy, or `Memory`.
     pub fn copy(&self) -> Result<Row<A>, Memory>
     where
         A: Clone,
@@ -53,14 +53,14 @@ impl<A: Allocator> Row<A> {
 impl<A: Allocator> Rows<A> {
     ghost use Rattle.osm_elements.specs.RowPairs.{row_pair};
 
-    /// These rows, in their order. It takes no memory.
+    /// Makes a list of the rows of a vector, in their order.
     pub fn from_vec(rows: Vec<Row<A>, A>) -> Rows<A>
         ensures { result ≡ map row_pair rows.items }
     {
         Rows { rows }
     }
 
-    /// The rows as a vector. It takes no memory.
+    /// Returns the rows as a vector, in their order.
     pub fn into_vec(self) -> Vec<Row<A>, A>
         ensures { map row_pair result.items ≡ self }
     {
@@ -68,21 +68,21 @@ impl<A: Allocator> Rows<A> {
         rows
     }
 
-    /// The rows as a slice.
+    /// Returns the rows as a slice.
     pub fn as_slice(&self) -> &[Row<A>]
         ensures { map row_pair result.now ≡ self.now }
     {
         &self.rows
     }
 
-    /// The rows, one after the other.
+    /// Returns an iterator over the rows, in their order.
     pub fn iter(&self) -> Iter<'_, Row<A>>
         ensures { map row_pair (iter_rest result) ≡ self.now }
     {
         self.rows.iter()
     }
 
-    /// A second list of equal rows, or `Memory`.
+    /// Returns a copy, or `Memory`.
     pub fn copy(&self) -> Result<Rows<A>, Memory>
     where
         A: Clone,
@@ -92,16 +92,15 @@ impl<A: Allocator> Rows<A> {
     }
 }
 
-/// A map of elements: at most one element has a name (OpenStreetMap wiki, "Elements"). It takes any row, also one
-/// whose element is of another kind than the name. A look-up or a change takes time logarithmic in the number of
-/// elements.
+/// A map with at most one element for each name (OpenStreetMap wiki, "Elements"). It accepts any row, even if the
+/// element is of another kind than the name. A look-up or a change takes time logarithmic in the number of elements.
 #[derive(Drop)]
 #[derive_where(Debug)]
 pub struct OsmMap<A: Allocator> {
     elements: BTreeMap<Name, Element<A>, A>,
 }
 
-// A map is seen as the list of its rows in the order of their names.
+// Contracts model a map as the list of its rows in name order.
 impl<A: Allocator> Model for OsmMap<A> {
     ghost use Rattle.std.specs.Prelude.{List};
     ghost use Rattle.osm_elements.specs.declared.name.Name.{Name};
@@ -119,7 +118,7 @@ impl<A: Allocator> Model for OsmMap<A> {
 impl<A: Allocator> OsmMap<A> {
     ghost use Rattle.osm_elements.specs.Rows.{row_at, put_row, without_row, AreInOrder};
 
-    /// A map with no element. It takes no memory.
+    /// Returns a map without elements.
     pub fn new(alloc: A) -> OsmMap<A>
         ensures { result ≡ [] }
     {
@@ -128,8 +127,12 @@ impl<A: Allocator> OsmMap<A> {
         }
     }
 
-    /// The map of these rows, whose names rise, as those of [`OsmMap::rows`] do. The one refusal is want of memory. It
-    /// takes time for each row logarithmic in their number, and copies no element.
+    /// Makes a map of rows whose names rise, for example those of [`OsmMap::rows`]. For each row, it takes time
+    /// logarithmic in the number of rows. It copies no element.
+    ///
+    /// # Errors
+    ///
+    /// `Memory`, if an allocation fails.
     pub fn from_rows(alloc: A, rows: Rows<A>) -> Result<OsmMap<A>, Memory>
     where
         A: Clone,
@@ -143,7 +146,7 @@ impl<A: Allocator> OsmMap<A> {
         Ok(map)
     }
 
-    // Puts a row. After a refusal, which is want of memory, the map is as it was.
+    // Puts a row in place of any row with its name.
     fn put_next(&mut self, row: Row<A>) -> Result<(), Memory>
     where
         A: Clone,
@@ -156,40 +159,39 @@ impl<A: Allocator> OsmMap<A> {
         }
     }
 
-    /// How many elements there are.
+    /// Returns the number of elements.
     pub fn len(&self) -> usize
         ensures len { result ≡ length self.now }
-        // What holds of every map.
+        // True of every map.
         ensures in_order { AreInOrder self.now }
     {
         self.elements.len()
     }
 
-    /// Whether there is no element.
+    /// Returns whether there is no element.
     pub fn is_empty(&self) -> bool
         ensures { IsTrue result ↔ (self.now ≡ []) }
     {
         self.elements.is_empty()
     }
 
-    /// The rows in name order. It copies nothing, so neither does a search of all rows.
+    /// Returns an iterator over the rows in name order. It copies nothing.
     pub fn iter(&self) -> btree_map::Iter<'_, Name, Element<A>>
         ensures rest { result ≡ self.now }
-        // What holds of every map.
+        // True of every map.
         ensures in_order { AreInOrder self.now }
     {
         self.elements.iter()
     }
 
-    /// The element with this name, or none.
+    /// Returns the element with this name, if any.
     pub fn get(&self, name: &Name) -> Option<&Element<A>>
         ensures { option_copied result ≡ row_at self.now name.now }
     {
         self.elements.get(name)
     }
 
-    /// Takes the element with this name out of the map and answers it, or none where no element has
-    /// the name, and then the map is as before. It takes no memory.
+    /// Removes the element with this name and returns it, if any. Otherwise the map is unchanged.
     pub fn take_out(&mut self, name: &Name) -> Option<Element<A>>
         ensures value { result ≡ row_at self.old name.now }
         ensures rest { self.new ≡ without_row self.old name.now }
@@ -198,9 +200,11 @@ impl<A: Allocator> OsmMap<A> {
         self.elements.remove(name)
     }
 
-    /// Gives a name an element, and answers the element that had the name before, or none.
-    /// A name that is there keeps its row, and that takes no memory. A new row is refused with `Memory`,
-    /// which hands the element back, and the map is as before.
+    /// Gives a name an element, and returns the previous element of the name, if any. Only a new name needs memory.
+    ///
+    /// # Errors
+    ///
+    /// The given element and `Memory`, if the name is new and an allocation fails.
     pub fn put(
         &mut self,
         name: Name,
@@ -222,8 +226,7 @@ impl<A: Allocator> OsmMap<A> {
         }
     }
 
-    /// Copies of all rows in the order of their names, or `Memory`. It takes time linear in what the
-    /// map holds.
+    /// Returns copies of all rows in name order, or `Memory`. Takes time linear in the number of elements.
     pub fn rows(&self, alloc: A) -> Result<Rows<A>, Memory>
     where
         A: Clone,
@@ -241,7 +244,7 @@ impl<A: Allocator> OsmMap<A> {
         Ok(Rows { rows })
     }
 
-    /// A second map with equal rows, or `Memory`.
+    /// Returns a copy, or `Memory`.
     pub fn copy(&self) -> Result<OsmMap<A>, Memory>
     where
         A: Clone,

@@ -7,8 +7,8 @@ use crate::name::Name;
 use crate::text::Text;
 use std::alloc::{AllocError, Allocator};
 
-/// A member of a relation: an element, by its name, and the role that it has there, which may be empty
-/// (OpenStreetMap wiki, "Elements").
+/// A member of a relation: the name of an element, and its role there, which may be empty (OpenStreetMap wiki,
+/// "Elements").
 #[derive(Drop)]
 #[derive_where(Debug)]
 pub struct Member<A: Allocator> {
@@ -18,7 +18,7 @@ pub struct Member<A: Allocator> {
 }
 
 impl<A: Allocator> Member<A> {
-    /// A member of this name in this role. It takes no memory.
+    /// Makes a member with this name and role.
     pub fn new(name: Name, role: Text<A>) -> Member<A>
         ensures name { result.name ≡ name }
         ensures role { result.role ≡ role }
@@ -27,7 +27,7 @@ impl<A: Allocator> Member<A> {
         Member { name, role }
     }
 
-    /// A second member with the same name and role, or `Memory`.
+    /// Returns a copy, or `Memory`.
     pub fn copy(&self) -> Result<Member<A>, Memory>
     where
         A: Clone,

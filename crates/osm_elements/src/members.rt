@@ -7,14 +7,14 @@ use crate::member::Member;
 use std::alloc::{AllocError, Allocator};
 use std::marker::Model;
 
-/// An ordered list of members, in which a name may stand more than once (OpenStreetMap wiki, "Elements").
+/// An ordered list of members, in which a name may occur more than once (OpenStreetMap wiki, "Elements").
 #[derive(Drop)]
 #[derive_where(Debug)]
 pub struct Members<A: Allocator> {
     members: Vec<Member<A>, A>,
 }
 
-// Members are seen as pairs of a name and the bytes of its role.
+// Contracts model members as pairs of a name and the bytes of its role.
 impl<A: Allocator> Model for Members<A> {
     ghost use Rattle.std.specs.Prelude.{List, ℕ, map};
     ghost use Rattle.osm_elements.specs.declared.name.Name.{Name};
@@ -26,7 +26,7 @@ impl<A: Allocator> Model for Members<A> {
 }
 
 impl<A: Allocator> Members<A> {
-    /// No members. They take no memory.
+    /// Returns an empty list.
     pub fn empty(alloc: A) -> Members<A>
         ensures { result ≡ [] }
     {
@@ -35,7 +35,7 @@ impl<A: Allocator> Members<A> {
         }
     }
 
-    /// No members, with room for so many, or `Memory`.
+    /// Returns an empty list with room for `count` members, or `Memory`.
     pub fn with_capacity(alloc: A, count: usize) -> Result<Members<A>, Memory>
         ensures { IfOk result (λ m. m ≡ []) }
     {
@@ -43,14 +43,14 @@ impl<A: Allocator> Members<A> {
         Ok(Members { members })
     }
 
-    /// Takes the members of a vector and gives them as a list, in their order. It takes no memory.
+    /// Makes a list of the members of a vector, in their order.
     pub fn from_vec(members: Vec<Member<A>, A>) -> Members<A>
         ensures { result ≡ map member_pair members.items }
     {
         Members { members }
     }
 
-    /// Gives the members back as a vector, in their order. It takes no memory.
+    /// Returns the members as a vector, in their order.
     pub fn into_vec(self) -> Vec<Member<A>, A>
         ensures { map member_pair result.items ≡ self }
     {
@@ -58,30 +58,30 @@ impl<A: Allocator> Members<A> {
         members
     }
 
-    /// How many members there are.
+    /// Returns the number of members.
     pub fn len(&self) -> usize
         ensures { result ≡ length self.now }
     {
         self.members.len()
     }
 
-    /// Whether there is no member.
+    /// Returns whether there is no member.
     pub fn is_empty(&self) -> bool
         ensures { IsTrue result ↔ (self.now ≡ []) }
     {
         self.members.is_empty()
     }
 
-    /// The members in order.
+    /// Returns the members as a slice, in their order.
     pub fn as_slice(&self) -> &[Member<A>]
         ensures members { map member_pair result.now ≡ self.now }
-        // What holds of all members.
+        // True of every list of members.
         ensures short { AreMembers self.now }
     {
         &self.members
     }
 
-    /// Puts a member at the end, or refuses with `Memory` and leaves the list as it was.
+    /// Appends a member, or returns `Memory`.
     pub fn push(&mut self, member: Member<A>) -> Result<(), Memory>
         ensures ok { OnOk result (self.new ≡ self.old ++ member_pair member ∷ []) }
         ensures err { OnErr result (self.new ≡ self.old) }
@@ -90,7 +90,7 @@ impl<A: Allocator> Members<A> {
         Ok(())
     }
 
-    /// A second list of the same members, or `Memory`.
+    /// Returns a copy, or `Memory`.
     pub fn copy(&self) -> Result<Members<A>, Memory>
     where
         A: Clone,

@@ -18,7 +18,7 @@ pub enum Kind {
 }
 
 impl Kind {
-    /// The letter that begins a name of this kind: `n`, `w` or `r`.
+    /// Returns the letter that begins a name of this kind: `n`, `w` or `r`.
     pub fn letter(self) -> u8
         ensures { result ≡ letter_of self }
     {
@@ -30,9 +30,10 @@ impl Kind {
     }
 }
 
-/// The name of an element: its kind and its id, any `i64` other than 0. Each kind has its own ids, so
-/// node 5 and way 5 differ (OpenStreetMap wiki, "Elements"). Names are ordered by kind (node, way,
-/// relation) and then by id as a number.
+/// The name of an element: its kind and its id, which is any `i64` except 0.
+///
+/// Each kind has its own ids, so node 5 and way 5 differ (OpenStreetMap wiki, "Elements"). Names are ordered by kind
+/// (node, way, relation), and then by id as a number.
 #[derive(Clone, Copy, Debug, PartialEq, Eq, PartialOrd, Ord)]
 pub struct Name {
     kind: Kind,
@@ -40,14 +41,14 @@ pub struct Name {
     ghost not_zero: { id ≢ pos 0 },
 }
 
-/// The length in bytes of the longest text of a name, as of `n-9223372036854775808`.
+/// The length in bytes of the longest text of a name, for example `n-9223372036854775808`.
 pub const NAME_LENGTH: usize = 21;
 
 impl Name {
     ghost use Rattle.osm_elements.specs.NameTexts.{name_text, name_of};
     ghost use Rattle.osm_elements.specs.declared.name.Name.{Name as AName};
 
-    /// The name of this kind with this id, or none where the id is 0.
+    /// Returns the name with this kind and id, or `None` if the id is 0.
     pub fn new(kind: Kind, id: i64) -> Option<Name>
         ensures { MatchOption result (id ≡ pos 0) (λ n. (n.kind ≡ kind) × (n.id ≡ id)) }
     {
@@ -57,23 +58,24 @@ impl Name {
         Some(Name { kind, id })
     }
 
-    /// What kind of element has this name.
+    /// Returns the kind of the element with this name.
     pub fn kind(&self) -> Kind
         ensures { result ≡ self.now.kind }
     {
         self.kind
     }
 
-    /// The id, which is not 0.
+    /// Returns the id, which is not 0.
     pub fn id(&self) -> i64
         ensures { result ≡ self.now.id }
     {
         self.id
     }
 
-    /// The name that a text is, or none where it is no name's text. A name has one text: `n`, `w` or `r`
-    /// and the id in decimal digits, with `-` before those of a negative one. A `+`, a leading zero, `-0`,
-    /// the id 0 and ids outside of `i64` are refused.
+    /// Reads a name from its text. Returns `None` if the text is not that of a name.
+    ///
+    /// A name has one text: `n`, `w` or `r`, and then the id in decimal digits, with a `-` in front of a negative id. A
+    /// text with a `+`, a leading zero, `-0`, the id 0 or an id outside of `i64` is refused.
     pub fn read(text: &str) -> Option<Name>
         ensures value { result ≡ name_of text.now }
         ensures found { IfSome result (λ n. text.now ≡ name_text n) }
@@ -88,8 +90,8 @@ impl Name {
         }
     }
 
-    /// Writes the name's one text to the front of the buffer, and answers its length in bytes. What
-    /// follows in the buffer stays.
+    /// Writes the name's text to the start of the buffer, and returns its length in bytes. The rest of the buffer is
+    /// unchanged.
     pub fn write(&self, buffer: &mut [u8; NAME_LENGTH]) -> usize
         ensures length { result ≤ 21 }
         ensures text { take result buffer.new ≡ name_text self.now }
@@ -104,7 +106,7 @@ impl Name {
     }
 }
 
-// The kind that a name's letter stands for, and what follows the letter.
+// Returns the kind that the first letter denotes, and the text after that letter.
 fn split_letter(text: &str) -> Option<(Kind, &str)>
     ensures { MatchOption result (NoLetter text.now) (λ found. Splits text.now found.0 found.1.now) }
 {
@@ -119,8 +121,8 @@ fn split_letter(text: &str) -> Option<(Kind, &str)>
     }
 }
 
-// The number that is written so in decimal. Accepted is a number whose own text is this one: that
-// is shorter than a reader of digits, and says at once that a name has one text.
+// Reads an id. A parsed number is accepted only if its own decimal text is `digits`: this needs no reader of digits,
+// and shows that a name has only one text.
 fn read_id(digits: &str) -> Option<i64>
     ensures { MatchOption result ((id : ℤ) → FitsSigned w64 id → digits.now ≢ signed_decimal id)
         (λ id. FitsSigned w64 id × (digits.now ≡ signed_decimal id)) }

@@ -7,14 +7,14 @@ use crate::name::Name;
 use std::alloc::{AllocError, Allocator};
 use std::marker::Model;
 
-/// A list of names of any kinds, in which a name may stand more than once.
+/// A list of names of any kinds, in which a name may occur more than once.
 #[derive(Drop)]
 #[derive_where(Debug)]
 pub struct Names<A: Allocator> {
     names: Vec<Name, A>,
 }
 
-// Names are seen as the list of them.
+// Contracts model a list of names as a plain list.
 impl<A: Allocator> Model for Names<A> {
     ghost use Rattle.std.specs.Prelude.{List};
     ghost use Rattle.osm_elements.specs.declared.name.Name.{Name};
@@ -25,7 +25,7 @@ impl<A: Allocator> Model for Names<A> {
 }
 
 impl<A: Allocator> Names<A> {
-    /// No names. They take no memory.
+    /// Returns an empty list.
     pub fn empty(alloc: A) -> Names<A>
         ensures { result ≡ [] }
     {
@@ -34,7 +34,7 @@ impl<A: Allocator> Names<A> {
         }
     }
 
-    /// No names, with room for so many, or `Memory`.
+    /// Returns an empty list with room for `count` names, or `Memory`.
     pub fn with_capacity(alloc: A, count: usize) -> Result<Names<A>, Memory>
         ensures { IfOk result (λ n. n ≡ []) }
     {
@@ -42,14 +42,14 @@ impl<A: Allocator> Names<A> {
         Ok(Names { names })
     }
 
-    /// Takes the names of a vector and gives them as a list, in their order. It takes no memory.
+    /// Makes a list of the names of a vector, in their order.
     pub fn from_vec(names: Vec<Name, A>) -> Names<A>
         ensures { result ≡ names.items }
     {
         Names { names }
     }
 
-    /// Gives the names back as a vector, in their order. It takes no memory.
+    /// Returns the names as a vector, in their order.
     pub fn into_vec(self) -> Vec<Name, A>
         ensures { result.items ≡ self }
     {
@@ -57,28 +57,28 @@ impl<A: Allocator> Names<A> {
         names
     }
 
-    /// How many names there are.
+    /// Returns the number of names.
     pub fn len(&self) -> usize
         ensures { result ≡ length self.now }
     {
         self.names.len()
     }
 
-    /// Whether there is no name.
+    /// Returns whether there is no name.
     pub fn is_empty(&self) -> bool
         ensures { IsTrue result ↔ (self.now ≡ []) }
     {
         self.names.is_empty()
     }
 
-    /// The names in order.
+    /// Returns the names as a slice, in their order.
     pub fn as_slice(&self) -> &[Name]
         ensures { result.now ≡ self.now }
     {
         &self.names
     }
 
-    /// Puts a name at the end, or refuses with `Memory` and leaves the list as it was.
+    /// Appends a name, or returns `Memory`.
     pub fn push(&mut self, name: Name) -> Result<(), Memory>
         ensures ok { OnOk result (self.new ≡ self.old ++ name ∷ []) }
         ensures err { OnErr result (self.new ≡ self.old) }
@@ -87,7 +87,7 @@ impl<A: Allocator> Names<A> {
         Ok(())
     }
 
-    /// A second list of the same names, or `Memory`.
+    /// Returns a copy, or `Memory`.
     pub fn copy(&self) -> Result<Names<A>, Memory>
     where
         A: Clone,
@@ -106,7 +106,7 @@ impl<A: Allocator + Clone> Clone for Names<A> {
     }
 }
 
-/// Whether two names are the same.
+/// Returns whether two names are the same.
 pub fn is_same(one: &Name, other: &Name) -> bool
     ensures { result ≡ is_same one.now other.now }
 {

@@ -8,15 +8,15 @@ use crate::name::Name;
 use std::alloc::{AllocError, Allocator};
 use std::marker::Model;
 
-/// A list of names of kind node, in which a name may stand more than once (OpenStreetMap wiki,
-/// "Elements": a way is an ordered list of nodes).
+/// A list of names of nodes, in which a name may occur more than once (OpenStreetMap wiki, "Elements": a way is an
+/// ordered list of nodes).
 #[derive(Drop)]
 #[derive_where(Debug)]
 pub struct Nodes<A: Allocator> {
     names: Vec<Name, A>,
 }
 
-// Nodes are seen as the list of their names.
+// Contracts model nodes as the list of their names.
 impl<A: Allocator> Model for Nodes<A> {
     ghost use Rattle.std.specs.Prelude.{List};
     ghost use Rattle.osm_elements.specs.declared.name.Name.{Name};
@@ -30,7 +30,7 @@ impl<A: Allocator> Model for Nodes<A> {
 }
 
 impl<A: Allocator> Nodes<A> {
-    /// No nodes. They take no memory.
+    /// Returns an empty list.
     pub fn empty(alloc: A) -> Nodes<A>
         ensures { result ≡ [] }
     {
@@ -39,7 +39,7 @@ impl<A: Allocator> Nodes<A> {
         }
     }
 
-    /// No nodes, with room for so many, or `Memory`.
+    /// Returns an empty list with room for `count` names, or `Memory`.
     pub fn with_capacity(alloc: A, count: usize) -> Result<Nodes<A>, Memory>
         ensures { IfOk result (λ n. n ≡ []) }
     {
@@ -47,8 +47,7 @@ impl<A: Allocator> Nodes<A> {
         Ok(Nodes { names })
     }
 
-    /// Takes the names of a vector, each of kind node, and gives them as a list, in their order. It takes no
-    /// memory.
+    /// Makes a list of the names of a vector, in their order. Each must be of kind node.
     pub fn from_vec(names: Vec<Name, A>) -> Nodes<A>
         requires { AreNodes names.items }
         ensures { result ≡ names.items }
@@ -56,7 +55,7 @@ impl<A: Allocator> Nodes<A> {
         Nodes { names }
     }
 
-    /// Gives the names back as a vector, in their order, each of kind node. It takes no memory.
+    /// Returns the names as a vector, in their order. Each is of kind node.
     pub fn into_vec(self) -> Vec<Name, A>
         ensures names { result.items ≡ self }
         ensures nodes { AreNodes self }
@@ -65,21 +64,21 @@ impl<A: Allocator> Nodes<A> {
         names
     }
 
-    /// How many names there are.
+    /// Returns the number of names.
     pub fn len(&self) -> usize
         ensures { result ≡ length self.now }
     {
         self.names.len()
     }
 
-    /// Whether there is no name.
+    /// Returns whether there is no name.
     pub fn is_empty(&self) -> bool
         ensures { IsTrue result ↔ (self.now ≡ []) }
     {
         self.names.is_empty()
     }
 
-    /// The names in order, each of kind node.
+    /// Returns the names as a slice, in their order. Each is of kind node.
     pub fn names(&self) -> &[Name]
         ensures names { result.now ≡ self.now }
         ensures nodes { AreNodes self.now }
@@ -87,7 +86,7 @@ impl<A: Allocator> Nodes<A> {
         &self.names
     }
 
-    /// Puts a node at the end, or refuses with `Memory` and leaves the list as it was.
+    /// Appends a name, which must be of kind node, or returns `Memory`.
     pub fn push(&mut self, name: Name) -> Result<(), Memory>
         requires { name.kind ≡ Node }
         ensures ok { OnOk result (self.new ≡ self.old ++ name ∷ []) }
@@ -97,7 +96,7 @@ impl<A: Allocator> Nodes<A> {
         Ok(())
     }
 
-    /// A second list of the same names, or `Memory`.
+    /// Returns a copy, or `Memory`.
     pub fn copy(&self) -> Result<Nodes<A>, Memory>
     where
         A: Clone,

@@ -1,4 +1,4 @@
-//! Values that their owners share.
+//! Values that several owners share.
 ghost use Rattle.std.specs.Prelude.{◌≡◌, IfOk};
 
 use crate::Memory;
@@ -7,15 +7,15 @@ use std::marker::Model;
 use std::ops::Deref;
 use std::sync::Arc;
 
-/// A value that its owners share, in any threads. It is never changed in place. One more owner takes no memory,
-/// whatever the value holds.
+/// A value that several owners share, also across threads. It is never changed in place. Another owner allocates
+/// nothing, whatever the value is.
 #[derive(Drop)]
 #[derive_where(Debug; T)]
 pub struct Shared<T: Drop, A: Allocator> {
     inside: Arc<T, A>,
 }
 
-// A shared value is seen as the value.
+// Contracts model a shared value as the value.
 impl<T: Drop, A: Allocator> Model for Shared<T, A> {
     ghost use Rattle.std.specs.Arc.{arc_value};
 
@@ -25,7 +25,7 @@ impl<T: Drop, A: Allocator> Model for Shared<T, A> {
 }
 
 impl<T: Drop, A: Allocator> Shared<T, A> {
-    /// A value with its first owner, or `Memory`.
+    /// Returns a value with its first owner, or `Memory`.
     pub fn new(alloc: A, value: T) -> Result<Shared<T, A>, Memory>
         ensures { IfOk result (λ s. s ≡ value) }
     {
@@ -38,7 +38,11 @@ impl<T: Drop, A: Allocator> Shared<T, A> {
         }
     }
 
-    /// The value with one more owner. `Memory` is answered where there are 2^63 owners.
+    /// Returns the value with one more owner. It allocates nothing.
+    ///
+    /// # Errors
+    ///
+    /// `Memory`, if the value has 2^63 owners.
     pub fn copy(&self) -> Result<Shared<T, A>, Memory>
         ensures { IfOk result (λ s. s ≡ self.now) }
     {

@@ -1,4 +1,4 @@
-//! The tags of an element, shared.
+//! Tags that several owners share.
 ghost use Rattle.std.specs.Prelude.{◌≡◌, ◌↔◌, [], IfOk, map, length, IsTrue};
 ghost use Rattle.std.specs.Option.{option_copied};
 ghost use Rattle.osm_elements.specs.KeyedRows.{value_at};
@@ -11,14 +11,14 @@ use crate::text::Text;
 use std::alloc::{AllocError, Allocator};
 use std::marker::Model;
 
-/// The tags of an element, which all that hold them share. Where there are none they take no memory.
+/// The tags of an element, which their owners share. An empty list of tags uses no memory.
 #[derive(Drop)]
 #[derive_where(Debug)]
 pub struct SharedTags<A: Allocator> {
     some: Option<Shared<Tags<A>, A>>,
 }
 
-// Shared tags are seen as the tags.
+// Contracts model shared tags as the tags.
 impl<A: Allocator> Model for SharedTags<A> {
     ghost use Rattle.std.specs.Prelude.{List, ℕ, [], unwrap_or};
 
@@ -28,14 +28,14 @@ impl<A: Allocator> Model for SharedTags<A> {
 }
 
 impl<A: Allocator> SharedTags<A> {
-    /// No tags. They take no memory.
+    /// Returns an empty list of tags.
     pub fn empty() -> SharedTags<A>
         ensures { result ≡ [] }
     {
         SharedTags { some: None }
     }
 
-    /// These tags, or `Memory`. No tags take no memory.
+    /// Returns these tags with their first owner, or `Memory`. If there are no tags, it allocates nothing.
     pub fn new(alloc: A, tags: Tags<A>) -> Result<SharedTags<A>, Memory>
         ensures { IfOk result (λ t. t ≡ tags) }
     {
@@ -46,7 +46,7 @@ impl<A: Allocator> SharedTags<A> {
         Ok(SharedTags { some: Some(tags) })
     }
 
-    /// The tags in the order of the bytes of their keys.
+    /// Returns the tags in the order of the bytes of their keys.
     pub fn rows(&self) -> &[Tag<A>]
         ensures rows { map tag_pair result.now ≡ self.now }
         ensures sound { AreTagRows self.now }
@@ -57,7 +57,7 @@ impl<A: Allocator> SharedTags<A> {
         }
     }
 
-    /// How many tags there are, at most 1,000.
+    /// Returns the number of tags, at most 1,000.
     pub fn len(&self) -> usize
         ensures { result ≡ length self.now }
     {
@@ -67,7 +67,7 @@ impl<A: Allocator> SharedTags<A> {
         }
     }
 
-    /// The value at a key, or none where no tag has it, in time logarithmic in the number of tags.
+    /// Returns the value at a key, if a tag has the key. Takes time logarithmic in the number of tags.
     pub fn get(&self, key: &str) -> Option<&Text<A>>
         ensures { option_copied result ≡ value_at self.now key.now }
     {
@@ -77,7 +77,7 @@ impl<A: Allocator> SharedTags<A> {
         }
     }
 
-    /// Tags of one's own with the same keys and values, or `Memory`.
+    /// Returns a copy of the tags that is not shared, or `Memory`.
     pub fn own(&self, alloc: A) -> Result<Tags<A>, Memory>
     where
         A: Clone,
@@ -89,7 +89,11 @@ impl<A: Allocator> SharedTags<A> {
         }
     }
 
-    /// The same tags with one more owner. `Memory` is answered where there are 2^63 owners.
+    /// Returns the same tags with one more owner. It allocates nothing.
+    ///
+    /// # Errors
+    ///
+    /// `Memory`, if the tags have 2^63 owners.
     pub fn copy(&self) -> Result<SharedTags<A>, Memory>
         ensures { IfOk result (λ t. t ≡ self.now) }
     {

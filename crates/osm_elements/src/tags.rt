@@ -14,21 +14,21 @@ use crate::text::Text;
 use std::alloc::{AllocError, Allocator};
 use std::marker::Model;
 
-/// The most tags that an element has, a limit of this project.
+/// The most tags of an element, a limit of this project.
 pub const MOST_TAGS: usize = MOST_ROWS;
 
 /// A tag: a key and its value (OpenStreetMap wiki, "Elements").
 pub type Tag<A> = Keyed<Text<A>, A>;
 
-/// The tags of an element: at most 1,000 (this project's limit), in the order of the bytes of their
-/// keys. No two tags of an element have the same key, and no key is empty.
+/// The tags of an element: at most 1,000 (this project's limit), in the order of the bytes of their keys. No key is
+/// empty, and no two tags of an element have the same key.
 #[derive(Drop)]
 #[derive_where(Debug)]
 pub struct Tags<A: Allocator> {
     rows: KeyedRows<Text<A>, A>,
 }
 
-// Tags are seen as pairs of the bytes of a key and of its value.
+// Contracts model tags as pairs of the bytes of a key and of its value.
 impl<A: Allocator> Model for Tags<A> {
     ghost use Rattle.std.specs.Prelude.{List, ℕ};
 
@@ -38,7 +38,7 @@ impl<A: Allocator> Model for Tags<A> {
 }
 
 impl<A: Allocator> Tags<A> {
-    /// No tags. They take no memory.
+    /// Returns an empty list of tags.
     pub fn empty(alloc: A) -> Tags<A>
         ensures { result ≡ [] }
     {
@@ -47,7 +47,7 @@ impl<A: Allocator> Tags<A> {
         }
     }
 
-    /// No tags, with room for so many, or `Memory`.
+    /// Returns an empty list with room for `count` tags, or `Memory`.
     pub fn with_capacity(alloc: A, count: usize) -> Result<Tags<A>, Memory>
         ensures { IfOk result (λ t. t ≡ []) }
     {
@@ -55,28 +55,28 @@ impl<A: Allocator> Tags<A> {
         Ok(Tags { rows })
     }
 
-    /// How many tags there are, at most 1,000.
+    /// Returns the number of tags, at most 1,000.
     pub fn len(&self) -> usize
         ensures { result ≡ length self.now }
     {
         self.rows().len()
     }
 
-    /// Whether there is no tag.
+    /// Returns whether there is no tag.
     pub fn is_empty(&self) -> bool
         ensures { IsTrue result ↔ (self.now ≡ []) }
     {
         self.rows().is_empty()
     }
 
-    /// The value at a key, or none where no tag has it, in time logarithmic in the number of tags.
+    /// Returns the value at a key, if a tag has the key. Takes time logarithmic in the number of tags.
     pub fn get(&self, key: &str) -> Option<&Text<A>>
         ensures { option_copied result ≡ value_at self.now key.now }
     {
         self.rows.get(key)
     }
 
-    /// The tags in the order of the bytes of their keys.
+    /// Returns the tags in the order of the bytes of their keys.
     pub fn rows(&self) -> &[Tag<A>]
         ensures rows { map tag_pair result.now ≡ self.now }
         ensures sound { AreTagRows self.now }
@@ -84,25 +84,29 @@ impl<A: Allocator> Tags<A> {
         self.rows.rows()
     }
 
-    /// Gives a key its value: a new tag, or a new value of the tag that has the key. It refuses
-    /// `EmptyKey`; then `TooManyTags` where the key is a new one and there are 1,000 tags; then
-    /// `Memory`, never in the place of these two, where a new tag asks for it. A new value of a tag that
-    /// is there takes no memory. After a refusal the tags are as before. The key is found in time
-    /// logarithmic in the number of tags, and the tags behind a new one are moved: none, where keys come
-    /// in their order.
+    /// Sets the value of a key: adds a tag, or replaces the value of the tag that has the key.
+    ///
+    /// Finding the key takes time logarithmic in the number of tags. The tags after a new tag are moved, so keys that
+    /// come in order move no tag. A new value of an existing tag allocates nothing.
+    ///
+    /// # Errors
+    ///
+    /// The first of these that applies. The tags are then unchanged.
+    /// - `EmptyKey`, if the key is empty
+    /// - `TooManyTags`, if the key is new and there are 1,000 tags
+    /// - `Memory`, if the key is new and an allocation fails
     pub fn set(&mut self, key: Text<A>, value: Text<A>) -> Result<(), TextFault>
         ensures ok { OnOk result ((set_refusal self.old key ≡ None) × (self.new ≡ put text_cmp key value self.old)) }
         ensures err { IfErr result (λ e. (self.new ≡ self.old) × refuses (set_refusal self.old key) e) }
 
-        // The refusal that the tests name is the answer.
+        // `Memory` never replaces a refusal of `set_refusal`.
         ensures named { (e : TextFault) → set_refusal self.old key ≡ Some e → result ≡ Err e }
         ensures memory_only_for_new { result ≡ Err TextFault.Memory → value_at self.old key ≡ None }
     {
         self.rows.set(key, value)
     }
 
-    /// Takes the tag with this key away, and says whether there was one. It takes no memory. The tags
-    /// behind it are moved.
+    /// Removes the tag with this key, and returns whether there was one. The tags after it are moved.
     pub fn clear(&mut self, key: &str) -> bool
         ensures there { result ≡ is_some (value_at self.old key.now) }
         ensures rest { self.new ≡ without_key self.old key.now }
@@ -110,7 +114,7 @@ impl<A: Allocator> Tags<A> {
         self.rows.clear(key)
     }
 
-    /// Second tags with the same keys and values, or `Memory`.
+    /// Returns a copy, or `Memory`.
     pub fn copy(&self) -> Result<Tags<A>, Memory>
     where
         A: Clone,

@@ -10,17 +10,17 @@ use crate::fault::TextFault;
 use std::alloc::{AllocError, Allocator};
 use std::marker::Model;
 
-/// The most characters that a text has, a limit of this project.
+/// The most characters in a text, a limit of this project.
 pub const MOST_CHARACTERS: usize = 255;
 
-/// A text of at most 255 Unicode characters, which is this project's limit on keys and values.
+/// A text of at most 255 Unicode characters, this project's limit on keys, values and roles.
 #[derive(Drop)]
 #[derive_where(Debug)]
 pub struct Text<A: Allocator> {
     inside: String<A>,
 }
 
-// A text is seen as its bytes.
+// Contracts model a text as its bytes.
 impl<A: Allocator> Model for Text<A> {
     ghost use Rattle.std.specs.Prelude.{◌≡◌, List, ℕ, false};
     ghost use Rattle.std.specs.String.{string_bytes};
@@ -34,13 +34,17 @@ impl<A: Allocator> Model for Text<A> {
 }
 
 impl<A: Allocator> Text<A> {
-    /// A text with these characters. It refuses `TextTooLong` where there are more than 255 characters
-    /// (characters, not bytes), and `Memory`.
+    /// Copies a string slice to a text.
+    ///
+    /// # Errors
+    ///
+    /// - `TextTooLong`, if there are more than 255 characters (not bytes)
+    /// - `Memory`, if otherwise an allocation fails
     pub fn new(alloc: A, text: &str) -> Result<Text<A>, TextFault>
         ensures text { MatchResult result
             (λ t. (text_refusal text.now ≡ None) × (t ≡ text.now))
             (refuses (text_refusal text.now)) }
-        // The refusal that the test names is the answer.
+        // `Memory` never replaces `TextTooLong`.
         ensures named { (e : TextFault) → text_refusal text.now ≡ Some e → result ≡ Err e }
     {
         if is_too_long(text) {
@@ -50,8 +54,11 @@ impl<A: Allocator> Text<A> {
         Ok(Text { inside })
     }
 
-    /// A text of the characters of a string, whose memory it takes over. It refuses `TextTooLong` where there are more
-    /// than 255 characters, and never for want of memory.
+    /// Makes a text of a string, and takes over its memory.
+    ///
+    /// # Errors
+    ///
+    /// `TextTooLong`, if there are more than 255 characters. It never returns `Memory`.
     pub fn from_string(text: String<A>) -> Result<Text<A>, TextFault>
         ensures text { MatchResult result
             (λ t. (text_refusal (string_bytes text) ≡ None) × (t ≡ string_bytes text))
@@ -63,7 +70,7 @@ impl<A: Allocator> Text<A> {
         Ok(Text { inside: text })
     }
 
-    /// The text, which has at most 255 characters.
+    /// Returns the text, which has at most 255 characters.
     pub fn as_str(&self) -> &str
         ensures value { result.now ≡ self.now }
         ensures short { is_long self.now ≡ false }
@@ -71,7 +78,7 @@ impl<A: Allocator> Text<A> {
         self.inside.as_str()
     }
 
-    /// A second text with the same characters, or `Memory`.
+    /// Returns a copy, or `Memory`.
     pub fn copy(&self) -> Result<Text<A>, Memory>
     where
         A: Clone,
@@ -90,14 +97,14 @@ impl<A: Allocator + Clone> Clone for Text<A> {
     }
 }
 
-/// Whether two texts are the same.
+/// Returns whether two texts are the same.
 pub fn is_same_text<A: Allocator>(one: &Text<A>, other: &Text<A>) -> bool
     ensures { result ≡ is_same_text one.now other.now }
 {
     one.as_str() == other.as_str()
 }
 
-// Whether a text has more than 255 characters.
+// Returns whether a text has more than 255 characters.
 fn is_too_long(text: &str) -> bool
     ensures { result ≡ is_long text.now }
 {

@@ -1,4 +1,4 @@
--- What the lists of users say after a name gained or lost references.
+-- The table that the lists of users represent, after a name gains or loses references.
 use Rattle.std.proofs.Common.{◌≡◌, ◌&&◌, ◌||◌, Result, Ok, Err, OnErr, Bool, true, false, not, cond, List, ◌++◌, refl, sym, ap, subst, ◌∙◌}
 use Rattle.osm_elements.specs.declared.name.Name.{Name}
 use Rattle.osm_elements.specs.NameOrder.{name_cmp}
@@ -13,7 +13,7 @@ use Rattle.osm_refs.specs.Rising.{IsRising, names_but}
 use Rattle.osm_refs.specs.Tables.{Table, references_at, referring, users_in}
 use Rattle.rising_lists.specs.Lists.{AreLists, Gains, Lacks, Loses, SameLists}
 
--- the users of a name are those that the references tell
+-- the users of a name in the represented table are its list
 pub users_in-references_of : (lists : Table) (e : Name) → AreLists name_cmp name_cmp lists → users_in (references_of lists) e ≡ references_at lists e
 users_in-references_of lists e h = users_in-turned lists e h.in_order (h.rising e)
 
@@ -23,7 +23,7 @@ IsRising-references lists q h = subst IsRising (sym (references_at-turned lists 
 among_references : (lists : Table) (q e : Name) → AreLists name_cmp name_cmp lists → is_among (references_at (references_of lists) q) e ≡ is_among (references_at lists e) q
 among_references lists q e h = ap (λ names. is_among names e) (references_at-turned lists q) ∙ among_users_in lists q e h.in_order
 
--- a table with rising rows that tells the same users is the one that the lists say
+-- a table with rising rows and the same users is the one that the lists represent
 references_are : (lists : Table) (t : Table) → AreLists name_cmp name_cmp lists → IsTable t → ((q : Name) → IsRising (references_at t q)) → ((q e : Name) → is_among (references_at lists e) q ≡ is_among (references_at t q) e) → references_of lists ≡ t
 references_are lists t h table rises is =
     same_tables (references_of lists) t (IsTable-turned lists) table
@@ -40,7 +40,7 @@ module _ (before after : Table) (name : Name) (names : List Name) (h : AreLists 
   was : (q e : Name) → is_same q name ≡ true → is_among (references_at before e) q ≡ is_among old e
   was q e f = sym (among_references before q e h) ∙ ap (λ z. is_among (references_at (references_of before) z) e) (same_names q name f)
 
-  -- none of the names that come is there
+  -- no name that is gained is there yet
   pub lacks : names_but names old ≡ names → Lacks name_cmp name_cmp before names name
   lacks new e q = by (is_same q name) refl
     where
@@ -64,7 +64,7 @@ module _ (before after : Table) (name : Name) (names : List Name) (h : AreLists 
       by false f = ap (λ a. a && is_among (references_at before e) q) (and_false (is_among names e))
 
   module _ (k : AreLists name_cmp name_cmp after) where
-    -- the table has other names at one name
+    -- the table has new references at one name
     written : (set : List Name) → IsRising set → ((q e : Name) → is_same q name ≡ true → is_among (references_at after e) q ≡ is_among set e)
         → ((q e : Name) → is_same q name ≡ false → is_among (references_at after e) q ≡ is_among (references_at before e) q) → references_of after ≡ referring (references_of before) name set
     written set rises at others =

@@ -1,4 +1,4 @@
--- References that are the same.
+-- References that stay the same.
 use Rattle.std.proofs.Common.{◌≡◌, ◌&&◌, Bool, true, false, List, [], ◌∷◌, not, refl, ap, ◌∙◌}
 use Rattle.std.specs.Cmp.Lexicographic.{pointwise}
 use Rattle.osm_elements.specs.Facts.Rows.{same_names}
@@ -19,7 +19,7 @@ same_lists (x ∷ xs) (y ∷ ys) e =
     let parts = both (is_same x y) (pointwise is_same xs ys) e in
     ap (λ z. z ∷ xs) (same_names x y parts.0) ∙ ap (λ zs. y ∷ zs) (same_lists xs ys parts.1)
 
--- none of some names is not among them
+-- a list without its own names is empty
 pub none_but_itself : (names : List Name) → IsRising names → names_but names names ≡ []
 none_but_itself names rises = same_rising (names_but names names) [] (IsRising-filter (λ e. not (is_among names e)) names rises) tt (λ q. is_among-passing (λ e. not (is_among names e)) names q ∙ by (is_among names q))
   where

@@ -1,4 +1,4 @@
--- A table read the other way round.
+-- The inverse of a table.
 use Rattle.std.proofs.Common.{◌≡◌, ◌||◌, Bool, true, false, not, cond, T, List, [], ◌∷◌, map, Some, unwrap_or, refl, sym, ap, ◌∙◌}
 use Rattle.std.specs.List.{filter, flat_map, list_all}
 use Rattle.std.specs.FinMap.Entries.{find, is_sorted, below_all}
@@ -29,7 +29,7 @@ module _ {X : Type 0} where
 pub IsRising-users_in : (t : Table) (e : Name) → T (is_sorted name_cmp t) → IsRising (users_in t e)
 IsRising-users_in t e h = IsRising-names (filter (λ r. is_among r.1 e) t) (is_sorted-filter name_cmp (λ r. is_among r.1 e) t h)
 
--- a name is among the users of another just where that one is among its references
+-- q is among the users of e if and only if e is among the references of q
 pub among_users_in : (t : Table) (e q : Name) → T (is_sorted name_cmp t) → is_among (users_in t e) q ≡ is_among (references_at t q) e
 among_users_in [] e q h = refl
 among_users_in (r ∷ t) e q h = by (is_same q r.0) refl (is_among r.1 e) refl (among_users_in t e q (second _ _ h))
@@ -102,7 +102,7 @@ IsTable-turned t = (
   all_have (users_in t) (name_set (used t)) (λ y e. some_used t y (sym (is_among-name_set y (used t)) ∙ e)),
 )
 
--- a table that is turned tells as users what it had as references
+-- the users in an inverse table are the references in the table
 pub users_in-turned : (t : Table) (e : Name) → T (is_sorted name_cmp t) → IsRising (references_at t e) → users_in (turned t) e ≡ references_at t e
 users_in-turned t e h rises =
     same_rising (users_in (turned t) e) (references_at t e) (IsRising-users_in (turned t) e (IsTable-turned t).0) rises

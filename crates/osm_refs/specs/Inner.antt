@@ -1,2 +1,2 @@
--- How users are kept. No contract that is seen from outside cites these.
+-- The representation of users. No contract of a public function cites it.
 pub mod Turned

@@ -10,6 +10,6 @@ use Rattle.rising_lists.specs.Rising as lists
 abbrev pub IsRising : List Name → Type 0
 IsRising names = lists.IsRising name_cmp names
 
--- the names that are not among others
+-- the names that the second list does not contain
 abbrev pub names_but : List Name → List Name → List Name
 names_but names others = filter (λ e. not (is_among others e)) names

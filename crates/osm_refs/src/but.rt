@@ -1,4 +1,4 @@
-//! What of some names is not among others.
+//! The difference of two rising lists of names.
 ghost use Rattle.std.specs.Prelude.{◌≡◌, IfOk};
 ghost use Rattle.osm_refs.specs.Rising.{IsRising, names_but};
 
@@ -8,8 +8,8 @@ use osm_elements::names::Names;
 use rising_lists::but::but_all;
 use std::alloc::Allocator;
 
-/// The names of a rising list that are not among those of another, which rises too, or `Memory`. It walks over both
-/// lists once.
+/// Returns the names of a rising list that a second rising list does not contain, or `Memory`. It walks over both lists
+/// once.
 pub fn names_but<A: Allocator>(
     alloc: A,
     names: &[Name],

@@ -1,4 +1,4 @@
-//! What a change of an element does to its references.
+//! The references that begin and cease when an element changes.
 ghost use Rattle.std.specs.Prelude.{◌≡◌, IfOk, true};
 ghost use Rattle.std.specs.Option.{option_copied};
 ghost use Rattle.osm_elements.specs.Maps.{name_set};
@@ -13,26 +13,27 @@ use osm_elements::name::Name;
 use osm_elements::names::Names;
 use std::alloc::Allocator;
 
-/// A name, with what it refers to only after a change of its element, and what it referred to only before. Both lists
-/// rise.
+/// A name, with the references that begin and cease when its element changes. Both lists rise.
 #[derive(Drop)]
 #[derive_where(Debug)]
 pub struct ReferenceChange<A: Allocator> {
     /// The name whose element changes.
     pub name: Name,
-    /// What it refers to afterwards and did not before.
+    /// The names that it refers to only after the change.
     pub begun: Names<A>,
-    /// What it referred to before and does not afterwards.
+    /// The names that it referred to only before the change.
     pub ceased: Names<A>,
 }
 
 impl<A: Allocator + Clone> ReferenceChange<A> {
-    /// What a change of a name's element from `before` to `after` does to its references; `None` is no row. References
-    /// that are the same in the same order are compared and not sorted.
+    /// Finds the references that begin and cease when the element of a name changes from `before` to `after`. `None`
+    /// means that the map has no such element.
+    ///
+    /// If both elements are ways with the same nodes in the same order, the nodes are compared and not sorted.
     ///
     /// # Errors
     ///
-    /// `Memory`.
+    /// `Memory`, if an allocation fails.
     pub fn of(
         alloc: &A,
         name: Name,
@@ -64,7 +65,7 @@ impl<A: Allocator + Clone> ReferenceChange<A> {
     }
 }
 
-// What an element refers to, rising: nothing if there is none.
+// Returns the names that an element refers to, rising. An absent element refers to nothing.
 fn row_refs<A: Allocator>(alloc: A, element: Option<&Element<A>>) -> Result<Names<A>, Memory>
     ensures { IfOk result (λ names. names ≡ name_set (row_references (option_copied element.entry))) }
 {
@@ -74,8 +75,8 @@ fn row_refs<A: Allocator>(alloc: A, element: Option<&Element<A>>) -> Result<Name
     }
 }
 
-// Whether both are ways with the same nodes in the same order, or refer to nothing. Other elements may refer to the same
-// names, too.
+// Returns whether both are ways with the same nodes in the same order, or neither refers to anything. If it returns
+// `false`, the references may still be the same.
 fn keep_references<A: Allocator>(before: Option<&Element<A>>, after: Option<&Element<A>>) -> bool
     ensures { result ≡ true
         → row_references (option_copied before.entry) ≡ row_references (option_copied after.entry) }

@@ -1,4 +1,4 @@
-//! Laws of tables of references, each the contract of a function that does nothing.
+//! Laws of tables of references. Each is the contract of a function that does nothing.
 ghost use Rattle.std.specs.Prelude.{◌≡◌, []};
 ghost use Rattle.osm_elements.specs.declared.element.Element.{Element};
 ghost use Rattle.osm_elements.specs.declared.name.Name.{Name};
@@ -9,14 +9,14 @@ ghost use Rattle.osm_refs.specs.Tables.{table_of, users_in, references_at, refer
 
 use std::alloc::Allocator;
 
-/// The table of a map tells of every name the users and the references that the map's rows tell.
+/// The table of a map has the same users and the same references of each name as the map's rows.
 pub fn a_table_tells_what_its_map_tells<A: Allocator>()
     ensures users { (m : Rows A) (e : Name) → AreInOrder m → users_in (table_of m) e ≡ users m e }
     ensures references { (m : Rows A) (x : Name) → AreInOrder m
         → references_at (table_of m) x ≡ name_set (row_references (row_at m x)) }
 {}
 
-/// When a row changes, the table of the map changes by that name's references.
+/// If a row changes, the table of the map changes by the references of that row's name.
 pub fn a_table_changes_with_its_map<A: Allocator>()
     ensures put { (m : Rows A) (x : Name) (v : Element A) → AreInOrder m
         → table_of (put_row m x v) ≡ referring (table_of m) x (name_set (references v)) }

@@ -12,9 +12,12 @@ use osm_elements::name::Name;
 use osm_elements::names::Names;
 use std::alloc::Allocator;
 
-/// The names that an element refers to, rising, each once, or `Memory`: the nodes of a way or the members of a relation
-/// (OpenStreetMap wiki, "Elements"). A node refers to none, and takes no memory. The names are sorted, which takes time
-/// `n log n` for an element with `n` of them.
+/// Returns the names that an element refers to, rising, each once: the nodes of a way or the members of a relation
+/// (OpenStreetMap wiki, "Elements"). It sorts them, which takes time `n log n` for n names.
+///
+/// # Errors
+///
+/// `Memory`, if an allocation fails. A node refers to no name and never gets `Memory`.
 pub fn refs_of<A: Allocator>(alloc: A, element: &Element<A>) -> Result<Names<A>, Memory>
     ensures set { IfOk result (λ names. names ≡ name_set (references element.now)) }
     ensures node { kind_of element.now ≡ Node → IsOk result }
@@ -25,7 +28,7 @@ pub fn refs_of<A: Allocator>(alloc: A, element: &Element<A>) -> Result<Names<A>,
     Ok(Names::from_vec(names))
 }
 
-// The names in an element's own order.
+// Returns the names in the element's own order.
 fn named<A: Allocator>(alloc: A, element: &Element<A>) -> Result<Vec<Name, A>, Memory>
     ensures names { IfOk result (λ names. names.items ≡ references element.now) }
     ensures node { kind_of element.now ≡ Node → IsOk result }
@@ -37,7 +40,7 @@ fn named<A: Allocator>(alloc: A, element: &Element<A>) -> Result<Vec<Name, A>, M
     }
 }
 
-// The names of members, in their order.
+// Returns the names of members, in their order.
 fn member_names<A: Allocator>(alloc: A, members: &[Member<A>]) -> Result<Vec<Name, A>, Memory>
     ensures { IfOk result (λ names. names.items ≡ map (λ m. m.name) members.now) }
 {

@@ -1,4 +1,4 @@
-//! The users of the names of a map, kept up to date row by row.
+//! The users of all names of a map, updated row by row.
 ghost use Rattle.std.specs.Prelude.{◌≡◌, ◌++◌, [], IfOk, OnErr, OnOk};
 ghost use Rattle.osm_elements.specs.Maps.{name_set};
 ghost use Rattle.osm_refs.specs.Rising.{IsRising, names_but};
@@ -10,18 +10,20 @@ use rising_lists::lists::RisingLists;
 use std::alloc::{AllocError, Allocator};
 use std::marker::Model;
 
-/// The users of every name: which names refer to it (OpenStreetMap wiki, "Elements": a way refers to its nodes, a
-/// relation to its members). When an element changes, its name first gains what it begins to refer to, which allocates
-/// and may fail; then it loses what it ceases to refer to, which does neither.
+/// The users of each name, which are the names that refer to it (OpenStreetMap wiki, "Elements": a way refers to its
+/// nodes, a relation to its members).
+///
+/// If an element changes, first [`Users::gain`] enters the references that begin, which allocates and can fail. Then
+/// [`Users::lose`] removes the references that cease, which cannot fail.
 #[derive(Drop)]
 #[derive_where(Debug)]
 pub struct Users<A: Allocator> {
-    // What contracts see, read the other way round: for each name that is used the rising list of its users. A name that
-    // nobody uses is not there.
+    // The inverse of the table that contracts see: each used name, with the rising list of its users. Names without
+    // users are not there.
     lists: RisingLists<Name, Name, A>,
 }
 
-// Users are seen as the table of what each name refers to.
+// Contracts model users as the table of the references of each name.
 impl<A: Allocator> Model for Users<A> {
     ghost use Rattle.osm_refs.specs.Inner.Turned.{references_of};
     ghost use Rattle.osm_refs.specs.Tables.{Table};
@@ -32,7 +34,7 @@ impl<A: Allocator> Model for Users<A> {
 }
 
 impl<A: Allocator> Users<A> {
-    /// No users, of an empty map. It does not allocate.
+    /// Returns the users of an empty map.
     pub fn new(alloc: A) -> Users<A>
         ensures { result ≡ [] }
     {
@@ -41,19 +43,19 @@ impl<A: Allocator> Users<A> {
         }
     }
 
-    /// The names that refer to a name, in name order, in time logarithmic in the number of names that are used.
+    /// Returns the users of a name, in name order. Takes time logarithmic in the number of used names.
     pub fn of(&self, name: &Name) -> &[Name]
         ensures { result.now ≡ users_in self.now name.now }
     {
         self.lists.of(name)
     }
 
-    /// Enters that a name refers to some more names, each of them new to it. It takes time logarithmic in the number of
-    /// used names for each of them, and what it takes to move the later users of that name.
+    /// Enters that `name` now also refers to `names`. These must rise, and `name` must not refer to any of them yet.
+    /// For each of them, it takes time logarithmic in the number of used names, and moves the later users of that name.
     ///
     /// # Errors
     ///
-    /// `Memory`; then the users are unchanged.
+    /// `Memory`, if an allocation fails. The users are then unchanged.
     pub fn gain(&mut self, alloc: &A, name: Name, names: &[Name]) -> Result<(), Memory>
     where
         A: Clone,
@@ -67,7 +69,7 @@ impl<A: Allocator> Users<A> {
         Ok(())
     }
 
-    /// Enters that a name no longer refers to some names. It does not allocate, and takes as long as to gain them.
+    /// Enters that `name` no longer refers to `names`. It takes as long as to gain them.
     pub fn lose(&mut self, name: &Name, names: &[Name])
         ensures { self.new
             ≡ referring self.old name.now (names_but (references_at self.old name.now) names.now) }
@@ -75,7 +77,7 @@ impl<A: Allocator> Users<A> {
         self.lists.take_out_all(names, name);
     }
 
-    /// Second users that are equal to these, or `Memory`.
+    /// Returns a copy, or `Memory`.
     pub fn copy(&self) -> Result<Users<A>, Memory>
     where
         A: Clone,

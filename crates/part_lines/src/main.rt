@@ -1,11 +1,15 @@
-//! Runs parts of maproom by lines, for tests.
+//! Runs parts of maproom, for tests. The first three read lines of standard input, which their modules describe.
 //!
-//! `part_lines edits` plans and applies edits, `part_lines mirrors` keeps a mirror, and `part_lines sessions [LIMIT]`
-//! runs sessions with a room whose journal takes so many entries, or 1,000: each as the lines of standard input say,
-//! which the modules tell. `part_lines rooms [TURNS]` shows what rooms answer that are run or shared by turns; with a
-//! number it then measures how fast so many turns are taken. `part_lines runs [PLACE]` shows of these two runs of a few
-//! calls, without the call of this place, counted from 1. `part_lines serve ADDR WORKERS SESSIONS TURNS [held]` is a
-//! server of one room, by so many workers and for so many sessions, each of which reads so many messages at most.
+//! - `part_lines edits` plans and applies edits.
+//! - `part_lines mirrors` keeps a mirror.
+//! - `part_lines sessions [LIMIT]` runs sessions with a room whose journal takes at most LIMIT entries, 1,000 by
+//!   default.
+//! - `part_lines rooms [TURNS]` shows the replies of rooms that are run or shared by turns. With a number it then
+//!   measures how fast so many turns are taken.
+//! - `part_lines runs [PLACE]` shows two of these runs, of a few calls, without the call at this position, counted from
+//!   1.
+//! - `part_lines serve ADDR WORKERS SESSIONS TURNS [held]` serves one room with so many workers and for so many
+//!   sessions, each of which reads at most TURNS messages.
 #![tactic(auto)]
 
 mod edits;
@@ -22,7 +26,7 @@ use std::sync::Wait;
 use std::thread::Threads;
 use std::{env, io};
 
-// How many entries a journal takes if no number is given.
+// The most entries that a journal takes if no number is given.
 const LIMIT: u32 = 1_000;
 
 fn main(rt: HostRuntime) -> io::Result<()> {
@@ -86,7 +90,7 @@ fn what_is_asked<R: Env + AllocGlobal>(rt: &R) -> Option<Asked> {
     }
 }
 
-// Shows what rooms answer, and how fast, if so many turns are to be measured.
+// Shows the replies of rooms and, if a number of turns is given, measures how fast they are taken.
 fn show_rooms<R: Clock + Print + Eprint + Threads + Wait + Sync>(
     rt: &R,
     alloc: Global,

@@ -1,8 +1,9 @@
-//! A mirror of a room, which is kept by the texts of a session.
+//! Keeps a mirror of a room by the texts of a session.
 //!
-//! A line is `make`, a space and the text of a welcome, of which the mirror is made anew; `take`, a space and the text
-//! of news, which it takes; or `map`. For each line one is printed: the number of the mirror's last entry; for `map`
-//! the text of a welcome that tells its map, under the id 1; or, where a text is refused, why.
+//! A line is `make`, a space and the text of a welcome, from which a new mirror is made. Or it is `take`, a space and
+//! the text of news, which the mirror takes, or `map`. One line is printed for each: the number of the mirror's last
+//! entry. For `map` it is the text of a welcome with the mirror's map, under the id 1. If a text is refused, it is the
+//! reason.
 
 mod line;
 mod told;
@@ -12,7 +13,7 @@ use room_mirror::mirror::Mirror;
 use std::alloc::Global;
 use std::io::{self, Lines, StdinLock};
 
-/// Hands a mirror the texts of lines.
+/// Gives a mirror the texts of lines.
 pub fn run(rt: &impl Print, alloc: Global, lines: Lines<StdinLock<'_>, Global>) -> io::Result<()> {
     let mut mirror = None;
     for line in lines {
@@ -21,7 +22,7 @@ pub fn run(rt: &impl Print, alloc: Global, lines: Lines<StdinLock<'_>, Global>) 
     Ok(())
 }
 
-// Hands a mirror the text of a line, and prints what is told for it.
+// Gives a mirror the text of a line, and prints the result.
 fn tell_line(
     rt: &impl Print,
     alloc: Global,

@@ -1,4 +1,4 @@
-//! Rooms that are run, and rooms that are shared by turns: what is answered, and how fast.
+//! Rooms that are run, and rooms that are shared by turns: their replies, and the rate of turns.
 
 mod bases;
 mod calls;
@@ -13,13 +13,13 @@ use std::io;
 use std::sync::Wait;
 use std::thread::Threads;
 
-/// Prints what is answered to runs of calls, and to seats on one thread and on two.
+/// Prints the replies to runs of calls, and to seats on one thread and on two threads.
 pub fn show<R: Print + Threads + Wait + Sync>(rt: &R, alloc: Global) -> io::Result<()> {
     runs::show(rt, alloc)?;
     seats::show(rt, alloc)
 }
 
-/// Prints what is answered to two runs of a few calls, without the one of this place, counted from 1.
+/// Prints the replies to two runs of a few calls, without the call at position `without`, counted from 1.
 pub fn show_runs<R: Print + Wait>(rt: &R, alloc: Global, without: u32) -> io::Result<()> {
     runs::show_each(rt, alloc, without)
 }

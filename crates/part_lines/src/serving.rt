@@ -1,7 +1,7 @@
-//! A server of one room, `paris`, with a bound on what a session reads and a gate that can hold a message back.
+//! A server of one room, `paris`, with a limit on the messages of a session and a gate that can delay a message.
 //!
-//! It serves as `maproom serve` does. `listening` is printed once clients can connect, and at the end how many entries
-//! the journal of the room has.
+//! It serves as `maproom serve` does. `listening` is printed once clients can connect, and the entry count of the
+//! room's journal at the end.
 
 mod held;
 
@@ -16,24 +16,25 @@ use std::sync::Wait;
 use std::thread::Threads;
 use std::time::Clock;
 
-// How many entries a journal takes.
+// The most entries that the journal takes.
 const LIMIT: u32 = 1_000;
 
-// How many workers there are at most.
+// The most workers.
 const MOST_WORKERS: u32 = 64;
 
-/// What a server is asked for.
+/// The options of a server.
 #[derive(Drop)]
 pub struct Serving {
-    /// Where it listens.
+    /// The address at which it listens.
     pub addr: String,
-    /// How much it serves.
+    /// The limits of its pool.
     pub load: Load,
-    /// Whether the third message of the first session is held back until the second one of the second was answered.
+    /// Whether the third message of the first session is delayed until the second message of the second session was
+    /// answered.
     pub is_held: bool,
 }
 
-/// Serves as it is asked.
+/// Runs the server.
 pub fn run<R>(rt: &R, alloc: Global, asked: &Serving) -> io::Result<()>
 where
     R: Net<Listener = TcpListener, Stream = TcpStream>

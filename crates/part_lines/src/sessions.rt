@@ -1,9 +1,15 @@
-//! Sessions of two clients with one room, `paris`.
+//! Runs sessions of two clients with one room, `paris`.
 //!
-//! A line is the name of a client, `anna` or `bob`, a space, and what comes from it: `connect`, a new connection in the
-//! place of the one before; `quiet`, nothing for a while; `binary`, a message that is no text; `close`, the end of the
-//! connection; or a text. For each line is printed what goes out to this client, and then an empty line: each text on a
-//! line, `close` and the code where the connection is closed, and that the session is closed where it was before.
+//! A line is the name of a client, `anna` or `bob`, a space, and an event of this client:
+//!
+//! - `connect`: a new connection, which replaces the earlier one
+//! - `quiet`: nothing for a while
+//! - `binary`: a message that is not a text
+//! - `close`: the end of the connection
+//! - any other text: a text message
+//!
+//! For each line, the output has what goes out to this client, and then an empty line. Each text is on its own line.
+//! `close` and the code follow if the connection is closed. If the session was closed before, the output says so.
 
 ghost use Rattle.room_session.specs.Running.{IsRunOn};
 ghost use Rattle.room_server.specs.Tables.{known_of};
@@ -18,7 +24,7 @@ use std::alloc::Global;
 use std::io::{self, Lines, StdinLock};
 use std::sync::Wait;
 
-/// Runs the sessions that lines tell with a room whose journal takes at most so many entries.
+/// Runs the sessions that lines describe, with a room whose journal takes at most `limit` entries.
 pub fn run<R: Print + Wait>(
     rt: &R,
     alloc: Global,
@@ -34,7 +40,7 @@ pub fn run<R: Print + Wait>(
     hear_lines(rt, alloc, &mut anna, &mut bob, &mut rooms, lines)
 }
 
-// Hands the two sessions what the lines say.
+// Gives the two sessions the events of the lines.
 fn hear_lines<R: Print + Wait>(
     rt: &R,
     alloc: Global,

@@ -1,2 +1,2 @@
--- What inner functions and proofs use.
+-- Definitions for private functions and proofs.
 pub mod States

@@ -1,12 +1,16 @@
-//! What of a rising list is not among another.
+//! The difference of two rising lists.
 ghost use Rattle.std.specs.Prelude.{◌≡◌, IfOk};
 ghost use Rattle.rising_lists.specs.Rising.{IsRising, but_all};
 
 use std::alloc::{AllocError, Allocator};
 use std::cmp::Ordering;
 
-/// The values of a rising list that are not among those of another, which rises too, in their order; or a refusal where
-/// there is no memory. It walks over both lists once.
+/// Returns the values of a rising list that a second rising list does not contain, in their order. It walks over both
+/// lists once.
+///
+/// # Errors
+///
+/// `AllocError`, if an allocation fails.
 pub fn but_all<V: Ord + Copy, A: Allocator>(
     alloc: A,
     values: &[V],

@@ -1,4 +1,4 @@
-//! A list of values that rises.
+//! Lists of values that rise.
 ghost use Rattle.std.specs.Prelude.{◌≡◌, [], ◌∷◌, IfOk, OnErr, OnOk};
 ghost use Rattle.std.specs.Mem.{FitsInMemory};
 ghost use Rattle.rising_lists.specs.Lists.{has_none};
@@ -9,25 +9,27 @@ use std::array;
 use std::cmp::Ordering;
 use std::marker::Model;
 
-/// Values, each of them once and in their order. A lookup takes time logarithmic in their number, and a value that comes
-/// or goes moves those after it. One value needs no allocation: most lists of a map have one.
+/// A list of values in their order, each once.
+///
+/// A look-up takes time logarithmic in the number of values. An added or removed value moves the values after it. A
+/// list of one value allocates nothing: most lists of a map have one value.
 #[derive(Drop)]
 #[derive_where(Debug; V)]
 pub struct RisingList<V: Ord + Copy, A: Allocator> {
     state: State<V, A>,
 }
 
-// How many values a list has.
+// The values of a list.
 #[derive(Drop)]
 #[derive_where(Debug; V)]
 enum State<V: Ord + Copy, A: Allocator> {
     Nothing,
     One(V),
-    // Any number. The box keeps the list itself small.
+    // Any number of values. The box keeps the list itself small.
     Many(Box<Vec<V, A>, A>),
 }
 
-// A list is seen as its values.
+// Contracts model a list as its values.
 impl<V: Ord + Copy, A: Allocator> Model for RisingList<V, A> {
     ghost use Rattle.std.specs.Prelude.{List};
     ghost use Rattle.rising_lists.specs.Inner.States.{values};
@@ -38,7 +40,7 @@ impl<V: Ord + Copy, A: Allocator> Model for RisingList<V, A> {
 }
 
 impl<V: Ord + Copy, A: Allocator> RisingList<V, A> {
-    /// A list of one value. It does not allocate.
+    /// Returns a list of one value.
     pub fn one(value: V) -> RisingList<V, A>
         ensures { result ≡ value ∷ [] }
     {
@@ -47,7 +49,7 @@ impl<V: Ord + Copy, A: Allocator> RisingList<V, A> {
         }
     }
 
-    /// The values. `V` has to be of fewer than 2^63 bytes.
+    /// Returns the values. `V` must have fewer than 2^63 bytes.
     pub fn as_slice(&self) -> &[V]
         requires { FitsInMemory V.row }
         ensures { result.now ≡ self.now }
@@ -59,7 +61,7 @@ impl<V: Ord + Copy, A: Allocator> RisingList<V, A> {
         }
     }
 
-    /// Whether there is no value.
+    /// Returns whether there is no value.
     pub fn is_empty(&self) -> bool
         ensures { result ≡ has_none self.now }
     {
@@ -70,7 +72,7 @@ impl<V: Ord + Copy, A: Allocator> RisingList<V, A> {
         }
     }
 
-    /// Puts a value among the others, unless one is equal to it. If an allocation fails, the list is unchanged.
+    /// Inserts a value in order, unless the list has an equal value. Returns `AllocError` if an allocation fails.
     pub fn add(&mut self, alloc: &A, value: V) -> Result<(), AllocError>
     where
         A: Clone,
@@ -93,7 +95,7 @@ impl<V: Ord + Copy, A: Allocator> RisingList<V, A> {
         Ok(())
     }
 
-    /// Removes the value that is equal to `value`, if there is one. It does not allocate.
+    /// Removes the value that is equal to `value`, if any.
     pub fn take_out(&mut self, value: &V)
         requires { IsRising V.cmp self.old }
         ensures { self.new ≡ but V.cmp value.now self.old }
@@ -132,7 +134,7 @@ impl<V: Ord + Copy, A: Allocator + Clone> Clone for RisingList<V, A> {
     }
 }
 
-// Two values in memory of their own. Few lists ever have more.
+// Returns a boxed vector of two values. It has room for just these, because few lists ever have more.
 fn pair<V: Ord + Copy, A: Allocator + Clone>(
     alloc: &A,
     first: V,
@@ -146,7 +148,7 @@ fn pair<V: Ord + Copy, A: Allocator + Clone>(
     boxed(alloc.clone()?, values)
 }
 
-// A vector in memory of its own.
+// Boxes a vector.
 fn boxed<V: Ord + Copy, A: Allocator>(
     alloc: A,
     values: Vec<V, A>,

@@ -7,7 +7,8 @@ use crate::list::RisingList;
 use std::alloc::{AllocError, Allocator};
 use std::collections::BTreeMap;
 
-/// A sorted multimap: the values of each key that has any. A lookup takes time logarithmic in the number of keys.
+/// A sorted multimap: each key that has values, with its list of values. A look-up takes time logarithmic in the number
+/// of keys.
 #[derive(Drop)]
 #[derive_where(Debug; K, V)]
 pub struct RisingLists<K: Ord + Copy, V: Ord + Copy, A: Allocator> {
@@ -16,7 +17,7 @@ pub struct RisingLists<K: Ord + Copy, V: Ord + Copy, A: Allocator> {
 }
 
 impl<K: Ord + Copy, V: Ord + Copy, A: Allocator> RisingLists<K, V, A> {
-    /// No lists. It does not allocate.
+    /// Returns a multimap without keys.
     pub fn new(alloc: A) -> RisingLists<K, V, A>
         ensures { result.lists.entries ≡ [] }
     {
@@ -25,7 +26,7 @@ impl<K: Ord + Copy, V: Ord + Copy, A: Allocator> RisingLists<K, V, A> {
         }
     }
 
-    /// The values of a key, rising. `V` has to be of fewer than 2^63 bytes, which no bound says.
+    /// Returns the values of a key, rising. `V` must have fewer than 2^63 bytes, which no trait bound can state.
     pub fn of(&self, key: &K) -> &[V]
         requires { FitsInMemory V.row }
         ensures { result.now ≡ listed K.cmp self.now.lists.entries key.now }
@@ -36,8 +37,11 @@ impl<K: Ord + Copy, V: Ord + Copy, A: Allocator> RisingLists<K, V, A> {
         }
     }
 
-    /// Puts a value among those of each of some keys, of which none has it. If an allocation fails, all lists are
-    /// unchanged.
+    /// Adds a value to the list of each of `keys`, none of which may have the value.
+    ///
+    /// # Errors
+    ///
+    /// `AllocError`, if an allocation fails. Then all lists have the same values as before.
     pub fn add_all(&mut self, alloc: &A, keys: &[K], value: V) -> Result<(), AllocError>
     where
         A: Clone,
@@ -54,8 +58,8 @@ impl<K: Ord + Copy, V: Ord + Copy, A: Allocator> RisingLists<K, V, A> {
         Ok(())
     }
 
-    /// Removes the value that is equal to `value` from those of each of some keys. A key with no value left goes. It
-    /// does not allocate.
+    /// Removes the value that is equal to `value` from the list of each of `keys`. A key whose list becomes empty is
+    /// removed.
     pub fn take_out_all(&mut self, keys: &[K], value: &V)
         ensures { Loses K.cmp V.cmp self.old.lists.entries self.new.lists.entries keys.now value.now }
     {
@@ -64,8 +68,12 @@ impl<K: Ord + Copy, V: Ord + Copy, A: Allocator> RisingLists<K, V, A> {
         }
     }
 
-    /// The same lists once more. No bound says that a clone of a key is equal to it; so this is a call with a
-    /// condition, and no `Clone`.
+    /// Returns a copy. This is a function with a precondition instead of `Clone`, because no trait bound states that a
+    /// clone of a key is equal to the key.
+    ///
+    /// # Errors
+    ///
+    /// `AllocError`, if an allocation fails.
     pub fn copy(&self) -> Result<RisingLists<K, V, A>, AllocError>
     where
         A: Clone,
@@ -76,7 +84,7 @@ impl<K: Ord + Copy, V: Ord + Copy, A: Allocator> RisingLists<K, V, A> {
         Ok(RisingLists { lists })
     }
 
-    // Puts a value among those of a key.
+    // Adds a value to the list of a key.
     fn add(&mut self, alloc: &A, key: &K, value: V) -> Result<(), AllocError>
     where
         A: Clone,
@@ -92,7 +100,7 @@ impl<K: Ord + Copy, V: Ord + Copy, A: Allocator> RisingLists<K, V, A> {
         }
     }
 
-    // Removes a value from those of a key, if it is there.
+    // Removes a value from the list of a key, if the list has the value.
     fn take_out(&mut self, key: &K, value: &V)
         ensures { Loses K.cmp V.cmp self.old.lists.entries self.new.lists.entries (key.now ∷ []) value.now }
     {

@@ -1,4 +1,4 @@
--- The past of a journal, and the entries that stand, after one more entry.
+-- The past of a journal, and its active entries, after one more entry.
 use Rattle.std.proofs.Common.{◌≡◌, ◌+◌, ◌++◌, ℕ, suc, Bool, true, false, not, List, [], ◌∷◌, Some, length, refl, sym, ap, ◌∙◌, append-nil, cond, length-append, nat_eq, arith}
 use Rattle.std.specs.List.{filter, fold}
 use Rattle.std.proofs.lemmas.List.Elements.{filter-append}
@@ -39,29 +39,29 @@ module _ {A : Type 0} where
       let longer : length (p.entries ++ recorded_next p e.kind ∷ []) ≡ length p.entries + 1 = length-append p.entries (recorded_next p e.kind ∷ []) in
       fold-kept (past_after p e.kind) j ∙ omega (arith, longer)
 
-  -- of each entry something is recorded
+  -- each entry has a record
   pub recorded_each : (base : Rows A) (j : List (Entry A)) → length (past base j).entries ≡ length j
   recorded_each base j = fold-kept (record { map = base; entries = [] }) j ∙ omega arith
 
-  -- what is recorded of the new entry
+  -- the record of the new entry
   pub recorded-last : (base : Rows A) (j : List (Entry A)) (e : Entry A) → numbered (past base (j ++ e ∷ [])).entries (suc (length j)) ≡ Some (recorded_next (past base j) e.kind)
   recorded-last base j e =
       ap (λ n. numbered (past base (j ++ e ∷ [])).entries (suc n)) (sym (recorded_each base j)) ∙ ap (λ (p : Past A). numbered p.entries (suc (length (past base j).entries))) (past-append base j e)
       ∙ numbered_next (past base j).entries (recorded_next (past base j) e.kind)
 
-  -- the map after an entry that is recorded as an action
+  -- the map after an entry whose record is an action's
   pub mapof-work : (base : Rows A) (j : List (Entry A)) (e : Entry A) (a : Action A) → AreInOrder (mapof base j) → recorded_next (past base j) e.kind ≡ recorded_of (mapof base j) a → mapof base (j ++ e ∷ []) ≡ after (mapof base j) a
   mapof-work base j e a here records =
       mapof-append base j e ∙ ap (λ (r : Recorded A). changed (mapof base j) r.changes) records ∙ changed-differences (mapof base j) (after (mapof base j) a) here (AreInOrder-after (mapof base j) a here)
 
-  -- a redo is recorded as the action of the entry that it names, done on the map as it is
+  -- the record of a redo is that of the named entry's action on the current map
   pub recorded-redo : (base : Rows A) (j : List (Entry A)) (t : ℕ) (a : Action A) → action_at (past base j) t ≡ Some a → recorded_next (past base j) (Redo t) ≡ recorded_of (mapof base j) a
   recorded-redo base j t a acts = ap (done_again (mapof base j)) acts
 
   pub mapof-redo : (base : Rows A) (j : List (Entry A)) (e : Entry A) (t : ℕ) (a : Action A) → AreInOrder (mapof base j) → e.kind ≡ Redo t → action_at (past base j) t ≡ Some a → mapof base (j ++ e ∷ []) ≡ after (mapof base j) a
   mapof-redo base j e t a here k acts = mapof-work base j e a here (ap (recorded_next (past base j)) k ∙ recorded-redo base j t a acts)
 
-  -- the entries that stand after an entry that does an action
+  -- the active entries after an entry that does or redoes an action
   pub standing-work : (j : List (Entry A)) (e : Entry A) → is_work e.kind ≡ true → standing (j ++ e ∷ []) ≡ standing j ++ (1 + length j) ∷ []
   standing-work j e work = standing_from-append 1 j e ∙ by e.kind work
     where
@@ -76,12 +76,12 @@ module _ {A : Type 0} where
   pub standing-redo : (j : List (Entry A)) (e : Entry A) (t : ℕ) → e.kind ≡ Redo t → standing (j ++ e ∷ []) ≡ standing j ++ (1 + length j) ∷ []
   standing-redo j e t k = standing-work j e (ap is_work k)
 
-  -- and after an undo
+  -- the active entries after an undo
   pub standing-undo : (j : List (Entry A)) (e : Entry A) (s : ℕ) → e.kind ≡ Undo s → standing (j ++ e ∷ []) ≡ others j s
   standing-undo j e s k =
       standing_from-append 1 j e ∙ ap (λ k. filter (λ t. not (is_undo_of t k)) (standing j) ++ new_number k (1 + length j)) k ∙ append-nil (filter (λ t. not (nat_eq t s)) (standing j))
 
-  -- what an author can redo after one more entry, its own or another's
+  -- an author's redo stack after one more entry, its own or another's
   pub redos-append : (j : List (Entry A)) (e : Entry A) (author : Author) → redos (j ++ e ∷ []) author ≡ cond (is_same_author author e.author) (redos_after (redos j author) e.kind) (redos j author)
   redos-append j e author = ap (fold step []) (filter-append own j (e ∷ [])) ∙ by (own e)
     where
@@ -95,7 +95,7 @@ module _ {A : Type 0} where
       by true = fold-append step [] (filter own j) (e ∷ [])
       by false = ap (fold step []) (append-nil (filter own j))
 
-  -- what the entries changed is counted one by one
+  -- the count of changes grows entry by entry
   pub applied-append : (base : Rows A) (j : List (Entry A)) (e : Entry A) → applied base (j ++ e ∷ []) ≡ counted (applied base j) (recorded_next (past base j) e.kind).changes
   applied-append base j e =
       ap (λ (p : Past A). fold (λ n (r : Recorded A). counted n r.changes) 0 p.entries) (past-append base j e)

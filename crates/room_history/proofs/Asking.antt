@@ -1,4 +1,4 @@
--- What a room answers, from what each of its calls gives.
+-- The reply of a room, from the results of its own calls.
 use Rattle.std.proofs.Common.{◌≡◌, ℕ, List, Option, Result, Ok, Err, IfOk, length, refl, ap, inl, inr}
 use Rattle.std.specs.declared.alloc.AllocError.{AllocError}
 use Rattle.osm_elements.specs.declared.name.Name.{Name}

@@ -1,4 +1,4 @@
--- An accepted action that is undone at once.
+-- An accepted action that is undone in the next accepted call.
 use Rattle.std.proofs.Common.{◌≡◌, ◌+◌, ◌++◌, ◌∷◌, ◌⊎◌, ◌&&◌, ℕ, suc, Bool, true, false, not, List, [], Option, Some, None, length, refl, sym, ap, ◌∙◌, cond, arith, inl, inr, nat_eq, nat_lt, nat_le, length-append}
 use Rattle.std.specs.List.{filter}
 use Rattle.std.specs.Option.{option_map}
@@ -47,7 +47,7 @@ last-filter_last : {X : Type 0} (p : X → Bool) (xs : List X) (y : X) → p y �
 last-filter_last p xs y e =
     ap last (filter-append p xs (y ∷ []) ∙ ap (λ b. filter p xs ++ cond b (y ∷ []) []) e) ∙ last-append (filter p xs) y
 
--- an entry that did an action, or did one again, is recorded as that
+-- the record of an accepted entry that does or redoes an action is that of the action
 worked : {A : Type 0} (p : Past A) (j : List (Entry A)) (author : Author) (k : EntryKind A) → kind_refusal p j author k ≡ None → is_work k ≡ true → (a : Action A) × (recorded_next p k ≡ recorded_of p.map a)
 worked p j author (Do a) passes h = (a, refl)
 worked p j author (Undo t) passes h = absurd (cc)
@@ -58,7 +58,7 @@ worked p j author (Redo t) passes h = by (action_at p t) refl passes
     by (Some a) is e = (a, ap (done_again p.map) is)
 
 module _ {A : Type 0} (base : Rows A) (j : List (Entry A)) (order : AreInOrder (mapof base j)) (e : Entry A) (work : is_work e.kind ≡ true) (a : Action A) (records : recorded_next (past base j) e.kind ≡ recorded_of (mapof base j) a) where
-  -- the number of the new entry, in the two forms that lemmas have it
+  -- the number of the new entry, in both forms that lemmas use
   number : suc (length j) ≡ length j + 1
   number = omega arith
 
@@ -91,7 +91,7 @@ module _ {A : Type 0} (base : Rows A) (j : List (Entry A)) (order : AreInOrder (
   undo_accepted : undo_refusal (past base (j ++ e ∷ [])) (j ++ e ∷ []) e.author (length j + 1) ≡ None
   undo_accepted = own_refusal (past base (j ++ e ∷ [])) (j ++ e ∷ []) e.author (length j + 1) is_mine stands ∙ ap (option_map conflict) unblocked
 
-  -- the map that the undo leaves
+  -- the map after the undo
   back : (u : Entry A) → u.kind ≡ Undo (length j + 1) → mapof base ((j ++ e ∷ []) ++ u ∷ []) ≡ mapof base j
   back u is =
       mapof-append base (j ++ e ∷ []) u

@@ -1,4 +1,4 @@
--- Which rows of a map are sound, and which is the first that is not.
+-- The sound rows of a map, and the first row that is not sound.
 use Rattle.std.proofs.Common.{◌≡◌, ◌&&◌, ◌++◌, ℕ, Bool, true, false, not, List, [], ◌∷◌, Some, None, is_some, length, nat_le, nat_lt, refl, sym, ap, subst, ◌∙◌, cond, arith}
 use Rattle.std.proofs.lemmas.Bool.Decides.{nat_tests}
 use Rattle.std.specs.Bool.{then_some}
@@ -80,7 +80,7 @@ module _ {A : Type 0} where
       refs : list_all (is_present m) (references v) ≡ true
       refs = second_true (is_of_length v) (list_all (is_present m) (references v)) listed
 
-  -- and a row that does not pass them is not sound
+  -- a row that fails a check is not sound
   pub refused_is_unsound : (m : Rows A) (x : Name) (v : Element A) (why : Refusal A) → first_that_holds (list_checks m x v) ≡ Some why → is_sound_row m x v ≡ false
   refused_is_unsound m x v why is = by (is_sound_row m x v) refl
     where
@@ -88,7 +88,7 @@ module _ {A : Type 0} where
       by true e = let passes = sound_passes m x v e in absurd (cc)
       by false e = refl
 
-  -- a row of the map that passes them is sound, if it is of its name's kind and as its types keep it
+  -- a row of the map that passes the checks is sound, if it is of its name's kind and made
   passing_is_sound : (m : Rows A) (x : Name) (v : Element A) → is_present m x ≡ true → is_kind (kind_of v) x.kind ≡ true → is_made v ≡ true
       → first_that_holds (list_checks m x v) ≡ None → is_sound_row m x v ≡ true
   passing_is_sound m x v here kind made passes =
@@ -114,14 +114,14 @@ module _ {A : Type 0} where
   in_order_behind : (r : Name × Element A) (rs : Rows A) → AreInOrder (r ∷ rs) → AreInOrder rs
   in_order_behind r rs h = second (below_all name_cmp r.0 rs) (is_sorted name_cmp rs) h
 
-  -- a row in the midst of a map in order is found under its name
+  -- a row in the middle of a map in order is found under its name
   found : (done : Rows A) (x : Name) (v : Element A) (later : Rows A) → AreInOrder (done ++ (x, v) ∷ later) → row_at (done ++ (x, v) ∷ later) x ≡ Some v
   found [] x v later h = ap (λ b. cond b (Some v) (row_at later x)) (is_eq-name_cmp_itself x)
   found (r ∷ rs) x v later h =
       ap (λ b. cond b (Some r.1) (row_at (rs ++ (x, v) ∷ later) x)) (later_differs r rs x v later h)
       ∙ found rs x v later (in_order_behind r (rs ++ (x, v) ∷ later) h)
 
-  -- a test that the earlier rows pass is passed by each row of a lesser name
+  -- if the earlier rows pass a test, each row with a lesser name passes it
   earlier_passes : (p : Name → Element A → Bool) (done : Rows A) (x : Name) (v : Element A) (later : Rows A) → AreInOrder (done ++ (x, v) ∷ later)
       → list_all (λ r. p r.0 r.1) done ≡ true → (y : Name) (w : Element A) → row_at (done ++ (x, v) ∷ later) y ≡ Some w → is_lt (name_cmp y x) ≡ true → p y w ≡ true
   earlier_passes p [] x v later h all y w is lesser = by (is_same y x) refl
@@ -148,7 +148,7 @@ module _ {A : Type 0} where
           ap (λ z. p z w) (same_names y r.0 e) ∙ ap (p r.0) (sym same) ∙ first_true (p r.0 r.1) (list_all (λ r. p r.0 r.1) rs) all
       by false e rest = rest (ap (λ b. cond b (Some r.1) (row_at (rs ++ (x, v) ∷ later) y)) (sym e) ∙ is)
 
-  -- a test that all rows pass is passed by one in their midst, and by one more
+  -- if all rows pass a test, so do the row in the middle and the rows up to it
   amidst : (p : Name × Element A → Bool) (done : Rows A) (r : Name × Element A) (later : Rows A) → list_all p (done ++ r ∷ later) ≡ true → p r ≡ true
   amidst p [] r later all = first_true (p r) (list_all p later) all
   amidst p (d ∷ ds) r later all = amidst p ds r later (second_true (p d) (list_all p (ds ++ r ∷ later)) all)
@@ -162,7 +162,7 @@ module _ {A : Type 0} where
   abbrev pub AreSound : Rows A → Rows A → Type 0
   AreSound m done = list_all (λ r. is_sound_row m r.0 r.1) done ≡ true
 
-  -- one row more
+  -- one more row is sound
   pub sound_one_more : (m done : Rows A) (x : Name) (v : Element A) (later : Rows A) → AreInOrder m → are_of_kinds m ≡ true → m ≡ done ++ (x, v) ∷ later → is_made v ≡ true
       → first_that_holds (list_checks m x v) ≡ None → AreSound m done → AreSound m (done ++ (x, v) ∷ [])
   sound_one_more m done x v later order kinds is made passes all =
@@ -172,7 +172,7 @@ module _ {A : Type 0} where
       there : row_at m x ≡ Some v
       there = ap (λ n. row_at n x) is ∙ found done x v later (subst (λ n. AreInOrder n) is order)
 
-  -- the first that is not
+  -- the first row that is not sound
   pub first_unsound : (m done : Rows A) (x : Name) (v : Element A) (later : Rows A) (why : Refusal A) → AreInOrder m → m ≡ done ++ (x, v) ∷ later
       → first_that_holds (list_checks m x v) ≡ Some why → AreSound m done → IsFirstUnsound m x why
   first_unsound m done x v later why order is refused all = record {
@@ -186,7 +186,7 @@ module _ {A : Type 0} where
       in_order : AreInOrder (done ++ (x, v) ∷ later)
       in_order = subst (λ n. AreInOrder n) is order
 
-  -- no row is left
+  -- after the last row, the map is sound
   pub all_sound : (m done : Rows A) → AreInOrder m → done ≡ m → AreSound m done → is_sound m ≡ true
   all_sound m done order is all =
       both_true (is_sorted name_cmp m) (list_all (λ r. is_sound_row m r.0 r.1) m) (is_true (is_sorted name_cmp m) order) (ap (list_all (λ r. is_sound_row m r.0 r.1)) (sym is) ∙ all)
@@ -210,7 +210,7 @@ module _ {A : Type 0} where
       by true e = let sound = sound_row m e x u.element u.there in let not = u.unsound in absurd (cc)
       by false e = refl
 
-  -- and it has one alone, for one reason
+  -- an unsound map has only one first unsound row, with only one reason
   pub one_fault : (m : Rows A) (x y : Name) (why other : Refusal A) → IsFirstUnsound m x why → IsFirstUnsound m y other → (x ≡ y) × (why ≡ other)
   one_fault m x y why other u o = by (name_cmp x y) refl
     where

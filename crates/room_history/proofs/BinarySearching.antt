@@ -1,4 +1,4 @@
--- What a binary search tells among rising numbers, and where the last of a list is.
+-- The result of a binary search among rising numbers, and the position of a list's last item.
 use Rattle.std.proofs.Common.{◌≡◌, ◌+◌, ◌-◌, ◌<◌, ◌≤◌, ℕ, zero, suc, Bool, true, false, List, [], ◌∷◌, ◌++◌, Option, Some, None, Result, Ok, Err, is_ok, length, get_or, refl, sym, ap, ◌∙◌, arith, nat_eq, nat_lt, reverse, slice_get}
 use Rattle.std.specs.List.{list_any}
 use Rattle.std.specs.List.Sorted.{IsBinarySearchResult, IsNonDecreasing}
@@ -17,7 +17,7 @@ use Rattle.room_history.proofs.Growing.{Rise, Rise-standing_from}
 use Rattle.room_history.proofs.RisingNumbers.{Rise-filter}
 use Rattle.room_history.specs.Journals.{numbered, is_by}
 
--- rising numbers are at least what they rise from, and do not fall
+-- rising numbers are at least their start, and do not fall
 risen : (n : ℕ) (xs : List ℕ) (end : ℕ) → Rise n xs end → (k d : ℕ) → k < length xs → n ≤ get_or xs k d
 risen n [] end r k d within = absurd (omega arith)
 risen n (x ∷ xs) end r zero d within = r.0
@@ -30,7 +30,7 @@ rises n (x ∷ xs) end r zero (suc j) d up within = let more = risen (x + 1) xs 
 rises n (x ∷ xs) end r (suc i) zero d up within = absurd (omega arith)
 rises n (x ∷ xs) end r (suc i) (suc j) d up within = rises (x + 1) xs end r.1 i j d (omega arith) (omega arith)
 
--- the numbers of an author's entries that stand
+-- an author's active entries rise
 pub undos_rise : {A : Type 0} (j : List (Entry A)) (author : Author) → IsNonDecreasing (undos j author)
 undos_rise j author = rises 1 (undos j author) (1 + length j) (Rise-filter (λ s. is_by author (numbered j s)) 1 (standing j) (1 + length j) (Rise-standing_from 1 j))
 
@@ -49,7 +49,7 @@ is_below a b h = grind (arith, nat_tests)
 is_not_below : (a b : ℕ) → nat_lt a b ≡ false → b ≤ a
 is_not_below a b h = grind (arith, nat_tests)
 
--- a search finds a number where it is among them
+-- the search finds a number exactly if it is among them
 pub search_tells : (x : ℕ) (xs : List ℕ) → IsNonDecreasing xs → (r : Result ℕ ℕ) → IsBinarySearchResult (λ y. nat_cmp y x) xs r → is_ok r ≡ list_any (λ y. nat_eq y x) xs
 search_tells x xs up (Ok i) found =
     let at = searched xs x (Ok i) found (λ i j. up i j 0) in
@@ -65,7 +65,7 @@ search_tells x xs up (Err i) gap =
         by true t = below (get_or xs k 0) x (low k (is_below k i t))
         by false t = above (get_or xs k 0) x (high k (is_not_below k i t) within)
 
--- the last of a list is at its length less one
+-- the last item of a list is at its length less one
 module _ {X : Type 0} where
   first_stays : (xs : List X) (y z : X) → slice_get ((xs ++ y ∷ []) ++ z ∷ []) 0 ≡ slice_get (xs ++ y ∷ []) 0
   first_stays [] y z = refl
@@ -85,7 +85,7 @@ module _ {X : Type 0} where
       one_less : (n : ℕ) → suc (suc n) - 1 ≡ suc (suc n - 1)
       one_less n = omega arith
 
--- the entry that an undo asks for: the one given, or the last of the author's that stand
+-- the entry that an undo asks for: the given one, or the author's last active entry
 pub asked_is : {A : Type 0} (j : List (Entry A)) (author : Author) (own : List ℕ) (number : Option ℕ) → own ≡ undos j author → option_or number (slice_get own (length own - 1)) ≡ asked j author number
 asked_is j author own (Some s) e = refl
 asked_is j author own None e = last_is own ∙ ap last e

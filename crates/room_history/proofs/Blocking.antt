@@ -1,4 +1,4 @@
--- The blocker in plain words.
+-- The meaning of the blocker.
 use Rattle.std.proofs.Common.{◌≡◌, ◌+◌, ◌≤◌, ℕ, true, false, List, None, Some, length, nat_lt, sym, ap, subst, ◌∙◌}
 use Rattle.std.specs.List.{filter}
 use Rattle.std.specs.Ordering.{is_lt}
@@ -31,17 +31,17 @@ module _ {A : Type 0} (base : Rows A) (j : List (Entry A)) (s : ℕ) (stands : i
   is : blocker (past base j) j s ≡ first_meeting (footprint_at s) (with_cells footprint_at behind_s)
   is = blocker_is (past base j) j s stands
 
-  -- no blocker, and no entry blocks
+  -- if there is no blocker, no entry blocks
   pub nothing_blocks : blocker (past base j) j s ≡ None → (t : ℕ) (e : Name) → Blocks base j s t e → ⊥
   nothing_blocks none t e b = apart (footprint_at s) (footprint_at t) (none_met (footprint_at s) footprint_at behind_s (sym is ∙ none) t (into_filter (nat_lt s) t (standing j) (above s t b.0) b.1)) b.2.cell b.2.in_one b.2.in_two
 
-  -- a footprint that is recorded of an entry that stands rises
+  -- the recorded footprint of an active entry rises
   pub rising : IsLed base j → IsRising (footprint_at s)
   rising led =
       let w = one_of (past base j).entries s (standing j) led.works led.recorded stands in
       subst IsRising (ap footprint_of_recorded (sym w.1)) w.0.rises
 
-  -- a blocker blocks, none before it does, and by no lesser name
+  -- the blocker blocks, no entry in front of it does, and it blocks by no lesser name
   pub record IsFirst (b : ℕ) (e : Name) : Type 0 where
     pub blocks : Blocks base j s b e
     pub none_before : (t : ℕ) (x : Name) → Blocks base j s t x → b ≤ t

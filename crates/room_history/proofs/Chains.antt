@@ -1,4 +1,4 @@
--- Actions accepted one after another. One that shares no cell with later ones can be taken out of the middle.
+-- Actions accepted in order. If an action shares no cell with the later ones, it can be taken out of the middle.
 use Rattle.std.proofs.Common.{◌≡◌, ◌++◌, true, List, [], ◌∷◌, Some, None, is_none, map, refl, sym, ap, subst, ◌∙◌, cond}
 use Rattle.osm_elements.specs.Maps.{Rows}
 use Rattle.osm_changes.specs.declared.cell.Cell.{Cell}
@@ -22,13 +22,13 @@ use Rattle.edit_groups.specs.Edits.{footprint}
 use Rattle.edit_groups.specs.Facts.Commutation.{commutation}
 use Rattle.room_history.specs.Replays.{replay}
 
--- an action, and the changes that were recorded of it
+-- an action with its recorded changes and cells
 pub record Work (A : Type 0) : Type 0 where
   pub action : Action A
   pub changes : List (Change A)
   pub cells : List Cell
   pub rises : IsRising cells
-  -- of one action they follow from it and its changes
+  -- the cells of one action follow from the action and its changes
   pub of_one : (a : SingleAction A) → action ≡ One a → cells ≡ footprint_of a changes
 
 module _ {A : Type 0} where
@@ -36,31 +36,31 @@ module _ {A : Type 0} where
   abbrev pub touched : Work A → List Cell
   touched w = w.cells
 
-  -- the action is accepted, with the changes that were recorded
+  -- the map accepts the action, with the recorded changes and footprint
   pub record Accepts (m : Rows A) (w : Work A) : Type 0 where
     pub made : is_made_action w.action ≡ true
     pub accepted : refusal m w.action ≡ None
     pub same_changes : changes m w.action ≡ w.changes
     pub same_footprint : footprint m w.action ≡ w.cells
 
-  -- from a map the actions lead to another, each accepted as it was recorded
+  -- the actions lead from the map m to the map end, each accepted as it was recorded
   abbrev pub Leads : Rows A → List (Work A) → Rows A → Type 0
   Leads m [] end = m ≡ end
   Leads m (w ∷ ws) end = Accepts m w × Leads (after m w.action) ws end
 
-  -- none of the others shares a cell with this one
+  -- none of the other works shares a cell with this one
   abbrev pub IsApart : Work A → List (Work A) → Type 0
   IsApart w [] = Unit {0}
   IsApart w (v ∷ vs) = (meets (touched w) (touched v) ≡ None) × IsApart w vs
 
-  -- the others lead to a map in which this one is accepted as it was recorded, and from which it leads to the end
+  -- the others lead to a map that accepts this work as it was recorded, and then the work leads to the end
   pub record LeavesOut (m : Rows A) (w : Work A) (others : List (Work A)) (end : Rows A) : Type 0 where
     pub without : Rows A
     pub others_lead : Leads m others without
     pub accepts : Accepts without w
     pub gives : after without w.action ≡ end
 
-  -- a work that is accepted keeps the map sound
+  -- an accepted work keeps the map sound
   sound_after : (m : Rows A) (w : Work A) → is_sound m ≡ true → Accepts m w → is_sound (after m w.action) ≡ true
   sound_after m w sound h = (accepted_keeps_sound m w.action sound h.made h.accepted).0
 
@@ -68,23 +68,23 @@ module _ {A : Type 0} where
   leads_sound m [] end sound h = ap is_sound (sym h) ∙ sound
   leads_sound m (w ∷ ws) end sound h = leads_sound (after m w.action) ws end (sound_after m w sound h.0) h.1
 
-  -- one more at the end
+  -- one more work at the end
   pub leads-append : (m : Rows A) (ws : List (Work A)) (w : Work A) (end : Rows A) → Leads m ws end → Accepts end w → Leads m (ws ++ w ∷ []) (after end w.action)
   leads-append m [] w end h a = (subst (λ n. Accepts n w) (sym h) a, ap (λ n. after n w.action) h)
   leads-append m (v ∷ vs) w end h a = (h.0, leads-append (after m v.action) vs w end h.1 a)
 
-  -- what the actions replay to
+  -- the replay of the actions
   pub replays : (m : Rows A) (ws : List (Work A)) (end : Rows A) → Leads m ws end → replay m (map (λ (w : Work A). w.action) ws) ≡ Some end
   replays m [] end h = ap Some h
   replays m (w ∷ ws) end h =
       ap (λ o. cond (is_none o) (replay (after m w.action) (map (λ (v : Work A). v.action) ws)) None) h.0.accepted ∙ replays (after m w.action) ws end h.1
 
-  -- two that share no cell change places
+  -- two works that share no cell commute
   swapped : (m : Rows A) (w v : Work A) → is_sound m ≡ true → Accepts m w → Accepts (after m w.action) v → meets (touched w) (touched v) ≡ None → ChangePlaces m w.action v.action
   swapped m w v sound first next apart = commutation m w.action v.action sound first.made next.made first.accepted next.accepted
       ((λ i. meets (first.same_footprint i) (next.same_footprint i)) ∙ apart)
 
-  -- past all the later ones
+  -- a work moves past all later works
   moved_last : (m : Rows A) (w : Work A) (later : List (Work A)) (end : Rows A) → is_sound m ≡ true → Accepts m w → Leads (after m w.action) later end → IsApart w later → LeavesOut m w later end
   moved_last m w [] end sound first leads apart = record { without = m; others_lead = refl; accepts = first; gives = leads }
   moved_last m w (v ∷ vs) end sound first leads apart =
@@ -96,14 +96,14 @@ module _ {A : Type 0} where
       let rest = moved_last (after m v.action) w vs end (sound_after m v sound accepts_v) accepts_w (subst (λ n. Leads n vs end) (sym places.same_map) leads.1) apart.1 in
       record { without = rest.without; others_lead = (accepts_v, rest.others_lead); accepts = rest.accepts; gives = rest.gives }
 
-  -- out of the middle
+  -- a work is taken out of the middle
   pub left_out : (m : Rows A) (earlier : List (Work A)) (w : Work A) (later : List (Work A)) (end : Rows A) → is_sound m ≡ true → Leads m (earlier ++ w ∷ later) end → IsApart w later → LeavesOut m w (earlier ++ later) end
   left_out m [] w later end sound leads apart = moved_last m w later end sound leads.0 leads.1 apart
   left_out m (v ∷ vs) w later end sound leads apart =
       let rest = left_out (after m v.action) vs w later end (sound_after m v sound leads.0) leads.1 apart in
       record { without = rest.without; others_lead = (leads.0, rest.others_lead); accepts = rest.accepts; gives = rest.gives }
 
-  -- its changes, taken back, lead to the map of the others
+  -- the inverse of its changes leads to the map of the others
   pub taken_out : (m : Rows A) (w : Work A) (others : List (Work A)) (end : Rows A) → is_sound m ≡ true → (out : LeavesOut m w others end) → changed end (inverse w.changes) ≡ out.without
   taken_out m w others end sound out =
       let here = sound_in_order out.without (leads_sound m others out.without sound out.others_lead) in

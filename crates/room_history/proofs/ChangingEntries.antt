@@ -1,4 +1,4 @@
--- What an entry of a journal changed are changes from the map before it.
+-- The changes of a journal's entry are from the map before it.
 use Rattle.std.proofs.Common.{◌≡◌, ◌≢◌, ◌⊎◌, ◌++◌, ℕ, suc, true, List, [], ◌∷◌, All, Option, Some, None, inl, inr, refl, sym, ap, subst, ◌∙◌, arith}
 use Rattle.std.specs.List.{fold}
 use Rattle.std.proofs.lemmas.List.Elements.{All-cons, All-map, All-nil}
@@ -46,13 +46,13 @@ module _ {A : Type 0} where
   lead_back m [] h = All-nil (λ (c : Change A). c.after ≡ half_at m (cell_of c))
   lead_back m (c ∷ cs) h = All-cons (λ (c : Change A). c.after ≡ half_at m (cell_of c)) c cs (h 0 c (omega arith)) (lead_back m cs (λ k d l. h (suc k) d (omega (arith, l))))
 
-  -- what the next entry records are changes from the map as it is, and lead to the one after it
+  -- the changes of the next entry are from the current map, and lead to the map after it
   pub record IsChange (p : Past A) (k : EntryKind A) : Type 0 where
     pub changes : AreChanges (recorded_next p k).changes
     pub from : AreFrom p.map (recorded_next p k).changes
     pub leads : LeadTo (changed p.map (recorded_next p k).changes) (recorded_next p k).changes
 
-  -- so it is of each entry in turn
+  -- this is true of each entry in order
   abbrev AreSteps : Past A → List (Entry A) → Type 0
   AreSteps p [] = Unit {0}
   AreSteps p (e ∷ j) = IsChange p e.kind × AreSteps (past_after p e.kind) j
@@ -73,14 +73,14 @@ module _ {A : Type 0} where
     from_to : (p : Past A) (k : EntryKind A) → AreInOrder p.map → AreChanges (recorded_next p k).changes → AreFrom p.map (recorded_next p k).changes → IsChange p k
     from_to p k order are from = let cs = (recorded_next p k).changes in record { changes = are; from = from; leads = lead_back (changed p.map cs) cs (back p.map cs order are from).before }
 
-    -- an action that is done, or done again
+    -- an entry that does or redoes an action
     done : (p : Past A) (k : EntryKind A) (a : Action A) → AreInOrder p.map → recorded_next p k ≡ recorded_of p.map a → IsChange p k
     done p k a order is =
         from_to p k order
         (subst (λ (r : Recorded A). AreChanges r.changes) (sym is) (differ p.map (after p.map a)))
         (subst (λ (r : Recorded A). AreFrom p.map r.changes) (sym is) (from p.map (after p.map a)))
 
-    -- an entry that is taken back
+    -- an entry that undoes an entry
     taken : (j : List (Entry A)) (e : Entry A) (s : ℕ) → AreInOrder (mapof base j) → e.kind ≡ Undo s → Undone base j s e → IsChange (past base j) e.kind
     taken j e s now is u =
         from_to (past base j) e.kind now
@@ -126,6 +126,6 @@ module _ {A : Type 0} where
     pub entry_changes : (limit : ℕ) (i k : List (Entry A)) (e : Entry A) → IsJournal base limit (i ++ e ∷ k) → IsChange (past base i) e.kind
     entry_changes limit i k e h = step_at (record { map = base; entries = [] }) i k e (journal_steps limit (i ++ e ∷ k) h)
 
-    -- each changed cell has the half in the map after an entry that its change leads to
+    -- the map after an entry has the half of each change
     pub entry_leads : (limit : ℕ) (i k : List (Entry A)) (e : Entry A) → IsJournal base limit (i ++ e ∷ k) → LeadTo (mapof base (i ++ e ∷ [])) (recorded_next (past base i) e.kind).changes
     entry_leads limit i k e h = let cs = (recorded_next (past base i) e.kind).changes in subst (λ m. LeadTo m cs) (sym (mapof-append base i e)) (entry_changes limit i k e h).leads

@@ -1,4 +1,4 @@
--- Which entry an undo asks for, and what refuses it.
+-- The entry that an undo asks for, and its refusal.
 use Rattle.std.proofs.Common.{◌≡◌, ℕ, Bool, true, false, not, List, [], ◌∷◌, Option, Some, None, Ok, Err, is_none, refl, sym, ap, ◌∙◌, Result, IfErr, ◌⊎◌, inr}
 use Rattle.std.specs.Bool.{then_some}
 use Rattle.std.specs.Result.{IsErr, IsErrAnd}
@@ -23,7 +23,7 @@ pub refused_on : {A X : Type 0} (r : Result X (Reply A)) (q : Reply A) (chosen :
 refused_on (Ok x) q chosen err same is = absurd (cc)
 refused_on (Err f) q chosen err same is = inr (ap Err same ∙ is)
 
--- the fourth of four checks decides where none of the first three holds
+-- if none of the first three checks holds, the fourth decides
 fourth : {X : Type 0} (o p q r : Option X) → first_that_holds (o ∷ p ∷ q ∷ []) ≡ None → first_that_holds (o ∷ p ∷ q ∷ r ∷ []) ≡ r
 fourth None None None None e = refl
 fourth None None None (Some x) e = refl
@@ -31,7 +31,7 @@ fourth None None (Some x) r e = absurd (cc)
 fourth None (Some x) q r e = absurd (cc)
 fourth (Some x) p q r e = absurd (cc)
 
--- and else the first of them that holds
+-- otherwise the first of the three that holds decides
 sooner : {X : Type 0} (o p q r : Option X) (x : X) → first_that_holds (o ∷ p ∷ q ∷ []) ≡ Some x → first_that_holds (o ∷ p ∷ q ∷ r ∷ []) ≡ Some x
 sooner None None None r x e = absurd (cc)
 sooner None None (Some y) r x e = e
@@ -53,7 +53,7 @@ there author None h = absurd (cc)
 there author (Some e) h = refl
 
 module _ {A : Type 0} (j : List (Entry A)) (author : Author) where
-  -- an author's own entry, by whether it stands
+  -- the refusal of an author's own entry, if it is active and if it is not
   own_entry : (s : ℕ) (b : Bool) → is_by author (numbered j s) ≡ true → is_standing j s ≡ b → standing_refusal j author s ≡ first_that_holds (then_some (not b) NotStanding ∷ [])
   own_entry s b own stands =
       ap (λ c. first_that_holds (then_some c NoSuch ∷ then_some (not (is_by author (numbered j s))) NotYours ∷ then_some (not (is_standing j s)) NotStanding ∷ [])) (there author (numbered j s) own)
@@ -66,7 +66,7 @@ module _ {A : Type 0} (j : List (Entry A)) (author : Author) where
   pub own_standing : (s : ℕ) → is_by author (numbered j s) ≡ true → is_standing j s ≡ true → standing_refusal j author s ≡ None
   own_standing s own stands = own_entry s true own stands
 
-  -- the entry that is asked for stands, where nothing else refuses it
+  -- if nothing else refuses it, the asked entry is active
   pub asked_stands : (o : Option ℕ) (s : ℕ) → Ok s ≡ asked_or (standing_refusal j author) o → is_standing j s ≡ true
   asked_stands None s e = absurd (cc)
   asked_stands (Some t) s e = by (standing_refusal j author t) refl e
@@ -84,7 +84,7 @@ module _ {A : Type 0} (j : List (Entry A)) (author : Author) where
     before_blocker : (s : ℕ) (r : Reply A) → standing_refusal j author s ≡ Some r → undo_refusal p j author s ≡ Some r
     before_blocker s r e = sooner (then_some (is_none (numbered j s)) NoSuch) (then_some (not (is_by author (numbered j s))) NotYours) (then_some (not (is_standing j s)) NotStanding) (option_map conflict (blocker p j s)) r e
 
-    -- what refuses the asked entry before its blocker is looked for
+    -- the refusals of the asked entry that come before its blocker
     pub asked_refused : (o : Option ℕ) (r : Reply A) → Err r ≡ asked_or (standing_refusal j author) o → Err r ≡ asked_or (undo_refusal p j author) o
     asked_refused None r e = e
     asked_refused (Some t) r e = by (standing_refusal j author t) refl e
@@ -93,7 +93,7 @@ module _ {A : Type 0} (j : List (Entry A)) (author : Author) where
         by None ok e = absurd (cc)
         by (Some q) ok e = e ∙ ap (undone_or t) (sym (before_blocker t q ok))
 
-    -- and else its blocker decides
+    -- without such a refusal, its blocker decides
     pub asked_blocked : (o : Option ℕ) (s : ℕ) → Ok s ≡ asked_or (standing_refusal j author) o → undone_or s (option_map conflict (blocker p j s)) ≡ asked_or (undo_refusal p j author) o
     asked_blocked None s e = absurd (cc)
     asked_blocked (Some t) s e = by (standing_refusal j author t) refl e
@@ -102,7 +102,7 @@ module _ {A : Type 0} (j : List (Entry A)) (author : Author) where
         by None ok e = let same : s ≡ t = cc in ap (λ u. undone_or u (option_map conflict (blocker p j u))) same ∙ ap (undone_or t) (sym (by_blocker t ok))
         by (Some r) ok e = absurd (cc)
 
-    -- so what the holders find behind it is the answer
+    -- so the reply follows from what the holders find after it
     pub asked_answered : (holders : Held) → AreHolders p j holders → (o : Option ℕ) (s : ℕ) (found : Option (ℕ × Name)) → Ok s ≡ asked_or (standing_refusal j author) o → IsFirstAfter holders (recorded_footprint p s) s found
         → undone_or s (option_map conflict found) ≡ asked_or (undo_refusal p j author) o
     asked_answered holders held o s found e first =

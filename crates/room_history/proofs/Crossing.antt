@@ -1,6 +1,7 @@
--- A room, a seat at one and a reference to its desk may go to another thread where the allocator may, which threads may
--- share too, since rooms share values, and where any thread may give blocks back to that. Rattle proves it by itself of
--- each type of this crate but the room, since it writes no such proof of a type with a `Snapshot` in it.
+-- A room, a seat at its desk and a reference to the desk can go to another thread under three conditions on the
+-- allocator: it can go too, threads can share it, because rooms share values, and any thread can give blocks back to
+-- it. Rattle proves this by itself for each type of this crate except the room, because it writes no such proof for a
+-- type with a `Snapshot`.
 use mathlib.Core.List.{List, [], ◌∷◌}
 use Prim.Native.Nat.{ℕ}
 use mir.Syntax.{Dict, Sym, Ty}
@@ -34,7 +35,7 @@ use Rattle.room_history.specs.contracts.room.Room as Room
 use Rattle.room_history.specs.contracts.turned.Opening as Opening
 use Rattle.room_history.specs.contracts.turned.RoomTurned.TheImpl as turned
 
--- the footprint of an entry, if it stands
+-- the footprint of an entry, if it is active
 footprint_send : (A : RattleType) (g : alloc.Ghosts A.Denot) → IsSend A → Frees g g.dealloc_token → IsSend (Option.the_row (Footprint.the_row A g))
 footprint_send A g a f = search (sendable, crosses, footprint.the_send) depth 14
 
@@ -48,7 +49,7 @@ module _ (A : RattleType) (g : alloc.Ghosts A.Denot) (own : Dict) (k : clone.Gho
   pub desk_sync : IsSend A → IsSync A → Frees g g.dealloc_token → IsSync (Desk.the_row (Room.the_row A g) A (RoomCall.the_row A g) (RoomReply.the_row A g) (Entry.the_row A g) (Opening.the_row A g) (turned.ghosts A g own k copy) g)
   desk_sync a s f = desk.the_sync (Room.the_row A g) A (RoomCall.the_row A g) (RoomReply.the_row A g) (Entry.the_row A g) (Opening.the_row A g) (turned.ghosts A g own k copy) g (room_send A g a s f) a s f
 
--- a closure may go to another thread where each thing that it takes with it may
+-- a closure can go to another thread if all its captured values can
 all_parts : (Ts : List RattleType) → AllSend Ts → AllSend (rows (parts Ts))
 all_parts [] all = tt
 all_parts (R ∷ Ts) all = (all.0, all_parts Ts all.1)

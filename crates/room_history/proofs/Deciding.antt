@@ -1,4 +1,4 @@
--- What decides an undo: it is refused by its blocker alone, which is the first that blocks it.
+-- The decision on an undo of an active entry: only its blocker refuses it, the first entry that blocks it.
 use Rattle.std.proofs.Common.{◌≡◌, ◌↔◌, ◌+◌, ◌≤◌, ℕ, true, false, not, List, [], ◌∷◌, Option, Some, None, is_none, length, refl, sym, ap, ◌∙◌, nat_le}
 use Rattle.std.specs.Bool.{then_some}
 use Rattle.std.specs.List.{filter}
@@ -45,14 +45,14 @@ module _ {A : Type 0} where
   there author None h = absurd (cc)
   there author (Some e) h = refl
 
-  -- an author's undo of an entry of his that stands no more
+  -- an author's undo of its entry that is not active
   pub not_standing : (p : Past A) (j : List (Entry A)) (author : Author) (s : ℕ) → is_by author (numbered j s) ≡ true → is_standing j s ≡ false → undo_refusal p j author s ≡ Some NotStanding
   not_standing p j author s own fallen =
       ap (λ b. first_that_holds (then_some b NoSuch ∷ then_some (not (is_by author (numbered j s))) NotYours ∷ then_some (not (is_standing j s)) NotStanding ∷ option_map conflict (blocker p j s) ∷ [])) (there author (numbered j s) own)
       ∙ ap (λ b. first_that_holds (then_some (not b) NotYours ∷ then_some (not (is_standing j s)) NotStanding ∷ option_map conflict (blocker p j s) ∷ [])) own
       ∙ ap (λ b. first_that_holds (then_some (not b) NotStanding ∷ option_map conflict (blocker p j s) ∷ [])) fallen
 
-  -- an author's undo of an entry of his that stands is refused by its blocker alone
+  -- only its blocker refuses an author's undo of its active entry
   pub own_refusal : (p : Past A) (j : List (Entry A)) (author : Author) (s : ℕ) → is_by author (numbered j s) ≡ true → is_standing j s ≡ true → undo_refusal p j author s ≡ option_map conflict (blocker p j s)
   own_refusal p j author s own stands =
       ap (λ b. first_that_holds (then_some b NoSuch ∷ then_some (not (is_by author (numbered j s))) NotYours ∷ then_some (not (is_standing j s)) NotStanding ∷ option_map conflict (blocker p j s) ∷ [])) (there author (numbered j s) own)

@@ -1,4 +1,4 @@
--- A journal as what its authors did.
+-- A journal and the deeds of its authors.
 use Prim.Native.Nat.{suc}
 use Rattle.std.proofs.Common.{◌≡◌, ◌+◌, ◌&&◌, ◌||◌, ℕ, Bool, true, false, List, [], ◌∷◌, ◌++◌, length, nat_eq, nat_lt, refl, sym, ap, ◌∙◌, cond, arith}
 use Rattle.std.specs.List.{filter, list_any}
@@ -15,7 +15,7 @@ use Rattle.room_history.specs.Answers.{spends, spent}
 use Rattle.room_history.specs.Journals.{numbered, is_by, is_undo_of, is_standing, is_work, standing, standing_from, undos, redos, redos_after}
 use Rattle.room_history.specs.Inner.Deeds.{deed, deed_by, deeds}
 
--- what is in a list and passes a test is in the list of those that pass
+-- a number of a list that passes a test is in the filtered list
 any_kept : (p : ℕ → Bool) (s : ℕ) (ts : List ℕ) → list_any (λ t. nat_eq t s) ts ≡ true → p s ≡ true → list_any (λ t. nat_eq t s) (filter p ts) ≡ true
 any_kept p s [] e h = absurd (cc)
 any_kept p s (t ∷ ts) e h = by (nat_eq t s) refl (p t) refl e (λ f. any_kept p s ts f h)
@@ -30,7 +30,7 @@ any_kept p s (t ∷ ts) e h = by (nat_eq t s) refl (p t) refl e (λ f. any_kept 
     by false is true k e rest = ap (λ b. b || list_any (λ t. nat_eq t s) (filter p ts)) is ∙ rest e
     by false is false k e rest = rest e
 
--- of what passes a test, it is in a list where it is in the list of those that pass
+-- a number that passes a test is in a list exactly if it is in the filtered list
 any_of_kept : (p : ℕ → Bool) (s : ℕ) (ts : List ℕ) → p s ≡ true → list_any (λ t. nat_eq t s) (filter p ts) ≡ list_any (λ t. nat_eq t s) ts
 any_of_kept p s [] h = refl
 any_of_kept p s (t ∷ ts) h = by (nat_eq t s) refl (p t) refl (any_of_kept p s ts h)
@@ -77,18 +77,18 @@ module _ {A : Type 0} where
       by (Undo t) = refl
       by (Redo t) = refl
 
-  -- an id is spent by a deed where it is by an entry
+  -- a deed spent an id exactly if an entry did
   pub spent_deeds : (j : List (Entry A)) (author : Author) (id : ℕ) → stacks.spent (deeds j) author id ≡ spent j author id
   spent_deeds j author id = spent_entries deed number_is author id (spends author id) (spends_is author id) j
 
-  -- the next number is above those of all deeds
+  -- the next number is greater than those of all deeds
   pub above_deeds : (j : List (Entry A)) → stacks.IsAboveAll (length j + 1) (deeds j)
   above_deeds j = above_entries deed number_is 1 j
 
   pub deeds-append : (j : List (Entry A)) (e : Entry A) → deeds (j ++ e ∷ []) ≡ deeds j ++ deed (length j + 1) e ∷ []
   deeds-append j e = deeds_from-push deed number_is 1 j e
 
-  -- what stands of an author's deeds stands of its entries
+  -- an author's active deeds are its active entries
   pub standing_deeds : (j : List (Entry A)) (author : Author) → stacks.standing (deeds j) author ≡ undos j author
   standing_deeds j author =
       standing_entries deed number_is author (λ (e : Entry A). is_work e.kind && is_same_author author e.author) (own_is author) (λ s (e : Entry A). is_undo_of s e.kind) undid_is 1 j
@@ -98,11 +98,11 @@ module _ {A : Type 0} where
       next : (i : ℕ) → i + 1 ≡ suc i
       next i = omega arith
 
-  -- an author's entry that stands is among them
+  -- an author's active entry is among them
   pub stands_among : (j : List (Entry A)) (author : Author) (s : ℕ) → is_standing j s ≡ true → is_by author (numbered j s) ≡ true → list_any (λ t. nat_eq t s) (stacks.standing (deeds j) author) ≡ true
   stands_among j author s stands own = ap (list_any (λ t. nat_eq t s)) (standing_deeds j author) ∙ any_kept (λ t. is_by author (numbered j t)) s (standing j) stands own
 
-  -- what an author can redo by its deeds it can by its entries
+  -- an author's redo stack from its deeds is that from its entries
   pub redo_deeds : (j : List (Entry A)) (author : Author) → stacks.redo (deeds j) author ≡ redos j author
   redo_deeds j author = redo_entries deed number_is author (λ (e : Entry A). is_same_author author e.author) doer_is (λ stack (e : Entry A). redos_after stack e.kind) step_is 1 j
     where
@@ -122,6 +122,6 @@ module _ {A : Type 0} where
           by (Undo s) = refl
           by (Redo t) = refl
 
-  -- of an author's own entry: it stands where it is among those of the author that do
+  -- an author's own entry is active exactly if it is among the author's active entries
   pub own_stands : (j : List (Entry A)) (author : Author) (s : ℕ) → is_by author (numbered j s) ≡ true → list_any (λ t. nat_eq t s) (undos j author) ≡ is_standing j s
   own_stands j author s own = any_of_kept (λ t. is_by author (numbered j t)) s (standing j) own

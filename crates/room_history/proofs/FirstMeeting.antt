@@ -12,7 +12,7 @@ use Rattle.room_history.proofs.HeldEntries.{with_cells}
 use Rattle.room_history.proofs.RisingNumbers.{is_in, itself, or_else, at_least}
 
 module _ (cells : List Cell) (f : ℕ → List Cell) where
-  -- where nothing is met, no entry shares a cell
+  -- if none is found, no entry shares a cell
   pub none_met : (ss : List ℕ) → first_meeting cells (with_cells f ss) ≡ None → (t : ℕ) → is_in t ss ≡ true → meets cells (f t) ≡ None
   none_met [] none t i = absurd (cc)
   none_met (s ∷ ss) none t i = by (meets cells (f s)) refl none (nat_eq s t) refl i (λ n k. none_met ss n t k)

@@ -1,4 +1,4 @@
--- What one more entry does to a journal.
+-- A journal with one more entry.
 use Rattle.std.proofs.Common.{◌≡◌, ◌+◌, ◌≤◌, ◌&&◌, ◌||◌, ◌++◌, ◌∷◌, ℕ, zero, suc, Bool, true, false, not, List, [], Some, length, refl, sym, ap, subst, ◌∙◌, cond, arith, nat_eq, slice_get}
 use Rattle.std.specs.List.{filter, list_any}
 use Rattle.std.proofs.lemmas.List.Folds.{list_any-append}
@@ -7,7 +7,7 @@ use Rattle.room_history.specs.declared.entry.Entry.{Entry}
 use Rattle.room_history.specs.declared.entry.EntryKind.{EntryKind}
 use Rattle.room_history.specs.Journals.{numbered, is_undo_of, is_work, standing_from}
 
--- the items numbered within a list stay, and the next number names what comes
+-- the numbered items of a list stay, and the next number is that of the new item
 pub numbered_within : {X : Type 0} (xs : List X) (y : X) (s : ℕ) → s ≤ length xs → numbered (xs ++ y ∷ []) s ≡ numbered xs s
 numbered_within xs y zero h = refl
 numbered_within xs y (suc i) h = at xs i h
@@ -21,7 +21,7 @@ pub numbered_next : {X : Type 0} (xs : List X) (y : X) → numbered (xs ++ y ∷
 numbered_next [] y = refl
 numbered_next (x ∷ xs) y = numbered_next xs y
 
--- numbers from n on, each above the one before and below an end
+-- numbers from n on, each above the previous number, and all below the end
 abbrev pub Rise : ℕ → List ℕ → ℕ → Type 0
 Rise n [] end = n ≤ end
 Rise n (s ∷ ss) end = (n ≤ s) × Rise (s + 1) ss end
@@ -37,7 +37,8 @@ module _ {A : Type 0} where
   abbrev pub new_number : EntryKind A → ℕ → List ℕ
   new_number k n = cond (is_work k) (n ∷ []) []
 
-  -- an entry takes what it undoes from those that stand, and an action's own number joins them
+  -- one more entry removes the entry that it undoes from the active ones, and adds its own number if it does or redoes
+  -- an action
   pub standing_from-append : (n : ℕ) (j : List (Entry A)) (e : Entry A) → standing_from n (j ++ e ∷ []) ≡ filter (λ s. not (is_undo_of s e.kind)) (standing_from n j) ++ new_number e.kind (n + length j)
   standing_from-append n [] e = by (is_work e.kind) n (omega arith)
     where

@@ -1,4 +1,4 @@
--- The entries that stand with their footprints: which of them blocks another, and how they follow a journal that grows.
+-- The active entries with their footprints: which of them blocks an entry, and how they follow a growing journal.
 use Rattle.std.proofs.Common.{◌≡◌, ◌+◌, ◌<◌, ◌≤◌, ◌++◌, ◌||◌, ℕ, suc, Bool, true, false, not, List, [], ◌∷◌, Option, Some, None, All, length, map, nat_eq, nat_lt, unwrap_or, refl, sym, ap, ◌∙◌, cond, arith}
 use Rattle.std.specs.List.{filter}
 use Rattle.std.specs.Option.{option_map, option_or}
@@ -59,13 +59,13 @@ module _ (f : ℕ → List Cell) where
   all_below n m [] end r h = λ k d w. absurd (omega arith)
   all_below n m (x ∷ xs) end r h = All-cons (λ h. h.0 < n) _ _ (below_end n x xs end r.1 h) (all_below n (x + 1) xs end r.1 h)
 
--- numbers below an end, of which two functions give the same
+-- numbers below an end get the same footprints from two functions that agree there
 same_below : (f g : ℕ → List Cell) (n m : ℕ) (ss : List ℕ) (end : ℕ) → Rise m ss end → end ≤ n → ((t : ℕ) → t < n → g t ≡ f t) → with_cells g ss ≡ with_cells f ss
 same_below f g n m [] end r h same = refl
 same_below f g n m (x ∷ xs) end r h same = (λ i. (x, same x (below_end n x xs end r.1 h) i) ∷ same_below f g n (x + 1) xs end r.1 h same i)
 
 module _ {A : Type 0} where
-  -- the blocker of an entry that stands
+  -- the blocker of an active entry
   pub blocker_is : (p : Past A) (j : List (Entry A)) (s : ℕ) → is_standing j s ≡ true → blocker p j s ≡ first_meeting (recorded_footprint p s) (with_cells (recorded_footprint p) (filter (nat_lt s) (standing j)))
   blocker_is p j s stands =
       ap (λ o. first_meeting (unwrap_or o []) (behind (held p j) s)) (found_there (recorded_footprint p) s (standing j) stands)
@@ -75,7 +75,7 @@ module _ {A : Type 0} where
   footprint_is : (p : Past A) (s : ℕ) (w : Work A) → IsRecorded p.entries s w → recorded_footprint p s ≡ touched w
   footprint_is p s w h = ap footprint_of_recorded h
 
-  -- where no later one meets it, a work is apart from the later ones
+  -- if no later entry meets a work, the work shares no cell with the later works
   pub is_apart : (p : Past A) (s : ℕ) (w : Work A) (later : List ℕ) (ws : List (Work A)) → IsRecorded p.entries s w → AreRecorded p.entries later ws
       → first_meeting (recorded_footprint p s) (with_cells (recorded_footprint p) later) ≡ None → IsApart w ws
   is_apart p s w [] [] is are none = tt
@@ -91,7 +91,7 @@ module _ {A : Type 0} where
       by (Some x) e none go = absurd (cc)
 
 module _ {A : Type 0} (base : Rows A) (j : List (Entry A)) where
-  -- what is recorded of earlier entries stays
+  -- the records of earlier entries stay
   pub earlier_stay : (e : Entry A) (t : ℕ) → t < 1 + length j → recorded_footprint (past base (j ++ e ∷ [])) t ≡ recorded_footprint (past base j) t
   earlier_stay e t low =
       ap (λ (p : Past A). recorded_footprint p t) (past-append base j e)
@@ -100,11 +100,11 @@ module _ {A : Type 0} (base : Rows A) (j : List (Entry A)) where
   same_held : (e : Entry A) → with_cells (recorded_footprint (past base (j ++ e ∷ []))) (standing j) ≡ held (past base j) j
   same_held e = same_below (recorded_footprint (past base j)) (recorded_footprint (past base (j ++ e ∷ []))) (1 + length j) 1 (standing j) (1 + length j) (Rise-standing_from 1 j) (omega arith) (earlier_stay e)
 
-  -- the next entry's number comes after all
+  -- the next number is greater than all
   pub is_next : All (λ h. h.0 < length j + 1) (held (past base j) j)
   is_next = all_below (recorded_footprint (past base j)) (length j + 1) 1 (standing j) (1 + length j) (Rise-standing_from 1 j) (omega arith)
 
-  -- an entry that does an action stands with the footprint that the action has on the map
+  -- an entry that does an action is active, with the footprint of the action on the map
   pub held-work : (e : Entry A) (a : Action A) → is_work e.kind ≡ true → recorded_next (past base j) e.kind ≡ recorded_of (mapof base j) a
       → held (past base (j ++ e ∷ [])) (j ++ e ∷ []) ≡ held (past base j) j ++ (length j + 1, footprint (mapof base j) a) ∷ []
   held-work e a work records =
@@ -121,7 +121,7 @@ module _ {A : Type 0} (base : Rows A) (j : List (Entry A)) where
       number : 1 + length j ≡ length j + 1
       number = omega arith
 
-  -- what an undo takes back falls
+  -- the entry that an undo takes back is not active any more
   pub held-undo : (e : Entry A) (s : ℕ) → e.kind ≡ Undo s → held (past base (j ++ e ∷ [])) (j ++ e ∷ []) ≡ without (held (past base j) j) s
   held-undo e s k =
       ap (with_cells f) (standing-undo j e s k) ∙ sym (without_is f s (standing j)) ∙ ap (λ h. without h s) (same_held e)

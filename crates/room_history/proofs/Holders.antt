@@ -1,4 +1,4 @@
--- The holders that the entries make which stand: they follow the journal, and what they find behind an entry is its
+-- The holders of the active entries follow the journal, and the first entry that they find after an entry is its
 -- blocker.
 use Rattle.std.proofs.Common.{◌≡◌, ◌<◌, ◌++◌, ◌||◌, ℕ, Bool, true, false, not, List, [], ◌∷◌, Option, Some, None, All, map, nat_eq, nat_lt, refl, sym, ap, ◌∙◌, cond, arith, append-nil, append_assoc}
 use Rattle.std.specs.List.{filter, fold}
@@ -28,7 +28,7 @@ abbrev AreRising : Holdings → Type 0
 AreRising [] = Unit {0}
 AreRising (h ∷ hs) = IsRising h.1 × AreRising hs
 
--- entries that come to stand one after the other
+-- entries that become active in order
 abbrev each_stands : Held → Holdings → Held
 each_stands holders held = fold (λ (l : Held) h. stands l h.1 h.0) holders held
 
@@ -50,7 +50,7 @@ AreHeld-each (e ∷ es) holders h = AreHeld-each es (stands holders e.1 e.0) (Ar
 pub AreHeld-holders_of : (held : Holdings) → AreHeld (holders_of held)
 AreHeld-holders_of held = AreHeld-each held [] (tt, tt)
 
--- one more entry stands
+-- one more entry becomes active
 pub holders_of-last : (held : Holdings) (s : ℕ) (cells : List Cell) → holders_of (held ++ (s, cells) ∷ []) ≡ stands (holders_of held) cells s
 holders_of-last held s cells = fold-append (λ (l : Held) h. stands l h.1 h.0) [] held ((s, cells) ∷ [])
 
@@ -79,7 +79,7 @@ AreRising-without (h ∷ hs) s r = by (nat_eq h.0 s) (AreRising-without hs s r.1
     by true i = i
     by false i = (r.0, i)
 
--- one of the entries falls
+-- one of the entries ceases to be active
 pub holders_of-without : (held : Holdings) (s : ℕ) → AreRising held → holders_of (without held s) ≡ fallen (holders_of held) s
 holders_of-without held s r =
     let sorted = (AreHeld-holders_of held).0 in
@@ -101,7 +101,7 @@ having_below (h ∷ hs) n q low m there = by (has h.1 q) there (having_below hs 
     by true f go = on (is_eq (nat_cmp m h.0)) refl f go
     by false f go = go f
 
--- a number after those of all entries comes after all that are held
+-- a number above those of all entries is above those of the holders
 pub IsNext-holders_of : (held : Holdings) (n : ℕ) → AreRising held → All (λ h. h.0 < n) held → IsNext (holders_of held) n
 IsNext-holders_of held n r low c m there = having_below held n c low m (ap (λ l. is_among nat_cmp l m) (sym (holding-holders_of held r c)) ∙ there)
 
@@ -134,7 +134,7 @@ module _ (f : ℕ → List Cell) where
     holds_is : (c : Cell) (n : ℕ) → holds (holders_of (with_cells f ss)) c n ≡ is_in n (filter (λ t. has (f t) c) ss)
     holds_is c n = ap (λ l. is_among nat_cmp l n) (holding-holders_of (with_cells f ss) (AreRising-with_cells ss rises) c ∙ having-with_cells ss c) ∙ among_is_in (filter (λ t. has (f t) c) ss) n
 
-    -- an entry that stands holds just its own cells
+    -- an active entry holds exactly its own cells
     out_of : (c : Cell) (n : ℕ) → holds (holders_of (with_cells f ss)) c n ≡ true → (has (f n) c ≡ true) × (is_in n ss ≡ true)
     out_of c n there = out_of_filter (λ t. has (f t) c) n ss (sym (holds_is c n) ∙ there)
 
@@ -144,7 +144,7 @@ module _ (f : ℕ → List Cell) where
     pub HoldsOnly-holders_of : (s : ℕ) → HoldsOnly (holders_of (with_cells f ss)) (f s) s
     HoldsOnly-holders_of s c there = (out_of c s there).0
 
-    -- the first behind an entry among the holders is the first of the entries behind it that meets it
+    -- the first entry that the holders find after an entry is the first later entry that meets it
     pub IsFirstAfter-holders_of : (cells : List Cell) (s end : ℕ) → IsRising cells → Rise 1 ss end → IsFirstAfter (holders_of (with_cells f ss)) cells s (first_meeting cells (with_cells f (filter (nat_lt s) ss)))
     IsFirstAfter-holders_of cells s end r rise = by (first_meeting cells (with_cells f (filter (nat_lt s) ss))) refl
       where

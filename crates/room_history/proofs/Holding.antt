@@ -1,4 +1,4 @@
--- What holds of every journal that calls lead to.
+-- Facts about every journal that calls lead to.
 use Rattle.std.proofs.Common.{◌≡◌, ◌++◌, ◌∷◌, ℕ, true, List, [], refl, ap, subst, ◌∙◌}
 use Rattle.room_history.specs.declared.call.Call.{Call}
 use Rattle.room_history.specs.declared.entry.Entry.{Entry}
@@ -41,7 +41,7 @@ module _ {A : Type 0} where
           redone_in_turn = is_redone_in_turn base limit sound j led;
         }
 
-  -- a run goes on by one step
+  -- a run with one more step
   pub run_more : (base : Rows A) (limit : ℕ) (j : List (Entry A)) (cs : List (Call A)) (rs : List (Reply A)) (k l : List (Entry A)) (c : Call A) (r : Reply A) → IsRun base limit j cs rs k → IsStep base limit k c r l → Holds base limit l
       → IsRun base limit j (cs ++ c ∷ []) (rs ++ r ∷ []) l
   run_more base limit j [] [] k l c r run step holds = (run.0, (l, subst (λ m. IsStep base limit m c r l) run.1 step, (holds, refl)))

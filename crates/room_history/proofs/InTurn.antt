@@ -1,4 +1,4 @@
--- Undos that an author redoes in turn.
+-- Undos of an author, followed by as many redos.
 use Rattle.std.proofs.Common.{◌≡◌, ◌⊎◌, ◌+◌, ◌++◌, ℕ, suc, true, List, [], ◌∷◌, Option, Some, inl, inr, length, map, reverse, refl, sym, ap, subst, ◌∙◌, arith, length-append}
 use Rattle.std.proofs.lemmas.List.{map-append, length-reverse, reverse-append}
 use Rattle.osm_elements.specs.Maps.{Rows}
@@ -38,7 +38,7 @@ module _ {A : Type 0} where
     fresh-append j [] ds h = (tt, h)
     fresh-append j (c ∷ cs) ds h = let rest = fresh-append (answer base limit j c).1 cs ds h.2 in ((h.0, h.1, rest.0), rest.1)
 
-    -- the recorded action of an entry stays, whatever is called
+    -- the recorded action of an entry stays after any calls
     stays_answered : (j : List (Entry A)) (t : ℕ) (a : Action A) → action_at (past base j) t ≡ Some a → (cs : List (Call A)) → action_at (past base (answers base limit j cs).1) t ≡ Some a
     stays_answered j t a acts [] = acts
     stays_answered j t a acts (c ∷ cs) = stays_answered (answer base limit j c).1 t a (by (answer base limit j c) (outcome base limit j c)) cs
@@ -47,13 +47,13 @@ module _ {A : Type 0} where
         by step (inl w) = ap (λ (p : Reply A × List (Entry A)). action_at (past base p.1) t) w.is ∙ action_stays base j (record { author = c.author; id = c.id; kind = w.kind }) t a acts
         by step (inr l) = ap (λ k. action_at (past base k) t) l.same ∙ acts
 
-    -- redos that brought a journal k back to what it was at j, after undos of these
+    -- redos, after undos of these entries, that lead from the journal k back to the state at the journal j
     record AreRedone (j k : List (Entry A)) (undone : List ℕ) (last : List (Reply A) × List (Entry A)) : Type 0 where
       replies : last.0 ≡ redid_from (length k + 1) (reverse undone)
       back : IsBack base limit j last.1
       size : length last.1 ≡ length k + length undone
 
-    -- what an accepted undo appends
+    -- the entry that an accepted undo appends
     undid : (j : List (Entry A)) (c : Call A) (n s : ℕ) → (answer base limit j c).0 ≡ Undid n s → answer base limit j c ≡ (Undid n s, with_entry j c.author c.id (Undo s))
     undid j c n s h = by (answer base limit j c) (outcome base limit j c) h
       where
@@ -70,7 +70,7 @@ module _ {A : Type 0} where
       abbrev undos_by : List (ℕ × Option ℕ) → List (Call A)
       undos_by asked = map (undo_by author) asked
 
-      -- an undo before the others, and a redo after theirs
+      -- an undo in front of the other undos, and a redo after their redos
       one_more : (j : List (Entry A)) → IsLed base j → (q : ℕ × Option ℕ) (s : ℕ) → (answer base limit j (undo_by author q)).0 ≡ Undid (length j + 1) s
           → (qs : List (ℕ × Option ℕ)) (ss front : List ℕ) (id : ℕ)
           → let step = answer base limit j (undo_by author q) in

@@ -1,4 +1,4 @@
--- What every journal keeps that calls lead to.
+-- Invariants of every journal that calls lead to.
 use Rattle.std.proofs.Common.{◌≡◌, ◌⊎◌, ℕ, true, List, [], Option, Some, None, inl, inr, refl, sym, ap, subst, ◌∙◌}
 use Rattle.std.specs.Option.{option_map}
 use Rattle.osm_elements.specs.Maps.{Rows}
@@ -30,13 +30,13 @@ module _ {A : Type 0} where
   no_do a f None not e = absurd (cc)
   no_do a f (Some s) not e = not s (cc)
 
-  -- the action that a made request means is made
+  -- the action that a made request asks for is made
   meant_made : (j : List (Entry A)) (author : Author) (r : Request A) (a : Action A) → is_made_request r ≡ true → meant j author r ≡ Some (Do a) → is_made_action a ≡ true
   meant_made j author (requests.Do b) a made e = let same : b ≡ a = cc in ap is_made_action (sym same) ∙ made
   meant_made j author (requests.Undo s) a made e = absurd (no_do a Undo (asked j author s) (λ s e. cc) e)
   meant_made j author requests.Redo a made e = absurd (no_do a Redo (last (redos j author)) (λ t e. cc) e)
 
-  -- a redo that is meant is of the top of its author's stack
+  -- a redo is of the top of its author's redo stack
   pub meant_redo : (j : List (Entry A)) (author : Author) (r : Request A) (t : ℕ) → meant j author r ≡ Some (Redo t) → last (redos j author) ≡ Some t
   meant_redo j author (requests.Do a) t e = absurd (cc)
   meant_redo j author (requests.Undo s) t e = absurd (by (asked j author s) e)
@@ -51,12 +51,12 @@ module _ {A : Type 0} where
       by (Some s) e = cc
 
   module _ (base : Rows A) (sound : is_sound base ≡ true) where
-    -- the works of what stands lead to the map, and what can be redone has its action
+    -- the works of the active entries lead to the map, and each entry on a redo stack has an action
     pub record IsKept (j : List (Entry A)) : Type 0 where
       pub led : IsLed base j
       pub redoable : AreRedoable base j
 
-    -- what an undo that is not refused does
+    -- the effect of an accepted undo
     pub undone_by : (j : List (Entry A)) → IsLed base j → (e : Entry A) (s : ℕ) → e.kind ≡ Undo s → kind_refusal (past base j) j e.author (Undo s) ≡ None → Undone base j s e
     undone_by j led e s is passes = let f : Found (past base j) j e.author s = found (past base j) j e.author s passes in undone base j e s sound led is f.there f.free
 

@@ -1,4 +1,4 @@
--- What is kept of an entry is what the journal records of it.
+-- The kept effect of an entry is the one that the journal records.
 use Rattle.std.proofs.Common.{◌≡◌, List, Option, Some, None, refl, sym, ap, ◌∙◌}
 use Rattle.std.specs.Bool.{then_some}
 use Rattle.osm_elements.specs.Maps.{Rows}

@@ -49,7 +49,7 @@ module _ {A : Type 0} where
     holders_are = refl;
   }
 
-  -- the number of an entry that stands
+  -- the number of an active entry
   pub stands_within : (j : List (Entry A)) (s : ℕ) → is_standing j s ≡ true → (1 ≤ s) × (s ≤ length j)
   stands_within j s there =
       let low = at_least 1 s (standing j) (1 + length j) (Rise-standing_from 1 j) there in
@@ -57,7 +57,7 @@ module _ {A : Type 0} where
       (low, omega (arith, high))
 
   module _ (p : Past A) (j : List (Entry A)) (holders : Held) (kept : AreHolders p j holders) where
-    -- what the holders find behind an entry that stands is its blocker
+    -- the first entry that the holders find after an active entry is its blocker
     pub blocker_found : (s : ℕ) (found : Option (ℕ × Name)) → is_standing j s ≡ true → IsFirstAfter holders (recorded_footprint p s) s found → found ≡ blocker p j s
     blocker_found s found there told =
         let cells = recorded_footprint p s in
@@ -68,18 +68,18 @@ module _ {A : Type 0} where
     pub holders_held : AreHeld holders
     holders_held = subst AreHeld (sym kept.holders_are) (AreHeld-holders_of (held p j))
 
-    -- an entry that stands holds just the cells of its footprint
+    -- an active entry holds exactly the cells of its footprint
     pub holds_own : (s : ℕ) → is_standing j s ≡ true → HoldsOnly holders (recorded_footprint p s) s
     holds_own s there = subst (λ (h : Held). HoldsOnly h (recorded_footprint p s) s) (sym kept.holders_are) (HoldsOnly-holders_of (recorded_footprint p) (standing j) kept.rising s)
 
   module _ (base : Rows A) (j : List (Entry A)) (holders : Held) (kept : AreHolders (past base j) j holders) where
-    -- the next entry's number comes after all that are held
+    -- the next number is greater than all that are held
     pub holders_next : IsNext holders (length j + 1)
     holders_next =
         subst (λ (h : Held). IsNext h (length j + 1)) (sym kept.holders_are)
         (IsNext-holders_of (held (past base j) j) (length j + 1) (AreRising-with_cells (recorded_footprint (past base j)) (standing j) kept.rising) (is_next base j))
 
-    -- an entry that does an action stands with the footprint that the action has on the map
+    -- an entry that does an action is active, with the footprint of the action on the map
     pub AreHolders-work : (e : Entry A) (a : Action A) (holders' : Held) (cells : List Cell) → is_work e.kind ≡ true → recorded_next (past base j) e.kind ≡ recorded_of (mapof base j) a
         → cells ≡ footprint (mapof base j) a → holders' ≡ stands holders cells (length j + 1) → AreHolders (past base (j ++ e ∷ [])) (j ++ e ∷ []) holders'
     AreHolders-work e a holders' cells work records is holders_is = record {
@@ -107,7 +107,7 @@ module _ {A : Type 0} where
             let at = stands_within j s stood in
             subst IsRising (sym (earlier_stay base j e s (omega (arith, at.1)))) (kept.rising s stood)
 
-    -- what an undo takes back falls
+    -- the entry that an undo takes back is not active any more
     pub AreHolders-undo : (e : Entry A) (s : ℕ) (holders' : Held) → e.kind ≡ Undo s → is_standing j s ≡ true
         → holders' ≡ fallen holders s → AreHolders (past base (j ++ e ∷ [])) (j ++ e ∷ []) holders'
     AreHolders-undo e s holders' k there holders_is = record {

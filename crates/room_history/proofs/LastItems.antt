@@ -7,11 +7,11 @@ module _ {X : Type 0} where
   pub last-append : (xs : List X) (x : X) → last (xs ++ x ∷ []) ≡ Some x
   last-append xs x = ap (λ ys. slice_get ys 0) (reverse-append xs (x ∷ []))
 
-  -- a list that ends in the same item after the same ones is the same
+  -- if two lists differ at most in their last item and are equal, their last items are equal
   pub same_end : (xs : List X) (x y : X) → xs ++ x ∷ [] ≡ xs ++ y ∷ [] → x ≡ y
   same_end xs x y e = let ends : Some x ≡ Some y = sym (last-append xs x) ∙ ap last e ∙ last-append xs y in cc
 
-  -- a list that is not empty is its last item after the others
+  -- a list that is not empty has a last item after the others
   pub record Ended (xs : List X) : Type 0 where
     pub front : List X
     pub end : X
@@ -25,7 +25,7 @@ module _ {X : Type 0} where
   take_front [] ys = refl
   take_front (x ∷ xs) ys = ap (λ l. x ∷ l) (take_front xs ys)
 
-  -- without the last item the others are left
+  -- without its last item, the others are left
   pub all_but_last : (xs : List X) (x : X) → take (length (xs ++ x ∷ []) - 1) (xs ++ x ∷ []) ≡ xs
   all_but_last xs x = ap (λ n. take (n - 1) (xs ++ x ∷ [])) (length-append xs (x ∷ [])) ∙ ap (λ n. take n (xs ++ x ∷ [])) (omega arith) ∙ take_front xs (x ∷ [])
 
@@ -38,7 +38,7 @@ module _ {X : Type 0} where
       let same : whole.end ≡ x = cc in
       whole.is ∙ ap (λ l. l ++ whole.end ∷ []) (sym (all_but_last whole.front whole.end)) ∙ ap (λ l. take (length l - 1) l ++ whole.end ∷ []) (sym whole.is) ∙ ap (λ z. take (length (y ∷ ys) - 1) (y ∷ ys) ++ z ∷ []) same
 
-  -- what holds of the empty list, and of a longer one where it holds of the shorter, holds of each
+  -- induction from the end: a property of the empty list, which one more item keeps, is a property of each list
   pub from_the_end : (P : List X → Type 0) → P [] → ((xs : List X) (x : X) → P xs → P (xs ++ x ∷ [])) → (xs : List X) → P xs
   from_the_end P none more xs = go [] xs none
     where

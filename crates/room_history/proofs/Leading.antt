@@ -1,4 +1,4 @@
--- The works of the entries that stand lead from the base to the map of the journal.
+-- The works of the active entries lead from the base to the map of the journal.
 use Rattle.std.proofs.Common.{◌≡◌, ◌+◌, ◌++◌, ℕ, suc, true, List, [], ◌∷◌, Some, None, length, refl, sym, ap, subst, ◌∙◌, arith}
 use Rattle.osm_elements.specs.Maps.{Rows}
 use Rattle.osm_changes.specs.Changes.{changed}
@@ -20,7 +20,7 @@ use Rattle.room_history.proofs.Growing.{numbered_next}
 use Rattle.room_history.proofs.Works.{AreRecorded, recorded-grown, recorded-joined}
 
 module _ {A : Type 0} where
-  -- what every journal keeps
+  -- the invariant of every journal
   pub record IsLed (base : Rows A) (j : List (Entry A)) : Type 0 where
     pub works : List (Work A)
     pub recorded : AreRecorded (past base j).entries (standing j) works
@@ -29,11 +29,11 @@ module _ {A : Type 0} where
   pub led_sound : (base : Rows A) (j : List (Entry A)) → is_sound base ≡ true → IsLed base j → is_sound (mapof base j) ≡ true
   led_sound base j sound led = leads_sound base led.works (mapof base j) sound led.leads
 
-  -- a past with one more that is recorded
+  -- a past with one more record
   abbrev with_recorded : Past A → Recorded A → Past A
   with_recorded p r = record { map = changed p.map r.changes; entries = p.entries ++ r ∷ [] }
 
-  -- an entry that is recorded as an action which is accepted, and that stands last
+  -- an accepted entry whose record is an action's, and which is the last active one
   pub led-work : (base : Rows A) (j : List (Entry A)) (e : Entry A) (a : Action A) → is_sound base ≡ true → IsLed base j → is_made_action a ≡ true → refusal (mapof base j) a ≡ None
       → recorded_next (past base j) e.kind ≡ recorded_of (mapof base j) a → standing (j ++ e ∷ []) ≡ standing j ++ (1 + length j) ∷ [] → IsLed base (j ++ e ∷ [])
   led-work base j e a sound led made ok records stands = record {
@@ -69,7 +69,7 @@ module _ {A : Type 0} where
   pub led-do : (base : Rows A) (j : List (Entry A)) (e : Entry A) (a : Action A) → is_sound base ≡ true → IsLed base j → e.kind ≡ Do a → is_made_action a ≡ true → refusal (mapof base j) a ≡ None → IsLed base (j ++ e ∷ [])
   led-do base j e a sound led k made ok = led-work base j e a sound led made ok (ap (recorded_next (past base j)) k) (standing-do j e a k)
 
-  -- and one done again
+  -- a redo of an action
   pub led-redo : (base : Rows A) (j : List (Entry A)) (e : Entry A) (t : ℕ) (a : Action A) → is_sound base ≡ true → IsLed base j → e.kind ≡ Redo t → action_at (past base j) t ≡ Some a
       → is_made_action a ≡ true → refusal (mapof base j) a ≡ None → IsLed base (j ++ e ∷ [])
   led-redo base j e t a sound led k acts made ok = led-work base j e a sound led made ok (ap (recorded_next (past base j)) k ∙ recorded-redo base j t a acts) (standing-redo j e t k)

@@ -1,4 +1,4 @@
--- What a room tells of its entries are the rows of its maps.
+-- The news that a room returns have the rows of its maps.
 use Rattle.std.proofs.Common.{◌≡◌, ◌+◌, ◌++◌, ℕ, zero, suc, List, [], ◌∷◌, drop, length, map, take, refl, sym, ap, ◌∙◌, append_assoc, append-nil, length-append}
 use Rattle.std.specs.List.{fold}
 use Rattle.std.proofs.lemmas.List.{map-append}
@@ -14,7 +14,7 @@ use Rattle.room_history.specs.Inner.Telling.{kept_from, kept, told_from, told_ro
 use Rattle.room_history.proofs.Appending.{past-append, mapof-append}
 
 module _ {A : Type 0} where
-  -- what is recorded of entries after others
+  -- the records of entries after a past
   abbrev recorded_behind : Past A → List (Entry A) → List (Recorded A)
   recorded_behind p [] = []
   recorded_behind p (e ∷ k) = recorded_next p e.kind ∷ recorded_behind (past_after p e.kind) k
@@ -22,19 +22,19 @@ module _ {A : Type 0} where
   abbrev past_from : Past A → List (Entry A) → Past A
   past_from p j = fold (λ (p : Past A) (e : Entry A). past_after p e.kind) p j
 
-  -- all entries are recorded in their order
+  -- the records of all entries in order
   recorded_in_turn : (p : Past A) (j : List (Entry A)) → (past_from p j).entries ≡ p.entries ++ recorded_behind p j
   recorded_in_turn p [] = sym (append-nil p.entries)
   recorded_in_turn p (e ∷ j) =
       recorded_in_turn (past_after p e.kind) j
       ∙ append_assoc p.entries (recorded_next p e.kind ∷ []) (recorded_behind (past_after p e.kind) j)
 
-  -- rows of a map are told as news tell them
+  -- rows of a map in the form of news
   rows_told : (m : Rows A) (names : List Name) → map told_row (map (row_in m) names) ≡ map (news_row m) names
   rows_told m [] = refl
   rows_told m (x ∷ xs) = ap (λ rows. news_row m x ∷ rows) (rows_told m xs)
 
-  -- the news behind more entries
+  -- the news after more entries
   drop_behind : (base : Rows A) (from : ℕ) (i k : List (Entry A)) → drop from (news_behind base i k) ≡ news_behind base (i ++ take from k) (drop from k)
   drop_behind base zero i k = ap (λ l. news_behind base l k) (sym (append-nil i))
   drop_behind base (suc from) i [] = refl
@@ -53,7 +53,7 @@ module _ {A : Type 0} where
       ∙ (λ n. new ∷ told_from (longer n + 1) k (kept_from (later n).map (recorded_behind (later n) k)))
       ∙ ap (λ ns. new ∷ ns) (told_behind base (i ++ e ∷ []) k)
 
-  -- the news that a room tells
+  -- the news that a room returns
   pub news_told : (base : Rows A) (j : List (Entry A)) (from : ℕ) → drop from (told_from 1 j (kept base j)) ≡ news base j from
   news_told base j n =
       ap (λ rs. drop n (told_from 1 j (kept_from base rs))) (recorded_in_turn (record { map = base; entries = [] }) j)

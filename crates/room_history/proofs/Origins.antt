@@ -1,4 +1,4 @@
--- The recorded action of an entry is the one that its origin does.
+-- The recorded action of an entry is the one that its origin stores.
 use Rattle.std.proofs.Common.{◌≡◌, ◌+◌, ◌++◌, ◌≤◌, ℕ, suc, zero, List, [], ◌∷◌, Option, Some, None, length, refl, sym, ap, subst, ◌∙◌, unwrap_or, arith, length-append}
 use Rattle.std.specs.List.{fold}
 use Rattle.std.specs.Option.{option_and_then}
@@ -15,8 +15,8 @@ use Rattle.room_history.proofs.Appending.{past-append, recorded_each}
 use Rattle.room_history.proofs.Growing.{numbered_within, numbered_next}
 use Rattle.room_history.proofs.LastItems.{from_the_end}
 
--- what holds of the items of each number in two lists of one length holds in both with one more, if it holds of these
--- two
+-- a property of the items at each number of two lists of one length stays true with one more item in each, if these two
+-- have it
 numbered_in_both : {X Y : Type 0} (P : Option X → Option Y → Type 0) (xs : List X) (ys : List Y) (x : X) (y : Y) → length xs ≡ length ys → P None None → P (Some x) (Some y)
     → ((s : ℕ) → P (numbered xs s) (numbered ys s)) → (s : ℕ) → P (numbered (xs ++ x ∷ []) s) (numbered (ys ++ y ∷ []) s)
 numbered_in_both P xs ys x y same none both before zero = none
@@ -79,11 +79,11 @@ module _ {A : Type 0} where
           next (Undo s) = (omega arith, omega (arith, size))
           next (Redo t) = known (numbered (origins j) t) (before t)
 
-  -- the action that the entry of an origin does
+  -- the action that an origin stores
   abbrev done_at : List (Entry A) → Option ℕ → Option (Action A)
   done_at j o = option_and_then (λ o. done_by (numbered j o)) o
 
-  -- which one more entry leaves
+  -- one more entry leaves it unchanged
   done_stays : (j : List (Entry A)) (e : Entry A) (o : Option ℕ) → IsWithin (length j) o → done_at j o ≡ done_at (j ++ e ∷ []) o
   done_stays j e None h = refl
   done_stays j e (Some o) h = ap done_by (sym (numbered_within j e o h.1))

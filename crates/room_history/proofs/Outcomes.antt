@@ -1,4 +1,4 @@
--- What an answer comes to: an entry that nothing refuses is appended, or a refusal leaves the journal.
+-- The outcome of a call: an accepted entry is appended, or a refusal leaves the journal unchanged.
 use Rattle.std.proofs.Common.{◌≡◌, ◌⊎◌, ◌+◌, ◌++◌, ◌∷◌, ℕ, Bool, true, false, not, List, [], Option, Some, None, is_none, length, refl, sym, ap, ◌∙◌, inl, inr, nat_le, arith, length-append}
 use Rattle.std.specs.Bool.{then_some}
 use Rattle.std.specs.Option.{option_map}
@@ -31,7 +31,7 @@ module _ {A : Type 0} where
   is_acceptance (Redid seq t) = true
   is_acceptance r = false
 
-  -- a refusal is no such reply
+  -- a refusal is not a reply to an accepted call
   pub no_acceptance : (r q : Reply A) → is_acceptance r ≡ false → is_acceptance q ≡ true → r ≡ q → ⊥
   no_acceptance r q refused accepts e = let clash : true ≡ false = sym accepts ∙ ap is_acceptance (sym e) ∙ refused in absurd (cc)
 
@@ -40,7 +40,7 @@ module _ {A : Type 0} where
   nothing_refused (requests.Undo s) = refl
   nothing_refused requests.Redo = refl
 
-  -- no reply that a check may give is to an accepted call
+  -- no check gives a reply to an accepted call
   abbrev Refuses : Option (Reply A) → Type 0
   Refuses None = Unit {0}
   Refuses (Some r) = is_acceptance r ≡ false
@@ -68,14 +68,14 @@ module _ {A : Type 0} where
   kind_refused p j author (Undo s) = undo_refused p j author s
   kind_refused p j author (Redo t) = redo_refused p.map (action_at p t)
 
-  -- an entry that is appended, and that nothing refuses
+  -- an appended entry that nothing refuses
   pub record Appended (base : Rows A) (j : List (Entry A)) (c : Call A) (step : Reply A × List (Entry A)) : Type 0 where
     pub kind : EntryKind A
     pub means : meant j c.author c.request ≡ Some kind
     pub passes : kind_refusal (past base j) j c.author kind ≡ None
     pub is : step ≡ (accepted (length j + 1) kind, with_entry j c.author c.id kind)
 
-  -- a refusal, and the journal as it was
+  -- a refusal, and the unchanged journal
   pub record Left (j : List (Entry A)) (step : Reply A × List (Entry A)) : Type 0 where
     pub refused : is_acceptance step.0 ≡ false
     pub same : step.1 ≡ j
@@ -99,7 +99,7 @@ module _ {A : Type 0} where
   longer : (j : List (Entry A)) (e : Entry A) → j ≡ j ++ e ∷ [] → ⊥
   longer j e h = let n : length j ≡ length j + 1 = ap length h ∙ length-append j (e ∷ []) in omega (arith, n)
 
-  -- where the journal got an entry longer, that entry is the call's, and nothing refuses it
+  -- if the journal got one entry longer, the entry is the call's, and nothing refuses it
   pub got_longer : (base : Rows A) (j : List (Entry A)) (c : Call A) (step : Reply A × List (Entry A)) (e : Entry A) → Outcome base j c step → step.1 ≡ j ++ e ∷ []
       → (a : Appended base j c step) × (e ≡ record { author = c.author; id = c.id; kind = a.kind })
   got_longer base j c step e (inl a) h = (a, sym (same_end j (record { author = c.author; id = c.id; kind = a.kind }) e (sym (ap (λ (p : Reply A × List (Entry A)). p.1) a.is) ∙ h)))

@@ -1,4 +1,4 @@
--- Of each entry that an author can redo a made action is recorded.
+-- Each entry on a redo stack has a made action in its record.
 use Rattle.std.proofs.Common.{◌≡◌, ◌⊎◌, ◌-◌, ◌++◌, ◌||◌, ℕ, suc, zero, Bool, true, false, List, [], ◌∷◌, Option, Some, None, inl, inr, length, take, nat_eq, refl, sym, ap, ◌∙◌, cond}
 use Rattle.std.specs.Option.{option_and_then}
 use Rattle.osm_elements.specs.Maps.{Rows}
@@ -48,7 +48,7 @@ module _ {A : Type 0} (base : Rows A) where
       by None e h = absurd (cc)
       by (Some r) is h = ap (option_and_then (λ (r : Recorded A). r.action)) (numbered-append (past base j).entries (recorded_next (past base j) e.kind ∷ []) t r is) ∙ h
 
-  -- a made action is recorded of an entry
+  -- the record of an entry has a made action
   pub record Acts (j : List (Entry A)) (t : ℕ) : Type 0 where
     pub action : Action A
     pub acts : action_at (past base j) t ≡ Some action
@@ -78,6 +78,6 @@ module _ {A : Type 0} (base : Rows A) where
       by true h = of_kind e.kind refl h
       by false h = before author t h
 
-  -- the top of a stack
+  -- the top of a redo stack
   pub top_acts : (j : List (Entry A)) → AreRedoable j → (author : Author) (t : ℕ) → last (redos j author) ≡ Some t → Acts j t
   top_acts j redoable author t top = redoable author t (ap (is_in t) (last_put_back (redos j author) t top) ∙ last_there t (take (length (redos j author) - 1) (redos j author)))

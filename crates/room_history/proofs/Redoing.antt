@@ -1,4 +1,4 @@
--- An undo that is redone gives back the room from before it.
+-- A redo of an undo restores the room before the undo.
 use Rattle.std.proofs.Common.{◌≡◌, ◌+◌, ◌++◌, ◌-◌, ℕ, Bool, true, false, List, [], ◌∷◌, Some, None, length, take, refl, sym, ap, subst, ◌∙◌, cond, arith, nat_le, length-append}
 use Rattle.std.specs.Option.{option_map}
 use Rattle.osm_elements.specs.Rows.{AreInOrder}
@@ -40,12 +40,12 @@ module _ {A : Type 0} (base : Rows A) (limit : ℕ) where
       unspent base limit j c fresh room ∙ ap (λ o. answer_by j c (meaning_refusal (past base j) j c o) o) (ap (meant j c.author) asks ∙ ap (option_map Redo) top)
       ∙ ap (λ o. answer_by j c o (Some (Redo t))) (ap (redo_refusal (mapof base j)) acts ∙ ap (option_map Refused) ok)
 
-  -- the map of another journal, and what each author can redo after it
+  -- the same map as another journal's, and the same redo stacks
   pub record IsBack (j k : List (Entry A)) : Type 0 where
     pub same_map : mapof base k ≡ mapof base j
     pub same_redos : (author : Author) → redos k author ≡ redos j author
 
-  -- what an undo pushed and a redo takes off again
+  -- the redo pops what the undo pushed
   pushed_and_taken : (j : List (Entry A)) (u : Entry A) (s : ℕ) (k : List (Entry A)) (e : Entry A) (t : ℕ) → u.kind ≡ Undo s → e.kind ≡ Redo t → e.author ≡ u.author
       → ((author : Author) → redos k author ≡ redos (j ++ u ∷ []) author) → (author : Author) → redos (k ++ e ∷ []) author ≡ redos j author
   pushed_and_taken j u s k e t undo redo same before author =
@@ -61,7 +61,7 @@ module _ {A : Type 0} (base : Rows A) (limit : ℕ) where
       by true = all_but_last (redos j author) s
       by false = refl
 
-  -- the undo u of s redone, in a journal after it with the same map and the same to redo
+  -- a redo of the undo u of s, in a later journal with the same map and the same redo stacks
   module _ (sound : is_sound base ≡ true) (j : List (Entry A)) (u : Entry A) (s : ℕ) (kind_is : u.kind ≡ Undo s) (un : Undone base j s u) (k : List (Entry A)) (back : IsBack (j ++ u ∷ []) k) where
     abbrev again : Call A → Entry A
     again c = record { author = c.author; id = c.id; kind = Redo s }
@@ -84,7 +84,7 @@ module _ {A : Type 0} (base : Rows A) (limit : ℕ) where
         order : AreInOrder (mapof base k)
         order = subst AreInOrder (sym back.same_map) (sound_in_order (mapof base (j ++ u ∷ [])) (led_sound base (j ++ u ∷ []) sound un.led))
 
-  -- an accepted undo: its entry, and what it did
+  -- an accepted undo: its entry and its effect
   pub record Undoes (j : List (Entry A)) (c : Call A) (s : ℕ) (u : Entry A) : Type 0 where
     pub is : u ≡ record { author = c.author; id = c.id; kind = Undo s }
     pub did : Undone base j s u

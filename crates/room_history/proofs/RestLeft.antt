@@ -1,4 +1,4 @@
--- An accepted undo leaves the rest.
+-- After an accepted undo, the other entries stay active, and their replay gives the map.
 use Rattle.std.proofs.Common.{◌≡◌, ◌⊎◌, ◌+◌, ℕ, true, List, Some, None, inl, inr, length, refl, sym, ap, subst, ◌∙◌}
 use Rattle.osm_elements.specs.Maps.{Rows}
 use Rattle.osm_changes.specs.Sound.{is_sound}
@@ -19,14 +19,14 @@ use Rattle.room_history.proofs.TakingBack.{rest_replays}
 use Rattle.room_history.proofs.Undoing.{Found, found}
 
 module _ {A : Type 0} where
-  -- the reply to an accepted undo tells what it undid
+  -- the reply to an accepted undo has the undone entry
   pub undoes : (k : EntryKind A) (n seq s : ℕ) → accepted n k ≡ Undid seq s → k ≡ Undo s
   undoes (Do a) n seq s e = absurd (cc)
   undoes (Undo t) n seq s e = let same : t ≡ s = cc in ap Undo same
   undoes (Redo t) n seq s e = absurd (cc)
 
   module _ (base : Rows A) (limit : ℕ) (j : List (Entry A)) (sound : is_sound base ≡ true) (led : IsLed base j) (c : Call A) (seq s : ℕ) where
-    -- a step whose reply is to an accepted undo leaves the rest
+    -- after a step whose reply is to an accepted undo, the rest is left
     abbrev LeavesRest : Reply A × List (Entry A) → Type 0
     LeavesRest step = step.0 ≡ Undid seq s → (standing step.1 ≡ others j s) × (replay base (actions_of (past base j) (others j s)) ≡ Some (mapof base step.1))
 

@@ -1,4 +1,4 @@
--- Rising numbers: which are among them, the place of one, and the greatest.
+-- Rising numbers: membership, positions, and the greatest number.
 use Rattle.std.proofs.Common.{◌≡◌, ◌++◌, ◌+◌, ◌<◌, ◌≤◌, ◌||◌, ℕ, Bool, true, false, not, List, [], ◌∷◌, Some, refl, sym, ap, ◌∙◌, cond, nat_eq, nat_lt, arith}
 use Rattle.std.specs.List.{filter, list_any}
 use Rattle.std.proofs.lemmas.Bool.Decides.{nat_tests}
@@ -6,7 +6,7 @@ use Rattle.room_history.specs.Journals.{last}
 use Rattle.room_history.proofs.Growing.{Rise, Rise-from, equal_numbers}
 use Rattle.room_history.proofs.LastItems.{last-append}
 
--- a number is among others
+-- a number is among the numbers
 abbrev pub is_in : ℕ → List ℕ → Bool
 is_in t ss = list_any (λ x. nat_eq x t) ss
 
@@ -32,7 +32,7 @@ pub or_else : (a b : Bool) → b ≡ true → (a || b) ≡ true
 or_else true b h = refl
 or_else false b h = h
 
--- in rising numbers none is below the first
+-- no number of rising numbers is below the first
 pub at_least : (m u : ℕ) (ss : List ℕ) (end : ℕ) → Rise m ss end → is_in u ss ≡ true → m ≤ u
 at_least m u [] end r h = absurd (cc)
 at_least m u (x ∷ xs) end r h = by (nat_eq x u) refl h (at_least (x + 1) u xs end r.1)
@@ -41,7 +41,7 @@ at_least m u (x ∷ xs) end r h = by (nat_eq x u) refl h (at_least (x + 1) u xs 
     by true e h go = let same = equal_numbers x u e in omega (arith, r.0, same)
     by false e h go = let low = go h in omega (arith, r.0, low)
 
--- the numbers before one among others, and those after it
+-- the numbers in front of one of them, and the numbers after it
 pub record Parted (s : ℕ) (ss : List ℕ) : Type 0 where
   pub earlier : List ℕ
   pub later : List ℕ
@@ -83,7 +83,7 @@ parted s n (x ∷ xs) end r h = by (nat_eq x s) refl h (parted s (x + 1) xs end 
           behind = ap (λ b. cond b (x ∷ filter (nat_lt s) xs) (filter (nat_lt s) xs)) (not_above s x (omega (arith, up))) ∙ p.behind;
         }
 
--- those that pass a test rise, and are those among the others that pass it
+-- numbers that pass a test rise, and are exactly those of the list that pass it
 module _ (p : ℕ → Bool) where
   pub Rise-filter : (m : ℕ) (ss : List ℕ) (end : ℕ) → Rise m ss end → Rise m (filter p ss) end
   Rise-filter m [] end r = r
@@ -135,7 +135,7 @@ pub below_end : (n : ℕ) (x : ℕ) (xs : List ℕ) (end : ℕ) → Rise (x + 1)
 below_end n x [] end r h = omega (arith, r, h)
 below_end n x (y ∷ ys) end r h = let low = below_end n y ys end r.1 h in omega (arith, r.0, low)
 
--- one past rising numbers is there, none is above it, and it leaves the others
+-- the number appended to rising numbers is among them, is the greatest, and removing it leaves the others
 pub last_there : (n : ℕ) (ss : List ℕ) → is_in n (ss ++ n ∷ []) ≡ true
 last_there n [] = ap (λ b. b || false) (itself n)
 last_there n (x ∷ xs) = or_else (nat_eq x n) (is_in n (xs ++ n ∷ [])) (last_there n xs)

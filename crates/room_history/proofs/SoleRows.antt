@@ -1,4 +1,4 @@
--- Changes of one row alone are those from the row before to the row after.
+-- Changes of only one row are those from the row before to the row after.
 use Rattle.std.proofs.Common.{◌≡◌, ◌≢◌, ◌||◌, Bool, true, false, not, cond, T, List, [], ◌∷◌, Option, get_or, length, map, refl, sym, ap, subst, ◌∙◌, arith, None}
 use Rattle.std.specs.List.{filter}
 use Rattle.std.specs.Cmp.{tied_itself}
@@ -26,7 +26,7 @@ use Rattle.osm_changes.specs.Facts.Halves.{told_same_halves, same_itself}
 use Rattle.room_history.specs.declared.kept.Effect.{Effect}
 use Rattle.room_history.specs.Inner.Kept.{effect_of_row}
 
--- which of two items stay
+-- the items that a filter keeps of two
 first_stays : {X : Type 0} (p : X → Bool) (c d k : X) → c ≡ k → p k ≡ true → p d ≡ false → filter p (c ∷ d ∷ []) ≡ k ∷ []
 first_stays p c d k is stays goes =
     ap (λ b. cond b (c ∷ cond (p d) (d ∷ []) []) (cond (p d) (d ∷ []) [])) (ap p is ∙ stays) ∙ ap (λ b. c ∷ cond b (d ∷ []) []) goes ∙ ap (λ e. e ∷ []) is
@@ -47,7 +47,7 @@ of_one : (b : Bool) → (b || false) ≡ true → b ≡ true
 of_one true e = refl
 of_one false e = absurd (cc)
 
--- of two cells of one name the first is of its tags
+-- of two rising cells with the same name, the first is that of the tags
 parts_rise : (x : Name) (p r : Part) → T (is_lt (cell_cmp (record { name = x; part = p }) (record { name = x; part = r }))) → (p ≡ Tags) × (r ≡ Rest)
 parts_rise x Tags Rest h = (refl, refl)
 parts_rise x Tags Tags h = absurd (subst (λ o. T (is_lt (ordering_then o Equal))) (tied_itself name_cmp_total x) h)
@@ -65,7 +65,7 @@ module _ {A : Type 0} where
   no_other : (h k : Option (Half A)) → k ≡ h → not (are_same_halves h k) ≡ false
   no_other h k same = ap (λ l. not (are_same_halves h l)) same ∙ ap not (same_itself h)
 
-  -- what a row's halves are after changes
+  -- the halves of a row after changes
   abbrev AreHalves : Name → List (Change A) → Option (Element A) → Option (Element A) → Type 0
   AreHalves x cs o q = (p : Part) → half p q ≡ half_after cs (record { name = x; part = p }) (half p o)
 
@@ -113,7 +113,7 @@ module _ {A : Type 0} where
   rising_rest c rest h = second _ _ h
 
   module _ (m : Rows A) (x : Name) where
-    -- a change of the row of x, as it would be under that name
+    -- a change of the row of x, with this name
     named : (c : Change A) → c.name ≡ x → c ≡ record { name = x; part = c.part; before = c.before; after = c.after }
     named c same = λ i. record { name = same i; part = c.part; before = c.before; after = c.after }
 
@@ -133,7 +133,7 @@ module _ {A : Type 0} where
     rising_parts : (c d : Change A) → c.name ≡ x → d.name ≡ x → T (is_lt (cell_cmp (cell_of c) (cell_of d))) → (c.part ≡ Tags) × (d.part ≡ Rest)
     rising_parts c d cx dx less = parts_rise x c.part d.part (subst (λ l. T (is_lt l)) (λ i. cell_cmp (record { name = cx i; part = c.part }) (record { name = dx i; part = d.part })) less)
 
-    -- changes of one row alone are those of the row
+    -- changes of only one row are those of the row
     pub sole_changes : (cs : List (Change A)) → AreChanges cs → AreFrom m cs → changed_names cs ≡ x ∷ [] → row_changes x (row_at m x) (row_at (changed m cs) x) ≡ cs
     sole_changes [] are from names = absurd (cc)
     sole_changes (c ∷ []) are from names =
@@ -170,7 +170,7 @@ module _ {A : Type 0} where
         clash e = absurd (cc)
 
 module _ {A : Type 0} (m : Rows A) (e : Effect A) (row : RowAfter A) (before after : Option (Element A)) where
-  -- and so an effect of one row is that of its row
+  -- an effect on only one row is that of the row
   pub sole_effect : AreChanges e.changes → AreFrom m e.changes → e.rows ≡ rows_after m e.changes → e.group ≡ None → e.rows ≡ row ∷ [] → before ≡ row_at m row.name → after ≡ row.element
       → effect_of_row (record { name = row.name; before = before; after = after }) ≡ e
   sole_effect are from rows single one before_is after_is = by (changed_names e.changes) refl (sym rows ∙ one)

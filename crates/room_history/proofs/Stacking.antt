@@ -1,4 +1,4 @@
--- How accepted calls change what authors can redo.
+-- The redo stacks after accepted calls.
 use Rattle.std.proofs.Common.{◌≡◌, ◌⊎◌, ◌+◌, ◌++◌, ℕ, false, List, [], ◌∷◌, Some, inl, inr, length, refl, sym, ap, subst, ◌∙◌, cond}
 use Rattle.osm_elements.specs.Maps.{Rows}
 use Rattle.room_stacks.specs.declared.author.Author.{Author}
@@ -19,7 +19,7 @@ use Rattle.room_history.proofs.LastItems.{last_put_back}
 use Rattle.room_history.proofs.Outcomes.{Appended, Left, no_acceptance, outcome}
 
 module _ {A : Type 0} (j : List (Entry A)) (c : Call A) where
-  -- what an accepted call of each kind does to the redo stacks
+  -- an accepted call of each kind changes the redo stacks in this way
   abbrev Stacks : ℕ → ℕ → Reply A × List (Entry A) → Type 0
   Stacks seq s step =
       (step.0 ≡ Done seq → redos step.1 c.author ≡ [])

@@ -70,7 +70,7 @@ use Rattle.room_history.proofs.Undoing.{Found, found}
 use Rattle.room_history.proofs.Chains.{Work}
 use Rattle.room_history.proofs.Works.{IsRecorded, one_of}
 
--- the reply that a refusal becomes: itself, or out of memory
+-- the reply for a refusal: the refusal itself, or `Memory`
 reply_is : {A : Type 0} (at : Option ℕ) (why : Refusal A) → (refused_by at why ≡ Refused (record { action = at; why = why })) ⊎ (refused_by at why ≡ Memory)
 reply_is at (refusals.Absent x) = inl refl
 reply_is at (refusals.Present x) = inl refl
@@ -89,14 +89,14 @@ reply_is at refusals.Memory = inr refl
 below : (limit n : ℕ) → n < limit → nat_le limit n ≡ false
 below limit n h = grind (arith, nat_tests)
 
--- the item of a number in a list that was mapped
+-- the item with a number in a mapped list
 numbered_mapped : {X Y : Type 0} (f : X → Y) (xs : List X) (s : ℕ) → numbered (map f xs) s ≡ option_map f (numbered xs s)
 numbered_mapped f xs zero = refl
 numbered_mapped f [] (suc i) = refl
 numbered_mapped f (x ∷ xs) (suc zero) = refl
 numbered_mapped f (x ∷ xs) (suc (suc i)) = numbered_mapped f xs (suc i)
 
--- each number within a list names an item
+-- each number within a list has an item
 none_there : {X : Type 0} (xs : List X) (s : ℕ) → 1 ≤ s → s ≤ length xs → numbered xs s ≡ None → ⊥
 none_there xs zero low high e = absurd (omega (arith, low))
 none_there [] (suc i) low high e = absurd (omega (arith, high))
@@ -115,19 +115,19 @@ numbered_item {X} xs (suc i) k d e = ap (λ n. get_or xs n d) less ∙ at xs i e
     at (y ∷ ys) zero e = cc
     at (y ∷ ys) (suc n) e = at ys n e
 
--- and what is told of it is what the list has there
+-- the changes read at a position are those that the list has there
 pub kept_changes : {A : Type 0} (recorded : List (Effect A)) (s : ℕ) (d : Effect A) (cs : List (Change A)) → cs ≡ d.changes → d ≡ get_or recorded (s - 1) d → (k : Effect A) → numbered recorded s ≡ Some k → cs ≡ k.changes
 kept_changes recorded s d cs told item k is = told ∙ ap (λ (e : Effect _). e.changes) (item ∙ numbered_item recorded s k d is)
 
 injective : {X : Type 0} {x y : X} → Some x ≡ Some y → x ≡ y
 injective e = cc
 
--- of a call that was refused nothing is asked of what it gives
+-- a refused call has no result, so any property of the result is true
 pub on_ok : {X E : Type 0} (r : Result X E) (P : X → Type 0) → IsErr r → IfOk r P
 on_ok (Ok x) P e = absurd (cc)
 on_ok (Err e) P is = tt
 
--- what holds holds where a call was refused
+-- a true statement is also true after a refusal
 pub on_err : {X E : Type 0} (r : Result X E) (P : Type 0) → P → OnErr r P
 on_err (Ok x) P p = tt
 on_err (Err e) P p = p
@@ -142,8 +142,7 @@ plan_refused m a r reply is (inl e) = by (reply_is r.action r.why)
     by (inl same) = inr (ap (option_map Refused) e ∙ ap Some (sym (is ∙ same)))
     by (inr same) = inl (is ∙ same)
 
--- what is planned for the action of an entry is what its redo wants
--- what is done again is the action that there is
+-- the plan of a redo's action gives what the redo needs; the action of a redo is the entry's action
 pub again_does : {A : Type 0} (m : Rows A) (o : Option (Action A)) → (done_again m o).action ≡ o
 again_does m None = refl
 again_does m (Some a) = refl
@@ -180,7 +179,7 @@ module _ {A : Type 0} where
       let why = meaning_refusal (past base j) j c k in
       inl (sym (ap (λ o. answer_by j c (first_that_holds (option_map Repeat o ∷ then_some (nat_le limit (length j)) Full ∷ why ∷ [])) k) is))
 
-  -- a call is known by its parts
+  -- a call is determined by its parts
   pub same_call : (base : Rows A) (limit : ℕ) (j k : List (Entry A)) (c : Call A) (r : Request A) (reply : Reply A) → c.request ≡ r → IsStep base limit j (record { author = c.author; id = c.id; request = r }) reply k → IsStep base limit j c reply k
   same_call base limit j k c r reply is h = subst (λ q. IsStep base limit j (record { author = c.author; id = c.id; request = q }) reply k) (sym is) h
 
@@ -189,12 +188,12 @@ module _ {A : Type 0} where
     answer_is : (r : Request A) → answer base limit j (record { author = author; id = id; request = r }) ≡ answer_by j (record { author = author; id = id; request = r }) (meaning_refusal (past base j) j (record { author = author; id = id; request = r }) (meant j author r)) (meant j author r)
     answer_is r = unspent base limit j (record { author = author; id = id; request = r }) may.0 (below limit (length j) may.1)
 
-    -- a request that means an entry
+    -- a request for an entry of the kind k
     module _ (r : Request A) (k : EntryKind A) (means : meant j author r ≡ Some k) where
       abbrev call : Call A
       call = record { author = author; id = id; request = r }
 
-      -- is answered by what refuses that, if anything does
+      -- the reply to the request is the refusal of k, if there is one
       meaning_is : answer base limit j call ≡ answer_by j call (kind_refusal (past base j) j author k) (Some k)
       meaning_is = answer_is r ∙ ap (λ o. answer_by j call (meaning_refusal (past base j) j call o) o) means
 
@@ -209,14 +208,14 @@ module _ {A : Type 0} where
         pub step_accepted : (seq : ℕ) → seq ≡ length j + 1 → IsStep base limit j call (accepted seq k) (with_entry j author id k)
         step_accepted seq is = inl (ap (λ n. (accepted n k, with_entry j author id k)) is ∙ sym accepted_is)
 
-        -- the journal with the entry is one that calls lead to
+        -- calls lead to the journal with the entry
         legal : IsJournal base limit j → is_made_request r ≡ true → IsJournal base limit (with_entry j author id k)
         legal h made = subst (λ l. IsJournal base limit l) (ap (λ (p : Reply A × List (Entry A)). p.1) accepted_is) (called j call h made)
 
     pub step_nothing_to_redo : last (redos j author) ≡ None → IsStep base limit j (record { author = author; id = id; request = requests.Redo }) NothingToRedo j
     step_nothing_to_redo none = inl (sym (answer_is requests.Redo ∙ ap (λ o. answer_by j (record { author = author; id = id; request = requests.Redo }) (meaning_refusal (past base j) j (record { author = author; id = id; request = requests.Redo }) (option_map Redo o)) (option_map Redo o)) none))
 
-    -- which entry an undo takes back, or why none
+    -- the entry that an undo takes back
     record Taken (number : Option ℕ) (s : ℕ) : Type 0 where
       is : asked j author number ≡ Some s
       ok : undo_refusal (past base j) j author s ≡ None
@@ -249,12 +248,12 @@ module _ {A : Type 0} where
             why None e = absurd (cc)
             why (Some p) e = ap (λ q. (q, j)) (cc)
 
-    -- or why the undo is refused
+    -- the refusal of an undo
     pub step_undo_refused : (number : Option ℕ) (r : Reply A) → (r ≡ Memory) ⊎ (Err r ≡ asked_or (undo_refusal (past base j) j author) (asked j author number)) → IsStep base limit j (record { author = author; id = id; request = requests.Undo number }) r j
     step_undo_refused number r (inl is) = inr (is, refl)
     step_undo_refused number r (inr is) = step_not_undone number r is
 
-  -- a room of a sound map, with an empty journal
+  -- a room that begins with a sound map, with an empty journal
   pub IsRoom-opened : (store : StoreState A) (recorded : List (Effect A)) (firsts : List ℕ) (holders : Held) (done : List Deed) (base : Rows A) (limit : ℕ) (j : List (Entry A))
       → store.rows ≡ base → store.applied ≡ 0 → recorded ≡ [] → firsts ≡ [] → holders ≡ [] → done ≡ [] → is_sound base ≡ true → j ≡ [] → IsRoom store recorded firsts holders done base limit j
   IsRoom-opened store recorded firsts holders done base limit j begins none_applied no_changes no_firsts no_holders no_deeds sound no_entries = record {
@@ -274,20 +273,20 @@ module _ {A : Type 0} where
       opened_holders : AreHolders (past base j) j holders
       opened_holders = subst (λ k. AreHolders (past base k) k holders) (sym no_entries) none_held
 
-  -- what one more entry records
+  -- the record of one more entry
   recorded-append : (base : Rows A) (j : List (Entry A)) (e : Entry A) → (past base (j ++ e ∷ [])).entries ≡ (past base j).entries ++ recorded_next (past base j) e.kind ∷ []
   recorded-append base j e = ap (λ (p : Past A). p.entries) (past-append base j e)
 
-  -- the map after recorded entries
+  -- the map after the changes of recorded entries
   abbrev led_by : Rows A → List (Recorded A) → Rows A
   led_by m rs = fold (λ n (r : Recorded A). changed n r.changes) m rs
 
-  -- what is kept of one more entry
+  -- the kept effect of one more entry
   kept_from-append : (m : Rows A) (rs : List (Recorded A)) (r : Recorded A) → kept_from m (rs ++ r ∷ []) ≡ kept_from m rs ++ effect_of (led_by m rs) r ∷ []
   kept_from-append m [] r = refl
   kept_from-append m (q ∷ rs) r = ap (λ ks. effect_of m q ∷ ks) (kept_from-append (changed m q.changes) rs r)
 
-  -- the changes of the entries, one after the other, lead to the map
+  -- the changes of the entries, in order, lead to the map
   changes_lead_on : (p : Past A) (base : Rows A) (j : List (Entry A)) → p.map ≡ led_by base p.entries
       → let q = fold (λ (p : Past A) (e : Entry A). past_after p e.kind) p j in q.map ≡ led_by base q.entries
   changes_lead_on p base [] h = h
@@ -304,7 +303,7 @@ module _ {A : Type 0} where
       let r = recorded_next (past base j) e.kind in
       ap (kept_from base) (recorded-append base j e) ∙ kept_from-append base (past base j).entries r ∙ ap (λ m. kept base j ++ effect_of m r ∷ []) (sym (changes_lead base j))
 
-  -- what is kept has the changes, and of groups the footprints, that are recorded
+  -- kept effects have the recorded changes, and the recorded footprints of groups
   changes_kept : (m : Rows A) (rs : List (Recorded A)) → map (λ (k : Effect A). k.changes) (kept_from m rs) ≡ map (λ (r : Recorded A). r.changes) rs
   changes_kept m [] = refl
   changes_kept m (r ∷ rs) = ap (λ rest. r.changes ∷ rest) (changes_kept (changed m r.changes) rs)
@@ -314,23 +313,23 @@ module _ {A : Type 0} where
   groups_kept m (r ∷ rs) = ap (λ rest. group_cells r.action r.footprint ∷ rest) (groups_kept (changed m r.changes) rs)
 
   module _ (store : StoreState A) (recorded : List (Effect A)) (firsts : List ℕ) (holders : Held) (done : List Deed) (base : Rows A) (limit : ℕ) (j : List (Entry A)) (r : IsRoom store recorded firsts holders done base limit j) where
-    -- what holds of a room's journal
+    -- an invariant of a room's journal
     room_led : IsLed base j
     room_led = journal_led base r.base_sound limit j r.journal
 
-    -- the names of the holders rise, and the next number comes after all that are held
+    -- the cells of the holders rise, and the next number is greater than all that are held
     pub may_stand : AreHeld holders
     may_stand = holders_held (past base j) j holders r.holders_are
 
     pub stands_next : (n : ℕ) → n ≡ length j → IsNext holders (n + 1)
     stands_next n is = subst (λ m. IsNext holders (m + 1)) (sym is) (holders_next base j holders r.holders_are)
 
-    -- the action that the code finds of an entry is the recorded one
+    -- the action that the code finds for an entry is the recorded one
     pub action_told : (es : List (Entry A)) (os : List ℕ) (t : ℕ) (o : Option (Action A)) → es ≡ j → os ≡ firsts → o ≡ option_and_then (λ n. done_by (numbered es n)) (numbered os t) → action_at (past base j) t ≡ o
     action_told es os t o entries_are origins_are is =
         action_by_origin base j t ∙ sym (is ∙ (λ i. option_and_then (λ n. done_by (numbered (entries_are i) n)) (numbered ((origins_are ∙ r.firsts_are) i) t)))
 
-    -- an entry that stands: its action, what is kept of what it changed, and its footprint
+    -- an active entry: its action, its kept effect, and its footprint
     module _ (s : ℕ) (there : is_standing j s ≡ true) where
       stood : (w : Work A) × IsRecorded (past base j).entries s w
       stood = one_of (past base j).entries s (standing j) room_led.works room_led.recorded there
@@ -359,7 +358,7 @@ module _ {A : Type 0} where
               ∙ ap (λ css. numbered css s) (changes_kept base (past base j).entries) ∙ numbered_mapped (λ (r : Recorded A). r.changes) (past base j).entries s
               ∙ ap (option_map (λ (r : Recorded A). r.changes)) stood.1
 
-      -- an undo records the changes of the entry taken back
+      -- an undo records the inverse of the entry's changes
       pub next_is : (cs : List (Change A)) → ((k : Effect A) → numbered recorded s ≡ Some k → cs ≡ k.changes) → inverse cs ≡ (recorded_next (past base j) (Undo s)).changes
       next_is cs told = by (numbered recorded s) refl
         where
@@ -367,7 +366,7 @@ module _ {A : Type 0} where
           by None e = absurd (none_there recorded s is_first is_kept e)
           by (Some k) e = ap inverse (told k e ∙ its_changes k e) ∙ ap (λ o. (taken_back o).changes) (sym stood.1)
 
-      -- what is kept of a group is its footprint, and of one action nothing
+      -- the footprint of a group is kept, and none of one action
       its_group : (k : Effect A) → numbered recorded s ≡ Some k → k.group ≡ group_cells (Some stood.0.action) stood.0.cells
       its_group k is = let same : Some k.group ≡ Some (group_cells (Some stood.0.action) stood.0.cells) = sym (ap (option_map (λ (k : Effect A). k.group)) is) ∙ told in cc
         where
@@ -381,7 +380,7 @@ module _ {A : Type 0} where
       same_action : (e : Action A) → action_at (past base j) s ≡ Some e → e ≡ stood.0.action
       same_action e acts = let same : Some e ≡ Some stood.0.action = sym acts ∙ its_action in cc
 
-      -- the cells that its action touches, with these changes, are its footprint
+      -- the cells that its action touches with these changes are its footprint
       touched_is : (a : SingleAction A) → action_at (past base j) s ≡ Some (One a) → (cs : List (Change A)) → ((k : Effect A) → numbered recorded s ≡ Some k → cs ≡ k.changes) → footprint_of a cs ≡ recorded_footprint (past base j) s
       touched_is a acts cs told = by (numbered recorded s) refl
         where
@@ -389,7 +388,7 @@ module _ {A : Type 0} where
           by None e = absurd (none_there recorded s is_first is_kept e)
           by (Some k) e = ap (footprint_of a) (told k e ∙ its_changes k e) ∙ sym (stood.0.of_one a (sym (same_action (One a) acts))) ∙ sym (ap footprint_of_recorded stood.1)
 
-      -- what is kept in the place of the entry has the footprint of a group
+      -- the effect kept at the entry's position has the footprint of a group
       pub group_told : (e : Action A) → action_at (past base j) s ≡ Some e → (d : Effect A) → d ≡ get_or recorded (s - 1) d → d.group ≡ group_cells (Some e) (recorded_footprint (past base j) s)
       group_told e acts d item = by (numbered recorded s) refl
         where
@@ -406,22 +405,22 @@ module _ {A : Type 0} where
           by true = refl
           by false = refl
 
-      -- the footprint that is found of the entry is its own
+      -- the footprint that the code finds for the entry is its own
       pub footprint_told : (e : Action A) → action_at (past base j) s ≡ Some e → (cs : List (Change A)) → ((k : Effect A) → numbered recorded s ≡ Some k → cs ≡ k.changes) → (d : Effect A) → d ≡ get_or recorded (s - 1) d
           → footprint_by e d.group cs ≡ recorded_footprint (past base j) s
       footprint_told (One a) acts cs told d item = touched_is a acts cs told
       footprint_told (Group g) acts cs told d item = ap (λ o. footprint_by (Group g) o cs) (group_told (Group g) acts d item)
 
-    -- what an author can redo is what it can by its deeds
+    -- an author's redo stack from its deeds is that from its entries
     pub redos_told : (author : Author) → stacks.redo done author ≡ redos j author
     redos_told author = ap (λ ds. stacks.redo ds author) r.deeds_are ∙ redo_deeds j author
 
-    -- an id is spent where it is by a deed
+    -- an id is spent by a deed exactly if it is spent by an entry
     pub spent_is : (author : Author) (id : ℕ) → stacks.spent done author id ≡ spent j author id
     spent_is author id = ap (λ d. stacks.spent d author id) r.deeds_are ∙ spent_deeds j author id
 
     module _ (author : Author) (id : ℕ) (may : MayAppend limit j author id) where
-      -- the id is unspent among the deeds, and the next number is above theirs
+      -- no deed spent the id, and the next number is greater than those of all deeds
       pub unspent_deed : (ds : List Deed) → ds ≡ done → stacks.spent ds author id ≡ None
       unspent_deed ds is = ap (λ d. stacks.spent d author id) (is ∙ r.deeds_are) ∙ spent_deeds j author id ∙ may.0
 
@@ -447,11 +446,11 @@ module _ {A : Type 0} where
             deeds_are = deeds_is ∙ ap (λ ds. ds ++ deed_by (length j + 1) author id k ∷ []) r.deeds_are ∙ sym (deeds-append j e);
           })
 
-      -- where a new action is
+      -- the origin of a new action
       own_origin : length j + 1 ≡ length (origins j) + 1
       own_origin = ap (λ n. n + 1) (sym (origins_each j))
 
-      -- the action that an entry does, as it is recorded
+      -- the action of an entry, as it is recorded
       record Does (k : EntryKind A) : Type 0 where
         action : Action A
         works : is_work k ≡ true
@@ -471,22 +470,22 @@ module _ {A : Type 0} where
       legal_work (Undo s) work ok = absurd work
       legal_work (Redo t) work ok = legal base limit j author id may requests.Redo (Redo t) (ap (option_map Redo) work) ok r.journal refl
 
-      -- it may be noted among the deeds
+      -- the entry may be recorded among the deeds
       pub work_noted : (k : EntryKind A) → MayWork j author k → (ds : List Deed) → ds ≡ done → MayNote ds author k
       work_noted (Do a) work ds is = tt
       work_noted (Undo s) work ds is = absurd work
       work_noted (Redo t) work ds is = ap (λ d. stacks.top (stacks.redo d author)) (is ∙ r.deeds_are) ∙ ap stacks.top (redo_deeds j author) ∙ last_is (redos j author) ∙ work
 
-      -- an entry of an action that is not refused
+      -- an accepted entry that does or redoes an action
       module _ (k : EntryKind A) (work : MayWork j author k) (ok : kind_refusal (past base j) j author k ≡ None) where
         does : Does k
         does = does_of k work ok
 
-        -- what it touches rises
+        -- its footprint rises
         pub work_rises : (cells : List Cell) → cells ≡ (recorded_next (past base j) k).footprint → IsRising cells
         work_rises cells is = subst IsRising (sym (is ∙ ap (λ (w : Recorded A). w.footprint) does.records)) (IsRising-footprint (mapof base j) does.action)
 
-        -- a room after it
+        -- the room after it
         pub IsRoom-work : (l : List (Entry A)) (store' : StoreState A) (recorded' : List (Effect A)) (firsts' : List ℕ) (holders' : Held) (done' : List Deed) (cs : List (Change A)) (cells : List Cell) (effect : Effect A)
             → cs ≡ (recorded_next (past base j) k).changes → cells ≡ (recorded_next (past base j) k).footprint
             → store' ≡ applied_to store cs → effect ≡ effect_of store.rows (recorded_next (past base j) k) → recorded' ≡ recorded ++ effect ∷ [] → firsts' ≡ firsts ++ origin_next firsts k ∷ [] → holders' ≡ stands holders cells (length j + 1)
@@ -499,7 +498,7 @@ module _ {A : Type 0} where
             (cells_are ∙ ap (λ (w : Recorded A). w.footprint) does.records) holders_is)
             deeds_is l_is
 
-      -- what an undo that is not refused finds in a room
+      -- an accepted undo in a room
       module _ (s : ℕ) (ok : undo_refusal (past base j) j author s ≡ None) where
         there : Found (past base j) j author s
         there = found (past base j) j author s ok
@@ -507,11 +506,11 @@ module _ {A : Type 0} where
         finds : Undone base j s (record { author = author; id = id; kind = Undo s })
         finds = undone base j (record { author = author; id = id; kind = Undo s }) s r.base_sound room_led refl there.there there.free
 
-        -- it stands among the author's deeds
+        -- the entry is among the author's active deeds
         pub stands_there : (ds : List Deed) → ds ≡ done → stacks.is_standing ds author s ≡ true
         stands_there ds is = ap (λ d. stacks.is_standing d author s) (is ∙ r.deeds_are) ∙ stands_among j author s there.there there.own
 
-        -- it holds just the cells of its footprint
+        -- the entry holds exactly the cells of its footprint
         pub holds_just : HoldsOnly holders (recorded_footprint (past base j) s) s
         holds_just = holds_own (past base j) j holders r.holders_are s there.there
 

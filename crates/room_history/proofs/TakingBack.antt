@@ -1,4 +1,4 @@
--- What the undo of an entry does that stands and that nothing blocks.
+-- The undo of an active entry that nothing blocks.
 use Rattle.std.proofs.Common.{◌≡◌, ◌+◌, ◌++◌, ℕ, true, List, [], ◌∷◌, Some, None, length, sym, ap, subst, ◌∙◌}
 use Rattle.std.specs.Option.{option_and_then}
 use Rattle.osm_elements.specs.Maps.{Rows}
@@ -23,7 +23,7 @@ use Rattle.room_history.proofs.RisingNumbers.{Parted, parted}
 use Rattle.room_history.proofs.Works.{as_recorded, AreRecorded, Places, recorded-grown, recorded-joined, placed, told}
 
 module _ {A : Type 0} where
-  -- its place among the entries that stand and among their works, and the map that the other works lead to
+  -- the entry's position among the active entries and among their works, and the map that the other works lead to
   record IsFree (base : Rows A) (j : List (Entry A)) (s : ℕ) (works : List (Work A)) : Type 0 where
     place : Parted s (standing j)
     work : Places (past base j).entries place.earlier s place.later works
@@ -48,7 +48,7 @@ module _ {A : Type 0} where
           (ap (λ ss. first_meeting (recorded_footprint p s) (with_cells (recorded_footprint p) ss)) (sym part.behind) ∙ sym (blocker_is p j s stands) ∙ free))
 
   module _ (base : Rows A) (j : List (Entry A)) (e : Entry A) (s : ℕ) (k : e.kind ≡ Undo s) where
-    -- what its undo records
+    -- the record of its undo
     records : (works : List (Work A)) (free : IsFree base j s works) → (recorded_next (past base j) e.kind).changes ≡ inverse free.work.one.changes
     records works free = ap (λ k. (recorded_next (past base j) k).changes) k ∙ ap (λ o. (taken_back o).changes) free.work.is_one
 
@@ -56,7 +56,7 @@ module _ {A : Type 0} where
     leaves : (works : List (Work A)) (free : IsFree base j s works) → mapof base (j ++ e ∷ []) ≡ free.out.without
     leaves works free = mapof-append base j e ∙ ap (changed (mapof base j)) (records works free) ∙ free.leads_back
 
-    -- the works of the others were recorded of them
+    -- the works of the others are the records of the other entries
     others_recorded : (works : List (Work A)) (free : IsFree base j s works) → AreRecorded (past base j).entries (others j s) (free.work.earlier ++ free.work.later)
     others_recorded works free = subst (λ ss. AreRecorded (past base j).entries ss (free.work.earlier ++ free.work.later)) (sym free.place.others)
         (recorded-joined (past base j).entries free.place.earlier free.place.later free.work.earlier free.work.later free.work.are_earlier free.work.are_later)
@@ -75,8 +75,7 @@ module _ {A : Type 0} where
         r : Recorded A
         r = recorded_next (past base j) e.kind
 
-  -- the journal after the undo; the action that is taken back, which is accepted there and leads to the map before; and
-  -- what was recorded of it
+  -- the journal after the undo; the undone action, which is accepted there and leads to the map before; and its record
   pub record Undone (base : Rows A) (j : List (Entry A)) (s : ℕ) (e : Entry A) : Type 0 where
     pub led : IsLed base (j ++ e ∷ [])
     pub action : Action A
@@ -111,7 +110,7 @@ module _ {A : Type 0} where
         map_is : mapof base (j ++ e ∷ []) ≡ free.out.without
         map_is = leaves base j e s k led.works free
 
-    -- the others replay to the map after the undo
+    -- a replay of the others gives the map after the undo
     pub rest_replays : replay base (actions_of (past base j) (others j s)) ≡ Some (mapof base (j ++ e ∷ []))
     rest_replays =
         let ws = free.work.earlier ++ free.work.later in

@@ -1,4 +1,4 @@
--- The news of entries, told one after another.
+-- The news of entries, collected in order.
 use Rattle.std.proofs.Common.{◌≡◌, ◌+◌, ◌<◌, ◌≤◌, ◌++◌, ℕ, zero, suc, List, [], ◌∷◌, length, get_or, drop, refl, sym, ap, ◌∙◌, append_assoc, append-nil, arith}
 use Rattle.room_history.specs.declared.entry.Entry.{Entry}
 use Rattle.room_history.specs.declared.kept.Effect.{Effect}
@@ -10,7 +10,7 @@ use Rattle.room_history.specs.Replays.{Recorded, past}
 use Rattle.room_history.proofs.Appending.{recorded_each}
 
 module _ {A : Type 0} where
-  -- the news that comes next
+  -- the next news
   next_told : (n i : ℕ) (es : List (Entry A)) (ks : List (Effect A)) (d : Entry A) (other : Effect A) → i < length es → length ks ≡ length es
       → drop i (told_from n es ks) ≡ told_of (n + i) (get_or es i d) (get_or ks i other) ∷ drop (i + 1) (told_from n es ks)
   next_told n i [] ks d other l same = absurd (omega (arith, l))
@@ -23,7 +23,7 @@ module _ {A : Type 0} where
       ∙ ap (λ k. told_of k (get_or es i d) (get_or ks i other) ∷ drop (i + 1) (told_from (n + 1) es ks)) number
       ∙ ap (λ k. told_of (n + suc i) (get_or es i d) (get_or ks i other) ∷ drop k (told_from n (e ∷ es) (c ∷ ks))) (sym place)
 
-  -- what was told, with one news more, and what is still to be told
+  -- the collected news, one more, and the remaining news
   pub one_more_told : (i : ℕ) (es : List (Entry A)) (ks : List (Effect A)) (told all : List (News A)) (e d : Entry A) (c other : Effect A) (new : News A) → i < length es → length ks ≡ length es
       → e ≡ get_or es i d → c ≡ get_or ks i other → new ≡ told_of (i + 1) e c
       → told ++ drop i (told_from 1 es ks) ≡ all → (told ++ new ∷ []) ++ drop (i + 1) (told_from 1 es ks) ≡ all
@@ -40,7 +40,7 @@ module _ {A : Type 0} where
   none_left n (suc i) (e ∷ es) [] l = refl
   none_left n (suc i) (e ∷ es) (c ∷ ks) l = none_left (n + 1) i es ks (omega (arith, l))
 
-  -- all are told
+  -- all news are collected
   pub all_told : (i : ℕ) (es : List (Entry A)) (ks : List (Effect A)) (told all : List (News A)) → length es ≤ i → told ++ drop i (told_from 1 es ks) ≡ all → told ≡ all
   all_told i es ks told all l before = sym (append-nil told) ∙ ap (λ rest. told ++ rest) (sym (none_left 1 i es ks l)) ∙ before
 
@@ -48,6 +48,6 @@ module _ {A : Type 0} where
   kept_of_all m [] = refl
   kept_of_all m (r ∷ rs) = let rest = kept_of_all (changed m r.changes) rs in omega (arith, rest)
 
-  -- of each entry what it changed is kept
+  -- each entry has a kept effect
   pub kept_of_each : (base : Rows A) (j : List (Entry A)) → length (kept base j) ≡ length j
   kept_of_each base j = kept_of_all base (past base j).entries ∙ recorded_each base j

@@ -1,4 +1,4 @@
--- What a turn leaves of a room's journal.
+-- The journal of a room after a turn.
 use Rattle.std.proofs.Common.{◌≡◌, ◌⊎◌, ◌++◌, ℕ, true, List, [], ◌∷◌, refl, sym, ap, subst, inl, inr, append_assoc, append-nil}
 use Rattle.osm_elements.specs.Maps.{Rows}
 use Rattle.turn_desk.specs.History.{GainsAtMostOne, MayAllFollow}
@@ -19,7 +19,7 @@ module _ {A : Type 0} (base : Rows A) (limit : ℕ) (j : List (Entry A)) where
   abbrev journal_of : {X : Type 0} → X × List (Entry A) → List (Entry A)
   journal_of step = step.1
 
-  -- an answer leaves the journal, or adds one entry
+  -- an answer leaves the journal unchanged, or appends one entry
   gains-answer : (c : Call A) → GainsAtMostOne j (answer base limit j c).1
   gains-answer c = by (outcome base limit j c)
     where
@@ -34,7 +34,7 @@ module _ {A : Type 0} (base : Rows A) (limit : ℕ) (j : List (Entry A)) where
   gains-room_answer (Undos author) = inl refl
   gains-room_answer (NewsPast from) = inl refl
 
-  -- whatever a room is asked, its journal stays or gains one entry
+  -- after any call or query, the journal is unchanged or has one more entry
   pub gains : (call : RoomCall A) (reply : RoomReply A) (k : List (Entry A)) → IsAnswered base limit j call reply k → GainsAtMostOne j k
   gains call reply k (inl e) = subst (GainsAtMostOne j) (sym (ap journal_of e)) (gains-room_answer call)
   gains call reply k (inr e) = inl e.1
@@ -46,12 +46,12 @@ module _ {A : Type 0} (base : Rows A) (limit : ℕ) (j : List (Entry A)) where
   leads-room_answer (Undos author) made before = before
   leads-room_answer (NewsPast from) made before = before
 
-  -- an answer leads from a journal to one
+  -- an answer leads from a legal journal to a legal journal
   leads : (call : RoomCall A) (reply : RoomReply A) (k : List (Entry A)) → is_made_room_call call ≡ true → IsAnswered base limit j call reply k → IsJournal base limit j → IsJournal base limit k
   leads call reply k made (inl e) before = subst (IsJournal base limit) (sym (ap journal_of e)) (leads-room_answer call made before)
   leads call reply k made (inr e) before = subst (IsJournal base limit) (sym e.1) before
 
--- entries that may follow a journal, one after another, lead to one
+-- entries that can follow a legal journal in order lead to a legal journal
 pub all_lead : {A : Type 0} (opening : Opening A) (j later : List (Entry A)) → IsJournal opening.base opening.limit j → MayAllFollow IsTurn opening j later → IsJournal opening.base opening.limit (j ++ later)
 all_lead opening j [] before follow = subst (IsJournal opening.base opening.limit) (sym (append-nil j)) before
 all_lead opening j (e ∷ later) before follow =

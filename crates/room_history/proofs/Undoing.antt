@@ -1,4 +1,4 @@
--- What an accepted undo finds.
+-- The facts of an accepted undo.
 use Rattle.std.proofs.Common.{◌≡◌, ℕ, Bool, true, false, not, List, [], ◌∷◌, Option, Some, None, is_none, refl}
 use Rattle.std.specs.Bool.{then_some}
 use Rattle.std.specs.Option.{option_map}
@@ -11,7 +11,7 @@ use Rattle.room_history.specs.Blockers.{blocker}
 use Rattle.room_history.specs.Journals.{numbered, is_by, is_standing}
 use Rattle.room_history.specs.Replays.{Past}
 
--- where the last three of four checks are looked at, none holds
+-- if none of four checks holds, none of the last three holds
 last_three : {X : Type 0} (o p q r : Option X) → first_that_holds (o ∷ p ∷ q ∷ r ∷ []) ≡ None → (p ≡ None) × (q ≡ None) × (r ≡ None)
 last_three None None None None e = (refl, refl, refl)
 last_three None None None (Some x) e = absurd (cc)
@@ -28,7 +28,7 @@ mapped_none f None e = refl
 mapped_none f (Some x) e = absurd (cc)
 
 module _ {A : Type 0} where
-  -- the entry is the author's and stands, and nothing blocks it
+  -- the entry is the author's and active, and nothing blocks it
   pub record Found (p : Past A) (j : List (Entry A)) (author : Author) (s : ℕ) : Type 0 where
     pub own : is_by author (numbered j s) ≡ true
     pub there : is_standing j s ≡ true

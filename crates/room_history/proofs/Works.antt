@@ -1,4 +1,4 @@
--- Works, and the numbers of the entries that they were recorded of.
+-- Works, and the entries that record them.
 use Rattle.std.proofs.Common.{◌≡◌, ◌++◌, ◌||◌, ℕ, suc, zero, Bool, true, false, List, [], ◌∷◌, Some, map, length, nat_eq, slice_get, refl, sym, ap, ◌∙◌}
 use Rattle.std.specs.List.{cons_option}
 use Rattle.std.specs.Option.{option_and_then}
@@ -16,21 +16,21 @@ slice_get-append [] ys i x h = absurd (cc)
 slice_get-append (y ∷ xs) ys zero x h = h
 slice_get-append (y ∷ xs) ys (suc i) x h = slice_get-append xs ys i x h
 
--- what a number names stays when the list grows
+-- the item with a number stays when the list gets longer
 pub numbered-append : {X : Type 0} (xs ys : List X) (s : ℕ) (x : X) → numbered xs s ≡ Some x → numbered (xs ++ ys) s ≡ Some x
 numbered-append xs ys zero x h = absurd (cc)
 numbered-append xs ys (suc i) x h = slice_get-append xs ys i x h
 
 module _ {A : Type 0} where
-  -- what the past keeps of a work
+  -- the record of a work
   abbrev pub as_recorded : Work A → Recorded A
   as_recorded w = record { action = Some w.action; changes = w.changes; footprint = touched w }
 
-  -- the work was recorded of the entry s
+  -- the entry s has the record of the work
   abbrev pub IsRecorded : List (Recorded A) → ℕ → Work A → Type 0
   IsRecorded entries s w = numbered entries s ≡ Some (as_recorded w)
 
-  -- each work was recorded of the entry in its place
+  -- each work's record is that of the entry at its position
   abbrev pub AreRecorded : List (Recorded A) → List ℕ → List (Work A) → Type 0
   AreRecorded entries [] [] = Unit {0}
   AreRecorded entries [] (w ∷ ws) = ⊥
@@ -49,7 +49,7 @@ module _ {A : Type 0} where
   recorded-joined entries (s ∷ ss) ts [] vs h k = absurd h
   recorded-joined entries (s ∷ ss) ts (w ∷ ws) vs h k = (h.0, recorded-joined entries ss ts ws vs h.1 k)
 
-  -- what was recorded of s, and of the entries before and after it
+  -- the work of s, and the works of the entries in front of it and after it
   pub record Places (entries : List (Recorded A)) (before : List ℕ) (s : ℕ) (after : List ℕ) (ws : List (Work A)) : Type 0 where
     pub earlier : List (Work A)
     pub one : Work A
@@ -67,7 +67,7 @@ module _ {A : Type 0} where
       let p = placed entries bs s after ws h.1 in
       record { earlier = w ∷ p.earlier; one = p.one; later = p.later; whole = ap (λ l. w ∷ l) p.whole; are_earlier = (h.0, p.are_earlier); is_one = p.is_one; are_later = p.are_later }
 
-  -- of each number among them a work was recorded
+  -- each of the entries has a work
   pub one_of : (entries : List (Recorded A)) (s : ℕ) (ss : List ℕ) (ws : List (Work A)) → AreRecorded entries ss ws → is_in s ss ≡ true → (w : Work A) × IsRecorded entries s w
   one_of entries s [] ws h there = absurd (cc)
   one_of entries s (t ∷ ts) [] h there = absurd h
@@ -77,7 +77,7 @@ module _ {A : Type 0} where
       by true e i go = (w, ap (numbered entries) (sym (equal_numbers t s e)) ∙ h.0)
       by false e i go = go i
 
-  -- the recorded actions of the entries, one for each
+  -- the recorded actions of the entries are those of the works
   pub told : (p : Past A) (ss : List ℕ) (ws : List (Work A)) → AreRecorded p.entries ss ws → actions_of p ss ≡ map (λ (w : Work A). w.action) ws
   told p [] [] h = refl
   told p [] (w ∷ ws) h = absurd h
@@ -90,11 +90,11 @@ module _ {A : Type 0} where
   all_told p (s ∷ ss) [] h = absurd h
   all_told p (s ∷ ss) (w ∷ ws) h = ap (λ o. length (cons_option (option_and_then (λ (r : Recorded A). r.action) o) (actions_of p ss))) h.0 ∙ ap suc (all_told p ss ws h.1)
 
-  -- a work that a map accepts is recorded as it is done there
+  -- the record of a work that a map accepts is that of its action on the map
   same_record : (m : Rows A) (w : Work A) → Accepts m w → as_recorded w ≡ recorded_of m w.action
   same_record m w h = (λ i. record { action = Some w.action; changes = sym h.same_changes i; footprint = sym h.same_footprint i })
 
-  -- where the works lead from a map to another, the actions of their entries do
+  -- if the works lead from a map to another, the actions of their entries do too
   pub accepted_each : (p : Past A) (m : Rows A) (ss : List ℕ) (ws : List (Work A)) (end : Rows A) → AreRecorded p.entries ss ws → Leads m ws end → AreAccepted p m ss end
   accepted_each p m [] [] end h leads = leads
   accepted_each p m [] (w ∷ ws) end h leads = absurd h

@@ -1,5 +1,5 @@
--- What a call is answered, and the journal that it leaves: an accepted call appends one entry, a refused one leaves the
--- journal. (The rules of a room are this project's.)
+-- The answer to a call: the reply, and the journal after it. An accepted call appends one entry, and a refused call
+-- none. (The rules of a room are this project's.)
 use Rattle.std.specs.Prelude.{◌+◌, ◌++◌, ◌&&◌, ℕ, Bool, not, List, [], ◌∷◌, Option, Some, None, is_none, length, nat_eq, nat_le}
 use Rattle.std.specs.Bool.{then_some}
 use Rattle.std.specs.List.{position}
@@ -24,7 +24,7 @@ use Rattle.room_history.specs.Journals.{is_by, is_standing, numbered, last, undo
 use Rattle.room_history.specs.Replays.{Past, past, action_at}
 
 module _ {A : Type 0} where
-  -- an entry is the author's and spent the id
+  -- the entry is the author's and spent the id
   abbrev pub spends : Author → ℕ → Entry A → Bool
   spends author id e = nat_eq id e.id && is_same_author author e.author
 
@@ -32,28 +32,28 @@ module _ {A : Type 0} where
   abbrev pub spent : List (Entry A) → Author → ℕ → Option ℕ
   spent j author id = option_map (λ i. i + 1) (position (spends author id) j)
 
-  -- the refusal that names a blocker, and what it shares
+  -- the refusal with a blocker and the shared name
   abbrev pub conflict : ℕ × Name → Reply A
   conflict b = Conflict b.0 b.1
 
-  -- which entry an undo asks for: without a number the author's last that stands
+  -- the entry that an undo asks for: the given one, or the author's last active entry
   abbrev pub asked : List (Entry A) → Author → Option ℕ → Option ℕ
   asked j author None = last (undos j author)
   asked j author (Some s) = Some s
 
-  -- what a request would append
+  -- the kind of entry that a request would append
   abbrev pub meant : List (Entry A) → Author → Request A → Option (EntryKind A)
   meant j author (requests.Do a) = Some (Do a)
   meant j author (requests.Undo s) = option_map Undo (asked j author s)
   meant j author requests.Redo = option_map Redo (last (redos j author))
 
-  -- the refusal where a request means nothing
+  -- the refusal of a request for which there is no entry to undo or redo
   abbrev pub nothing_meant : Request A → Reply A
   nothing_meant (requests.Do a) = NothingToUndo
   nothing_meant (requests.Undo s) = NothingToUndo
   nothing_meant requests.Redo = NothingToRedo
 
-  -- why an author's undo of s is refused, by the first check that holds
+  -- the refusal of an author's undo of s: the first check that holds
   abbrev pub undo_refusal : Past A → List (Entry A) → Author → ℕ → Option (Reply A)
   undo_refusal p j author s = first_that_holds (
       then_some (is_none (numbered j s)) NoSuch
@@ -62,12 +62,12 @@ module _ {A : Type 0} where
       ∷ option_map conflict (blocker p j s)
       ∷ [])
 
-  -- why an action cannot be done again, if there is one
+  -- the refusal of a redo; `None` as the action means that there is nothing to redo
   abbrev pub redo_refusal : Rows A → Option (Action A) → Option (Reply A)
   redo_refusal m None = Some NothingToRedo
   redo_refusal m (Some a) = option_map Refused (refusal m a)
 
-  -- why an entry cannot be appended
+  -- the refusal of an entry of this kind
   abbrev pub kind_refusal : Past A → List (Entry A) → Author → EntryKind A → Option (Reply A)
   kind_refusal p j author (Do a) = option_map Refused (refusal p.map a)
   kind_refusal p j author (Undo s) = undo_refusal p j author s
@@ -77,7 +77,7 @@ module _ {A : Type 0} where
   meaning_refusal p j c None = Some (nothing_meant c.request)
   meaning_refusal p j c (Some k) = kind_refusal p j c.author k
 
-  -- the first refusal of a call, or none
+  -- the first refusal of a call, or `None` if the call is accepted
   abbrev pub call_refusal : Rows A → ℕ → List (Entry A) → Call A → Option (Reply A)
   call_refusal base limit j c = first_that_holds (
       option_map Repeat (spent j c.author c.id)
@@ -85,7 +85,7 @@ module _ {A : Type 0} where
       ∷ meaning_refusal (past base j) j c (meant j c.author c.request)
       ∷ [])
 
-  -- the reply to an accepted call, under its entry's number
+  -- the reply to an accepted call whose entry has the number seq
   abbrev pub accepted : ℕ → EntryKind A → Reply A
   accepted seq (Do a) = Done seq
   accepted seq (Undo s) = Undid seq s
@@ -103,7 +103,7 @@ module _ {A : Type 0} where
   abbrev pub answer : Rows A → ℕ → List (Entry A) → Call A → Reply A × List (Entry A)
   answer base limit j c = answer_by j c (call_refusal base limit j c) (meant j c.author c.request)
 
-  -- the replies to calls in turn, and the journal that they leave
+  -- the replies to calls in order, and the journal after them
   abbrev pub answers : Rows A → ℕ → List (Entry A) → List (Call A) → List (Reply A) × List (Entry A)
   answers base limit j [] = ([], j)
   answers base limit j (c ∷ cs) =

@@ -1,4 +1,4 @@
--- How many changes of cells a journal's entries made. (The count is this project's.)
+-- The number of changes of cells that a journal's entries made. (The count is this project's.)
 use Rattle.std.specs.Prelude.{ℕ, List}
 use Rattle.std.specs.List.{fold}
 use Rattle.osm_elements.specs.Maps.{Rows}
@@ -6,6 +6,6 @@ use Rattle.osm_changes.specs.Stores.{counted}
 use Rattle.room_history.specs.declared.entry.Entry.{Entry}
 use Rattle.room_history.specs.Replays.{Recorded, past}
 
--- each entry counts the changes that are recorded of it, an undo those that it took back; the count stops at 2^128 - 1
+-- the number of all recorded changes; an undo counts the changes that it took back, and the count stops at 2^128 - 1
 abbrev pub applied : {A : Type 0} → Rows A → List (Entry A) → ℕ
 applied base j = fold (λ n (r : Recorded _). counted n r.changes) 0 (past base j).entries

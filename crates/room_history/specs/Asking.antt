@@ -1,4 +1,4 @@
--- What a room is asked and what it answers, over its fixed part, which is the base and the limit, and its journal.
+-- The calls and queries of a room, and its replies, from its base, its limit and its journal.
 use Rattle.std.specs.Prelude.{◌≡◌, ◌⊎◌, ℕ, List, Ok, Err, alloc_error, length}
 use Rattle.osm_elements.specs.Rows.{row_at}
 use Rattle.room_history.specs.declared.ask.RoomCall.{RoomCall}
@@ -14,7 +14,7 @@ use Rattle.room_history.specs.Replays.{mapof}
 use Rattle.room_history.specs.Answers.{answer}
 
 module _ {A : Type 0} where
-  -- the reply, and the journal after it: a query leaves the journal
+  -- the reply, and the journal after it, which a query leaves unchanged
   abbrev pub room_answer : Rows A → ℕ → List (Entry A) → RoomCall A → RoomReply A × List (Entry A)
   room_answer base limit j (Take c) = let step = answer base limit j c in (replies.Take step.0, step.1)
   room_answer base limit j (Get x) = (replies.Get (Ok (row_at (mapof base j) x)), j)
@@ -23,7 +23,7 @@ module _ {A : Type 0} where
       (replies.Undos (Ok (record { undos = undos j author; redos = redos j author })), j)
   room_answer base limit j (NewsPast from) = (replies.News (Ok (news base j from)), j)
 
-  -- want of memory, in the form of what was asked
+  -- the reply `Memory`, in the form of the call or query
   abbrev pub wanting : RoomCall A → RoomReply A
   wanting (Take c) = replies.Take Memory
   wanting (Get x) = replies.Get (Err alloc_error)
@@ -31,6 +31,6 @@ module _ {A : Type 0} where
   wanting (Undos author) = replies.Undos (Err alloc_error)
   wanting (NewsPast from) = replies.News (Err alloc_error)
 
-  -- asked so, the room gives the reply by the definition, or tells want of memory with the journal as it was
+  -- the room gives the specified reply, or replies `Memory` and its journal is unchanged
   abbrev pub IsAnswered : Rows A → ℕ → List (Entry A) → RoomCall A → RoomReply A → List (Entry A) → Type 0
   IsAnswered base limit j c reply k = ((reply, k) ≡ room_answer base limit j c) ⊎ ((reply ≡ wanting c) × (k ≡ j))

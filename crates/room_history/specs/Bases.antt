@@ -1,5 +1,5 @@
--- Which maps a room can begin with. (OpenStreetMap API v0.6: nothing absent is named. The limits and the order of the
--- checks are this project's.)
+-- The maps that a room can begin with. (OpenStreetMap API v0.6: no element refers to an absent element. The limits and
+-- the order of the checks are this project's.)
 use Rattle.std.specs.Prelude.{◌≡◌, Bool, true, false, Some}
 use Rattle.std.specs.List.{list_all}
 use Rattle.std.specs.Ordering.{is_lt}
@@ -21,8 +21,8 @@ module _ {A : Type 0} where
   abbrev pub are_of_kinds : Rows A → Bool
   are_of_kinds m = list_all (λ r. is_kind (kind_of r.1) r.0.kind) m
 
-  -- of all rows that are not sound this name has the first; and why it is not: the first that holds of a create's
-  -- checks of its length and of what it names, where a name is there if the map has it
+  -- x is the least name whose row is not sound, and why is the row's first fault: of its length, or of an absent name
+  -- that it refers to
   pub record IsFirstUnsound (m : Rows A) (x : Name) (why : Refusal A) : Type 0 where
     pub element : Element A
     pub there : row_at m x ≡ Some element
@@ -31,7 +31,7 @@ module _ {A : Type 0} where
     pub first : (y : Name) (v : Element A) → row_at m y ≡ Some v → is_lt (name_cmp y x) ≡ true
         → is_sound_row m y v ≡ true
 
-  -- why no room begins with a map; memory may be wanting for any
+  -- the fault of a base map; `Memory` is possible for any map
   abbrev pub IsBaseFault : Rows A → BaseFault A → Type 0
   IsBaseFault m (Unsound x why) = IsFirstUnsound m x why
   IsBaseFault m Memory = Unit {0}

@@ -1,4 +1,4 @@
--- What the worked examples say of the definitions.
+-- Examples of the definitions, worked out by hand.
 use Rattle.std.specs.Prelude.{◌≡◌, ◌++◌, ℕ, [], ◌∷◌, Some, None, true, pos, negsuc, replicate}
 use Rattle.edit_actions.specs.declared.action.Action.TheVariants.{Create, Retag, Move, Nodes, Delete, Split, Unglue}
 use Rattle.osm_elements.specs.declared.element.Element.TheVariants.{Node, Way}
@@ -13,20 +13,20 @@ use Rattle.room_history.specs.Scenes.{n-1, n1, n2, n3, w1, w2, r1, r2, r3, anna,
 abbrev pub ample : ℕ
 ample = 1000000
 
--- one create, and the map has its row
+-- one create; the map then has its row
 unfoldable pub first_run : Type 0
 first_run =
     (let calls = does anna 1 (Create n-1 (node_at (pos 515000000) (negsuc 999999))) ∷ [] in
     (replies ample calls ≡ (Done 1 ∷ [])) × (map_after ample calls ≡ ((n-1, node_at (pos 515000000) (negsuc 999999)) ∷ [])))
 
--- both ends of the range
+-- coordinates at both ends of their range
 unfoldable pub range_ends : Type 0
 range_ends =
     (let calls = does anna 1 (Create n1 (node_at (pos 900000000) (negsuc 1799999999))) ∷ does anna 2 (Create n2 (node_at (pos 0) (negsuc 0))) ∷ [] in
     (replies ample calls ≡ (Done 1 ∷ Done 2 ∷ []))
     × (map_after ample calls ≡ ((n1, node_at (pos 900000000) (negsuc 1799999999)) ∷ (n2, node_at (pos 0) (negsuc 0)) ∷ [])))
 
--- a journal of one entry is full, and a spent id is told first
+-- a journal with limit 1 is full after one entry; `Repeat` is tested before `Full`
 unfoldable pub limit_one : Type 0
 limit_one = replies 1 (
     does anna 1 (Create n1 (node_at (pos 0) (pos 0)))
@@ -38,7 +38,7 @@ limit_one = replies 1 (
 unfoldable pub limit_zero : Type 0
 limit_zero = replies 0 (does anna 1 (Create n1 (node_at (pos 0) (pos 0))) ∷ undoes anna 1 None ∷ []) ≡ (Full ∷ Full ∷ [])
 
--- two authors each make a node: the footprints do not meet, and the first is undone from below the second
+-- two authors each create a node; the footprints do not meet, so the first author can undo after the second one's entry
 unfoldable pub strangers : Type 0
 strangers =
     (let calls =
@@ -51,7 +51,7 @@ strangers =
     × (map_after ample calls ≡ ((n2, node_at (pos 1) (pos 1)) ∷ []))
     × (held_after ample calls ≡ ((2, both_at n2) ∷ [])))
 
--- a way through both nodes blocks each of them, by the rest of that node
+-- a way with both nodes blocks the undo of each create, by the node's rest
 unfoldable pub in_use : Type 0
 in_use =
     (let calls =
@@ -64,7 +64,7 @@ in_use =
     (replies ample calls ≡ (Done 1 ∷ Done 2 ∷ Done 3 ∷ Conflict 3 n1 ∷ Conflict 3 n2 ∷ []))
     × (held_after ample calls ≡ ((1, both_at n1) ∷ (2, both_at n2) ∷ (3, rest_at n1 ∷ rest_at n2 ∷ both_at w1) ∷ [])))
 
--- a way that is taken back blocks no more, and where two entries share several names the least is told
+-- a deleted way blocks no more; if two entries share several names, the reply has the least
 unfoldable pub taken_back_way : Type 0
 taken_back_way =
     (let calls =
@@ -135,7 +135,7 @@ refusals_in_turn =
     × (replay [] (standing_actions [] (answers [] ample [] calls).1) ≡ Some (map_after ample calls))
     × (is_sound (map_after ample calls) ≡ true))
 
--- relations, which may be empty and their own members, and what they refuse
+-- relations, which can be empty or their own members, and their refusals
 unfoldable pub relations_in_turn : Type 0
 relations_in_turn =
     (let calls =
@@ -174,7 +174,7 @@ relations_in_turn =
     × (replay [] (standing_actions [] (answers [] ample [] calls).1) ≡ Some (map_after ample calls))
     × (is_sound (map_after ample calls) ≡ true))
 
--- an undo redone over a stranger's later entry, with whose footprint its own does not meet
+-- a redo after another author's later entry whose footprint does not meet its own
 unfoldable pub redo_at_once : Type 0
 redo_at_once =
     (let calls =
@@ -189,8 +189,8 @@ redo_at_once =
     × (held_after ample calls ≡ ((2, both_at n2) ∷ (4, both_at n1) ∷ []))
     × (redos_left ample calls anna ≡ []))
 
--- a way cannot be made again while a node of it is away: the redo is refused and stays the next one, until the node is
--- back
+-- a way cannot be redone while one of its nodes is absent: the redo is refused, and stays the next one until the node
+-- is back
 unfoldable pub redo_refused : Type 0
 redo_refused =
     (let calls =
@@ -209,7 +209,7 @@ redo_refused =
     × (map_after ample (calls ++ later) ≡ ((n1, node_at (pos 0) (pos 0)) ∷ (n2, node_at (pos 1) (pos 1)) ∷ (w1, way_of (n1 ∷ n2 ∷ [])) ∷ []))
     × (held_after ample (calls ++ later) ≡ ((1, both_at n1) ∷ (2, both_at n2) ∷ (7, rest_at n1 ∷ rest_at n2 ∷ both_at w1) ∷ [])))
 
--- of two that were undone the last is redone first
+-- of two undone entries, the last is redone first
 unfoldable pub redo_order : Type 0
 redo_order =
     (let calls =
@@ -225,7 +225,7 @@ redo_order =
     × (map_after ample (calls ++ later) ≡ ((n1, node_at (pos 0) (pos 0)) ∷ (n2, node_at (pos 1) (pos 1)) ∷ []))
     × (held_after ample (calls ++ later) ≡ ((5, both_at n1) ∷ (6, both_at n2) ∷ [])))
 
--- a redo is undone and redone under its own number, and the next action empties the stack
+-- a redo can be undone and redone by its own number, and a new action empties the stack
 unfoldable pub redo_again : Type 0
 redo_again =
     (let calls =
@@ -241,7 +241,7 @@ redo_again =
     × (map_after ample (calls ++ later) ≡ ((n2, node_at (pos 1) (pos 1)) ∷ []))
     × (redos_left ample (calls ++ later) anna ≡ []))
 
--- a move of the node that a way was unglued from stays while the unglue stands, though the way names that node still
+-- an active unglue blocks the undo of an earlier move of the old node, even if the way still refers to that node
 unfoldable pub unglued_node : Type 0
 unglued_node =
     (let calls =
@@ -257,8 +257,8 @@ unglued_node =
     × (held_after ample calls ≡ ((1, both_at n1) ∷ (2, rest_at n1 ∷ both_at w1) ∷ (3, rest_at n1 ∷ []) ∷ (4, both_at n1 ++ both_at n2 ++ both_at w1) ∷ []))
     × (map_after ample (calls ++ later) ≡ ((n1, node_at (pos 0) (pos 0)) ∷ (w1, way_of (n1 ∷ n1 ∷ [])) ∷ [])))
 
--- a move and new tags of one node share no part: each is undone beside the other, and the undo of the move leaves the
--- tags
+-- a move and new tags of one node share no cell: each can be undone without the other, and the undo of the move keeps
+-- the tags
 unfoldable pub blocker_goes_by_parts : Type 0
 blocker_goes_by_parts =
     (let calls =
@@ -273,7 +273,7 @@ blocker_goes_by_parts =
     × (held_after ample calls ≡ ((1, both_at n1) ∷ (3, tags_at n1 ∷ []) ∷ []))
     × (map_after ample (calls ++ later) ≡ ((n1, node_at (pos 0) (pos 0)) ∷ [])))
 
--- two moves of one node share its rest: the second blocks the first, until it is undone
+-- two moves of one node share its rest: the second blocks the first until it is undone
 unfoldable pub both_moved : Type 0
 both_moved =
     (let calls =
@@ -287,8 +287,8 @@ both_moved =
     (replies ample calls ≡ (Done 1 ∷ Done 2 ∷ Done 3 ∷ Conflict 3 n1 ∷ Undid 4 3 ∷ Undid 5 2 ∷ []))
     × (map_after ample calls ≡ ((n1, node_at (pos 0) (pos 0)) ∷ [])))
 
--- new tags of a way do not block what was done to its nodes before, but the delete of a node that it does not name
--- since does, by that node
+-- new tags of a way do not block earlier changes of its nodes; the delete of a node that the way no longer has does
+-- block the change that removed the node, by that node
 unfoldable pub two_blockers_by_parts : Type 0
 two_blockers_by_parts =
     (let calls =
@@ -305,7 +305,7 @@ two_blockers_by_parts =
     ∷ [] in
     replies ample calls ≡ (Done 1 ∷ Done 2 ∷ Done 3 ∷ Done 4 ∷ Done 5 ∷ Done 6 ∷ Done 7 ∷ Conflict 7 n3 ∷ Undid 8 6 ∷ Conflict 7 n3 ∷ []))
 
--- a split copies the tags of its way, so it blocks new tags that came before
+-- a split copies the tags of its way, so it blocks earlier new tags
 unfoldable pub split_over_retag : Type 0
 split_over_retag =
     (let calls =
@@ -319,8 +319,8 @@ split_over_retag =
     (replies ample calls ≡ (Done 1 ∷ Done 2 ∷ Done 3 ∷ Done 4 ∷ Done 5 ∷ Conflict 5 w1 ∷ []))
     × (map_after ample calls ≡ ((n1, node_at (pos 0) (pos 0)) ∷ (n2, node_at (pos 1) (pos 1)) ∷ (w1, Way (n1 ∷ n2 ∷ []) tagged) ∷ (w2, Way (n2 ∷ n1 ∷ []) tagged) ∷ [])))
 
--- a way is drawn by a group, which is one entry: it is undone and redone as a whole, and blocked by what bob did to one of
--- its nodes. A group is refused with the position of the action that is, or as a whole, and nothing of it stays.
+-- a group draws a way as one entry: it is undone and redone as a whole, and blocked by bob's change of one of its
+-- nodes; a refused group changes nothing, and its refusal has the position of the refused action, or none
 unfoldable pub drawn_as_one : Type 0
 drawn_as_one =
     (let calls =

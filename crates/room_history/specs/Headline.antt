@@ -1,4 +1,4 @@
--- The theorem: what holds of a room with any of its journals.
+-- The theorem: what is true of every journal that calls lead to from a sound base.
 use Rattle.std.specs.Prelude.{◌≡◌, ◌⊎◌, ◌↔◌, ◌+◌, ◌<◌, ◌≤◌, ◌++◌, ℕ, true, false, List, [], ◌∷◌, Option, Some, None, length, map, reverse, nat_le}
 use Rattle.std.specs.Ordering.{is_lt}
 use Rattle.osm_elements.specs.declared.name.Name.{Name}
@@ -23,47 +23,47 @@ use Rattle.room_history.specs.Replays.{Past, past, mapof, recorded_of, replay, a
 use Rattle.room_history.specs.Answers.{answer, answers, spent}
 
 module _ {A : Type 0} where
-  -- an entry stands
+  -- the entry s is active
   abbrev pub Stands : List (Entry A) → ℕ → Type 0
   Stands j s = is_standing j s ≡ true
 
-  -- an entry is an author's own
+  -- the entry s is the author's own
   abbrev pub IsOwn : List (Entry A) → Author → ℕ → Type 0
   IsOwn j author s = is_by author (numbered j s) ≡ true
 
-  -- some part of the name is in the recorded footprints of both entries
+  -- the recorded footprints of both entries have a cell of the name e
   abbrev pub Share : Rows A → List (Entry A) → ℕ → ℕ → Name → Type 0
   Share base j s t e = Shares (recorded_footprint (past base j) s) (recorded_footprint (past base j) t) e
 
-  -- t stands, comes after s, and shares the name with it
+  -- t is active, comes after s, and shares a cell of the name e with it
   abbrev pub Blocks : Rows A → List (Entry A) → ℕ → ℕ → Name → Type 0
   Blocks base j s t e = (s < t) × Stands j t × Share base j s t e
 
-  -- the map is sound
+  -- the map of the journal is sound
   abbrev pub IsSound : Rows A → List (Entry A) → Type 0
   IsSound base j = is_sound (mapof base j) ≡ true
 
-  -- the map is that of the standing actions replayed in order from the base
+  -- a replay of the active entries' actions in order, from the base, gives the map
   abbrev pub IsReplayed : Rows A → List (Entry A) → Type 0
   IsReplayed base j = replay base (standing_actions base j) ≡ Some (mapof base j)
 
-  -- each entry that stands has an action, so that the replay passes over none
+  -- each active entry has an action, so the replay skips none
   abbrev pub IsNoneDropped : Rows A → List (Entry A) → Type 0
   IsNoneDropped base j = length (standing_actions base j) ≡ length (standing j)
 
-  -- from a map the actions of some entries lead to another, each accepted with the changes and the footprint that are
-  -- recorded of its entry
+  -- the actions of the entries lead from the map m to the map end, and each is accepted with the changes and the
+  -- footprint that its entry recorded
   abbrev pub AreAccepted : Past A → Rows A → List ℕ → Rows A → Type 0
   AreAccepted p m [] end = m ≡ end
   AreAccepted p m (s ∷ ss) end =
       (a : Action A) × (numbered p.entries s ≡ Some (recorded_of m a)) × (refusal m a ≡ None)
       × AreAccepted p (after m a) ss end
 
-  -- the replay of the entries that stand accepts each as it was recorded
+  -- the replay of the active entries accepts each action as it was recorded
   abbrev pub IsAcceptedAsRecorded : Rows A → List (Entry A) → Type 0
   IsAcceptedAsRecorded base j = AreAccepted (past base j) base (standing j) (mapof base j)
 
-  -- an accepted undo leaves the others standing, and its map is the replay of their actions
+  -- after an accepted undo of s, the other entries are active, and the map is the replay of their actions
   abbrev pub IsRestLeft : Rows A → ℕ → List (Entry A) → Type 0
   IsRestLeft base limit j = (c : Call A) (seq s : ℕ)
       → let step = answer base limit j c in
@@ -71,8 +71,9 @@ module _ {A : Type 0} where
       → (standing step.1 ≡ others j s)
       × (replay base (actions_of (past base j) (others j s)) ≡ Some (mapof base step.1))
 
-  -- an accepted action that its author undoes as the room's next accepted call, with its number or without, refused
-  -- calls between or not: the map, the users of every name and the entries that stand are those from before it
+  -- suppose that an author undoes an accepted action in the room's next accepted call, with its number or without;
+  -- there may be refused calls in between; then the map, the users of every name and the active entries are those from
+  -- before the action
   abbrev pub IsUndoneAtOnce : Rows A → ℕ → List (Entry A) → Type 0
   IsUndoneAtOnce base limit j = (accepted : Call A) (e : Entry A) (between : List (Call A)) (c : Call A)
       → let k = j ++ e ∷ [] in
@@ -89,9 +90,9 @@ module _ {A : Type 0} where
       × ((x : Name) → users (mapof base step.1) x ≡ users (mapof base j) x)
       × (standing step.1 ≡ standing j)
 
-  -- an author's undo of an entry of his that stands, under an unspent id and in a journal that is not full: it is
-  -- accepted exactly where no entry blocks it by any name; else the refusal names the first that does, and the least
-  -- name that the two share
+  -- suppose that an author undoes an active entry of its own, under an unspent id and in a journal that is not full;
+  -- the undo is accepted exactly if no entry blocks it by any name; otherwise the refusal has the first entry that
+  -- blocks it, and the least name that both share
   abbrev pub IsUndoneExactlyWhere : Rows A → ℕ → List (Entry A) → Type 0
   IsUndoneExactlyWhere base limit j = (author : Author) (id s : ℕ)
       → spent j author id ≡ None
@@ -105,7 +106,7 @@ module _ {A : Type 0} where
       × ((u : ℕ) (y : Name) → Blocks base j s u y → b ≤ u)
       × ((y : Name) → Share base j s b y → is_lt (name_cmp y x) ≡ false))
 
-  -- an undo without a number is answered as that of the author's last entry that stands
+  -- an undo without a number gets the same answer as the undo of the author's last active entry
   abbrev pub IsUndoOfLast : Rows A → ℕ → List (Entry A) → Type 0
   IsUndoOfLast base limit j = (author : Author) (id s : ℕ)
       → IsOwn j author s
@@ -114,8 +115,8 @@ module _ {A : Type 0} where
       → answer base limit j (record { author = author; id = id; request = Undo None })
       ≡ answer base limit j (record { author = author; id = id; request = Undo (Some s) })
 
-  -- an accepted action empties its author's redo stack, an undo pushes what it undid, and a redo takes off the top,
-  -- which it does again; and no call touches another author's stack
+  -- an accepted action empties its author's redo stack, an undo pushes the entry that it undid, and a redo pops the top
+  -- and redoes it; no call changes another author's stack
   abbrev pub IsRedoStacked : Rows A → ℕ → List (Entry A) → Type 0
   IsRedoStacked base limit j = (c : Call A) (seq s : ℕ)
       → let step = answer base limit j c in
@@ -124,9 +125,9 @@ module _ {A : Type 0} where
       × (step.0 ≡ Redid seq s → redos j c.author ≡ redos step.1 c.author ++ s ∷ [])
       × ((other : Author) → is_same_author other c.author ≡ false → redos step.1 other ≡ redos j other)
 
-  -- an accepted undo that its author redoes as the room's next accepted call, refused calls between or not: the map and
-  -- the users of every name are those from before the undo, what was undone stands last under a new number, and each
-  -- author can redo what it could before the undo
+  -- suppose that an author redoes its accepted undo in the room's next accepted call; there may be refused calls in
+  -- between; then the map and the users of every name are those from before the undo, the redone action is the last
+  -- active entry under a new number, and each author can redo what it could before the undo
   abbrev pub IsRedoneAtOnce : Rows A → ℕ → List (Entry A) → Type 0
   IsRedoneAtOnce base limit j = (undo : Call A) (s : ℕ) (e : Entry A) (between : List (Call A)) (c : Call A)
       → let k = j ++ e ∷ [] in
@@ -151,25 +152,26 @@ module _ {A : Type 0} where
   abbrev pub redo_by : Author → ℕ → Call A
   redo_by author id = record { author = author; id = id; request = Redo }
 
-  -- the replies to accepted undos of these entries in turn, under the numbers from n on
+  -- the replies to accepted undos of these entries in order, numbered from n on
   abbrev pub undid_from : ℕ → List ℕ → List (Reply A)
   undid_from n [] = []
   undid_from n (s ∷ ss) = Undid n s ∷ undid_from (n + 1) ss
 
-  -- and to accepted redos
+  -- the replies to accepted redos of these entries in order, numbered from n on
   abbrev pub redid_from : ℕ → List ℕ → List (Reply A)
   redid_from n [] = []
   redid_from n (t ∷ ts) = Redid n t ∷ redid_from (n + 1) ts
 
-  -- when the turn of a call comes, its id is unspent and the journal is not full
+  -- when each call is made, its id is unspent and the journal is not full
   abbrev pub AreFresh : Rows A → ℕ → List (Entry A) → List (Call A) → Type 0
   AreFresh base limit j [] = Unit {0}
   AreFresh base limit j (c ∷ cs) =
       (spent j c.author c.id ≡ None) × (nat_le limit (length j) ≡ false)
       × AreFresh base limit (answer base limit j c).1 cs
 
-  -- an author's undos in turn, all accepted, and then as many redos of that author: these are accepted, what was undone
-  -- last first, and the map, the users of every name and what each author can redo are those from before the undos
+  -- suppose that all of an author's undos in order are accepted, and that as many redos follow, each under an unspent
+  -- id and in a journal that is not full; then the redos are accepted, the last undone entry first, and the map, the
+  -- users of every name and all redo stacks are those from before the undos
   abbrev pub IsRedoneInTurn : Rows A → ℕ → List (Entry A) → Type 0
   IsRedoneInTurn base limit j = (author : Author) (asked : List (ℕ × Option ℕ)) (undone ids : List ℕ)
       → let undoing = answers base limit j (map (undo_by author) asked) in

@@ -1,5 +1,5 @@
--- The journals that there are: those that calls lead to, where each entry is the one that an answer appends. (The rules
--- of a room are this project's.)
+-- The journals that calls lead to: each entry is the one that an answer appends. (The rules of a room are this
+-- project's.)
 use Rattle.std.specs.Prelude.{◌≡◌, ℕ, Bool, true, List, []}
 use Rattle.edit_groups.specs.Edits.{is_made_edit as is_made_action}
 use Rattle.room_history.specs.declared.ask.RoomCall.{RoomCall}
@@ -12,13 +12,13 @@ use Rattle.osm_elements.specs.Maps.{Rows}
 use Rattle.room_history.specs.Answers.{answer}
 
 module _ {A : Type 0} where
-  -- a request's own values are as their types keep them
+  -- the values of a request are made
   abbrev pub is_made_request : Request A → Bool
   is_made_request (requests.Do a) = is_made_action a
   is_made_request (requests.Undo s) = true
   is_made_request requests.Redo = true
 
-  -- and those of what a room is asked
+  -- the values of a call or a query are made
   abbrev pub is_made_room_call : RoomCall A → Bool
   is_made_room_call (asked.Take c) = is_made_request c.request
   is_made_room_call (asked.Get x) = true
@@ -26,7 +26,7 @@ module _ {A : Type 0} where
   is_made_room_call (asked.Undos author) = true
   is_made_room_call (asked.News from) = true
 
--- the empty journal, and the one that the answer to a call leaves after another
+-- calls with made values lead to the journal, from the empty one
 pub data IsJournal {A : Type 0} (base : Rows A) (limit : ℕ) : List (Entry A) → Type 0 where
   opened : IsJournal base limit []
   called : (j : List (Entry A)) (c : Call A) → IsJournal base limit j → is_made_request c.request ≡ true

@@ -1,5 +1,5 @@
--- The map of a journal, by folding each entry's changes from the base; and the replay of a list of actions. (The rules
--- of a room are this project's.)
+-- The map of a journal, from the base by each entry's changes, and the replay of a list of actions. (The rules of a
+-- room are this project's.)
 use Rattle.std.specs.Prelude.{◌++◌, ℕ, List, [], ◌∷◌, Option, Some, None, is_none, if◌then◌else◌}
 use Rattle.std.specs.List.{fold, filter_map}
 use Rattle.std.specs.Option.{option_and_then}
@@ -16,23 +16,23 @@ use Rattle.osm_changes.specs.Changes.{inverse, changed}
 use Rattle.edit_groups.specs.Edits.{footprint}
 use Rattle.room_history.specs.Journals.{numbered, standing}
 
--- what is recorded of an entry: its action, if it did one, what it changed, and the footprint of its action
+-- the record of an entry: its action, if it did or redid one, its changes, and its action's footprint
 pub record Recorded (A : Type 0) : Type 0 where
   pub action : Option (Action A)
   pub changes : List (Change A)
   pub footprint : List Cell
 
--- a map, and what is recorded of each entry that led to it
+-- a map, and the record of each entry that led to it
 pub record Past (A : Type 0) : Type 0 where
   pub map : Rows A
   pub entries : List (Recorded A)
 
 module _ {A : Type 0} where
-  -- an action done on a map
+  -- the record of an action on a map
   abbrev pub recorded_of : Rows A → Action A → Recorded A
   recorded_of m a = record { action = Some a; changes = changes m a; footprint = footprint m a }
 
-  -- an entry taken back
+  -- the record of an undo of an entry
   abbrev pub taken_back : Option (Recorded A) → Recorded A
   taken_back None = record { action = None; changes = []; footprint = [] }
   taken_back (Some r) = record { action = None; changes = inverse r.changes; footprint = [] }
@@ -41,13 +41,13 @@ module _ {A : Type 0} where
   abbrev pub action_at : Past A → ℕ → Option (Action A)
   action_at p s = option_and_then (λ (r : Recorded A). r.action) (numbered p.entries s)
 
-  -- an action done again, on the map as it is
+  -- the record of a redo of an action on the current map
   abbrev pub done_again : Rows A → Option (Action A) → Recorded A
   done_again m None = record { action = None; changes = []; footprint = [] }
   done_again m (Some a) = recorded_of m a
 
-  -- what the next entry records: an undo takes back what the entry that it names changed, and a redo does the action of
-  -- the entry that it names
+  -- the record of the next entry: an undo takes back the changes of the entry that it names, and a redo does the action
+  -- of the entry that it names on the current map
   abbrev pub recorded_next : Past A → EntryKind A → Recorded A
   recorded_next p (Do a) = recorded_of p.map a
   recorded_next p (Undo s) = taken_back (numbered p.entries s)
@@ -56,7 +56,7 @@ module _ {A : Type 0} where
   abbrev pub past_after : Past A → EntryKind A → Past A
   past_after p k = let r = recorded_next p k in record { map = changed p.map r.changes; entries = p.entries ++ r ∷ [] }
 
-  -- all that a journal on a base led to
+  -- the map of a journal on a base, and the records of its entries
   abbrev pub past : Rows A → List (Entry A) → Past A
   past base j = fold (λ p (e : Entry A). past_after p e.kind) (record { map = base; entries = [] }) j
 
@@ -64,15 +64,15 @@ module _ {A : Type 0} where
   abbrev pub mapof : Rows A → List (Entry A) → Rows A
   mapof base j = (past base j).map
 
-  -- the actions one after another, or no value where one is refused
+  -- the map after the actions in order; no value if one of them is refused
   abbrev pub replay : Rows A → List (Action A) → Option (Rows A)
   replay m [] = Some m
   replay m (a ∷ rest) = if is_none (refusal m a) then replay (after m a) rest else None
 
-  -- the recorded actions of some entries, in order
+  -- the recorded actions of the given entries, in order
   abbrev pub actions_of : Past A → List ℕ → List (Action A)
   actions_of p ss = filter_map (action_at p) ss
 
-  -- those of the entries that stand
+  -- the recorded actions of the active entries, in order
   abbrev pub standing_actions : Rows A → List (Entry A) → List (Action A)
   standing_actions base j = actions_of (past base j) (standing j)

@@ -1,4 +1,4 @@
--- A run of calls, and what holds of the room after each.
+-- Runs of calls, and what is true of the room after each call.
 use Rattle.std.specs.Prelude.{◌≡◌, ◌⊎◌, ℕ, List, [], ◌∷◌}
 use Rattle.room_history.specs.declared.call.Call.{Call}
 use Rattle.room_history.specs.declared.entry.Entry.{Entry}
@@ -10,11 +10,12 @@ use Rattle.room_history.specs.Headline.{Holds}
 use Rattle.room_history.specs.Rooms.{RoomState}
 
 module _ {A : Type 0} where
-  -- one call: answered by the definition, or for want of memory with the journal as it was
+  -- one call: the specified answer, or `Memory` and the journal is unchanged
   abbrev pub IsStep : Rows A → ℕ → List (Entry A) → Call A → Reply A → List (Entry A) → Type 0
   IsStep base limit j c reply k = ((reply, k) ≡ answer base limit j c) ⊎ ((reply ≡ Memory) × (k ≡ j))
 
-  -- calls and replies in turn: as many replies as calls, and the room holds before the first and after each
+  -- calls and their replies in order: there are as many replies as calls, and the journal holds before the first call
+  -- and after each call
   abbrev pub IsRun : Rows A → ℕ → List (Entry A) → List (Call A) → List (Reply A) → List (Entry A) → Type 0
   IsRun base limit j [] [] end = Holds base limit j × (end ≡ j)
   IsRun base limit j [] (r ∷ rs) end = ⊥
@@ -22,7 +23,7 @@ module _ {A : Type 0} where
   IsRun base limit j (c ∷ cs) (r ∷ rs) end =
       Holds base limit j × ((k : List (Entry A)) × IsStep base limit j c r k × IsRun base limit k cs rs end)
 
-  -- a room with this limit that began with this map has answered calls in turn by these replies
+  -- the room has this limit and began with this map, and these are its replies to the calls in order
   pub record Answers (base : Rows A) (limit : ℕ) (calls : List (Call A)) (room : RoomState A) (replies : List (Reply A))
       : Type 0 where
     pub base_is : room.base ≡ base

@@ -23,7 +23,7 @@ use Rattle.room_history.specs.Blockers.{held}
 use Rattle.room_history.specs.Journals.{redos}
 use Rattle.room_history.specs.Replays.{past, mapof}
 
--- nothing in a definition looks at the allocator
+-- no definition looks at the allocator
 abbrev pub Any : Type 0
 Any = ⊤
 
@@ -71,7 +71,7 @@ given = (107 ∷ [], Some (118 ∷ [])) ∷ []
 abbrev pub tagged : Pairs
 tagged = (107 ∷ [], 118 ∷ []) ∷ []
 
--- a node with no tags, at so many ten-millionths of a degree
+-- a node without tags, with coordinates in ten-millionths of a degree
 abbrev pub node_at : ℤ → ℤ → Element Any
 node_at lat lon = Node lat lon []
 
@@ -94,24 +94,24 @@ undoes author id s = record { author = author; id = id; request = Undo s }
 abbrev pub redoes : Author → ℕ → Call Any
 redoes author id = record { author = author; id = id; request = Redo }
 
--- the refusal of one action, or of a group as a whole; and that of the action at a position of a group
+-- the refusal of one action or a whole group, and the refusal of the action at a position of a group
 abbrev pub refused : Refusal Any → Reply Any
 refused why = Refused (alone why)
 
 abbrev pub refused_in : ℕ → Refusal Any → Reply Any
 refused_in position why = Refused (at_position position why)
 
--- the replies of an empty room with this limit, and the map that the calls leave
+-- the replies of a room with the empty base and this limit, and the map after the calls
 abbrev pub replies : ℕ → List (Call Any) → List (Reply Any)
 replies limit calls = (answers [] limit [] calls).0
 
 abbrev pub map_after : ℕ → List (Call Any) → Rows Any
 map_after limit calls = mapof [] (answers [] limit [] calls).1
 
--- the entries that stand after them, each with its recorded footprint
+-- the active entries after the calls, each with its recorded footprint
 abbrev pub held_after : ℕ → List (Call Any) → Holdings
 held_after limit calls = let j = (answers [] limit [] calls).1 in held (past [] j) j
 
--- what an author can redo after them
+-- an author's redo stack after the calls
 abbrev pub redos_left : ℕ → List (Call Any) → Author → List ℕ
 redos_left limit calls author = redos (answers [] limit [] calls).1 author

@@ -1,4 +1,4 @@
-//! All that a room is asked: its calls, and the queries.
+//! All calls and queries of a room.
 use crate::call::Call;
 use crate::news::NewsList;
 use crate::numbers::Numbers;
@@ -10,43 +10,44 @@ use osm_elements::name::Name;
 use room_stacks::author::Author;
 use std::alloc::Allocator;
 
-/// What a room is asked.
+/// A call or a query of a room.
 #[derive(Drop)]
 #[derive_where(Debug)]
 pub enum RoomCall<A: Allocator> {
-    /// To take a call.
+    /// A call.
     Take(Call<A>),
-    /// For the element of a name.
+    /// A query for the element of a name.
     Get(Name),
-    /// For the rows of its map, and how many entries its journal has.
+    /// A query for the rows of the map and the entry count of the journal.
     Rows,
-    /// For what an author may undo and redo.
+    /// A query for the entries that an author can undo and redo.
     Undos(Author),
-    /// For the news of all entries but the first so many.
+    /// A query for the news of the entries whose numbers are greater than this number.
     News(u64),
 }
 
-/// What a room answers, in the form of what it was asked. It shares nothing with the room.
+/// The reply of a room, with the same variant as its call or query. It shares nothing with the room. A query's only
+/// refusal is `Memory`, if an allocation fails.
 #[derive(Drop)]
 #[derive_where(Debug)]
 pub enum RoomReply<A: Allocator> {
-    /// The answer to a call.
+    /// The reply to a call.
     Take(Reply<A>),
-    /// The element, or none where the map has none of that name. The one refusal is want of memory.
+    /// The element, or `None` if the map does not have the name.
     Get(Result<Option<Element<A>>, Memory>),
-    /// How many entries the journal has, and the rows in name order. The one refusal is want of memory.
+    /// The entry count of the journal, and the rows in name order.
     Rows(Result<(u64, Rows<A>), Memory>),
-    /// What the author may undo and redo. The one refusal is want of memory.
+    /// The entries that the author can undo and redo.
     Undos(Result<Undoable<A>, Memory>),
-    /// The news, in the order of their entries. The one refusal is want of memory.
+    /// The news, in the order of their entries.
     News(Result<NewsList<A>, Memory>),
 }
 
-/// What an author may undo and redo.
+/// The entries that an author can undo and redo.
 #[derive(Drop)]
 #[derive_where(Debug)]
 pub struct Undoable<A: Allocator> {
-    /// The numbers of its entries that stand, rising.
+    /// The numbers of its active entries, in rising order.
     pub undos: Numbers<A>,
     /// The numbers of the entries that it can redo, bottom first.
     pub redos: Numbers<A>,

@@ -1,4 +1,4 @@
-//! The map that a room begins with.
+//! Base maps: the maps that rooms begin with.
 ghost use Rattle.std.specs.Prelude.{◌≡◌, IfSome, None, true};
 ghost use Rattle.osm_elements.specs.Made.{is_made};
 ghost use Rattle.osm_changes.specs.Sound.{is_sound};
@@ -15,20 +15,20 @@ use osm_elements::map::OsmMap;
 use osm_elements::name::Name;
 use std::alloc::Allocator;
 
-/// Why no room begins with a map.
+/// The reason why a room cannot begin with a map.
 #[derive(Drop)]
 #[derive_where(Debug)]
 pub enum BaseFault<A: Allocator> {
     /// The map is not sound.
     Unsound {
-        /// The least name whose row is not.
+        /// The least name whose row is not sound.
         name: Name,
-        /// What is wrong with that row, the first of these: `TooFew` for a way of fewer than 2 nodes, `TooMany` for one
-        /// of more than 2,000 and for a relation of more than 32,000 members, `Absent` with the least name that it
-        /// refers to and that the map does not have.
+        /// The fault of this row, the first of these: `TooFew` for a way of fewer than 2 nodes, `TooMany` for a way of
+        /// more than 2,000 nodes or a relation of more than 32,000 members, `Absent` with the least name that the row
+        /// refers to and the map does not have.
         why: Refusal<A>,
     },
-    /// A growth was refused: there was no memory for it.
+    /// An allocation failed.
     Memory,
 }
 
@@ -40,7 +40,7 @@ impl<A: Allocator> From<Memory> for BaseFault<A> {
     }
 }
 
-/// The least name of a map whose row is not sound, and why; none where the map is sound. It takes no memory. It goes
+/// Returns the least name of a map whose row is not sound, and the row's fault, or `None` if the map is sound. It goes
 /// over the rows once, and costs a look-up for each reference.
 pub(crate) fn first_unsound<A: Allocator>(map: &OsmMap<A>) -> Option<(Name, Refusal<A>)>
     requires { are_of_kinds map.now ≡ true }
@@ -55,7 +55,7 @@ pub(crate) fn first_unsound<A: Allocator>(map: &OsmMap<A>) -> Option<(Name, Refu
     None
 }
 
-// Why the row of a name is not sound, where its element is of the name's kind.
+// Returns the fault of a row whose element is of its name's kind, if the row is not sound.
 fn row_fault<A: Allocator>(map: &OsmMap<A>, name: &Name, element: &Element<A>) -> Option<Refusal<A>>
     ensures fault { result ≡ first_that_holds (list_checks map.now name.now element.now) }
     ensures made { is_made element.now ≡ true }

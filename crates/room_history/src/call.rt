@@ -1,4 +1,4 @@
-//! What authors ask of a room.
+//! Calls of authors.
 ghost use Rattle.std.specs.Prelude.{◌≡◌};
 
 use edit_groups::edit::Edit;
@@ -6,38 +6,38 @@ use room_stacks::author::Author;
 use std::alloc::Allocator;
 use std::marker::Model;
 
-/// What a call asks for.
+/// A request to a room.
 #[derive(Drop)]
 #[derive_where(Debug)]
 pub enum Request<A: Allocator> {
-    /// An edit of the map: one action, or a group of them.
+    /// An edit of the map: one action, or a group.
     Do(Edit<A>),
-    /// The undo of the entry of this number, or without a number of the author's last entry that stands.
+    /// The undo of the entry with this number, or of the author's last active entry if there is no number.
     Undo(Option<u64>),
-    /// The action of the entry that the author undid last and has not redone, done again on the map as it is.
+    /// The redo of the entry that the author undid last and has not redone. Its action is done on the map at that time.
     Redo,
 }
 
-/// A call of a room: who asks, under which id, and what for.
+/// A call of a room.
 #[derive(Drop)]
 #[derive_where(Debug)]
 pub struct Call<A: Allocator> {
-    /// Who asks.
+    /// The author.
     pub author: Author,
     /// The message's id, which an accepted call spends for its author.
     pub id: u64,
-    /// What is asked for.
+    /// The request.
     pub request: Request<A>,
 }
 
-/// A list of calls, in the order in which a room answers them.
+/// A list of calls, in the order in which a room takes them.
 #[derive(Drop)]
 #[derive_where(Debug)]
 pub struct Calls<A: Allocator> {
     calls: Vec<Call<A>, A>,
 }
 
-// Calls are seen as the list of them.
+// The model of these calls is their list.
 impl<A: Allocator> Model for Calls<A> {
     ghost use Rattle.std.specs.Prelude.{List};
     ghost use Rattle.room_history.specs.declared.call.Call.{Call};
@@ -48,14 +48,14 @@ impl<A: Allocator> Model for Calls<A> {
 }
 
 impl<A: Allocator> Calls<A> {
-    /// Takes the calls of a vector and gives them as a list, in their order. It takes no memory.
+    /// Returns the calls of a vector as a list, in their order.
     pub fn from_vec(calls: Vec<Call<A>, A>) -> Calls<A>
         ensures { result ≡ calls.items }
     {
         Calls { calls }
     }
 
-    /// Gives the calls back as a vector, in their order. It takes no memory.
+    /// Returns the calls as a vector, in their order.
     pub fn into_vec(self) -> Vec<Call<A>, A>
         ensures { result.items ≡ self }
     {
@@ -63,7 +63,7 @@ impl<A: Allocator> Calls<A> {
         calls
     }
 
-    /// The calls as a slice, in their order. It takes no memory.
+    /// Returns the calls as a slice, in their order.
     pub fn as_slice(&self) -> &[Call<A>]
         ensures { result.now ≡ self.now }
     {

@@ -1,4 +1,4 @@
-//! What the parts of a room do for an entry: what it did stands, and what it did is taken back.
+//! Changes of a room's parts for an entry.
 ghost use Rattle.std.specs.Prelude.{◌≡◌, ◌<◌, [], ◌∷◌, ◌++◌, Some, None, true, OnOk, OnErr, vec_len, vec_capacity};
 ghost use Rattle.osm_changes.specs.Changes.{changed, rows_after, AreFrom};
 ghost use Rattle.osm_changes.specs.Sound.{is_sound};
@@ -18,7 +18,8 @@ use room_stacks::author::Author;
 use room_stacks::stacks::Stacks;
 use std::alloc::Allocator;
 
-// Makes room for one more entry, an author's, in each list and in the stacks; or refuses. Either way nothing is added.
+// Reserves the memory for one more entry, an author's, in each list and in the stacks. It adds nothing, even if it
+// succeeds.
 pub(crate) fn reserve<A: Allocator + Copy>(
     entries: &mut Vec<Entry<A>, A>,
     recorded: &mut Vec<Kept<A>, A>,
@@ -41,8 +42,7 @@ pub(crate) fn reserve<A: Allocator + Copy>(
     stacks.ready(author)
 }
 
-// Adds an entry, what is kept of its effect, and the number of the entry that has its action, to lists that have room
-// for them.
+// Appends an entry, its kept effect, and the number of the entry that has its action. The lists must have capacity.
 pub(crate) fn enter<A: Allocator>(
     entries: &mut Vec<Entry<A>, A>,
     recorded: &mut Vec<Kept<A>, A>,
@@ -63,7 +63,7 @@ pub(crate) fn enter<A: Allocator>(
     push_reserved(origins, origin);
 }
 
-// Adds an item to a list that has room for it.
+// Appends an item to a list that has capacity for it.
 fn push_reserved<T: Drop, A: Allocator>(list: &mut Vec<T, A>, item: T)
     requires { vec_len list.old < vec_capacity list.old }
     ensures { list.new.items ≡ list.old.items ++ item ∷ [] }
@@ -74,7 +74,7 @@ fn push_reserved<T: Drop, A: Allocator>(list: &mut Vec<T, A>, item: T)
     }
 }
 
-// Notes among what authors did the entry of a number, with what it did. It takes no memory.
+// Records an entry as a deed of its author.
 pub(crate) fn note<A: Allocator>(
     stacks: &mut Stacks<A>,
     author: Author,
@@ -95,7 +95,7 @@ pub(crate) fn note<A: Allocator>(
     }
 }
 
-// Lets an entry stand and applies its effect; or refuses, and both are as they were.
+// Makes an entry active and applies its effect. If it returns `Memory`, the store and the holders are unchanged.
 pub(crate) fn stand<A: Allocator + Copy>(
     alloc: A,
     store: &mut Store<A>,

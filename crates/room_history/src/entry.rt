@@ -1,4 +1,4 @@
-//! What a room's journal keeps of an accepted call.
+//! Entries of a room's journal.
 use edit_groups::edit::Edit;
 use room_stacks::author::Author;
 use std::alloc::Allocator;
@@ -7,11 +7,11 @@ use std::alloc::Allocator;
 #[derive(Drop)]
 #[derive_where(Debug)]
 pub enum EntryKind<A: Allocator> {
-    /// Did an action, or a group of them.
+    /// Did an action or a group.
     Do(Edit<A>),
-    /// Undid the entry of this number.
+    /// Undid the entry with this number.
     Undo(u64),
-    /// Did the action of the entry of this number again.
+    /// Redid the action of the entry with this number.
     Redo(u64),
 }
 
@@ -19,10 +19,10 @@ pub enum EntryKind<A: Allocator> {
 #[derive(Drop)]
 #[derive_where(Debug)]
 pub struct Entry<A: Allocator> {
-    /// Whose call it was.
+    /// The author of the call.
     pub author: Author,
     /// The id that the call spent.
     pub id: u64,
-    /// What it did.
+    /// The kind of the entry.
     pub kind: EntryKind<A>,
 }

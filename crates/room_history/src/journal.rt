@@ -1,4 +1,4 @@
-//! What the journal's entries say.
+//! Look-ups in a journal's entries.
 ghost use Rattle.std.specs.Prelude.{◌≡◌};
 ghost use Rattle.std.specs.Option.{option_copied, option_and_then};
 ghost use Rattle.room_history.specs.Journals.{numbered};
@@ -8,7 +8,7 @@ use crate::entry::{Entry, EntryKind};
 use edit_groups::edit::Edit;
 use std::alloc::Allocator;
 
-/// The item of a number, from 1 on.
+/// Returns the item with a number, counted from 1.
 pub fn numbered<T>(items: &[T], seq: u64) -> Option<&T>
     ensures { option_copied result ≡ numbered items.now seq }
 {
@@ -18,8 +18,8 @@ pub fn numbered<T>(items: &[T], seq: u64) -> Option<&T>
     }
 }
 
-/// The action of an entry, which stands in the entry that is its origin; none of an undo, and none where no entry has
-/// the number. `origins` has the number of the origin of each entry.
+/// Returns the action of an entry, which is stored in the entry's origin. Returns `None` for an undo, and if no entry
+/// has the number. `origins` has the number of each entry's origin.
 pub fn action_of<'a, A: Allocator>(
     entries: &'a [Entry<A>],
     origins: &[u64],
@@ -37,7 +37,7 @@ pub fn action_of<'a, A: Allocator>(
     }
 }
 
-// The action that an entry did itself.
+// Returns the action that an entry did itself.
 fn own_action<A: Allocator>(entry: &Entry<A>) -> Option<&Edit<A>>
     ensures { option_copied result ≡ own_action entry.now.kind }
 {
@@ -47,8 +47,9 @@ fn own_action<A: Allocator>(entry: &Entry<A>) -> Option<&Edit<A>>
     }
 }
 
-/// The number of the entry that has the action of the next one: its own, or for a redo the origin of the entry that it
-/// names. `origins` has the number of the origin of each entry before it. An undo has its own.
+/// Returns the origin of the next entry: the number of the entry that stores its action. For a redo, it is the origin
+/// of the entry that it names, and otherwise the next entry's own number. `origins` has the origins of the earlier
+/// entries.
 pub fn origin_next<A: Allocator>(origins: &[u64], kind: &EntryKind<A>) -> u64
     ensures { result ≡ origin_next origins.now kind.now }
 {

@@ -1,4 +1,4 @@
-//! What a room keeps of what an entry changed.
+//! What a room keeps of the changes of an entry.
 ghost use Rattle.std.specs.Prelude.{◌≡◌, ◌∷◌, [], Some, None, IfOk, IfSome, map};
 ghost use Rattle.std.specs.Option.{is_some, option_copied};
 ghost use Rattle.osm_elements.specs.Rows.{row_at};
@@ -19,9 +19,9 @@ use osm_elements::name::Name;
 use std::alloc::Allocator;
 use std::marker::Model;
 
-// What an entry does to the map: the cells that it changes, with their halves before and after, and the rows of their
-// names after it. News have the rows; the other part of a row is not among the changes. Of a group also its footprint,
-// which does not follow from its actions and its changes.
+// The effect of an entry: its changes, and the rows of their names after it, which the news have. The changes do not
+// determine these rows, because they lack the unchanged part of a row. For a group, it also has the footprint, which
+// does not follow from the group's actions and changes.
 #[derive(Drop)]
 #[derive_where(Debug)]
 pub(crate) struct Effect<A: Allocator> {
@@ -30,7 +30,7 @@ pub(crate) struct Effect<A: Allocator> {
     pub(crate) group: Option<Footprint<A>>,
 }
 
-// A row that is changed: a name, with its element before and after, or none.
+// A changed row: a name, with its element before and after, if any.
 #[derive(Drop)]
 #[derive_where(Debug)]
 pub(crate) struct ChangedRow<A: Allocator> {
@@ -39,25 +39,25 @@ pub(crate) struct ChangedRow<A: Allocator> {
     pub(crate) after: Option<Element<A>>,
 }
 
-// What is kept of an effect. Most entries change one row, and of such a one the row is kept, which takes no memory of
-// its own: it tells the changes.
+// An effect as a room keeps it. Most entries change one row. For such an entry, only the row is kept, which needs no
+// memory of its own and determines the changes.
 #[derive(Drop)]
 #[derive_where(Debug)]
 pub(crate) struct Kept<A: Allocator> {
     form: Form<A>,
 }
 
-// How an effect is kept.
+// The form in which an effect is kept.
 #[derive(Drop)]
 #[derive_where(Debug)]
 enum Form<A: Allocator> {
-    /// By its one row.
+    /// Its only row.
     Row(ChangedRow<A>),
-    /// As it is.
+    /// The whole effect.
     Whole(Effect<A>),
 }
 
-// What is kept is seen as the effect.
+// The model of a kept effect is the effect.
 impl<A: Allocator> Model for Kept<A> {
     ghost use Rattle.room_history.specs.declared.kept.Effect.{Effect};
     ghost use Rattle.room_history.specs.Inner.Kept.{kept_effect};
@@ -67,8 +67,7 @@ impl<A: Allocator> Model for Kept<A> {
     ghost view = { λ k. kept_effect k.form };
 }
 
-// The effect of changes that are no group's, with the rows that a store has after them, before they are applied. Refuses
-// with `Memory`.
+// Returns the effect of changes that are not a group's, with the rows of a store after them, before they are applied.
 pub(crate) fn effect_of<A: Allocator + Clone>(
     alloc: A,
     store: &Store<A>,
@@ -84,8 +83,8 @@ pub(crate) fn effect_of<A: Allocator + Clone>(
     })
 }
 
-// The row of an effect that is of one alone, before it is applied, with copies of both elements. The one refusal is
-// want of memory.
+// Returns the row of an effect on one row, with copies of both elements, before the effect is applied. Returns `None`
+// for an effect on several rows.
 pub(crate) fn sole_row<A: Allocator + Clone>(
     store: &Store<A>,
     effect: &Effect<A>,
@@ -111,7 +110,7 @@ pub(crate) fn sole_row<A: Allocator + Clone>(
     }))
 }
 
-// A copy of the element that a name has in a store, if it has one.
+// Returns a copy of the element of a name in a store, if it has one.
 fn element_at<A: Allocator + Clone>(
     store: &Store<A>,
     name: &Name,
@@ -124,14 +123,14 @@ fn element_at<A: Allocator + Clone>(
     }
 }
 
-// Whether an edit is a group.
 pub(crate) fn is_group<A: Allocator>(edit: &Edit<A>) -> bool
     ensures { result ≡ is_group (Some edit.now) }
 {
     matches!(edit, Edit::Group(_))
 }
 
-// The footprint of an edit with its changes: that of one action follows from them, and that of a group was kept.
+// Returns the footprint of an edit with its changes. The footprint of one action follows from them; that of a group was
+// kept.
 pub(crate) fn footprint_by<A: Allocator + Clone>(
     alloc: A,
     edit: &Edit<A>,
@@ -151,7 +150,7 @@ pub(crate) fn footprint_by<A: Allocator + Clone>(
 }
 
 impl<A: Allocator> Kept<A> {
-    // Keeps an effect, by its one row if that is known, and of a group with its footprint.
+    // Keeps an effect: by its only row if this is known, and for a group with its footprint.
     pub(crate) fn of(
         effect: Effect<A>,
         sole: Option<ChangedRow<A>>,
@@ -173,7 +172,7 @@ impl<A: Allocator> Kept<A> {
         Kept { form }
     }
 
-    // The footprint of a group, and none of one action.
+    // Returns the footprint of a group, or `None` for one action.
     pub(crate) fn group(&self) -> Option<&Footprint<A>>
         ensures { option_copied result ≡ self.now.group }
     {
@@ -183,8 +182,7 @@ impl<A: Allocator> Kept<A> {
         }
     }
 
-    // The changes, of which the kept ones are copied, since the entry's own news may still be asked for. The one
-    // refusal is want of memory.
+    // Returns the changes. Kept changes are copied, because the news of the entry may still be needed.
     pub(crate) fn changes(&self, alloc: A) -> Result<Changes<A>, Memory>
     where
         A: Clone,
@@ -196,7 +194,7 @@ impl<A: Allocator> Kept<A> {
         }
     }
 
-    // The rows as news tell them. The one refusal is want of memory.
+    // Returns the rows in the form of news.
     pub(crate) fn told(&self, alloc: A) -> Result<NewsRows<A>, Memory>
     where
         A: Copy,
@@ -210,7 +208,7 @@ impl<A: Allocator> Kept<A> {
 }
 
 impl<A: Allocator> ChangedRow<A> {
-    // The changes of the row's halves.
+    // Returns the changes of the row's halves.
     fn changes(&self, alloc: A) -> Result<Changes<A>, Memory>
     where
         A: Clone,
@@ -223,7 +221,7 @@ impl<A: Allocator> ChangedRow<A> {
         Ok(changes)
     }
 
-    // The row, as the one that news tell.
+    // Returns the row in the form of news.
     fn told(&self, alloc: A) -> Result<NewsRows<A>, Memory>
     where
         A: Copy,

@@ -1,4 +1,4 @@
-//! Laws of the definitions, each the contract of a function that does nothing.
+//! Laws of the definitions. Each law is the contract of an empty function.
 ghost use Rattle.std.specs.Prelude.{◌≡◌, ◌++◌, ℕ, true, false, List, [], ◌∷◌, All, take};
 ghost use Rattle.edit_simple.specs.declared.refusal.Refusal.{Refusal};
 ghost use Rattle.osm_elements.specs.declared.name.Name.{Name};
@@ -25,20 +25,20 @@ ghost use Rattle.room_history.specs.Examples.{first_run, range_ends, limit_one, 
 use osm_changes::laws::{an_inverse_restores, differences_are_changes};
 use std::alloc::Allocator;
 
-/// Every journal that calls lead to from a sound base holds.
+/// The theorem: every journal that calls lead to from a sound base holds.
 pub fn journals_hold<A: Allocator>()
     ensures { (base : Rows A) (limit : ℕ) (j : List (Entry A)) → is_sound base ≡ true → IsJournal base limit j
         → Holds base limit j }
 {}
 
-/// The first entries of a journal that calls lead to are one too.
+/// If calls lead to a journal, they also lead to its first `n` entries.
 pub fn journals_begin<A: Allocator>()
     ensures { (base : Rows A) (limit : ℕ) (j : List (Entry A)) (n : ℕ) → IsJournal base limit j
         → IsJournal base limit (take n j) }
 {}
 
-/// Every legal history that a desk tells of a room, over a sound base, is a journal that calls lead to, and so holds.
-/// It stands here, since the desk knows nothing of rooms, and whoever has a seat at a room's desk has both.
+/// Every legal history of a room's desk is a journal that calls lead to. If the base is sound, it holds. The law is in
+/// this crate because the desk knows nothing of rooms, and anyone with a seat at a room's desk uses both crates.
 pub fn legal_histories_hold<A: Allocator>()
     ensures journal { (opening : Opening A) (h : History (Entry A)) → IsLegal IsTurn opening h
         → IsJournal opening.base opening.limit (entries h) }
@@ -46,8 +46,8 @@ pub fn legal_histories_hold<A: Allocator>()
         → IsLegal IsTurn opening h → Holds opening.base opening.limit (entries h) }
 {}
 
-/// A room can begin with every sound map, as the map of a room is: the names of its rows rise, each element is of its
-/// name's kind, and all that can refuse it is want of memory.
+/// A room can begin with every sound map. The names of its rows rise, each element is of its name's kind, and the only
+/// refusal is `Memory`.
 pub fn a_sound_map_can_be_a_base<A: Allocator>()
     ensures order { (m : Rows A) → is_sound m ≡ true → AreInOrder m }
     ensures kinds { (m : Rows A) → is_sound m ≡ true → are_of_kinds m ≡ true }
@@ -55,21 +55,22 @@ pub fn a_sound_map_can_be_a_base<A: Allocator>()
         → fault ≡ OutOfMemory }
 {}
 
-/// A map of which a first row is told that is not sound is not sound, and there is one such row and one reason.
+/// If the definitions give a map a first row that is not sound, the map is not sound. There is only one such row, with
+/// only one reason.
 pub fn an_unsound_map_has_one_fault<A: Allocator>()
     ensures unsound { (m : Rows A) (x : Name) (why : Refusal A) → IsFirstUnsound m x why → is_sound m ≡ false }
     ensures one { (m : Rows A) (x y : Name) (why other : Refusal A) → IsFirstUnsound m x why → IsFirstUnsound m y other
         → (x ≡ y) × (why ≡ other) }
 {}
 
-/// Each entry is counted by what it changed: an action by its changes, an undo by those that it takes back.
+/// An entry counts as many changes as it made: an action its changes, an undo the changes that it took back.
 pub fn entries_are_counted<A: Allocator>()
     ensures { (base : Rows A) (j : List (Entry A)) (e : Entry A)
         → applied base (j ++ e ∷ []) ≡ counted (applied base j) (recorded_next (past base j) e.kind).changes }
 {}
 
-/// What an entry of a journal changed are changes from the map before it to the map after it: their cells rise, and
-/// each leads from the half that the one has there to the half that the other has, which is another.
+/// An entry's changes are from the map before it, and lead to halves of the map after it. Their cells rise, and the
+/// halves before and after a change differ.
 pub fn entries_change_their_maps<A: Allocator>()
     ensures changes { (base : Rows A) (limit : ℕ) (i k : List (Entry A)) (e : Entry A) → is_sound base ≡ true
         → IsJournal base limit (i ++ e ∷ k)
@@ -86,7 +87,7 @@ pub fn entries_change_their_maps<A: Allocator>()
     an_inverse_restores::<A>();
 }
 
-/// What the definitions say of the worked examples is what was worked out by hand.
+/// The definitions give the replies that were worked out by hand for each example.
 pub fn replies_are_as_worked()
     ensures first_run { first_run }
     ensures range_ends { range_ends }

@@ -1,4 +1,4 @@
-//! What others are told of an entry: the names that it changed, with their rows after it.
+//! News: the names that an entry changed, with their rows after it.
 ghost use Rattle.std.specs.Prelude.{◌≡◌, IfOk, length, map, drop};
 ghost use Rattle.room_history.specs.Inner.Telling.{told_row, told_of, told_from};
 
@@ -12,7 +12,7 @@ use room_stacks::author::Author;
 use std::alloc::{AllocError, Allocator};
 use std::marker::Model;
 
-/// A name that an entry changed, with the element that it has since; none where the row is gone.
+/// A name that an entry changed, with its element after the entry, or `None` if the row was removed.
 #[derive(Drop)]
 #[derive_where(Debug)]
 pub struct NewsRow<A: Allocator> {
@@ -23,7 +23,11 @@ pub struct NewsRow<A: Allocator> {
 }
 
 impl<A: Allocator> NewsRow<A> {
-    /// An equal row, or `Memory`.
+    /// Returns an equal row.
+    ///
+    /// # Errors
+    ///
+    /// `Memory`, if an allocation fails.
     pub fn copy(&self) -> Result<NewsRow<A>, Memory>
     where
         A: Clone,
@@ -45,14 +49,14 @@ impl<A: Allocator + Clone> Clone for NewsRow<A> {
     }
 }
 
-/// A list of rows as news tell them.
+/// A list of rows of news.
 #[derive(Drop)]
 #[derive_where(Debug)]
 pub struct NewsRows<A: Allocator> {
     rows: Vec<NewsRow<A>, A>,
 }
 
-// Rows of news are seen as the list of them.
+// The model of these rows is their list.
 impl<A: Allocator> Model for NewsRows<A> {
     ghost use Rattle.std.specs.Prelude.{List};
     ghost use Rattle.room_history.specs.declared.news.NewsRow.{NewsRow};
@@ -63,14 +67,14 @@ impl<A: Allocator> Model for NewsRows<A> {
 }
 
 impl<A: Allocator> NewsRows<A> {
-    /// Takes the rows of a vector and gives them as a list, in their order. It takes no memory.
+    /// Returns the rows of a vector as a list, in their order.
     pub fn from_vec(rows: Vec<NewsRow<A>, A>) -> NewsRows<A>
         ensures { result ≡ rows.items }
     {
         NewsRows { rows }
     }
 
-    /// Gives the rows back as a vector, in their order. It takes no memory.
+    /// Returns the rows as a vector, in their order.
     pub fn into_vec(self) -> Vec<NewsRow<A>, A>
         ensures { result.items ≡ self }
     {
@@ -78,14 +82,18 @@ impl<A: Allocator> NewsRows<A> {
         rows
     }
 
-    /// The rows as a slice, in their order. It takes no memory.
+    /// Returns the rows as a slice, in their order.
     pub fn as_slice(&self) -> &[NewsRow<A>]
         ensures { result.now ≡ self.now }
     {
         &self.rows
     }
 
-    /// A second list of equal rows, or `Memory`.
+    /// Returns an equal list.
+    ///
+    /// # Errors
+    ///
+    /// `Memory`, if an allocation fails.
     pub fn copy(&self) -> Result<NewsRows<A>, Memory>
     where
         A: Clone,
@@ -104,15 +112,16 @@ impl<A: Allocator + Clone> Clone for NewsRows<A> {
     }
 }
 
-/// What others are told of an entry.
+/// The news of an entry, as clients receive them.
 #[derive(Drop)]
 #[derive_where(Debug)]
 pub struct News<A: Allocator> {
     /// The number of the entry.
     pub seq: u64,
-    /// Whose call it was.
+    /// The author of the entry.
     pub author: Author,
-    /// The names that it changed, rising, each with its row after it: of an undo with what it put back.
+    /// The changed names in rising order, each with its row after the entry. After an undo, the rows have the restored
+    /// halves.
     pub rows: NewsRows<A>,
 }
 
@@ -123,7 +132,7 @@ pub struct NewsList<A: Allocator> {
     news: Vec<News<A>, A>,
 }
 
-// News are seen as the list of them.
+// The model of these news is their list.
 impl<A: Allocator> Model for NewsList<A> {
     ghost use Rattle.std.specs.Prelude.{List};
     ghost use Rattle.room_history.specs.declared.news.News.{News};
@@ -134,14 +143,14 @@ impl<A: Allocator> Model for NewsList<A> {
 }
 
 impl<A: Allocator> NewsList<A> {
-    /// Takes the news of a vector and gives them as a list, in their order. It takes no memory.
+    /// Returns the news of a vector as a list, in their order.
     pub fn from_vec(news: Vec<News<A>, A>) -> NewsList<A>
         ensures { result ≡ news.items }
     {
         NewsList { news }
     }
 
-    /// Gives the news back as a vector, in their order. It takes no memory.
+    /// Returns the news as a vector, in their order.
     pub fn into_vec(self) -> Vec<News<A>, A>
         ensures { result.items ≡ self }
     {
@@ -149,7 +158,7 @@ impl<A: Allocator> NewsList<A> {
         news
     }
 
-    /// The news as a slice, in their order. It takes no memory.
+    /// Returns the news as a slice, in their order.
     pub fn as_slice(&self) -> &[News<A>]
         ensures { result.now ≡ self.now }
     {
@@ -157,8 +166,8 @@ impl<A: Allocator> NewsList<A> {
     }
 }
 
-/// The news of all entries but the first `from`, in order, from the entries and what is kept of each of them. The one
-/// refusal is want of memory. It copies the rows that those entries changed.
+/// Returns the news of all entries after the first `from`, in order, from the entries and their kept effects. It copies
+/// the rows that these entries changed.
 pub(crate) fn news_past<A: Allocator + Copy>(
     alloc: A,
     entries: &[Entry<A>],
@@ -176,7 +185,7 @@ pub(crate) fn news_past<A: Allocator + Copy>(
     Ok(NewsList::from_vec(told))
 }
 
-// The news of an entry under its number.
+// Returns the news of the entry with the number `seq`.
 fn news_of<A: Allocator + Copy>(
     alloc: A,
     seq: u64,
@@ -193,7 +202,7 @@ fn news_of<A: Allocator + Copy>(
     })
 }
 
-// The changed names, each with a copy of its row after the changes.
+// Returns the changed names, each with a copy of its row after the changes.
 pub(crate) fn told_rows<A: Allocator + Copy>(
     alloc: A,
     rows_after: &[RowAfter<A>],
@@ -211,7 +220,6 @@ pub(crate) fn told_rows<A: Allocator + Copy>(
     Ok(NewsRows { rows })
 }
 
-// An equal element, where there is one.
 pub(crate) fn copy_of<A: Allocator + Clone>(
     element: &Option<Element<A>>,
 ) -> Result<Option<Element<A>>, Memory>

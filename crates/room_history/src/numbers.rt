@@ -1,17 +1,17 @@
-//! Lists of entries' numbers.
+//! Lists of entry numbers.
 ghost use Rattle.std.specs.Prelude.{◌≡◌};
 
 use std::alloc::Allocator;
 use std::marker::Model;
 
-/// A list of numbers of entries.
+/// A list of entry numbers.
 #[derive(Drop)]
 #[derive_where(Debug)]
 pub struct Numbers<A: Allocator> {
     numbers: Vec<u64, A>,
 }
 
-// Numbers are seen as the list of them.
+// The model of these numbers is their list.
 impl<A: Allocator> Model for Numbers<A> {
     ghost use Rattle.std.specs.Prelude.{List, ℕ};
 
@@ -21,14 +21,14 @@ impl<A: Allocator> Model for Numbers<A> {
 }
 
 impl<A: Allocator> Numbers<A> {
-    /// Takes the numbers of a vector and gives them as a list, in their order. It takes no memory.
+    /// Returns the numbers of a vector as a list, in their order.
     pub fn from_vec(numbers: Vec<u64, A>) -> Numbers<A>
         ensures { result ≡ numbers.items }
     {
         Numbers { numbers }
     }
 
-    /// Gives the numbers back as a vector, in their order. It takes no memory.
+    /// Returns the numbers as a vector, in their order.
     pub fn into_vec(self) -> Vec<u64, A>
         ensures { result.items ≡ self }
     {
@@ -36,7 +36,7 @@ impl<A: Allocator> Numbers<A> {
         numbers
     }
 
-    /// The numbers as a slice, in their order. It takes no memory.
+    /// Returns the numbers as a slice, in their order.
     pub fn as_slice(&self) -> &[u64]
         ensures { result.now ≡ self.now }
     {

@@ -1,4 +1,4 @@
-//! What a room answers.
+//! Replies of a room.
 ghost use Rattle.std.specs.Prelude.{◌≡◌};
 ghost use Rattle.room_history.specs.Inner.Refusing.{refusal_reply};
 
@@ -8,12 +8,12 @@ use osm_elements::name::Name;
 use std::alloc::Allocator;
 use std::marker::Model;
 
-/// The answer to a call. After each of those from `Repeat` on the room is as it was before the call. It is not `Copy`,
-/// and has the allocator's parameter, since a refusal can name a key of tags.
+/// The reply to a call. From `Repeat` on, the variants are refusals, and the room is unchanged. The type is not `Copy`,
+/// and has the allocator's parameter, because a refusal can name a key of tags.
 #[derive(Drop)]
 #[derive_where(Debug)]
 pub enum Reply<A: Allocator> {
-    /// The action was done, as the entry of this number.
+    /// The action was done, in the entry with this number.
     Done {
         /// The number of the new entry.
         seq: u64,
@@ -22,47 +22,47 @@ pub enum Reply<A: Allocator> {
     Undid {
         /// The number of the new entry.
         seq: u64,
-        /// The number of the entry that was undone.
+        /// The number of the undone entry.
         of: u64,
     },
-    /// The action of an entry was done again.
+    /// The action of an entry was redone.
     Redid {
         /// The number of the new entry.
         seq: u64,
-        /// The number of the entry whose action was done again.
+        /// The number of the entry whose action was redone.
         of: u64,
     },
-    /// The author's accepted entry of this number spent the id.
+    /// The author already spent the id, in an accepted entry.
     Repeat {
         /// The number of that entry.
         seq: u64,
     },
-    /// The journal has as many entries as it may have.
+    /// The journal has as many entries as its limit allows.
     Full,
-    /// An undo without a number, and no entry of the author's stands.
+    /// An undo without a number, and the author has no active entry.
     NothingToUndo,
     /// No entry has the number.
     NoSuch,
-    /// The entry of the number is another author's.
+    /// The entry with the number is another author's.
     NotYours,
-    /// The entry of the number is an undo, or has been undone.
+    /// The entry with the number is an undo, or has been undone.
     NotStanding,
-    /// A later entry stands that touched what the entry of the number did.
+    /// A later active entry touched what the entry touched.
     Conflict {
-        /// The number of the first later entry that stands and whose footprint meets that of the entry.
+        /// The number of the first later active entry whose footprint meets that of the entry.
         blocker: u64,
-        /// The least name that both footprints have.
+        /// The least name of a cell that both footprints have.
         shared: Name,
     },
     /// A redo, and the author has nothing to redo.
     NothingToRedo,
-    /// The action, or the one that was to be done again, is refused on the map as it is.
+    /// The action, or the action to redo, is refused on the current map.
     Refused(EditRefusal<A>),
-    /// A growth was refused.
+    /// An allocation failed.
     Memory,
 }
 
-// A failed allocation is `Memory`, whatever was asked for; any other refusal is the edit's.
+// A failed allocation becomes `Memory`, even within a group. Any other refusal is the edit's.
 impl<A: Allocator> From<EditRefusal<A>> for Reply<A> {
     ghost from_gives = { λ refusal reply. reply ≡ refusal_reply refusal };
 
@@ -77,14 +77,14 @@ impl<A: Allocator> From<EditRefusal<A>> for Reply<A> {
     }
 }
 
-/// A list of replies, in the order of the calls that they answer.
+/// A list of replies, in the order of their calls.
 #[derive(Drop)]
 #[derive_where(Debug)]
 pub struct Replies<A: Allocator> {
     replies: Vec<Reply<A>, A>,
 }
 
-// Replies are seen as the list of them.
+// The model of these replies is their list.
 impl<A: Allocator> Model for Replies<A> {
     ghost use Rattle.std.specs.Prelude.{List};
     ghost use Rattle.room_history.specs.declared.reply.Reply.{Reply};
@@ -95,14 +95,14 @@ impl<A: Allocator> Model for Replies<A> {
 }
 
 impl<A: Allocator> Replies<A> {
-    /// Takes the replies of a vector and gives them as a list, in their order. It takes no memory.
+    /// Returns the replies of a vector as a list, in their order.
     pub fn from_vec(replies: Vec<Reply<A>, A>) -> Replies<A>
         ensures { result ≡ replies.items }
     {
         Replies { replies }
     }
 
-    /// Gives the replies back as a vector, in their order. It takes no memory.
+    /// Returns the replies as a vector, in their order.
     pub fn into_vec(self) -> Vec<Reply<A>, A>
         ensures { result.items ≡ self }
     {
@@ -110,7 +110,7 @@ impl<A: Allocator> Replies<A> {
         replies
     }
 
-    /// The replies as a slice, in their order. It takes no memory.
+    /// Returns the replies as a slice, in their order.
     pub fn as_slice(&self) -> &[Reply<A>]
         ensures { result.now ≡ self.now }
     {

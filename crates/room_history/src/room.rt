@@ -34,27 +34,28 @@ use std::snapshot::Snapshot;
 mod appending;
 mod asking;
 
-/// A room: one map, and the journal of what its authors did to it. It is as good as its base map, which is sound, its
-/// limit and its journal, and contracts see it so. Beside each entry it keeps what that changed, with the rows after
-/// it, and the number of the entry that has its action. The footprint of an entry follows from its action and what it
-/// changed, and an undo works it out.
+/// A room: one map, and the journal of what its authors did to it.
+///
+/// Contracts model a room as its base map, which is sound, its limit and its journal. Next to each entry, the room
+/// keeps the entry's changes, the changed rows after it, and the number of the entry that stores its action. The
+/// footprint of an action follows from the action and its changes, and an undo computes it.
 #[derive(Drop)]
 #[derive_where(Debug)]
 pub struct Room<A: Allocator> {
-    // Proofs alone see it. A room keeps that it is sound, which is all that the theorem asks of a base; so each
-    // statement is the same over the empty map and over given rows.
+    // Only proofs see the base. The room's invariant says that it is sound, which is the theorem's only condition on a
+    // base. So each statement is the same for the empty map and for given rows.
     #[derive_where(skip)]
     base: Snapshot<OsmMap<A>>,
     limit: u32,
     store: Store<A>,
     entries: Vec<Entry<A>, A>,
     recorded: Vec<Kept<A>, A>,
-    // The number of the entry that has the action of each: so a redo of a redo of a redo finds it in one step, and it
-    // is held once.
+    // For each entry, the number of the entry that stores its action. So a redo of a redo finds its action in one step,
+    // and each action is stored once.
     origins: Vec<u64, A>,
     holders: Holders<A>,
-    // An author may stay ready for a deed that never comes. No contract of the room sees it, and the next change asks
-    // anew.
+    // An author can stay ready for a deed that never comes. No contract of the room sees this, and the next change
+    // calls `ready` again.
     stacks: Stacks<A>,
 }
 
@@ -88,19 +89,23 @@ impl<A: Allocator + Copy> Room<A> {
     ghost use Rattle.room_history.specs.Bases.{IsBaseFault, are_of_kinds};
     ghost use Rattle.osm_elements.specs.Rows.{row_at};
 
-    /// A room with an empty map, whose journal takes at most `limit` entries. It takes no memory.
+    /// Returns a room with the empty map, whose journal takes at most `limit` entries.
     pub fn open(alloc: A, limit: u32) -> Room<A>
         ensures { result ≡ record { base = []; limit = limit; journal = [] } }
     {
         Room::begin(alloc, Store::new(alloc), limit)
     }
 
-    /// A room with the map of these rows, whose journal takes at most `limit` entries. The names have to rise, and each
-    /// element to be of its name's kind, as in every welcome that was read. These are conditions and no faults, since
-    /// the form of a welcome leaves neither to be found.
+    /// Returns a room that begins with the map of `rows`, and whose journal takes at most `limit` entries.
     ///
-    /// It refuses a map that is not sound, with the least name whose row is not and what is wrong with that, and it
-    /// refuses for want of memory. It copies no element, and costs a look-up for each row and each reference.
+    /// The names must rise, and each element must be of its name's kind. These are preconditions and not refusals,
+    /// because every welcome that was read satisfies them. The call copies no element, and costs a look-up for each row
+    /// and each reference.
+    ///
+    /// # Errors
+    ///
+    /// - `Unsound`, if the map is not sound, with the least name whose row is not sound and the fault of this row
+    /// - `Memory`, if an allocation fails
     pub fn open_on(alloc: A, rows: Rows<A>, limit: u32) -> Result<Room<A>, BaseFault<A>>
         requires order { AreInOrder rows }
         requires kinds { are_of_kinds rows ≡ true }
@@ -116,7 +121,7 @@ impl<A: Allocator + Copy> Room<A> {
         Ok(Room::begin(alloc, store, limit))
     }
 
-    // A room that begins with the map of a store.
+    // Returns a room that begins with the map of a store.
     fn begin(alloc: A, store: Store<A>, limit: u32) -> Room<A>
         requires { store.applied ≡ 0 }
         ensures { result ≡ record { base = store.rows; limit = limit; journal = [] } }
@@ -133,10 +138,14 @@ impl<A: Allocator + Copy> Room<A> {
         }
     }
 
-    /// Answers a call. The refusals are tested in the order in which `Reply` lists them; after a refusal the room is as
-    /// it was, and the call's id is unspent. It costs what the action's plan does and what it changes, and an undo what
-    /// the entry changed that it takes back, and for each cell of that entry's footprint a search among the later
-    /// entries that touched the cell, times a logarithm; neither the map nor the journal is walked.
+    /// Runs a call and returns its reply.
+    ///
+    /// It costs what the action's plan costs, and the changes. An undo costs the changes that it takes back. For each
+    /// cell of its entry's footprint, it also searches the later entries that touched the cell. All this is times a
+    /// logarithm. The cost does not depend on the size of the map or the journal otherwise.
+    ///
+    /// The first refusal in the order of [`Reply`] is returned. After a refusal the room is unchanged, and the call's
+    /// id is unspent.
     pub fn take(&mut self, call: Call<A>) -> Reply<A>
         ensures step { IsStep self.old.base self.old.limit self.old.journal call result self.new.journal }
         ensures base { self.new.base ≡ self.old.base }
@@ -148,14 +157,13 @@ impl<A: Allocator + Copy> Room<A> {
         reply
     }
 
-    // What holds of every room. It does nothing.
+    // Proves that the room's journal holds. It does nothing.
     pub(crate) fn holds(&self)
         ensures { Holds self.now.base self.now.limit self.now.journal }
     {
         let _ = &self.entries;
     }
 
-    // The answer to a call.
     fn answer(&mut self, call: Call<A>) -> Reply<A>
         ensures step { IsStep self.old.base self.old.limit self.old.journal call result self.new.journal }
         ensures base { self.new.base ≡ self.old.base }
@@ -179,7 +187,7 @@ impl<A: Allocator + Copy> Room<A> {
         }
     }
 
-    // Does an action or a group, if it is accepted on the map.
+    // Does an action or a group, if the map accepts it.
     fn act(&mut self, author: Author, id: u64, edit: Edit<A>) -> Reply<A>
         requires { MayAppend self.old.limit self.old.journal author id }
         ensures step { IsStep self.old.base self.old.limit self.old.journal
@@ -199,7 +207,7 @@ impl<A: Allocator + Copy> Room<A> {
         }
     }
 
-    // What an action or a group changes and touches on the map as it is, or the reply that refuses it.
+    // Returns the changes and the footprint of an edit on the current map, or the reply that refuses it.
     fn planned(&self, edit: &Edit<A>) -> Result<(Changes<A>, Footprint<A>), Reply<A>>
         ensures made { is_made_edit edit.now ≡ true }
         ensures accepted { OnOk result (refusal (mapof self.now.base self.now.journal) edit.now ≡ None) }
@@ -218,7 +226,7 @@ impl<A: Allocator + Copy> Room<A> {
         }
     }
 
-    // Undoes an entry, if it stands, is the author's own, and no later entry that stands blocks it.
+    // Undoes an entry, if it is active, is the author's own, and is not blocked by a later active entry.
     fn undo(&mut self, author: Author, id: u64, number: Option<u64>) -> Reply<A>
         requires { MayAppend self.old.limit self.old.journal author id }
         ensures step { IsStep self.old.base self.old.limit self.old.journal
@@ -238,8 +246,8 @@ impl<A: Allocator + Copy> Room<A> {
         }
     }
 
-    // What an undo takes back, if it stands, is the author's own, and no later entry that stands blocks it; or the
-    // reply that refuses it.
+    // Returns what an undo takes back, if the entry is active, is the author's own, and is not blocked by a later
+    // active entry. Otherwise returns the reply that refuses the undo.
     fn undoable(&self, author: &Author, number: Option<u64>) -> Result<Undoable<A>, Reply<A>>
         ensures found { IfOk result
             (λ u. Ok u.of ≡ asked_or (undo_refusal (past self.now.base self.now.journal) self.now.journal author.now)
@@ -267,7 +275,7 @@ impl<A: Allocator + Copy> Room<A> {
         }
     }
 
-    // What an entry that stands changed, and its footprint.
+    // Returns the changes of an active entry, and its footprint.
     fn worked_out(&self, of: u64) -> Result<(Changes<A>, Footprint<A>), Memory>
         requires { is_standing self.now.journal of ≡ true }
         ensures changes { IfOk result
@@ -286,7 +294,7 @@ impl<A: Allocator + Copy> Room<A> {
         }
     }
 
-    // Does the action of the entry that the author undid last again, if it is accepted on the map.
+    // Redoes the entry that the author undid last, if the map accepts its action.
     fn redo(&mut self, author: Author, id: u64) -> Reply<A>
         requires { MayAppend self.old.limit self.old.journal author id }
         ensures step { IsStep self.old.base self.old.limit self.old.journal
@@ -309,9 +317,9 @@ impl<A: Allocator + Copy> Room<A> {
         }
     }
 
-    // What the action of an entry changes and touches on the map as it is, or the reply that refuses it. In a journal
-    // that calls lead to, an entry on top of what can be redone has an action (`top_acts` of `proofs/Redoable.antt`);
-    // `NothingToRedo` is what the definition answers of others.
+    // Returns the changes and the footprint of an entry's action on the current map, or the reply that refuses it. In a
+    // journal that calls lead to, an entry on top of a redo stack has an action (`top_acts` of `proofs/Redoable.antt`).
+    // For other journals the definition gives `NothingToRedo`.
     fn plan_again(&self, of: u64) -> Result<(Changes<A>, Footprint<A>), Reply<A>>
         ensures accepted { OnOk result
             (redo_refusal (mapof self.now.base self.now.journal) (action_at (past self.now.base self.now.journal) of)
@@ -332,37 +340,41 @@ impl<A: Allocator + Copy> Room<A> {
         }
     }
 
-    /// The numbers of an author's entries that stand, rising: those that its undos can take back, where nothing blocks
-    /// them. It takes no memory, and time logarithmic in the number of authors.
+    /// Returns the numbers of an author's active entries, in rising order, in time logarithmic in the number of
+    /// authors. The author can undo those that no later entry blocks.
     pub fn undos(&self, author: &Author) -> &[u64]
         ensures { result.now ≡ undos self.now.journal author.now }
     {
         self.stacks.standing(author)
     }
 
-    /// The numbers of the entries that an author can redo, the next one last: those that it undid since its last
-    /// action, but those that it redid. It takes no memory, and time logarithmic in the number of authors.
+    /// Returns the numbers of the entries that an author can redo, the next one last, in time logarithmic in the number
+    /// of authors. They are the entries that it undid since its last new action and has not redone.
     pub fn redos(&self, author: &Author) -> &[u64]
         ensures { result.now ≡ redos self.now.journal author.now }
     {
         self.stacks.redo(author)
     }
 
-    /// The element of a name, or none.
+    /// Returns the element of a name, or `None`.
     pub fn get(&self, name: &Name) -> Option<&Element<A>>
         ensures { option_copied result ≡ row_at (mapof self.now.base self.now.journal) name.now }
     {
         self.store.map().get(name)
     }
 
-    /// The map. It takes no memory.
+    /// Returns the map.
     pub fn map(&self) -> &OsmMap<A>
         ensures { result.now ≡ mapof self.now.base self.now.journal }
     {
         self.store.map()
     }
 
-    /// The rows of the map, in name order. It copies them; the one refusal is want of memory.
+    /// Returns a copy of the map's rows, in name order.
+    ///
+    /// # Errors
+    ///
+    /// `Memory`, if an allocation fails.
     pub fn map_rows(&self) -> Result<Rows<A>, Memory>
         ensures rows { IfOk result (λ rows. rows ≡ mapof self.now.base self.now.journal) }
         // Another room can begin with them.
@@ -371,8 +383,12 @@ impl<A: Allocator + Copy> Room<A> {
         self.store.map().rows(*self.entries.allocator())
     }
 
-    /// The news of all entries but the first `from`, in order. It copies the rows that those entries changed, which is
-    /// what it costs; the one refusal is want of memory.
+    /// Returns the news of all entries after the first `from`, in order. It copies the rows that these entries changed,
+    /// and costs as much.
+    ///
+    /// # Errors
+    ///
+    /// `Memory`, if an allocation fails.
     pub fn news(&self, from: u64) -> Result<NewsList<A>, Memory>
         ensures { IfOk result (λ told. told ≡ news self.now.base self.now.journal from) }
     {
@@ -380,23 +396,23 @@ impl<A: Allocator + Copy> Room<A> {
         news_past(alloc, &self.entries, &self.recorded, from)
     }
 
-    /// How many entries the journal has.
+    /// Returns the entry count of the journal.
     pub fn front(&self) -> u64
         ensures { result ≡ length self.now.journal }
     {
         self.entries.len() as u64
     }
 
-    /// How many changes of cells were applied to the map so far, at most 2^128 - 1: those of each entry, and for an
-    /// undo those that it took back. It tells an undo that takes back its own changes from one that builds the map
-    /// anew.
+    /// Returns the number of changes of cells that were applied to the map so far, at most 2^128 - 1. For an undo,
+    /// these are the changes that it took back. The count shows that an undo takes back its own changes and does not
+    /// rebuild the map.
     pub fn applied(&self) -> u128
         ensures { result ≡ applied self.now.base self.now.journal }
     {
         self.store.applied()
     }
 
-    /// The entry of a number from 1 on, or none.
+    /// Returns the entry with a number, counted from 1, or `None`.
     pub fn entry(&self, seq: u64) -> Option<&Entry<A>>
         ensures { option_copied result ≡ numbered self.now.journal seq }
     {

@@ -1,4 +1,4 @@
-//! A run of calls.
+//! Runs of calls.
 ghost use Rattle.std.specs.Prelude.{◌≡◌, [], IfOk, IfErr, true};
 ghost use Rattle.osm_elements.specs.Rows.{AreInOrder};
 ghost use Rattle.room_history.specs.Bases.{IsBaseFault, are_of_kinds};
@@ -12,9 +12,13 @@ use osm_elements::Memory;
 use osm_elements::map::Rows;
 use std::alloc::Allocator;
 
-/// Opens a room with an empty map, whose journal takes at most `limit` entries, and answers the calls in turn:
-/// gives the room after the last of them, and as many replies as calls. Each reply is the one that the definitions
-/// give, or `Memory` with the room as it was. The one refusal of the whole is want of memory for the replies.
+/// Opens a room with the empty map, whose journal takes at most `limit` entries, and takes the calls in order. Returns
+/// the room after the last call, and one reply for each call. Each reply is the specified reply, or `Memory`, in which
+/// case the call did not change the room.
+///
+/// # Errors
+///
+/// `Memory`, if an allocation for the list of replies fails.
 pub fn run<A: Allocator + Copy>(
     alloc: A,
     limit: u32,
@@ -25,8 +29,12 @@ pub fn run<A: Allocator + Copy>(
     answered(alloc, Room::open(alloc, limit), calls)
 }
 
-/// As [`run`], with a room that begins with the map of these rows. What [`Room::open_on`] asks of the rows is asked
-/// here, and what it refuses is refused.
+/// Does the same as [`run`] with a room that begins with the map of `rows`, under the preconditions of
+/// [`Room::open_on`].
+///
+/// # Errors
+///
+/// Those of [`Room::open_on`], and `Memory`, if an allocation for the list of replies fails.
 pub fn run_on<A: Allocator + Copy>(
     alloc: A,
     rows: Rows<A>,
@@ -42,7 +50,7 @@ pub fn run_on<A: Allocator + Copy>(
     Ok(answered(alloc, room, calls)?)
 }
 
-// A room that was just opened, after the calls, and its replies.
+// Returns a newly opened room after the calls, and its replies.
 fn answered<A: Allocator + Copy>(
     alloc: A,
     mut room: Room<A>,
@@ -55,7 +63,7 @@ fn answered<A: Allocator + Copy>(
     Ok((room, Replies::from_vec(replies)))
 }
 
-// The replies of a room to calls in turn.
+// Returns the room's replies to the calls, in order.
 fn answer_all<A: Allocator + Copy>(
     alloc: A,
     room: &mut Room<A>,

@@ -1,9 +1,9 @@
-//! A search among the numbers of the entries that stand.
+//! A search among the numbers of active entries.
 ghost use Rattle.std.specs.Prelude.{◌≡◌, nat_eq};
 ghost use Rattle.std.specs.List.{list_any};
 ghost use Rattle.std.specs.List.Sorted.{IsNonDecreasing};
 
-/// Whether a number is among rising ones, in time logarithmic in how many they are.
+/// Whether a number is among rising numbers, in time logarithmic in their count.
 pub fn contains(standing: &[u64], seq: u64) -> bool
     requires { IsNonDecreasing standing.now }
     ensures { result ≡ list_any (λ s. nat_eq s seq) standing.now }

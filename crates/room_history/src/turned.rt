@@ -1,4 +1,4 @@
-//! A room as a desk hands it from turn to turn.
+//! Rooms as values that a desk passes from turn to turn.
 ghost use Rattle.std.specs.Prelude.{◌≡◌, true};
 ghost use Rattle.room_history.specs.LegalJournals.{is_made_room_call};
 
@@ -11,15 +11,15 @@ use osm_elements::map::Rows;
 use std::alloc::Allocator;
 use turn_desk::Turned;
 
-/// What no call changes of a room. Contracts alone use it, and no value of it is ever made.
+/// The parts of a room that no call changes. Only contracts use this type, and no value of it is ever made.
 pub struct Opening<A: Allocator> {
     /// The map that the room began with.
     pub base: Rows<A>,
-    /// How many entries its journal may have.
+    /// The greatest number of entries in the journal.
     pub limit: u32,
 }
 
-// A room stands for its journal, and a turn asks it.
+// The list of a room is its journal. A turn runs one call or query.
 impl<A: Allocator + Copy> Turned for Room<A> {
     type Call = RoomCall<A>;
 
@@ -47,8 +47,8 @@ impl<A: Allocator + Copy> Turned for Room<A> {
     }
 }
 
-// What holds of all that a room is asked, by the types of its values. It does nothing. `IsTurn` asks it, since a legal
-// history speaks of calls as plain values, and could else have entries that no program can make.
+// Proves that the values of a call are made. It does nothing. `IsTurn` needs this fact because the calls in a legal
+// history are plain values. Without it, a history could have entries that no program can make.
 fn keeps<A: Allocator>(call: &RoomCall<A>)
     ensures { is_made_room_call call.now ≡ true }
 {

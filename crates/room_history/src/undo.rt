@@ -1,4 +1,4 @@
-//! Which entry an undo asks for.
+//! The entry that an undo takes back.
 ghost use Rattle.std.specs.Prelude.{◌≡◌};
 ghost use Rattle.room_history.specs.Answers.{asked};
 ghost use Rattle.room_history.specs.Journals.{undos};
@@ -13,21 +13,24 @@ use osm_changes::changes::Changes;
 use room_stacks::author::Author;
 use std::alloc::Allocator;
 
-/// An entry that an undo takes back, what it changed, and its footprint.
+/// An entry to undo, with its changes and its footprint.
 #[derive(Drop)]
 #[derive_where(Debug)]
 pub struct Undoable<A: Allocator> {
     /// The number of the entry.
     pub of: u64,
-    /// What it changed.
+    /// Its changes.
     pub changes: Changes<A>,
-    /// The cells that it touched.
+    /// Its footprint.
     pub footprint: Footprint<A>,
 }
 
-/// The number of the entry that an undo asks for: the one that it tells, or without a number the author's last that
-/// stands. The refusals are `NothingToUndo`, `NoSuch`, `NotYours` and `NotStanding`, in this order. `own` has the
-/// numbers of the entries that stand and are the author's. It takes time logarithmic in how many these are.
+/// Returns the number of the entry to undo: the given number, or the author's last active entry if there is none. `own`
+/// has the numbers of the author's active entries. It takes time logarithmic in their count.
+///
+/// # Errors
+///
+/// The first of `NothingToUndo`, `NoSuch`, `NotYours` and `NotStanding` that applies.
 pub fn asked_for<A: Allocator>(
     entries: &[Entry<A>],
     own: &[u64],
@@ -43,7 +46,7 @@ pub fn asked_for<A: Allocator>(
     }
 }
 
-// The number, where that entry is the author's and stands.
+// Returns the number, if its entry is the author's and is active.
 fn standing<A: Allocator>(
     entries: &[Entry<A>],
     own: &[u64],

@@ -1,4 +1,4 @@
--- A client that reads a room's texts in turn has the room's map.
+-- A client that reads a room's texts in order has the room's map.
 use Rattle.std.proofs.Common.{◌≡◌, ◌≢◌, ◌&&◌, ◌+◌, ◌≤◌, ◌++◌, ℕ, zero, suc, true, List, [], ◌∷◌, Option, Some, None, Ok, All, IfSome, is_some, drop, length, length-append, map, take, refl, sym, ap, ap₂, subst, ◌∙◌, append_assoc, arith}
 use Rattle.std.specs.Option.{option_and_then}
 use Rattle.std.specs.Result.{result_ok}
@@ -36,7 +36,7 @@ use Rattle.room_mirror.proofs.Following.{IsStep, AreSteps, LeadTo, StartFrom, na
 use Rattle.room_mirror.proofs.NamesKept.{HaveIds}
 use Rattle.room_mirror.proofs.WholeRows.{map_rows, row_under}
 
--- what holds of all of a list holds of its front, and of the rest
+-- a property of all items is a property of the first n items
 pub all_front : {X : Type 0} (P : X → Type 0) (n : ℕ) (xs : List X) → All P xs → All P (take n xs)
 all_front P zero xs h = All-nil P
 all_front P (suc n) [] h = All-nil P
@@ -65,7 +65,7 @@ is_welcome id n m number few sound ids = record {
   number = few;
 }
 
--- the news of an entry that leads from a map whose names have ids to such a sound map
+-- the news of an entry that leads from a map whose names have ids to a sound map whose names have ids
 module _ (m n : Rows Global) (before : HaveIds m) (after : HaveIds n) (sound : is_sound n ≡ true) where
   id_of : (c : Change Global) → c.after ≢ c.before → c.before ≡ half_at m (cell_of c) → c.after ≡ half_at n (cell_of c) → HasId c.name
   id_of c differ from leads = by c.before c.after refl refl
@@ -109,7 +109,7 @@ module _ (base : Rows Global) (limit : ℕ) (j : List (Entry Global)) (few : len
   ids_front : (i k : List (Entry Global)) → i ++ k ≡ j → HaveIds (mapof base i)
   ids_front i k is = subst (λ l. HaveIds (mapof base l)) (front i k is) (ids_at (length i))
 
-  -- the news of each entry are such as are read back
+  -- the news of each entry can be read back
   news_fine : (i k : List (Entry Global)) (e : Entry Global) → i ++ e ∷ k ≡ j → IsStep base i e → IsBrought e → AreNews (news_of base i e)
   news_fine i k e is step b =
       let cs = (recorded_next (past base i) e.kind).changes in
@@ -132,7 +132,7 @@ module _ (base : Rows Global) (limit : ℕ) (j : List (Entry Global)) (few : len
       (news_fine i k e is steps.0 (b 0 e (omega arith)))
       (all_fine (i ++ e ∷ []) k (append_assoc i (e ∷ []) k ∙ is) steps.1 (λ k d l. b (suc k) d (omega (arith, l))))
 
--- texts that spell news are followed as the news are taken
+-- texts that spell news lead to the same mirror as the news
 module _ (back : (text : List ℕ) (n : News Global) → read text ≡ Some (news_tree n) → AreNews n → spells_news text ≡ Ok n) where
   pub followed_is : (s : MirrorState Global) (texts : List (List ℕ)) (ns : List (News Global)) → SpellNews texts ns → All (λ (n : News Global). AreNews n) ns → followed s texts ≡ result_ok (taken_in_turn s ns)
   followed_is s [] [] spelled fine = refl

@@ -1,4 +1,4 @@
--- A mirror that takes the news of a room in turn.
+-- A mirror that takes the news of a room in order.
 use Rattle.std.proofs.Common.{◌≡◌, ◌≢◌, ◌+◌, ◌-◌, ◌≤◌, ◌++◌, ℕ, zero, suc, Bool, true, false, not, ◌||◌, List, [], ◌∷◌, None, Ok, All, length, drop, take, map, nat_eq, refl, sym, ap, subst, ◌∙◌, append_assoc, append-nil, length-append, length-drop, arith}
 use Rattle.std.specs.Bool.{then_some}
 use Rattle.std.specs.List.{fold, list_all}
@@ -41,7 +41,7 @@ module _ {A : Type 0} where
   names_told k [] = refl
   names_told k (x ∷ xs) = ap (λ rest. x ∷ rest) (names_told k xs)
 
-  -- a map that takes the rows of some names has them
+  -- a map has the rows of the names that it takes
   rows_taken : (k m : Rows A) (cs : List (Change A)) → ((x : Name) → row_at k x ≡ row_after cs x (row_at m x)) → (names : List Name) (n : Rows A)
       → mirrored n (map (news_row k) names) ≡ fold (λ n x. with_row n x (row_after cs x (row_at m x))) n names
   rows_taken k m cs is [] n = refl
@@ -58,7 +58,7 @@ module _ {A : Type 0} where
   abbrev pub StartFrom : Rows A → List (Change A) → Type 0
   StartFrom m cs = All (λ (c : Change A). c.before ≡ half_at m (cell_of c)) cs
 
-  -- what holds of the name of each change holds of each changed name
+  -- a property of each change's name is a property of each changed name
   pub of_changed_names : (P : Name → Type 0) (cs : List (Change A)) → All (λ (c : Change A). P c.name) cs → (x : Name) → is_among (changed_names cs) x ≡ true → P x
   of_changed_names P cs each x there = in_names cs each (sym (is_among-name_set x (map (λ (c : Change A). c.name) cs)) ∙ there)
     where
@@ -70,7 +70,7 @@ module _ {A : Type 0} where
           by true e i rest = subst P (sym (same_names x c.name e)) (each 0 c (omega arith))
           by false e i rest = rest i
 
-  -- a changed name has another row in the map after changes than in the map before
+  -- the rows of a changed name before and after the changes differ
   other_rows : (m n : Rows A) (cs : List (Change A)) → All (λ (c : Change A). c.after ≢ c.before) cs → StartFrom m cs → LeadTo n cs → All (λ (c : Change A). row_at n c.name ≢ row_at m c.name) cs
   other_rows m n [] differ from leads = All-nil (λ (c : Change A). row_at n c.name ≢ row_at m c.name)
   other_rows m n (c ∷ cs) differ from leads =
@@ -114,12 +114,12 @@ module _ {A : Type 0} where
     pub from : AreFrom (mapof base i) (recorded_next (past base i) e.kind).changes
     pub leads : LeadTo (mapof base (i ++ e ∷ [])) (recorded_next (past base i) e.kind).changes
 
-  -- so does each of some entries behind others
+  -- each of the entries k, which come after the entries i, is such a step
   abbrev pub AreSteps : Rows A → List (Entry A) → List (Entry A) → Type 0
   AreSteps base i [] = Unit {0}
   AreSteps base i (e ∷ k) = IsStep base i e × AreSteps base (i ++ e ∷ []) k
 
-  -- the map after one entry more
+  -- the map after one more entry
   mapof-next : (base : Rows A) (i : List (Entry A)) (e : Entry A) → mapof base (i ++ e ∷ []) ≡ changed (mapof base i) (recorded_next (past base i) e.kind).changes
   mapof-next base i e = ap (λ (p : Past A). p.map) (fold-append (λ (p : Past A) (e : Entry A). past_after p e.kind) (record { map = base; entries = [] }) i (e ∷ []))
 
@@ -134,7 +134,7 @@ module _ {A : Type 0} where
       ∙ ap (λ rows. taken_in_turn (record { seq = length i + 1; rows = rows }) later)
       (ap (λ k. mirrored m (map (news_row k) (changed_names cs))) (mapof-next base i e) ∙ mirrored_is m cs ∙ sym (mapof-next base i e))
 
-  -- and of more in turn
+  -- a mirror takes the news of several entries in order
   follows : (base : Rows A) (i : List (Entry A)) (d : ℕ) (k : List (Entry A)) → AreSteps base i k → d ≤ length k
       → taken_in_turn (record { seq = length i; rows = mapof base i }) (take d (news_behind base i k)) ≡ Ok (record { seq = length i + d; rows = mapof base (i ++ take d k) })
   follows base i zero k steps l = let same : length i ≡ length i + 0 = omega arith in (λ n. Ok (record { seq = same n; rows = mapof base (sym (append-nil i) n) }))

@@ -1,4 +1,4 @@
--- The names of a room's map have ids where those of its base and of its actions have.
+-- The names of a room's map have ids as in messages if those of its base and of its actions do.
 use Rattle.std.proofs.Common.{◌≡◌, ◌||◌, ℕ, zero, suc, Bool, true, false, List, [], ◌∷◌, Option, Some, None, All, IfSome, is_some, is_none, cond, map, option_map, slice_get, refl, sym, ap, subst, ◌∙◌, arith}
 use Rattle.std.specs.List.{cons_option, fold}
 use Rattle.std.specs.Option.{option_and_then}
@@ -51,11 +51,11 @@ none_chosen : {X : Type 0} (b : Bool) (o : Option X) → o ≡ None → cond b N
 none_chosen true o e = refl
 none_chosen false o e = e
 
--- the names of the cells that an action is about
+-- the names of an action's subjects
 abbrev subject_names : Action Global → List Name
 subject_names a = map (λ (c : Cell). c.name) (subjects a)
 
--- a name that has no row and that an action is not about has none after it
+-- a name without a row that is not a subject of the action has no row after it
 none_of : (m : Rows Global) (y : Name) (a : Action Global) → is_among (subject_names a) y ≡ false → becomes m a y None ≡ None
 none_of m y (Create x v) out = not_chosen (is_same y x) (Some v) (first_false (is_same y x) out)
 none_of m y (Retag x given) out = refl
@@ -70,7 +70,7 @@ none_of m y (Join w v) out = ap (option_map (join_row m w v y)) (none_chosen (is
 none_of m y (Merge k g) out = ap (option_map (merge_row m k g y)) (none_chosen (is_same y g) None refl)
 none_of m y (Unglue w i v) out = not_chosen (is_same y v) (row_standing m w i) (second_false (is_same y w) (is_same y v) out)
 
--- each name that the map has has an id
+-- each name of the map has an id
 abbrev pub HaveIds : Rows Global → Type 0
 HaveIds m = (y : Name) → is_present m y ≡ true → HasId y
 
@@ -109,7 +109,7 @@ ids_after_edit : (m : Rows Global) (e : Edit Global) → HaveIds m → HasEditId
 ids_after_edit m (One a) h s = ids_after m a h s
 ids_after_edit m (Group group) h s = ids_after_all group m h s
 
--- each edit is about names with ids
+-- the subjects of each edit have ids
 abbrev AreOfIds : List (Edit Global) → Type 0
 AreOfIds [] = Unit {0}
 AreOfIds (a ∷ rest) = HasEditIds a × AreOfIds rest
@@ -122,7 +122,7 @@ ids_replayed (a ∷ rest) m n h s is = by (is_none (edits.refusal m a)) is (ids_
     by true e later = later e
     by false e later = absurd (cc)
 
--- what is recorded of an entry is an edit about names with ids, or none
+-- the record of an entry has no action, or its subjects have ids
 abbrev IsOfIds : Recorded Global → Type 0
 IsOfIds r = IfSome r.action (λ a. HasEditIds a)
 

@@ -1,4 +1,4 @@
--- Why news are refused, from the tests.
+-- The refusal of news follows from the tests.
 use Rattle.std.proofs.Common.{◌≡◌, ◌&&◌, ◌+◌, ℕ, Bool, true, false, not, T, ◌∷◌, [], Option, Some, None, nat_eq, refl, subst}
 use Rattle.std.specs.Bool.{then_some}
 use Rattle.std.specs.List.{list_all}
@@ -23,7 +23,7 @@ module _ {A : Type 0} (s : MirrorState A) (n : News A) where
   pub none_told : true ≡ nat_eq n.seq (s.seq + 1) → true ≡ fits s.rows n.rows → None ≡ fault s n
   none_told next fit = λ k. by_tests (next k) (fit k) (due_after s.seq)
 
-  -- where nothing refuses them the names rise
+  -- if there is no fault, the names rise
   pub names_rise : None ≡ fault s n → T (are_rising (told_names n.rows))
   names_rise e = so (are_rising (told_names n.rows)) (by (nat_eq n.seq (s.seq + 1)) (are_rising (told_names n.rows)) (list_all (tells_another s.rows) n.rows) e)
     where
@@ -32,6 +32,6 @@ module _ {A : Type 0} (s : MirrorState A) (n : News A) where
       by true true other e = refl
       by true false other e = absurd (cc)
 
-  -- the fault that there is
+  -- the refusal is the fault that there is
   pub refused_by : (f : MirrorFault) → Some f ≡ fault s n → IsRefused (fault s n) f
   refused_by f e = subst (λ o. IsRefused o f) e refl

@@ -1,4 +1,4 @@
--- News put into a map row by row.
+-- News applied to a map row by row.
 use Rattle.std.proofs.Common.{◌≡◌, ◌||◌, ◌+◌, ◌<◌, ℕ, Bool, true, false, T, List, [], ◌∷◌, ◌++◌, Some, is_some, length, get_or, take, refl, sym, ap, subst, ◌∙◌, append-nil, arith, cond}
 use Rattle.std.specs.List.{filter, fold}
 use Rattle.std.proofs.lemmas.List.{take_more}
@@ -39,14 +39,14 @@ module _ {A : Type 0} where
   AreInOrder-mirrored [] m h = h
   AreInOrder-mirrored (r ∷ rs) m h = AreInOrder-mirrored rs (with_row m r.name r.element) (AreInOrder-with_row m r.name r.element h)
 
-  -- a name that is not told keeps its row
+  -- a name without news keeps its row
   kept : (told : List (NewsRow A)) (m : Rows A) (x : Name) → is_among (told_names told) x ≡ false → row_at (mirrored m told) x ≡ row_at m x
   kept [] m x h = refl
   kept (r ∷ rs) m x h =
       kept rs (with_row m r.name r.element) x (or_right (is_same x r.name) (is_among (told_names rs) x) h) ∙ row_at-with_row m r.name r.element x
       ∙ ap (λ b. cond b r.element (row_at m x)) (or_left (is_same x r.name) (is_among (told_names rs) x) h)
 
-  -- two maps that differ at told names alone
+  -- two maps that differ only at names of the news
   same_told : (told : List (NewsRow A)) (m n : Rows A) → ((x : Name) → is_among (told_names told) x ≡ false → row_at m x ≡ row_at n x) → (x : Name) → row_at (mirrored m told) x ≡ row_at (mirrored n told) x
   same_told [] m n h x = h x refl
   same_told (r ∷ rs) m n h x =
@@ -57,7 +57,7 @@ module _ {A : Type 0} where
       by y e true s = refl
       by y e false s = h y (ap (λ b. b || is_among (told_names rs) y) s ∙ e)
 
-  -- the rows that only make room are no longer seen
+  -- the empty rows are replaced, so they are not in the result
   pub room_is_filled : (m : Rows A) (told : List (NewsRow A)) → AreInOrder m → mirrored (fold with_empty m (absent_names m (told_names told))) told ≡ mirrored m told
   room_is_filled m told order =
       same_rows (mirrored n told) (mirrored m told) (AreInOrder-mirrored told n (order-with_empties names m order)) (AreInOrder-mirrored told m order) (same_told told n m untold)
@@ -83,7 +83,7 @@ module _ {A : Type 0} where
       or_true true = refl
       or_true false = refl
 
-  -- a name that was there is there until its turn comes
+  -- a name that was present is present when it is replaced
   pub still_there : (m : Rows A) (all done rest : List (NewsRow A)) (r : NewsRow A) → done ++ r ∷ rest ≡ all → T (are_rising (told_names all)) → ArePresent m (told_names all) → is_present (mirrored m done) r.name ≡ true
   still_there m all done rest r is rising there =
       ap is_some (kept done m r.name (earlier (told_names done) r.name (told_names rest) (subst (λ names. T (are_rising names)) (ap told_names (sym is) ∙ names-append done (r ∷ rest)) rising)))

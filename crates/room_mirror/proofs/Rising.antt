@@ -1,4 +1,4 @@
--- Of names that rise none stands twice.
+-- Rising names have no repetitions.
 use Rattle.std.proofs.Common.{◌≡◌, ◌||◌, false, T, List, [], ◌∷◌, ◌++◌, map, refl, sym, ap, ◌∙◌}
 use Rattle.std.specs.Ordering.{is_lt, is_eq}
 use Rattle.std.specs.declared.cmp.Ordering.{Ordering}
@@ -11,7 +11,7 @@ use Rattle.osm_elements.specs.Facts.Dropped.{same_either_way}
 use Rattle.osm_elements.specs.Facts.Entries.{first, second}
 use Rattle.osm_changes.specs.Changes.{are_rising}
 
--- names with nothing beside them
+-- names, each with nothing
 abbrev bare : List Name → List (Name × Unit {0})
 bare names = map (λ x. (x, tt)) names
 
@@ -20,7 +20,7 @@ below_is_other Less h = refl
 below_is_other Equal h = absurd h
 below_is_other Greater h = absurd h
 
--- of rising names one that stands before is not among those after it
+-- a name of rising names is not among those in front of it
 pub earlier : (done : List Name) (x : Name) (rest : List Name) → T (are_rising (done ++ x ∷ rest)) → is_among done x ≡ false
 earlier [] x rest h = refl
 earlier (y ∷ ys) x rest h = ap (λ b. b || is_among ys x) (sym (same_either_way y x) ∙ apart ys (first _ _ h)) ∙ earlier ys x rest (second _ _ h)

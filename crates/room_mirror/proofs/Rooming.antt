@@ -1,4 +1,4 @@
--- Empty rows put at absent names, and taken out again.
+-- Empty rows put at absent names, and removed again.
 use Rattle.std.proofs.Common.{◌≡◌, ◌||◌, ℕ, zero, suc, Bool, true, false, not, List, [], ◌∷◌, Option, Some, None, is_some, take, refl, sym, ap, ◌∙◌, cond}
 use Rattle.std.specs.List.{filter, fold}
 use Rattle.osm_elements.specs.declared.element.Element.{Element}
@@ -14,7 +14,7 @@ use Rattle.room_mirror.specs.Inner.Replacing.{with_empty, absent_names, AreAbsen
 clash : {X : Type 0} → false ≡ true → X
 clash e = absurd (cc)
 
--- the names at the front are among all
+-- the first names of a list are among all its names
 among_front : (x : Name) (i : ℕ) (names : List Name) → is_among (take i names) x ≡ true → is_among names x ≡ true
 among_front x zero names h = clash h
 among_front x (suc i) [] h = clash h
@@ -24,7 +24,7 @@ among_front x (suc i) (y ∷ ys) h = by (is_same x y) h (among_front x i ys)
     by true e go = refl
     by false e go = go e
 
--- what is among those that pass, passes
+-- each name that a filter keeps passes its test
 among_passes : (p : Name → Bool) (x : Name) (names : List Name) → is_among (filter p names) x ≡ true → p x ≡ true
 among_passes p x [] h = clash h
 among_passes p x (y ∷ ys) h = by (p y) refl (is_same x y) refl h (among_passes p x ys)
@@ -34,7 +34,7 @@ among_passes p x (y ∷ ys) h = by (p y) refl (is_same x y) refl h (among_passes
     by true e false s h go = go (ap (λ c. c || is_among (filter p ys) x) (sym s) ∙ h)
     by false e s t h go = go h
 
--- what is not among names is not among those of them that pass
+-- a name that is not in a list is not in the filtered list
 pub not_passed : (p : Name → Bool) (x : Name) (names : List Name) → is_among names x ≡ false → is_among (filter p names) x ≡ false
 not_passed p x [] h = refl
 not_passed p x (y ∷ ys) h = by (p y) (is_same x y) refl h (not_passed p x ys)
@@ -84,7 +84,7 @@ module _ {A : Type 0} where
       turned false true e = clash e
       turned false false e = refl
 
-  -- what was put at absent names and is taken out again leaves the map
+  -- putting rows at absent names and removing them again restores the map
   pub taken_out_again : (m : Rows A) (names : List Name) (i : ℕ) → AreInOrder m → AreAbsent m names → fold without_row (fold with_empty m (take i names)) (take i names) ≡ m
   taken_out_again m names i order absent =
       same_rows (fold without_row n done) m (order-without done n filled) order
@@ -111,7 +111,7 @@ module _ {A : Type 0} where
       none None e = refl
       none (Some v) e = clash e
 
-  -- where they have room, all names are there
+  -- after absent names get empty rows, all names are present
   pub all_present : (m : Rows A) (names : List Name) → ArePresent (fold with_empty m (absent_names m names)) names
   all_present m names x h = ap is_some (row_at-with_empties (absent_names m names) m x) ∙ by (is_among (absent_names m names) x) refl (is_present m x) refl
     where

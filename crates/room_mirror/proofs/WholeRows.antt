@@ -1,4 +1,4 @@
--- The rows of a sound map are as what is written of them is read.
+-- The rows of a sound map are read back from their texts.
 use Rattle.std.proofs.Common.{◌≡◌, ◌&&◌, ◌||◌, ℤ, suc, Bool, true, false, List, [], ◌∷◌, ℕ, Some, All, is_some, map, refl, sym, ap, ◌∙◌, arith}
 use Rattle.std.specs.List.{list_all}
 use Rattle.std.specs.FinMap.Entries.{is_sorted}
@@ -49,7 +49,7 @@ ids_of_members : (members : List (Name × List ℕ)) → All HasId (map (λ (x :
 ids_of_members [] h = All-nil (λ (x : Name × List ℕ). HasId x.0)
 ids_of_members (x ∷ xs) h = All-cons (λ (x : Name × List ℕ). HasId x.0) x xs (h 0 x.0 (omega arith)) (ids_of_members xs (λ k d l. h (suc k) d (omega (arith, l))))
 
--- an element that is as its types keep it, and names what has ids
+-- a made element that refers only to names with ids
 whole : (v : Element Global) → is_made v ≡ true → All HasId (references v) → IsWhole v
 whole (Node lat lon tags) made ids =
     let rest = second_true (is_some (latitude lat)) (is_some (longitude lon) && are_tags tags) made in (

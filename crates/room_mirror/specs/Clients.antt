@@ -1,5 +1,5 @@
--- What a client makes of the texts that it gets of a room: it reads a welcome, and then news in turn, and keeps a
--- mirror of them. (Welcomes, news and mirrors are this project's.)
+-- Clients of a room: a client reads a welcome, and then news in order, and keeps a mirror. (Welcomes, news and mirrors
+-- are this project's.)
 use Rattle.std.specs.Prelude.{◌≡◌, ℕ, true, List, [], ◌∷◌, Option, Some, None, All, take}
 use Rattle.std.specs.Option.{option_and_then}
 use Rattle.std.specs.Result.{result_ok}
@@ -24,36 +24,36 @@ use Rattle.room_wire.specs.Welcomes.{spells_welcome}
 use Rattle.room_mirror.specs.declared.fault.MirrorFault.{MirrorFault}
 use Rattle.room_mirror.specs.Mirrors.{MirrorState, fault, with_news}
 
--- the welcome to a room whose journal has so many entries, under the id of its message
+-- the welcome to a room whose journal has n entries, with the id of its message
 abbrev pub welcome_to : ℕ → Rows Global → List (Entry Global) → ℕ → Welcome
 welcome_to id base j n = record { id = id; seq = n; rows = mapof base (take n j) }
 
--- each text is a JSON text whose tree is that of the news at its place
+-- each text is a JSON text with the tree of the news at its position
 abbrev pub SpellNews : List (List ℕ) → List (News Global) → Type 0
 SpellNews [] [] = Unit {0}
 SpellNews [] (n ∷ ns) = ⊥
 SpellNews (text ∷ texts) [] = ⊥
 SpellNews (text ∷ texts) (n ∷ ns) = (read text ≡ Some (news_tree n)) × SpellNews texts ns
 
--- a mirror with news taken, where it has no fault to find
+-- the mirror after the news, or `None` if the news have a fault
 abbrev pub taken : MirrorState Global → News Global → Option MirrorFault → Option (MirrorState Global)
 taken s n None = Some (with_news s n)
 taken s n (Some f) = None
 
--- a mirror after the news of each text in turn; none where one is no news, or not taken
+-- the mirror after the news of all texts in order, or `None` if a text is not news or is refused
 abbrev pub followed : MirrorState Global → List (List ℕ) → Option (MirrorState Global)
 followed s [] = Some s
 followed s (text ∷ texts) =
     option_and_then (λ n. option_and_then (λ t. followed t texts) (taken s n (fault s n)))
     (result_ok (spells_news text))
 
--- the mirror of a client that got these texts: a welcome, and then news
+-- the mirror of a client that reads the text of a welcome, and then texts of news
 abbrev pub mirror_made : List ℕ → List (List ℕ) → Option (MirrorState Global)
 mirror_made welcome texts =
     option_and_then (λ (w : Welcome). followed (record { seq = w.seq; rows = w.rows }) texts)
     (result_ok (spells_welcome welcome))
 
--- what an action is about has ids as messages have them
+-- the names of the action's subjects have ids as in messages
 abbrev pub HasIds : Action Global → Type 0
 HasIds a = All (λ (c : Cell). HasId c.name) (subjects a)
 
@@ -70,6 +70,7 @@ HasSubjectIds (Do e) = HasEditIds e
 HasSubjectIds (Undo s) = Unit {0}
 HasSubjectIds (Redo s) = Unit {0}
 
--- an entry as messages bring it: its author has an author's name, and what its actions are about has ids
+-- the entry can come from a message: its author has an author's name, and the subjects of its actions have ids as in
+-- messages
 abbrev pub IsBrought : Entry Global → Type 0
 IsBrought e = (is_author e.author ≡ true) × HasSubjectIds e.kind

@@ -1,3 +1,2 @@
--- What the code's own functions say of one another. No public call's contract cites these, and no definition beside
--- this folder reads them.
+-- Definitions for private functions. No public contract cites them, and no definition outside this folder uses them.
 pub mod Replacing

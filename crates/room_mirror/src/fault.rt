@@ -1,22 +1,22 @@
-//! What refuses news.
+//! Refusals of news.
 use thiserror::Error;
 
-/// Why a mirror did not take news.
+/// The reason why a mirror refuses news.
 #[derive(Clone, Copy, Debug, PartialEq, Eq, Error)]
 pub enum MirrorFault {
-    /// The news are not those that come next.
+    /// The news do not have the next number.
     #[error("news {got} came where {want} were due")]
     Gap {
-        /// The number that was due: one more than the mirror's, or the mirror's where that is the greatest there is.
+        /// The expected number: one more than the mirror's, or the mirror's own if that is the greatest `u64`.
         want: u64,
-        /// The number that came.
+        /// The number of the news.
         got: u64,
     },
-    /// The names of the news do not rise, or the mirror has one of their rows already: the element that is told, or
-    /// none where none is told.
+    /// The names of the news do not rise, or the mirror already has one of their rows: the same element, or no element
+    /// for a removed row.
     #[error("the news do not fit the map")]
     Mismatch,
-    /// A growth was refused: there was no memory for it.
+    /// An allocation failed.
     #[error("out of memory")]
     Memory,
 }

@@ -1,4 +1,4 @@
-//! Whether news fit a map.
+//! Tests whether news fit a map.
 ghost use Rattle.std.specs.Prelude.{◌≡◌};
 ghost use Rattle.std.specs.List.{list_all};
 ghost use Rattle.std.specs.Option.{option_copied};
@@ -10,15 +10,15 @@ use room_history::news::NewsRow;
 use room_wire::rising::are_rising;
 use std::alloc::Allocator;
 
-/// Whether the names rise, and each row is another than the map's. It takes time for each row logarithmic in the size
-/// of the map, and what it takes to compare the rows.
+/// Whether the names rise, and each row differs from the map's row. For each row, it takes time logarithmic in the size
+/// of the map, and the time to compare both rows.
 pub fn fits<A: Allocator>(rows: &OsmMap<A>, told: &[NewsRow<A>]) -> bool
     ensures { result ≡ fits rows.now told.now }
 {
     are_rising(told) && tell_others(rows, told)
 }
 
-// Whether each row is another than the map's.
+// Whether each row differs from the map's row.
 fn tell_others<A: Allocator>(rows: &OsmMap<A>, told: &[NewsRow<A>]) -> bool
     ensures { result ≡ list_all (tells_another rows.now) told.now }
 {
@@ -30,7 +30,7 @@ fn tell_others<A: Allocator>(rows: &OsmMap<A>, told: &[NewsRow<A>]) -> bool
     true
 }
 
-// Whether a row is another than the map's.
+// Whether a row differs from the map's row.
 fn tells_another<A: Allocator>(rows: &OsmMap<A>, row: &NewsRow<A>) -> bool
     ensures { result ≡ tells_another rows.now row.now }
 {

@@ -1,4 +1,4 @@
-//! Laws of mirrors, each the contract of a function that does nothing.
+//! Laws of mirrors. Each law is the contract of an empty function.
 ghost use Rattle.std.specs.Prelude.{◌≡◌, ◌≤◌, ◌-◌, ℕ, true, List, Ok, Some, All, length, take};
 ghost use Rattle.std.specs.declared.alloc.Global.{Global};
 ghost use Rattle.osm_changes.specs.Sound.{is_sound};
@@ -19,7 +19,7 @@ use room_history::laws::{entries_change_their_maps, journals_begin, journals_hol
 use room_wire::laws::{a_welcome_is_read_back, news_are_read_back};
 use std::alloc::{Allocator, Global};
 
-/// The rows of a room are in the order of their names, so that a mirror can be made from them.
+/// The rows of a room on a sound base are in name order, so a mirror can be made from them.
 pub fn a_room_can_be_mirrored<A: Allocator>()
     ensures { (base : Rows A) (limit : ℕ) (j : List (Entry A)) → is_sound base ≡ true → IsJournal base limit j
         → AreInOrder (mapof base j) }
@@ -27,8 +27,8 @@ pub fn a_room_can_be_mirrored<A: Allocator>()
     journals_hold::<A>();
 }
 
-/// A mirror that has the map of a room's first `a` entries, and takes the news from `a + 1` to `b`, each once and in
-/// order, refuses none of them, and has the map of the first `b` entries then.
+/// A mirror has the map of a room's first `a` entries, and takes the news from `a + 1` to `b`, each once and in order.
+/// It refuses none of them, and then has the map of the first `b` entries.
 pub fn mirrors_follow<A: Allocator>()
     ensures { (base : Rows A) (limit : ℕ) (j : List (Entry A)) (a b : ℕ) → is_sound base ≡ true → IsJournal base limit j
         → a ≤ b → b ≤ length j
@@ -37,12 +37,13 @@ pub fn mirrors_follow<A: Allocator>()
     entries_change_their_maps::<A>();
 }
 
-/// From bytes to bytes: a client reads the text of a welcome to a room after `a` entries, and then the text of the news
-/// of each entry from `a + 1` to `b`, in turn, and keeps a mirror. None of the texts is refused, and the mirror has the
-/// room's map after `b` entries. Each text may be any that has the tree, as those that the room's session writes have.
-/// The names of the base, and those that the actions are about, have ids as messages have them (`i64`; to a contract an
-/// id is any whole number, and an accepted action makes no other), the entries' authors have authors' names, and the
-/// journal has at most 2^53 - 1 entries, since numbers beyond are not read back.
+/// A client reads the text of a welcome to a room after `a` entries, and then the text of the news of each entry from
+/// `a + 1` to `b`, in order. No text is refused, and the client's mirror then has the room's map after `b` entries.
+///
+/// Each text can be any text with the tree of the welcome or the news, such as the texts that a session writes. The
+/// names of the base and of the actions' subjects have ids that fit an `i64`, as in messages. A contract's id is any
+/// whole number, and an accepted action creates no other ids. The entries' authors have authors' names. The journal has
+/// at most 2^53 - 1 entries, because greater numbers are not read back.
 pub fn a_client_has_the_rooms_map()
     ensures { (base : Rows Global) (limit : ℕ) (j : List (Entry Global)) (id a b : ℕ) (welcome : List ℕ)
         (texts : List (List ℕ))

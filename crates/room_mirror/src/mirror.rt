@@ -1,4 +1,4 @@
-//! The mirror.
+//! Mirrors.
 ghost use Rattle.std.specs.Prelude.{◌≡◌, ◌+◌, IfOk, IfErr, OnOk, None, nat_eq};
 ghost use Rattle.osm_elements.specs.Rows.{AreInOrder};
 ghost use Rattle.room_mirror.specs.Mirrors.{due_after};
@@ -13,8 +13,8 @@ use room_wire::welcome::Welcome;
 use std::alloc::{Allocator, Global};
 use std::marker::Model;
 
-/// A map that follows a room: as long as it takes each news in turn, it has the rows that the room has after the entry
-/// of its number.
+/// A map that follows a room. If it takes all news in order, its rows are those of the room after the entry with its
+/// number.
 #[derive(Drop)]
 #[derive_where(Debug)]
 pub struct Mirror<A: Allocator> {
@@ -24,7 +24,7 @@ pub struct Mirror<A: Allocator> {
     map: OsmMap<A>,
 }
 
-// A mirror is seen as its number and its rows.
+// The model of a mirror is its number and its rows.
 impl<A: Allocator> Model for Mirror<A> {
     ghost use Rattle.room_mirror.specs.Mirrors.{MirrorState};
 
@@ -36,8 +36,12 @@ impl<A: Allocator> Model for Mirror<A> {
 impl<A: Allocator + Copy> Mirror<A> {
     ghost use Rattle.room_mirror.specs.Mirrors.{fault, with_news, IsRefused};
 
-    /// A mirror of these rows, whose names rise, as they were after the entry of this number. The one refusal is want
-    /// of memory. It is generic in its allocator, as a room is; [`Mirror::from_welcome`] is not.
+    /// Returns a mirror of the rows that a room has after the entry `seq`. The names of the rows must rise. Like a
+    /// room, it works with any allocator; [`Mirror::from_welcome`] does not.
+    ///
+    /// # Errors
+    ///
+    /// `Memory`, if an allocation fails.
     pub fn from_rows(alloc: A, seq: u64, rows: Rows<A>) -> Result<Mirror<A>, Memory>
         requires { AreInOrder rows }
         ensures { IfOk result (λ m. m ≡ record { seq = seq; rows = rows }) }
@@ -46,11 +50,18 @@ impl<A: Allocator + Copy> Mirror<A> {
         Ok(Mirror { alloc, seq, map })
     }
 
-    /// Takes the news that come next. It refuses `Gap` where they have another number than the one after its own; then
-    /// `Mismatch` where their names do not rise, or it has one of their rows already; then `Memory`. After a refusal it
-    /// is as it was. It costs what the news tell, times a logarithm, and never the map. Rows that it has already are
-    /// refused, so that news which are told to the wrong mirror, or twice under new numbers, are found out where they
-    /// can be. It does not ask that its map be sound.
+    /// Takes the next news. It costs the size of the news, times a logarithm, and does not depend on the size of the
+    /// map otherwise.
+    ///
+    /// The mirror refuses rows that it already has. So it can detect news that reach the wrong mirror, or that come
+    /// twice under new numbers. Its map need not be sound.
+    ///
+    /// # Errors
+    ///
+    /// The first of these that applies:
+    /// - `Gap`, if the news do not have the next number
+    /// - `Mismatch`, if their names do not rise, or the mirror already has one of their rows
+    /// - `Memory`, if an allocation fails
     pub fn take(&mut self, news: &News<A>) -> Result<(), MirrorFault>
         ensures ok { OnOk result ((fault self.old news.now ≡ None) × (self.new ≡ with_news self.old news.now)) }
         ensures err { IfErr result (λ f. IsRefused (fault self.old news.now) f × (self.new ≡ self.old)) }
@@ -67,7 +78,7 @@ impl<A: Allocator + Copy> Mirror<A> {
         }
     }
 
-    // Why it does not take news, want of memory apart.
+    // Returns the fault of news, if any, except `Memory`.
     fn fault(&self, news: &News<A>) -> Option<MirrorFault>
         ensures { result ≡ fault self.now news.now }
     {
@@ -83,14 +94,14 @@ impl<A: Allocator + Copy> Mirror<A> {
         None
     }
 
-    /// The number of the entry whose news it took last.
+    /// Returns the number of the last news that it took, or the number that it began with.
     pub fn seq(&self) -> u64
         ensures { result ≡ self.now.seq }
     {
         self.seq
     }
 
-    /// Its map.
+    /// Returns the map.
     pub fn map(&self) -> &OsmMap<A>
         ensures { result.now ≡ self.now.rows }
     {
@@ -99,8 +110,12 @@ impl<A: Allocator + Copy> Mirror<A> {
 }
 
 impl Mirror<Global> {
-    /// The mirror that a welcome makes, whose names rise, as those of every welcome that was read do: it has the rows
-    /// of the welcome, and its number. The one refusal is want of memory.
+    /// Returns a mirror with the rows and the number of a welcome. The names of the rows must rise, as they do in every
+    /// welcome that was read.
+    ///
+    /// # Errors
+    ///
+    /// `Memory`, if an allocation fails.
     pub fn from_welcome(alloc: Global, welcome: Welcome) -> Result<Mirror<Global>, Memory>
         requires { AreInOrder welcome.rows }
         ensures { IfOk result (λ m. m ≡ record { seq = welcome.seq; rows = welcome.rows }) }
@@ -110,7 +125,6 @@ impl Mirror<Global> {
     }
 }
 
-// Whether a number comes next after another.
 fn is_next(seq: u64, got: u64) -> bool
     ensures { result ≡ nat_eq got (seq + 1) }
 {
@@ -120,7 +134,7 @@ fn is_next(seq: u64, got: u64) -> bool
     }
 }
 
-// The number that is due after another, at most the greatest there is.
+// Returns the next number, or the greatest `u64` if there is no greater number.
 #[tactic(auto, unfolding(crate::specs::Mirrors::due_after))]
 fn due_after(seq: u64) -> u64
     ensures { result ≡ due_after seq }

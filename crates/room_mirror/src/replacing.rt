@@ -1,8 +1,8 @@
-//! News put into a map: first each name that is absent gets a row, which takes memory and can be taken out again, and
-//! then each row is replaced or taken out, which takes none.
+//! Applies news to a map, or leaves it unchanged.
 //!
-//! A mirror that changed a copy of its map would cost the map for each news. That a row was only there to make room
-//! cannot be seen, since each such name is told.
+//! First each absent name gets an empty row. These insertions allocate, and can be taken back. Then each row is
+//! replaced or removed, which cannot fail. The empty rows cannot be observed, because the news have a row for each of
+//! these names. Changing a copy of the map would cost time linear in the size of the map for each news.
 ghost use Rattle.std.specs.Prelude.{◌≡◌, T, true, map, IfOk, OnOk, OnErr};
 ghost use Rattle.std.specs.List.{fold};
 ghost use Rattle.osm_elements.specs.Maps.{is_absent, is_present};
@@ -22,8 +22,8 @@ use osm_elements::shared_tags::SharedTags;
 use room_history::news::{NewsRow, NewsRows};
 use std::alloc::Allocator;
 
-/// Gives each name the row that it is told with. After a refusal, which is want of memory, the map is as it was. It
-/// costs what is told, times a logarithm, and never the map.
+/// Gives each name its row of the news. If it returns `Memory`, the map is unchanged. It costs the size of the news,
+/// times a logarithm, and does not depend on the size of the map otherwise.
 pub fn replace<A: Allocator + Copy>(
     rows: &mut OsmMap<A>,
     alloc: A,
@@ -42,14 +42,14 @@ pub fn replace<A: Allocator + Copy>(
     Ok(())
 }
 
-// What holds of every map: its rows are in the order of their names. It does nothing.
+// Proves that the rows of the map are in name order. It does nothing.
 fn keeps_order<A: Allocator>(rows: &OsmMap<A>)
     ensures { AreInOrder rows.now }
 {
     let _ = rows.len();
 }
 
-// The names that are told and that the map has not.
+// Returns the names of the news that the map does not have.
 fn absent_names<A: Allocator + Copy>(
     alloc: A,
     rows: &OsmMap<A>,
@@ -66,14 +66,13 @@ fn absent_names<A: Allocator + Copy>(
     Ok(names)
 }
 
-// Whether the map has not the name.
 fn is_absent<A: Allocator>(rows: &OsmMap<A>, name: &Name) -> bool
     ensures { result ≡ is_absent rows.now name.now }
 {
     rows.get(name).is_none()
 }
 
-// Puts an empty relation at each of some absent names. After a refusal, which is want of memory, the map is as it was.
+// Puts an empty relation at each of the absent names. If it returns `Memory`, the map is unchanged.
 fn reserve<A: Allocator + Copy>(
     rows: &mut OsmMap<A>,
     alloc: A,
@@ -93,7 +92,6 @@ fn reserve<A: Allocator + Copy>(
     Ok(())
 }
 
-// Puts an empty relation at a name.
 fn put_empty<A: Allocator + Copy>(rows: &mut OsmMap<A>, alloc: A, name: Name) -> Result<(), Memory>
     ensures ok { OnOk result (rows.new ≡ with_empty rows.old name) }
     ensures err { OnErr result (rows.new ≡ rows.old) }
@@ -108,7 +106,7 @@ fn put_empty<A: Allocator + Copy>(rows: &mut OsmMap<A>, alloc: A, name: Name) ->
     }
 }
 
-// Takes the rows of some names out.
+// Removes the rows of the names.
 fn take_out_all<A: Allocator>(rows: &mut OsmMap<A>, names: &[Name])
     ensures { rows.new ≡ fold without_row rows.old names.now }
 {
@@ -117,7 +115,7 @@ fn take_out_all<A: Allocator>(rows: &mut OsmMap<A>, names: &[Name])
     }
 }
 
-// Replaces the row of each name by the one that it is told with, or takes it out. It takes no memory.
+// Replaces the row of each present name with its row of the news, or removes it.
 fn replace_all<A: Allocator + Copy>(rows: &mut OsmMap<A>, told: Vec<NewsRow<A>, A>)
     requires order { AreInOrder rows.old }
     requires rising { T (are_rising (told_names told.items)) }
@@ -129,7 +127,7 @@ fn replace_all<A: Allocator + Copy>(rows: &mut OsmMap<A>, told: Vec<NewsRow<A>, 
     }
 }
 
-// Replaces the row of a name that is there, or takes it out.
+// Replaces the row of a present name, or removes it.
 fn replace_one<A: Allocator + Copy>(rows: &mut OsmMap<A>, row: NewsRow<A>)
     requires order { AreInOrder rows.old }
     requires present { is_present rows.old row.name ≡ true }

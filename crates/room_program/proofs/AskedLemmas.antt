@@ -1,4 +1,4 @@
--- What taken words ask for: one of the subcommands, with numbers in their ranges.
+-- Arguments that are taken ask for one of the subcommands, with numbers in their ranges.
 use Rattle.std.proofs.Common.{◌≡◌, ◌∙◌, ◌||◌, ◌⊎◌, ◌≤◌, ◌<◌, ◌^◌, inl, inr, refl, sym, ap, subst, arith, cond, ℕ, Bool, true, false, true≢false, List, [], ◌∷◌, Option, Some, None, codes, drop, is_some, take}
 use Rattle.std.specs.Prelude.{⊤, IfSome, option_map, pos, unwrap_or}
 use Rattle.std.specs.List.{slice_index_or}
@@ -32,13 +32,13 @@ serve_shape = slice_index_or (built program_app).subs 1 replay_app.top
 abbrev help_shape : Shape
 help_shape = slice_index_or (built program_app).subs 2 replay_app.top
 
--- a rule of theirs
+-- a rule of a subcommand
 abbrev rule_at : Shape → ℕ → Rule
 rule_at s k = slice_index_or s.rules k limit_option
 
 -- ---- the subcommand
 
--- words with no fault went to a subcommand of this shape, and that is what was met
+-- arguments without a fault entered a subcommand of this shape
 abbrev Enters : Shape → Option (Text × List Row) → Type 0
 Enters s met = (words : List Text) × (level_fault s [] nothing_held words false [] ≡ []) × (met ≡ Some (rows_at s words))
 
@@ -73,7 +73,7 @@ needs_subcommand : (rows : List Row) (has : Bool) → check_fault (built program
 needs_subcommand rows true e = refl
 needs_subcommand rows false e = absurd (no_kinds MissingSubcommand e)
 
--- taken words enter one of the two
+-- arguments that are taken enter one of the two subcommands
 asked_enters : (words : List Text) → faults words ≡ [] → Enters replay_shape (subcommand_of program_app words) ⊎ Enters serve_shape (subcommand_of program_app words)
 asked_enters words e =
     let app = built program_app in
@@ -86,11 +86,11 @@ asked_enters words e =
 
 -- ---- numbers
 
--- the text is a numeral, which writes a number of the range
+-- the text is a numeral, whose number is in the range
 abbrev IsNumber : ℕ → ℕ → Text → Type 0
 IsNumber least most text = IsNumeral 10 (without_leading_plus text) × (least ≤ number_of text) × (number_of text ≤ most)
 
--- what was found for an option is such a text
+-- the value of an option is such a text
 pub record IsNumberIn (least most : ℕ) (id : Text) (rows : List Row) : Type 0 where
   pub told : is_some (one_of id rows) ≡ true
   pub has : HasNumber id rows
@@ -98,7 +98,7 @@ pub record IsNumberIn (least most : ℕ) (id : Text) (rows : List Row) : Type 0 
   pub most_is : number_in id rows ≤ most
 
 module _ (least most : ℕ) (fits : most < 2 ^ 32) where
-  -- a value that passes the range is so, as it is read
+  -- a value in the range is such a text, as it is read
   value_number : (v : Text) → accepts false (Signed (pos least) (pos most)) v ≡ true → IsNumber least most (without_minus v)
   value_number v ok = go (is_unsigned_in 0 4294967295 (without_minus v)) refl
     where
@@ -130,7 +130,7 @@ module _ (least most : ℕ) (fits : most < 2 ^ 32) where
 
 -- ---- the rules of the subcommands
 
--- the rule that building makes of an option with a number
+-- the rule of an option with a number, after building
 abbrev number_rule : Text → ℕ → ℕ → List Text → Bool → Rule
 number_rule name least most defaults required = with_index 0 (filled (record (number_option name least most) { defaults = defaults; required = required }))
 
@@ -146,7 +146,7 @@ limit_range = Signed (pos 0) (pos 1000000)
 limit_default : KeepsByDefault (codes "limit") limit_range (number_rule (codes "limit") 0 1000000 (codes "1000000" ∷ []) false)
 limit_default rows g = own_default (codes "limit") limit_range (codes "1000000") [] refl rows g
 
--- each is one of the rules of its subcommand, and the others have other ids
+-- each option is a rule of its subcommand, and the other rules have other ids
 limit_of_replay : EachKeeps (codes "limit") limit_range replay_shape.rules
 limit_of_replay =
     let own = number_rule (codes "limit") 0 1000000 (codes "1000000" ∷ []) false in
@@ -171,7 +171,7 @@ sessions_of_serve =
 
 -- ---- what is asked
 
--- what was met says what is asked
+-- the subcommand that was entered has the values that are asked for
 rows_met : (words : List Text) (s : Shape) (at : List Text) → subcommand_of program_app words ≡ Some (rows_at s at) → rows_asked words ≡ (rows_at s at).1
 rows_met words s at met = ap (λ o. unwrap_or (option_map (λ p. p.1) o) []) met
 
@@ -190,7 +190,7 @@ limit_number words e = elim (asked_enters words e) [
     read : {rows : List Row} → rows_asked words ≡ rows → IsRead (codes "limit") limit_range (one_of (codes "limit") rows) → IsNumberIn 0 1000000 (codes "limit") (rows_asked words)
     read {rows} is r = subst (λ (x : List Row). IsNumberIn 0 1000000 (codes "limit") x) (sym is) (read_number 0 1000000 (omega arith) (codes "limit") rows r)
 
--- words that ask to serve went there
+-- arguments that ask to serve entered `serve`
 serve_met : (words : List Text) → faults words ≡ [] → subcommand_asked words ≡ Some (codes "serve") → Enters serve_shape (subcommand_of program_app words)
 serve_met words e named = elim (asked_enters words e) [
   | inl to ↦
@@ -214,7 +214,7 @@ sessions_number words e named =
     let read = needed_read (codes "sessions") (Signed (pos 1) (pos 1000000)) serve_shape to.0 2 (rule_at serve_shape 2) refl refl refl to.1 good in
     subst (λ (x : List Row). IsNumberIn 1 1000000 (codes "sessions") x) (sym (rows_met words serve_shape to.0 to.2)) (read_number 1 1000000 (omega arith) (codes "sessions") (rows_at serve_shape to.0).1 read)
 
--- taken words ask for one of the two
+-- arguments that are taken ask for one of the two subcommands
 pub asked_one : (words : List Text) → faults words ≡ [] → (subcommand_asked words ≡ Some (codes "replay")) ⊎ (subcommand_asked words ≡ Some (codes "serve"))
 asked_one words e = elim (asked_enters words e) [
   | inl to ↦ inl (name_met words replay_shape to.0 to.2)

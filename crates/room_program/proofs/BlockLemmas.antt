@@ -1,4 +1,4 @@
--- How far a block of lines has been answered, and what that says when it ends.
+-- How far a block of lines was answered, and its end.
 use Rattle.std.proofs.Common.{ℕ, List, ◌++◌, Option, sym, subst, append_assoc}
 use Rattle.std.specs.Io.KnownBytes.{Appends}
 use Rattle.room_program.specs.Scripts.{Loss}
@@ -6,7 +6,7 @@ use Rattle.room_program.specs.Runs.{AnswersFront, AnswersSome}
 use Rattle.room_program.proofs.RunLemmas.{front-then}
 use Rattle.room_program.proofs.StreamLemmas.{Appends-then}
 
--- lines that the bytes begin with were answered and their replies written, and the rest is left
+-- the lines at the beginning of the bytes were answered and their replies written, and the rest of the bytes is left
 pub record Written {R : Type 0} (answer : Loss → R → List ℕ → List ℕ × R) (start now : R) (bytes rest : List ℕ) (taken taken' : Option (List ℕ)) : Type 0 where
   pub text : List ℕ
   pub front : AnswersFront answer start bytes text rest now
@@ -24,7 +24,7 @@ module _ {R : Type 0} (answer : Loss → R → List ℕ → List ℕ × R) (star
     written = Appends-then taken taken' taken'' w.text later w.written a;
   }
 
-  -- of the replies to more lines some were written
+  -- a part of the replies to more lines was written
   pub written-some : (taken'' : Option (List ℕ)) (front unwritten : List ℕ) →
       AnswersSome answer now rest (front ++ unwritten) → Appends taken' taken'' front →
       (text : List ℕ) × (later : List ℕ) × AnswersSome answer start bytes (text ++ later) × Appends taken taken'' text

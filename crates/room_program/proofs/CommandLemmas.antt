@@ -1,4 +1,4 @@
--- What a run of the program comes to, by what its replay came to.
+-- The outcome of a run of the program, from the outcome of its replay.
 use Rattle.std.proofs.Common.{◌≡◌, ◌⊎◌, ◌^◌, ℕ, true, false, List, [], Option, Result, Ok, Err, inl, inr, refl, sym, subst, arith}
 use Rattle.std.specs.declared.alloc.Global.{Global}
 use Rattle.osm_changes.specs.Sound.{is_sound}
@@ -15,7 +15,7 @@ use Rattle.room_program.specs.Replays.{HasRun}
 use Rattle.room_program.specs.Streams.{GetsAtMost}
 
 module _ {S W E : Type 0} (source : sources.Ghosts S) (sink : sinks.Ghosts W) (errors_sink : sinks.Ghosts E) (limit : ℕ) (input input' : S) (output output' : W) (errors errors' : E) where
-  -- what a replay on a base says of its result
+  -- the result of a replay on a base
   abbrev HasRunOn : Result (Unit {0}) ReplayFault → Type 0
   HasRunOn r =
       ((base : Rows Global) × IsTold source input base × (is_sound base ≡ true) × HasRun source sink (script base limit) (behind (source.left input)) (2 ^ 40) input input' output output' r)

@@ -1,4 +1,4 @@
--- The worked examples of words, by evaluation.
+-- The worked examples of arguments, by evaluation.
 use Rattle.std.proofs.Common.{refl}
 use Rattle.clap.proofs.OnLiterals.{clap_on_literals}
 use Rattle.room_program.specs.CommandLineExamples.{taken, bad_limit, serve_taken, bad_serve, bad_word, help_asked, version_asked}

@@ -1,4 +1,4 @@
--- What is found of the program's words, and the kinds of error that stand in a list.
+-- The values of the program's arguments, and the kinds of error in a list.
 use Rattle.std.proofs.Common.{◌≡◌, ◌∙◌, ◌||◌, refl, sym, ap, true≢false, inl, inr, Bool, true, false, List, [], ◌∷◌, Option, Some, None}
 use Rattle.std.specs.Prelude.{Box, option_map, unwrap_or}
 use Rattle.std.specs.Box.{box_value}
@@ -26,12 +26,12 @@ any_among p k (x ∷ xs) passes (inr rest) = go (p x) (any_among p k xs passes r
     go true e = refl
     go false e = e
 
--- an error of such kinds that passes a test, which a lack of memory does not, has one of them that passes it
+-- if an error passes a test that a failed allocation does not pass, one of its kinds passes the test
 pub kind_among : (p : ErrorKind → Bool) (kinds : Kinds) (e : Error) → p OutOfMemory ≡ false → p (kind_of e) ≡ true → HasKind kinds e → list_any p kinds ≡ true
 kind_among p kinds e not_memory passes (inl memory) = absurd (true≢false (sym passes ∙ ap p memory ∙ not_memory))
 kind_among p kinds e not_memory passes (inr among) = any_among p (kind_of e) kinds passes among
 
--- the name that the matches tell of their subcommand is that of its rows
+-- the name of the subcommand is that of its rows
 name_rows : (m : ArgMatches) → subcommand_name_of m ≡ option_map (λ p. p.0) (subcommand_rows_of m)
 name_rows m = go (out-ArgMatches m).subcommand
   where
@@ -39,13 +39,13 @@ name_rows m = go (out-ArgMatches m).subcommand
     go None = refl
     go (Some b) = refl
 
--- the words are taken, name this subcommand, and these are the rows that were found for it
+-- the arguments are taken and name this subcommand, whose options have these rows
 pub record Found (words : List Text) (name : Text) (rows : List Row) : Type 0 where
   pub taken : IsTaken words
   pub named : subcommand_asked words ≡ Some name
   pub rows_are : rows_asked words ≡ rows
 
--- what clap says of the matches of a command line, where that is the program's
+-- clap's contract on the matches, for the program's command line
 module _ (line : App) (words : List Text) (m : ArgMatches) (line_is : line ≡ program_app) where
   pub words_taken : (is_simple_and_free line ≡ true → fault_of line words ≡ []) → IsTaken words
   words_taken kinds = sym (ap (λ a. fault_of a words) line_is) ∙ kinds (ap is_simple_and_free line_is)

@@ -1,4 +1,4 @@
--- The first line of what a reader has left, and what stands behind it.
+-- The first line of what a reader has left, and the bytes after that line.
 use Rattle.std.proofs.Common.{◌≡◌, ◌+◌, ℕ, zero, suc, List, [], ◌∷◌, ◌++◌, Option, Some, None, Result, Ok, Err, refl, sym, ap, subst, ◌∙◌, inl, inr, append_assoc, append-nil, arith, if◌then◌else◌}
 use Rattle.std.proofs.lemmas.Bool.{cond-false, cond-true, false_from_ne_true, ne_eqb}
 use Rattle.std.proofs.lemmas.Str.{IsUtf8-from_is_utf8, is_utf8-from_IsUtf8}
@@ -52,13 +52,13 @@ begins_last line None mid is read end = tt
 begins_last line (Some xs) None is read end = absurd read
 begins_last line (Some xs) (Some ys) is read end = ap first_line (read ∙ ap (λ k. line ++ k) end ∙ append-nil line) ∙ first_whole line is
 
--- nothing stands behind a line with which the stream ends
+-- there are no bytes after a line with which the stream ends
 pub behind_last : (line : List ℕ) (left mid : Option (List ℕ)) → IsLine line → Consumes left mid line → IsAtEnd mid → Consumes (behind left) mid []
 behind_last line None mid is read end = tt
 behind_last line (Some xs) None is read end = absurd read
 behind_last line (Some xs) (Some ys) is read end = ap behind_line (read ∙ ap (λ k. line ++ k) end ∙ append-nil line) ∙ behind_whole line is ∙ sym end
 
--- what is said of the bytes that were held and of those that were left then is said of what stands behind the line
+-- what is true of the held bytes and those left after them is true of the bytes after the line
 module _ (line held : List ℕ) (is : IsLine line) where
   same_behind : (xs ys : List ℕ) → Consumes (Some xs) (Some ys) (line ++ 10 ∷ held) → with_bytes held (Some ys) ≡ behind (Some xs)
   same_behind xs ys read = ap Some (sym (ap behind_line read ∙ known_behind line held ys is))
@@ -93,7 +93,7 @@ module _ (line held : List ℕ) (is : IsLine line) where
 -- ---- calls
 
 module _ {S : Type 0} (gets : S → Result ℕ Failed → S → Type 0) where
-  -- some calls, and then more
+  -- some calls, followed by more calls
   pub gets_then : (n m : ℕ) (before between after : S) → Gets gets n before between → Gets gets m between after → Gets gets (n + m) before after
   unfolding Gets
   gets_then n zero before between after first last =
@@ -114,7 +114,7 @@ module _ {S : Type 0} (gets : S → Result ℕ Failed → S → Type 0) where
   all_then n left reads before between after sum first last =
       subst (λ (k : ℕ). Gets gets k before after) sum (gets_then n left before between after first last)
 
--- ---- faults that were passed on
+-- ---- faults that are passed on
 
 pub err_is : {T E : Type 0} (r : Result T E) (e : E) → IsErrAnd r (λ y. y ≡ e) → r ≡ Err e
 err_is (Ok x) e is = absurd is
@@ -122,7 +122,7 @@ err_is (Err y) e is = ap Err is
 
 -- ---- texts
 
--- what is no text is no JSON
+-- bytes that are not UTF-8 are not JSON
 pub base-text : (bs : List ℕ) → IsUtf8 bs → spelled_base bs ≡ spells_welcome bs
 base-text bs h = cond-true (is_utf8 bs) (spells_welcome bs) (Err (record { id = 0; fault = NotJson })) (is_utf8-from_IsUtf8 bs h)
 

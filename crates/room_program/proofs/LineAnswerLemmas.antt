@@ -35,7 +35,7 @@ split_space-none : (bs : List ℕ) → ((k : ℕ) → k < length bs → get_or b
 split_space-none [] h = refl
 split_space-none (b ∷ bs) h = rw (ne_eqb b 32 (h 0 (omega arith))) (ap (option_map (λ p. (b ∷ p.0, p.1))) (split_space-none bs (λ k l. h (suc k) (omega arith))))
 
--- what a search for a space says
+-- the result of a search for a space
 space-first : (bs : List ℕ) (n : ℕ) → IsFirstByte (is_byte 32) bs (Some n) → split_space bs ≡ Some (take n bs, take (length bs - (n + 1)) (drop (n + 1) bs))
 space-first bs n h =
     let e = split_space-first bs n (λ k lt e. h.0.before k (omega arith) lt (eq-eqb (get_or bs k 0) 32 e)) h.0.high (eqb-true (get_or bs n 0) 32 h.1) in
@@ -59,14 +59,14 @@ characters-ascii [] h i = omega arith
 characters-ascii (b ∷ bs) h zero = character-ascii b (and_parts (is_name_character b) (list_all is_name_character bs) h).0
 characters-ascii (b ∷ bs) h (suc i) = characters-ascii bs (and_parts (is_name_character b) (list_all is_name_character bs) h).1 i
 
--- a name is a text
+-- a name is UTF-8
 pub author_of-no_text : (bs : List ℕ) → ¬ IsUtf8 bs → author_of bs ≡ None
 author_of-no_text bs h = cond-false (is_author bs) (Some bs) None (false_from_ne_true (is_author bs) (λ e.
     let parts = and_parts (nat_le 1 (length bs)) (nat_le (length bs) 32 && list_all is_name_character bs) e in
     let named = and_parts (nat_le (length bs) 32) (list_all is_name_character bs) parts.1 in
     h (IsUtf8-from_ascii bs (characters-ascii bs named.1))))
 
--- what is no text is no JSON
+-- bytes that are not UTF-8 are not JSON
 pub spelled-text : (bs : List ℕ) → IsUtf8 bs → spelled bs ≡ spells bs
 spelled-text bs h = cond-true (is_utf8 bs) (spells bs) (Err (record { id = 0; fault = NotJson })) (is_utf8-from_IsUtf8 bs h)
 

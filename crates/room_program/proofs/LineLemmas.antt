@@ -18,7 +18,7 @@ pub joined-more : (xs : List (List ℕ)) (rest more : List ℕ) → joined xs re
 joined-more [] rest more = refl
 joined-more (x ∷ xs) rest more = append_assoc x (10 ∷ joined xs rest) more ∙ ap (λ bs. x ++ 10 ∷ bs) (joined-more xs rest more)
 
--- the place of the first line feed splits the bytes
+-- the position of the first line feed splits the bytes
 pub IsLine-take_places : (bs : List ℕ) (n : ℕ) → ((k : ℕ) → k < n → get_or bs k 0 ≡ 10 → ⊥) → IsLine (take n bs)
 IsLine-take_places bs zero h = tt
 IsLine-take_places [] (suc n) h = tt
@@ -39,7 +39,7 @@ lines-joined [] rest h = refl
 lines-joined (line ∷ later) rest h =
     lines-line line (joined later rest) h.0 ∙ ap (λ ls. line ∷ ls) (lines-joined later rest h.1)
 
--- the rest is a line where it is not empty
+-- the rest is a line if it is not empty
 pub lines-rest : (b : ℕ) (bs : List ℕ) → IsLine (b ∷ bs) → lines (b ∷ bs) ≡ (b ∷ bs) ∷ []
 lines-rest b [] h = rw (ne_eqb b 10 h.0)
 lines-rest b (c ∷ cs) h = rw (ne_eqb b 10 h.0) (ap (with_byte b) (lines-rest c cs h.1))
@@ -87,7 +87,7 @@ rest-fed whole rest bs h k e =
     let longer : length (joined whole []) + length rest ≡ length (joined whole rest) = sym (length-append (joined whole []) rest) ∙ ap length (joined-more whole [] rest) in
     nil-from_length rest (omega (arith, ap length same, longer))
 
--- what a search for a line feed says
+-- the result of a search for a line feed
 pub splits : (bs : List ℕ) (n : ℕ) → IsFirstByte (is_byte 10) bs (Some n) → IsLine (take n bs) × (bs ≡ take n bs ++ 10 ∷ take (length bs - (n + 1)) (drop (n + 1) bs))
 splits bs n h = (
   IsLine-take_places bs n (λ k lt e. h.0.before k (omega arith) lt (eq-eqb (get_or bs k 0) 10 e)),
@@ -97,6 +97,6 @@ splits bs n h = (
 pub splits-not : (bs : List ℕ) → IsFirstByte (is_byte 10) bs None → IsLine bs
 splits-not bs h = IsLine-from_places bs (λ k lt e. h k (omega arith) lt (eq-eqb (get_or bs k 0) 10 e))
 
--- what comes after a line is shorter
+-- the bytes after a line are fewer
 pub after_shorter : (rest line after : List ℕ) → rest ≡ line ++ 10 ∷ after → length after < length rest
 after_shorter rest line after split = rw split (omega (arith, length-append line (10 ∷ after)))

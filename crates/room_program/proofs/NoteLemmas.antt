@@ -1,4 +1,4 @@
--- What a note says of the call that was noted last, and counts of noted calls.
+-- The last call in the notes, and the counts of calls.
 use Rattle.std.proofs.Common.{◌≡◌, ◌<◌, ◌∙◌, ◌+◌, ◌^◌, ℕ, suc, zero, [], ◌∷◌, Ok, Err, Some, true≢false, ap, arith, inl, inr, length, refl, sym, add-zero}
 use Rattle.room_program.specs.declared.io.Io.{Io}
 use Rattle.room_program.specs.declared.noted.Calls.{Calls}
@@ -22,7 +22,7 @@ module _ (before between after : Calls) (asked : ℕ) (none : between.answered �
   }
 
 module _ {T : Type 0} where
-  -- so many reads are so many calls of the stream, as long as the count goes on
+  -- n reads are n calls of the stream, unless the count stops
   pub reads_counted : (n : ℕ) (before after : Io T) → (calls_of before).answered + n < 2 ^ 64 → streams.Gets Gets n before after
       → (calls_of after).answered ≡ (calls_of before).answered + n
   unfolding streams.Gets
@@ -32,7 +32,7 @@ module _ {T : Type 0} where
       omega (arith, last.once, so_far)
   reads_counted (suc n) before after small (between, count, some, made, (asked, inr failed)) = absurd (true≢false (sym failed.0))
 
-  -- a write that took no byte of some is the last call of the stream
+  -- a write that took none of some bytes is the last call of the stream
   pub none_taken_noted : (after : Io T) → TookNone Puts after
       → (asked : ℕ) × (0 < asked) × ((calls_of after).last ≡ Some (record { asked = asked; answer = Ok 0 }))
   none_taken_noted after (before, [], some, took) = absurd (some refl)

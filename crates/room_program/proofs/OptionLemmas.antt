@@ -1,4 +1,4 @@
--- What words without a fault give an option: values, of which the first passes its parser.
+-- Arguments without a fault give an option values, the first of which its parser accepts.
 use Rattle.std.proofs.Common.{◌≡◌, ◌∙◌, ◌||◌, ◌&&◌, ◌++◌, ◌+◌, refl, sym, ap, subst, cond, ℕ, zero, suc, Bool, true, false, true≢false, List, [], ◌∷◌, Option, Some, None, min}
 use Rattle.std.specs.Prelude.{⊤, find, fold, not, slice_get, unwrap_or}
 use Rattle.std.specs.List.{AllByRecursion, list_any}
@@ -22,7 +22,7 @@ use Rattle.clap.specs.declared.parser.matches.ValueSource.{ValueSource}
 use Rattle.clap.specs.declared.parser.matches.ValueSource.TheVariants.{CommandLine, DefaultValue}
 use Rattle.room_program.proofs.WordWalks.{check_none, level_keeps, no_first}
 
--- what holds of each rule holds of the one that is found
+-- what is true of each rule is true of the rule that is found
 pub found_has : (P : Rule → Type 0) (f : Rule → Bool) (rules : List Rule) (a : Rule) → AllByRecursion P rules → find f rules ≡ Some a → P a
 found_has P f [] a all is = cc
 found_has P f (r ∷ rs) a all is = go (f r) is (found_has P f rs a all.1)
@@ -33,7 +33,7 @@ found_has P f (r ∷ rs) a all is = go (f r) is (found_has P f rs a all.1)
 
 -- ---- rows of an option
 
--- a change of the rows of one id keeps which ids have a row, and so does one that adds a row
+-- a change of the rows of one id, or one more row, keeps the ids that have a row
 has_at : (id other : Text) (change : Row → List Row) (missing : List Row) (rows : List Row)
     → ((r : Row) (rest : List Row) → has_row id (r ∷ rest) ≡ true → has_row id (change r ++ rest) ≡ true)
     → has_row id rows ≡ true → has_row id (at_row other change missing rows) ≡ true
@@ -53,7 +53,7 @@ has_given : (id other : Text) (how : Reading) (s : ValueSource) (values : List T
     → has_row id rows ≡ true → has_row id (with_values other how s values rows) ≡ true
 has_given id other how s values rows has = has_at id other (more_values s values) (record { id = other; values = values; count = None; source = Some s; reading = how } ∷ []) rows (λ r rest h. h) has
 
--- and so does the default of any rule
+-- so does the default of any rule
 has_default : (id : Text) (a : Rule) (rows : List Row) → has_row id rows ≡ true → has_row id (with_default rows a) ≡ true
 has_default id a rows has = go (has_row a.id rows) a.defaults
   where
@@ -66,7 +66,7 @@ has_defaults : (id : Text) (rules : List Rule) (rows : List Row) → has_row id 
 has_defaults id [] rows has = has
 has_defaults id (a ∷ rest) rows has = has_defaults id rest (with_default rows a) (has_default id a rows has)
 
--- what is given values has a row
+-- an id that was given values has a row
 given_has : (id : Text) (how : Reading) (s : ValueSource) (values : List Text) (rows : List Row) → has_row id (with_values id how s values rows) ≡ true
 given_has id how s values [] = same id
   where
@@ -78,7 +78,7 @@ given_has id how s values (r ∷ rs) = go (bytes_eq r.id id) refl (given_has id 
     go true e rest = rw (e, e) refl
     go false e rest = rw (e, e) rest
 
--- and so has a rule with a default, once it got it
+-- so has a rule with a default, once it got the default
 default_has : (id : Text) (rules : List Rule) (k : ℕ) (a : Rule) (v : Text) (vs : List Text) (rows : List Row)
     → slice_get rules k ≡ Some a → a.id ≡ id → a.defaults ≡ v ∷ vs → has_row id (fold with_default rows rules) ≡ true
 default_has id [] k a v vs rows at is default = cc
@@ -96,7 +96,7 @@ default_has id (x ∷ xs) zero a v vs rows at is default = has_defaults id xs (w
     go false e [] told = cc
     go false e (y ∷ ys) told = subst (λ (t : Text). has_row t (with_values x.id (reading_by x) DefaultValue (y ∷ ys) rows) ≡ true) named (given_has x.id (reading_by x) DefaultValue (y ∷ ys) rows)
 
--- what was given in the words has a row
+-- an option that was given in the arguments has a row
 is_given_has : (id : Text) (rows : List Row) → is_given id rows ≡ true → has_row id rows ≡ true
 is_given_has id [] given = absurd (true≢false (sym given))
 is_given_has id (r ∷ rs) given = go (bytes_eq r.id id) given (is_given_has id rs)
@@ -137,7 +137,7 @@ given_by false c is e = absurd (true≢false (sym is))
 -- ---- the values of one option
 
 module _ (id : Text) (parser : ValueParser) where
-  -- a row of the option begins with a value that passes its parser, and is read as the parser says
+  -- a row of the option begins with a value that its parser accepts, and is read as the parser requires
   abbrev Good : Row → Type 0
   Good r = (v : Text) × (slice_get r.values 0 ≡ Some v) × (r.reading ≡ reading_of parser) × (accepts false parser v ≡ true)
 
@@ -168,7 +168,7 @@ module _ (id : Text) (parser : ValueParser) where
       go false e rest = (g.0, rest)
 
   module _ (other : Text) (apart : bytes_eq other id ≡ false) where
-    -- of a row of another id nothing is asked
+    -- nothing is required of a row of another id
     not_other : (t : Text) → bytes_eq t other ≡ true → bytes_eq t id ≡ true → ⊥
     not_other t is e = true≢false (sym e ∙ (ap (λ x. bytes_eq x id) ((bytes_eq-Decides t other).0 is) ∙ apart))
 
@@ -210,7 +210,7 @@ module _ (id : Text) (parser : ValueParser) where
       go false [] = g
       go false (v ∷ vs) = given_other a.id apart (reading_by a) DefaultValue (v ∷ vs) rows g
 
-  -- so the option's own rule is all that there is to see among rules that are else of other ids
+  -- so only the option's own rule matters, if all other rules have other ids
   others_keep : (P : Rule → Type 0) → ((a : Rule) → bytes_eq a.id id ≡ false → P a) → (rules : List Rule) → list_any (λ a. bytes_eq a.id id) rules ≡ false → AllByRecursion P rules
   others_keep P keep [] none = tt
   others_keep P keep (a ∷ rest) none =
@@ -251,7 +251,7 @@ module _ (id : Text) (parser : ValueParser) where
           rw e ((λ _. (old.0, first_stays r.values (v ∷ vs) old.0 old.1, old.2, old.3)), g.1)
       go false e rest = rw e (g.0, rest)
 
-  -- values that no fault is found of begin with one that passes
+  -- values without a fault begin with a value that passes
   pub first_passes : (v : Text) (vs : List Text) → values_kinds false parser (v ∷ vs) ≡ [] → accepts false parser v ≡ true
   first_passes v vs e = go (accepts false parser v) (no_first (value_kinds false parser v) _ e)
     where
@@ -259,12 +259,12 @@ module _ (id : Text) (parser : ValueParser) where
       go true e = refl
       go false e = cc
 
-  -- a use of it, in the place of an earlier one
+  -- a use of the option that replaces an earlier one
   pub set_good : (v : Text) (vs : List Text) (rows : List Row) → accepts false parser v ≡ true → AllGood rows
       → AllGood (with_values id (reading_of parser) CommandLine (v ∷ vs) (without id rows))
   set_good v vs rows ok g = given_good CommandLine v vs ok (without id rows) (without_good rows g)
 
-  -- the option's own default, and no default
+  -- the option's own default, or no default
   pub own_default : (v : Text) (vs : List Text) → accepts false parser v ≡ true → (rows : List Row) → AllGood rows
       → AllGood (cond (has_row id rows) rows (with_values id (reading_of parser) DefaultValue (v ∷ vs) rows))
   own_default v vs ok rows g = go (has_row id rows)
@@ -284,7 +284,7 @@ module _ (id : Text) (parser : ValueParser) where
   defaults_good [] rows keep g = g
   defaults_good (a ∷ rest) rows keep g = defaults_good rest (with_default rows a) keep.1 (keep.0 rows g)
 
-  -- the rows at the end of a level with no fault are good
+  -- the rows at the end of a level without a fault are good
   pub level_good : (s : Shape) (words : List Text) → EachKeeps s.rules → level_fault s [] nothing_held words false [] ≡ [] → AllGood (rows_at s words).1
   level_good s words each e =
       let walked = level_keeps s AllGood (λ f a values rows is fault g. found_has Keeps f s.rules a each.0 is s.args_override_self values rows fault g) [] words false [] e tt in
@@ -307,7 +307,7 @@ module _ (id : Text) (parser : ValueParser) where
   default_read s words k a v vs at is default g =
       read_good _ g (default_has id s.rules k a v vs (settled s.rules (walk s.rules [] nothing_held words).held).rows at is default)
 
-  -- and so is one that may not be left out
+  -- so is an option that is required
   pub needed_read : (s : Shape) (words : List Text) (k : ℕ) (a : Rule) → slice_get s.rules k ≡ Some a → a.id ≡ id → a.required ≡ true
       → level_fault s [] nothing_held words false [] ≡ [] → AllGood (rows_at s words).1 → IsRead (one_of id (rows_at s words).1)
   needed_read s words k a at is needed e g =

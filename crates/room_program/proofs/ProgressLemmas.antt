@@ -1,4 +1,4 @@
--- How far a replay has come, and what that says when it ends.
+-- How far a replay has come, and its end.
 use Rattle.std.proofs.Common.{◌≡◌, ◌≢◌, ℕ, List, [], ◌∷◌, ◌++◌, Option, sym, ap, subst, ◌∙◌, append_assoc, append-nil}
 use Rattle.std.specs.Io.KnownBytes.{Appends, Consumes, Keeps, IsAtEnd}
 use Rattle.room_program.specs.Lines.{lines, IsLine}
@@ -17,7 +17,7 @@ pub record Progress {R : Type 0} (answer : Loss → R → List ℕ → List ℕ 
   pub written : Appends taken taken' text
   pub front : AnswersFront answer start read text begun now
 
--- nothing was read after the bytes that are held, and nothing written
+-- nothing was read after the bytes that are held, and nothing was written
 pub progress-held : {R : Type 0} (answer : Loss → R → List ℕ → List ℕ × R) (start : R) (held : List ℕ) (left taken : Option (List ℕ)) → Progress answer start start (with_bytes held left) left taken taken held
 progress-held answer start held left taken = record {
   read = held;
@@ -59,7 +59,7 @@ module _ {R : Type 0} (answer : Loss → R → List ℕ → List ℕ × R) (star
     front = p.front;
   }
 
-  -- it ends between two blocks
+  -- the replay ends between two blocks
   pub progress-ended : IsLine begun → WritesEnded (script_of answer start) left left' taken taken'
   progress-ended l =
       let all = front-ended answer start p.read p.text begun now l p.front in

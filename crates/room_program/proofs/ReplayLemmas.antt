@@ -1,4 +1,4 @@
--- How a replay and the reading of its first line end, from what is said of their parts.
+-- The ends of a replay and of reading its first line, from the contracts of their parts.
 use Rattle.std.proofs.Common.{◌≡◌, ◌⊎◌, ℕ, true, false, List, [], Option, Some, None, Result, Ok, Err, IfErr, IfOk, inl, inr, refl, subst, sym}
 use Rattle.std.specs.Prelude.{IsErrAnd}
 use Rattle.std.specs.Io.KnownBytes.{Appends}
@@ -37,7 +37,7 @@ module _ {S W : Type 0} (source : sources.Ghosts S) (sink : sinks.Ghosts W) (scr
   ended_by Write front ended read write memory = (front, write refl)
   ended_by Memory front ended read write memory = (front, memory refl)
 
-  -- that fault was passed on
+  -- the fault was passed on
   pub ended_run : (r : Result (Unit {0}) ReplayFault) (f : StreamFault) → IsErrAnd r (λ y. y ≡ stream_fault f) → HasRun source sink script left reads reader reader' writer writer' (Err (stream_fault f))
       → HasRun source sink script left reads reader reader' writer writer' r
   ended_run r f is run = subst (λ (x : Result (Unit {0}) ReplayFault). HasRun source sink script left reads reader reader' writer writer' x) (sym (err_is r (stream_fault f) is)) run
@@ -68,7 +68,7 @@ module _ {S : Type 0} (source : sources.Ghosts S) (reads : ℕ) (reader reader' 
   line_unread Write is = is
   line_unread Memory is = is
 
-  -- what is no map of a line is no base
+  -- a line without a map is no base
   pub unread_no_base : (fault : ReplayFault) → IsUnread source reads reader reader' fault → IsNoBase source reads reader reader' fault
   unread_no_base replays.Read is = is
   unread_no_base replays.Write is = is
@@ -91,7 +91,7 @@ module _ {S : Type 0} (source : sources.Ghosts S) (reads : ℕ) (reader reader' 
   told_no_base base (bases.Unsound x why) told works is = (works, (base, told, is))
   told_no_base base bases.Memory told works is = works
 
-  -- what the rows of a line are to the reader that gave it
+  -- the rows of a line are those of the reader that gave the line
   pub told_rows : (line : List ℕ) (r : Result (Rows Global) ReplayFault) → IsFirstLineOf line (source.left reader) → IfOk r (λ rows. Tells line rows) → IfOk r (λ rows. IsTold source reader rows)
   told_rows line (Ok rows) begins told = (line, begins, told)
   told_rows line (Err fault) begins told = tt
@@ -101,10 +101,10 @@ module _ {S : Type 0} (source : sources.Ghosts S) (reads : ℕ) (reader reader' 
   bad_rows line (Ok rows) begins works bad = tt
   bad_rows line (Err fault) begins works bad = bad_unread line fault begins works bad
 
--- ---- a run of what stands behind it
+-- ---- a run of the bytes after the first line
 
 module _ {S W : Type 0} (source : sources.Ghosts S) (sink : sinks.Ghosts W) (script : List ℕ → List Loss → List ℕ) (reads : ℕ) (reader between reader' : S) (writer writer' : W) (line : List ℕ) (is : IsLine line) where
-  -- nothing stands there
+  -- there are no such bytes
   pub nothing_behind : ReadsTo source reads reader reader' line None → script [] [] ≡ [] → source.has_failed reader' ≡ false → sink.has_failed writer ≡ false
       → HasRun source sink script (behind (source.left reader)) reads reader reader' writer writer (Ok tt)
   nothing_behind to none works writes = (

@@ -1,4 +1,4 @@
--- How runs over lines follow one another, and what they say of the whole script.
+-- Runs over lines in sequence, and the whole script.
 use Rattle.std.proofs.Common.{◌≡◌, ◌≢◌, ℕ, List, [], ◌∷◌, ◌++◌, refl, sym, ap, subst, ◌∙◌, append_assoc, append-nil}
 use Rattle.room_program.specs.Lines.{lines, ended, IsLine}
 use Rattle.room_program.specs.Scripts.{Loss, replies}
@@ -21,7 +21,7 @@ module _ {R : Type 0} (answer : Loss → R → List ℕ → List ℕ × R) where
   Runs-append room (x ∷ xs) ys out more between after h k =
       (h.0, h.1 ++ more, rw (h.2) (append_assoc (answer h.0 room x).0 (10 ∷ h.1) more), Runs-append (answer h.0 room x).1 xs ys h.1 more between after h.3 k)
 
-  -- a run is the beginning of a script
+  -- a script begins with the replies of a run
   pub replies-run : (room : R) (xs ys : List (List ℕ)) (out : List ℕ) (after : R) (lost : List Loss) →
       Runs answer room xs out after → (all : List Loss) × (replies answer room (xs ++ ys) all ≡ out ++ replies answer after ys lost)
   replies-run room [] ys out after lost h = (lost, rw (h.0, h.1) refl)
@@ -30,11 +30,11 @@ module _ {R : Type 0} (answer : Loss → R → List ℕ → List ℕ × R) where
       let rest = replies-run s.1 xs ys h.1 after lost h.3 in
       (h.0 ∷ rest.0, ap (λ bs. s.0 ++ 10 ∷ bs) rest.1 ∙ (sym (append_assoc s.0 (10 ∷ h.1) (replies answer after ys lost)) ∙ ap (λ bs. bs ++ replies answer after ys lost) (sym h.2)))
 
-  -- nothing answered yet
+  -- nothing is answered yet
   pub front-none : (room : R) (bytes : List ℕ) → AnswersFront answer room bytes [] bytes room
   front-none room bytes = record { whole = []; are_lines = tt; split = refl; run = (refl, refl) }
 
-  -- one line answered
+  -- one line is answered
   pub front-line : (room : R) (line rest text : List ℕ) (after : R) (loss : Loss) → IsLine line → answer loss room line ≡ (text, after) →
       AnswersFront answer room (line ++ 10 ∷ rest) (text ++ 10 ∷ []) rest after
   front-line room line rest text after loss h e = record {
@@ -54,7 +54,7 @@ module _ {R : Type 0} (answer : Loss → R → List ℕ → List ℕ × R) where
     run = h.run;
   }
 
-  -- what was left is answered in its turn
+  -- the rest is answered, too
   pub front-then : (room : R) (bytes out later rest left : List ℕ) (between after : R) →
       AnswersFront answer room bytes out rest between → AnswersFront answer between rest later left after →
       AnswersFront answer room bytes (out ++ later) left after
@@ -65,7 +65,7 @@ module _ {R : Type 0} (answer : Loss → R → List ℕ → List ℕ × R) where
     run = Runs-append room h.whole k.whole out later between after h.run k.run;
   }
 
-  -- the next line is answered, of which some bytes were held
+  -- the next line is answered, some bytes of which were held
   pub front-next : (room : R) (bytes out begun rest line later text out' begun' : List ℕ) (between after : R) (loss : Loss) →
       AnswersFront answer room bytes out (begun ++ rest) between → IsLine begun → IsLine line → rest ≡ line ++ 10 ∷ later →
       answer loss between (begun ++ line) ≡ (text, after) → out' ≡ out ++ (text ++ 10 ∷ []) → begun' ≡ [] →
@@ -82,14 +82,14 @@ module _ {R : Type 0} (answer : Loss → R → List ℕ → List ℕ × R) where
       let all = replies-run room h.whole (lines rest) out after lost h.run in
       (all.0, ap (λ ls. replies answer room ls all.0) (ap lines h.split ∙ lines-joined h.whole rest h.are_lines) ∙ all.1)
 
-  -- what was answered is the script of the lines that ended
+  -- the replies so far are the script of the lines that ended
   pub front-ended : (room : R) (bytes out rest : List ℕ) (after : R) → IsLine rest → AnswersFront answer room bytes out rest after →
       (all : List Loss) × (replies answer room (lines (ended bytes)) all ≡ out)
   front-ended room bytes out rest after k h =
       let all = replies-run room h.whole [] out after [] h.run in
       (all.0, ap (λ ls. replies answer room ls all.0) (ap lines (ap ended h.split ∙ ended-joined h.whole rest h.are_lines k) ∙ lines-joined h.whole [] h.are_lines) ∙ (all.1 ∙ append-nil out))
 
-  -- where a line feed ends the last line, the script of that line was answered
+  -- if a line feed ends the last line, the script of that line was answered
   pub front-fed : (room : R) (begun out rest : List ℕ) (after : R) → IsLine begun → begun ≢ [] → IsLine rest → AnswersFront answer room (begun ++ 10 ∷ []) out rest after →
       (all : List Loss) × (replies answer room (lines begun) all ≡ out)
   front-fed room begun out rest after b some k h =

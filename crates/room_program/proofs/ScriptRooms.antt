@@ -1,4 +1,4 @@
--- The rooms through which a script leads have journals that calls lead to.
+-- Calls lead to the journals of the rooms through which a script leads.
 use Rattle.std.proofs.Common.{◌≡◌, ℕ, Bool, true, false, cond, List, [], ◌∷◌, Option, Some, None, Result, Ok, Err, IfOk, refl, sym, subst}
 use Rattle.std.specs.Str.{is_utf8}
 use Rattle.std.specs.declared.alloc.Global.{Global}
@@ -24,7 +24,7 @@ pub record IsLegal (base : Rows Global) (limit : ℕ) (room : RoomState Global) 
   pub limit_is : room.limit ≡ limit
   pub journal : IsJournal base limit room.journal
 
--- what a message says, if it says something, is as its types keep it
+-- the values of a message that was read are as their types require
 abbrev pub IsMade : Result Incoming Bad → Type 0
 IsMade r = IfOk r (λ message. is_made_body message.body ≡ true)
 

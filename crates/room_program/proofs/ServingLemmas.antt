@@ -1,4 +1,4 @@
--- What serving rooms comes to: the texts that were taken one after another, and the rooms' fronts.
+-- The outcome of serving rooms: the texts that were taken in order, and the rooms' entry counts.
 use Rattle.std.proofs.Common.{◌≡◌, ◌∙◌, ◌⊎◌, ◌≤◌, ◌<◌, refl, sym, ap, subst, inl, inr, arith, ℕ, zero, suc, Bool, true, false, List, [], ◌∷◌, ◌++◌, Some, length, append_assoc}
 use Rattle.std.specs.Prelude.{All, slice_get}
 use Rattle.std.specs.List.{slice_index_or}
@@ -35,7 +35,7 @@ use Rattle.room_server.specs.Tables.{AreAt, DeskView, SeatView, TableView}
 use Rattle.turn_desk.specs.History.{History, IsLegal, entries}
 
 module _ {W : Type 0} (sink : sinks.Ghosts W) where
-  -- a whole text, and then another as far as it goes
+  -- a whole text, followed by another text as far as it was taken
   pub takes_then : (before between after : W) (text more : List ℕ) → Appends (sink.taken before) (sink.taken between) text → Takes sink between after more → Takes sink before after (text ++ more)
   takes_then before between after text more whole takes = record {
     front = text ++ takes.front;
@@ -45,7 +45,7 @@ module _ {W : Type 0} (sink : sinks.Ghosts W) where
     why = takes.why;
   }
 
-  -- of a text that was not taken whole no more is taken
+  -- after a text that was not taken whole, no more is taken
   pub takes_no_more : (before after : W) (text more : List ℕ) → Takes sink before after text → (sink.has_failed after ≡ true) ⊎ TookNone sink.puts after → Takes sink before after (text ++ more)
   takes_no_more before after text more takes why = record {
     front = takes.front;
@@ -55,7 +55,7 @@ module _ {W : Type 0} (sink : sinks.Ghosts W) where
     why = inr why;
   }
 
-  -- the same of texts and states that are equal
+  -- the same for equal texts and states
   pub told_then : (before between after end : W) (text told more lines : List ℕ) → told ≡ text → lines ≡ more → end ≡ after
       → Appends (sink.taken before) (sink.taken between) told → Takes sink between after lines → Takes sink before end (text ++ more)
   told_then before between after end text told more lines text_is more_is end_is whole takes =
@@ -79,20 +79,20 @@ module _ {S W : Type 0} (source : sources.Ghosts S) (sink : sinks.Ghosts W) (on_
   unopened_stops Twice same is = (is, same)
   unopened_stops (Replay fault) same is = (is, same)
 
-  -- nor are they served to the end where the pool does not serve
+  -- rooms are not served to the end if the pool does not serve
   pub pool_stops : (fault : PoolFault) → CanBeServed rooms → Takes sink output output' listening → StopsBy source sink on_base rooms input input' output output' (pool_fault fault)
   pool_stops pools.Worker can takes = (can, takes)
   pool_stops pools.Memory can takes = (can.0, inr takes)
 
 module _ {S : Type 0} (source : sources.Ghosts S) (rooms : List (List ℕ)) (input input' : S) where
-  -- the first fault of the names is told
+  -- the first fault of the names is reported
   pub names_unopened : (on_base : Bool) (fault : TableFault) → length rooms ≤ 64 → input' ≡ input → IsNameFault rooms fault → IsUnopened source on_base rooms input input' (table_fault fault)
   names_unopened on_base (tables.BadName position) few same is = (few, (position, is), same)
   names_unopened on_base (tables.Twice position) few same is = (few, (position, is), same)
   names_unopened on_base (tables.Unsound x why) few same is = absurd is
   names_unopened on_base tables.Memory few same is = few
 
-  -- and then that of the map; the empty one has none
+  -- then the fault of the map is reported; the empty map has none
   nothing_unsound : (base : Rows Global) (x : Name) (why : Refusal Global) → base ≡ [] → IsFirstUnsound base x why → ⊥
   nothing_unsound base x why none is = let there : row_at {A = Global} [] x ≡ Some is.element = ap (λ m. row_at m x) (sym none) ∙ is.there in absurd (cc)
 
@@ -103,7 +103,7 @@ module _ {S : Type 0} (source : sources.Ghosts S) (rooms : List (List ℕ)) (inp
   base_unopened false base (bases.Unsound x why) can works begins is = absurd (nothing_unsound base x why begins is)
   base_unopened false base bases.Memory can works begins is = can.0
 
--- an element of a list stands at its place
+-- the element of a list at its position
 get_at : {X : Type 0} (xs : List X) (i : ℕ) (d : X) → i < length xs → slice_get xs i ≡ Some (slice_index_or xs i d)
 get_at [] i d below = absurd (omega (arith, below))
 get_at (x ∷ xs) zero d below = refl
@@ -114,7 +114,7 @@ there_is [] i below = absurd (omega (arith, below))
 there_is (x ∷ xs) zero below = (x, refl)
 there_is (x ∷ xs) (suc i) below = there_is xs i (omega (arith, below))
 
--- the fronts that a closed table tells are those of journals
+-- the entry counts of a closed table are lengths of journals
 module _ (law : (opened : Opening Global) (h : History (Entry Global)) → IsLegal IsTurn opened h → IsJournal opened.base opened.limit (entries h)) where
   front_of : (base : Rows Global) (limit : ℕ) (desk : DeskView) (seat : SeatView) (front : ℕ) → desk.fixed ≡ opening base limit → IsFront desk seat front → IsFrontOf base limit front
   front_of base limit desk seat front fixed is = (

@@ -1,4 +1,4 @@
--- Bytes that a writer takes and a reader gives, one part after another.
+-- Bytes that a writer takes and a reader gives, in parts.
 use Rattle.std.proofs.Common.{◌≡◌, ℕ, ◌-◌, List, [], ◌++◌, Option, Some, None, length, take, drop, refl, sym, ap, ◌∙◌, append_assoc, append-nil}
 use Rattle.std.proofs.lemmas.List.{take_rest, take-append-drop}
 use Rattle.std.proofs.Common.{Result, Ok, Err, OnErr, OnOk, IfErr, subst}
@@ -26,7 +26,7 @@ put-more old mid new bytes front rest n e h k = (
   Appends-then old mid new front (take n rest) h k,
 )
 
--- what was written behind bytes that were written before, where more was to come
+-- a write after earlier bytes, with more bytes to come
 pub put-behind : (old mid new : Option (List ℕ)) (done bytes later whole front rest : List ℕ) → whole ≡ done ++ (bytes ++ later) → Appends old mid done → bytes ≡ front ++ rest → Appends mid new front →
     (x x' : List ℕ) × (whole ≡ x ++ x') × Appends old new x
 put-behind old mid new done bytes later whole front rest is h e k = (
@@ -44,12 +44,12 @@ pub Consumes-none : (left : Option (List ℕ)) → Consumes left left []
 Consumes-none None = tt
 Consumes-none (Some xs) = refl
 
--- what is put before the bytes that a reader has left is there to be read first
+-- bytes in front of those that a reader has left are read first
 pub Consumes-before : (bytes : List ℕ) (left : Option (List ℕ)) → Consumes (with_bytes bytes left) left bytes
 Consumes-before bytes None = tt
 Consumes-before bytes (Some xs) = refl
 
--- nothing is put before them
+-- no bytes in front
 pub with_bytes-none : (bytes : List ℕ) (left : Option (List ℕ)) → bytes ≡ [] → with_bytes bytes left ≡ left
 with_bytes-none bytes None e = refl
 with_bytes-none bytes (Some xs) e = ap (λ bs. Some (bs ++ xs)) e

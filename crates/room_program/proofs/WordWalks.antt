@@ -1,4 +1,4 @@
--- What a walk over taken words keeps.
+-- What reading the arguments keeps, if they are taken.
 use Rattle.std.proofs.Common.{◌≡◌, ◌&&◌, refl, ℕ, zero, suc, Bool, true, false, List, [], ◌∷◌, Option, Some, None, codes, cond, length, drop, is_some}
 use Rattle.std.specs.Prelude.{⊤, encode_utf8, find, fold, slice_get}
 use Rattle.std.specs.Option.{option_map_or}
@@ -18,16 +18,16 @@ pub no_second : (a b : Kinds) → or_else a b ≡ [] → b ≡ []
 no_second [] b e = e
 no_second (k ∷ ks) b e = cc
 
--- a level with no fault enters one with none
+-- a level without a fault enters a level without a fault
 pub below_none : (s : Shape) (names : Names) (words : List Text) (has : Bool) (below : Kinds) → level_fault s names nothing_held words has below ≡ [] → below ≡ []
 below_none s names words has below e = no_first below _ (no_second _ _ e)
 
--- and passes its last checks
+-- it also passes its last checks
 pub check_none : (s : Shape) (names : Names) (words : List Text) (has : Bool) (below : Kinds) → level_fault s names nothing_held words has below ≡ []
     → check_fault s (finished s.rules (walk s.rules names nothing_held words).held) has ≡ []
 check_none s names words has below e = no_second _ _ (no_second _ _ (no_second below _ (no_second _ _ e)))
 
--- a fact of rows that each use of an argument keeps, where the use has no fault
+-- a fact about rows that each use of an argument without a fault keeps
 module _ (s : Shape) (P : List Row → Type 0)
     (keeps : (f : Rule → Bool) (a : Rule) (values : List Text) (rows : List Row) → find f s.rules ≡ Some a → use_fault s.args_override_self a values rows ≡ [] → P rows
     → P (used a values rows)) where
@@ -171,7 +171,7 @@ module _ (s : Shape) (P : List Row → Type 0)
   walk_keeps names [] w e p = p
   walk_keeps names (word ∷ rest) w e p = walk_keeps names rest (walked s.rules names w word) (no_second _ _ e) (turn_keeps names w word (no_first _ _ e) p)
 
-  -- the rows at the end of a level with no fault, before the defaults
+  -- the rows at the end of a level without a fault, before the defaults
   pub level_keeps : (names : Names) (words : List Text) (has : Bool) (below : Kinds) → level_fault s names nothing_held words has below ≡ [] → P []
       → P (settled s.rules (walk s.rules names nothing_held words).held).rows
   level_keeps names words has below e p =
@@ -183,7 +183,7 @@ abbrev NoHelp : Step → Type 0
 NoHelp (subcommand name) = bytes_eq name (codes "help") ≡ false
 NoHelp _ = ⊤
 
--- and the walk stopped at none
+-- the reading stopped at no `help`
 abbrev pub NoHelpMet : Option (Text × List Text) → Type 0
 NoHelpMet None = ⊤
 NoHelpMet (Some p) = bytes_eq p.0 (codes "help") ≡ false
@@ -254,7 +254,7 @@ module _ (s : Shape) (has_help : s.disable_help_subcommand ≡ false) where
   walk_stops names [] w e p = p
   walk_stops names (word ∷ rest) w e p = walk_stops names rest (walked s.rules names w word) (no_second _ _ e) (turn_stops names w word (no_first _ _ e) p)
 
-  -- a level with no fault stops at no `help`
+  -- a level without a fault stops at no `help`
   pub level_stops : (names : Names) (words : List Text) (has : Bool) (below : Kinds) → level_fault s names nothing_held words has below ≡ []
       → NoHelpMet (stop_after s.rules names words)
   level_stops names words has below e = walk_stops names words (walk_from nothing_held) (no_first _ _ e) tt

@@ -1,4 +1,4 @@
--- What the first line of a stream tells of the map that a room begins with. (This project's; that line is a welcome.)
+-- The base map in the first line of a stream. The line is a welcome; this is the project's own format.
 use Rattle.std.specs.Prelude.{◌==◌, ◌≡◌, ◌⊎◌, ℕ, Bool, true, false, List, [], ◌∷◌, Option, IfSome, Result, Ok, Err, if◌then◌else◌}
 use Rattle.std.specs.Option.{option_map}
 use Rattle.std.specs.Str.{is_utf8}
@@ -14,7 +14,7 @@ use Rattle.room_program.specs.declared.fault.ReplayFault.TheVariants.{Read, Memo
 use Rattle.room_program.specs.declared.source.Source as sources
 use Rattle.room_program.specs.Streams.{Gets}
 
--- the bytes before the first line feed, and those behind it: all and none where there is no line feed
+-- the bytes before the first line feed and the bytes after it; without a line feed, these are all bytes and none
 abbrev pub first_line : List ℕ → List ℕ
 first_line [] = []
 first_line (b ∷ bs) = if b == 10 then [] else b ∷ first_line bs
@@ -23,33 +23,33 @@ abbrev pub behind_line : List ℕ → List ℕ
 behind_line [] = []
 behind_line (b ∷ bs) = if b == 10 then bs else behind_line bs
 
--- what the bytes of a line say: the welcome that they spell as a text, or that they are no JSON
+-- the meaning of a line: the welcome that its bytes spell, or its fault; a line that is not UTF-8 is not JSON
 abbrev pub spelled_base : List ℕ → Result Welcome Bad
 spelled_base line = if is_utf8 line then spells_welcome line else Err (record { id = 0; fault = NotJson })
 
--- the line tells this map
+-- the line is a welcome with this map
 abbrev pub Tells : List ℕ → Rows Global → Type 0
 Tells line base = (w : Welcome) × (spelled_base line ≡ Ok w) × (w.rows ≡ base)
 
--- what a reader has left behind the first line, where it is known
+-- the bytes that a reader has left after the first line, if they are known
 abbrev pub behind : Option (List ℕ) → Option (List ℕ)
 behind left = option_map behind_line left
 
--- this is the first line of what it has left, where that is known
+-- this is the first line of the reader's bytes, if they are known
 abbrev pub IsFirstLineOf : List ℕ → Option (List ℕ) → Type 0
 IsFirstLineOf line left = IfSome left (λ bytes. first_line bytes ≡ line)
 
 module _ {S : Type 0} (source : sources.Ghosts S) where
-  -- the first line that a reader has left tells this map
+  -- the first line of the reader's bytes has this map
   abbrev pub IsTold : S → Rows Global → Type 0
   IsTold reader base = (line : List ℕ) × IsFirstLineOf line (source.left reader) × Tells line base
 
-  -- the map that a room begins with: the one that is told where a base is asked for, and else the empty one
+  -- a room begins with this map: the map in the first line if a base is asked for, and otherwise the empty map
   abbrev pub BeginsOn : Bool → S → Rows Global → Type 0
   BeginsOn true reader base = IsTold reader base
   BeginsOn false reader base = base ≡ []
 
-  -- why no map was read off the first line, by at most so many reads
+  -- the reason for which no map was read from the first line, by at most this number of reads
   abbrev pub IsUnread : ℕ → S → S → ReplayFault → Type 0
   IsUnread reads reader reader' Read = (source.has_failed reader' ≡ true) ⊎ Gets source.gets reads reader reader'
   IsUnread reads reader reader' (BadBase bad) =
@@ -58,7 +58,7 @@ module _ {S : Type 0} (source : sources.Ghosts S) where
   IsUnread reads reader reader' Memory = source.has_failed reader' ≡ false
   IsUnread reads reader reader' _ = ⊥
 
-  -- why no room begins with it
+  -- the reason for which no room begins with the map in the first line
   abbrev pub IsNoBase : ℕ → S → S → ReplayFault → Type 0
   IsNoBase reads reader reader' (Unsound x why) =
       (source.has_failed reader' ≡ false) × ((base : Rows Global) × IsTold reader base × IsFirstUnsound base x why)

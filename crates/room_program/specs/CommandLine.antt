@@ -1,4 +1,4 @@
--- What the program's words can be, and what they ask for.
+-- The program's command line, and what arguments ask for.
 use Rattle.std.specs.Prelude.{◌≡◌, ◌<◌, ◌^◌, ℕ, Bool, true, false, List, [], ◌∷◌, Option, Some, IfSome, pos, codes}
 use Rattle.std.specs.Prelude.{option_map, unwrap_or}
 use Rattle.std.specs.List.{list_any}
@@ -17,15 +17,15 @@ use Rattle.clap.specs.declared.error.kind.ErrorKind.TheVariants.{DisplayHelp, Di
 abbrev pub value_option : Text → Rule
 value_option name = record (new_rule name) { long = Some name; value_names = 1 }
 
--- an option `--NAME` whose value is a whole number from one to the other
+-- an option `--NAME` whose value is a whole number from `least` to `most`
 abbrev pub number_option : Text → ℕ → ℕ → Rule
 number_option name least most = record (value_option name) { parser = Some (Signed (pos least) (pos most)) }
 
--- an option that may not be left out
+-- an option that is required
 abbrev pub needed : Rule → Rule
 needed rule = record rule { required = true }
 
--- `--limit`, a number from 0 to 1000000, and 1000000 where the option is left out
+-- `--limit`, a number from 0 to 1000000; the default is 1000000
 abbrev pub limit_option : Rule
 limit_option = record (number_option (codes "limit") 0 1000000) { defaults = codes "1000000" ∷ [] }
 
@@ -33,7 +33,7 @@ limit_option = record (number_option (codes "limit") 0 1000000) { defaults = cod
 abbrev pub base_option : Rule
 base_option = record (new_rule (codes "base")) { long = Some (codes "base"); action = Some SetTrue }
 
--- `--addr`, any text; `--workers`, a number from 1 to 64; and `--sessions`, one from 1 to 1000000
+-- `--addr`, any text; `--workers`, a number from 1 to 64; `--sessions`, a number from 1 to 1000000
 abbrev pub addr_option : Rule
 addr_option = needed (value_option (codes "addr"))
 
@@ -43,7 +43,7 @@ workers_option = needed (number_option (codes "workers") 1 64)
 abbrev pub sessions_option : Rule
 sessions_option = needed (number_option (codes "sessions") 1 1000000)
 
--- the words that are no options: the names of rooms, of which there is one at least
+-- the arguments that are not options: the names of rooms, at least one
 abbrev pub room_words : Rule
 room_words = record (new_rule (codes "rooms")) {
   action = Some Append;
@@ -61,12 +61,12 @@ abbrev pub serve_app : App
 serve_app = with_rule (with_rule (with_rule (with_rule (with_rule (with_rule (new_app (codes "serve"))
     addr_option) workers_option) sessions_option) limit_option) base_option) room_words
 
--- the program, which wants one of its subcommands, and can tell its version
+-- the program, which requires a subcommand and has a version
 abbrev pub program_app : App
 program_app = let app = with_subcommand (with_subcommand (new_app (codes "maproom")) replay_app.top) serve_app.top in
     record app { top = record app.top { subcommand_required = true; has_version = true } }
 
--- the kinds of error that the words can be answered by, and none where they are taken
+-- the kinds of error that the arguments can lead to; there are none if the arguments are taken
 abbrev pub faults : List Text → Kinds
 faults words = fault_of program_app words
 
@@ -84,59 +84,59 @@ is_mistake DisplayVersion = false
 is_mistake OutOfMemory = false
 is_mistake _ = true
 
--- the words can ask for a help, or for the version
+-- the arguments can ask for a help or the version
 abbrev pub asks_for_help : List Text → Bool
 asks_for_help words = list_any is_request (faults words)
 
--- the words can have a mistake
+-- the arguments can have a mistake
 abbrev pub has_mistake : List Text → Bool
 has_mistake words = list_any is_mistake (faults words)
 
--- the subcommand that the words name
+-- the subcommand that the arguments name
 abbrev pub subcommand_asked : List Text → Option Text
 subcommand_asked words = option_map (λ met. met.0) (subcommand_of program_app words)
 
--- what was found for the options of that subcommand, and nothing where there is none
+-- the values of that subcommand's options, or nothing if there is no subcommand
 abbrev pub rows_asked : List Text → List Row
 rows_asked words = unwrap_or (option_map (λ met. met.1) (subcommand_of program_app words)) []
 
--- the number that the digits of a text write
+-- the number with these decimal digits
 abbrev pub number_of : Text → ℕ
 number_of text = digits_value 10 (without_leading_plus text)
 
--- the number that was found for an option, written or by default, and 0 where none was
+-- the number of an option, written or by default, or 0 if it has none
 abbrev pub number_in : Text → List Row → ℕ
 number_in option rows = option_map_or number_of (one_of option rows) 0
 
--- what was found for it, if anything was, is a number of 32 bits
+-- the value of the option, if any, is a number of 32 bits
 abbrev pub HasNumber : Text → List Row → Type 0
 HasNumber option rows =
     IfSome (one_of option rows) (λ text. IsNumeral 10 (without_leading_plus text) × (number_of text < 2 ^ 32))
 
--- the address that was found, as it is written, and the empty text where none was
+-- the address, as it is written, or the empty text if there is none
 abbrev pub addr_in : List Row → Text
 addr_in rows = unwrap_or (first_of (codes "addr") rows) []
 
--- the option for a base was found
+-- a base is asked for
 abbrev pub base_in : List Row → Bool
 base_in rows = bytes_eq (unwrap_or (first_of (codes "base") rows) []) (codes "true")
 
--- the rooms that were found, as they are written and in their order
+-- the rooms, as they are written and in order
 abbrev pub rooms_in : List Row → List Text
 rooms_in rows = unwrap_or (all_of (codes "rooms") rows) []
 
--- the limit that the words ask for, of whichever subcommand (taken words give it a text)
+-- the limit that the arguments ask for, with either subcommand; arguments that are taken have one
 abbrev pub limit_text : List Text → Option Text
 limit_text words = one_of (codes "limit") (rows_asked words)
 
 abbrev pub limit_asked : List Text → ℕ
 limit_asked words = number_in (codes "limit") (rows_asked words)
 
--- whether they ask for a base
+-- whether the arguments ask for a base
 abbrev pub base_asked : List Text → Bool
 base_asked words = base_in (rows_asked words)
 
--- what the words of `serve` ask for
+-- what the arguments of `serve` ask for
 abbrev pub workers_asked : List Text → ℕ
 workers_asked words = number_in (codes "workers") (rows_asked words)
 

@@ -1,4 +1,4 @@
--- What the worked examples of words say of the definitions.
+-- Worked examples of arguments.
 use Rattle.std.specs.Prelude.{◌≡◌, ℕ, Bool, true, false, List, [], ◌∷◌, Some, codes}
 use Rattle.clap.specs.Words.{Kinds, Text}
 use Rattle.clap.specs.declared.error.kind.ErrorKind.TheVariants.{ArgumentConflict, DisplayHelp, DisplayVersion}
@@ -7,23 +7,23 @@ use Rattle.clap.specs.declared.error.kind.ErrorKind.TheVariants.{MissingRequired
 use Rattle.room_program.specs.Commands.{AsksForReplay}
 use Rattle.room_program.specs.CommandLine.{IsTaken, addr_asked, base_asked, faults, limit_asked, rooms_asked, sessions_asked, subcommand_asked, workers_asked}
 
--- the words after the name of the program are taken, and ask for a replay with the limit, on a base or not
+-- the arguments after the program's name are taken, and ask for a replay with this limit, on a base or not
 abbrev pub AsksFor : ℕ → Bool → List Text → Type 0
 AsksFor limit base words = AsksForReplay (codes "maproom" ∷ words) limit base
 
--- the words after `serve` are taken, and ask for this address, so many workers, sessions and entries, a base or none,
--- and these rooms
+-- the arguments after `serve` are taken, and ask for this address, these numbers of workers, sessions and entries, a
+-- base or not, and these rooms
 abbrev pub AsksToServe : Text → ℕ → ℕ → ℕ → Bool → List Text → List Text → Type 0
 AsksToServe addr workers sessions limit base rooms words =
     let all = codes "maproom" ∷ codes "serve" ∷ words in
     IsTaken all × (subcommand_asked all ≡ Some (codes "serve")) × (addr_asked all ≡ addr) × (workers_asked all ≡ workers)
     × (sessions_asked all ≡ sessions) × (limit_asked all ≡ limit) × (base_asked all ≡ base) × (rooms_asked all ≡ rooms)
 
--- the words after the name of the program are answered by an error of one of these kinds
+-- the arguments after the program's name lead to an error of one of these kinds
 abbrev pub FailsBy : Kinds → List Text → Type 0
 FailsBy kinds words = faults (codes "maproom" ∷ words) ≡ kinds
 
--- a replay, with no limit and with a limit in each of its spellings, and on a base
+-- a replay without a limit, with a limit in each of its spellings, and on a base
 unfoldable pub taken : Type 0
 taken =
     AsksFor 1000000 false (codes "replay" ∷ [])
@@ -34,7 +34,7 @@ taken =
     × AsksFor 1000000 true (codes "replay" ∷ codes "--base" ∷ [])
     × AsksFor 7 true (codes "replay" ∷ codes "--base" ∷ codes "--limit=7" ∷ [])
 
--- a limit that is too large, is no number, is missing or is told twice, and a base with a value or told twice
+-- a limit that is too large, not a number, missing or repeated, and a base with a value or repeated
 unfoldable pub bad_limit : Type 0
 bad_limit =
     FailsBy (ValueValidation ∷ []) (codes "replay" ∷ codes "--limit" ∷ codes "1000001" ∷ [])
@@ -45,7 +45,7 @@ bad_limit =
     × FailsBy (TooManyValues ∷ []) (codes "replay" ∷ codes "--base=x" ∷ [])
     × FailsBy (ArgumentConflict ∷ []) (codes "replay" ∷ codes "--base" ∷ codes "--base" ∷ [])
 
--- rooms to serve, with and without a limit, and the options before, between and after the rooms
+-- rooms to serve, with and without a limit, and with options before, between and after the rooms
 unfoldable pub serve_taken : Type 0
 serve_taken =
     AsksToServe (codes "127.0.0.1:9001") 8 1000 1000000 false (codes "paris" ∷ codes "rome" ∷ [])
@@ -55,7 +55,7 @@ serve_taken =
     × AsksToServe [] 1 1 5 false (codes "b" ∷ codes "--c" ∷ [])
     (codes "--addr=" ∷ codes "--limit" ∷ codes "5" ∷ codes "--sessions" ∷ codes "1" ∷ codes "--workers" ∷ codes "+01" ∷ codes "--" ∷ codes "b" ∷ codes "--c" ∷ [])
 
--- no room, an option that is missing, and numbers that are out of their ranges
+-- no room, a missing option, and numbers out of range
 unfoldable pub bad_serve : Type 0
 bad_serve =
     FailsBy (MissingRequiredArgument ∷ []) (codes "serve" ∷ codes "--addr=x" ∷ codes "--workers=1" ∷ codes "--sessions=1" ∷ [])
@@ -65,7 +65,7 @@ bad_serve =
     × FailsBy (ValueValidation ∷ []) (codes "serve" ∷ codes "--addr=x" ∷ codes "--workers=1" ∷ codes "--sessions=1000001" ∷ codes "a" ∷ [])
     × FailsBy (ValueValidation ∷ []) (codes "serve" ∷ codes "--limit=1000001" ∷ codes "a" ∷ [])
 
--- no subcommand, another one, and a word too many
+-- no subcommand, an unknown subcommand, and arguments that are not expected
 unfoldable pub bad_word : Type 0
 bad_word =
     FailsBy (MissingSubcommand ∷ []) []
@@ -73,14 +73,14 @@ bad_word =
     × FailsBy (UnknownArgument ∷ []) (codes "--limit=1" ∷ codes "replay" ∷ [])
     × FailsBy (UnknownArgument ∷ []) (codes "replay" ∷ codes "more" ∷ [])
 
--- the ways to ask for the version, which the program has and `replay` has not
+-- the ways to ask for the version, which the program has and `replay` does not have
 unfoldable pub version_asked : Type 0
 version_asked =
     FailsBy (DisplayVersion ∷ []) (codes "--version" ∷ [])
     × FailsBy (DisplayVersion ∷ []) (codes "-V" ∷ [])
     × FailsBy (UnknownArgument ∷ []) (codes "replay" ∷ codes "--version" ∷ [])
 
--- the ways to ask for help, of which the word `help` may have a mistake after it
+-- the ways to ask for help; after the word `help` there may be a mistake
 unfoldable pub help_asked : Type 0
 help_asked =
     FailsBy (DisplayHelp ∷ []) (codes "--help" ∷ [])

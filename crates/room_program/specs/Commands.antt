@@ -1,4 +1,4 @@
--- What the program's words ask for, and what a run that they ask for did to its streams. (This project's.)
+-- What the program's arguments ask for, and what a run that they ask for did to its streams.
 use Rattle.std.specs.Prelude.{◌≡◌, ◌≤◌, ◌⊎◌, ◌^◌, ℕ, Bool, true, false, List, [], Option, Some, codes, map}
 use Rattle.std.specs.declared.alloc.Global.{Global}
 use Rattle.clap.specs.Words.{Text}
@@ -18,14 +18,14 @@ use Rattle.room_program.specs.Replays.{EndsBy}
 use Rattle.room_program.specs.Streams.{GetsAtMost, WritesAll, WritesFront}
 use Rattle.room_program.specs.CommandLine.{IsTaken, addr_asked, base_asked, limit_asked, rooms_asked, sessions_asked, subcommand_asked, workers_asked}
 
--- the words are taken, and ask for a replay with this limit, on a base or not
+-- the arguments are taken, and ask for a replay with this limit, on a base or not
 pub record AsksForReplay (words : List Text) (limit : ℕ) (base : Bool) : Type 0 where
   pub taken : IsTaken words
   pub subcommand : subcommand_asked words ≡ Some (codes "replay")
   pub limit_is : limit ≡ limit_asked words
   pub base_is : base ≡ base_asked words
 
--- the words are taken, and ask to serve so
+-- the arguments are taken, and ask to serve with these options
 pub record AsksForServe (words : List Text) (serve : ServeOptions) : Type 0 where
   pub taken : IsTaken words
   pub subcommand : subcommand_asked words ≡ Some (codes "serve")
@@ -36,36 +36,37 @@ pub record AsksForServe (words : List Text) (serve : ServeOptions) : Type 0 wher
   pub base_is : serve.base ≡ base_asked words
   pub rooms_are : map (λ room. room.now) serve.rooms.items ≡ rooms_asked words
 
--- the words are taken, and ask for this
+-- the arguments are taken, and ask for this
 abbrev pub IsAsked : List Text → Asked → Type 0
 IsAsked words (asked.Replay limit base) = AsksForReplay words limit base
 IsAsked words (asked.Serve serve) = AsksForServe words serve
 
--- what is known of an input, of an output, and of a stream for errors
+-- the contracts' view of an input, of an output, and of a stream for errors
 module _ {S W E : Type 0} (source : sources.Ghosts S) (sink : sinks.Ghosts W) (errors_sink : sinks.Ghosts E) where
-  -- a room with this limit that began with a map was run on what the input had left, and it ended with this status
+  -- a room with this limit that began with this map was run on what the input had left, and the run ended with this
+  -- status
   pub record Ran (base : Rows Global) (left : Option (List ℕ)) (limit status : ℕ) (input input' : S)
       (output output' : W) (errors errors' : E) : Type 0 where
     pub range : status ≤ 1
-    -- done: the script of all that was left was written, and nothing is told
+    -- done: the script of all remaining bytes was written, and nothing is reported
     pub done : status ≡ 0
         → WritesAll (script base limit) left (source.left input') (sink.taken output) (sink.taken output')
     pub silent : status ≡ 0 → errors' ≡ errors
-    -- failed: a front of the script was written, and the fault is told by its line
+    -- failed: a prefix of the script was written, and the fault's line is written to the errors
     pub failed : status ≡ 1
         → WritesFront (script base limit) left (source.left input') (sink.taken output) (sink.taken output')
     pub told : status ≡ 1 → (fault : ReplayFault) × Takes errors_sink errors errors' (fault_line (Replay fault))
         × EndsBy source sink (script base limit) left (2 ^ 40) input input' output output' fault
 
-  -- no room was opened: nothing was written to the output, and why is told by its line
+  -- no room was opened: nothing was written to the output, and the fault's line is written to the errors
   pub record RanNothing (status : ℕ) (input input' : S) (output output' : W) (errors errors' : E) : Type 0 where
     pub failed : status ≡ 1
     pub unwritten : output' ≡ output
     pub told : (fault : ReplayFault) × Takes errors_sink errors errors' (fault_line (Replay fault))
         × IsNoBase source (2 ^ 40) input input' fault
 
-  -- a replay: of all lines by a room with an empty map, or where a base is asked for of all but the first by one with
-  -- the map that the first tells
+  -- A replay: without a base, of all lines by a room with the empty map. With a base, of all lines but the first by a
+  -- room with the map in the first line.
   abbrev pub RanBy : Bool → ℕ → ℕ → S → S → W → W → E → E → Type 0
   RanBy false limit status input input' output output' errors errors' =
       Ran [] (source.left input) limit status input input' output output' errors errors'
@@ -77,5 +78,5 @@ module _ {S W E : Type 0} (source : sources.Ghosts S) (sink : sinks.Ghosts W) (e
   pub record Replays (base : Bool) (limit status : ℕ) (input input' : S) (output output' : W) (errors errors' : E)
       : Type 0 where
     pub ran : RanBy base limit status input input' output output' errors errors'
-    -- at most 2^40 reads were made, and none after one that gave the end
+    -- at most 2^40 reads were made, and none after a read that gave the end
     pub calls : GetsAtMost source.gets (2 ^ 40) input input'

@@ -1,4 +1,4 @@
--- How a fault is told. (This project's.)
+-- The lines and exit statuses of faults.
 use Rattle.std.specs.Prelude.{◌≡◌, ◌⊎◌, ℕ, Bool, true, false, List, [], ◌∷◌, ◌++◌, codes}
 use Rattle.std.specs.declared.alloc.Global.{Global}
 use Rattle.std.specs.Io.KnownBytes.{Appends}
@@ -19,16 +19,16 @@ use Rattle.room_server.specs.declared.pool.PoolFault.TheVariants as pools
 use Rattle.room_server.specs.declared.table.TableFault.{TableFault}
 use Rattle.room_server.specs.declared.table.TableFault.TheVariants as tables
 
--- the line that tells the name whose row is not sound
+-- the line with the name whose row is not sound
 abbrev pub unsound_line : Name → List ℕ
 unsound_line x = codes "maproom: unsound base " ++ name_text x ++ 10 ∷ []
 
--- a fault that is told with it
+-- the line of the fault has a name
 abbrev pub names_row : ProgramFault → Bool
 names_row (Replay (faults.Unsound x why)) = true
 names_row _ = false
 
--- the line that tells a fault
+-- the line of a fault
 abbrev pub fault_line : ProgramFault → List ℕ
 fault_line (Replay faults.Read) = codes "maproom: read failed\n"
 fault_line (Replay faults.Write) = codes "maproom: write failed\n"
@@ -42,14 +42,14 @@ fault_line TooManyRooms = codes "maproom: too many rooms\n"
 fault_line BadName = codes "maproom: bad room name\n"
 fault_line Twice = codes "maproom: room twice\n"
 
--- the status that it ends the program with, which is 2 where the words are to blame
+-- the exit status of a fault, which is 2 if the arguments are to blame
 abbrev pub fault_status : ProgramFault → ℕ
 fault_status TooManyRooms = 2
 fault_status BadName = 2
 fault_status Twice = 2
 fault_status _ = 1
 
--- what a fault of a run over streams, and one of the map that a room was to begin with, is to a replay
+-- a fault of a run over streams, and a fault of a base map, as a fault of a replay
 abbrev pub stream_fault : StreamFault → ReplayFault
 stream_fault streams.Read = faults.Read
 stream_fault streams.Write = faults.Write
@@ -59,7 +59,7 @@ abbrev pub base_fault : BaseFault Global → ReplayFault
 base_fault (bases.Unsound x why) = faults.Unsound x why
 base_fault bases.Memory = faults.Memory
 
--- what that one is to the program, and a fault of the table of rooms and one of the pool of workers
+-- a fault of a base map, of the table of rooms and of the pool of workers, as a fault of the program
 abbrev pub opening_fault : BaseFault Global → ProgramFault
 opening_fault (bases.Unsound x why) = Replay (faults.Unsound x why)
 opening_fault bases.Memory = Memory
@@ -74,7 +74,7 @@ abbrev pub pool_fault : PoolFault → ProgramFault
 pool_fault pools.Worker = Worker
 pool_fault pools.Memory = Memory
 
--- a writer took a text, or a front of it and then failed or took no more
+-- a writer took a text; or it took a prefix of the text and then failed or took no more
 module _ {W : Type 0} (sink : Ghosts W) where
   pub record Takes (before after : W) (text : List ℕ) : Type 0 where
     pub front : List ℕ
@@ -83,6 +83,6 @@ module _ {W : Type 0} (sink : Ghosts W) where
     pub written : Appends (sink.taken before) (sink.taken after) front
     pub why : (rest ≡ []) ⊎ ((sink.has_failed after ≡ true) ⊎ TookNone sink.puts after)
 
-  -- a writer took one text so, whichever
+  -- a writer took some text so
   abbrev pub TakesOne : W → W → Type 0
   TakesOne before after = (text : List ℕ) × Takes before after text

@@ -1,4 +1,4 @@
--- The lines that tell of rooms at the end. (This project's.)
+-- The lines with the entry counts of rooms.
 use Rattle.std.specs.Prelude.{ℕ, List, [], ◌∷◌, ◌++◌, decimal}
 use Rattle.clap.specs.Words.{Text}
 

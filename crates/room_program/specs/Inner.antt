@@ -1,3 +1,3 @@
--- Relations that only inner functions and proofs use.
+-- Relations for private functions and proofs alone.
 pub mod FirstLines
 pub mod LongReplies

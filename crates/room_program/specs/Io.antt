@@ -1,4 +1,4 @@
--- What a stream of the system is seen as.
+-- The model of a stream of the system.
 use Rattle.std.specs.Prelude.{ℕ, Bool, List, Result, length}
 use Rattle.room_program.specs.declared.failed.Failed.{Failed}
 use Rattle.room_program.specs.declared.noted.Calls.{Calls}
@@ -15,11 +15,11 @@ module _ {T : Type 0} where
   abbrev pub calls_of : Io T → Calls
   calls_of io = noted.calls_of io.below
 
-  -- whether a call of it has failed
+  -- whether a call of the stream has failed
   abbrev pub failed_of : Io T → Bool
   failed_of io = io.has_failed
 
-  -- a read of some length, and a write of these bytes, answers what the stream did
+  -- a read of some length returns what the stream answered, and so does a write of these bytes
   abbrev pub Gets : Io T → Result ℕ Failed → Io T → Type 0
   Gets before answer after = (asked : ℕ) × AnswersAtLast (calls_of before) asked answer (calls_of after)
 

@@ -1,4 +1,4 @@
--- What a stream with a note of its calls is seen as.
+-- The model of a stream with notes of its calls.
 use Rattle.room_program.specs.declared.noted.Calls.{Calls}
 use Rattle.room_program.specs.declared.noted.Noted.{Noted}
 

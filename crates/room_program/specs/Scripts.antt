@@ -1,14 +1,14 @@
--- What is written for lines: the reply to each, and a line feed. (This project's.)
+-- The output for lines: the reply to each line, and a line feed.
 use Rattle.std.specs.Prelude.{ℕ, List, [], ◌∷◌, ◌++◌}
 use Rattle.room_program.specs.Lines.{lines}
 
--- whether a line lost its answer for want of memory, and with it its id
+-- what a failed allocation cost a line: nothing, its answer, or its answer with its id
 pub data Loss : Type 0 where
   Nothing : Loss
   Answer_lost : Loss
   Answer_and_id_lost : Loss
 
--- what the first line lost, and what the later ones did
+-- the loss of the first line, and the losses of the later lines
 abbrev pub first_loss : List Loss → Loss
 first_loss [] = Nothing
 first_loss (x ∷ xs) = x
@@ -17,9 +17,9 @@ abbrev pub later_losses : List Loss → List Loss
 later_losses [] = []
 later_losses (x ∷ xs) = xs
 
--- a room answers a line with a text, and is left as another room
+-- `answer` gives the reply of a room to a line, and the room after it
 module _ {R : Type 0} (answer : Loss → R → List ℕ → List ℕ × R) where
-  -- the replies to lines, the room going from line to line
+  -- the replies to lines, in order
   abbrev pub replies : R → List (List ℕ) → List Loss → List ℕ
   replies room [] lost = []
   replies room (line ∷ later) lost =

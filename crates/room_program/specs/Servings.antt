@@ -1,4 +1,4 @@
--- What came of serving rooms. (This project's.)
+-- The outcome of serving rooms.
 use Rattle.std.specs.Prelude.{◌≡◌, ◌≤◌, ◌<◌, ◌⊎◌, ◌^◌, ℕ, Bool, true, false, List, All, length, ◌++◌, codes}
 use Rattle.std.specs.declared.alloc.Global.{Global}
 use Rattle.clap.specs.Words.{Text}
@@ -17,21 +17,21 @@ use Rattle.room_server.specs.declared.table.TableFault.TheVariants as tables
 use Rattle.room_program.specs.Streams.{GetsAtMost}
 use Rattle.room_server.specs.Openings.{AreFine, IsNameFault}
 
--- the rooms can be served: they are not too many, and each has a name of its own
+-- the rooms can be served: there are at most 64, each with a name of its own
 abbrev pub CanBeServed : List Text → Type 0
 CanBeServed rooms = (length rooms ≤ 64) × AreFine rooms (length rooms)
 
--- so many entries has a journal that calls lead to from this map, with this limit
+-- the number is the length of a journal with this limit, to which calls lead from this map
 abbrev pub IsFrontOf : Rows Global → ℕ → ℕ → Type 0
 IsFrontOf base limit front = (journal : List (Entry Global)) × IsJournal base limit journal × (front ≡ length journal)
 
--- the line that tells that clients can connect
+-- the line that is written once clients can connect
 abbrev pub listening : Text
 listening = codes "listening\n"
 
--- what is known of an input, and whether it tells a base
+-- the contracts' view of an input, and whether a base is asked for
 module _ {S : Type 0} (source : sources.Ghosts S) (on_base : Bool) where
-  -- why the rooms are not opened
+  -- the reason for which the rooms were not opened
   abbrev pub IsUnopened : List Text → S → S → ProgramFault → Type 0
   IsUnopened rooms input input' TooManyRooms = (64 < length rooms) × (input' ≡ input)
   IsUnopened rooms input input' BadName =
@@ -43,10 +43,10 @@ module _ {S : Type 0} (source : sources.Ghosts S) (on_base : Bool) where
   IsUnopened rooms input input' Memory = length rooms ≤ 64
   IsUnopened rooms input input' _ = ⊥
 
--- what is known of an output
+-- the contracts' view of an output
 module _ {W : Type 0} (sink : sinks.Ghosts W) where
-  -- the rooms were served to the end, each from this map on: the output took the line, and then for each room a line
-  -- that tells how many entries its journal has
+  -- The rooms were served to the end, each from this map on. The output took the line `listening`, and then for each
+  -- room a line with the entry count of its journal.
   pub record ServesAll (rooms : List Text) (base : Rows Global) (limit : ℕ) (output output' : W) : Type 0 where
     pub can : CanBeServed rooms
     pub sound : is_sound base ≡ true
@@ -55,9 +55,9 @@ module _ {W : Type 0} (sink : sinks.Ghosts W) where
     pub each : All (IsFrontOf base limit) fronts
     pub written : Takes sink output output' (listening ++ front_lines rooms fronts)
 
--- what is known of both
+-- the contracts' view of both
 module _ {S W : Type 0} (source : sources.Ghosts S) (sink : sinks.Ghosts W) (on_base : Bool) where
-  -- a fault ended it: before the line was written, or after
+  -- a fault ended the serving, before the line `listening` was written or afterwards
   abbrev pub StopsBy : List Text → S → S → W → W → ProgramFault → Type 0
   StopsBy rooms input input' output output' Listen = CanBeServed rooms × (output' ≡ output)
   StopsBy rooms input input' output output' Worker = CanBeServed rooms × Takes sink output output' listening
@@ -66,7 +66,8 @@ module _ {S W : Type 0} (source : sources.Ghosts S) (sink : sinks.Ghosts W) (on_
   StopsBy rooms input input' output output' fault =
       IsUnopened source on_base rooms input input' fault × (output' ≡ output)
 
-  -- rooms were served with this limit, and it ended with this status; a fault is told by its line
+  -- rooms were served with this limit, and the call ended with this status; the line of a fault is written to the
+  -- errors
   pub record Serves {E : Type 0} (errors_sink : sinks.Ghosts E) (rooms : List Text) (limit status : ℕ)
       (input input' : S) (output output' : W) (errors errors' : E) : Type 0 where
     pub range : status ≤ 2
@@ -75,6 +76,6 @@ module _ {S W : Type 0} (source : sources.Ghosts S) (sink : sinks.Ghosts W) (on_
     pub failed : 0 < status → (fault : ProgramFault) × (status ≡ fault_status fault)
         × Takes errors_sink errors errors' (fault_line fault)
         × StopsBy rooms input input' output output' fault
-    -- nothing was read but for a base, and then at most 2^40 times and never after the end
+    -- nothing was read except a base, by at most 2^40 reads and never after the end
     pub unread : on_base ≡ false → input' ≡ input
     pub calls : GetsAtMost source.gets (2 ^ 40) input input'

@@ -1,33 +1,33 @@
-//! What the program's words can ask for.
+//! What the program's arguments can ask for.
 
-/// What the words ask for.
+/// What the arguments ask for.
 #[derive(Drop)]
 pub enum Asked<'a> {
     /// To run a room from the lines of standard input.
     Replay {
-        /// How many entries the room's journal takes at most.
+        /// The most entries that the room's journal takes.
         limit: u32,
-        /// Whether the first line tells the map that the room begins with.
+        /// Whether the first line is a welcome with the room's base map.
         base: bool,
     },
     /// To serve rooms.
     Serve(ServeOptions<'a>),
 }
 
-/// What the words of `serve` say.
+/// The arguments of `serve`.
 #[derive(Drop)]
 pub struct ServeOptions<'a> {
-    /// Where it is to listen, as it is written: any text. What is no address, and one at which the system does not
-    /// listen, are one fault (`Listen`), since it is the system's own call that knows.
+    /// The address to listen at, as it is written: any text. A text that is not an address, and an address at which the
+    /// system does not listen, are one fault (`Listen`), because only the system's own call knows.
     pub addr: &'a str,
-    /// How many sessions are served at the same time, from 1 to 64.
+    /// The number of sessions that are served at the same time, from 1 to 64.
     pub workers: u32,
-    /// How many connections are accepted, from 1 to 1000000.
+    /// The number of connections that are accepted, from 1 to 1000000.
     pub sessions: u32,
-    /// How many entries the journal of each room takes at most.
+    /// The most entries that the journal of each room takes.
     pub limit: u32,
-    /// Whether the first line of standard input tells the map that the rooms begin with.
+    /// Whether the first line of standard input is a welcome with the rooms' base map.
     pub base: bool,
-    /// The names of the rooms, as they are written and in their order.
+    /// The names of the rooms, as they are written and in order.
     pub rooms: Vec<&'a str>,
 }

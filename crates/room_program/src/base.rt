@@ -1,4 +1,4 @@
-//! The map that a room begins with, as the first line of a stream tells it.
+//! Reading the base map of a room from the first line of a stream.
 ghost use Rattle.std.specs.Prelude.{◌≡◌, ◌<◌, ◌⊎◌, false, true, length, Ok, Err, IfErr, IfOk, MatchResult, OnOk};
 ghost use Rattle.room_wire.specs.declared.bad.Fault.TheVariants.{Memory as OutOfMemory};
 ghost use Rattle.osm_elements.specs.Rows.{AreInOrder};
@@ -16,31 +16,34 @@ use room_wire::bad::{Bad, Fault};
 use room_wire::welcome::{Welcome, read_welcome};
 use std::alloc::Global;
 
-/// What a reader gave up to the end of its first line.
+/// The result of reading the first line of a stream.
 #[derive(Drop)]
 pub(crate) struct FirstLine {
     /// The line, without its line feed.
     pub line: Vec<u8>,
-    /// What came with it, or none where the stream ended with the line.
+    /// What was read with the line, or `None` if the stream ended with the line.
     pub later: Option<Later>,
 }
 
-/// What was read together with a first line.
+/// The bytes that were read with a first line, and the reads that are left.
 #[derive(Drop)]
 pub(crate) struct Later {
-    /// The bytes behind the line feed.
+    /// The bytes after the line feed.
     pub held: Vec<u8>,
-    /// How many reads are left.
+    /// The number of reads that are left.
     pub reads: u64,
 }
 
-/// The rows of the map that the first line of a stream tells, as a welcome does: its names rise, and each element is of
-/// its name's kind. The stream is read in blocks, and may be read past the line. It is read to the end of the line, and
-/// not again after a read that gives the end.
+/// Reads the first line of a stream as a welcome, and returns the rows of its map.
 ///
-/// - `Read`: the reader failed, or `reads` reads were used up.
-/// - `BadBase`: the line is no welcome. An empty one, none, and one that is not UTF-8 are no JSON.
-/// - `Memory`: the line could not be held, or not be read as a welcome.
+/// The names of the rows rise, and each element is of its name's kind. The stream is read in blocks to the end of the
+/// line, and possibly past it. After a read that gives the end, it is not read again.
+///
+/// # Errors
+///
+/// - `Read`, if the reader failed or `reads` reads were used up.
+/// - `BadBase`, if the line is not a welcome. A line that is empty, missing or not UTF-8 is not JSON.
+/// - `Memory`, if an allocation for the line or for the welcome fails.
 pub fn read_base<S: Source>(
     alloc: Global,
     reader: &mut S,
@@ -52,7 +55,7 @@ pub fn read_base<S: Source>(
     ensures kinds { IfOk result (λ rows. are_of_kinds rows ≡ true) }
     ensures works { OnOk result (S.has_failed reader.new ≡ false) }
     ensures err { IfErr result (λ fault. IsUnread S.Source reads reader.old reader.new fault) }
-    // At most so many reads were made, and none after one that gave the end.
+    // At most `reads` reads were made, and none after a read that gave the end.
     ensures calls { GetsAtMost S.gets reads reader.old reader.new }
 {
     let mut block = vec![in alloc; 0u8; BLOCK]?;
@@ -60,7 +63,7 @@ pub fn read_base<S: Source>(
     rows_of(alloc, first.line)
 }
 
-/// Reads up to the end of the first line, and perhaps past it.
+/// Reads to the end of the first line, and possibly past it.
 pub(crate) fn read_first_line<S: Source>(
     alloc: Global,
     reader: &mut S,
@@ -94,7 +97,7 @@ pub(crate) fn read_first_line<S: Source>(
     Err(StreamFault::Read)
 }
 
-/// The rows of the welcome that a line is.
+/// Reads a line as a welcome, and returns the welcome's rows.
 pub(crate) fn rows_of(alloc: Global, line: Vec<u8>) -> Result<Rows<Global>, ReplayFault>
     ensures ok { IfOk result (λ rows. Tells line.items rows) }
     ensures order { IfOk result (λ rows. AreInOrder rows) }
@@ -110,7 +113,7 @@ pub(crate) fn rows_of(alloc: Global, line: Vec<u8>) -> Result<Rows<Global>, Repl
     }
 }
 
-// The welcome that the bytes of a line are.
+// Reads the bytes of a line as a welcome.
 fn welcome_of(alloc: Global, line: &[u8]) -> Result<Welcome, Bad>
     ensures exact { MatchResult result (λ w. spelled_base line.now ≡ Ok w)
         (λ bad. (bad.fault ≡ OutOfMemory) ⊎ (spelled_base line.now ≡ Err bad)) }

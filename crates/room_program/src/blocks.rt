@@ -1,4 +1,4 @@
-//! The lines of a block, answered.
+//! Answering the lines of a block.
 ghost use Rattle.std.specs.Prelude.{◌≡◌, ◌++◌, ◌⊎◌, ℕ, List, [], ◌∷◌, IfOk, OnOk, OnErr, ◌<◌, length};
 ghost use Rattle.room_program.specs.Lines.{IsLine};
 ghost use Rattle.room_program.specs.Scripts.{Loss};
@@ -11,10 +11,10 @@ use osm_elements::Memory;
 use room_wire::Scratch;
 use std::alloc::Global;
 
-/// How many bytes a block has: so many a read asks for, and so many of replies are held before they are written.
+/// The bytes of a block. A read asks for so many bytes, and replies are written when so many bytes of them are held.
 pub const BLOCK: usize = 65_536;
 
-// Answers a line that began with the bytes that are held, and holds none.
+// Answers a line, whose beginning may be held in `begun`, and clears `begun`.
 fn answer_line<A: Answerer>(
     alloc: Global,
     answers: &mut A,
@@ -41,8 +41,8 @@ fn answer_line<A: Answerer>(
     Ok(())
 }
 
-/// Answers the lines that end in the block until their replies fill a block themselves, and gives what is left. Where
-/// the lines come to their end first, what comes after the last is held, and nothing is left.
+/// Answers the lines that end in the block until their replies fill a block, and returns the remaining bytes. If the
+/// lines come to an end first, the bytes after the last line feed are held in `begun`, and none remain.
 pub fn answer_lines<'a, A: Answerer>(
     alloc: Global,
     answers: &mut A,

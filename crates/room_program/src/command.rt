@@ -1,4 +1,4 @@
-//! The program's command line.
+//! The program.
 ghost use Rattle.std.specs.Prelude.{◌≡◌, ◌≤◌, ◌⊎◌, ℕ, Bool, false, map, true};
 ghost use Rattle.clap.specs.Words.{kind_of};
 ghost use Rattle.room_program.specs.Commands.{AsksForReplay, AsksForServe, Replays};
@@ -27,25 +27,28 @@ use std::sync::Wait;
 use std::thread::Threads;
 use std::time::Clock;
 
-/// The status of a run that came to the end of its input or served all its sessions, or that showed a help or the
+/// The exit status of a run that came to the end of its input, served all its sessions, or showed a help or the
 /// version.
 pub const DONE: u8 = 0;
 
-/// The status of a run that a fault ended which its words are not to blame for.
+/// The exit status of a run that ended with a fault, if its arguments are not to blame.
 pub const FAILED: u8 = 1;
 
-/// The status of a run whose words were refused.
+/// The exit status of a run whose arguments were refused.
 pub const REFUSED: u8 = 2;
 
-/// The program: does what its words ask for, and answers its status. The first word is the program's name.
+/// Runs the program with the arguments `words`, the first of which is the program's name, and returns its exit status.
 ///
-/// `replay` reads `input` to its end and writes the replies to `output` (status 0). `serve` serves rooms to clients,
-/// and writes to `output` when they can connect, and at the end how many entries the journal of each room has (status
-/// 0). A fault is told on `errors` by a line (status 1, and 2 where the names of rooms are to blame). Words that are
-/// refused are answered by a text on `errors` (status 2), and words that ask for help or for the version by a text on
-/// `output` (status 0). Where there is no memory to read the words, a line on `errors` says so (status 1). Texts other
-/// than replies are written as far as the streams take them. Where rooms were served to the end nothing is told on
-/// `errors`. That speaks of the stream that is handed in: in the program it goes to the same place as the log.
+/// - `replay` reads `input` to its end and writes the replies to `output` (status 0).
+/// - `serve` serves rooms to clients. It writes a line to `output` once clients can connect, and the entry count of
+///   each room's journal at the end (status 0).
+/// - A fault is reported by a line on `errors`. The status is 2 if the names of rooms are to blame, and otherwise 1.
+/// - Refused arguments are answered by a text on `errors` (status 2).
+/// - Arguments that ask for help or the version are answered by a text on `output` (status 0).
+/// - If an allocation for the arguments fails, a line on `errors` reports it (status 1).
+///
+/// Texts other than replies are written as far as the streams take them. If rooms were served to the end, nothing is
+/// written to `errors`. In the program, this stream has the same destination as the log.
 pub fn command<R, T: AsStr, S: Source, W: Sink, E: Sink>(
     rt: &R,
     words: &[T],
@@ -65,15 +68,15 @@ where
     requires output_works { W.has_failed output.old ≡ false }
     requires errors_work { E.has_failed errors.old ≡ false }
 
-    // It goes by what the words ask for, and what came of a replay or of serving stands in a record of its own: so one
-    // more subcommand is one more case with one more record, and no sentence of the others changes.
+    // The cases depend on what the arguments ask for, and each subcommand has a record of its own for its ends. So a
+    // further subcommand adds one case and one record, and changes no other.
     //
-    // One of these:
-    // - the words ask for a replay with a limit, which was run and ended with this status;
-    // - they ask to serve rooms, which were served or not, and it ended with this status;
-    // - they can ask for a help or the version: nothing was read, and one text was written to the output alone;
-    // - they can have a mistake: nothing was read, and one text was written to the errors alone;
-    // - there was no memory to read them: this is told, nothing was read, and nothing written to the output.
+    // One of these is true:
+    // - the arguments ask for a replay with a limit, which was run and ended with this status;
+    // - they ask to serve rooms, which were served or not, and the call ended with this status;
+    // - they can ask for a help or the version: nothing was read, and one text was written, to the output;
+    // - they can have a mistake: nothing was read, and one text was written, to the errors;
+    // - an allocation for them failed: this is reported, nothing was read, and nothing was written to the output.
     ensures { let texts = map T.text words.now in
         ((limit : ℕ) × (base : Bool) × AsksForReplay texts limit base
         × Replays S.Source W.Sink E.Sink base limit result input.old input.new output.old output.new errors.old
@@ -96,7 +99,7 @@ where
     }
 }
 
-// Runs a replay, and tells its fault.
+// Runs a replay, and reports its fault.
 fn run<S: Source, W: Sink, E: Sink>(
     alloc: Global,
     limit: u32,
@@ -122,7 +125,7 @@ fn run<S: Source, W: Sink, E: Sink>(
     }
 }
 
-// Serves rooms, and tells a fault.
+// Serves rooms, and reports a fault.
 fn run_server<R, S: Source, W: Sink, E: Sink>(
     rt: &R,
     alloc: Global,
@@ -147,7 +150,7 @@ where
     }
 }
 
-// Tells a fault.
+// Reports a fault, and returns its exit status.
 fn fail<E: Sink>(errors: &mut E, fault: &ProgramFault) -> u8
     requires { E.has_failed errors.old ≡ false }
     ensures failed { result ≡ fault_status fault.now }
@@ -162,8 +165,8 @@ fn fail<E: Sink>(errors: &mut E, fault: &ProgramFault) -> u8
     status_of(fault)
 }
 
-// Tells the name whose row is not sound, on one line. Which check it was stands in the fault; a reader of the line
-// looks the element up.
+// Writes one line with the name whose row is not sound. The line does not have the reason; its reader can look the
+// element up.
 fn tell_unsound<E: Sink>(errors: &mut E, name: &Name)
     requires { E.has_failed errors.old ≡ false }
     ensures { Takes E.Sink errors.old errors.new (unsound_line name.now) }
@@ -175,10 +178,10 @@ fn tell_unsound<E: Sink>(errors: &mut E, name: &Name)
     }
 }
 
-// What stands on that line before the name.
+// The line before the name.
 const UNSOUND: &str = "maproom: unsound base ";
 
-// The line that tells a fault which names nothing.
+// Returns the line for a fault that has no name.
 fn line_of(fault: &ProgramFault) -> &'static str
     ensures { names_row fault.now ≡ false → result.now ≡ fault_line fault.now }
 {
@@ -196,7 +199,7 @@ fn line_of(fault: &ProgramFault) -> &'static str
     }
 }
 
-// The status that a fault ends the program with.
+// Returns the exit status for a fault.
 fn status_of(fault: &ProgramFault) -> u8
     ensures { result ≡ fault_status fault.now }
 {
@@ -206,7 +209,7 @@ fn status_of(fault: &ProgramFault) -> u8
     }
 }
 
-// Writes what the reading of the words answered in the place of a limit.
+// Writes the text for arguments that were not accepted, and returns the exit status.
 fn answer_error<W: Sink, E: Sink>(
     alloc: Global,
     error: &Error,

@@ -1,4 +1,4 @@
-//! The program's words, and what they ask for.
+//! Reading the program's arguments.
 ghost use Rattle.std.specs.Prelude.{◌≡◌, IfOk, MatchResult, false, map};
 ghost use Rattle.clap.specs.Words.{HasKind, app_of, found_of, rows_of, rule_of};
 ghost use Rattle.clap.specs.declared.builder.command.Command.TheViews.{out-Command as fields_of};
@@ -15,7 +15,7 @@ use std::convert::AsStr;
 /// The version of the program.
 pub const VERSION: &str = "1.0.0";
 
-/// The most entries that a room's journal can be given leave to take.
+/// The largest limit that can be asked for.
 pub const MOST_ENTRIES: u32 = 1_000_000;
 
 /// The most workers that can be asked for.
@@ -24,11 +24,12 @@ pub const MOST_WORKERS: u32 = 64;
 /// The most sessions that can be asked for.
 pub const MOST_SESSIONS: u32 = 1_000_000;
 
-/// What the words ask for. The first word is the program's name.
+/// Reads the program's arguments, the first of which is the program's name, and returns what they ask for.
 ///
-/// The words are taken or refused as the command line below says: where they are refused, and where they ask for a
-/// help or the version, the error tells it. An error of the kind `OutOfMemory` says that there was no memory to read
-/// them.
+/// # Errors
+///
+/// An error, if `clap` refuses the arguments, or if they ask for a help or the version. Its kind is `OutOfMemory` if an
+/// allocation failed.
 pub fn read_command_line<'a, T: AsStr>(alloc: Global, words: &'a [T]) -> Result<Asked<'a>, Error>
     ensures { let texts = map T.text words.entry.now in
         MatchResult result (IsAsked texts) (HasKind (faults texts)) }
@@ -53,7 +54,7 @@ pub fn read_command_line<'a, T: AsStr>(alloc: Global, words: &'a [T]) -> Result<
     })
 }
 
-// The number that was found for an option, and 0 where none was.
+// Returns the number of an option, or 0 if it has none.
 fn number(options: &ArgMatches<'_>, id: &str) -> u32
     requires { HasNumber id.now (rows_of (found_of options.now)) }
     ensures { result ≡ number_in id.now (rows_of (found_of options.now)) }
@@ -61,21 +62,21 @@ fn number(options: &ArgMatches<'_>, id: &str) -> u32
     options.get_one::<u32>(id).unwrap_or(0)
 }
 
-// The address that was found, and the empty text where none was.
+// Returns the address, or the empty text if there is none.
 fn addr<'a>(options: &ArgMatches<'a>) -> &'a str
     ensures { result.now ≡ addr_in (rows_of (found_of options.now)) }
 {
     options.get_str("addr").unwrap_or("")
 }
 
-// Whether the option for a base was found.
+// Returns whether a base is asked for.
 fn base(options: &ArgMatches<'_>) -> bool
     ensures { result ≡ base_in (rows_of (found_of options.now)) }
 {
     options.get_str("base").unwrap_or("") == "true"
 }
 
-// The names of rooms that were found, in their order.
+// Returns the names of rooms, in order.
 fn rooms<'a>(alloc: Global, options: &ArgMatches<'a>) -> Result<Vec<&'a str>, AllocError>
     ensures { IfOk result (λ rooms. map (λ room. room.now) rooms.items ≡ rooms_in (rows_of (found_of options.now))) }
 {
@@ -85,7 +86,7 @@ fn rooms<'a>(alloc: Global, options: &ArgMatches<'a>) -> Result<Vec<&'a str>, Al
     }
 }
 
-// What the program's words can be.
+// Returns the program's command line.
 fn command_line<'a>(alloc: Global) -> Result<Command<'a>, AllocError>
     ensures { IfOk result (λ line. app_of line ≡ program_app) }
 {
@@ -100,7 +101,7 @@ fn command_line<'a>(alloc: Global) -> Result<Command<'a>, AllocError>
         .subcommand(serve)
 }
 
-// What the words after `replay` can be.
+// Returns the command line of `replay`.
 fn replay_line<'a>(alloc: Global) -> Result<Command<'a>, AllocError>
     ensures shape { IfOk result (λ line. app_of line ≡ replay_app) }
     ensures local { IfOk result (λ line. (fields_of line).has_globals ≡ false) }
@@ -112,7 +113,7 @@ fn replay_line<'a>(alloc: Global) -> Result<Command<'a>, AllocError>
         .arg(base_option(alloc))
 }
 
-// What the words after `serve` can be.
+// Returns the command line of `serve`.
 fn serve_line<'a>(alloc: Global) -> Result<Command<'a>, AllocError>
     ensures shape { IfOk result (λ line. app_of line ≡ serve_app) }
     ensures local { IfOk result (λ line. (fields_of line).has_globals ≡ false) }

@@ -1,4 +1,4 @@
-//! What ends a replay, and what ends the program.
+//! The faults that end a replay or the program.
 ghost use Rattle.std.specs.Prelude.{◌≡◌};
 
 use edit_simple::refusal::Refusal;
@@ -9,8 +9,8 @@ use room_wire::bad::Bad;
 use std::alloc::{AllocError, Global};
 use thiserror::Error;
 
-/// What ends a run over streams before its time. It is a type of its own, so that the loops over blocks have no case
-/// that cannot come; [`ReplayFault`] has these and the two faults of a base.
+/// A fault that ends a run over streams. It is a type of its own, so that the loops over blocks have no impossible
+/// cases. [`ReplayFault`] also has the two faults of a base.
 #[derive(Clone, Copy, Debug, PartialEq, Eq, Error)]
 pub enum StreamFault {
     /// The reader failed, or the reads were used up.
@@ -19,7 +19,7 @@ pub enum StreamFault {
     /// The writer failed, or took nothing.
     #[error("write failed")]
     Write,
-    /// A growth was refused.
+    /// An allocation failed.
     #[error("no memory")]
     Memory,
 }
@@ -34,7 +34,7 @@ impl From<AllocError> for StreamFault {
     }
 }
 
-/// What ends a replay before its time.
+/// A fault that ends a replay.
 #[derive(Debug, Drop, Error)]
 pub enum ReplayFault {
     /// The reader failed, or the reads were used up.
@@ -43,18 +43,18 @@ pub enum ReplayFault {
     /// The writer failed, or took nothing.
     #[error("write failed")]
     Write,
-    /// A growth was refused.
+    /// An allocation failed.
     #[error("no memory")]
     Memory,
-    /// The first line was to tell the map that the room begins with, and is no welcome: what is wrong with it.
+    /// The first line must be a welcome, and has this fault.
     #[error("bad base")]
     BadBase(Bad),
-    /// The map that the first line tells is not sound.
+    /// The map in the first line is not sound.
     #[error("unsound base")]
     Unsound {
-        /// The least name whose row is not.
+        /// The least name whose row is not sound.
         name: Name,
-        /// What is wrong with that row, as [`BaseFault`] tells it.
+        /// The reason, as in [`BaseFault`].
         why: Refusal<Global>,
     },
 }
@@ -96,29 +96,29 @@ impl From<BaseFault<Global>> for ReplayFault {
     }
 }
 
-/// What ends the program before its time.
+/// A fault that ends the program.
 #[derive(Debug, Drop, Error)]
 pub enum ProgramFault {
-    /// A replay, or the reading of the map that rooms begin with, ended so.
+    /// A replay, or the reading of the rooms' base map, ended with this fault.
     #[error(transparent)]
     Replay(ReplayFault),
-    /// There was no memory to read the words, or to serve rooms. It stands beside the `Memory` of a replay:
-    /// two faults with one line.
+    /// An allocation for the arguments or for serving rooms failed. This fault has the same line as the `Memory` of a
+    /// replay.
     #[error("no memory")]
     Memory,
-    /// The system does not listen at the address that the words tell.
+    /// The system does not listen at the given address.
     #[error("cannot listen")]
     Listen,
     /// The system does not start the thread of a worker.
     #[error("cannot start a worker")]
     Worker,
-    /// The words name more than 64 rooms.
+    /// The arguments name more than 64 rooms.
     #[error("too many rooms")]
     TooManyRooms,
-    /// One of the words is no name of a room.
+    /// An argument is not a name of a room.
     #[error("bad room name")]
     BadName,
-    /// Two of the words are the same name of a room.
+    /// Two arguments are the same name of a room.
     #[error("room twice")]
     Twice,
 }

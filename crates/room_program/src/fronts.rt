@@ -1,4 +1,4 @@
-//! The lines that tell how many entries the journals of rooms have.
+//! The lines with the entry counts of rooms.
 ghost use Rattle.std.specs.Prelude.{◌≡◌, ◌++◌, IfOk, OnOk, length, map};
 ghost use Rattle.room_program.specs.Fronts.{front_line, front_lines};
 
@@ -7,7 +7,11 @@ use itoa::Buffer;
 use osm_elements::Memory;
 use std::alloc::Global;
 
-/// A line for each room: its name, a space, and how many entries its journal has.
+/// Returns a line for each room: its name, a space, and the entry count of its journal.
+///
+/// # Errors
+///
+/// `Memory`, if an allocation fails.
 pub fn front_lines(alloc: Global, rooms: &[&str], fronts: &[u64]) -> Result<Vec<u8>, Memory>
     requires { length fronts.now ≡ length rooms.now }
     ensures { IfOk result (λ lines. lines.items ≡ front_lines (map (λ room. room.now) rooms.now) fronts.now) }
@@ -19,7 +23,7 @@ pub fn front_lines(alloc: Global, rooms: &[&str], fronts: &[u64]) -> Result<Vec<
     Ok(lines)
 }
 
-// Adds the line of a room.
+// Appends the line of a room.
 fn push_front(lines: &mut Vec<u8>, room: &str, front: u64) -> Result<(), Memory>
     ensures { OnOk result (lines.new.items ≡ lines.old.items ++ front_line room.now front) }
 {

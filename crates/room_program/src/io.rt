@@ -8,7 +8,7 @@ use crate::sink::Sink;
 use crate::source::Source;
 use std::io::{Read, Write};
 
-/// A source of anything that reads, and a sink of anything that writes. It repeats a call that was interrupted.
+/// A source of bytes over any reader, and a sink over any writer. It repeats calls that are interrupted.
 #[derive(Drop)]
 pub struct Io<T> {
     below: Noted<T>,
@@ -18,7 +18,7 @@ pub struct Io<T> {
 impl<T> Io<T> {
     ghost use Rattle.room_program.specs.Io.{calls_of, failed_of, stream_of};
 
-    /// The stream as a source or a sink, which has not failed yet.
+    /// Returns the stream as a source or a sink that has not failed yet.
     pub fn new(stream: T) -> Io<T>
         ensures stream { stream_of result ≡ stream }
         ensures uncalled { calls_of result ≡ unnoted }

@@ -1,4 +1,4 @@
-//! Laws of the definitions, each the contract of a function that does nothing.
+//! Laws about the definitions, each the contract of a function that does nothing.
 ghost use Rattle.std.specs.Prelude.{◌≡◌, ◌≤◌, ◌<◌, ◌+◌, ◌^◌, ℕ, List, Ok, Some, codes, is_some, true};
 ghost use Rattle.std.specs.declared.alloc.Global.{Global};
 ghost use Rattle.osm_changes.specs.Sound.{is_sound};
@@ -21,7 +21,7 @@ use crate::source::Source;
 use std::alloc::Global;
 use std::io::{Read, Write};
 
-/// What the definitions say of worked examples of words is what was worked out by hand.
+/// On worked examples of arguments, the definitions have the results that were worked out by hand.
 pub fn command_lines_are_as_worked()
     ensures taken { taken }
     ensures bad_limit { bad_limit }
@@ -32,8 +32,8 @@ pub fn command_lines_are_as_worked()
     ensures version_asked { version_asked }
 {}
 
-/// Taken words give a limit, as it was written or by default, which is a million at most. Those that ask to serve
-/// give a number of workers from 1 to 64, and a number of sessions from 1 to a million.
+/// Accepted arguments have a limit of at most a million, written or by default. Those that ask to serve have 1 to 64
+/// workers and 1 to a million sessions.
 pub fn limits_are_in_range()
     ensures told { (words : List (List ℕ)) → IsTaken words → is_some (limit_text words) ≡ true }
     ensures small { (words : List (List ℕ)) → IsTaken words → limit_asked words ≤ 1000000 }
@@ -43,8 +43,8 @@ pub fn limits_are_in_range()
         → (1 ≤ sessions_asked words) × (sessions_asked words ≤ 1000000) }
 {}
 
-/// What the relations of streams say of the system's: that so many reads were made says that the stream below answered
-/// so many calls, and that a sink took no byte of some says that the last call of the stream below was so answered.
+/// The relations of streams are facts of the system's streams. If they count some reads, the system's stream answered
+/// as many calls. If a sink took none of the remaining bytes, this was the answer to the stream's last call.
 pub fn calls_are_noted<R: Read, W: Write>()
     ensures reads { (n : ℕ) (before after : Io R) → (calls_of before).answered + n < 2 ^ 64
         → Gets ⟦<Io<R> as Source>⟧.gets n before after
@@ -53,9 +53,9 @@ pub fn calls_are_noted<R: Read, W: Write>()
         → (asked : ℕ) × (0 < asked) × ((calls_of after).last ≡ Some (record { asked = asked; answer = Ok 0 })) }
 {}
 
-/// After any lines of a script, whatever they say and whatever of their answers was lost, the journal of the room is
-/// one that calls lead to from the map that the room began with. Where that map is sound the theorem holds of the
-/// journal: the map is sound, and equals the standing actions replayed in order.
+/// After any lines of a script, whichever replies were lost, calls lead to the room's journal from its base map. If
+/// that map is sound, the theorem is true of the journal: the room's map is sound, and equals the active actions
+/// replayed in order.
 pub fn a_script_holds()
     ensures journals { (base : Rows Global) (limit : ℕ) (lines : List (List ℕ)) (lost : List Loss)
         → IsJournal base limit (room_after answered (opened_on base limit) lines lost).journal }

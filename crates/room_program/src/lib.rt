@@ -1,8 +1,11 @@
-//! The program: a room that is run from a stream of lines, rooms that are served to clients, and the command line
-//! that asks for one of them.
+//! The program: a room that is run from a stream of lines (`replay`), and rooms that are served to clients (`serve`).
 //!
-//! The program itself is a `main` that hands [`command::command`] its words and the standard streams. Here are
-//! the same calls over any streams.
+//! The program's `main` calls [`command::command`] with its arguments and the standard streams. The functions here take
+//! any streams: a [`Source`](source::Source) to read and a [`Sink`](sink::Sink) to write. [`io::Io`] makes such a
+//! stream of a reader or a writer of the system.
+//!
+//! A stream may report its bytes to contracts. The clauses on what was read and written then say which bytes these
+//! were.
 #![tactic(auto)]
 
 pub mod answerer;

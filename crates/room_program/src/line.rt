@@ -1,4 +1,4 @@
-//! What a line says, and what a room answers it.
+//! Answering a line by a room.
 ghost use Rattle.std.specs.Prelude.{◌≡◌, ◌⊎◌, ℕ, Some, None, IfOk, MatchOption, length};
 ghost use Rattle.room_wire.specs.declared.incoming.Body.TheVariants.{Change, Get, Map, Undos};
 ghost use Rattle.osm_elements.specs.Rows.{row_at};
@@ -43,14 +43,14 @@ impl Answerer for Room<Global> {
     }
 }
 
-// A line of an author's.
+// A line of an author.
 #[derive(Clone, Copy)]
 struct Said<'a> {
     author: Author,
     message: &'a [u8],
 }
 
-// The author whose name comes before the first space of a line, and the message after it.
+// Splits a line into the author's name before the first space, and the message after it.
 fn split_author(line: &[u8]) -> Option<Said<'_>>
     ensures { MatchOption result (said line.now ≡ None)
         (λ parts. said line.now ≡ Some (parts.author, parts.message.now)) }
@@ -61,7 +61,7 @@ fn split_author(line: &[u8]) -> Option<Said<'_>>
     Some(Said { author, message })
 }
 
-// Reads the bytes of an author's name.
+// Reads bytes as an author's name.
 fn read_author(name: &[u8]) -> Option<Author>
     ensures { result ≡ author_of name.now }
 {
@@ -71,7 +71,7 @@ fn read_author(name: &[u8]) -> Option<Author>
     }
 }
 
-// Reads the bytes of a message.
+// Reads bytes as a message.
 fn read_message(alloc: Global, bytes: &[u8], scratch: &mut Scratch) -> Result<Incoming, Bad>
     ensures { GivesMessage result (spelled bytes.now) }
 {
@@ -81,7 +81,7 @@ fn read_message(alloc: Global, bytes: &[u8], scratch: &mut Scratch) -> Result<In
     }
 }
 
-// Answers a message of an author's.
+// Answers an author's message.
 fn answer_message(
     alloc: Global,
     room: &mut Room<Global>,

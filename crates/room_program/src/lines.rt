@@ -8,7 +8,7 @@ use osm_elements::Memory;
 /// The byte that ends a line.
 pub const LINE_FEED: u8 = b'\n';
 
-/// The first line of the bytes and what comes after its line feed, or none where there is no line feed.
+/// Returns the first line of the bytes and the bytes after its line feed, or `None` if there is no line feed.
 pub fn split_line(bytes: &[u8]) -> Option<(&[u8], &[u8])>
     ensures { MatchOption result (IsLine bytes.now)
         (λ parts. IsLine parts.0.now × (bytes.now ≡ parts.0.now ++ 10 ∷ parts.1.now)) }
@@ -19,7 +19,11 @@ pub fn split_line(bytes: &[u8]) -> Option<(&[u8], &[u8])>
     }
 }
 
-/// Puts a text and a line feed after the bytes. An `Err` leaves the bytes as they were.
+/// Appends a text and a line feed.
+///
+/// # Errors
+///
+/// `Memory`, if an allocation fails. The bytes are then unchanged.
 pub fn push_line(bytes: &mut Vec<u8>, text: &[u8]) -> Result<(), Memory>
     ensures ok { OnOk result (bytes.new.items ≡ bytes.old.items ++ (text.now ++ 10 ∷ [])) }
     ensures err { OnErr result (bytes.new.items ≡ bytes.old.items) }

@@ -1,4 +1,4 @@
-//! A stream of the system, with a note of its calls.
+//! A stream of the system, with notes of its calls.
 ghost use Rattle.std.specs.Prelude.{◌≡◌, Some, length};
 ghost use Rattle.std.specs.Io.{ReadsAtMost, WritesAtMost};
 ghost use Rattle.std.specs.Io.KnownBytes.{ReadConsumes, WriteAppends};
@@ -11,38 +11,39 @@ use thiserror::Error;
 /// A call that was answered.
 #[derive(Clone, Copy, Debug, PartialEq, Eq)]
 pub struct Call {
-    /// For how many bytes it asked, or how many it was handed.
+    /// The number of bytes that were asked for or handed over.
     pub asked: usize,
-    /// How many it gave or took, or that it failed.
+    /// The number of bytes that were read or written, or a failure.
     pub answer: Result<usize, Failed>,
 }
 
-/// What is noted of the calls of a stream. The counts stop at `u64::MAX`.
+/// The notes of a stream's calls. The counts stop at `u64::MAX`.
 #[derive(Clone, Copy, Debug, PartialEq, Eq)]
 pub struct Calls {
-    /// How many were answered.
+    /// The number of calls that were answered.
     pub answered: u64,
-    /// How many were interrupted, and so not answered.
+    /// The number of calls that were interrupted, and so not answered.
     pub interrupted: u64,
-    /// The last that was answered.
+    /// The last call that was answered.
     pub last: Option<Call>,
 }
 
-/// Why a call gave no count.
+/// The reason for which a call returned no count.
 #[derive(Clone, Copy, Debug, PartialEq, Eq, Error)]
 pub enum Stop {
-    /// It was interrupted, and is to be made again.
+    /// The call was interrupted, and has to be repeated.
     #[error("the call was interrupted")]
     Interrupted,
-    /// It failed.
+    /// The call failed.
     #[error("the call failed")]
     Failed,
 }
 
-/// A stream with a note of its calls. Nothing but `read` and `write` calls the stream or changes the note.
+/// A stream with notes of its calls. Only `read` and `write` call the stream and change the notes.
 ///
-/// That they call the stream once and note that call's answer, and that an interruption is told from a failure
-/// (`stop_of`), rests on these bodies: Rust's traits of streams have nothing that a contract could name.
+/// No contract says that they call the stream once and note that call's answer, or that `stop_of` distinguishes
+/// interruptions from failures. Their bodies have to be read for this, because Rust's traits of streams have nothing
+/// that a contract could name.
 #[derive(Drop)]
 pub struct Noted<T> {
     stream: T,
@@ -52,7 +53,7 @@ pub struct Noted<T> {
 impl<T> Noted<T> {
     ghost use Rattle.room_program.specs.Noted.{calls_of, stream_of};
 
-    /// A stream of which no call is noted yet.
+    /// Returns the stream, without any calls noted.
     pub fn new(stream: T) -> Noted<T>
         ensures stream { stream_of result ≡ stream }
         ensures none { calls_of result ≡ unnoted }
@@ -99,7 +100,7 @@ impl<W: Write> Noted<W> {
 }
 
 impl Calls {
-    // These calls and one more.
+    // Returns the notes with one more call.
     fn note(self, asked: usize, answer: Result<usize, Stop>) -> Calls
         ensures { result ≡ noted self asked answer }
     {

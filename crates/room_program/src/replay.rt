@@ -1,4 +1,4 @@
-//! A room that is run from a stream of lines to a stream of replies.
+//! Running a room from a stream of lines to a stream of replies.
 ghost use Rattle.std.specs.Prelude.{◌≡◌, ◌≢◌, ◌++◌, ◌⊎◌, ℕ, List, [], true, false, OnOk, OnErr, Err, ◌<◌, length};
 ghost use Rattle.std.specs.Io.KnownBytes.{Appends};
 ghost use Rattle.std.specs.declared.alloc.Global.{Global};
@@ -25,7 +25,8 @@ use room_history::room::Room;
 use room_wire::Scratch;
 use std::alloc::Global;
 
-// Answers each line that ends in the block, writes the replies, and holds what comes after the last.
+// Answers each line that ends in the block and writes the replies. The bytes after the last line feed are held in
+// `begun`.
 fn answer_block<A: Answerer, W: Sink>(
     alloc: Global,
     answers: &mut A,
@@ -61,8 +62,8 @@ fn answer_block<A: Answerer, W: Sink>(
     Ok(())
 }
 
-// Reads block after block, and answers the lines of each before it reads the next. The first lines are those of the
-// bytes that are held already, as if the reader gave them first.
+// Reads block after block, and answers the lines of each block before it reads the next. The bytes in `held` come
+// first, as if the reader had given them.
 fn replay_blocks<A: Answerer, S: Source, W: Sink>(
     alloc: Global,
     answers: &mut A,
@@ -124,18 +125,22 @@ fn replay_blocks<A: Answerer, S: Source, W: Sink>(
     Err(StreamFault::Read)
 }
 
-/// Runs a room with an empty map, whose journal takes at most `limit` entries, over the lines of a stream, and
-/// writes the reply to each line and a line feed.
+/// Runs a room over the lines of a stream, and writes the reply to each line and a line feed. The room begins with the
+/// empty map, and its journal takes at most `limit` entries.
 ///
-/// A line is an author's name, a space and a message; a line feed ends it, or the end of the stream. The stream is
-/// read in blocks, and the replies to the lines of a block are written before the next is read, or as soon as they fill
-/// a block themselves; a reply that is as long as a block is written straight from its own text. After a read that
-/// gives the end no other is made. After a fault the lines that were answered stay answered, and what was written of
-/// their replies stays written.
+/// A line is an author's name, a space and a message. It ends with a line feed or with the stream.
 ///
-/// - `Read`: the reader failed, or `reads` reads were used up.
-/// - `Write`: the writer failed, or took no byte of those that were left.
-/// - `Memory`: a line could not be held, or the text of a reply, or a block of replies, could not be made.
+/// The stream is read in blocks. The replies to a block's lines are written before the next block is read, or as soon
+/// as they fill a block. A reply as long as a block is written from its own text, without a copy. After a read that
+/// gives the end, the stream is not read again.
+///
+/// # Errors
+///
+/// The lines that were answered stay answered after a fault, and what was written of their replies stays written.
+///
+/// - `Read`, if the reader failed or `reads` reads were used up.
+/// - `Write`, if the writer failed or took none of the remaining bytes.
+/// - `Memory`, if an allocation for a line, a reply or a block fails.
 pub fn replay<S: Source, W: Sink>(
     alloc: Global,
     reader: &mut S,
@@ -145,10 +150,11 @@ pub fn replay<S: Source, W: Sink>(
 ) -> Result<(), ReplayFault>
     requires reader_works { S.has_failed reader.old ≡ false }
     requires writer_works { W.has_failed writer.old ≡ false }
-    // All was read and its script was written; or a front of it, and why it ended.
+    // All was read and its script was written; or a prefix of the script was written, and the run ended for this
+    // reason.
     ensures ran { HasRun S.Source W.Sink (script [] limit) (S.left reader.old) reads
         reader.old reader.new writer.old writer.new result }
-    // At most so many reads were made, and none after one that gave the end.
+    // At most `reads` reads were made, and none after a read that gave the end.
     ensures calls { GetsAtMost S.gets reads reader.old reader.new }
 {
     let mut room = Room::open(alloc, limit);
@@ -157,12 +163,14 @@ pub fn replay<S: Source, W: Sink>(
     Ok(())
 }
 
-/// Runs a room over the lines of a stream but the first, as [`replay`] does. The first line tells the map that the room
-/// begins with, as [`read_base`] reads it, and gets no reply. Nothing is written before the room is opened.
+/// Runs a room over the lines of a stream after the first, as [`replay`] does. The first line is a welcome with the
+/// room's base map, which is read as in [`read_base`] and gets no reply. Nothing is written before the room is opened.
 ///
-/// - `Read`, `Write` and `Memory`: as `replay` and `read_base` tell them.
-/// - `BadBase`: the first line is no welcome.
-/// - `Unsound`: the map that it tells is not sound.
+/// # Errors
+///
+/// - `Read`, `Write` and `Memory`, as in `replay` and `read_base`.
+/// - `BadBase`, if the first line is not a welcome.
+/// - `Unsound`, if the map in the first line is not sound.
 pub fn replay_on<S: Source, W: Sink>(
     alloc: Global,
     reader: &mut S,
@@ -172,14 +180,14 @@ pub fn replay_on<S: Source, W: Sink>(
 ) -> Result<(), ReplayFault>
     requires reader_works { S.has_failed reader.old ≡ false }
     requires writer_works { W.has_failed writer.old ≡ false }
-    // The first line told a sound map, and all that stands behind it was run on a room that began with it; or there is
+    // The first line had a sound map, and a room that began with it was run on all bytes after that line; or there is
     // no such room, and nothing was written.
     ensures ran { ((base : Rows Global) × IsTold S.Source reader.old base × (is_sound base ≡ true)
         × HasRun S.Source W.Sink (script base limit) (behind (S.left reader.old)) reads
         reader.old reader.new writer.old writer.new result)
         ⊎ ((fault : ReplayFault) × (result ≡ Err fault) × (writer.new ≡ writer.old)
         × IsNoBase S.Source reads reader.old reader.new fault) }
-    // At most so many reads were made, and none after one that gave the end.
+    // At most `reads` reads were made, and none after a read that gave the end.
     ensures calls { GetsAtMost S.gets reads reader.old reader.new }
 {
     let mut block = vec![in alloc; 0u8; BLOCK]?;

@@ -12,15 +12,15 @@ use room_wire::json_text::Json;
 use std::alloc::Global;
 use std::marker::Model;
 
-/// Replies that are not written yet, each with a line feed: those that are copied one behind the other, and behind them
-/// perhaps one that is too long to be copied.
+/// Replies that are not written yet, each with a line feed. Replies are copied one after another, except a last reply
+/// that is too long to be copied.
 #[derive(Drop)]
 pub struct Replies {
     texts: Vec<u8>,
     long: Option<Json>,
 }
 
-// Replies are seen as their bytes.
+// Contracts model replies as their bytes.
 impl Model for Replies {
     ghost use Rattle.std.specs.Prelude.{List, ℕ, ◌++◌};
     ghost use Rattle.room_program.specs.Inner.LongReplies.{long_line, IsLong};
@@ -33,7 +33,7 @@ impl Model for Replies {
 }
 
 impl Replies {
-    /// No replies. It takes no memory.
+    /// Returns no replies, without allocation.
     pub fn new(alloc: Global) -> Replies
         ensures { result ≡ [] }
     {
@@ -43,15 +43,18 @@ impl Replies {
         }
     }
 
-    /// Whether the replies are to be written before another is added: they fill a block.
+    /// Returns whether the replies fill a block. They must then be written before another reply is appended.
     pub fn is_full(&self) -> bool
         ensures { IsTrue result ↔ (BLOCK ≤ length self.now) }
     {
         self.long.is_some() || self.texts.len() >= BLOCK
     }
 
-    /// Adds a reply and a line feed. A reply that is as long as a block is not copied, and takes no memory. The one
-    /// refusal is want of memory, which leaves the replies as they were.
+    /// Appends a reply and a line feed. A reply as long as a block is not copied, and is appended without allocation.
+    ///
+    /// # Errors
+    ///
+    /// `Memory`, if an allocation fails. The replies are then unchanged.
     pub fn push(&mut self, reply: Json) -> Result<(), Memory>
         requires { length self.old < BLOCK }
         ensures ok { OnOk result (self.new ≡ self.old ++ (reply ++ 10 ∷ [])) }
@@ -64,8 +67,11 @@ impl Replies {
         Ok(())
     }
 
-    /// Writes the replies, a long one straight from its own text. The one refusal is `Write`: the writer failed, or
-    /// took no byte of those that were left. What was written then stays written.
+    /// Writes the replies. A long reply is written from its own text.
+    ///
+    /// # Errors
+    ///
+    /// `Write`, if the writer failed or took none of the remaining bytes. What was written stays written.
     pub fn write_to<W: Sink>(&self, writer: &mut W) -> Result<(), StreamFault>
         requires { W.has_failed writer.old ≡ false }
         ensures ok { OnOk result (Appends (W.taken writer.old) (W.taken writer.new) self.now) }
@@ -83,8 +89,8 @@ impl Replies {
         put_all(writer, &[LINE_FEED])
     }
 
-    /// Forgets the replies. The memory of those that were copied is kept for the next ones, and that of a long one is
-    /// given back.
+    /// Removes the replies. The memory of copied replies is kept for later replies, and the memory of a long reply is
+    /// freed.
     pub fn clear(&mut self)
         ensures { self.new ≡ [] }
     {

@@ -1,4 +1,4 @@
-//! Rooms that are served to clients.
+//! Serving rooms to clients.
 ghost use Rattle.std.specs.Prelude.{◌≡◌, ◌≤◌, ◌^◌, IfErr, IfOk, OnOk, false, true, length, map};
 ghost use Rattle.std.specs.declared.alloc.Global.{Global};
 ghost use Rattle.osm_elements.specs.Maps.{Rows};
@@ -30,30 +30,34 @@ use std::time::Clock;
 /// The most rooms that are served.
 pub const MOST_ROOMS: usize = 64;
 
-/// How many messages a session reads at most. It is there so that the call ends by its contract: waits of 50
-/// milliseconds alone reach it after more than a year.
+/// The most messages that a session reads. The limit exists so that the call ends by its contract: with waits of 50
+/// milliseconds alone, a session reaches it after more than a year.
 pub const MOST_TURNS: u64 = 1_000_000_000;
 
-// The line that is printed once clients can connect.
+// The line that is written once clients can connect.
 const LISTENING: &str = "listening\n";
 
-/// Serves rooms as the words of `serve` say, and ends after so many sessions. Each begins with an empty map, or where a
-/// base is asked for with the one that the first line of `input` tells; what stands behind that line is not served.
+/// Serves the rooms that `asked` names, and returns after the last session.
 ///
-/// Once clients can connect, the line `listening` is written, and after the last session a line for each room, in the
-/// order of the words: its name, a space, and how many entries its journal has. They are written as far as the stream
-/// takes them; where it does not take the first line, the others are left out, since a stream that failed may not be
-/// written to. That is no fault, since nothing but the text was lost. The lines at the end are made before any is
-/// written.
+/// Each room begins with the empty map or, if a base is asked for, with the map in the first line of `input`. The bytes
+/// after that line are not served.
 ///
-/// - `TooManyRooms`: there are more than 64 rooms. This is told before any other fault.
-/// - `BadName` and `Twice`: a text is no name of a room, or is a name that stands earlier; of several, the first is
-///   told.
-/// - `Replay`: a base is asked for, and the first line tells no sound map, as `replay_on` says. This is told behind the
+/// Once clients can connect, the line `listening` is written. After the last session, a line for each room is written,
+/// in the order of the arguments: its name, a space, and the entry count of its journal. All these lines are made
+/// before the first of them is written.
+///
+/// Lines are written as far as the stream takes them. If it does not take `listening`, the lines of the rooms are left
+/// out, because a stream that failed may not be written to. This is not a fault, because only the text is lost.
+///
+/// # Errors
+///
+/// - `TooManyRooms`, if there are more than 64 rooms. This is tested first.
+/// - `BadName` or `Twice`, if a room name is invalid or repeated. The first such name is reported.
+/// - `Replay`, if a base is asked for and the first line has no sound map, as in `replay_on`. This is tested after the
 ///   names.
-/// - `Listen`: the system does not listen at this address, or it is none.
-/// - `Worker`: the system does not start a worker's thread. Then no connection was accepted.
-/// - `Memory`: there was no memory for the table, the workers, or the lines at the end.
+/// - `Listen`, if the system does not listen at the address, or the text is not an address.
+/// - `Worker`, if the system does not start a worker's thread. Then no connection was accepted.
+/// - `Memory`, if an allocation for the table, the workers or the lines at the end fails.
 pub fn serve<R, S: Source, W: Sink>(
     rt: &R,
     alloc: Global,
@@ -95,7 +99,7 @@ where
     Ok(())
 }
 
-// Opens the rooms, if they are not too many, each under a name of its own.
+// Opens the rooms, if they are at most 64 and each has a name of its own.
 fn open_table<S: Source>(
     alloc: Global,
     asked: &ServeOptions<'_>,
@@ -119,7 +123,7 @@ fn open_table<S: Source>(
     Ok(opened)
 }
 
-// The rows that rooms begin with: those that the first line tells where a base is asked for, and else none.
+// Returns the rows of the rooms' base map: those in the first line if a base is asked for, and otherwise none.
 fn base_rows<S: Source>(
     alloc: Global,
     base: bool,

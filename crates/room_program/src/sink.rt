@@ -1,4 +1,4 @@
-//! Where bytes go.
+//! The streams that are written.
 ghost use Rattle.std.specs.Prelude.{◌≡◌, ◌≤◌, ◌<◌, ◌||◌, ◌⊎◌, ◌++◌, ℕ, Bool, true, false, List, Option, None, Result, Err, IfOk, OnErr, OnOk, is_err, length};
 ghost use Rattle.std.specs.Io.KnownBytes.{Appends, WriteAppends};
 ghost use Rattle.room_program.specs.declared.failed.Failed.{Failed};
@@ -9,16 +9,16 @@ use crate::fault::StreamFault;
 
 /// A stream of bytes to write.
 pub trait Sink {
-    /// The bytes that it has taken, where they are known.
+    /// The bytes that the stream has taken, if they are known.
     ghost taken: { Self → Option (List ℕ) } = { λ _. None };
 
-    /// Whether it has failed.
+    /// Whether the stream has failed.
     ghost has_failed: { Self → Bool };
 
-    /// A call of `put` with these bytes may answer so, and lead from the first state to the second.
+    /// A call of `put` with these bytes may return this result, and lead from the first state to the second.
     ghost puts: { Self → List ℕ → Result ℕ Failed → Self → Type 0 } = { λ _ _ _ _. Unit {0} };
 
-    /// Takes a front of the bytes, of which there is one at least, and answers how many. A call that fails takes
+    /// Takes a prefix of the bytes, of which there is at least one, and returns its length. A call that fails takes
     /// nothing.
     fn put(&mut self, bytes: &[u8]) -> Result<usize, Failed>
         requires { 0 < length bytes.now }
@@ -28,8 +28,8 @@ pub trait Sink {
         ensures puts { puts self.old bytes.now result self.new };
 }
 
-/// Writes all the bytes. The one refusal is `Write`: the writer failed, or took no byte of those that were left. What
-/// was written then stays written.
+/// Writes all the bytes. It returns `Write` if the writer failed or took none of the remaining bytes. What was written
+/// stays written.
 pub(crate) fn put_all<W: Sink>(writer: &mut W, bytes: &[u8]) -> Result<(), StreamFault>
     requires { W.has_failed writer.old ≡ false }
     ensures ok { OnOk result (Appends (W.taken writer.old) (W.taken writer.new) bytes.now) }

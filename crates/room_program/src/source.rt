@@ -1,26 +1,26 @@
-//! Where bytes come from.
+//! The streams that are read.
 ghost use Rattle.std.specs.Prelude.{◌≡◌, ◌≤◌, ◌||◌, ℕ, Bool, List, Option, None, Result, IfOk, is_err, length};
 ghost use Rattle.std.specs.Io.KnownBytes.{ReadConsumes};
 ghost use Rattle.room_program.specs.declared.failed.Failed.{Failed};
 
 use crate::failed::Failed;
 
-/// How often the program reads its input at most. It is there so that the call ends by its contract. An input of less
-/// than 2^40 bytes does not reach it, since each read but the last gives some.
+/// The most reads that the program makes of its input. The limit exists so that the call ends by its contract. An input
+/// of fewer than 2^40 bytes does not reach it, because each read but the last gives some bytes.
 pub const MOST_READS: u64 = 1 << 40;
 
 /// A stream of bytes to read.
 pub trait Source {
-    /// The bytes that it has left, where they are known.
+    /// The bytes that the stream has left, if they are known.
     ghost left: { Self → Option (List ℕ) } = { λ _. None };
 
-    /// Whether it has failed.
+    /// Whether the stream has failed.
     ghost has_failed: { Self → Bool };
 
-    /// A call of `get` may answer so, and lead from the first state to the second.
+    /// A call of `get` may return this result, and lead from the first state to the second.
     ghost gets: { Self → Result ℕ Failed → Self → Type 0 } = { λ _ _ _. Unit {0} };
 
-    /// Reads bytes into the front of the buffer, and answers how many. Where the buffer is not empty, 0 says that
+    /// Reads bytes to the beginning of the buffer, and returns their number. If the buffer is not empty, 0 means that
     /// the stream has ended. A call that fails reads nothing.
     fn get(&mut self, buffer: &mut [u8]) -> Result<usize, Failed>
         ensures bound { IfOk result (λ count. count ≤ length buffer.new) }

@@ -6,7 +6,7 @@ ghost use Rattle.room_program.specs.Streams.{TookNone};
 
 use crate::sink::{Sink, put_all};
 
-/// Writes a text as far as the stream takes it, and tells whether it took all.
+/// Writes a text as far as the stream takes it, and returns whether it took the whole text.
 pub(crate) fn tell<W: Sink>(stream: &mut W, text: &[u8]) -> bool
     requires { W.has_failed stream.old ≡ false }
     ensures takes { Takes W.Sink stream.old stream.new text.now }

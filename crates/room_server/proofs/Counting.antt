@@ -129,7 +129,7 @@ tails x y xs ys e = ap tail_of e
     tail_of [] = []
     tail_of (z ∷ zs) = zs
 
--- seats that carry the marks of a set are one
+-- seats with the marks of a set are a set
 pub still_set : (table : TableView) (lent back : List SeatView) → AreAt table back → map mark back ≡ map mark lent → All (λ seat. seat.met ≡ []) lent → IsSet table back
 still_set table lent back at same alone = (at, all_from (λ seat. seat.met ≡ []) back (λ i b here. no_kin i b here))
   where

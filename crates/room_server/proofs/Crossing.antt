@@ -1,5 +1,4 @@
--- A table and the seats at its desks may go to other threads. (Rattle writes no such proof itself, as it writes none of
--- a room.)
+-- A table and the seats at its desks may go to other threads. Rattle does not derive these proofs.
 use denote.Param.Send.{IsSend, IsSync, sendable, view_sync, recorded_sync, struct_sync}
 use Rattle.std.proofs.Crossing.{crosses, send, sync, frees}
 use Rattle.std.proofs.vec.Vec.TheSendSync as vec

@@ -1,4 +1,4 @@
--- How the seats of workers are met into those of a table, one after another, and the desks closed.
+-- Meeting the seats of workers into those of a table, in order, and closing the desks.
 use Rattle.std.proofs.Common.{◌≡◌, ◌≢◌, ℕ, suc, ◌<◌, ◌≤◌, List, [], ◌∷◌, ◌++◌, ◌∙◌, Some, length, slice_get, slice_set, ap, sym, refl, subst, inl, inr, ◌⊎◌, arith}
 use Rattle.std.proofs.lemmas.List.{length-set}
 use Rattle.std.proofs.lemmas.Option.{slice_get_within}
@@ -10,7 +10,7 @@ use Rattle.room_server.specs.Tables.{DeskView, SeatView, TableView}
 use Rattle.room_server.proofs.Seating.{get_set_other, get_set_same, some_is}
 use Rattle.room_server.proofs.Splitting.{get_more, length_more}
 
--- the first of the seats met the others, and the later ones are as they were
+-- the first of the seats have met the others, and the later seats are unchanged
 pub record MetSoFar (table : TableView) (seats others seats' : List SeatView) : Type 0 where
   pub are : AreMet table seats others seats'
   pub later : (room : ℕ) → length others ≤ room → slice_get seats' room ≡ slice_get seats room

@@ -1,4 +1,4 @@
--- How the rooms of a table are opened, one after another.
+-- Opening the rooms of a table, in order.
 use Rattle.std.proofs.Common.{◌≡◌, ◌≢◌, ℕ, zero, suc, ◌<◌, ◌+◌, Bool, true, false, List, [], ◌∷◌, ◌++◌, ◌∙◌, ◌⊎◌, inl, inr, Some, None, Result, Ok, Err, IfErr, IsErrAnd, length, map, slice_get, take, ap, sym, refl, subst, if◌then◌else◌, arith}
 use Rattle.std.proofs.lemmas.Bool.{cases_eq}
 use Rattle.std.proofs.lemmas.List.Folds.{Any-from_list_any, list_any_at}
@@ -49,7 +49,7 @@ take_next (suc end) (y ∷ xs) x e = ap (λ t. y ∷ t) (take_next end xs x e)
 pub take_more : {X : Type 0} (end : ℕ) (xs : List X) (x : X) → slice_get xs end ≡ Some x → take (end + 1) xs ≡ take end xs ++ x ∷ []
 take_more end xs x e = let next : end + 1 ≡ suc end = omega arith in ap (λ n. take n xs) next ∙ take_next end xs x e
 
--- what stands at a position of a list of which each was read
+-- the element at a position of a mapped list
 pub read_at : {X Y : Type 0} (f : X → Y) (xs : List X) (i : ℕ) (d : X) → i < length xs → slice_get (map f xs) i ≡ Some (f (slice_index_or xs i d))
 read_at f xs i d below = slice_get-map f xs i ∙ ap (option_map f) (slice_get-get_or xs i d below)
 
@@ -82,7 +82,7 @@ contains names name i at = list_any_at (is_same_author name) names i name (slice
 pub fine_none : (texts : List (List ℕ)) → AreFine texts 0
 fine_none texts = λ position below. absurd (omega (arith, below))
 
--- a text that is a name, and none of those before
+-- one more text is fine: it is a name, and none of the earlier names
 pub fine_more : (texts : List (List ℕ)) (position : ℕ) (text name : List ℕ) → slice_get texts position ≡ Some text → author_of text ≡ Some name → contains_name (take position texts) name ≡ false → AreFine texts position → AreFine texts (position + 1)
 fine_more texts position text name at is fresh fine = λ p below. one p below (cases_eq p position)
   where
@@ -108,7 +108,7 @@ is_again texts position text at e =
     let there = get_take position texts found.0 text found.1 in
     (text, found.0, there.0, at, there.1)
 
--- the text at a position is refused, after those before it
+-- if the earlier texts are fine and this one is refused, its fault is the first
 pub first_fault : (texts : List (List ℕ)) (position : ℕ) (text : List ℕ) (fault : TableFault) → slice_get texts position ≡ Some text → AreFine texts position → IsRefused (take position texts) text position fault → IsNameFault texts fault
 first_fault texts position text (BadName at) here fine refused =
     (subst (λ p. IsBad texts p) (sym refused.0) (text, here, refused.1), subst (λ p. AreFine texts p) (sym refused.0) fine)
@@ -117,14 +117,14 @@ first_fault texts position text (Twice at) here fine refused =
 first_fault texts position text (Unsound x why) here fine refused = absurd refused
 first_fault texts position text Memory here fine refused = absurd refused
 
--- a fault of the names is one of the table
+-- a fault of the names is a fault of the table
 pub names_first : (texts : List (List ℕ)) (base : Rows Global) (fault : TableFault) → IsNameFault texts fault → IsFirstFault texts base fault
 names_first texts base (BadName position) is = is
 names_first texts base (Twice position) is = is
 names_first texts base (Unsound x why) is = absurd is
 names_first texts base Memory is = is
 
--- and so is one of the map, where the names are fine
+-- a fault of the map is a fault of the table, if the names are fine
 pub base_then : (texts : List (List ℕ)) (base : Rows Global) (fault : BaseFault Global) → AreFine texts (length texts) → IsBaseFault base fault → IsFirstFault texts base (base_fault fault)
 base_then texts base (bases.Unsound x why) fine is = (fine, is)
 base_then texts base bases.Memory fine is = tt

@@ -1,4 +1,4 @@
--- What a turn and a look at one seat of a table leave, and what they say to a session.
+-- What a turn and a look at one seat of a table change, and what a session learns from them.
 use Rattle.std.proofs.Common.{◌≡◌, ◌≢◌, ℕ, zero, suc, ◌<◌, List, [], ◌∷◌, ◌++◌, ◌∙◌, Option, Some, None, length, map, slice_get, slice_set, ap, sym, refl, subst, inl, inr, ◌⊎◌, append-nil, length-append, arith}
 use Rattle.std.proofs.lemmas.Bool.{cases_eq}
 use Rattle.std.proofs.lemmas.List.{length-set, length-map, map-append}
@@ -35,7 +35,7 @@ get_set_other (x ∷ xs) (suc i) (suc j) y apart = get_set_other xs i j y (λ sa
 pub some_is : {X : Type 0} → (o : Option X) (x y : X) → o ≡ Some x → o ≡ Some y → y ≡ x
 some_is o x y one two = grind (arith, one, two)
 
--- what is the same of one is the same of all
+-- if a function has the same value for the old and the new element, it has the same values for the whole list
 map_set_same : {X Y : Type 0} (f : X → Y) (xs : List X) (i : ℕ) (x y : X) → slice_get xs i ≡ Some x → f y ≡ f x → map f (slice_set xs i y) ≡ map f xs
 map_set_same f [] i x y at same = refl
 map_set_same f (z ∷ xs) zero x y at same = let is : x ≡ z = some_is (Some z) z x refl at in ap (λ h. h ∷ map f xs) (same ∙ ap f is)
@@ -57,7 +57,7 @@ module _ (opening : Opening Global) (law : (h : History (Entry Global)) → IsLe
   abbrev Grows : History (Entry Global) → Type 0
   Grows h = (added : List (Entry Global)) × (entries after.seen ≡ entries h ++ added) × (after.mine ≡ before.mine ++ added)
 
-  -- what the call added is in the history and among the seat's own
+  -- an entry that the call added is in the history and is the seat's own
   grows : (h : History (Entry Global)) → (Leaves h before after ⊎ Adds h before after) → Grows h
   grows h (inl leaves) = ([], ap entries leaves.0 ∙ sym (append-nil (entries h)), leaves.1 ∙ sym (append-nil before.mine))
   grows h (inr adds) = (adds.0 ∷ [], ap entries adds.1 ∙ map-append (λ p. p.1) h ((before.number, adds.0) ∷ []), adds.2)
@@ -110,7 +110,7 @@ module _ (table : TableView) (olds : List SeatView) (room : ℕ) (desk : DeskVie
   below : room < length olds
   below = slice_get_within olds room before was
 
-  -- the other seats are as they were, and the one is at its desk
+  -- the other seats are unchanged, and the changed seat is at its desk
   pub still_at : AreAt table olds → IsAt desk after → AreAt table news
   still_at are is = (length-set olds room after ∙ are.0, λ j q s at had. one_at j q s at had (cases_eq j room), are.2)
     where

@@ -1,4 +1,4 @@
--- How the seats of a table are split, one after another.
+-- Splitting the seats of a table, in order.
 use Rattle.std.proofs.Common.{◌≡◌, ℕ, zero, suc, ◌+◌, List, [], ◌∷◌, ◌++◌, ◌∙◌, Some, length, slice_get, ap, sym, refl, subst, inl, inr, ◌⊎◌, append_assoc, append-nil, arith}
 use Rattle.std.proofs.lemmas.Option.{slice_get_within}
 use Rattle.turn_desk.specs.Desk.{IsAt, SplitsInto}
@@ -8,12 +8,12 @@ use Rattle.room_server.proofs.Seating.{some_is}
 
 -- ---- lists
 
--- what stands behind a list
+-- the element that follows a list
 pub get_behind : {X : Type 0} (xs ys : List X) (x : X) → slice_get (xs ++ x ∷ ys) (length xs) ≡ Some x
 get_behind [] ys x = refl
 get_behind (y ∷ xs) ys x = get_behind xs ys x
 
--- what stands in a list with one more element stood in the list, or is the last
+-- an element of a list with one element more is in the list, or is the last
 pub get_more : {X : Type 0} (xs : List X) (x : X) (i : ℕ) (y : X) → slice_get (xs ++ x ∷ []) i ≡ Some y → (slice_get xs i ≡ Some y) ⊎ ((i ≡ length xs) × (y ≡ x))
 get_more [] x zero y e = inr (refl, some_is (Some x) x y refl e)
 get_more [] x (suc i) y e = absurd (grind (arith, e))
@@ -28,7 +28,7 @@ pub length_more : {X : Type 0} (xs : List X) (x : X) → length (xs ++ x ∷ [])
 length_more [] x = refl
 length_more (y ∷ xs) x = ap suc (length_more xs x)
 
--- what comes next from a list of which a front was taken
+-- the next element of a list of which a prefix was taken
 module _ {X : Type 0} (all taken rest later : List X) (x : X) (whole : taken ++ rest ≡ all) (next : rest ≡ x ∷ later) where
   pub next_at : (place : ℕ) → place ≡ length taken → slice_get all place ≡ Some x
   next_at place is = ap (slice_get all) is ∙ ap (λ xs. slice_get xs (length taken)) (sym whole ∙ ap (λ xs. taken ++ xs) next) ∙ get_behind taken later x
@@ -69,7 +69,7 @@ pub split_none : AreSplit [] [] []
 split_none = record { as_many = refl; of_new = refl; split = λ room seat one other was kept new. absurd (grind (arith, was)) }
 
 module _ (seats kept new : List SeatView) (seat one other : SeatView) (are : AreSplit seats kept new) (split : SplitsInto seat one other) where
-  -- the last of each
+  -- the last seat of each list
   last : (room : ℕ) (s k n : SeatView) → (slice_get seats room ≡ Some s) ⊎ ((room ≡ length seats) × (s ≡ seat)) → (slice_get kept room ≡ Some k) ⊎ ((room ≡ length kept) × (k ≡ one))
       → (slice_get new room ≡ Some n) ⊎ ((room ≡ length new) × (n ≡ other)) → SplitsInto s k n
   last room s k n (inl was) (inl kept_at) (inl new_at) = are.split room s k n was kept_at new_at

@@ -1,4 +1,4 @@
--- What is told of the rooms of a table that is closed.
+-- The entry counts of the rooms of a table that is closed.
 use Rattle.std.specs.Prelude.{◌≡◌, ℕ, List, Some, length, slice_get}
 use Rattle.std.specs.declared.alloc.Global.{Global}
 use Rattle.room_history.specs.declared.entry.Entry.{Entry}
@@ -7,8 +7,8 @@ use Rattle.room_server.specs.Tables.{DeskView, SeatView}
 use Rattle.turn_desk.specs.Desk.{HasKin}
 use Rattle.turn_desk.specs.History.{History, IsLegal, BeginsWith}
 
--- so many entries has a legal history of the desk, which begins with all that the seat has seen and has the entries of
--- each of its kin
+-- the number is the length of a legal history of the desk, which begins with all that the seat has seen and has the
+-- entries of each of its kin
 pub record IsFront (desk : DeskView) (seat : SeatView) (front : ℕ) : Type 0 where
   pub h : History (Entry Global)
   pub legal : IsLegal IsTurn desk.fixed h
@@ -16,7 +16,7 @@ pub record IsFront (desk : DeskView) (seat : SeatView) (front : ℕ) : Type 0 wh
   pub kin : HasKin h seat
   pub count : front ≡ length h
 
--- a number for each desk, in order
+-- there is such a number for each desk, in order
 pub record AreFronts (desks : List DeskView) (seats : List SeatView) (fronts : List ℕ) : Type 0 where
   pub as_many : length fronts ≡ length desks
   pub each : (room : ℕ) (desk : DeskView) (seat : SeatView) (front : ℕ) → slice_get desks room ≡ Some desk

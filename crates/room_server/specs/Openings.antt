@@ -1,4 +1,4 @@
--- How a table of rooms is opened. (The names of rooms are this project's.)
+-- The opening of a table of rooms. The names of rooms are this project's.
 use Rattle.std.specs.Prelude.{◌≡◌, ◌<◌, ℕ, List, Some, None, All, length, slice_get, true}
 use Rattle.std.specs.declared.alloc.Global.{Global}
 use Rattle.osm_changes.specs.Sound.{is_sound}
@@ -11,37 +11,38 @@ use Rattle.room_server.specs.declared.table.TableFault.TheVariants.{BadName, Twi
 use Rattle.room_server.specs.Tables.{AreAt, SeatView, TableView}
 use Rattle.turn_desk.specs.Desk.{IsFirst}
 
--- at the position stands a text that is no name of a room
+-- the text at the position is not a name of a room
 abbrev pub IsBad : List (List ℕ) → ℕ → Type 0
 IsBad names position = (text : List ℕ) × (slice_get names position ≡ Some text) × (author_of text ≡ None)
 
--- at the position stands a text that stands at an earlier one too
+-- an earlier position has the text at the position
 abbrev pub IsAgain : List (List ℕ) → ℕ → Type 0
 IsAgain names position =
     (text : List ℕ) × (earlier : ℕ) × (earlier < position) × (slice_get names position ≡ Some text)
     × (slice_get names earlier ≡ Some text)
 
--- before the position there is neither
+-- no position before `end` has either fault
 abbrev pub AreFine : List (List ℕ) → ℕ → Type 0
 AreFine names end = (position : ℕ) → position < end → (IsBad names position → ⊥) × (IsAgain names position → ⊥)
 
--- the fault of the first position that has one; memory may be wanting at any
+-- the fault is that of the first faulty position, or `Memory`, of which nothing else is said
 abbrev pub IsNameFault : List (List ℕ) → TableFault → Type 0
 IsNameFault names (BadName position) = IsBad names position × AreFine names position
 IsNameFault names (Twice position) = IsAgain names position × AreFine names position
 IsNameFault names (Unsound x why) = ⊥
 IsNameFault names Memory = Unit {0}
 
--- that of the names, or where each is fine that of the map with which the rooms were to begin
+-- the fault is that of the names; if all names are fine, it can be that of the rooms' base map
 abbrev pub IsFirstFault : List (List ℕ) → Rows Global → TableFault → Type 0
 IsFirstFault names base (Unsound x why) = AreFine names (length names) × IsFirstUnsound base x why
 IsFirstFault names base fault = IsNameFault names fault
 
--- a room that begins with this map, and whose journal takes so many entries
+-- the opening of a room with this base map, whose journal takes at most `limit` entries
 abbrev pub opening : Rows Global → ℕ → Opening Global
 opening base limit = record { base = base; limit = limit }
 
--- the map is sound, the table has a room with it for each name, in order, and the seats are the first of their desks
+-- The base map is sound. The table has a room with it for each name, in order, and the seats are the first seats of
+-- their desks.
 pub record Opens (names : List (List ℕ)) (base : Rows Global) (limit : ℕ) (table : TableView) (seats : List SeatView)
     : Type 0 where
   pub sound : is_sound base ≡ true

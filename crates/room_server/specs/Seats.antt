@@ -4,8 +4,7 @@ use Rattle.room_history.specs.Turns.{IsTurn}
 use Rattle.room_server.specs.Tables.{AreAt, DeskView, SeatView, TableView}
 use Rattle.turn_desk.specs.Desk.{MeetsAt, SplitsInto}
 
--- of each seat so many can be split off, one after another: a split gives a 64th of the parts away, and a desk has 2^64
--- - 1
+-- Each seat can be split `count` times. A split gives away a 64th of the seat's parts, and a desk has 2^64 - 1 parts.
 abbrev pub HavePartsFor : ℕ → List SeatView → Type 0
 HavePartsFor count seats = All (λ seat. (count * 2 ^ 58 ≤ seat.parts + 1) × (seat.parts + 1 ≤ 2 ^ 64)) seats
 
@@ -16,17 +15,17 @@ pub record AreSplit (seats kept new : List SeatView) : Type 0 where
   pub split : (room : ℕ) (seat one other : SeatView) → slice_get seats room ≡ Some seat → slice_get kept room ≡ Some one
       → slice_get new room ≡ Some other → SplitsInto seat one other
 
--- into each of the seats at a table the other of the same desk was met
+-- into each seat of a table, the other seat at the same desk was met
 pub record AreMet (table : TableView) (seats others seats' : List SeatView) : Type 0 where
   pub as_many : length seats' ≡ length seats
   pub met : (room : ℕ) (desk : DeskView) (seat other seat' : SeatView) → slice_get table.desks room ≡ Some desk
       → slice_get seats room ≡ Some seat → slice_get others room ≡ Some other → slice_get seats' room ≡ Some seat'
       → MeetsAt IsTurn desk.fixed seat other seat'
 
--- a seat at each desk, none of which was met by another
+-- there is a seat at each desk, into which no other seat was met
 abbrev pub IsSet : TableView → List SeatView → Type 0
 IsSet table seats = AreAt table seats × All (λ seat. seat.met ≡ []) seats
 
--- the first seats of the desks, which have met so many seats each
+-- these are the first seats of the desks, and `count` seats were met into each
 abbrev pub HaveMet : ℕ → List SeatView → Type 0
 HaveMet count seats = All (λ seat. (seat.number ≡ 0) × (length seat.met ≡ count)) seats

@@ -1,4 +1,4 @@
--- What is known of a table of rooms through a seat at each desk. (The rules of a room are this project's.)
+-- What is known of a table of rooms through a seat at each desk. The rules of a room are this project's.
 use Rattle.std.specs.Prelude.{◌≡◌, ℕ, List, [], ◌∷◌, Option, Some, None, map, length, position, slice_get, slice_set}
 use Rattle.std.specs.declared.alloc.Global.{Global}
 use Rattle.atomic_table.specs.Seated.{TableId}
@@ -23,25 +23,25 @@ DeskView = DeskId (Opening Global)
 abbrev pub SeatView : Type 0
 SeatView = Sitting (Entry Global) (Opening Global)
 
--- the names of the rooms, and their desks, in one order
+-- the names of the rooms and their desks, in the same order
 pub record TableView : Type 0 where
   pub names : List (List ℕ)
   pub desks : List DeskView
 
--- there is one seat for each desk, and it is at that desk; and there is a desk for each name
+-- there is one seat at each desk, in order, and one desk for each name
 abbrev pub AreAt : TableView → List SeatView → Type 0
 AreAt table seats = (length seats ≡ length table.desks)
     × ((room : ℕ) (desk : DeskView) (seat : SeatView) → slice_get table.desks room ≡ Some desk
     → slice_get seats room ≡ Some seat → IsAt desk seat)
     × (length table.desks ≡ length table.names)
 
--- where a name stands, if it is the name of a room at all
+-- the position of a name, if it is the name of a room
 abbrev pub place_by : List (List ℕ) → Option (List ℕ) → Option ℕ
 place_by names None = None
 place_by names (Some name) = position (is_same_author name) names
 
--- the entries that the seat has seen and those of its own calls, the lengths that it looked at, and a turn for each
--- ticket
+-- what a seat knows: the entries that it has seen, those of its own calls, the lengths that it looked at, and a turn
+-- for each ticket
 abbrev pub known_by : Opening Global → SeatView → RoomKnown
 known_by opening seat = record {
   opening = opening;
@@ -51,7 +51,7 @@ known_by opening seat = record {
   turns = length seat.tickets;
 }
 
--- of what is no room nothing is known
+-- nothing is known of a room that does not exist
 abbrev pub unknown : RoomKnown
 unknown = record { opening = record { base = []; limit = 0 }; seen = []; mine = []; looks = []; turns = 0 }
 
@@ -75,21 +75,21 @@ pub record SeatedView : Type 0 where
 abbrev pub known_of : SeatedView → Known
 known_of s = known_through s.table s.seats
 
--- which desk a seat is at, its number and the numbers of its kin
+-- the identity of a seat: its desk, its number and the numbers of its kin
 abbrev pub Mark : Type 0
 Mark = (TableId × Option (Opening Global)) × List ℕ
 
 abbrev pub mark : SeatView → Mark
 mark seat = ((seat.table, seat.fixed), seat.number ∷ map (λ k. k.0) seat.met)
 
--- what no call changes: the table, and of each seat which it is
+-- what no call changes: the table, and the identity of each seat
 abbrev pub Kept : Type 0
 Kept = TableView × List Mark
 
 abbrev pub kept_of : SeatedView → Kept
 kept_of s = (s.table, map mark s.seats)
 
--- the seat of a room took one turn at the desk, and no other seat changed
+-- the room's seat took one turn at the desk, and no other seat changed
 pub record TurnsThere (desk : DeskView) (room : ℕ) (call : RoomCall Global) (reply : RoomReply Global)
     (seats seats' : List SeatView) : Type 0 where
   pub before : SeatView
@@ -99,10 +99,10 @@ pub record TurnsThere (desk : DeskView) (room : ℕ) (call : RoomCall Global) (r
   pub at : IsAt desk after
   pub same : IsSameSeat before after
   pub turn : TurnsAt IsTurn desk.fixed before call reply after
-  -- what the seat has seen has the entries of its own calls, and of those of each seat met into it, each once
+  -- what the seat has seen has the entries of its own calls and those of each seat met into it, each once
   pub kin : HasKin after.seen after
 
--- the seat of a room looked at the desk's length, and no other seat changed
+-- the room's seat looked at the length of the desk's history, and no other seat changed
 pub record LooksThere (desk : DeskView) (room count : ℕ) (seats seats' : List SeatView) : Type 0 where
   pub before : SeatView
   pub after : SeatView
@@ -113,7 +113,7 @@ pub record LooksThere (desk : DeskView) (room count : ℕ) (seats seats' : List 
   pub look : LooksAt IsTurn desk.fixed before count after
   pub kin : HasKin after.seen after
 
--- what a fault of the map with which rooms were to begin is to the table
+-- a fault of the rooms' base map, as a fault of the table
 abbrev pub base_fault : BaseFault Global → TableFault
 base_fault (bases.Unsound x why) = Unsound x why
 base_fault bases.Memory = Memory

@@ -1,4 +1,4 @@
-//! The connections that a pool accepts.
+//! Accepting the connections of a pool.
 use crate::job::Job;
 use crossbeam_channel::Sender;
 use log::{Log, info};
@@ -8,18 +8,19 @@ use std::sync::Wait;
 use std::time::{Clock, Duration};
 use std::{io, thread};
 
-// How long a read waits until it is quiet, in milliseconds.
+// The milliseconds after which a read counts as quiet.
 const QUIET_MILLIS: u64 = 50;
 
-// How long a write waits for a client that does not read until it fails, in seconds.
+// The seconds after which a write to a client that does not read fails.
 const DEAF_SECONDS: u64 = 30;
 
-// How long the loop waits after an accept that failed, in milliseconds. The process mostly has no descriptor left then, so
-// the next accept would fail at once, and use up a session too.
+// The milliseconds that the loop waits after an accept that failed. Mostly the process then has no descriptor left, so
+// the next accept would fail at once, and would also use up a session.
 const FAILED_MILLIS: u64 = 50;
 
-/// Accepts so many times, and hands each connection on as a session, numbered from 1. An accept that fails is a session
-/// too: the log gets `session I end fault`, and the next accept waits for 50 ms.
+/// Accepts `sessions` times, and sends each connection to the workers as a session, numbered from 1.
+///
+/// An accept that fails is a session too: the log gets `session I end fault`, and the next accept waits for 50 ms.
 pub(crate) fn accept_all<R: Wait + Log + Clock>(
     rt: &R,
     listener: &TcpListener,
@@ -39,9 +40,8 @@ pub(crate) fn accept_all<R: Wait + Log + Clock>(
     }
 }
 
-// Accepts a connection whose reads and writes end. That a write goes out at once is asked, and not needed. A stream
-// that takes no time limit is a failed accept. An accept that a signal interrupts is made again by the system's
-// library, and is no session.
+// Accepts a connection whose reads and writes end. TCP_NODELAY is best effort, but a stream without time limits is a
+// failed accept. The system's library repeats an accept that a signal interrupts, which is no session.
 fn accept(listener: &TcpListener) -> io::Result<TcpStream> {
     let (stream, _) = listener.accept()?;
     stream.set_read_timeout(Some(Duration::from_millis(QUIET_MILLIS)))?;

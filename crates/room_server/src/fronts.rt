@@ -1,4 +1,4 @@
-//! How a table is closed.
+//! Closing a table.
 ghost use Rattle.std.specs.Prelude.{◌≡◌, IfOk, All};
 ghost use Rattle.room_server.specs.Tables.{AreAt};
 ghost use Rattle.room_server.specs.Fronts.{AreFronts};
@@ -9,8 +9,12 @@ use osm_elements::Memory;
 use std::alloc::Global;
 use std::sync::Wait;
 
-/// Closes the desk of each room with its seat, and gives for each how many entries its journal has, in the order of the
-/// table. The one refusal is want of memory.
+/// Closes the desk of each room with its seat, and returns the entry counts of the rooms' journals, in the table's
+/// order.
+///
+/// # Errors
+///
+/// `Memory`, if an allocation fails.
 pub fn close_all<W: Wait>(
     rt: &W,
     alloc: Global,

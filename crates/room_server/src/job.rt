@@ -1,9 +1,9 @@
-//! What a worker is to do.
+//! The jobs of a worker.
 
-/// What a worker is to do.
+/// A job of a worker.
 #[derive(Drop)]
 pub enum Job<S> {
-    /// Serve the session of this number over a stream.
+    /// Serve the session with this number over a stream.
     Serve {
         /// The number, counted from 1.
         session: u64,

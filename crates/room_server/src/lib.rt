@@ -1,9 +1,10 @@
-//! Rooms that several sessions share: a table of desks, workers that serve one session after another, and the pool of
-//! their threads.
+//! Rooms that several sessions share.
 //!
-//! A [`RoomTable`] has a room under each name, at a desk. Each worker has a seat at each desk, and its sessions ask the
-//! rooms through these seats ([`Seated`]). A pool ([`serve_rooms`]) splits seats off for its workers, hands them the
-//! connections that it accepts, and meets their seats again.
+//! A [`RoomTable`] has a room under each name, at a desk (see `turn_desk`). Each worker has a seat at each desk, and
+//! its sessions ask the rooms through these seats ([`Seated`]). A worker serves its sessions sequentially ([`worker`]).
+//!
+//! A pool ([`serve_rooms`]) splits seats off for its workers and runs each worker in a thread. It sends them the
+//! connections that it accepts, and meets their seats again at the end.
 #![tactic(auto)]
 
 mod accepting;

@@ -11,14 +11,16 @@ use room_stacks::author::Author;
 use std::alloc::Global;
 use std::marker::Model;
 
-/// Names of rooms in their order, each once. They are read apart, so that names are tested before the base is read: who
-/// misspells one is told at once, and not behind a long line.
+/// Names of rooms in order, each once.
+///
+/// Names can be read before there are rows. So a misspelt name is reported before a base is read, which can be a long
+/// line.
 #[derive(Drop)]
 pub struct RoomNames {
     pub(crate) names: IndexSet<Author>,
 }
 
-// Names are seen as the list of them.
+// Contracts model names as their list.
 impl Model for RoomNames {
     ghost use Rattle.std.specs.Prelude.{ℕ, List};
 
@@ -28,9 +30,15 @@ impl Model for RoomNames {
 }
 
 impl RoomNames {
-    /// The names that these texts are. Refused are, by the first position that has one of these: a text that is no name
-    /// of a room (1 to 32 characters of `a-z`, `0-9` and `_`), and a name that an earlier position has; and want of
-    /// memory.
+    /// Reads these texts as names of rooms. A name has 1 to 32 characters of `a-z`, `0-9` and `_`.
+    ///
+    /// # Errors
+    ///
+    /// The fault of the first faulty position is reported, counted from 0.
+    ///
+    /// - `BadName`, if the text is not a name.
+    /// - `Twice`, if an earlier position has the name.
+    /// - `Memory`, if an allocation fails.
     pub fn read(alloc: Global, texts: &[&str]) -> Result<RoomNames, TableFault>
         ensures ok { IfOk result (λ names. names ≡ map (λ text. text.now) texts.now) }
         ensures fine { let names = map (λ text. text.now) texts.now in
@@ -45,7 +53,7 @@ impl RoomNames {
         Ok(RoomNames { names })
     }
 
-    /// How many there are.
+    /// Returns the number of names.
     pub fn len(&self) -> usize
         ensures { result ≡ length self.now }
     {
@@ -53,7 +61,7 @@ impl RoomNames {
     }
 }
 
-// Adds a name that is not there at the end. The one refusal is want of memory.
+// Appends a new name.
 fn add(names: &mut IndexSet<Author>, name: Author) -> Result<(), Memory>
     requires { contains_name names.old.keys name ≡ false }
     ensures { OnOk result (names.new.keys ≡ names.old.keys ++ name ∷ []) }
@@ -62,7 +70,7 @@ fn add(names: &mut IndexSet<Author>, name: Author) -> Result<(), Memory>
     Ok(())
 }
 
-// The name at a position, where it is one that no earlier position has.
+// Reads the name at a position, which must be valid and new.
 fn new_name(taken: &IndexSet<Author>, text: &str, position: usize) -> Result<Author, TableFault>
     ensures { MatchResult result
         (λ name. (author_of text.now ≡ Some name) × (contains_name taken.now.keys name ≡ false))

@@ -19,24 +19,24 @@ use std::thread::Threads;
 use std::time::Clock;
 use thiserror::Error;
 
-/// How much a pool serves.
+/// The limits of a pool.
 #[derive(Clone, Copy, Debug)]
 pub struct Load {
-    /// How many workers there are, each in a thread of its own: so many sessions are served at the same time.
+    /// The number of workers, each in its own thread. So many sessions are served at the same time.
     pub workers: u32,
-    /// How many connections are accepted, one after another.
+    /// The number of connections that are accepted, in order.
     pub sessions: u32,
-    /// How many messages a session reads at most.
+    /// The most messages that a session reads.
     pub turns: u64,
 }
 
-/// Why a pool did not serve, or lost seats.
+/// The reasons for which a pool did not serve, or lost seats.
 #[derive(Clone, Copy, Debug, PartialEq, Eq, Error)]
 pub enum PoolFault {
-    /// The thread of a worker was not started.
+    /// The system did not start the thread of a worker.
     #[error("cannot start a worker")]
     Worker,
-    /// There was no memory.
+    /// An allocation failed.
     #[error("no memory")]
     Memory,
 }
@@ -51,10 +51,15 @@ impl From<Memory> for PoolFault {
     }
 }
 
-/// Serves the connections that a listener accepts, so many, by so many workers at a time, and gives the seats back once
-/// the last session has ended: one at each desk of the table, which then has met the seats of all workers.
+/// Serves `load.sessions` connections that the listener accepts, by `load.workers` workers, at most 64.
 ///
-/// Refused is want of memory, and a worker's thread that the system does not start. Then no connection was accepted.
+/// When the last session has ended, it returns a seat at each desk of the table. Each of these seats has met the seats
+/// of all workers.
+///
+/// # Errors
+///
+/// - `Worker`, if the system does not start a worker's thread. Then no connection was accepted.
+/// - `Memory`, if an allocation fails. This is before the first accept, or after the last session has ended.
 pub fn serve_rooms<R: Threads + Wait + Clock + Log + Sync, G: Gate + Sync>(
     rt: &R,
     alloc: Global,
@@ -68,7 +73,7 @@ pub fn serve_rooms<R: Threads + Wait + Clock + Log + Sync, G: Gate + Sync>(
     requires first { All IsFirst seats.items }
     requires workers { load.workers ≤ 64 }
     ensures at { IfOk result (λ back. AreAt table.now back.items) }
-    // Each has met one seat of each worker: none was lost.
+    // Each seat has met one seat of each worker: no seat was lost.
     ensures met { IfOk result (λ back. HaveMet load.workers back.items) }
 {
     let (mut seats, sets) = split_sets(alloc, table, seats, load.workers)?;

@@ -1,4 +1,4 @@
-//! Desks with a seat at each, as the rooms of a session.
+//! A table with a seat at each desk, as the rooms of a session.
 ghost use Rattle.std.specs.Prelude.{◌≡◌, ◌<◌, Some, vec_len, slice_get};
 ghost use Rattle.room_session.specs.Rooms.{HasRoom, AnswersCall, TellsLength};
 ghost use Rattle.room_server.specs.Tables.{AreAt, DeskView, Kept, SeatView, TurnsThere, LooksThere, kept_of, known_of};
@@ -31,7 +31,7 @@ impl<'t> Model for Seated<'t> {
 }
 
 impl<'t> Seated<'t> {
-    /// The table with these seats, one for each room in order.
+    /// Returns the table with these seats, one for each room in order.
     pub fn new(table: &'t RoomTable, seats: Vec<RoomSeat, Global>) -> Seated<'t>
         requires { AreAt table.now seats.items }
         ensures { result ≡ record { table = table.entry.now; seats = seats.items } }
@@ -39,7 +39,7 @@ impl<'t> Seated<'t> {
         Seated { table, seats }
     }
 
-    /// Gives the seats back, in their order.
+    /// Returns the seats, in order.
     pub fn into_seats(self) -> Vec<RoomSeat, Global>
         ensures seats { result.items ≡ self.entry.seats }
         ensures at { AreAt self.entry.table result.items }
@@ -62,7 +62,7 @@ impl<'t> Rooms for Seated<'t> {
     fn turn<W: Wait>(&mut self, rt: &W, room: usize, call: RoomCall<Global>) -> RoomReply<Global>
         requires { HasRoom (known_of self.old) room }
         ensures answers { AnswersCall (known_of self.old) room call result (known_of self.new) }
-        // It is one turn at the room's desk through the room's seat.
+        // The call is one turn at the room's desk through the room's seat.
         ensures turn { (desk : DeskView) × (slice_get self.old.table.desks room ≡ Some desk)
             × TurnsThere desk room call result self.old.seats self.new.seats }
         ensures kept { kept_of self.new ≡ kept_of self.old }
@@ -75,7 +75,7 @@ impl<'t> Rooms for Seated<'t> {
     fn front(&mut self, room: usize) -> u64
         requires { HasRoom (known_of self.old) room }
         ensures looks { TellsLength (known_of self.old) room result (known_of self.new) }
-        // It is one look at the room's desk through the room's seat.
+        // The call is one look at the room's desk through the room's seat.
         ensures look { (desk : DeskView) × (slice_get self.old.table.desks room ≡ Some desk)
             × LooksThere desk room result self.old.seats self.new.seats }
         ensures kept { kept_of self.new ≡ kept_of self.old }
@@ -86,7 +86,7 @@ impl<'t> Rooms for Seated<'t> {
     }
 }
 
-// Takes a turn at a desk through the seat of a room.
+// Takes a turn at a desk through the room's seat.
 fn turn_at<W: Wait>(
     rt: &W,
     desk: &RoomDesk,
@@ -101,7 +101,7 @@ fn turn_at<W: Wait>(
     desk.turn(rt, &mut seats[room], call)
 }
 
-// Looks at a desk's length through the seat of a room.
+// Looks at the length of a desk's history through the room's seat.
 fn look_at(desk: &RoomDesk, seats: &mut Vec<RoomSeat, Global>, room: usize) -> u64
     requires room { room < vec_len seats.old }
     requires seat { (seat : SeatView) → slice_get seats.old.items room ≡ Some seat → IsAt desk.now seat }

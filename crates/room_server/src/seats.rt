@@ -12,8 +12,7 @@ use turn_desk::Seat;
 /// A seat at a room's desk.
 pub type RoomSeat = Seat<Room<Global>>;
 
-/// Splits a seat off each of a table's: gives the seats that keep their numbers, and the new ones, one for each room.
-/// The one refusal is want of memory.
+/// Splits each of a table's seats. Returns the seats that keep their numbers, and the new seats, one for each room.
 pub(crate) fn split_all(
     alloc: Global,
     table: &RoomTable,
@@ -36,7 +35,7 @@ pub(crate) fn split_all(
     Ok((kept, new))
 }
 
-/// Meets each of the others into the seat of its room.
+/// Meets each of `others` into the seat of its room.
 pub(crate) fn meet_all(
     table: &RoomTable,
     seats: &mut Vec<RoomSeat, Global>,

@@ -1,4 +1,4 @@
-//! A set of seats for each worker.
+//! The sets of seats for the workers.
 ghost use Rattle.std.specs.Prelude.{◌≡◌, ◌≤◌, All, IfOk, vec_len};
 ghost use Rattle.room_server.specs.Tables.{AreAt};
 ghost use Rattle.room_server.specs.Seats.{HaveMet, HavePartsFor, IsSet};
@@ -8,8 +8,7 @@ use crate::table::RoomTable;
 use osm_elements::Memory;
 use std::alloc::Global;
 
-/// Splits so many sets of seats off, each with a seat at every desk of the table, and gives the seats that are left,
-/// and the sets. The one refusal is want of memory.
+/// Splits off `count` sets, each with a seat at every desk of the table. Returns the remaining seats and the sets.
 pub(crate) fn split_sets(
     alloc: Global,
     table: &RoomTable,

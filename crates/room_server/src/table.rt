@@ -23,27 +23,27 @@ use std::marker::Model;
 use thiserror::Error;
 use turn_desk::Desk;
 
-/// A desk at which a room is shared.
+/// A desk through which a room is shared.
 pub type RoomDesk = Desk<Room<Global>, Global>;
 
-/// Why a table is not opened.
+/// The reasons for which a table is not opened.
 #[derive(Debug, Drop, Error)]
 pub enum TableFault {
-    /// The name at this position, counted from 0, is no name of a room.
+    /// The text at this position, counted from 0, is not a name of a room.
     #[error("bad room name")]
     BadName(usize),
-    /// An earlier position has the name at this position too.
+    /// An earlier position also has the name at this position, counted from 0.
     #[error("room twice")]
     Twice(usize),
-    /// The map with which the rooms were to begin is not sound.
+    /// The rooms' base map is not sound.
     #[error("unsound base")]
     Unsound {
-        /// The least name whose row is not.
+        /// The least name whose row is not sound.
         name: Name,
-        /// What is wrong with that row, as [`BaseFault`] tells it.
+        /// The reason, as in [`BaseFault`].
         why: Refusal<Global>,
     },
-    /// There was no memory.
+    /// An allocation failed.
     #[error("no memory")]
     Memory,
 }
@@ -71,14 +71,14 @@ impl From<BaseFault<Global>> for TableFault {
     }
 }
 
-/// Rooms under names, each at a desk. These are two lists, so that the desks can be taken out without memory.
+/// Rooms under names, each at a desk. Names and desks are two lists, so the desks can be taken out without allocation.
 #[derive(Drop)]
 pub struct RoomTable {
     names: IndexSet<Author>,
     desks: Vec<RoomDesk, Global>,
 }
 
-// A table is seen as its names and its desks, which are as many.
+// Contracts model a table as its names and its desks, two lists of the same length.
 impl Model for RoomTable {
     ghost use Rattle.std.specs.Prelude.{◌≡◌, length};
     ghost use Rattle.room_server.specs.Tables.{TableView};
@@ -91,7 +91,11 @@ impl Model for RoomTable {
 }
 
 impl RoomTable {
-    /// As [`RoomTable::open_on`], with rooms that begin with an empty map.
+    /// Opens rooms as [`RoomTable::open_on`] does, with the empty map.
+    ///
+    /// # Errors
+    ///
+    /// Those of [`RoomTable::open_on`], except `Unsound`.
     pub fn open(
         alloc: Global,
         names: &[&str],
@@ -104,12 +108,18 @@ impl RoomTable {
         RoomTable::open_on(alloc, names, Rows::from_vec(Vec::new(alloc)), limit)
     }
 
-    /// Opens a room for each name, with the map of these rows and a journal that takes at most `limit` entries, and
-    /// gives the table with the first seat of each desk, in the order of the names. No name gives an empty table. What
-    /// [`Room::open_on`] asks of the rows is asked here. Each room but the last has copies of them.
+    /// Opens a room for each name, with the map of `rows` and a journal of at most `limit` entries.
     ///
-    /// Refused are what [`RoomNames::read`] refuses of the names, then a map that is not sound; and want of memory.
-    /// Then no room is made.
+    /// Returns the table and the first seat of each desk, in the order of the names. Without names, the table is empty.
+    /// `rows` must be as [`Room::open_on`] requires. Each room but the last gets a copy of them.
+    ///
+    /// # Errors
+    ///
+    /// If the call fails, no room is made.
+    ///
+    /// - `BadName` and `Twice` as in [`RoomNames::read`], before any other fault of the arguments.
+    /// - `Unsound`, if the map is not sound.
+    /// - `Memory`, if an allocation fails.
     pub fn open_on(
         alloc: Global,
         names: &[&str],
@@ -127,8 +137,13 @@ impl RoomTable {
         Ok(opened)
     }
 
-    /// As [`RoomTable::open_on`], under names that were read before. Where there is no name the base is tested all the
-    /// same, so that what the table is refused for does not hang on how many names there are.
+    /// Opens rooms as [`RoomTable::open_on`] does, under names that were read before.
+    ///
+    /// # Errors
+    ///
+    /// - `Unsound`, if the map is not sound. The map is tested even if there are no names, so the faults do not depend
+    ///   on the number of names.
+    /// - `Memory`, if an allocation fails.
     pub fn begin(
         alloc: Global,
         names: RoomNames,
@@ -150,7 +165,7 @@ impl RoomTable {
         Ok((RoomTable { names, desks }, seats))
     }
 
-    /// At which position the room of this name stands, or none where there is no such room.
+    /// Returns the position of the room of this name, or `None` if there is no such room.
     pub fn find(&self, name: &str) -> Option<usize>
         ensures { result ≡ place_by self.now.names (author_of name.now) }
     {
@@ -158,7 +173,7 @@ impl RoomTable {
         self.names.get_index_of(&name)
     }
 
-    /// How many rooms there are.
+    /// Returns the number of rooms.
     pub fn len(&self) -> usize
         ensures names { result ≡ length self.now.names }
         ensures desks { result ≡ length self.now.desks }
@@ -166,7 +181,7 @@ impl RoomTable {
         self.desks.len()
     }
 
-    /// The desk at a position.
+    /// Returns the desk at a position.
     pub fn desk(&self, room: usize) -> &RoomDesk
         requires { room < length self.now.names }
         ensures { slice_get self.now.desks room ≡ Some result.now }
@@ -174,7 +189,7 @@ impl RoomTable {
         &self.desks[room]
     }
 
-    /// Gives the desks in order. It takes no memory.
+    /// Returns the desks in order, without allocation.
     pub fn into_desks(self) -> Vec<RoomDesk, Global>
         ensures { result.items ≡ self.desks }
     {
@@ -182,7 +197,7 @@ impl RoomTable {
     }
 }
 
-// Opens rooms on copies of the rows, each at a desk, and gives the desks with their first seats.
+// Opens `count` rooms on copies of the rows, each at a desk, and returns the desks with their first seats.
 fn open_copies(
     alloc: Global,
     rows: &Rows<Global>,
@@ -203,7 +218,7 @@ fn open_copies(
     Ok((desks, seats))
 }
 
-// Opens a desk over a room that was just opened, at the end. The one refusal is want of memory.
+// Opens a desk over a room with an empty journal, and appends the desk and its first seat.
 fn seat_room(
     alloc: Global,
     room: Room<Global>,

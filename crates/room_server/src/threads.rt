@@ -21,7 +21,7 @@ use std::thread;
 use std::thread::{Promise, PromisedHandle, Threads};
 use std::time::Clock;
 
-/// What a worker's thread promises: it gives back the seats that it was lent.
+/// The promise of a worker's thread: it gives back the seats that it was lent.
 #[derive(Drop)]
 pub(crate) struct GivesBack<'t> {
     table: &'t RoomTable,
@@ -38,16 +38,19 @@ impl<'t> Promise<Vec<RoomSeat, Global>> for GivesBack<'t> {
 /// The thread of a worker.
 type WorkerThread<'t> = PromisedHandle<Vec<RoomSeat, Global>, GivesBack<'t>>;
 
-/// What came of the threads: the sets of seats that came back, and a fault, where not all sessions were handed out.
+/// The outcome of the threads: the sets of seats that came back, and a fault, if a thread was not started or a set was
+/// lost.
 #[derive(Drop)]
 pub(crate) struct Joined {
     pub(crate) sets: Vec<Vec<RoomSeat, Global>, Global>,
     pub(crate) fault: Option<PoolFault>,
 }
 
-/// Runs a worker for each set of seats, each in a thread of its own, hands them the connections that are accepted
-/// meanwhile, tells them to stop, and gives the sets of all that were started back. Where a thread is not started no
-/// connection is accepted. The threads borrow the table and the queue (a scope): no count of references, no copy.
+/// Runs a worker for each set of seats, each in its own thread, and returns the sets when all threads have ended.
+///
+/// Meanwhile it sends the accepted connections to the workers. After the last connection it sends each worker a stop.
+/// If a thread is not started, it accepts no connection, and returns the sets of the threads that were started. The
+/// threads borrow the table and the queue in a scope, so these need no reference counts and no copies.
 pub(crate) fn run_threads<R: Threads + Wait + Clock + Log + Sync, G: Gate + Sync>(
     rt: &R,
     alloc: Global,
@@ -63,7 +66,7 @@ pub(crate) fn run_threads<R: Threads + Wait + Clock + Log + Sync, G: Gate + Sync
 ) -> Joined
     requires { All (λ set. IsSet table.now set.items) sets.items }
     ensures sets { All (λ set. IsSet table.now set.items) result.sets.items }
-    // No set is lost, where there is no fault.
+    // Without a fault, no set is lost.
     ensures all { IfNone result.fault (vec_len result.sets ≡ vec_len sets) }
 {
     let (sender, jobs) = ends;
@@ -86,7 +89,7 @@ pub(crate) fn run_threads<R: Threads + Wait + Clock + Log + Sync, G: Gate + Sync
                     ensures at { AreAt table.entry.now result.items }
                     ensures same { map mark result.items ≡ map mark seats.items }
                 { worker(rt, alloc, gate, table, seats, jobs, load.turns) };
-                // Room is made before the thread starts, so that each that is started is waited for.
+                // The list gets its memory before the thread starts, so that each started thread is also joined.
                 if threads.reserve(1).is_err() {
                     fault = Some(PoolFault::Memory);
                     break;
@@ -111,7 +114,7 @@ pub(crate) fn run_threads<R: Threads + Wait + Clock + Log + Sync, G: Gate + Sync
     )
 }
 
-// Waits for workers, and gives back the seats of each.
+// Waits for the workers' threads, and returns the seats of each.
 fn join_all<R: Threads>(
     rt: &R,
     alloc: Global,

@@ -16,11 +16,11 @@ use std::io::{Read, Write};
 use std::sync::Wait;
 use std::time::Clock;
 
-/// Serves one session after another, each over its stream, until it is told to stop or no one is left to tell it. The
-/// log gets `session I open` and `session I end E`, I the session's number and E how it ended.
+/// Serves sessions sequentially, each over its stream, until it receives a stop or the queue is closed. The log gets
+/// `session I open` and `session I end E`, where I is the session's number and E the way in which it ended.
 ///
-/// It is lent a seat at each desk of the table, in order, and gives back the same: each with the number that it had and
-/// the numbers of its kin, having seen all that it had seen.
+/// The worker is lent a seat at each desk of the table, in order, and gives back the same seats. Each has its number
+/// and the numbers of its kin, and has seen all that it had seen.
 pub fn worker<W: Wait + Clock + Log, G: Gate, S: Read + Write + Drop>(
     rt: &W,
     alloc: Global,
@@ -34,7 +34,7 @@ pub fn worker<W: Wait + Clock + Log, G: Gate, S: Read + Write + Drop>(
     ensures at { AreAt table.now result.items }
     ensures same { map mark result.items ≡ map mark seats.items }
     ensures keeps { KeepsKnown (known_through table.now seats.items) (known_through table.now result.items) }
-    // The rooms were asked what some sessions ask, one after the other, and nothing else.
+    // The rooms were asked what some sessions ask sequentially, and nothing else.
     ensures serves { (sessions : ℕ)
         × ServesEach turns sessions (known_through table.now seats.items) (known_through table.now result.items) }
 {

@@ -17,7 +17,7 @@ use Rattle.room_session.specs.NewsTexts.{news_texts}
 use Rattle.room_session.specs.Rooms.{Known, IsJournalOf, AnswersCall, KeepsKnown, TellsLength}
 use Rattle.room_session.proofs.Told.{last_news, no_news, news_taken}
 
--- all was told
+-- all entries count as sent
 pub nothing_new : (before after : Known) (room told count : ℕ) (texts : List (List ℕ)) → told ≤ length (before.at room).seen → TellsLength before room count after → count ≤ told → Tells before room told texts texts told after
 nothing_new before after room told count texts seen looks l =
     let opening = (before.at room).opening in
@@ -28,7 +28,7 @@ nothing_new before after room told count texts seen looks l =
     let none : news opening.base journal told ≡ [] = no_news opening.base journal told (omega (arith, end)) in
     (inl (count, l, looks), looks.here.legal, sym (append-nil texts) ∙ ap (λ list. texts ++ news_texts list) (sym none), end)
 
--- the room was looked at and has more, and was asked for the news
+-- the look found more entries, and the room was asked for the news
 pub news_asked : (before middle after : Known) (room told count : ℕ) (reply : RoomReply Global) → TellsLength before room count middle → told < count → AnswersCall middle room (calls.News told) reply after → AsksForNews before room told after
 news_asked before middle after room told count reply looks more answers = (count, more, middle, looks, (reply, answers))
 
@@ -37,7 +37,7 @@ pub news_keep : (before middle after : Known) (room count : ℕ) (told : ℕ) (r
 news_keep before middle after room count told reply looks answers =
     keeps_both before middle after (looks_keep before room count middle looks) (answers_keep middle room (calls.News told) reply after answers)
 
--- news were taken
+-- the news were received
 pub news_told : (before middle after : Known) (room told count : ℕ) (list : List (News Global)) (texts all : List (List ℕ)) (reply : RoomReply Global) → reply ≡ replies.News (Ok list) → told ≤ length (before.at room).seen → TellsLength before room count middle → told < count
     → AnswersCall middle room (calls.News told) reply after → all ≡ texts ++ news_texts list → Tells before room told texts all (last_told told list) after
 news_told before middle after room told count list texts all reply is seen looks more answers are =

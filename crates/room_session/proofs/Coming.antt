@@ -1,4 +1,4 @@
--- What comes of an event, by what was made of it.
+-- The outcome of an event, from what the private functions return.
 use Rattle.std.proofs.Common.{◌≡◌, ◌⊎◌, ℕ, List, Result, Ok, Err, MatchResult, sym, subst, inl, inr}
 use Rattle.std.specs.declared.alloc.AllocError.{AllocError}
 use Rattle.room_stacks.specs.declared.author.Author.{Author}
@@ -13,12 +13,12 @@ use Rattle.room_session.specs.declared.session.State.TheVariants.{BeforeHello, O
 use Rattle.room_session.specs.Events.{closing, only, Begins, BreaksOff, EndsFirst, GivesUp, GoesOn, HearsText}
 use Rattle.room_session.specs.Rooms.{Known}
 
--- what was made goes out, or there was no memory
+-- the outcome goes out, or an allocation failed
 abbrev Goes : Result Next AllocError → Sent → State → Type 0
 Goes next sent state = MatchResult next (λ n. (sent ≡ only n.texts) × (state ≡ n.state)) (λ _. (sent ≡ closing 1011) × (state ≡ Closed))
 
--- what holds of the texts and the state that were made holds of what goes out and of the state after it; else there was
--- no memory, and what holds then
+-- what is true of the outcome's texts and state is true of what goes out and of the state after it; otherwise an
+-- allocation failed, and Q is true
 comes : (P : Sent → State → Type 0) (Q : Type 0) (next : Result Next AllocError) (sent : Sent) (state : State)
     → MatchResult next (λ n. P (only n.texts) n.state) (λ _. Q) → Goes next sent state → P sent state ⊎ (GivesUp sent state × Q)
 comes P Q (Ok n) sent state made gone = inl (subst (λ (s : Sent). P s state) (sym gone.0) (subst (λ (t : State). P (only n.texts) t) (sym gone.1) made))

@@ -34,7 +34,7 @@ use Rattle.room_session.specs.Rooms.{Known, RoomKnown, AnswersCall, TellsLength,
 abbrev IsOf : Author → ℕ → Entry Global → Type 0
 IsOf author id entry = (entry.author ≡ author) × (entry.id ≡ id)
 
--- the answer to a call leaves the journal, or adds one entry of its author's under its id
+-- a call leaves the journal unchanged, or adds one entry of its author under its id
 answer_adds : (j : List (Entry Global)) (c : Call Global) (refused : Option (Reply Global)) (kind : Option (EntryKind Global))
     → ((answer_by j c refused kind).1 ≡ j) ⊎ ((entry : Entry Global) × IsOf c.author c.id entry × ((answer_by j c refused kind).1 ≡ j ++ entry ∷ []))
 answer_adds j c (Some reply) kind = inl refl
@@ -44,11 +44,11 @@ answer_adds j c None (Some kind) = inr (record { author = c.author; id = c.id; k
 abbrev journal_of : RoomReply Global × List (Entry Global) → List (Entry Global)
 journal_of step = step.1
 
--- what was added to a journal that was left is nothing
+-- a journal that is unchanged has gained nothing
 left_adds_none : (j added : List (Entry Global)) → j ++ added ≡ j → added ≡ []
 left_adds_none j added same = append_cancel_left j added [] (same ∙ sym (append-nil j))
 
--- a query leaves the journal
+-- a query leaves the journal unchanged
 query_leaves : (opening : Opening Global) (j : List (Entry Global)) (call : RoomCall Global) (reply : RoomReply Global) (k : List (Entry Global)) → ((c : Call Global) → call ≢ calls.Take c) → IsTurn opening j call reply k → k ≡ j
 query_leaves opening j (calls.Take c) reply k query turn = absurd (query c refl)
 query_leaves opening j (calls.Get name) reply k query (made, inl is) = ap journal_of is
@@ -60,7 +60,7 @@ query_leaves opening j (calls.Undos author) reply k query (made, inr wants) = wa
 query_leaves opening j (calls.News from) reply k query (made, inl is) = ap journal_of is
 query_leaves opening j (calls.News from) reply k query (made, inr wants) = wants.1
 
--- a call leaves it, or adds one entry
+-- a call leaves the journal unchanged, or adds one entry
 call_adds : (opening : Opening Global) (j : List (Entry Global)) (c : Call Global) (reply : RoomReply Global) (k : List (Entry Global)) → IsTurn opening j (calls.Take c) reply k
     → (k ≡ j) ⊎ ((entry : Entry Global) × IsOf c.author c.id entry × (k ≡ j ++ entry ∷ []))
 call_adds opening j c reply k (made, inr wants) = inl wants.1
@@ -119,7 +119,7 @@ caught_up_makes_none : (before : Known) (room told : ℕ) (after : Known) → Fi
 caught_up_makes_none before room told after (inl finds) = looks_make_none before room finds.0 after finds.2
 caught_up_makes_none before room told after (inr asks) = news_make_none before room told after asks
 
--- what is made goes on to be what is made where then nothing is
+-- if nothing is made afterwards, what a message makes is unchanged
 makes_by_then : (before middle after : Known) (room : ℕ) (author : Author) (id : ℕ) (body : Body) → MakesBy before room author id body middle → MakesNone middle after → MakesBy before room author id body after
 makes_by_then before middle after room author id (Change request) (inl none) later = inl (none_then before middle after none later)
 makes_by_then before middle after room author id (Change request) (inr one) later =
@@ -159,7 +159,7 @@ first_makes_none before sent state after (Err bad) begins = nothing_made before 
 abbrev MakesText : Known → State → List ℕ → Known → Type 0
 MakesText before old text after = (said : Result Incoming Bad) × GivesMessage said (spells text) × Makes before old said after
 
--- a text makes no more than its own change's entry
+-- a text makes at most its own change's entry
 pub hearing_makes : (before : Known) (sent : Sent) (state : State) (after : Known) (old : State) (text : List ℕ) → HearsText before sent state after old text → MakesText before old text after
 hearing_makes before sent state after BeforeHello text (said, gives, inl begins) = (said, gives, first_makes_none before sent state after said begins)
 hearing_makes before sent state after BeforeHello text (said, gives, inr (up, (due, next, begins))) = (said, gives, first_makes_none before due next after said begins)
@@ -175,18 +175,18 @@ gives_itself : (said : Result Incoming Bad) → GivesMessage said said
 gives_itself (Ok message) = refl
 gives_itself (Err bad) = inr refl
 
--- in a closed session nothing is made
+-- a closed session makes no entry
 pub ended_makes : (before after : Known) (old : State) (text : List ℕ) → old ≡ Closed → after ≡ before → MakesText before old text after
 ended_makes before after old text closed same =
     (spells text, gives_itself (spells text), subst (λ (s : State). Makes before s (spells text) after) (sym closed) (nothing_made before after same))
 
--- nor where nothing came: where news were asked for, or could not be told
+-- if nothing came, no entry is made, whether or not the news could be sent
 pub wait_makes_none : (before after : Known) (sent : Next → Sent) (state : Next → State) (room : ℕ) (author : Author) (told : ℕ) (made : Result Next AllocError)
     → IfOk made (λ n. CatchesUp before (sent n) (state n) after room author told []) → OnErr made (AsksForNews before room told after) → MakesNone before after
 wait_makes_none before after sent state room author told (Ok n) ok err = caught_up_makes_none before room told after ok.0
 wait_makes_none before after sent state room author told (Err e) ok err = news_make_none before room told after err
 
--- the same, of what is known after it under another name
+-- the same, for an equal state of knowledge
 pub makes_none_to : (before after made_after : Known) → after ≡ made_after → MakesNone before made_after → MakesNone before after
 makes_none_to before after made_after same none = subst (λ (k : Known). MakesNone before k) (sym same) none
 

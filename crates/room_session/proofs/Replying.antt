@@ -1,4 +1,4 @@
--- What a message is answered, by what was made of it.
+-- The reply to a message, from what the private functions return.
 use Rattle.std.proofs.Common.{◌≡◌, ◌⊎◌, ◌∙◌, ℕ, List, [], ◌∷◌, Option, Some, None, Result, Ok, Err, IfOk, OnErr, MatchResult, length, refl, sym, ap, subst, inl, inr}
 use Rattle.std.specs.declared.alloc.AllocError.{AllocError}
 use Rattle.std.specs.declared.alloc.Global.{Global}
@@ -27,7 +27,7 @@ use Rattle.room_session.specs.Rooms.{Known, AnswersCall, IsJournalOf}
 
 -- ---- in an open session
 
--- where nothing is asked
+-- if nothing is asked of the room
 pub unasked : (before : Known) (room id : ℕ) (call : Option (RoomCall Global)) (made : Result (List ℕ) AllocError) → call ≡ None → IfOk made (λ json. json ≡ answer_text id answers.HelloTwice)
     → (due : List ℕ) × RepliesTo before room id call due before × IfOk made (λ json. json ≡ due)
 unasked before room id call made none is =
@@ -37,7 +37,7 @@ alike_text : (id : ℕ) (told answer : Answer) (made : Result (List ℕ) AllocEr
 alike_text id told answer (Ok json) alike is = is ∙ ap compact_text (alike id)
 alike_text id told answer (Err e) alike is = is
 
--- where the room was asked
+-- if the room was asked
 pub replied : (before after : Known) (room id : ℕ) (asks : Option (RoomCall Global)) (call : RoomCall Global) (reply : RoomReply Global) (told : Answer) (made : Result (List ℕ) AllocError) → asks ≡ Some call → AnswersCall before room call reply after
     → AreToldAlike told (answer_to call reply) → IfOk made (λ json. json ≡ answer_text id told) → (due : List ℕ) × RepliesTo before room id asks due after × IfOk made (λ json. json ≡ due)
 replied before after room id asks call reply told made some answers alike is =
@@ -51,7 +51,7 @@ Due before after id body = (due : Sent) × (next : State) × BeginsBy before due
 abbrev Begun : Known → Known → ℕ → Body → Result Next AllocError → Type 0
 Begun before after id body made = MatchResult made (λ n. BeginsBy before (only n.texts) n.state after id body) (λ _. Due before after id body)
 
--- what is due where the room was asked for its rows
+-- the outcome of a hello, if the room was asked for its rows
 greets_due : (before after : Known) (id : ℕ) (author : Author) (room : ℕ) (reply : RoomReply Global) → AnswersCall before room calls.Rows reply after → (due : Sent) × (next : State) × Greets before due next after id author (Some room)
 greets_due before after id author room reply asked = by asked.here.turn.1
   where
@@ -87,7 +87,7 @@ pub not_welcomed : (before : Known) (id : ℕ) (body : Body) (name : List ℕ) (
 not_welcomed before id body name author made hello none is =
     refused before id body answers.NoRoom made (λ sent state refuses. subst (λ b. BeginsBy before sent state before id b) (sym hello) (subst (λ place. Greets before sent state before id author place) (sym none) (refuses, refl))) is
 
--- a message that is no hello
+-- a message that is not a hello
 pub not_begun : (before : Known) (id : ℕ) (body : Body) (made : Result Next AllocError)
     → ((request : Request Global) × (body ≡ Change request)) ⊎ (((name : Name) × (body ≡ Get name)) ⊎ ((body ≡ Map) ⊎ (body ≡ Undos)))
     → IfOk made (λ n. Refuses (only n.texts) n.state (answer_text id answers.NoHello)) → Begun before before id body made

@@ -1,4 +1,4 @@
--- What rows and news tell of the journal at which they were taken.
+-- The rows and the news that a room replies with are those of its journal.
 use Rattle.std.proofs.Common.{◌≡◌, ◌+◌, ◌≤◌, ◌++◌, ◌-◌, ◌∙◌, ℕ, zero, suc, Bool, true, false, List, [], ◌∷◌, Option, Some, unwrap_or, Ok, slice_get, length, length-append, length-drop, drop, take, refl, sym, ap, inl, inr, arith}
 use Rattle.std.proofs.lemmas.List.{length-take-le}
 use Rattle.std.specs.declared.alloc.Global.{Global}
@@ -14,7 +14,7 @@ use Rattle.room_history.specs.Replays.{mapof}
 use Rattle.room_history.specs.Turns.{IsTurn}
 use Rattle.room_session.specs.Inner.LastTold.{last_told}
 
--- the last news of entries behind others has the number of the last entry
+-- the last of the news of the later entries has the number of the last entry
 last_behind : (base : Rows Global) (i k : List (Entry Global)) → last_told (length i) (news_behind base i k) ≡ length i + length k
 last_behind base i [] = omega arith
 last_behind base i (e ∷ k) =
@@ -22,7 +22,7 @@ last_behind base i (e ∷ k) =
     let end : length (i ++ e ∷ []) + length k ≡ length i + length (e ∷ k) = omega (arith, longer) in
     ap (λ n. last_told n (news_behind base (i ++ e ∷ []) k)) (sym longer) ∙ last_behind base (i ++ e ∷ []) k ∙ end
 
--- news tell up to the last entry
+-- the last news has the number of the last entry
 pub last_news : (base : Rows Global) (j : List (Entry Global)) (from : ℕ) → from ≤ length j → last_told from (news base j from) ≡ length j
 last_news base j from l =
     let before : length (take from j) ≡ from = length-take-le from j l in
@@ -36,11 +36,11 @@ none_behind (suc from) [] l = refl
 none_behind zero (e ∷ j) l = absurd (omega (arith, l))
 none_behind (suc from) (e ∷ j) l = none_behind from j (omega (arith, l))
 
--- there are none where all entries were told
+-- there are no news if all entries count as sent
 pub no_news : (base : Rows Global) (j : List (Entry Global)) (from : ℕ) → length j ≤ from → news base j from ≡ []
 no_news base j from l = ap (news_behind base (take from j)) (none_behind from j l)
 
--- the last of a list is the one that tells the number
+-- the last element of a list of news has the last number
 pub last_at : (before : ℕ) (ns : List (News Global)) (n : News Global) → slice_get ns (length ns - 1) ≡ Some n → last_told before ns ≡ n.seq
 last_at before [] n is = absurd (cc)
 last_at before (m ∷ []) n is = ap (λ (o : Option (News Global)). (unwrap_or o m).seq) is
@@ -48,7 +48,7 @@ last_at before (m ∷ k ∷ rest) n is =
     let long : length (m ∷ k ∷ rest) - 1 ≡ suc (length (k ∷ rest) - 1) = omega arith in
     last_at m.seq (k ∷ rest) n (ap (λ i. slice_get (m ∷ k ∷ rest) i) (sym long) ∙ is)
 
--- what a reply has to show, none where it is another one
+-- the rows in a reply, or an empty value if it is another reply
 abbrev rows_in : RoomReply Global → ℕ × Rows Global
 rows_in (replies.Rows (Ok rows)) = rows
 rows_in reply = (0, [])

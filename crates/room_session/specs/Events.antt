@@ -1,5 +1,5 @@
--- What comes of each event of a session: what goes out, its state after it, what it asks of the rooms, and what is then
--- known of them. (The rules of a session are this project's; RFC 6455, section 7.4.1: the codes.)
+-- The outcome of each event of a session: what goes out, the state after it, what it asks of the rooms, and what is
+-- then known of them. The rules of a session are this project's; RFC 6455, section 7.4.1, defines the codes.
 use Rattle.std.specs.Prelude.{◌≡◌, ◌⊎◌, ◌≤◌, ◌<◌, ◌++◌, ℕ, List, [], ◌∷◌, Option, Some, None, Result, Ok, Err, length}
 use Rattle.std.specs.declared.alloc.Global.{Global}
 use Rattle.serde_json.specs.Written.{compact_text}
@@ -26,7 +26,7 @@ use Rattle.room_session.specs.declared.session.State.TheVariants.{BeforeHello, O
 use Rattle.room_session.specs.NewsTexts.{news_texts}
 use Rattle.room_session.specs.Rooms.{Known, AnswersCall, TellsLength, IsJournalOf, MakesNone, MakesOne}
 
--- these texts go out, and the connection stays
+-- these texts go out, and the connection stays open
 abbrev pub only : List (List ℕ) → Sent
 only texts = record { texts = texts; close = None }
 
@@ -34,13 +34,13 @@ only texts = record { texts = texts; close = None }
 abbrev pub closing : ℕ → Sent
 closing code = record { texts = []; close = Some code }
 
--- there was no memory
+-- an allocation failed: a close with code 1011 goes out, and the session is closed
 abbrev pub GivesUp : Sent → State → Type 0
 GivesUp sent state = (sent ≡ closing 1011) × (state ≡ Closed)
 
 -- ---- before a hello
 
--- one text goes out, and the session has not begun
+-- one text goes out, and the session stays before its hello
 abbrev pub Refuses : Sent → State → List ℕ → Type 0
 Refuses sent state text = (sent ≡ only (text ∷ [])) × (state ≡ BeforeHello)
 
@@ -49,7 +49,7 @@ module _ (before : Known) (sent : Sent) (state : State) (after : Known) where
   abbrev pub RefusesAlone : List ℕ → Type 0
   RefusesAlone text = Refuses sent state text × (after ≡ before)
 
-  -- the session begins: all that is then seen of the room is a legal journal, whose map and length go out
+  -- The session opens. What has then been seen of the room is a legal journal, whose map and length go out.
   abbrev pub Welcomes : ℕ → ℕ → Author → Type 0
   Welcomes id room author =
       let opening = (before.at room).opening in
@@ -58,15 +58,15 @@ module _ (before : Known) (sent : Sent) (state : State) (after : Known) where
       × (sent ≡ only (compact_text (map_tree id (mapof opening.base journal) (length journal)) ∷ []))
       × (state ≡ Open room author (length journal))
 
-  -- a hello to the room at a place, if there is one: the room is asked for its rows in one turn, and it is told where
-  -- it had no memory for them
+  -- A hello to the room at a position, if there is one. The session asks the room for its rows in one turn. It answers
+  -- `memory` if the room had no memory for them.
   abbrev pub Greets : ℕ → Author → Option ℕ → Type 0
   Greets id author None = RefusesAlone (answer_text id answers.NoRoom)
   Greets id author (Some room) =
       (reply : RoomReply Global) × AnswersCall before room calls.Rows reply after
       × (Welcomes id room author ⊎ ((reply ≡ wanting calls.Rows) × Refuses sent state (answer_text id answers.Memory)))
 
-  -- a message before a hello
+  -- the outcome of a message before a hello
   abbrev pub BeginsBy : ℕ → Body → Type 0
   BeginsBy id (Hello room author) = Greets id author (before.place room)
   BeginsBy id (Change request) = RefusesAlone (answer_text id answers.NoHello)
@@ -78,38 +78,38 @@ module _ (before : Known) (sent : Sent) (state : State) (after : Known) where
   Begins (Ok message) = BeginsBy message.id message.body
   Begins (Err bad) = RefusesAlone (answer_text bad.id (fault_answer bad.fault))
 
--- a text before a hello, but for what was due there was no memory
+-- a text came before a hello, but an allocation for its outcome failed
 abbrev pub EndsFirst : Known → Known → Result Incoming Bad → Type 0
 EndsFirst before after said = (due : Sent) × (next : State) × Begins before due next after said
 
 -- ---- in an open session
 
--- what a message asks of the room is asked in one turn, and the text is that of the answer; or nothing is asked
+-- the session asks the room in one turn, and the text is that of the answer; or the message asks nothing of the room
 abbrev pub RepliesTo : Known → ℕ → ℕ → Option (RoomCall Global) → List ℕ → Known → Type 0
 RepliesTo before room id None text after = (text ≡ answer_text id answers.HelloTwice) × (after ≡ before)
 RepliesTo before room id (Some call) text after =
     (reply : RoomReply Global) × AnswersCall before room call reply after
     × (text ≡ answer_text id (answer_to call reply))
 
--- the text is the reply to what was read or refused
+-- the text is the reply to the message that was read, or its refusal
 abbrev pub Replies : Known → ℕ → Author → Result Incoming Bad → List ℕ → Known → Type 0
 Replies before room author (Ok message) text after =
     RepliesTo before room message.id (asked author message.id message.body) text after
 Replies before room author (Err bad) text after =
     (text ≡ answer_text bad.id (fault_answer bad.fault)) × (after ≡ before)
 
--- the room is looked at, and has no entries past those that were told
+-- a look at the room found no entries after `told`
 abbrev pub FindsNoNews : Known → ℕ → ℕ → Known → Type 0
 FindsNoNews before room told after = (count : ℕ) × (count ≤ told) × TellsLength before room count after
 
--- the room is looked at, has more, and is asked for the news past what was told, in one turn
+-- a look at the room found more entries, and the session asked the room in one turn for the news after `told`
 abbrev pub AsksForNews : Known → ℕ → ℕ → Known → Type 0
 AsksForNews before room told after =
     (count : ℕ) × (told < count) × (looked : Known) × TellsLength before room count looked
     × ((reply : RoomReply Global) × AnswersCall looked room (calls.News told) reply after)
 
--- the texts go out, and then the news of all that is then seen of the room, which is a legal journal, past what was
--- told
+-- The texts go out, and then the news of all entries after `told`, up to the last one seen of the room. What has been
+-- seen is a legal journal.
 abbrev pub CatchesUp : Known → Sent → State → Known → ℕ → Author → ℕ → List (List ℕ) → Type 0
 CatchesUp before sent state after room author told texts =
     let opening = (before.at room).opening in
@@ -118,13 +118,13 @@ CatchesUp before sent state after room author told texts =
     × IsJournalOf opening journal × (sent ≡ only (texts ++ news_texts (news opening.base journal told)))
     × (state ≡ Open room author (length journal))
 
--- a text: the reply goes out, and then the news
+-- a text gets its reply, and then the news
 abbrev pub GoesOn : Known → Sent → State → Known → ℕ → Author → ℕ → Result Incoming Bad → Type 0
 GoesOn before sent state after room author told said =
     (text : List ℕ) × (between : Known) × Replies before room author said text between
     × CatchesUp between sent state after room author told (text ∷ [])
 
--- a text, but there was no memory for the reply, or for the news after it
+-- a text came, but an allocation for its reply, or for the news after it, failed
 abbrev pub BreaksOff : Known → Known → ℕ → Author → ℕ → Result Incoming Bad → Type 0
 BreaksOff before after room author told said =
     (text : List ℕ) × (between : Known) × Replies before room author said text between
@@ -133,7 +133,7 @@ BreaksOff before after room author told said =
 -- ---- events
 
 module _ (before : Known) (sent : Sent) (state : State) (after : Known) where
-  -- a text, by what was read of it
+  -- a text came, which was read as a message or refused
   abbrev pub HearsText : State → List ℕ → Type 0
   HearsText BeforeHello text = (said : Result Incoming Bad) × GivesMessage said (spells text)
       × (Begins before sent state after said ⊎ (GivesUp sent state × EndsFirst before after said))
@@ -151,7 +151,8 @@ module _ (before : Known) (sent : Sent) (state : State) (after : Known) where
 
 -- ---- the entries that are made
 
--- a change may make an entry of its author's in its room, under the message's id, and no other message makes one
+-- a change makes at most one entry, of its author, in its room and under the message's id; no other message makes an
+-- entry
 abbrev pub MakesBy : Known → ℕ → Author → ℕ → Body → Known → Type 0
 MakesBy before room author id (Change request) after = MakesNone before after ⊎ MakesOne before room author id after
 MakesBy before room author id (Hello to name) after = MakesNone before after
@@ -159,7 +160,7 @@ MakesBy before room author id (Get name) after = MakesNone before after
 MakesBy before room author id Map after = MakesNone before after
 MakesBy before room author id Undos after = MakesNone before after
 
--- nor does any text before a hello, or one that was refused
+-- a text before a hello makes no entry, and neither does a text that is refused
 abbrev pub Makes : Known → State → Result Incoming Bad → Known → Type 0
 Makes before (Open room author told) (Ok message) after = MakesBy before room author message.id message.body after
 Makes before (Open room author told) (Err bad) after = MakesNone before after

@@ -1,4 +1,4 @@
--- What the code's own functions say of one another. No public call's contract cites these, and no definition beside
--- this folder reads them.
+-- Definitions for the contracts of private functions alone. No public call's contract cites them, and no other
+-- definition does.
 pub mod LastTold
 pub mod Telling

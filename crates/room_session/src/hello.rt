@@ -1,4 +1,4 @@
-//! How a session begins.
+//! The beginning of a session: texts before a hello is accepted.
 ghost use Rattle.std.specs.Prelude.{◌≡◌, [], ◌∷◌, IfOk, MatchResult, OnErr, Result};
 ghost use Rattle.std.specs.declared.alloc.Global.{Global};
 ghost use Rattle.room_history.specs.declared.ask.RoomCall.TheVariants as calls;
@@ -27,7 +27,7 @@ use room_wire::{Scratch, read_request, reply_text};
 use std::alloc::Global;
 use std::sync::Wait;
 
-// What comes of a text before a hello.
+// Replies to a text before a hello.
 pub(crate) fn greet<R: Rooms, W: Wait>(
     alloc: Global,
     rt: &W,
@@ -48,7 +48,7 @@ pub(crate) fn greet<R: Rooms, W: Wait>(
     }
 }
 
-// What comes of a message before a hello.
+// Replies to a message before a hello.
 fn begin<R: Rooms, W: Wait>(
     alloc: Global,
     rt: &W,
@@ -75,7 +75,7 @@ fn begin<R: Rooms, W: Wait>(
     }
 }
 
-// What comes of a hello to the room at this place.
+// Replies to a hello to the room at position `room`.
 fn welcome<R: Rooms, W: Wait>(
     alloc: Global,
     rt: &W,
@@ -105,7 +105,7 @@ fn welcome<R: Rooms, W: Wait>(
     }
 }
 
-// An answer goes out, and the session has not begun.
+// Sends an answer, and leaves the session before its hello.
 fn refuse(alloc: Global, id: u64, answer: &Answer<'_>) -> Result<Next, Memory>
     ensures { IfOk result (λ next. Refuses (only next.texts) next.state (answer_text id answer.now)) }
 {
@@ -114,7 +114,7 @@ fn refuse(alloc: Global, id: u64, answer: &Answer<'_>) -> Result<Next, Memory>
     Ok(Next { texts, state })
 }
 
-// The text of an answer alone.
+// Returns a list of one text, the answer's.
 fn one(alloc: Global, id: u64, answer: &Answer<'_>) -> Result<Texts, Memory>
     ensures { IfOk result (λ texts. texts ≡ answer_text id answer.now ∷ []) }
 {

@@ -1,4 +1,4 @@
-//! News to a client.
+//! News for a client.
 ghost use Rattle.std.specs.Prelude.{◌≡◌, ◌≤◌, ◌++◌, [], IfOk, OnErr, OnOk, length};
 ghost use Rattle.room_session.specs.Events.{only, AsksForNews, CatchesUp};
 ghost use Rattle.room_session.specs.Inner.LastTold.{last_told};
@@ -19,7 +19,7 @@ use room_wire::news_text;
 use std::alloc::Global;
 use std::sync::Wait;
 
-// The news of an open session alone.
+// Sends the news to the client of an open session.
 pub(crate) fn news_alone<R: Rooms, W: Wait>(
     alloc: Global,
     rt: &W,
@@ -40,8 +40,8 @@ pub(crate) fn news_alone<R: Rooms, W: Wait>(
     catch_up(alloc, rt, rooms, room, author, told, Texts::empty(alloc))
 }
 
-// The texts, and after them the news of all that has come to the room past the entry that was told last. The number
-// that was told is set when all texts of the event are made.
+// Sends the texts, and then the news of all entries of the room after `told`. The session's `told` changes only when
+// all texts of the event are made.
 pub(crate) fn catch_up<R: Rooms, W: Wait>(
     alloc: Global,
     rt: &W,
@@ -66,8 +66,7 @@ pub(crate) fn catch_up<R: Rooms, W: Wait>(
     Ok(Next { texts, state })
 }
 
-// Adds the news of all that has come to the room past the entry that was told last, and gives the number of the last
-// entry.
+// Appends the news of all entries of the room after `told` to the texts, and returns the number of the last entry.
 fn tell<R: Rooms, W: Wait>(
     alloc: Global,
     rt: &W,
@@ -96,7 +95,7 @@ fn tell<R: Rooms, W: Wait>(
     }
 }
 
-// Adds the text of each of the news.
+// Appends the text of each news.
 fn add(alloc: Global, texts: &mut Texts, news: &[News<Global>]) -> Result<(), Memory>
     ensures { OnOk result (texts.new ≡ texts.old ++ news_texts news.now) }
 {
@@ -106,7 +105,7 @@ fn add(alloc: Global, texts: &mut Texts, news: &[News<Global>]) -> Result<(), Me
     Ok(())
 }
 
-// The number of the last news, or the one before them where there are none.
+// Returns the number of the last news, or `before` if there are no news.
 fn last_number(news: &[News<Global>], before: u64) -> u64
     ensures { result ≡ last_told before news.now }
 {

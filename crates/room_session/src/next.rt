@@ -1,4 +1,4 @@
-//! What comes of an event where there was memory for it.
+//! The outcome of an event, if no allocation failed.
 use crate::sent::Texts;
 use crate::session::State;
 

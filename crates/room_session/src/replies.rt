@@ -23,7 +23,7 @@ use room_wire::{Scratch, read_request, reply_text};
 use std::alloc::Global;
 use std::sync::Wait;
 
-// What comes of a text in an open session.
+// Replies to a text in an open session, and sends the news.
 pub(crate) fn reply_and_news<R: Rooms, W: Wait>(
     alloc: Global,
     rt: &W,
@@ -49,7 +49,7 @@ pub(crate) fn reply_and_news<R: Rooms, W: Wait>(
     catch_up(alloc, rt, rooms, room, author, told, texts)
 }
 
-// The reply to a text. Where it cannot be made, the room was asked all the same.
+// Returns the reply to a text. If the reply's allocation fails, the room may already have been asked.
 fn reply<R: Rooms, W: Wait>(
     alloc: Global,
     rt: &W,
@@ -71,7 +71,7 @@ fn reply<R: Rooms, W: Wait>(
     }
 }
 
-// The reply to what a message asks for: what it asks of the room is asked in one turn.
+// Returns the reply to a message, after asking the room in one turn if the message asks it anything.
 fn reply_to<R: Rooms, W: Wait>(
     alloc: Global,
     rt: &W,

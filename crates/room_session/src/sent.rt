@@ -1,4 +1,4 @@
-//! What goes out to a client.
+//! The texts and closes that go out to a client.
 ghost use Rattle.std.specs.Prelude.{◌≡◌, [], ◌∷◌, ◌++◌, OnOk};
 ghost use Rattle.room_session.specs.Events.{closing, only};
 
@@ -13,7 +13,7 @@ pub struct Texts {
     texts: Vec<Json, Global>,
 }
 
-// Texts are seen as the list of them.
+// Contracts model texts as their list.
 impl Model for Texts {
     ghost use Rattle.std.specs.Prelude.{List, ℕ};
 
@@ -23,7 +23,7 @@ impl Model for Texts {
 }
 
 impl Texts {
-    /// No texts. It takes no memory.
+    /// Returns an empty list of texts.
     pub(crate) fn empty(alloc: Global) -> Texts
         ensures { result ≡ [] }
     {
@@ -31,7 +31,7 @@ impl Texts {
         Texts { texts }
     }
 
-    /// Adds a text at the end. The one refusal is want of memory.
+    /// Appends a text.
     pub(crate) fn push(&mut self, text: Json) -> Result<(), Memory>
         ensures { OnOk result (self.new ≡ self.old ++ text ∷ []) }
     {
@@ -39,14 +39,14 @@ impl Texts {
         Ok(())
     }
 
-    /// The texts as a slice, in their order. It takes no memory.
+    /// Returns the texts as a slice, in order.
     pub fn as_slice(&self) -> &[Json]
         ensures { result.now ≡ self.now }
     {
         &self.texts
     }
 
-    /// Gives the texts as a vector, in their order. It takes no memory.
+    /// Returns the texts as a vector, in order.
     pub fn into_vec(self) -> Vec<Json, Global>
         ensures { result.items ≡ self }
     {
@@ -55,17 +55,18 @@ impl Texts {
     }
 }
 
-/// What goes out to a client, and whether the connection is closed then.
+/// What goes out to a client: texts, and then possibly a close of the connection.
 #[derive(Debug, Drop)]
 pub struct Sent {
     /// The texts that go out, in order.
     pub texts: Texts,
-    /// The code with which the connection is closed after them (RFC 6455, section 7.4.1), or none where it stays.
+    /// The code with which the connection is closed after the texts (RFC 6455, section 7.4.1), or `None` if it stays
+    /// open.
     pub close: Option<u16>,
 }
 
 impl Sent {
-    /// No text, and the connection stays as it is. It takes no memory.
+    /// Sends nothing, and keeps the connection open.
     pub(crate) fn nothing(alloc: Global) -> Sent
         ensures { result ≡ only [] }
     {
@@ -75,7 +76,7 @@ impl Sent {
         }
     }
 
-    /// No text, and the connection is closed with this code. It takes no memory.
+    /// Sends no text, and closes the connection with this code.
     pub(crate) fn closing(alloc: Global, code: u16) -> Sent
         ensures { result ≡ closing code }
     {

@@ -24,29 +24,29 @@ use std::marker::Model;
 use std::sync::Wait;
 use thiserror::Error;
 
-// RFC 6455, section 7.4.1: data of a type that is not accepted, and a condition that kept the request from being
-// fulfilled.
+// RFC 6455, section 7.4.1: 1003 for data of a type that is not accepted, and 1011 for an unexpected condition that
+// prevents the server from fulfilling the request.
 const UNSUPPORTED_DATA: u16 = 1003;
 
 const INTERNAL_ERROR: u16 = 1011;
 
-/// The session is closed: nothing more goes out.
+/// The refusal of a closed session: nothing more goes out.
 #[derive(Clone, Copy, Debug, PartialEq, Eq, Error)]
 #[error("the session is closed")]
 pub struct Ended;
 
-/// How far a session is.
+/// The state of a session.
 #[derive(Clone, Copy, Debug)]
 pub enum State {
-    /// No hello was answered with a welcome yet.
+    /// The client has not received a welcome yet.
     BeforeHello,
     /// The session has begun.
     Open {
-        /// Where its room stands.
+        /// The position of the session's room.
         room: usize,
-        /// Whose calls it makes.
+        /// The author of the session's calls.
         author: Author,
-        /// The number of the last entry that its client was told of.
+        /// The number of the last entry that counts as sent to the client.
         told: u64,
     },
     /// Nothing more goes out.
@@ -57,7 +57,7 @@ pub enum State {
 #[derive(Drop)]
 pub struct Session {
     state: State,
-    // Working memory for the texts that the client sends.
+    // Reusable memory for reading the client's texts.
     scratch: Scratch,
 }
 
@@ -67,7 +67,7 @@ impl fmt::Debug for Session {
     }
 }
 
-// A session is seen as its state.
+// Contracts model a session as its state.
 impl Model for Session {
     ghost use Rattle.room_session.specs.declared.session.State.{State};
 
@@ -77,7 +77,7 @@ impl Model for Session {
 }
 
 impl Session {
-    /// A session whose client has said nothing yet. It takes no memory: the allocator makes an empty list.
+    /// Returns a session whose client has sent nothing yet.
     pub fn new(alloc: Global) -> Session
         ensures { result ≡ BeforeHello }
     {
@@ -87,12 +87,17 @@ impl Session {
         }
     }
 
-    /// Takes a text from the client and gives what goes out for it.
+    /// Takes a text from the client and returns what goes out for it.
     ///
-    /// Before a hello that is answered with a welcome, every other message is answered `no_hello`. In an open session
-    /// the reply goes out first, and after it the news of all that has come to the room since the last that went out,
-    /// each once and in order. Where there was no memory, no text goes out and the session is closed; a change that was
-    /// accepted stands. Refused where the session is closed.
+    /// Until a hello gets a welcome, the reply to every message that is not a hello is `no_hello`. In an open session,
+    /// the reply goes out first. After it go the news of all entries after the last one sent, each once and in order.
+    ///
+    /// If an allocation for a text that goes out or for the news fails, no text goes out and the session is closed. An
+    /// accepted change then stays in the journal.
+    ///
+    /// # Errors
+    ///
+    /// `Ended`, if the session is closed.
     pub fn on_text<R: Rooms, W: Wait>(
         &mut self,
         alloc: Global,
@@ -105,7 +110,7 @@ impl Session {
             (λ sent. HearsText (R.known rooms.old) sent self.new (R.known rooms.new) self.old text.now) }
         ensures err { OnErr result ((self.old ≡ Closed) × (self.new ≡ Closed)
             × (R.known rooms.new ≡ R.known rooms.old)) }
-        // Of entries it makes at most that of the change that it asks for, and no other.
+        // The call makes at most one entry, that of the change that the text asks for.
         ensures makes { (said : Result Incoming Bad) × GivesMessage said (spells text.now)
             × Makes (R.known rooms.old) self.old said (R.known rooms.new) }
         ensures keeps { KeepsKnown (R.known rooms.old) (R.known rooms.new) }
@@ -129,8 +134,11 @@ impl Session {
         Ok(self.go(alloc, next))
     }
 
-    /// Says what goes out where nothing came from the client for a while: in an open session the news.
-    /// Refused where the session is closed.
+    /// Returns what goes out if nothing came from the client for a while: in an open session, the news.
+    ///
+    /// # Errors
+    ///
+    /// `Ended`, if the session is closed.
     pub fn on_quiet<R: Rooms, W: Wait>(
         &mut self,
         alloc: Global,
@@ -156,8 +164,11 @@ impl Session {
         Ok(self.go(alloc, next))
     }
 
-    /// Takes a message that is no text, and closes the session: a close with 1003 goes out. It takes no memory: the
-    /// allocator makes the list of texts, an empty one. Refused where the session is closed.
+    /// Takes a message that is not a text, and closes the session: a close with code 1003 goes out.
+    ///
+    /// # Errors
+    ///
+    /// `Ended`, if the session is closed.
     pub fn on_binary(&mut self, alloc: Global) -> Result<Sent, Ended>
         ensures ok { IfOk result (λ sent. (sent ≡ closing 1003) × (self.old ≢ Closed)) }
         ensures err { OnErr result (self.old ≡ Closed) }
@@ -167,9 +178,11 @@ impl Session {
         Ok(Sent::closing(alloc, UNSUPPORTED_DATA))
     }
 
-    /// Takes it that the client has closed the connection, or that the connection failed, and closes the session:
-    /// nothing goes out. It takes no memory: the allocator makes the list of texts, an empty one. Refused where the
-    /// session is closed.
+    /// Closes the session, because the client closed the connection or the connection failed. Nothing goes out.
+    ///
+    /// # Errors
+    ///
+    /// `Ended`, if the session is closed.
     pub fn on_close(&mut self, alloc: Global) -> Result<Sent, Ended>
         ensures ok { IfOk result (λ sent. (sent ≡ only []) × (self.old ≢ Closed)) }
         ensures err { OnErr result (self.old ≡ Closed) }
@@ -179,7 +192,7 @@ impl Session {
         Ok(Sent::nothing(alloc))
     }
 
-    // Closes the session, where it is not closed.
+    // Closes the session, unless it is closed.
     fn close(&mut self) -> Result<(), Ended>
         ensures ok { OnOk result (self.old ≢ Closed) }
         ensures err { OnErr result (self.old ≡ Closed) }
@@ -192,7 +205,7 @@ impl Session {
         Ok(())
     }
 
-    // Goes on to what comes of an event; or closes, where there was no memory for it.
+    // Moves to the state after an event, or closes the session if an allocation failed.
     fn go(&mut self, alloc: Global, next: Result<Next, Memory>) -> Sent
         ensures { MatchResult next (λ n. (result ≡ only n.texts) × (self.new ≡ n.state)) (λ _. (result ≡ closing 1011)
             × (self.new ≡ Closed)) }
@@ -210,7 +223,7 @@ impl Session {
     }
 }
 
-// No text goes out, and the session has not begun.
+// Sends nothing, and leaves the session before its hello.
 fn nothing(alloc: Global) -> Next
     ensures { result ≡ record { texts = []; state = BeforeHello } }
 {

@@ -1,4 +1,4 @@
--- What the calls of a session's core make of it, as events, and events one after another.
+-- The calls of a session's core as events, and sequences of events.
 use Rattle.std.proofs.Common.{◌≡◌, ◌≤◌, ◌+◌, ◌++◌, ◌∷◌, [], ℕ, List, arith, length, length-append, refl, subst}
 use Rattle.std.specs.Prelude.{IfOk, OnErr, Result, Ok, Err}
 use Rattle.room_wire.specs.declared.bad.Bad.{Bad}
@@ -14,7 +14,7 @@ use Rattle.room_session.specs.Rooms.{Known, MakesNone}
 use Rattle.room_socket.specs.Serving.{Event, Follows, Happens}
 use Rattle.room_socket.specs.Serving.Event.{Text, Quiet, Last}
 
--- events and then others
+-- events followed by further events
 pub follows_both : (one two : List Event) (state between state' : State) (before known after : Known) → Follows one state before between known → Follows two between known state' after → Follows (one ++ two) state before state' after
 follows_both [] two state between state' before known after first second =
     subst (λ (s : State). Follows two s before state' after) first.0 (subst (λ (k : Known). Follows two between k state' after) first.1 second)
@@ -42,7 +42,7 @@ module _ (state state' : State) (before after : Known) where
   waited (Ok sent) ok err makes = alone Quiet ((sent, ok), makes)
   waited (Err e) ok err makes = alone Last (err.1, err.2)
 
--- a step of one event is a step of one event at most
+-- a step of at most one event
 abbrev pub AtMostOne : State → Known → State → Known → Type 0
 AtMostOne state before state' after = (events : List Event) × (length events ≤ 1) × Follows events state before state' after
 
@@ -53,7 +53,7 @@ at_most_one state state' before after one = (one.0 ∷ [], omega arith, one.1)
 pub ended : (state state' : State) (known : Known) → state' ≡ Closed → AtMostOne state known state' known
 ended state state' known closed = (Last ∷ [], omega arith, (state', known, (closed, refl), (refl, refl)))
 
--- events before a turn, and those of the turn
+-- at most this number of events come in this number of turns
 abbrev pub InTurns : ℕ → State → Known → State → Known → Type 0
 InTurns turns state before state' after = (events : List Event) × (length events ≤ turns) × Follows events state before state' after
 

@@ -1,5 +1,4 @@
--- What a session that is served over a stream makes of the rooms, event by event. (The rules of a session are this
--- project's.)
+-- What a session over a stream does to the rooms, event by event. The rules of a session are this project's.
 use Rattle.std.specs.Prelude.{◌≡◌, ◌≤◌, ℕ, zero, suc, List, [], ◌∷◌, Result, length}
 use Rattle.room_wire.specs.declared.bad.Bad.{Bad}
 use Rattle.room_wire.specs.declared.incoming.Incoming.{Incoming}
@@ -11,13 +10,13 @@ use Rattle.room_session.specs.declared.session.State.TheVariants.{BeforeHello, C
 use Rattle.room_session.specs.Events.{HearsText, Makes, WaitsOn}
 use Rattle.room_session.specs.Rooms.{Known, MakesNone}
 
--- what comes to a session: a text, nothing for a while, or what it ends with
+-- an event of a session: a text, nothing for a while, or an event that ends the session
 pub data Event : Type 0 where
   Text : List ℕ → Event
   Quiet : Event
   Last : Event
 
--- what the event makes of the session and of the rooms: what the session's core makes of it
+-- the session and the rooms change by the event as the core of a session changes them
 abbrev pub Happens : Event → State → Known → State → Known → Type 0
 Happens (Text text) state before state' after =
     ((sent : Sent) × HearsText before sent state' after state text)
@@ -26,19 +25,19 @@ Happens Quiet state before state' after =
     ((sent : Sent) × WaitsOn before sent state' after state) × MakesNone before after
 Happens Last state before state' after = (state' ≡ Closed) × (after ≡ before)
 
--- one event after another
+-- the events come in order
 abbrev pub Follows : List Event → State → Known → State → Known → Type 0
 Follows [] state before state' after = (state' ≡ state) × (after ≡ before)
 Follows (event ∷ later) state before state' after =
     (next : State) × (between : Known) × Happens event state before next between
     × Follows later next between state' after
 
--- a session was served from before its hello on, by so many events at most
+-- a session was served from before its hello, by at most this number of events
 abbrev pub Serves : ℕ → Known → Known → Type 0
 Serves turns before after =
     (events : List Event) × (length events ≤ turns) × ((state : State) × Follows events BeforeHello before state after)
 
--- so many sessions were served, one after the other, each by so many events at most, and nothing else was asked
+-- this number of sessions were served in order, each by at most this number of events, and nothing else was asked
 abbrev pub ServesEach : ℕ → ℕ → Known → Known → Type 0
 ServesEach turns zero before after = after ≡ before
 ServesEach turns (suc sessions) before after =

@@ -1,18 +1,19 @@
-//! How a session ended.
+//! The ways in which a session ends.
 use std::fmt;
 
-/// How a session ended.
+/// The way in which a session ended.
 #[derive(Clone, Copy, Debug, PartialEq, Eq)]
 pub enum End {
     /// The client closed the connection.
     Left,
-    /// The client sent a message that is no text, and the connection was closed with 1003.
+    /// The client sent a message that is not a text, and the connection was closed with code 1003.
     Binary,
-    /// There was no memory, and the connection was closed with 1011.
+    /// An allocation of the session's core for a reply or for the news failed, and the connection was closed with code
+    /// 1011.
     Memory,
-    /// The handshake, the stream or the protocol failed, and nothing more was sent.
+    /// The handshake, the stream, the protocol or an allocation for the socket failed. Nothing more was sent.
     Fault,
-    /// The turns were used up, and the connection was closed with 1000.
+    /// The session used up its turns, and the connection was closed with code 1000.
     Bound,
 }
 

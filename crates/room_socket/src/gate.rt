@@ -1,18 +1,19 @@
-//! What may hold a session back.
+//! A gate, which can delay a session's calls.
 use std::sync::Wait;
 use std::time::Clock;
 
-/// What a session passes with each text message. A server lets all pass ([`OpenGate`]); a test may hold one back until
-/// another was answered.
+/// A point that a session passes with each text message. A server lets all messages pass ([`OpenGate`]). A test can
+/// delay a message until another message was answered.
 pub trait Gate {
-    /// The session of this number is about to take its turn for its text message of this number, counted from 1.
+    /// Is called before the session takes its turn for a text message. `call` is the number of the message, counted
+    /// from 1.
     fn pass<W: Wait + Clock>(&self, rt: &W, session: u64, call: u64);
 
-    /// The reply to that message was sent, or could not be.
+    /// Is called after the reply to that message was sent, or could not be sent.
     fn answered<W: Wait + Clock>(&self, rt: &W, session: u64, call: u64);
 }
 
-/// The gate that holds nothing back.
+/// The gate that delays nothing.
 #[derive(Clone, Copy, Debug)]
 pub struct OpenGate;
 

@@ -1,29 +1,29 @@
-//! What comes to a session from its client.
+//! Reading from a client.
 use crate::patient::{Patient, is_quiet};
 use std::io::{Read, Write};
 use tungstenite::{Error, Message, NoMask, Utf8Bytes, WebSocket};
 
-/// A server's socket over a patient stream.
+/// A server's WebSocket over a patient stream.
 pub(crate) type Socket<S> = WebSocket<Patient<S>, NoMask>;
 
-/// What comes from the client.
+/// What a read from the client can yield.
 #[derive(Drop)]
 pub(crate) enum Heard {
     /// A text.
     Text(Utf8Bytes),
-    /// A message that is no text.
+    /// A message that is not a text.
     Binary,
     /// A ping or a pong, which the socket answers itself.
     Other,
-    /// Nothing, for a while.
+    /// Nothing came for a while.
     Quiet,
-    /// The client closes the connection.
+    /// The client closed the connection.
     Close,
-    /// The stream or the protocol failed.
+    /// The stream, the protocol or an allocation failed.
     Fault,
 }
 
-/// Reads what comes next.
+/// Reads the next message.
 pub(crate) fn hear<S: Read + Write + Drop>(socket: &mut Socket<S>) -> Heard {
     match socket.read() {
         Ok(Message::Text(text)) => Heard::Text(text),

@@ -1,7 +1,8 @@
-//! A session over a stream: the WebSocket (RFC 6455) round the core of a session.
+//! A session over a stream: the WebSocket (RFC 6455) around the core of a session.
 //!
-//! [`serve`] shakes hands with a client over anything that reads and writes, hands its texts to a session's core, sends
-//! what the core says, and tells how the session ended.
+//! [`serve`] shakes hands with a client over any stream that can be read and written. It gives the client's texts to
+//! the core of a session, sends what the core returns, and returns the way in which the session ended ([`End`]). A test
+//! can order the sessions' calls by a [`Gate`].
 #![tactic(auto)]
 
 mod closing;

@@ -1,9 +1,9 @@
-//! How one session passes the gate.
+//! The passage of one session through the gate.
 use crate::gate::Gate;
 use std::sync::Wait;
 use std::time::Clock;
 
-/// The way of one session through a gate: it counts the session's text messages.
+/// The passage of one session through a gate. It counts the session's text messages.
 #[derive(Drop)]
 pub(crate) struct Passage<'g, G> {
     gate: &'g G,
@@ -12,7 +12,7 @@ pub(crate) struct Passage<'g, G> {
 }
 
 impl<'g, G: Gate> Passage<'g, G> {
-    /// The way of the session of this number, before its first message.
+    /// Returns the passage of the session with this number, before its first message.
     pub(crate) fn new(gate: &'g G, session: u64) -> Passage<'g, G> {
         Passage {
             gate,
@@ -21,13 +21,13 @@ impl<'g, G: Gate> Passage<'g, G> {
         }
     }
 
-    /// The next text message passes.
+    /// Passes the gate with the next text message.
     pub(crate) fn pass<W: Wait + Clock>(&mut self, rt: &W) {
         self.call = self.call.saturating_add(1);
         self.gate.pass(rt, self.session, self.call);
     }
 
-    /// The reply to it was sent, or could not be.
+    /// Reports to the gate that the reply to this message was sent, or could not be sent.
     pub(crate) fn answered<W: Wait + Clock>(&self, rt: &W) {
         self.gate.answered(rt, self.session, self.call);
     }

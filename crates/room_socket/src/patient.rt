@@ -4,11 +4,12 @@ ghost use Rattle.std.specs.Io.{ReadsAtMost};
 use std::io;
 use std::io::{ErrorKind, Read, Write};
 
-/// A stream that is patient until the first write: it passes over so many quiet reads at most, and gathers what comes
-/// until there is a whole head of a request (RFC 9112, section 2.1), the buffer is full or the stream is at its end.
+/// A stream that is patient until the first write: a read then gathers bytes until they end the head of a request (RFC
+/// 9112, section 2.1), fill the buffer or end the stream.
 ///
-/// A head that drips in byte by byte would else be taken for an attack. A write that ran into its time limit fails, so
-/// that it is not taken for a quiet read.
+/// Until the first write, the stream repeats quiet reads, at most `quiet_left` times. Without this, the WebSocket
+/// library would take a head that arrives byte by byte for an attack. A write that reaches its time limit fails with
+/// another error, so that it is not taken for a quiet read.
 #[derive(Drop)]
 pub(crate) struct Patient<S> {
     stream: S,
@@ -18,7 +19,7 @@ pub(crate) struct Patient<S> {
 }
 
 impl<S> Patient<S> {
-    /// The stream, which passes over so many quiet reads.
+    /// Returns the stream, which repeats at most `quiet_left` quiet reads.
     pub(crate) fn new(stream: S, quiet_left: u64) -> Patient<S> {
         Patient {
             stream,
@@ -29,31 +30,31 @@ impl<S> Patient<S> {
     }
 }
 
-/// Whether a read failed only because nothing came in time, or because a signal interrupted it: then it can be made
-/// again.
+/// Returns whether a read failed only because nothing came in time or a signal interrupted it. Such a read can be
+/// repeated.
 pub(crate) fn is_quiet(error: &io::Error) -> bool {
     is_late(error) || error.kind() == ErrorKind::Interrupted
 }
 
-// Whether a read or a write ran into its time limit.
+// Returns whether a read or a write reached its time limit.
 fn is_late(error: &io::Error) -> bool {
     matches!(error.kind(), ErrorKind::WouldBlock | ErrorKind::TimedOut)
 }
 
-// How far the line is that is coming.
+// The state of the line that is arriving.
 #[derive(Clone, Copy)]
 enum Line {
-    // There is something else, or it is the first line.
+    // The line has some other content, or it is the first line.
     Begun,
-    // There is nothing yet, and there was a line before it.
+    // The line is empty so far, and is not the first.
     Empty,
-    // There is a carriage return alone, and there was a line before it.
+    // The line is a carriage return so far, and is not the first.
     Returned,
 }
 
 impl Line {
-    // Goes on by some bytes, and says whether an empty line was among them: a head ends with one. An empty line may end
-    // in LF alone, as RFC 9112, section 2.2 lets a recipient read it.
+    // Moves on by these bytes, and returns whether they end an empty line, which ends a head. An empty line may end in
+    // LF alone, which RFC 9112, section 2.2, permits a recipient to accept.
     fn ends_head(&mut self, bytes: &[u8]) -> bool {
         let mut ended = false;
         for byte in bytes {
@@ -63,7 +64,7 @@ impl Line {
         ended
     }
 
-    // How far the line is after a byte.
+    // Returns the state after a byte.
     fn after(self, byte: u8) -> Line {
         match (self, byte) {
             (_, b'\n') => Line::Empty,
@@ -74,7 +75,7 @@ impl Line {
 }
 
 impl<S: Read> Patient<S> {
-    // Reads, and again where a read was quiet, while quiet reads are left.
+    // Reads, and repeats the read while it is quiet and quiet reads are left.
     fn read_some(&mut self, buffer: &mut [u8]) -> io::Result<usize>
         ensures { ReadsAtMost result buffer.new }
     {

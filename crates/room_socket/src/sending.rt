@@ -1,4 +1,4 @@
-//! What goes out to a client.
+//! Sending to a client.
 use crate::closing::close;
 use crate::end::End;
 use crate::hearing::Socket;
@@ -11,7 +11,7 @@ use tungstenite::{CloseCode, Error, Message};
 // RFC 6455, section 7.4.1: data of a type that is not accepted.
 const UNSUPPORTED_DATA: u16 = 1003;
 
-/// Sends what the core of a session says, and closes the connection where it says so. An end, where the session is
+/// Sends what the core of a session returned, and closes the connection if it says so. Returns an end if the session is
 /// over.
 pub(crate) fn send<S: Read + Write + Drop>(
     alloc: Global,
@@ -34,7 +34,8 @@ pub(crate) fn send<S: Read + Write + Drop>(
     }
 }
 
-// Puts all texts into the output and then sends them at once, so that a reply and the news behind it go out together.
+// Writes all texts to the output buffer and then sends them at once, so that a reply and the news after it go out
+// together.
 fn send_texts<S: Read + Write + Drop>(
     alloc: Global,
     socket: &mut Socket<S>,

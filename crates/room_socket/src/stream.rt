@@ -20,19 +20,22 @@ use std::sync::Wait;
 use std::time::Clock;
 use tungstenite::{CloseCode, accept};
 
-/// Shakes hands with a client over a stream (RFC 6455, section 4.2), and runs the session of this number with it to its
-/// end.
+/// Shakes hands with a client over a stream (RFC 6455, section 4.2), and runs the session with this number to its end.
 ///
-/// Each text that comes is handed to the core of a session, and what this says goes out, a reply and its news in one
-/// write. Where nothing comes for as long as the stream's reads wait, the news go out. The session ends where the
-/// client closes the connection, which is answered; where it sends a message that is no text (a close with 1003 goes
-/// out); where there is no memory (1011); where the handshake, the stream or the protocol fails (nothing more goes
-/// out); and after `turns` reads of a message (1000). Before the first write at most `turns` quiet reads are passed
-/// over.
+/// The core of a session gets each text that comes. What it returns goes out, a reply and its news in one write. If
+/// nothing comes for as long as the stream's reads wait, the news go out. The session ends:
 ///
-/// The stream's reads have to end: one that waits for ever keeps the session waiting. What no call of the rooms changes
-/// is the same afterwards. How often the stream is read for a message is the library's: a client that sends a frame in
-/// pieces, each sooner than a read waits, gets no news meanwhile, nor does one that pings so often.
+/// - if the client closes the connection: the close is answered
+/// - if the client sends a message that is not a text: a close with code 1003 goes out
+/// - if an allocation of the core for a reply or for the news fails: a close with code 1011 goes out
+/// - if the handshake, the stream, the protocol or an allocation for the socket fails: nothing more goes out
+/// - after `turns` reads of a message: a close with code 1000 goes out
+///
+/// Before the first write, at most `turns` quiet reads are repeated. The stream's reads have to end: a read that waits
+/// forever keeps the session waiting. The call leaves unchanged what no call of the rooms changes.
+///
+/// The WebSocket library decides how often it reads the stream for a message. A client gets no news while it sends
+/// pieces of a frame, or pings, each sooner than a read waits.
 pub fn serve<S: Read + Write + Drop, R: Rooms, G: Gate, W: Wait + Clock>(
     rt: &W,
     alloc: Global,
@@ -42,8 +45,8 @@ pub fn serve<S: Read + Write + Drop, R: Rooms, G: Gate, W: Wait + Clock>(
     session: u64,
     turns: u64,
 ) -> End
-    // The rooms were asked what the core of one session asks for some texts and quiet waits, `turns` at most, and
-    // nothing else.
+    // The rooms were asked what the core of one session asks for at most `turns` texts and quiet waits, and nothing
+    // else.
     ensures serves { Serves turns (R.known rooms.old) (R.known rooms.new) }
     ensures keeps { KeepsKnown (R.known rooms.old) (R.known rooms.new) }
     ensures kept { R.kept rooms.new ≡ R.kept rooms.old }
@@ -81,7 +84,7 @@ fn run<S: Read + Write + Drop, R: Rooms, G: Gate, W: Wait + Clock>(
     End::Bound
 }
 
-// One turn: what comes is read, and what goes out for it is sent. An end, where it is the last.
+// Takes one turn: reads a message and sends what goes out for it. Returns an end if the turn is the last.
 fn turn<S: Read + Write + Drop, R: Rooms, G: Gate, W: Wait + Clock>(
     rt: &W,
     alloc: Global,
@@ -126,7 +129,7 @@ fn turn<S: Read + Write + Drop, R: Rooms, G: Gate, W: Wait + Clock>(
     }
 }
 
-// Hands a text to the core.
+// Gives a text to the core.
 fn take_text<R: Rooms, W: Wait>(
     rt: &W,
     alloc: Global,
@@ -143,7 +146,7 @@ fn take_text<R: Rooms, W: Wait>(
     core.on_text(alloc, rt, rooms, text)
 }
 
-// Tells the core that nothing came for a while.
+// Reports to the core that nothing came for a while.
 fn take_quiet<R: Rooms, W: Wait>(
     rt: &W,
     alloc: Global,

@@ -1,4 +1,4 @@
--- Deeds entered into what the code keeps.
+-- One more deed in the collections of the code.
 use Rattle.std.proofs.Common.{◌≡◌, Bool, true, false, cond, ℕ, List, [], ◌∷◌, ◌++◌, map, Option, None, refl, sym, ap, subst, ◌∙◌}
 use Rattle.std.proofs.lemmas.List.{map-append}
 use Rattle.room_stacks.specs.declared.author.Author.{Author}
@@ -13,7 +13,7 @@ use Rattle.room_stacks.specs.Facts.SameAuthors.{one_author}
 use Rattle.room_stacks.specs.Facts.Rising.{IsRising-push, IsRising-filter, IsRising-passing, below_numbers}
 use Rattle.room_stacks.specs.Facts.OneMore.{is_work_of, stands, standing-work, standing-undid, redo-push, none_of_another}
 
--- what stands for an author rises
+-- an author's active entries rise
 pub standing_rises : (ds : List Deed) (q : Author) → IsRising (map number ds) → IsRising (standing ds q)
 standing_rises ds q h = IsRising-filter (stands ds) (works ds q) (IsRising-passing (is_work_of q) ds h)
 
@@ -22,7 +22,7 @@ rises_more ds after d is h last =
     subst IsRising (sym (ap (map number) is ∙ map-append number ds (d ∷ []))) (IsRising-push (map number ds) (number d) h (below_numbers (number d) ds last))
 
 module _ (who : Option Author) (ids ids_after : Spent) (lists lists_after : Lists) (kept : IsKept who ids lists) where
-  -- what each author can redo after one more deed
+  -- each author's redo stack after one more deed
   redo_more : (d : Deed) (stand : List ℕ) → ids_after.deeds ≡ ids.deeds ++ d ∷ [] → IsRewritten lists lists_after (doer d) stand (redo_after (redo_at lists (doer d)) d)
       → (q : Author) → redo_at lists_after q ≡ redo ids_after.deeds q
   redo_more d stand is written q =

@@ -1,4 +1,4 @@
--- A name in 32 bytes.
+-- A name padded to 32 bytes.
 use Rattle.std.proofs.Common.{◌≡◌, ◌++◌, ◌-◌, ◌+◌, ◌≤◌, ◌&&◌, Bool, true, false, ℕ, List, length, take, drop, replicate, refl, ap, ◌∙◌, arith, nat_le}
 use Rattle.std.proofs.Math.Seq.{take-append_seam, drop-append_seam}
 use Rattle.std.proofs.lemmas.List.{length-append, drop-replicate, length-replicate}
@@ -20,7 +20,7 @@ pub short : (text : List ℕ) → is_author text ≡ true → length text ≤ 32
 short text h =
     let t : nat_le (length text) 32 ≡ true = first (nat_le (length text) 32) (list_all is_name_character text) (second (nat_le 1 (length text)) _ h) in grind (arith, nat_tests)
 
--- a name over 32 zeros
+-- a name copied over 32 zeros
 pub padded : (text : List ℕ) → is_author text ≡ true → IsPadded (text ++ drop (length text) (replicate 32 0)) (length text)
 padded text h =
     let n : length text ≤ 32 = short text h in
@@ -33,6 +33,6 @@ padded text h =
       name = ap is_author (take-append_seam text (drop (length text) (replicate 32 0))) ∙ h;
     }
 
--- the name is what comes first
+-- a name is the prefix of its padded bytes
 pub taken_back : (text rest : List ℕ) → take (length text) (text ++ rest) ≡ text
 taken_back text rest = take-append_seam text rest

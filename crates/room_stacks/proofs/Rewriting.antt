@@ -1,4 +1,4 @@
--- Stacks after those of one author were written anew.
+-- The stacks after those of one author are replaced.
 use Rattle.std.proofs.Common.{◌≡◌, Bool, true, false, cond, ℕ, List, Option, Some, refl, sym, ap, ◌∙◌}
 use Rattle.std.specs.BTreeMap.{is_at}
 use Rattle.std.specs.Cmp.Lexicographic.{slice_cmp, texts_ties, nat_list_eq_equiv}
@@ -18,7 +18,7 @@ module _ (before after : Lists) (author : Author) (w : Usable) (at : (q : Author
   now : (q : Author) → usable_at after q ≡ cond (is_same_author q author) (Some w) (usable_at before q)
   now q = at q ∙ ap (λ b. cond b (Some w) (usable_at before q)) (same_author_is_at q author)
 
-  -- what f reads of the stacks
+  -- the value of f at each author's stacks
   module _ {X : Type 0} (f : Option Usable → X) where
     read : (q : Author) → f (usable_at after q) ≡ cond (is_same_author q author) (f (Some w)) (f (usable_at before q))
     read q = ap f (now q) ∙ by (is_same_author q author)

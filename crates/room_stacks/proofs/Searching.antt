@@ -1,4 +1,4 @@
--- A binary search among rising numbers finds where one stands, or that it stands nowhere.
+-- A binary search among rising numbers finds the position of a number, or finds that it is absent.
 use Prim.Native.Nat.{zero}
 use Rattle.std.proofs.Common.{◌≡◌, ℕ, suc, ◌<◌, ◌≤◌, Bool, true, false, List, [], ◌∷◌, length, get_or, Result, Ok, Err, nat_eq, nat_lt, refl, sym, ap, ◌∙◌, arith}
 use Rattle.std.proofs.lemmas.Bool.Decides.{nat_tests}

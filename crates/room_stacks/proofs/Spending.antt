@@ -1,4 +1,4 @@
--- The deed that spent an id, found by its author's number and the id.
+-- The deed that spent an id is found by its author's number and the id.
 use Rattle.std.proofs.Common.{◌≡◌, ◌≢◌, ◌<◌, ◌&&◌, Bool, true, false, cond, ℕ, List, [], ◌∷◌, ◌++◌, map, length, position, Option, Some, None, refl, sym, ap, subst, ◌∙◌, nat_eq, nat_lt, arith}
 use Rattle.std.proofs.lemmas.Bool.Decides.{nat_tests}
 use Rattle.std.proofs.lemmas.List.{get_or_append_left, map-append}
@@ -24,11 +24,11 @@ use Rattle.room_stacks.specs.Facts.OneMore.{and_false}
 use Rattle.room_stacks.specs.Facts.SameAuthors.{one_author}
 use Rattle.room_stacks.specs.Inner.SpentIds.{AreNumbered, deed_of, deed_at, author_at, is_met, work_number}
 
--- a key is the id of the author of the number
+-- a key has the id id and the author number n
 abbrev pub is_key : ℕ → ℕ → Spending → Bool
 is_key n id k = nat_eq id k.id && nat_eq n k.author
 
--- each number is that of an author
+-- each author number is an index of the list
 abbrev pub AreWithin : List Author → List (Spending × Work) → Type 0
 AreWithin authors es = All (λ e. e.0.author < length authors) es
 
@@ -45,7 +45,7 @@ unequal : (n k : ℕ) → nat_eq n k ≡ false → n ≢ k
 unequal n k e = grind (arith, nat_tests)
 
 module _ (authors : List Author) where
-  -- two numbers are of two authors
+  -- two numbers belong to two authors
   two_authors : IsDistinct is_same_author authors → (n k : ℕ) → n < length authors → k < length authors → n ≢ k → author_at authors n ≢ author_at authors k
   two_authors distinct n k first second differ = by (nat_lt n k) refl
     where
@@ -57,11 +57,11 @@ module _ (authors : List Author) where
       by false e = λ same. pairs k n (apart n k differ e) first (sym same)
 
   module _ (author : Author) where
-    -- the number at which an author is found is its own
+    -- the number found for an author is its own
     own_number : (n : ℕ) → position (is_same_author author) authors ≡ Some n → author ≡ author_at authors n
     own_number n found = one_author author (author_at authors n) (position-Some (is_same_author author) authors n [] found).1
 
-    -- and no other
+    -- no other number is the author's
     same_number : IsDistinct is_same_author authors → (n : ℕ) → position (is_same_author author) authors ≡ Some n → (k : ℕ) → k < length authors → nat_eq n k ≡ is_same_author author (author_at authors k)
     same_number distinct n found k within = by (nat_eq n k) (is_same_author author (author_at authors k)) refl refl
       where
@@ -81,7 +81,7 @@ module _ (authors : List Author) where
             absurd (cc)
         by false true e f = absurd (two_authors distinct n k place within (unequal n k e) (sym own ∙ one_author author (author_at authors k) f))
 
-    -- an author that was not met has no number
+    -- an unknown author has no number
     no_number : is_met authors author ≡ false → (k : ℕ) → k < length authors → is_same_author author (author_at authors k) ≡ false
     no_number unmet k within = by (is_same_author author (author_at authors k)) refl
       where
@@ -107,7 +107,7 @@ module _ (authors : List Author) where
       one_spends a i (Undid of seq) = refl
       one_spends a i (Redid of seq) = refl
 
-      -- the look-up answers what the search does
+      -- the look-up finds the entry that `spent` defines
       pub spent-lookup : (n : ℕ) → position (is_same_author author) authors ≡ Some n
           → (es : List (Spending × Work)) → AreNumbered authors es → option_map work_number (lookup (is_key n id) es) ≡ spent (map (deed_at authors) es) author id
       spent-lookup n found [] numbered = refl
@@ -119,7 +119,7 @@ module _ (authors : List Author) where
           either (is_key n id k) (spends author id d) w d _ _ tests (one_number w (author_at authors k.author) k.id)
           (spent-lookup n found es rest)
 
-      -- an author that was not met spent nothing
+      -- an unknown author spent nothing
       pub unmet_spent : is_met authors author ≡ false → (es : List (Spending × Work)) → AreWithin authors es → None ≡ spent (map (deed_at authors) es) author id
       unmet_spent unmet [] within = refl
       unmet_spent unmet ((k, w) ∷ es) within =
@@ -134,12 +134,12 @@ module _ (authors : List Author) where
       nothing None h = refl
       nothing (Some w) h = absurd (cc)
 
-      -- an unspent id is no key
+      -- an unspent id is not a key
       unspent : (n : ℕ) → position (is_same_author author) authors ≡ Some n → (es : List (Spending × Work)) → AreNumbered authors es
           → spent (map (deed_at authors) es) author id ≡ None → lookup (is_key n id) es ≡ None
       unspent n found es numbered h = nothing (lookup (is_key n id) es) (spent-lookup n found es numbered ∙ h)
 
-  -- one more author changes no deed
+  -- one more known author changes no deed
   grown_deeds : (more : List Author) (es : List (Spending × Work)) → AreWithin authors es → map (deed_at (authors ++ more)) es ≡ map (deed_at authors) es
   grown_deeds more [] within = refl
   grown_deeds more ((k, w) ∷ es) within =
@@ -147,7 +147,7 @@ module _ (authors : List Author) where
       ap (λ a. deed_of a k.id w ∷ map (deed_at (authors ++ more)) es) (get_or_append_left authors more [] k.author here)
       ∙ ap (λ ds. deed_at authors (k, w) ∷ ds) (grown_deeds more es (All-tail (λ e. e.0.author < length authors) (k, w) es within))
 
-  -- an author entered among those that were met
+  -- an author added to the known authors
   module _ (author : Author) where
     pub entered_deeds : (es : List (Spending × Work)) → AreWithin authors es → map (deed_at (insert_key is_same_author authors author)) es ≡ map (deed_at authors) es
     entered_deeds es within = by (is_met authors author)
@@ -156,11 +156,11 @@ module _ (authors : List Author) where
         by true = refl
         by false = grown_deeds (author ∷ []) es within
 
--- keys are the same
+-- both keys are equal
 abbrev pub is_same_key : Spending → Spending → Bool
 is_same_key j k = is_key j.author j.id k
 
--- an unspent id of an author that was met, put among the spent ones
+-- an unspent id of a known author, added to the spent ids
 module _ {S : Type 0} (authors : List Author) (author : Author) (id n : ℕ) (w : Work) (m : IndexMap Spending Work S) (found : position (is_same_author author) authors ≡ Some n)
     (numbered : AreNumbered authors m.entries) (free : spent (map (deed_at authors) m.entries) author id ≡ None)
     (after : List (Spending × Work)) (put : after ≡ insert_entry is_same_key m.entries (record { id = id; author = n }) w) where

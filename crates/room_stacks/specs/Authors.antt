@@ -10,6 +10,6 @@ is_name_character b = (nat_le 97 b && nat_le b 122) || ((nat_le 48 b && nat_le b
 abbrev pub is_author : List ℕ → Bool
 is_author text = nat_le 1 (length text) && (nat_le (length text) 32 && list_all is_name_character text)
 
--- the author whose name the text is
+-- the author with this name, if the text is a name
 abbrev pub author_of : List ℕ → Option (List ℕ)
 author_of text = if is_author text then Some text else None

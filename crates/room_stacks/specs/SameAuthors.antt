@@ -1,7 +1,7 @@
--- When two authors are the same.
+-- Equality of authors.
 use Rattle.std.specs.Prelude.{ℕ, Bool, List}
 use Rattle.osm_elements.specs.Texts.{is_same_text}
 
--- two authors have the same name
+-- both authors have the same name
 abbrev pub is_same_author : List ℕ → List ℕ → Bool
 is_same_author = is_same_text

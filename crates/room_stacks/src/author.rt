@@ -1,4 +1,4 @@
-//! The authors of a room.
+//! Names of authors.
 ghost use Rattle.std.specs.Prelude.{◌≡◌};
 ghost use Rattle.std.specs.List.{list_all};
 ghost use Rattle.room_stacks.specs.Authors.{author_of, is_author, is_name_character};
@@ -8,7 +8,7 @@ use std::hash::{Hash, Hasher};
 use std::marker::Model;
 use std::str;
 
-/// The length of the longest name of an author, in bytes.
+/// The greatest length of an author's name, in bytes.
 pub const AUTHOR_LENGTH: usize = 32;
 
 /// An author's name: 1 to 32 characters of `a-z`, `0-9` and `_`. Room names have the same form.
@@ -38,7 +38,7 @@ impl Model for Author {
 impl Author {
     ghost use Rattle.room_stacks.specs.SameAuthors.{is_same_author};
 
-    /// The author of this name, or none where the text is no name of an author.
+    /// Returns the author with the name `text`, or `None` if the text is not an author's name.
     pub fn read(text: &str) -> Option<Author>
         ensures { result ≡ author_of text.now }
     {
@@ -51,21 +51,21 @@ impl Author {
         Some(Author { bytes, length })
     }
 
-    /// The name.
+    /// Returns the bytes of the name.
     pub fn as_bytes(&self) -> &[u8]
         ensures { result.now ≡ self.now }
     {
         &self.bytes[..self.length]
     }
 
-    /// The name, as text.
+    /// Returns the name as text.
     pub fn as_str(&self) -> &str
         ensures { result.now ≡ self.now }
     {
         str::from_utf8(&self.bytes[..self.length]).unwrap()
     }
 
-    /// Whether this is the other author.
+    /// Whether both authors have the same name.
     pub fn is(&self, other: &Author) -> bool
         ensures { result ≡ is_same_author self.now other.now }
     {
@@ -140,7 +140,6 @@ impl Hash for Author {
     }
 }
 
-// Whether a text has the form of an author's name.
 fn is_author(text: &str) -> bool
     ensures { result ≡ is_author text.now }
 {

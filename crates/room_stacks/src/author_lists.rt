@@ -1,4 +1,4 @@
-//! What each author may undo and redo.
+//! The entries that each author can undo and redo.
 ghost use Rattle.std.specs.Prelude.{◌≡◌, ◌++◌, [], ◌∷◌, true, OnOk};
 ghost use Rattle.room_stacks.specs.Stacks.{below_top};
 ghost use Rattle.room_stacks.specs.Inner.Lists.{standing_at, redo_at, has_room_at, without, IsRising, SameStacks, KeepsRooms, IsRewritten};
@@ -10,7 +10,7 @@ use std::alloc::Allocator;
 use std::collections::BTreeMap;
 use std::marker::Model;
 
-/// The stacks of each author that has any, or for whose next deed room was made. They are found in time logarithmic in
+/// The stacks of each author that has any, or whose next deed has reserved memory. A look-up takes time logarithmic in
 /// the number of authors.
 #[derive(Drop)]
 #[derive_where(Debug)]
@@ -27,7 +27,7 @@ impl<A: Allocator> Model for AuthorLists<A> {
 }
 
 impl<A: Allocator> AuthorLists<A> {
-    /// No stacks. They take no memory.
+    /// Returns empty lists.
     pub fn new(alloc: A) -> AuthorLists<A>
         ensures { result ≡ [] }
     {
@@ -36,7 +36,7 @@ impl<A: Allocator> AuthorLists<A> {
         }
     }
 
-    /// An author's entries that stand, rising.
+    /// Returns an author's active entries, in rising order.
     pub fn standing(&self, author: &Author) -> &[u64]
         ensures { result.now ≡ standing_at self.now author.now }
     {
@@ -46,7 +46,7 @@ impl<A: Allocator> AuthorLists<A> {
         }
     }
 
-    /// The entries that an author can redo, bottom first.
+    /// Returns the entries that an author can redo, bottom first.
     pub fn redo(&self, author: &Author) -> &[u64]
         ensures { result.now ≡ redo_at self.now author.now }
     {
@@ -56,7 +56,8 @@ impl<A: Allocator> AuthorLists<A> {
         }
     }
 
-    /// Makes room for the next number of an author, or refuses with `Memory`. Room that was there stays.
+    /// Reserves the memory for an author's next number. If it returns `Memory`, all stacks and earlier reservations are
+    /// unchanged.
     pub fn reserve(&mut self, alloc: &A, author: &Author) -> Result<(), Memory>
     where
         A: Clone,
@@ -75,7 +76,7 @@ impl<A: Allocator> AuthorLists<A> {
         }
     }
 
-    /// Puts the number of an author's action on what stands. It takes no memory.
+    /// Adds the number of an author's action to its active entries, and empties its redo stack.
     pub fn did(&mut self, author: &Author, seq: u64)
         requires { has_room_at self.old author.now ≡ true }
         ensures { IsRewritten self.old self.new author.now (standing_at self.old author.now ++ seq ∷ []) [] }
@@ -86,7 +87,7 @@ impl<A: Allocator> AuthorLists<A> {
         }
     }
 
-    /// Moves the number of an author's entry that stands to what it can redo. It takes no memory.
+    /// Moves the number of an author's active entry to its redo stack.
     pub fn undid(&mut self, author: &Author, of: u64)
         requires room { has_room_at self.old author.now ≡ true }
         requires rising { IsRising (standing_at self.old author.now) }
@@ -99,8 +100,7 @@ impl<A: Allocator> AuthorLists<A> {
         }
     }
 
-    /// Puts the number of an author's action that it did again on what stands, and takes the top off what it can redo.
-    /// It takes no memory.
+    /// Adds the number of an author's redo to its active entries, and pops its redo stack.
     pub fn redid(&mut self, author: &Author, seq: u64)
         requires { has_room_at self.old author.now ≡ true }
         ensures { IsRewritten self.old self.new author.now

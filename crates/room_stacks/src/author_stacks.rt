@@ -1,4 +1,4 @@
-//! What one author may undo and redo.
+//! The entries that one author can undo and redo.
 ghost use Rattle.std.specs.Prelude.{◌≡◌, ◌<◌, ◌++◌, [], ◌∷◌, true, IfOk, OnOk, vec_len, vec_capacity};
 ghost use Rattle.room_stacks.specs.Stacks.{below_top};
 ghost use Rattle.room_stacks.specs.Inner.Lists.{without, IsRising};
@@ -7,7 +7,7 @@ use osm_elements::Memory;
 use std::alloc::Allocator;
 use std::marker::Model;
 
-/// The numbers of an author's entries that stand, rising, and of those that it can redo, bottom first.
+/// The numbers of an author's active entries, in rising order, and of the entries that it can redo, bottom first.
 #[derive(Drop)]
 #[derive_where(Debug)]
 pub struct AuthorStacks<A: Allocator> {
@@ -15,7 +15,7 @@ pub struct AuthorStacks<A: Allocator> {
     redo: Vec<u64, A>,
 }
 
-// They are seen as both lists, and whether there is room for one more number in each.
+// The model has both lists, and whether each has capacity for one more number.
 impl<A: Allocator> Model for AuthorStacks<A> {
     ghost use Rattle.std.specs.Prelude.{◌&&◌, nat_lt, vec_len, vec_capacity};
     ghost use Rattle.room_stacks.specs.Inner.Lists.{Usable};
@@ -30,7 +30,7 @@ impl<A: Allocator> Model for AuthorStacks<A> {
 }
 
 impl<A: Allocator> AuthorStacks<A> {
-    /// The stacks of an author that did nothing, or `Memory` where the allocator refuses its clones.
+    /// Returns empty stacks, or `Memory` if the allocator cannot be cloned.
     pub fn new(alloc: &A) -> Result<AuthorStacks<A>, Memory>
     where
         A: Clone,
@@ -42,21 +42,21 @@ impl<A: Allocator> AuthorStacks<A> {
         })
     }
 
-    /// The entries that stand, rising.
+    /// Returns the active entries, in rising order.
     pub fn standing(&self) -> &[u64]
         ensures { result.now ≡ self.now.standing }
     {
         &self.standing
     }
 
-    /// The entries that can be redone, bottom first.
+    /// Returns the entries that can be redone, bottom first.
     pub fn redo(&self) -> &[u64]
         ensures { result.now ≡ self.now.redo }
     {
         &self.redo
     }
 
-    /// Makes room for one more number in each list, or refuses with `Memory`. Room that was there stays.
+    /// Reserves capacity for one more number in each list. If it returns `Memory`, earlier capacity is kept.
     pub fn reserve(&mut self) -> Result<(), Memory>
         ensures standing { self.new.standing ≡ self.old.standing }
         ensures redo { self.new.redo ≡ self.old.redo }
@@ -68,7 +68,7 @@ impl<A: Allocator> AuthorStacks<A> {
         Ok(())
     }
 
-    /// Puts the number of an action on what stands. Nothing can be redone after it. It takes no memory.
+    /// Adds the number of an action to the active entries, and empties the redo stack.
     pub fn did(&mut self, seq: u64)
         requires { self.old.has_room ≡ true }
         ensures standing { self.new.standing ≡ self.old.standing ++ seq ∷ [] }
@@ -78,8 +78,8 @@ impl<A: Allocator> AuthorStacks<A> {
         self.redo.clear();
     }
 
-    /// Moves the number of an entry that stands to what can be redone. It takes no memory, finds the number in time
-    /// logarithmic in how many stand, and moves those above it.
+    /// Moves the number of an active entry to the redo stack. It finds the number in time logarithmic in the number of
+    /// active entries, and moves the numbers above it.
     pub fn undid(&mut self, of: u64)
         requires room { self.old.has_room ≡ true }
         requires rising { IsRising self.old.standing }
@@ -90,8 +90,7 @@ impl<A: Allocator> AuthorStacks<A> {
         push_reserved(&mut self.redo, of);
     }
 
-    /// Puts the number of an action that was done again on what stands, and takes the top off what can be redone. It
-    /// takes no memory.
+    /// Adds the number of a redo to the active entries, and pops the redo stack.
     pub fn redid(&mut self, seq: u64)
         requires { self.old.has_room ≡ true }
         ensures standing { self.new.standing ≡ self.old.standing ++ seq ∷ [] }
@@ -102,7 +101,7 @@ impl<A: Allocator> AuthorStacks<A> {
     }
 }
 
-// Takes a number out of rising ones, if it is there.
+// Removes a number from rising numbers, if it is there.
 fn take_out<A: Allocator>(numbers: &mut Vec<u64, A>, number: u64)
     requires { IsRising numbers.old.items }
     ensures { numbers.new.items ≡ without number numbers.old.items }
@@ -115,7 +114,7 @@ fn take_out<A: Allocator>(numbers: &mut Vec<u64, A>, number: u64)
     }
 }
 
-// Adds a number to a list that has room for it.
+// Appends a number to a list that has capacity for it.
 fn push_reserved<A: Allocator>(numbers: &mut Vec<u64, A>, number: u64)
     requires { vec_len numbers.old < vec_capacity numbers.old }
     ensures { numbers.new.items ≡ numbers.old.items ++ number ∷ [] }

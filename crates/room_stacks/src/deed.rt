@@ -1,8 +1,8 @@
-//! What authors of a room did.
+//! Deeds of a room's authors.
 use crate::author::Author;
 
-/// What an author did under an id, and the number of its entry in the room's journal. Contracts tell what was done as a
-/// list of these; the code keeps it by ids and by authors.
+/// A deed: what an author did under an id, and the number of its entry in the room's journal. Contracts model what
+/// authors did as a list of deeds. The code keeps it by ids and by authors.
 #[derive(Clone, Copy, Debug)]
 pub enum Deed {
     /// Did an action.
@@ -11,14 +11,14 @@ pub enum Deed {
         id: u64,
         seq: u64,
     },
-    /// Undid the entry of the number `of`.
+    /// Undid the entry with the number `of`.
     Undid {
         author: Author,
         id: u64,
         of: u64,
         seq: u64,
     },
-    /// Did the action of the entry of the number `of` again.
+    /// Redid the action of the entry with the number `of`.
     Redid {
         author: Author,
         id: u64,

@@ -10,28 +10,28 @@ use std::alloc::Allocator;
 use std::hash::{BuildHasherDefault, FoldHasher};
 use std::marker::Model;
 
-// An id of an author, who stands in it by its number. Each author has ids of its own.
+// An id of an author, who is given by its number. Each author has ids of its own.
 #[derive(Clone, Copy, Debug, PartialEq, Eq, Hash)]
 struct Spending {
     id: u64,
     author: usize,
 }
 
-/// What an id was spent on, under the number `seq`.
+/// The work for which an id was spent, with the entry number `seq`.
 #[derive(Clone, Copy, Debug, Drop)]
 pub enum Work {
     /// Did an action.
     Did { seq: u64 },
-    /// Undid the entry of the number `of`.
+    /// Undid the entry with the number `of`.
     Undid { of: u64, seq: u64 },
-    /// Did the action of the entry of the number `of` again.
+    /// Redid the action of the entry with the number `of`.
     Redid { of: u64, seq: u64 },
 }
 
 impl Work {
     ghost use Rattle.room_stacks.specs.Inner.SpentIds.{work_number};
 
-    /// The number of the entry.
+    /// Returns the number of the entry.
     fn seq(&self) -> u64
         ensures { result ≡ work_number self.now }
     {
@@ -41,18 +41,18 @@ impl Work {
     }
 }
 
-/// The ids that authors spent, in the order of their numbers, and what each was spent on.
+/// The spent ids in the order of their entries, each with its work.
 #[derive(Drop)]
 #[derive_where(Debug)]
 pub struct SpentIds<A: Allocator> {
-    // Each author that was met, once. An author's number is its place here: so a spent id takes a number and no name.
+    // The known authors, each once. An author's number is its index here, so a spent id needs a number and no name.
     authors: IndexSet<Author, BuildHasherDefault<FoldHasher>, A>,
-    // An `IndexMap`, since its entries stay in the order in which they came: so the deeds can be read off it. Its hash
-    // has a fixed seed.
+    // An `IndexMap` keeps its entries in the order of insertion, so that they list the deeds. Its hash has a fixed
+    // seed.
     works: IndexMap<Spending, Work, BuildHasherDefault<FoldHasher>, A>,
 }
 
-// They are seen as the deeds, for how many more there is room, and the authors that were met.
+// The model has the deeds, the capacity for more deeds, and the known authors.
 impl<A: Allocator> Model for SpentIds<A> {
     ghost use Rattle.std.specs.Prelude.{map};
     ghost use Rattle.indexmap.specs.IndexMap.{spare};
@@ -70,7 +70,7 @@ impl<A: Allocator> Model for SpentIds<A> {
 }
 
 impl<A: Allocator> SpentIds<A> {
-    /// No ids. They take no memory.
+    /// Returns no ids.
     pub fn new(alloc: A) -> SpentIds<A>
     where
         A: Copy,
@@ -82,12 +82,13 @@ impl<A: Allocator> SpentIds<A> {
         }
     }
 
-    /// Where the memory comes from.
+    /// Returns the allocator.
     pub fn allocator(&self) -> &A {
         self.works.allocator()
     }
 
-    /// The number under which an author spent an id, or none. It takes a look-up of the author and one of the id.
+    /// Returns the number of the entry for which an author spent an id, or `None`. It takes a look-up of the author and
+    /// a look-up of the id.
     pub fn spent(&self, author: &Author, id: u64) -> Option<u64>
         ensures { result ≡ spent self.now.deeds author.now id }
     {
@@ -100,8 +101,8 @@ impl<A: Allocator> SpentIds<A> {
         }
     }
 
-    /// Makes room for one more id of an author, who is met by that, or refuses with `Memory`. Then the author may be
-    /// met all the same.
+    /// Reserves the memory for one more id of an author, who is known afterwards. If it returns `Memory`, the author
+    /// may still have become known.
     pub fn reserve(&mut self, author: &Author) -> Result<(), Memory>
         ensures deeds { self.new.deeds ≡ self.old.deeds }
         ensures met { OnOk result (is_met self.new.authors author.now ≡ true) }
@@ -114,8 +115,7 @@ impl<A: Allocator> SpentIds<A> {
         Ok(())
     }
 
-    /// Spends an id of an author that was met and for which there is room. It takes no memory, and the look-ups of
-    /// [`SpentIds::spent`].
+    /// Spends an id of a known author. There must be capacity. It takes the look-ups of [`SpentIds::spent`].
     pub fn spend(&mut self, author: &Author, id: u64, work: Work)
         requires unspent { spent self.old.deeds author.now id ≡ None }
         requires met { is_met self.old.authors author.now ≡ true }

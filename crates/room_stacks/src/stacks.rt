@@ -1,4 +1,4 @@
-//! What each author of a room may still use.
+//! The stacks of a room.
 ghost use Rattle.std.specs.Prelude.{◌≡◌, ◌++◌, [], ◌∷◌, true, None, Some, OnOk, OnErr};
 ghost use Rattle.std.specs.List.Sorted.{IsStrictlyIncreasing};
 ghost use Rattle.room_stacks.specs.declared.deed.Deed.TheVariants.{Did, Undid, Redid};
@@ -11,8 +11,8 @@ use osm_elements::Memory;
 use std::alloc::Allocator;
 use std::marker::Model;
 
-/// What each author of a room may still use. A deed is entered in two steps: [`Stacks::ready`] takes the memory, and
-/// may refuse; then [`Stacks::did`], [`Stacks::undid`] or [`Stacks::redid`] enters it, and takes none.
+/// What each author of a room can still use. A deed is recorded in two steps: [`Stacks::ready`] allocates, and can
+/// refuse. Then [`Stacks::did`], [`Stacks::undid`] or [`Stacks::redid`] records the deed.
 #[derive(Drop)]
 #[derive_where(Debug)]
 pub struct Stacks<A: Allocator> {
@@ -21,7 +21,7 @@ pub struct Stacks<A: Allocator> {
     ready: Option<Author>,
 }
 
-// They are seen as what the authors did, and who is ready for the next deed.
+// The model has the deeds of the authors, and the author who is ready for the next deed.
 impl<A: Allocator> Model for Stacks<A> {
     ghost use Rattle.room_stacks.specs.Stacks.{StacksState};
 
@@ -35,8 +35,8 @@ impl<A: Allocator> Model for Stacks<A> {
 }
 
 impl<A: Allocator> Stacks<A> {
-    /// Stacks of a room in which nobody did anything. They take no memory. `A` is `Copy`, since several collections
-    /// are made, and a `Clone` may fail.
+    /// Returns the stacks of a room without deeds. `A` is `Copy` because several collections are made, and a `Clone`
+    /// may fail.
     pub fn new(alloc: A) -> Stacks<A>
     where
         A: Copy,
@@ -49,17 +49,17 @@ impl<A: Allocator> Stacks<A> {
         }
     }
 
-    /// The number of the deed that spent an author's id, or none. It takes two look-ups by the library's hash, of the
-    /// author and of the id: the time is constant in the mean, and grows with the authors or the spent ids if these
-    /// were picked so that their hashes agree.
+    /// Returns the number of the deed that spent an author's id, or `None`. It takes two hash look-ups, of the author
+    /// and of the id. Their time is constant on average. It grows with the number of authors or of spent ids if these
+    /// were chosen to have equal hashes.
     pub fn spent(&self, author: &Author, id: u64) -> Option<u64>
         ensures { result ≡ spent self.now.deeds author.now id }
     {
         self.ids.spent(author, id)
     }
 
-    /// The numbers of the entries by which an author did an action, for the first time or again, and which nobody
-    /// undid, rising, in time logarithmic in the number of authors.
+    /// Returns the numbers of an author's active entries, in rising order, in time logarithmic in the number of
+    /// authors.
     pub fn standing(&self, author: &Author) -> &[u64]
         ensures numbers { result.now ≡ standing self.now.deeds author.now }
         ensures rising { IsStrictlyIncreasing result.now }
@@ -67,18 +67,21 @@ impl<A: Allocator> Stacks<A> {
         self.lists.standing(author)
     }
 
-    /// The numbers of the entries that an author undid since its last new action and did not redo, in the order of
-    /// their undos, in time logarithmic in the number of authors.
+    /// Returns the numbers of the entries that an author undid since its last new action and did not redo, in the order
+    /// of their undos. It takes time logarithmic in the number of authors.
     pub fn redo(&self, author: &Author) -> &[u64]
         ensures { result.now ≡ redo self.now.deeds author.now }
     {
         self.lists.redo(author)
     }
 
-    /// Makes room for the next deed of an author, whoever else was ready. Or it refuses with `Memory`, and all is as it
-    /// was. It takes a look-up of the author as [`Stacks::spent`] does, and time logarithmic in the number of authors,
-    /// in the mean over many deeds: now and then it moves all ids that were spent, all authors, or all numbers of the
-    /// author.
+    /// Reserves the memory for the next deed of an author, who then replaces the author who was ready. It takes a
+    /// look-up of the author as in [`Stacks::spent`], and time logarithmic in the number of authors. This is an average
+    /// over many deeds: a call may move all spent ids, all authors or all numbers of the author.
+    ///
+    /// # Errors
+    ///
+    /// `Memory`, if an allocation fails.
     pub fn ready(&mut self, author: &Author) -> Result<(), Memory>
     where
         A: Clone,
@@ -92,8 +95,8 @@ impl<A: Allocator> Stacks<A> {
         Ok(())
     }
 
-    /// Enters that an author, who is ready, did an action under an id, by the entry of the number `seq`. It takes no
-    /// memory, the look-ups of [`Stacks::spent`], and time logarithmic in the number of authors.
+    /// Records that the ready author did an action under the id `id`, in the entry `seq`. It takes the look-ups of
+    /// [`Stacks::spent`], and time logarithmic in the number of authors.
     pub fn did(&mut self, author: Author, id: u64, seq: u64)
         requires ready { self.old.ready ≡ Some author }
         requires unspent { spent self.old.deeds author id ≡ None }
@@ -105,9 +108,9 @@ impl<A: Allocator> Stacks<A> {
         self.ready = None;
     }
 
-    /// Enters that an author, who is ready, undid its entry of the number `of`, which stands, under an id, by the entry
-    /// of the number `seq`. It takes what [`Stacks::did`] takes, and time logarithmic in how many of the author's
-    /// actions stand; the numbers of those after `of` are moved. It takes no memory.
+    /// Records that the ready author undid its active entry `of` under the id `id`, in the entry `seq`. It costs what
+    /// [`Stacks::did`] costs, and time logarithmic in the number of the author's active entries. The numbers after `of`
+    /// are moved.
     pub fn undid(&mut self, author: Author, id: u64, of: u64, seq: u64)
         requires ready { self.old.ready ≡ Some author }
         requires unspent { spent self.old.deeds author id ≡ None }
@@ -120,10 +123,10 @@ impl<A: Allocator> Stacks<A> {
         self.ready = None;
     }
 
-    /// Enters that an author, who is ready, did the action of the entry of the number `of` again, under an id, by the
-    /// entry of the number `seq`, which then stands. `of` is the last that [`Stacks::redo`] tells. It takes what
-    /// [`Stacks::did`] takes, and no memory. It takes off the top, whatever number it is told; `on_top` is asked so
-    /// that no list of deeds tells a redo that could not be made. An undo of the redo pushes the redo's number.
+    /// Records that the ready author redid the action of the entry `of` under the id `id`, in the entry `seq`, which is
+    /// then active. `of` must be the last number of [`Stacks::redo`]. It costs what [`Stacks::did`] costs. It pops the
+    /// top without reading `of`; clause `on_top` ensures that each recorded redo was possible. A later undo of this
+    /// entry pushes `seq`.
     pub fn redid(&mut self, author: Author, id: u64, of: u64, seq: u64)
         requires ready { self.old.ready ≡ Some author }
         requires unspent { spent self.old.deeds author id ≡ None }

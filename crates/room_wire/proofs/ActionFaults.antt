@@ -1,4 +1,4 @@
--- The first action of a group that is not well formed, told with its position.
+-- The first malformed action of a group is reported with its position.
 use Rattle.std.proofs.Common.{◌≡◌, ◌⊎◌, ◌+◌, inl, inr, zero, suc, ◌↔◌, ◌&&◌, ◌∙◌, ℕ, List, [], ◌∷◌, codes, Bool, true, false, cond, true≢false, Option, Some, None, Result, Ok, Err, is_some, nat_le, refl, sym, ap, subst, arith}
 use Rattle.std.specs.Prelude.{IsOk}
 use Rattle.std.specs.declared.alloc.Global.{Global}
@@ -38,7 +38,7 @@ use Rattle.room_wire.proofs.WellFormedProofs.{action_word_read}
 
 -- ---- the actions of a group
 
--- what a fault of an action says
+-- the meaning of a result of an action
 abbrev ActionTells : Result (Action Global) Fault → Data → Type 0
 ActionTells (Ok a) d = IsGoodAction d
 ActionTells (Err fault) d = IsBadAction d fault
@@ -47,7 +47,7 @@ of_word : (word : Word) (d : Data) (r : Result (Action Global) Fault) → is_act
 of_word word d (Ok a) is has good = (word, is, has, good)
 of_word word d (Err fault) is has (field, told, first) = subst (IsBadAction d) (sym told) (word, is, has, first)
 
--- the word of an action that a text is, or that it is none
+-- a text is the word of an action, or is not
 abbrev Known : List ℕ → Type 0
 Known w = ((word : Word) × (is_action_word word ≡ true) × (w ≡ word_text word)) ⊎ ((word : Word) → is_action_word word ≡ true → ¬ (w ≡ word_text word))
 
@@ -142,7 +142,7 @@ module _ (d : Data) where
   pub action_tells : ActionTells (action_at d) d
   action_tells = read_of (get (codes "do") d) refl
 
--- what a fault of the actions from position k on says
+-- the meaning of a fault of the actions from position k on
 abbrev pub ActionsTell : Fault → Items → ℕ → Type 0
 ActionsTell (UnknownAction j) ds k = (n : ℕ) × (j ≡ k + n) × IsFirstBadAction ds n UnknownDo
 ActionsTell (BadActionField j field) ds k = (n : ℕ) × (j ≡ k + n) × IsFirstBadAction ds n (BadField field)
@@ -152,7 +152,7 @@ abbrev pub GroupTells : Result (List (Action Global)) Fault → Items → ℕ �
 GroupTells (Ok group) ds k = AreGoodActions ds
 GroupTells (Err fault) ds k = ActionsTell fault ds k
 
--- a fault of later actions, after one that is well formed
+-- a fault of later actions, after a well-formed action
 later_tells : (fault : Fault) (d : Data) (ds : Items) (k : ℕ) → IsGoodAction d → ActionsTell fault ds (k + 1) → ActionsTell fault (item d ds) k
 later_tells (UnknownAction j) d ds k good (n, at, first) = (suc n, at ∙ one_on, (good, first))
   where
@@ -190,7 +190,7 @@ pub actions_tell : (k : ℕ) (ds : Items) → GroupTells (actions_from k ds) ds 
 actions_tell k no_items = tt
 actions_tell k (item d ds) = next_tells d ds k (action_at d) (actions_from (k + 1) ds) (action_tells d) (actions_tell (k + 1) ds)
 
--- ---- what is well formed, and what is not, is read so
+-- ---- well-formed and malformed actions are read as such
 
 read_by_word : (d : Data) (word : Word) → HasWord d word → action_at d ≡ action_by (word_text word) d
 read_by_word d word h = action_word_read d word h
@@ -223,7 +223,7 @@ told_bad_field d field (word, is, has, bad) = read_by_word d word has ∙ by (ac
     by (Ok a) good = absurd (none_good (slots word d) field good bad)
     by (Err fault) (other, told, first) = ap Err (told ∙ ap BadField (one_first (slots word d) other field first bad))
 
--- a fault of an action in its group
+-- an action with this fault is read with this fault
 abbrev IsToldAt : Data → Fault → Type 0
 IsToldAt d fault = IsBadAction d fault → action_at d ≡ Err fault
 
@@ -249,7 +249,7 @@ unknown_told = first_bad_told UnknownDo told_unknown
 pub bad_told : (field : Field) (k : ℕ) (ds : Items) (n : ℕ) → IsFirstBadAction ds n (BadField field) → actions_from k ds ≡ Err (BadActionField (k + n) field)
 bad_told field = first_bad_told (BadField field) (λ d. told_bad_field d field)
 
--- no action is both
+-- no well-formed action is read with a fault
 never_both : (d : Data) (fault : Fault) → IsGoodAction d → action_at d ≡ Err fault → ⊥
 never_both d fault good is = true≢false (sym (subst IsOk is (told_good d good)))
 

@@ -1,4 +1,4 @@
--- What is read of the actions of a group, action by action.
+-- Reading the actions of a group, action by action.
 use Rattle.std.proofs.Common.{◌≡◌, ◌+◌, ℕ, suc, List, [], ◌∷◌, ◌++◌, length, Result, Ok, Err, refl, sym, ap, append_assoc, append-nil}
 use Rattle.std.specs.declared.alloc.Global.{Global}
 use Rattle.serde_json.specs.Data.{Data, Items, no_items, item}
@@ -10,7 +10,7 @@ use Rattle.room_wire.specs.declared.bad.Fault.{Fault}
 use Rattle.room_wire.specs.Reading.{◌>>=◌}
 use Rattle.room_wire.specs.Spelling.{action_at, actions_from, with_position}
 
--- what was read, and what the objects that are left are
+-- the actions that were read, followed by those of the remaining objects
 abbrev pub after_actions : List (Action Global) → Result (List (Action Global)) Fault → Result (List (Action Global)) Fault
 after_actions front (Ok later) = Ok (front ++ later)
 after_actions front (Err fault) = Err fault
@@ -29,7 +29,7 @@ action_bad front fault k d ds is = rw is refl
 pub actions_end : (front : List (Action Global)) (k : ℕ) → after_actions front (actions_from k no_items) ≡ Ok front
 actions_end front k = ap Ok (append-nil front)
 
--- as many objects as values
+-- there are as many objects as values
 pub items_len-view : (values : List Value) → items_len (items_view values) ≡ length values
 items_len-view [] = refl
 items_len-view (v ∷ vs) = ap suc (items_len-view vs)

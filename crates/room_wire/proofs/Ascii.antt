@@ -48,7 +48,7 @@ letter_is_ascii Relation = omega arith
 pub name_text_is_ascii : (n : Name) → IsAscii (name_text n)
 name_text_is_ascii n = first_and_rest (letter_of n.kind) (signed_decimal n.id) (letter_is_ascii n.kind) (signed_is_ascii n.id)
 
--- bytes that are ASCII are read as a text
+-- ASCII bytes are read as a text
 pub ascii_is_read : {X E : Type 0} (P : X → Type 0) (Q : E → Type 0) (bs : List ℕ) (r : Result X E) → IsAscii bs → MatchResult r P (λ e. (IsUtf8 bs → ⊥) × Q e) → IsOk r
 ascii_is_read P Q bs (Ok x) a h = refl
 ascii_is_read P Q bs (Err e) a h = absurd (h.0 (IsUtf8-from_ascii bs a))

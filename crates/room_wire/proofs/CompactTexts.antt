@@ -11,7 +11,7 @@ use Rattle.serde_json.specs.Read.{read, of_json}
 use Rattle.serde_json.specs.Written.{compact_text, outline, items_outline, members_outline}
 use Rattle.room_wire.specs.Inner.Writing.{IsReadable}
 
--- the outline nests as deep
+-- the outline nests as deep as the tree
 mutual
   outline_depth : (d : Data) → tree.depth (outline d) ≡ depth d
   outline_depth null = refl

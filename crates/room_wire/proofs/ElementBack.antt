@@ -1,4 +1,4 @@
--- What is written of an element is read as that element.
+-- A written element is read back as the same element.
 use Rattle.std.proofs.Common.{◌≡◌, ℤ, Some, Ok, inl, refl, sym, ap, ◌∙◌}
 use Rattle.std.specs.declared.alloc.Global.{Global}
 use Rattle.osm_coords.specs.Latitude.{latitude_of, IsLatitude}

@@ -1,4 +1,4 @@
--- The entries that are read of an object, member by member.
+-- Reading the entries of an object, member by member.
 use Rattle.std.proofs.Common.{◌≡◌, ◌<◌, ◌≤◌, ℕ, suc, List, [], ◌∷◌, ◌++◌, length, String, string_bytes, Global, Option, Some, None, option_map, option_and_then, Ok, Bool, cond, nat_eq, Less, Greater, nat_le, true, false, refl, sym, ap, ◌∙◌, arith, append_assoc, append-nil}
 use Rattle.std.specs.Map.{keys_of}
 use Rattle.std.specs.List.Sorted.{IsStrictlySortedBy}
@@ -18,7 +18,7 @@ use Rattle.room_wire.specs.declared.bad.Fault.{Fault}
 use Rattle.room_wire.specs.Reading.{or_fault}
 
 module _ {V : Type 0} (reading : Data → Option V) where
-  -- the entries that were read, and those of the members that are left
+  -- the entries that were read, followed by those of the remaining members
   abbrev pub with_front : List (List ℕ × V) → Members → Option (List (List ℕ × V))
   with_front front ms = option_map (λ ts. front ++ ts) (entries_in reading ms)
 
@@ -59,7 +59,7 @@ below_middle : (k : String Global) (done : List Entry) (e : Entry) (more : List 
 below_middle k [] e more h = h.0
 below_middle k (x ∷ done) e more h = below_middle k done e more h.1
 
--- a key that is above those before it goes last
+-- a key that is above the earlier keys goes last
 pub put_last : {V : Type 0} (tags : List (List ℕ × V)) (done : List Entry) (e : Entry) (more : List Entry) (value : V) → SameKeys tags done → IsStrictlySortedBy string_cmp (keys_of (done ++ e ∷ more))
     → put text_cmp (string_bytes e.0) value tags ≡ tags ++ (string_bytes e.0, value) ∷ []
 unfolding IsStrictlySortedBy
@@ -70,7 +70,7 @@ put_last (t ∷ tags) (x ∷ done) e more value same h =
     ap (text_cmp (string_bytes e.0)) same.0 ∙ nat_list_cmp_total.antisymm (string_bytes e.0) (string_bytes x.0) ∙ ap ordering_reverse (below_middle x.0 done e more h.0) in
     rw above (ap (λ ts. t ∷ ts) (put_last tags done e more value same.1 h.1))
 
--- what was found
+-- a value that was found
 pub or_fault_ok : {X : Type 0} (fault : Fault) (found : Option X) (x : X) → or_fault fault found ≡ Ok x → found ≡ Some x
 or_fault_ok fault None x h = absurd (cc)
 or_fault_ok fault (Some y) x h = cc
@@ -90,7 +90,7 @@ many n true h e = absurd (grind (arith, nat_tests))
 many n false h e = refl
 
 module _ {V : Type 0} (reading : Data → Option V) where
-  -- an entry has the key that it was read of
+  -- an entry has the key from which it was read
   pub entry_of-key : (k : List ℕ) (d : Data) (t : List ℕ × V) → entry_of reading k d ≡ Some t → t.0 ≡ k
   entry_of-key k d t h = by_tests (nat_eq (length k) 0) (is_long k) k (reading d) t h
 

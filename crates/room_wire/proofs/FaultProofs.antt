@@ -1,4 +1,4 @@
--- Which fault a text has: each comes exactly where it should.
+-- A text has each fault exactly if it should.
 use Rattle.std.proofs.Common.{◌≡◌, ◌⊎◌, ◌+◌, inl, inr, zero, suc, ◌↔◌, ◌&&◌, ◌∙◌, ℕ, List, [], ◌∷◌, codes, Bool, true, false, cond, true≢false, Option, Some, None, Result, Ok, Err, is_some, nat_le, refl, sym, ap, subst, arith}
 use Rattle.std.specs.Prelude.{IsOk}
 use Rattle.std.specs.declared.alloc.Global.{Global}
@@ -37,8 +37,8 @@ use Rattle.room_wire.proofs.ActionFaults.{ActionsTell, GroupTells, actions_tell,
 use Rattle.room_wire.proofs.FirstFaults.{Only, Tells, action_word_tells, none_good, one_first, only_field, only_seq, step}
 use Rattle.room_wire.proofs.WellFormedProofs.{id_read, spells-body, word_read}
 
--- an answer tells the first bad field, or the first bad action of a group whose fields are well formed; and there is
--- none where it has no fault
+-- The fault of a result is the first bad field, or the first bad action of a group whose fields are well formed. If it
+-- has no fault, there is neither.
 abbrev TellsAll : {X : Type 0} → Result X Fault → List Slot → Items → Type 0
 TellsAll (Ok x) all ds = AreGood all × AreGoodActions ds
 TellsAll (Err fault) all ds = ((field : Field) × (fault ≡ BadField field) × IsFirstBad all field) ⊎ (AreGood all × ActionsTell fault ds 0)
@@ -47,12 +47,12 @@ plain : {X : Type 0} (r : Result X Fault) (all : List Slot) → Tells r all → 
 plain (Ok x) all good = (good, tt)
 plain (Err fault) all told = inl told
 
--- an action that is done tells what the action does
+-- an action as an edit has the action's fault
 done_tells : (r : Result (Action Global) Fault) (all : List Slot) → Tells r all → TellsAll ((r >>= λ action. Ok (One action)) >>= λ edit. Ok (bodies.Change (requests.Do edit))) all no_items
 done_tells (Ok action) all good = (good, tt)
 done_tells (Err fault) all told = inl told
 
--- a group tells the fault of its actions
+-- a group has the fault of its actions
 abbrev grouped : Result Items Fault → Result Body Fault
 grouped r = ((r >>= λ ds. actions_from 0 ds) >>= λ group. Ok (Group group)) >>= λ edit. Ok (bodies.Change (requests.Do edit))
 
@@ -211,7 +211,7 @@ module _ (text : List ℕ) (d : Data) (tree : read text ≡ Some d) where
   pub no_object_told : as_object d ≡ None → spells text ≡ bad 0 NotObject
   no_object_told none = ap message_of tree ∙ rw none refl
 
--- a number that is read is that number
+-- a number that is read has the tree of that number
 pub number_of_ordinal : (v : Data) (n : ℕ) → ordinal v ≡ Some n → (v ≡ whole n) × IsNumber n
 number_of_ordinal null n e = cc
 number_of_ordinal (boolean b) n e = cc

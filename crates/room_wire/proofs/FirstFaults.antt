@@ -1,4 +1,4 @@
--- The first field of a message that is not well formed, told.
+-- The first malformed field of a message is reported.
 use Rattle.std.proofs.Common.{◌≡◌, ◌⊎◌, ◌+◌, inl, inr, zero, suc, ◌↔◌, ◌&&◌, ◌∙◌, ℕ, List, [], ◌∷◌, codes, Bool, true, false, cond, true≢false, Option, Some, None, Result, Ok, Err, is_some, nat_le, refl, sym, ap, subst, arith}
 use Rattle.std.specs.Prelude.{IsOk}
 use Rattle.std.specs.declared.alloc.Global.{Global}
@@ -34,7 +34,7 @@ use Rattle.room_wire.specs.WellFormed.{AreGood, AreGoodActions, IsBadAction, IsF
 use Rattle.room_wire.specs.Words.{Word, is_action_word, word_text}
 use Rattle.room_wire.specs.Words as words
 
--- an answer tells the first bad field, and there is none where it has no fault
+-- a result has the first bad field as its fault; if it has no fault, there is no bad field
 abbrev pub Tells : {X : Type 0} → Result X Fault → List Slot → Type 0
 Tells (Ok x) all = AreGood all
 Tells (Err fault) all = (field : Field) × (fault ≡ BadField field) × IsFirstBad all field
@@ -56,7 +56,7 @@ pub only_seq : (o : Option Data) → Only Seq (seq_from o)
 only_seq None = tt
 only_seq (Some d) = only_field Seq _
 
--- a field that is well formed is passed over
+-- a well-formed field is skipped
 passed_over : {B : Type 0} (field : Field) (r : Result B Fault) (later : List Slot) → Tells r later → Tells r ((field, true) ∷ later)
 passed_over field (Ok x) later h = h
 passed_over field (Err fault) later h = h
@@ -66,7 +66,7 @@ pub step : {X B : Type 0} (field : Field) (r : Result X Fault) (f : X → Result
 step field (Ok x) f later only h = passed_over field (f x) later (h x refl)
 step field (Err fault) f later only h = (field, only, refl)
 
--- what is made of an answer tells the same
+-- a function of a result's value has the same fault
 pub made : {X B : Type 0} (r : Result X Fault) (g : X → B) (all : List Slot) → Tells r all → Tells (r >>= λ x. Ok (g x)) all
 made (Ok x) g all h = h
 made (Err fault) g all h = h
@@ -79,7 +79,7 @@ element_tells kinds.Way d =
 element_tells kinds.Relation d =
     step Members (members_at d) _ _ (only_field Members _) (λ members e. step Tags (tags_at d) (λ tags. let relation : Element Global = elements.Relation members tags in Ok relation) [] (only_tags (get (codes "tags") d)) (λ tags e. tt))
 
--- an action that has a name, and one that has a field more
+-- an action with a name, and an action with one more field
 pub name_tells : (action : Name → Action Global) (d : Data) → Tells (el_at d >>= λ name. Ok (action name)) (slot El (el_at d) ∷ [])
 name_tells action d = step El (el_at d) (λ name. Ok (action name)) [] (only_field El _) (λ name e. tt)
 
@@ -101,7 +101,7 @@ unglue_tells d =
     step El (el_at d) _ _ (only_field El _) (λ name e. step At (place_at d) _ _ (only_field At _)
     (λ place e. step Into (name_at Into d) (λ into. let unglues : Action Global = actions.Unglue name place into in Ok unglues) [] (only_field Into _) (λ into e. tt)))
 
--- an action tells the first bad field of its word
+-- the fault of an action is its word's first bad field
 pub action_word_tells : (word : Word) (d : Data) → is_action_word word ≡ true → Tells (action_by (word_text word) d) (slots word d)
 action_word_tells words.Create d is = step El (el_at d) _ _ (only_field El _) (λ name e. rw e (made (element_at name.kind d) (λ element. actions.Create name element) (element_slots name.kind d) (element_tells name.kind d)))
 action_word_tells words.Retag d is = pair_tells Tags (given_tags_at d) (λ name given. actions.Retag name given) d (only_field Tags _)

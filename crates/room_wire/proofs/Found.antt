@@ -1,10 +1,10 @@
--- What holds of a value that is found or read, step after step.
+-- Facts about values that are found or read, carried from step to step.
 use Rattle.std.proofs.Common.{◌≡◌, Bool, true, false, cond, Option, Some, None, IfSome, Result, Ok, Err, IfOk, option_map, option_and_then, refl, subst}
 use Rattle.std.specs.Result.{result_ok}
 use Rattle.room_wire.specs.declared.bad.Fault.{Fault}
 use Rattle.room_wire.specs.Reading.{◌>>=◌, or_fault}
 
--- of a value that there may be
+-- facts about an optional value
 pub if_map : {X Y : Type 0} (P : Y → Type 0) (f : X → Y) (o : Option X) → IfSome o (λ x. P (f x)) → IfSome (option_map f o) P
 if_map P f None h = tt
 if_map P f (Some x) h = h
@@ -25,7 +25,7 @@ pub if_found : {X : Type 0} (P : X → Type 0) (o : Option X) → ((x : X) → o
 if_found P None g = tt
 if_found P (Some x) g = g x refl
 
--- of the value of a choice, where the test says so
+-- a fact about the value of a branch may use the branch's test
 pub if_passes : {X : Type 0} (P : X → Type 0) (b : Bool) (o : Option X) → (b ≡ true → IfSome o P) → IfSome (cond b o None) P
 if_passes P true o h = h refl
 if_passes P false o h = tt
@@ -34,7 +34,7 @@ pub if_fails : {X : Type 0} (P : X → Type 0) (b : Bool) (o : Option X) → (b 
 if_fails P true o h = tt
 if_fails P false o h = h refl
 
--- of an answer
+-- facts about a result
 pub if_told : {X : Type 0} (P : X → Type 0) (r : Result X Fault) → IfOk r P → IfSome (result_ok r) P
 if_told P (Ok x) h = h
 if_told P (Err e) h = tt
@@ -55,6 +55,6 @@ pub ok_any : {X Y : Type 0} (P : Y → Type 0) (r : Result X Fault) (f : X → R
 ok_any P (Ok x) f g = g x
 ok_any P (Err e) f g = tt
 
--- an answer that is known
+-- a fact about a known result
 pub told_so : {X E : Type 0} (P : X → Type 0) (r : Result X E) (x : X) → r ≡ Ok x → IfOk r P → P x
 told_so P r x is h = subst (λ s. IfOk s P) is h

@@ -1,10 +1,10 @@
--- What is read of an array, item by item.
+-- Reading an array, item by item.
 use Rattle.std.proofs.Common.{◌≡◌, List, [], ◌∷◌, ◌++◌, Option, Some, None, option_map, refl, sym, ap, append_assoc, append-nil}
 use Rattle.serde_json.specs.Data.{Data, Items, no_items, item}
 use Rattle.room_wire.specs.Spelling.{items_in}
 
 module _ {X : Type 0} (reading : Data → Option X) where
-  -- what was read, and what the items that are left are
+  -- the values that were read, followed by those of the remaining items
   abbrev pub with_front : List X → Items → Option (List X)
   with_front front ds = option_map (λ xs. front ++ xs) (items_in reading ds)
 

@@ -1,4 +1,4 @@
--- A member is a list of two items, and no other list is one.
+-- A list is read as a member only if it has two items.
 use Rattle.std.proofs.Common.{◌≡◌, ◌≢◌, List, [], ◌∷◌, None, length, refl}
 use Rattle.serde_json.specs.View.{items_view}
 use Rattle.serde_json.specs.declared.value.Value.{Value}

@@ -1,4 +1,4 @@
--- The definition of a message's fault never says that a growth was refused.
+-- No text spells the fault `Memory`.
 use Rattle.std.proofs.Common.{◌≡◌, ◌≢◌, ◌+◌, ℕ, List, Bool, true, false, cond, Option, Some, None, Result, Ok, Err, IfErr, codes, is_some, option_and_then, refl, sym, ◌∙◌}
 use Rattle.serde_json.specs.Data.{Data, Items, no_items, item}
 use Rattle.serde_json.specs.Find.{get, as_str, as_object}

@@ -1,4 +1,4 @@
--- What is written of news, and of a welcome, is read as them.
+-- Written news and welcomes are read back as the same values.
 use Rattle.std.proofs.Common.{◌≡◌, ◌≤◌, ℤ, suc, ℕ, List, [], ◌∷◌, map, true, false, cond, Option, Some, None, Result, Ok, All, IfSome, nat_le, codes, refl, ap, ◌∙◌, arith}
 use Rattle.std.specs.declared.alloc.Global.{Global}
 use Rattle.std.specs.Option.{option_and_then}
@@ -40,7 +40,7 @@ use Rattle.room_wire.proofs.ElementBack.{el_back, element_back}
 use Rattle.room_wire.proofs.ReadBackProofs.{three, two}
 use Rattle.room_wire.proofs.WellFormedProofs.{id_read, number_read}
 
--- items that are each read back
+-- items, each of which is read back
 items_back : {X Y : Type 0} (reading : Data → Option Y) (tree : X → Data) (back : X → Y) (P : X → Type 0) → ((x : X) → P x → reading (tree x) ≡ Some (back x)) → (xs : List X) → All P xs → items_in reading (items_of (map tree xs)) ≡ Some (map back xs)
 items_back reading tree back P h [] f = refl
 items_back reading tree back P h (x ∷ xs) f =
@@ -53,7 +53,7 @@ rows_back : {Y : Type 0} (reading : Data → Result Y Fault) (name : Y → Name)
     → or_fault (BadField field) (option_and_then (rising reading name) (rows_in reading name items)) ≡ Ok rows
 rows_back reading name field rows items h g = rw (h, g) refl
 
--- an element under its name
+-- an element with its name
 named_row : (d : Data) (name : Name) (element : Element Global) → el_at d ≡ Ok name → element_at name.kind d ≡ Ok element → row_at d ≡ Ok (record { name = name; element = element })
 named_row d name element h g = rw (h, g) refl
 
@@ -69,7 +69,7 @@ pairs_kept : (rows : List (Name × Element Global)) → map row_pair (as_rows ro
 pairs_kept [] = refl
 pairs_kept (r ∷ rs) = ap (λ pairs. r ∷ pairs) (pairs_kept rs)
 
--- an element does not say that it is gone
+-- the tree of an element is not gone
 not_gone : (name : Name) (element : Element Global) → is_gone (element_tree name element) ≡ false
 not_gone name (Node lat lon tags) = refl
 not_gone name (Way nodes tags) = refl

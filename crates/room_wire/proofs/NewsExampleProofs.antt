@@ -1,4 +1,4 @@
--- The worked examples of news and of the welcome, by evaluation.
+-- The worked examples of news and welcomes, by evaluation.
 use Rattle.std.proofs.Common.{refl}
 use Rattle.std.specs.Fmt.{digits}
 use Rattle.std.specs.Str.{chars}

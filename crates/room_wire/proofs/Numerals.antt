@@ -1,4 +1,4 @@
--- A negative whole number is a number of JSON.
+-- A negative whole number is a JSON number.
 use Rattle.std.proofs.Common.{◌≡◌, ℕ, ◌^◌, ◌<◌, false, cond, ◌==◌, List, [], ◌∷◌, drop, get_or, option_and_then, decimal, sym, ap, ◌∙◌, arith}
 use Rattle.std.proofs.lemmas.Bool.{ne_eqb}
 use Rattle.std.proofs.lemmas.Fmt.{first_decimal}

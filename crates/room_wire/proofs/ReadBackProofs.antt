@@ -1,4 +1,4 @@
--- What is written of the parts of an element is read as those parts.
+-- The written parts of an element are read back as the same parts.
 use Rattle.std.proofs.Common.{◌≡◌, ◌<◌, ◌^◌, ◌&&◌, ℕ, suc, ℤ, pos, negsuc, List, [], ◌∷◌, length, map, Bool, true, false, not, cond, T, Option, Some, None, Result, Ok, option_map, All, FitsSigned, nat_lt, nat_le, nat_eq, refl, sym, ap, ◌∙◌, arith}
 use Rattle.std.specs.List.{list_all}
 use Rattle.std.specs.Option.{option_and_then}
@@ -39,14 +39,14 @@ pub passed : (b : Bool) → T b → b ≡ true
 passed true p = refl
 passed false p = absurd p
 
--- what is written of the keys and values of an object is read as them
+-- the written keys and values of an object are read back
 by_tests : {V : Type 0} (a b c : Bool) (k : List ℕ) (o : Option V) (v : V) → T (not a && (not b && c)) → (T c → o ≡ Some v) → option_and_then {U = List ℕ × V} (λ key. option_map (λ value. (key, value)) o) (cond a None (cond b None (Some k))) ≡ Some (k, v)
 by_tests true b c k o v p h = absurd p
 by_tests false true c k o v p h = absurd p
 by_tests false false true k o v p h = rw (h tt) refl
 by_tests false false false k o v p h = absurd p
 
--- a key that keeps its limits, with a value that passes the test
+-- a key within its limits, with a value that passes the test
 abbrev pub is_entry : {V : Type 0} → (V → Bool) → List ℕ × V → Bool
 is_entry passes e = not (nat_eq (length e.0) 0) && (not (is_long e.0) && passes e.1)
 

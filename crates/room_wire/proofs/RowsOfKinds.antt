@@ -22,13 +22,13 @@ use Rattle.room_wire.specs.Spelling.{el_at, element_at, items_in, lat_at, lon_at
 use Rattle.room_wire.specs.Welcomes.{count_at, map_at, told_at}
 use Rattle.room_wire.proofs.Found.{if_any, if_then, if_told, ok_any, ok_or, ok_then}
 
--- an element is of the kind by which it is read
+-- an element is of the kind with which it is read
 element_kind : (k : Kind) (d : Data) → IfOk (element_at k d) (λ v. is_kind (kind_of v) k ≡ true)
 element_kind kinds.Node d = ok_any _ (lat_at d) _ (λ lat. ok_any _ (lon_at d) _ (λ lon. ok_any _ (tags_at d) _ (λ tags. refl)))
 element_kind kinds.Way d = ok_any _ (nodes_at d) _ (λ nodes. ok_any _ (tags_at d) _ (λ tags. refl))
 element_kind kinds.Relation d = ok_any _ (members_at d) _ (λ members. ok_any _ (tags_at d) _ (λ tags. refl))
 
--- a row's element is of its name's kind
+-- the element of a row is of its name's kind
 abbrev IsOfKind : Row Global → Type 0
 IsOfKind r = is_kind (kind_of r.element) r.name.kind ≡ true
 
@@ -65,6 +65,6 @@ map_kinds d =
 told_kinds : (d : Data) → IfOk (told_at d) (λ told. are_of_kinds told.0 ≡ true)
 told_kinds d = ok_any _ (object_at fields.Ok d) _ (λ ok. ok_then (λ rows. are_of_kinds rows ≡ true) _ (map_at ok) _ (map_kinds ok) (λ rows h. ok_any _ (count_at ok) _ (λ seq. h)))
 
--- and so are those that were told
+-- so are the elements of a welcome
 pub kinds_told : (d : Data) (rows : Rows Global) (seq : ℕ) → told_at d ≡ Ok (rows, seq) → are_of_kinds rows ≡ true
 kinds_told d rows seq is = subst (λ r. IfOk r (λ told. are_of_kinds told.0 ≡ true)) is (told_kinds d)

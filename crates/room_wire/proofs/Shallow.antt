@@ -1,4 +1,4 @@
--- The trees of replies and of news nest at most six deep.
+-- The trees of replies and of news nest at most six levels deep.
 use Rattle.std.proofs.Common.{◌≤◌, ℕ, List, [], ◌∷◌, Option, Some, None, map, arith}
 use Rattle.std.proofs.Math.Nat.{max-le}
 use Rattle.serde_json.specs.Data.{Data, depth, items_depth, members_depth}
@@ -29,7 +29,7 @@ nodes_are_flat names = items_are_shallow 0 id_tree (λ n. omega arith) names
 members_are_shallow : (members : List (Name × List ℕ)) → items_depth (items_of (map member_tree members)) ≤ 1
 members_are_shallow members = items_are_shallow 1 member_tree (λ m. omega arith) members
 
--- an array or an object is one deeper than what it holds
+-- an array or an object is one level deeper than its items
 element_is_shallow : {A : Type 0} (name : Name) (e : Element A) → depth (element_tree name e) ≤ 3
 element_is_shallow name (elements.Node lat lon tags) = let t = tags_are_flat tags in omega arith
 element_is_shallow name (elements.Way nodes tags) = let t = tags_are_flat tags in let n = nodes_are_flat nodes in omega arith
@@ -44,7 +44,7 @@ numbers_are_flat numbers = items_are_shallow 0 whole (λ n. omega arith) numbers
 pub map_is_shallow : {A : Type 0} (id : ℕ) (rows : List (Name × Element A)) (front : ℕ) → depth (map_tree id rows front) ≤ 127
 map_is_shallow id rows front = let r = rows_are_shallow rows in omega arith
 
--- what tells why holds no array and no object
+-- the members of a refusal have no array and no object
 why_is_flat : (answer : Answer) → members_depth (why_members answer) ≤ 0
 why_is_flat (Done seq) = omega arith
 why_is_flat (Undid seq of) = omega arith

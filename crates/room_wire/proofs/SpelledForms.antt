@@ -1,4 +1,4 @@
--- What stands in a tree where something is read of it.
+-- The trees of values that are read.
 use Rattle.std.proofs.Common.{◌≡◌, ◌<◌, ◌^◌, ◌&&◌, ◌∙◌, All, FitsSigned, ℕ, ℤ, pos, negsuc, Bool, true, false, not, cond, T, List, [], ◌∷◌, length, map, Option, Some, None, IfSome, option_map, option_and_then, nat_eq, nat_le, nat_lt, refl, ap, subst, sym, arith}
 use Rattle.std.specs.FinMap.Entries as entries
 use Rattle.std.specs.Int.{w64}
@@ -30,7 +30,7 @@ use Rattle.room_wire.proofs.Found.{if_any, if_fails, if_found, if_map, if_more, 
 use Rattle.room_wire.proofs.TreesInOrder.{AreInOrder, IsInOrder, pairs_of}
 use Rattle.room_wire.proofs.ReadBackProofs.{is_entry, members_len-entry_members}
 
--- an id that is one fits an i64
+-- a valid id fits an i64
 fits-is_id : (id : ℤ) → is_id id ≡ true → FitsSigned w64 id
 fits-is_id (pos n) t = record { sfits = grind (arith, nat_tests) }
 fits-is_id (negsuc n) t = record { sfits = grind (arith, nat_tests) }
@@ -39,7 +39,7 @@ both_T : (a b : Bool) → T a → T b → T (a && b)
 both_T true b p q = q
 both_T false b p q = p
 
--- ---- what stands where something is found
+-- ---- the tree of a value that is found
 
 pub string_found : (o : Option Data) → IfSome (option_and_then as_str o) (λ s. o ≡ Some (string s))
 string_found None = tt

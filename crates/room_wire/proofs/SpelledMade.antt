@@ -1,4 +1,4 @@
--- A well-formed message, and so what a text spells, has its values as their types keep them.
+-- The values of a well-formed message, and so of a message that a text spells, are as their types require.
 use Rattle.std.proofs.Common.{◌≡◌, ◌&&◌, ℕ, ℤ, pos, suc, true, cond, List, [], ◌∷◌, Option, Some, None, IfSome, IfOk, inl, inr, is_some, option_and_then, refl, ap, subst, arith}
 use Rattle.std.specs.Prelude.{int_le, neg_ℤ}
 use Rattle.std.specs.declared.alloc.Global.{Global}
@@ -37,7 +37,7 @@ nodes_made : (names : List Name) → AreNodes names → are_nodes names ≡ true
 nodes_made [] h = refl
 nodes_made (n ∷ ns) h = both_true (is_node n.kind) (are_nodes ns) (ap is_node (h 0 n (omega arith))) (nodes_made ns (λ k m l. h (suc k) m (omega arith)))
 
--- a coordinate that is read lies in its range
+-- a coordinate that is read is in its range
 range_kept : (limit : ℕ) (o : Option ℤ) → IfSome (option_and_then (value_within limit) o) (λ w. is_some (value_within limit w) ≡ true)
 range_kept limit o =
     let P : ℤ → Type 0 = λ w. is_some (value_within limit w) ≡ true in

@@ -1,4 +1,4 @@
--- What a text spells is a well-formed message of its tree.
+-- A message that a text spells is well formed in the text's tree.
 use Rattle.std.proofs.Common.{◌≡◌, ◌∙◌, ◌&&◌, ◌+◌, inl, inr, All, ℕ, suc, Bool, true, false, not, cond, List, [], ◌∷◌, length, map, Option, Some, None, IfSome, Result, Ok, Err, IfOk, codes, is_some, option_map, option_and_then, nat_le, refl, ap, subst, sym, arith}
 use Rattle.std.specs.declared.alloc.Global.{Global}
 use Rattle.std.specs.Str.{bytes_eq}
@@ -50,7 +50,7 @@ use Rattle.room_wire.proofs.SpelledForms.{IsInteger, IsNamed, IsNode, IsShort, I
 
 -- ---- the fields
 
--- a field whose text is read so
+-- a field whose text is read as a value
 text_field : {X : Type 0} (P : X → Type 0) (d : Data) (field : Field) (reading : List ℕ → Option X) → ((s : List ℕ) → Has d field (string s) → IfSome (reading s) P)
     → IfOk (or_fault (BadField field) (option_and_then reading (text_at field d))) P
 text_field P d field reading each =
@@ -66,7 +66,7 @@ name_has d field = text_field (HasNameAt d field) d field name_of (λ s has. if_
 author_has : (d : Data) (field : Field) → IfOk (author_at field d) (HasAuthor d field)
 author_has d field = text_field (HasAuthor d field) d field author_of (λ s has. if_passes (HasAuthor d field) (is_author s) (Some s) (λ is. (has, is)))
 
--- a field whose tree is read so
+-- a field whose tree is read as a value
 field_has : {X : Type 0} (P : X → Type 0) (fault : Fault) (reading : Data → Option X) (o : Option Data) → ((v : Data) → o ≡ Some v → IfSome (reading v) P) → IfOk (or_fault fault (option_and_then reading o)) P
 field_has P fault reading o each = ok_or P fault (option_and_then reading o) (if_then (λ v. o ≡ Some v) P o reading (if_found (λ v. o ≡ Some v) o (λ v is. is)) each)
 
@@ -95,7 +95,7 @@ module _ (d : Data) (h : IsInOrder d) where
       by (Some v) e g = ok_or (HasDistance d field) (BadField field) (option_and_then as_i64 (as_number v))
           (if_more (IsInteger v) (HasDistance d field) (option_and_then as_i64 (as_number v)) (integer_found v g) (λ z is. (e ∙ ap Some is.0, is.1)))
 
-  -- an array of which each item is read so
+  -- an array, each item of which is read as a value
   list_has : {X : Type 0} (tree : X → Data) (reading : Data → Option X) (Keeps : X → Type 0) (field : Field) → ((v : Data) → IsInOrder v → IfSome (reading v) (λ x. (v ≡ tree x) × Keeps x))
       → IfOk (or_fault (BadField field) (option_and_then (items_in reading) (option_and_then as_array (get (field_text field) d)))) (λ xs. Has d field (array (items_of (map tree xs))) × All Keeps xs)
   list_has {X = X} tree reading Keeps field each =
@@ -154,7 +154,7 @@ module _ (d : Data) (h : IsInOrder d) where
   abbrev IsAction : Action Global → Type 0
   IsAction action = AsksAction d action
 
-  -- an action that has a name, and one that has a field or two more
+  -- an action with a name, and actions with one or two more fields
   named_has : (P : Action Global → Type 0) (action : Name → Action Global) → ((name : Name) → HasName d name → P (action name)) → IfOk (el_at d >>= λ name. Ok (action name)) P
   named_has P action asks = ok_then (HasName d) P (el_at d) _ (name_has d El) asks
 
@@ -168,7 +168,7 @@ module _ (d : Data) (h : IsInOrder d) where
       ok_then (HasName d) P (el_at d) _ (name_has d El) (λ name named. ok_then (HasPlace d) P (place_at d) _ (place_has d)
       (λ place at. ok_then (HasNameAt d Into) P (name_at Into d) _ (name_has d Into) (λ into new. asks name place into named at new)))
 
-  -- the word of a choice
+  -- the word that a branch tests
   ok_word : {X : Type 0} (P : X → Type 0) (text : List ℕ) (word : Word) (r s : Result X Fault) → (text ≡ word_text word → IfOk r P) → IfOk s P → IfOk (cond (bytes_eq text (word_text word)) r s) P
   ok_word P text word r s h g = by (bytes_eq text (word_text word)) refl
     where
@@ -283,7 +283,7 @@ module _ (d : Data) (h : IsInOrder d) where
       by (Ok id) has = under_id id (body_at d) has body_at_has
       by (Err fault) has = tt
 
--- what is read is in order
+-- a tree that is read has its keys in order
 in_order_of : (text : List ℕ) (d : Data) → read text ≡ Some d → IsInOrder d
 in_order_of text d tree = subst (λ o. IfSome o IsInOrder) tree (read_in_order text)
 

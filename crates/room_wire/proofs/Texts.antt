@@ -1,4 +1,4 @@
--- The texts of what was written: the compact text of its tree, in which any reader finds the tree. (RFC 8259)
+-- A written text is the compact text of its tree, and any reader of JSON reads it as this tree (RFC 8259).
 use Rattle.std.proofs.Common.{◌≡◌, ◌≤◌, [], ◌++◌, Some, ap, ◌∙◌}
 use Rattle.json.specs.Print.{print}
 use Rattle.json.specs.Written.{Written}
@@ -10,7 +10,7 @@ use Rattle.room_wire.specs.Inner.Writing.{Tells, tree_tokens}
 use Rattle.room_wire.proofs.CompactTexts.{reads_compact}
 
 module _ (old new : Written) (d : Data) (begun : old.tokens ≡ []) (h : Tells old new d) where
-  -- a tree that was written first of all
+  -- a tree that was written first
   pub is_written : print new.tokens ≡ compact_text d
   is_written = ap print (h.tokens ∙ ap (λ ts. ts ++ tree_tokens d) begun) ∙ print-outline d
 

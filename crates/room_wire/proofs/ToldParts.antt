@@ -1,4 +1,4 @@
--- The parts of elements, as they are written and as their trees. (RFC 8259)
+-- The parts of elements as they are written, and their trees (RFC 8259).
 use Rattle.std.proofs.Common.{◌≡◌, ◌<◌, ◌^◌, ℕ, suc, ℤ, pos, negsuc, List, [], ◌∷◌, map, codes, T, FitsSigned, option_map, refl, sym, ap, subst, arith}
 use Rattle.std.specs.Fmt.{signed_decimal}
 use Rattle.std.specs.FinMap.Entries.{is_sorted, below_all}
@@ -53,7 +53,7 @@ tags_rise tags h = subst T (sym (sorted_alike tags)) (first_test _ _ h)
 abbrev pub row_told : {A : Type 0} → Name × Element A → Data
 row_told r = element_tree r.0 r.1
 
--- an id and what is under it
+-- an id, and a tree under a word
 pub under_is_readable : (id : ℕ) (word : List ℕ) (d : Data) → T (is_lt (text_cmp (codes "id") word)) → IsReadable (whole id) → IsReadable d → IsReadable (under_tree id word d)
 under_is_readable id word d rises i h =
     object_is_readable ((codes "id", whole id) ∷ (word, d) ∷ []) (rw (is_less _ rises) tt) (put_first (λ m. IsReadable m.1) (codes "id", whole id) ((word, d) ∷ []) i (put_first (λ m. IsReadable m.1) (word, d) [] h (λ j e l. absurd (omega (arith, l)))))

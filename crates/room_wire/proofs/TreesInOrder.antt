@@ -1,5 +1,5 @@
--- In what is read of a text each object has its keys in order, each once, and what is called negative is below 0, and
--- an i64.
+-- In the tree of a text, each object has its keys in order, each once. A number that is marked as negative is below 0
+-- and fits an i64.
 use Rattle.std.proofs.Common.{◌≡◌, ◌<◌, ◌^◌, ◌&&◌, ℕ, zero, suc, pos, negsuc, neg_ℤ, Float, Bool, true, false, cond, T, List, [], ◌∷◌, Option, Some, None, IfSome, option_map, option_and_then, nat_lt, nat_le, refl, ap, subst, sym, arith, Ordering, Less, Equal, Greater}
 use Rattle.std.proofs.lemmas.Bool.Decides.{nat_tests}
 use Rattle.std.specs.Ordering.{match_ordering}
@@ -18,7 +18,7 @@ abbrev pub pairs_of : Members → List (List ℕ × Data)
 pairs_of no_members = []
 pairs_of (member k d ms) = (k, d) ∷ pairs_of ms
 
--- a number that is read: one that is called negative is below 0
+-- a number that is read: if it is marked as negative, it is below 0
 abbrev pub IsReadNumber : Num → Type 0
 IsReadNumber (unsigned n) = Unit {0}
 IsReadNumber (negative z) = (n : ℕ) × (z ≡ negsuc n) × (n < 2 ^ 63)
@@ -123,7 +123,7 @@ mutual
   members_in_order (json.member k j js) found h =
       if_then IsInOrder IsObject (of_json j) (λ d. of_members js (put k d found)) (in_order j) (λ d g. members_in_order js (put k d found) (object_put k d found g h))
 
--- what is read is in order
+-- a tree that is read is in order
 pub read_in_order : (text : List ℕ) → IfSome (read text) IsInOrder
 read_in_order text =
     if_any IsInOrder (option_and_then (λ p. json.if_last p.0 p.1) (json.value max_depth (tokens text))) of_json in_order
@@ -137,7 +137,7 @@ member_in_order : (k : List ℕ) (ms : Members) → HasInOrder ms → IfSome (ge
 member_in_order k no_members h = tt
 member_in_order k (member l e ms) h = member_choice (text_cmp k l) (get_member k ms) e h.0 (member_in_order k ms h.1)
 
--- what a key has in a tree that is in order
+-- the value of a key in a tree that is in order
 pub get_in_order : (k : List ℕ) (d : Data) → IsInOrder d → IfSome (get k d) IsInOrder
 get_in_order k null h = tt
 get_in_order k (boolean b) h = tt

@@ -59,7 +59,7 @@ is_object (object ms) k v h = refl
 pub id_read : (d : Data) (id : ℕ) → MessageId d id → id_at d ≡ Ok id
 id_read d id h = rw (is_object d (codes "id") (whole id) h.0, h.0) (ap (or_fault _) (number_read id h.1))
 
--- what a message says, once its id and its word are read
+-- the meaning of a message whose id was read
 pub spells-body : (text : List ℕ) (d : Data) (id : ℕ) → read text ≡ Some d → id_at d ≡ Ok id → spells text ≡ under incoming id (body_at d)
 spells-body text d id tree is = ap message_of tree ∙ ap (λ r. by_id incoming body_at r d) is
 
@@ -92,7 +92,7 @@ seq_read : (d : Data) (seq : Option ℕ) → HasSeq d seq → seq_at d ≡ Ok se
 seq_read d None h = ap seq_from h
 seq_read d (Some n) h = ap seq_from h.0 ∙ ap (λ o. or_fault (BadField Seq) (option_map Some o)) (number_read n h.1)
 
--- what is read of an array, or of an object
+-- reading an array or an object
 array_read : {X : Type 0} (d : Data) (field : Field) (reading : Items → Option X) (items : Items) (x : X) → Has d field (array items) → reading items ≡ Some x
     → or_fault (BadField field) (option_and_then reading (option_and_then as_array (get (field_text field) d))) ≡ Ok x
 array_read d field reading items x has is = ap (λ o. or_fault (BadField field) (option_and_then reading (option_and_then as_array o))) has ∙ ap (or_fault (BadField field)) is
@@ -125,11 +125,11 @@ element_read d (elements.Relation members tags) h =
 pub created : (d : Data) (name : Name) (element : Element Global) → el_at d ≡ Ok name → element_at name.kind d ≡ Ok element → create_at d ≡ Ok (actions.Create name element)
 created d name element h g = rw (h, g) refl
 
--- the action of a message, done as one edit
+-- the action of a message as one edit
 abbrev doing : Result (Action Global) Fault → Result Body Fault
 doing r = (r >>= λ action. Ok (One action)) >>= λ edit. Ok (bodies.Change (requests.Do edit))
 
--- a word of a message, and what is read under it
+-- a message has a word, under which it is read as this action
 abbrev IsRead : Data → Action Global → Type 0
 IsRead d action = (word : Word) × HasWord d word × (action_by (word_text word) d ≡ Ok action) × (body_by (word_text word) d ≡ doing (action_by (word_text word) d))
 

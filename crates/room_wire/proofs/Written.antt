@@ -1,4 +1,4 @@
--- Arrays and objects, written token by token. (RFC 8259)
+-- Arrays and objects that are written token by token (RFC 8259).
 use Rattle.std.proofs.Common.{◌≡◌, ◌<◌, ◌≤◌, ◌+◌, ◌++◌, ℕ, zero, suc, List, [], ◌∷◌, length, get_or, take, drop, map, All, T, Bool, true, false, ◌&&◌, Some, Ordering, Less, Equal, Greater, nat_cmp, option_map, refl, sym, ap, append_assoc, append-nil, subst, ◌∙◌, arith}
 use Rattle.std.proofs.lemmas.List.{drop_more, take_all}
 use Rattle.std.specs.Ordering.{is_lt, ordering_reverse}
@@ -16,18 +16,18 @@ use Rattle.room_wire.specs.Inner.Writing.{IsReadable, members_of, members_tokens
 
 -- ---- tokens
 
--- what is still to be written of an array, and of an object, with the closing bracket
+-- the tokens that are still to be written of an array or of an object, with the closing bracket
 abbrev pub items_left : List Data → List Token
 items_left ds = items_tokens (items_outline (items_of ds))
 
 abbrev pub members_left : List (List ℕ × Data) → List Token
 members_left ms = json_members_tokens (members_outline (members_of ms))
 
--- the bracket is written
+-- the opening bracket is written
 pub opened : (old new : List Token) (t : Token) → new ≡ old ++ t ∷ [] → (left : List Token) → new ++ left ≡ old ++ t ∷ left
 opened old new t is left = ap (λ ts. ts ++ left) is ∙ append_assoc old (t ∷ []) left
 
--- one item, or one member, is written
+-- one item or one member is written
 pub item_written : (old new whole : List Token) (d : Data) (ds : List Data) → new ≡ old ++ tree_tokens d → old ++ items_left (d ∷ ds) ≡ whole → new ++ items_left ds ≡ whole
 item_written old new whole d ds is h = ap (λ ts. ts ++ items_left ds) is ∙ append_assoc old (tree_tokens d) (items_left ds) ∙ h
 
@@ -38,7 +38,7 @@ member_told old new whole m ms is h = ap (λ ts. ts ++ members_tokens ms) is ∙
 pub then_members : (old middle new : List Token) (m : List ℕ × Data) (ms : List (List ℕ × Data)) → middle ≡ old ++ key m.0 ∷ tree_tokens m.1 → new ≡ middle ++ members_tokens ms → new ≡ old ++ members_tokens (m ∷ ms)
 then_members old middle new m ms first rest = rest ∙ ap (λ ts. ts ++ members_tokens ms) first ∙ append_assoc old (key m.0 ∷ tree_tokens m.1) (members_tokens ms)
 
--- the brackets round them
+-- the brackets around the members
 members_end : (ms : List (List ℕ × Data)) → members_tokens ms ++ end_object ∷ [] ≡ members_left ms
 members_end [] = refl
 members_end (m ∷ ms) = ap (λ ts. key m.0 ∷ ts) (append_assoc (tree_tokens m.1) (members_tokens ms) (end_object ∷ []) ∙ ap (λ ts. tree_tokens m.1 ++ ts) (members_end ms))
@@ -79,7 +79,7 @@ below_middle : (k : List ℕ) (done : List (List ℕ × Data)) (m : List ℕ × 
 below_middle k [] m more h = is_less _ (first_test _ _ h)
 below_middle k (x ∷ done) m more h = below_middle k done m more (second_test _ _ h)
 
--- a member whose key is above those before it goes last
+-- a member whose key is above the earlier keys goes last
 put_last : (done : List (List ℕ × Data)) (m : List ℕ × Data) (more : List (List ℕ × Data)) → T (is_sorted text_cmp (done ++ m ∷ more)) → put m.0 m.1 (members_of done) ≡ members_of (done ++ m ∷ [])
 put_last [] m more h = refl
 put_last (x ∷ done) m more h =
@@ -103,10 +103,10 @@ members_numbers (m ∷ ms) k = ((k 0 m (omega arith)).numbers, members_numbers m
 pub object_is_readable : (ms : List (List ℕ × Data)) → T (is_sorted text_cmp ms) → All (λ m. IsReadable m.1) ms → IsReadable (object (members_of ms))
 object_is_readable ms h k = record { same = ap (option_map object) (members_same [] ms h k); numbers = members_numbers ms k }
 
--- ---- walks over a list of which each item is written
+-- ---- loops over a list, each item of which is written
 
 module _ {X Y : Type 0} (f : X → Y) where
-  -- what was left, from the next item on
+  -- the remaining list begins with the next item
   pub next_left : (xs : List X) (i : ℕ) (x : X) → i < length xs → x ≡ get_or xs i x → map f (drop i xs) ≡ f x ∷ map f (drop (i + 1) xs)
   next_left xs i x h is = ap (map f) (drop_more xs i x h ∙ ap (λ y. y ∷ drop (i + 1) xs) (sym is))
 
@@ -115,7 +115,7 @@ module _ {X Y : Type 0} (f : X → Y) where
   all_mapped P (x ∷ xs) a zero d l = a 0 x (omega arith)
   all_mapped P (x ∷ xs) a (suc j) d l = all_mapped P xs (λ n e m. a (suc n) e (omega (arith, m))) j d (omega (arith, l))
 
-  -- what holds of what each item gave
+  -- what is true of all items is true of the mapped list
   pub all_given : (P : Y → Type 0) (xs : List X) (i : ℕ) → length xs ≤ i → All (λ x. P (f x)) (take i xs) → All P (map f xs)
   all_given P xs i h k = all_mapped P xs (subst (All (λ x. P (f x))) (take_all i xs h) k)
 
@@ -123,6 +123,6 @@ pub put_first : {Y : Type 0} (P : Y → Type 0) (y : Y) (ys : List Y) → P y �
 put_first P y ys h k zero d l = h
 put_first P y ys h k (suc i) d l = k i d (omega (arith, l))
 
--- the last bracket is written
+-- the closing bracket is written
 pub closed : (old inner new : List Token) (ts : List Token) (t : Token) → inner ≡ old ++ ts → new ≡ inner ++ t ∷ [] → new ≡ old ++ (ts ++ t ∷ [])
 closed old inner new ts t is h = h ∙ ap (λ us. us ++ t ∷ []) is ∙ append_assoc old ts (t ∷ [])

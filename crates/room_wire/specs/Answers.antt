@@ -1,4 +1,4 @@
--- What a reply of the room, a refusal and a fault are answered with.
+-- The answers for a room's reply, a refusal and a fault.
 use denote.Bor.{Bor}
 use Rattle.std.specs.Prelude.{ℕ, Option, Some, None}
 use Rattle.std.specs.declared.alloc.Global.{Global}
@@ -11,7 +11,7 @@ use Rattle.room_wire.specs.declared.bad.Fault.TheVariants as faults
 use Rattle.room_wire.specs.declared.answer.Answer.{Answer}
 use Rattle.room_wire.specs.declared.answer.Answer.TheVariants.{Done, Undid, Redid, Absent, Present, WrongKind, Same, OutOfRange, TooFew, TooMany, InUse, TagConflict, BadPosition, NotEndToEnd, Nothing, Refused, Repeat, Conflict, BadField, BadActionField, Memory, Full, NothingToUndo, NothingToRedo, NoSuch, NotYours, NotStanding, NotJson, NotObject, BadId, UnknownDo, UnknownAction}
 
--- a reference to a value, wherever that stands
+-- a reference to a value, at any address
 abbrev pub to_value : {X : Type 0} → X → Bor X
 to_value x = record { ref_ptr = (0, 0); now = x }
 
@@ -30,7 +30,7 @@ refusal_answer (refusals.TagConflict key) = TagConflict (to_value key)
 refusal_answer refusals.Nothing = Nothing
 refusal_answer refusals.Memory = Memory
 
--- the refusal of an action at a position of a group, or of none in particular
+-- the answer for a refused edit: of an action at a position of a group, or without a position
 abbrev pub edit_answer : Option ℕ → Refusal Global → Answer
 edit_answer None why = refusal_answer why
 edit_answer (Some k) why = Refused k (to_value why)

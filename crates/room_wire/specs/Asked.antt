@@ -1,4 +1,4 @@
--- What a message asks of its room, and what it is answered. (The messages are this project's.)
+-- What a message asks of its room, and the answer to it. The messages are this project's.
 use Rattle.std.specs.Prelude.{ℕ, List, Option, Some, None, Ok}
 use Rattle.std.specs.declared.alloc.Global.{Global}
 use Rattle.serde_json.specs.Written.{compact_text}
@@ -16,7 +16,7 @@ use Rattle.room_wire.specs.declared.incoming.Body.TheVariants.{Hello, Change, Ge
 use Rattle.room_wire.specs.Answers.{reply_answer, to_value}
 use Rattle.room_wire.specs.Trees.{tree_of}
 
--- what the room is asked by a message of an author's, under its id: by a hello nothing
+-- the call that an author's message under this id makes to the room; a hello makes none
 abbrev pub asked : Author → ℕ → Body → Option (RoomCall Global)
 asked author id (Hello room name) = None
 asked author id (Change request) = Some (calls.Take (record { author = author; id = id; request = request }))
@@ -24,13 +24,13 @@ asked author id (Get name) = Some (calls.Get name)
 asked author id Map = Some calls.Rows
 asked author id Undos = Some (calls.Undos author)
 
--- the answer with the element of a name, or that there is none
+-- the answer with the element of a name, or that there is no such element
 abbrev pub found_answer : Name → Option (Element Global) → Answer
 found_answer name None = answers.Absent name
 found_answer name (Some element) = answers.Is name (to_value element)
 
--- the answer to what a room was asked, by what it replied: a call's outcome, the element, the rows under the number of
--- the last entry, or both lists; else that there was no memory
+-- The answer to a call, from the room's reply: the outcome of a change, an element, the rows with the entry count, or
+-- both lists. For any other reply it is `Memory`.
 abbrev pub answer_to : RoomCall Global → RoomReply Global → Answer
 answer_to call (replies.Take reply) = reply_answer reply
 answer_to (calls.Get name) (replies.Get (Ok found)) = found_answer name found

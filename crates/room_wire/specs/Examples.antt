@@ -1,4 +1,4 @@
--- What worked examples say of the definitions.
+-- Worked examples for the definitions of messages, replies and elements.
 use Rattle.std.specs.Prelude.{◌≡◌, ℕ, pos, negsuc, [], ◌∷◌, Some, None, Result, Ok, Err, codes}
 use Rattle.std.specs.declared.alloc.Global.{Global}
 use Rattle.osm_elements.specs.declared.name.Name.{Name}
@@ -51,7 +51,7 @@ asks id body = Ok (record { id = id; body = body })
 abbrev pub fails : ℕ → Fault → Result Incoming Bad
 fails id fault = Err (record { id = id; fault = fault })
 
--- one message of each word, with needless space and members, and a doubled key whose last value counts
+-- one message of each word; some have needless spaces and members, or a repeated key, whose last value counts
 unfoldable pub reads_messages : Type 0
 reads_messages =
     (spells (codes "{\"id\":1,\"do\":\"create\",\"el\":\"n-1\",\"lat\":\"51.5\",\"lon\":\"-0.1\",\"tags\":{}}") ≡ asks 1 (Change (Do (One (Create n-1 greenwich)))))
@@ -82,7 +82,7 @@ reads_messages =
     × (spells (codes "{\"id\":6,\"do\":\"get\",\"el\":\"n7\"}") ≡ asks 6 (Get n7))
     × (spells (codes "{\"id\":9007199254740991,\"do\":\"map\"}") ≡ asks 9007199254740991 Map)
 
--- what has no id that can be told back
+-- faults of texts whose id is not read
 unfoldable pub tells_no_id : Type 0
 tells_no_id =
     (spells (codes "{\"id\":1,\"do\":\"cre") ≡ fails 0 NotJson)
@@ -96,7 +96,7 @@ tells_no_id =
     × (spells (codes "{\"id\":1e2,\"do\":\"dance\"}") ≡ fails 0 BadId)
     × (spells (codes "{\"id\":-0,\"do\":\"map\"}") ≡ fails 0 BadId)
 
--- the faults under an id, each before those of later fields
+-- faults under an id; each comes before the faults of later fields
 unfoldable pub tells_an_id : Type 0
 tells_an_id =
     (spells (codes "{\"id\":1}") ≡ fails 1 UnknownDo)

@@ -1,4 +1,4 @@
--- The keys of a message's fields. (RFC 8259, section 4: the names in an object. The keys are this project's.)
+-- The keys of a message's fields, which are this project's (RFC 8259, section 4: names in an object).
 use Rattle.std.specs.Prelude.{ℕ, List, codes}
 use Rattle.room_wire.specs.declared.field.Field.{Field}
 use Rattle.room_wire.specs.declared.field.Field.TheVariants.{El, Els, Lat, Lon, Nodes, Members, Tags, Dlat, Dlon, At, Into, With, Actions, Seq, Room, Name}

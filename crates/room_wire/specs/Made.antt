@@ -1,4 +1,4 @@
--- What a message asks for has its values as their types keep them.
+-- The values that a message asks for are as their types require.
 use Rattle.std.specs.Prelude.{Bool, true}
 use Rattle.room_history.specs.LegalJournals.{is_made_request}
 use Rattle.room_wire.specs.declared.incoming.Body.{Body}

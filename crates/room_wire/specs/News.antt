@@ -1,4 +1,4 @@
--- The tree of news, and what a text of news says. (RFC 8259: the tree. The members of news are this project's.)
+-- The tree of news, and the news that a text spells. The members of news are this project's (RFC 8259: the tree).
 use Rattle.std.specs.Prelude.{ℕ, Bool, true, false, List, map, Option, Some, None, Result, Ok, Err, codes, is_some, unwrap_or, if◌then◌else◌}
 use Rattle.std.specs.Option.{option_and_then}
 use Rattle.std.specs.declared.alloc.Global.{Global}
@@ -21,7 +21,7 @@ use Rattle.room_wire.specs.Lists.{row_at, rows_at}
 use Rattle.room_wire.specs.Spelling.{author_at, el_at, ordinal}
 use Rattle.room_wire.specs.Trees.{element_tree, name_tree, whole}
 
--- a changed name: the element that it has since, or that it is gone
+-- a changed name, with its current element or gone
 abbrev pub gone_tree : Name → Data
 gone_tree name = object (member (codes "el") (name_tree name) (member (codes "gone") (boolean true) no_members))
 
@@ -40,9 +40,9 @@ told_tree n =
 abbrev pub news_tree : {A : Type 0} → News A → Data
 news_tree n = object (member (codes "news") (told_tree n) no_members)
 
--- ---- what a text says
+-- ---- reading
 
--- a row is gone where it says so
+-- a row is gone if its `gone` is true
 abbrev pub is_gone : Data → Bool
 is_gone d = unwrap_or (option_and_then as_bool (get (codes "gone") d)) false
 
@@ -71,13 +71,13 @@ news_at d = if is_some (as_object d) then (object_at fields.News d >>= told_at) 
 abbrev pub news_told : Option Data → Result (News Global) Fault
 news_told d = or_fault NotJson d >>= news_at
 
--- news have no id, and their faults are told under 0
+-- news have no id, so their faults come under 0
 abbrev pub without_id : ℕ → News Global → News Global
 without_id id n = n
 
 abbrev pub news_read : Option Data → Result (News Global) Bad
 news_read d = under without_id 0 (news_told d)
 
--- what a text says: news, or its one fault
+-- the meaning of a text: news, or its one fault
 abbrev pub spells_news : List ℕ → Result (News Global) Bad
 spells_news text = news_read (read text)

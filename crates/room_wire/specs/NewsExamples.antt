@@ -1,4 +1,4 @@
--- What worked examples say of the definitions of news and of the welcome.
+-- Worked examples for the definitions of news and welcomes.
 use Rattle.std.specs.Prelude.{◌≡◌, ℕ, pos, negsuc, [], ◌∷◌, Some, None, Result, Ok, Err, codes}
 use Rattle.std.specs.declared.alloc.Global.{Global}
 use Rattle.osm_elements.specs.declared.name.Name.{Name}
@@ -27,7 +27,7 @@ w2 = named kinds.Way (pos 2) tt
 abbrev pub r1 : Name
 r1 = named kinds.Relation (pos 1) tt
 
--- a node was purged, with a way of which too little was left; another way and a relation lost it
+-- a purge removed a node, and a way that would have kept too few nodes; another way and a relation lost it
 abbrev pub purged : News Global
 purged = record {
   seq = 7;
@@ -40,7 +40,7 @@ purged = record {
       ∷ [];
 }
 
--- a node came
+-- a node was created
 abbrev pub created : News Global
 created = record { seq = 1; author = codes "anna"; rows = record { name = n-1; element = Some greenwich } ∷ [] }
 
@@ -54,7 +54,8 @@ writes_news =
 abbrev pub fails : {X : Type 0} → ℕ → Fault → Result X Bad
 fails id fault = Err (record { id = id; fault = fault })
 
--- what is written is read, with other members and in another order too; a row whose `gone` is not true is an element
+-- written news are read back, also with other members and in another order; a row whose `gone` is not true is an
+-- element
 unfoldable pub reads_news : Type 0
 reads_news =
     (spells_news (codes "{\"news\":{\"by\":\"bob\",\"rows\":[{\"el\":\"n-1\",\"gone\":true},{\"el\":\"w1\",\"gone\":true},{\"el\":\"w2\",\"nodes\":[-3,-2],\"tags\":{}},{\"el\":\"r1\",\"members\":[[\"w2\",\"outer\"],[\"w2\",\"outer\"]],\"tags\":{}}],\"seq\":7}}") ≡ Ok purged)

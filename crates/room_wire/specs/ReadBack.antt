@@ -1,4 +1,4 @@
--- What is written of an element is read as that element. (OpenStreetMap wiki, "Elements": what an element consists of.)
+-- The premises under which a written element is read back as the same element (OpenStreetMap wiki, "Elements").
 use Rattle.std.specs.Prelude.{All, FitsSigned, ℕ, List}
 use Rattle.std.specs.Int.{w64}
 use Rattle.osm_coords.specs.Latitude.{IsLatitude}
@@ -10,11 +10,11 @@ use Rattle.osm_elements.specs.Members.{AreMembers}
 use Rattle.osm_elements.specs.Nodes.{AreNodes}
 use Rattle.osm_elements.specs.TagRows.{AreTagRows}
 
--- an id is an i64
+-- the id of a name is an i64
 abbrev pub HasId : Name → Type 0
 HasId name = FitsSigned w64 name.id
 
--- what the types of an element's parts keep
+-- the parts of an element are as their types require
 abbrev pub IsWhole : {A : Type 0} → Element A → Type 0
 IsWhole (Node lat lon tags) = IsLatitude lat × IsLongitude lon × AreTagRows tags
 IsWhole (Way nodes tags) = AreNodes nodes × All HasId nodes × AreTagRows tags

@@ -1,4 +1,4 @@
--- How a reader answers.
+-- The results of a reader.
 use Rattle.std.specs.Prelude.{◌≡◌, ◌⊎◌, ℕ, Option, Some, None, Result, Ok, Err}
 use Rattle.room_wire.specs.declared.bad.Fault.{Fault}
 use Rattle.room_wire.specs.declared.bad.Fault.TheVariants.{Memory}
@@ -6,32 +6,32 @@ use Rattle.room_wire.specs.declared.bad.Bad.{Bad}
 use Rattle.room_wire.specs.declared.incoming.Incoming.{Incoming}
 
 infixl 10 ◌>>=◌
--- one step after another, up to the first fault
+-- two steps in order, up to the first fault
 abbrev pub ◌>>=◌ : {A B : Type 0} → Result A Fault → (A → Result B Fault) → Result B Fault
 (Ok x) >>= f = f x
 (Err e) >>= f = Err e
 
--- what was found, or else the fault
+-- the value if there is one, and otherwise the fault
 abbrev pub or_fault : {X : Type 0} → Fault → Option X → Result X Fault
 or_fault fault None = Err fault
 or_fault fault (Some x) = Ok x
 
--- what was read, or its fault, under an id
+-- the value or the fault, under an id
 abbrev pub under : {X Y : Type 0} → (ℕ → X → Y) → ℕ → Result X Fault → Result Y Bad
 under made id (Ok x) = Ok (made id x)
 under made id (Err fault) = Err (record { id = id; fault = fault })
 
--- the answer is the one that is read, or a growth was refused
+-- the reader's result is the specified one, or an allocation failed
 abbrev pub Gives : {X : Type 0} → Result X Fault → Result X Fault → Type 0
 Gives (Ok x) read = read ≡ Ok x
 Gives (Err f) read = (f ≡ Memory) ⊎ (read ≡ Err f)
 
--- the id that an answer tells: that of its fault, or of what was read
+-- the id of a result, of its value or of its fault
 abbrev pub id_of : {X : Type 0} → (X → ℕ) → Result X Bad → ℕ
 id_of id (Ok x) = id x
 id_of id (Err bad) = bad.id
 
--- the same for a text that is read whole: where a growth was refused, the id may have been read before
+-- the same for a whole text: if an allocation failed, the id may have been read before
 abbrev pub GivesUnder : {X : Type 0} → (X → ℕ) → Result X Bad → Result X Bad → Type 0
 GivesUnder id (Ok x) read = read ≡ Ok x
 GivesUnder id (Err bad) read = ((bad.fault ≡ Memory) × ((bad.id ≡ 0) ⊎ (bad.id ≡ id_of id read))) ⊎ (read ≡ Err bad)

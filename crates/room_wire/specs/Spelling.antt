@@ -1,5 +1,4 @@
--- What a message is, by cases of the tree that its text is. (RFC 8259: the tree. The words and fields are this
--- project's.)
+-- The meaning of a message, by cases of its text's tree. The words and fields are this project's (RFC 8259: the tree).
 use Rattle.std.specs.Prelude.{ℕ, ℤ, Bool, true, ◌&&◌, ◌+◌, List, [], ◌∷◌, length, Option, Some, None, Result, Ok, Err, codes, is_some, nat_le, nat_eq, if◌then◌else◌}
 use Rattle.std.specs.Option.{option_and_then, option_map}
 use Rattle.std.specs.Str.{bytes_eq}
@@ -41,7 +40,8 @@ use Rattle.room_wire.specs.declared.incoming.Body.TheVariants.{Hello, Change, Ge
 use Rattle.room_wire.specs.Fields.{field_text}
 use Rattle.room_wire.specs.Reading.{◌>>=◌, or_fault, under}
 
--- a whole number in 1..=9007199254740991. (RFC 8259, section 6: integers up to 2^53 - 1 mean the same to every reader.)
+-- a whole number in 1..=9007199254740991 (RFC 8259, section 6: integers up to 2^53 - 1 have the same value for every
+-- reader)
 abbrev pub ordinal : Data → Option ℕ
 ordinal d =
     option_and_then (λ n. if nat_le 1 n && nat_le n 9007199254740991 then Some n else None)
@@ -51,7 +51,7 @@ ordinal d =
 abbrev pub text_at : Field → Data → Option (List ℕ)
 text_at field d = option_and_then as_str (get (field_text field) d)
 
--- the fields, each with its form
+-- the fields, each read by its form
 abbrev pub name_at : Field → Data → Result Name Fault
 name_at field d = or_fault (BadField field) (option_and_then name_of (text_at field d))
 
@@ -67,7 +67,7 @@ lat_at d = or_fault (BadField Lat) (option_and_then latitude_of (text_at Lat d))
 abbrev pub lon_at : Data → Result ℤ Fault
 lon_at d = or_fault (BadField Lon) (option_and_then longitude_of (text_at Lon d))
 
--- what the items of an array are, where each is something
+-- the values of the items of an array, if each item has a value
 abbrev pub items_in : {X : Type 0} → (Data → Option X) → Items → Option (List X)
 items_in reading no_items = Some []
 items_in reading (item d ds) = option_and_then (λ x. option_map (λ xs. x ∷ xs) (items_in reading ds)) (reading d)
@@ -129,7 +129,7 @@ abbrev pub members_at : Data → Result (List (Name × List ℕ)) Fault
 members_at d =
     or_fault (BadField Members) (option_and_then members_in (option_and_then as_array (get (field_text Members) d)))
 
--- an object of at most 1,000 keys, each of 1 to 255 characters, and each value of the form that is read
+-- an object of at most 1,000 keys, each of 1 to 255 characters, whose values are read by their form
 abbrev pub key_of : List ℕ → Option (List ℕ)
 key_of text = if nat_eq (length text) 0 then None else text_of text
 
@@ -151,7 +151,7 @@ value_of d = option_and_then text_of (as_str d)
 abbrev pub tags_of : ObjectMembers → Option Pairs
 tags_of = entries_of value_of
 
--- what a key is given is a value, or null for none
+-- a key gets a value, or null for none
 abbrev pub given_of : Data → Option (Option (List ℕ))
 given_of d = if is_some (as_null d) then Some None else option_map Some (value_of d)
 
@@ -162,14 +162,14 @@ abbrev pub given_tags_at : Data → Result GivenTags Fault
 given_tags_at d =
     or_fault (BadField Tags) (option_and_then given_tags_of (option_and_then as_object (get (field_text Tags) d)))
 
--- what refuses a text or a tag of a field, to a message
+-- a message's fault for a fault of a text or a tag in a field
 abbrev pub fault_in : Field → TextFault → Fault
 fault_in field text_faults.TextTooLong = BadField field
 fault_in field text_faults.EmptyKey = BadField field
 fault_in field text_faults.TooManyTags = BadField field
 fault_in field text_faults.Memory = Memory
 
--- a field that may be missing
+-- the fields that may be missing
 abbrev pub tags_from : Option Data → Result Pairs Fault
 tags_from None = Ok []
 tags_from (Some d) = or_fault (BadField Tags) (option_and_then tags_of (as_object d))
@@ -220,7 +220,7 @@ merge_at d = el_at d >>= λ name. name_at With d >>= λ other. Ok (actions.Merge
 abbrev pub unglue_at : Data → Result (Action Global) Fault
 unglue_at d = el_at d >>= λ name. place_at d >>= λ place. name_at Into d >>= λ into. Ok (actions.Unglue name place into)
 
--- the action that the word asks for
+-- the action that a word asks for
 abbrev pub action_by : List ℕ → Data → Result (Action Global) Fault
 action_by word d =
     if bytes_eq word (codes "create") then create_at d
@@ -252,7 +252,7 @@ group_of ds = if is_group_length (items_len ds) && are_objects ds then Some ds e
 abbrev pub group_at : Data → Result Items Fault
 group_at d = or_fault (BadField Actions) (option_and_then group_of (option_and_then as_array (get (field_text Actions) d)))
 
--- what is wrong with a message, of the action at a position of a group
+-- the fault of a message for a fault of the action at position k of a group
 abbrev pub at_action : ℕ → Fault → Fault
 at_action k UnknownDo = UnknownAction k
 at_action k (BadField field) = BadActionField k field
@@ -262,7 +262,7 @@ abbrev pub with_position : {X : Type 0} → ℕ → Result X Fault → Result X 
 with_position k (Ok x) = Ok x
 with_position k (Err fault) = Err (at_action k fault)
 
--- the actions of a group in their order, up to the first fault; the first is at position k
+-- the actions of a group in order, up to the first fault; the first action is at position k
 abbrev pub action_at : Data → Result (Action Global) Fault
 action_at d = word_at d >>= λ word. action_by word d
 
@@ -274,17 +274,17 @@ actions_from k (item d ds) =
 abbrev pub actions_at : Data → Result (List (Action Global)) Fault
 actions_at d = group_at d >>= λ ds. actions_from 0 ds
 
--- what a message with this word does: one action, or a group
+-- the edit that a message with this word asks for: one action, or a group
 abbrev pub edit_by : List ℕ → Data → Result (Edit Global) Fault
 edit_by word d =
     if bytes_eq word (codes "group") then (actions_at d >>= λ actions. Ok (Group actions))
     else (action_by word d >>= λ action. Ok (One action))
 
--- whom a hello asks for
+-- the room and the author of a hello
 abbrev pub hello_at : Data → Result Body Fault
 hello_at d = author_at fields.Room d >>= λ room. author_at fields.Name d >>= λ name. Ok (Hello room name)
 
--- what the word asks for
+-- what a message with this word asks for
 abbrev pub body_by : List ℕ → Data → Result Body Fault
 body_by word d =
     if bytes_eq word (codes "hello") then hello_at d
@@ -301,7 +301,7 @@ body_at d = word_at d >>= λ word. body_by word d
 abbrev pub id_at : Data → Result ℕ Fault
 id_at d = if is_some (as_object d) then or_fault BadId (option_and_then ordinal (get (codes "id") d)) else Err NotObject
 
--- what is read of a tree, if there is one, under the id that it has; a fault before the id is told under 0
+-- The value of a tree, if there is one, under the tree's id. A fault before the id was read comes under 0.
 module _ {X Y : Type 0} (made : ℕ → X → Y) (reading : Data → Result X Fault) where
   abbrev pub by_id : Result ℕ Fault → Data → Result Y Bad
   by_id (Ok id) d = under made id (reading d)
@@ -311,13 +311,13 @@ module _ {X Y : Type 0} (made : ℕ → X → Y) (reading : Data → Result X Fa
   with_id None = under made 0 (Err NotJson)
   with_id (Some d) = by_id (id_at d) d
 
--- a message asks for its body under its id
+-- a message is its body under its id
 abbrev pub incoming : ℕ → Body → Incoming
 incoming id body = record { id = id; body = body }
 
 abbrev pub message_of : Option Data → Result Incoming Bad
 message_of = with_id incoming body_at
 
--- what a text says: a message, or its one fault
+-- the meaning of a text: a message, or its one fault
 abbrev pub spells : List ℕ → Result Incoming Bad
 spells text = message_of (read text)

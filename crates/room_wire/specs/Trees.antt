@@ -1,4 +1,4 @@
--- The tree of each reply. (RFC 8259, sections 4 to 7. Which members a reply has is this project's.)
+-- The tree of each reply. The members of replies are this project's (RFC 8259, sections 4 to 7).
 use Rattle.std.specs.Prelude.{◌≡◌, ℕ, List, [], ◌∷◌, map, Option, Some, None, codes}
 use Rattle.serde_json.specs.Data.{Data, number, string, array, object, unsigned, no_items, item, Members, no_members, member}
 use Rattle.serde_json.specs.Find.{of_integer}
@@ -20,21 +20,21 @@ whole n = number (unsigned n)
 abbrev pub name_tree : Name → Data
 name_tree name = string (name_text name)
 
--- a node of a way is its id
+-- a node of a way is written as its id
 abbrev pub id_tree : Name → Data
 id_tree name = number (of_integer name.id)
 
 abbrev pub nodes_tree : List Name → Data
 nodes_tree names = array (items_of (map id_tree names))
 
--- a member of a relation is its name and its role
+-- a member of a relation is written as its name and its role
 abbrev pub member_tree : Name × List ℕ → Data
 member_tree m = array (item (name_tree m.0) (item (string m.1) no_items))
 
 abbrev pub members_tree : List (Name × List ℕ) → Data
 members_tree members = array (items_of (map member_tree members))
 
--- a member of an object for each key
+-- an object's members, one for each key
 abbrev pub entry_members : {V : Type 0} → (V → Data) → List (List ℕ × V) → Members
 entry_members tree [] = no_members
 entry_members tree (e ∷ es) = member e.0 (tree e.1) (entry_members tree es)
@@ -64,26 +64,26 @@ rows_tree rows = array (items_of (map (λ r. element_tree r.0 r.1) rows))
 abbrev pub numbers_tree : List ℕ → Data
 numbers_tree numbers = array (items_of (map whole numbers))
 
--- the reply to a message that was answered, and to one that was refused
+-- the reply to a message that was accepted, and to a message that was refused
 abbrev pub ok_tree : ℕ → Data → Data
 ok_tree id d = object (member (codes "id") (whole id) (member (codes "ok") d no_members))
 
 abbrev pub no_tree : ℕ → Data → Data
 no_tree id d = object (member (codes "id") (whole id) (member (codes "no") d no_members))
 
--- the members of a refusal: why, and what it is about
+-- the members of a refusal: its reason, and the name that it is about
 abbrev pub bare : List ℕ → Members
 bare why = member (codes "why") (string why) no_members
 
 abbrev pub about : Name → List ℕ → Members
 about name why = member (codes "el") (name_tree name) (bare why)
 
--- a whole map, after so many entries
+-- a whole map, after `front` entries
 abbrev pub map_tree : {A : Type 0} → ℕ → List (Name × Element A) → ℕ → Data
 map_tree id rows front =
     ok_tree id (object (member (codes "map") (rows_tree rows) (member (codes "seq") (whole front) no_members)))
 
--- the members of an answer that refuses; other answers have none
+-- the members of a refusal's answer; other answers have none
 abbrev pub why_members : Answer → Members
 why_members (Absent name) = about name (codes "absent")
 why_members (Present name) = about name (codes "present")
@@ -119,7 +119,7 @@ why_members NoRoom = bare (codes "no_room")
 why_members HelloTwice = bare (codes "hello_twice")
 why_members other = no_members
 
--- a refusal of the action at a position of a group has the position too
+-- a refusal of an action of a group also has the action's position
 abbrev pub with_action : ℕ → Members → Members
 with_action k members = member (codes "action") (whole k) members
 
@@ -144,6 +144,6 @@ tree_of id (BadActionField k field) = no_tree id (object (with_action k (why_mem
 tree_of id (UnknownAction k) = no_tree id (object (with_action k (why_members UnknownDo)))
 tree_of id refusal = no_tree id (object (why_members refusal))
 
--- two answers have the same replies
+-- the two answers have the same replies
 abbrev pub AreToldAlike : Answer → Answer → Type 0
 AreToldAlike a b = (id : ℕ) → tree_of id a ≡ tree_of id b

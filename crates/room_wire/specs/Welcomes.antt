@@ -1,4 +1,4 @@
--- The tree of a welcome, and what a text of a welcome says. (RFC 8259: the tree. The members are this project's.)
+-- The tree of a welcome, and the welcome that a text spells. The members are this project's (RFC 8259: the tree).
 use Rattle.std.specs.Prelude.{ℕ, List, map, Option, Some, None, Result, Ok, nat_le, if◌then◌else◌}
 use Rattle.std.specs.Option.{option_and_then}
 use Rattle.std.specs.declared.alloc.Global.{Global}
@@ -19,7 +19,7 @@ use Rattle.room_wire.specs.Lists.{row_at, rows_at}
 use Rattle.room_wire.specs.News.{object_at}
 use Rattle.room_wire.specs.Trees.{map_tree}
 
--- it is that of the reply to a `map`
+-- a welcome is written as the reply to a `map`
 abbrev pub welcome_tree : Welcome → Data
 welcome_tree w = map_tree w.id w.rows w.seq
 
@@ -37,13 +37,13 @@ count_at d = or_fault (BadField fields.Seq) (option_and_then count_of (get (fiel
 abbrev pub told_at : Data → Result (Rows Global × ℕ) Fault
 told_at d = object_at fields.Ok d >>= λ ok. map_at ok >>= λ rows. count_at ok >>= λ seq. Ok (rows, seq)
 
--- a welcome tells its rows and its number under its id
+-- a welcome has its rows and its number under its id
 abbrev pub welcome : ℕ → Rows Global × ℕ → Welcome
 welcome id told = record { id = id; seq = told.1; rows = told.0 }
 
 abbrev pub welcome_of : Option Data → Result Welcome Bad
 welcome_of = with_id welcome told_at
 
--- what a text says: a welcome, or its one fault
+-- the meaning of a text: a welcome, or its one fault
 abbrev pub spells_welcome : List ℕ → Result Welcome Bad
 spells_welcome text = welcome_of (read text)

@@ -1,5 +1,4 @@
--- Well-formed messages, and the first field of another one that is not well formed. (The words and fields are this
--- project's.)
+-- Well-formed messages, and the first malformed field of any other message. The words and fields are this project's.
 use Rattle.std.specs.Prelude.{zero, suc, ◌≡◌, ◌≤◌, ◌⊎◌, All, FitsSigned, ℕ, ℤ, Bool, true, false, List, [], ◌∷◌, length, map, Option, Some, None, Result, Ok, Err, codes, is_ok}
 use Rattle.std.specs.Int.{w64}
 use Rattle.std.specs.declared.alloc.Global.{Global}
@@ -40,7 +39,7 @@ use Rattle.room_wire.specs.Trees.{entry_members, members_tree, name_tree, nodes_
 use Rattle.room_wire.specs.Words.{Word, is_action_word, word_text}
 use Rattle.room_wire.specs.Words as words
 
--- a message asks for something by this word
+-- the `do` of a message is this word
 abbrev pub HasWord : Data → Word → Type 0
 HasWord d word = get (codes "do") d ≡ Some (string (word_text word))
 
@@ -57,19 +56,19 @@ MessageId d id = (get (codes "id") d ≡ Some (whole id)) × IsNumber id
 abbrev pub Has : Data → Field → Data → Type 0
 Has d field value = get (field_text field) d ≡ Some value
 
--- a field has a text that is read so
+-- a field has a text with this value
 abbrev pub HasText : {X : Type 0} → Data → Field → (List ℕ → Option X) → X → Type 0
 HasText d field reading x = (text : List ℕ) × Has d field (string text) × (reading text ≡ Some x)
 
--- a field that may be missing
+-- the field is missing
 abbrev pub IsMissing : Data → Field → Type 0
 IsMissing d field = get (field_text field) d ≡ None
 
--- the tags of an element, or none
+-- the tags of an element; if the field is missing, the element has no tags
 abbrev pub HasTags : Data → Pairs → Type 0
 HasTags d tags = (Has d Tags (tags_tree tags) × AreTagRows tags) ⊎ (IsMissing d Tags × (tags ≡ []))
 
--- what keys are given, null where that is nothing
+-- the values that keys get, null for none
 abbrev pub given_tree : Option (List ℕ) → Data
 given_tree None = null
 given_tree (Some value) = string value
@@ -101,7 +100,7 @@ HasName d name = HasNameAt d El name
 abbrev pub HasAuthor : Data → Field → Author → Type 0
 HasAuthor d field author = Has d field (string author) × (is_author author ≡ true)
 
--- a position
+-- the position of a split or an unglue
 abbrev pub HasPlace : Data → ℕ → Type 0
 HasPlace d place = Has d At (whole place) × (place ≤ 4294967295)
 
@@ -116,7 +115,7 @@ HasNodes d list = Has d Nodes (nodes_tree list) × AreNodes list × All HasId li
 abbrev pub HasMembers : Data → List (Name × List ℕ) → Type 0
 HasMembers d list = Has d Members (members_tree list) × AreMembers list × All (λ (m : Name × List ℕ). HasId m.0) list
 
--- an element, of whose parts holds what their types keep
+-- an element, whose parts are as their types require
 abbrev pub HasElement : {A : Type 0} → Data → Element A → Type 0
 HasElement d (elements.Node lat lon tags) =
     HasText d Lat latitude_of lat × HasText d Lon longitude_of lon × HasTags d tags
@@ -158,7 +157,7 @@ AskActions (item d ds) [] = ⊥
 abbrev pub HasGroup : Data → List (Action Global) → Type 0
 HasGroup d group = (ds : Items) × Has d Actions (array ds) × (is_group_length (length group) ≡ true) × AskActions ds group
 
--- the word and the fields of a message, by what it asks for
+-- the word and the fields of a message with this body
 abbrev pub Asks : Data → Body → Type 0
 Asks d (bodies.Change (requests.Do (One action))) = AsksAction d action
 Asks d (bodies.Change (requests.Do (Group group))) = HasWord d words.Group × HasGroup d group
@@ -169,7 +168,7 @@ Asks d bodies.Map = HasWord d words.Map
 Asks d bodies.Undos = HasWord d words.Undos
 Asks d (bodies.Hello room name) = HasWord d words.Hello × HasAuthor d fields.Room room × HasAuthor d fields.Name name
 
--- the tree has the members of this message, in whatever order it had them, and whatever else it has
+-- the tree has the members of this message, in any order and with any other members
 abbrev pub IsMessage : Data → Incoming → Type 0
 IsMessage d message = MessageId d message.id × Asks d message.body
 
@@ -213,7 +212,7 @@ slots words.Get d = slot El (el_at d) ∷ []
 slots words.Map d = []
 slots words.Hello d = slot fields.Room (author_at fields.Room d) ∷ slot fields.Name (author_at fields.Name d) ∷ []
 
--- the fields before it are well formed, and this one is not
+-- the fields before this one are well formed, and this one is not
 abbrev pub IsFirstBad : List Slot → Field → Type 0
 IsFirstBad [] field = ⊥
 IsFirstBad ((first, true) ∷ later) field = IsFirstBad later field
@@ -227,17 +226,17 @@ AreGood ((first, false) ∷ later) = ⊥
 
 -- ---- the actions of a group, in their order
 
--- an action has a word of actions, and its fields are well formed
+-- an action has the word of an action, and its fields are well formed
 abbrev pub IsGoodAction : Data → Type 0
 IsGoodAction d = (word : Word) × (is_action_word word ≡ true) × HasWord d word × AreGood (slots word d)
 
--- what is wrong with an action: it has no word of actions, or its first field that is not well formed is this one
+-- an action has this fault: it has no word of an action, or this is its first malformed field
 abbrev pub IsBadAction : Data → Fault → Type 0
 IsBadAction d UnknownDo = (word : Word) → is_action_word word ≡ true → ¬ HasWord d word
 IsBadAction d (BadField field) = (word : Word) × (is_action_word word ≡ true) × HasWord d word × IsFirstBad (slots word d) field
 IsBadAction d fault = ⊥
 
--- the actions before the n-th are well formed, and this is wrong with it
+-- the actions before the n-th are well formed, and the n-th has this fault
 abbrev pub IsFirstBadAction : Items → ℕ → Fault → Type 0
 IsFirstBadAction no_items n fault = ⊥
 IsFirstBadAction (item d ds) zero fault = IsBadAction d fault
@@ -248,7 +247,7 @@ abbrev pub AreGoodActions : Items → Type 0
 AreGoodActions no_items = Unit {0}
 AreGoodActions (item d ds) = IsGoodAction d × AreGoodActions ds
 
--- the actions of a message with this word: those of a well-formed group, and otherwise none
+-- the actions of a message with this word, if it is a well-formed group, and otherwise none
 abbrev pub actions_in : Result Items Fault → Items
 actions_in (Ok ds) = ds
 actions_in (Err fault) = no_items

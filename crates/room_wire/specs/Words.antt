@@ -1,4 +1,4 @@
--- The words of messages. (They are this project's.)
+-- The words of messages, which are this project's.
 use Rattle.std.specs.Prelude.{ℕ, Bool, true, false, List, codes}
 
 pub data Word : Type 0 where
@@ -43,7 +43,7 @@ word_text Get = codes "get"
 word_text Map = codes "map"
 word_text Hello = codes "hello"
 
--- the word of an action, which a group may have
+-- the words of actions, which a group may have
 abbrev pub is_action_word : Word → Bool
 is_action_word Group = false
 is_action_word Undo = false

@@ -1,4 +1,4 @@
-//! The answers that replies tell.
+//! The answers to messages.
 ghost use Rattle.std.specs.Prelude.{◌≡◌};
 
 use crate::bad::Fault;
@@ -12,10 +12,10 @@ use osm_elements::text::Text;
 use room_history::reply::Reply;
 use std::alloc::Global;
 
-/// The answer to a message, with what its reply shows.
+/// The answer to a message, with the values that its reply shows.
 #[derive(Clone, Copy, Debug)]
 pub enum Answer<'a> {
-    /// The action was done, as the entry of this number.
+    /// The action was done, as a new entry.
     Done {
         /// The number of the new entry.
         seq: u64,
@@ -27,7 +27,7 @@ pub enum Answer<'a> {
         /// The number of the entry that was undone.
         of: u64,
     },
-    /// The action of an entry was done again.
+    /// The action of an undone entry was done again.
     Redid {
         /// The number of the new entry.
         seq: u64,
@@ -45,105 +45,106 @@ pub enum Answer<'a> {
     Map {
         /// Its rows.
         rows: &'a Rows<Global>,
-        /// The number of the last entry, or 0.
+        /// The entry count of the journal.
         front: u64,
     },
-    /// What the author may undo and redo.
+    /// The entries that the author may undo or redo.
     Undos {
-        /// The numbers of its entries that stand, rising.
+        /// The numbers of the author's active entries, rising.
         undos: &'a [u64],
-        /// The numbers of the entries that it can redo, bottom first.
+        /// The numbers of the entries that the author can redo, the next to redo last.
         redos: &'a [u64],
     },
     /// The map has no element of this name.
     Absent(Name),
-    /// The map has an element of this name already.
+    /// The map has no element with this name.
     Present(Name),
-    /// The name is of another kind than the element or the action wants.
+    /// The map already has an element with this name.
     WrongKind(Name),
-    /// The action wants two elements, and this name is given for both.
+    /// The name is not of the kind that the element or the action needs.
     Same(Name),
-    /// This node would leave the range of latitudes or longitudes.
+    /// The action needs two elements, and has this name for both.
     OutOfRange(Name),
     /// This way has too few nodes.
     TooFew(Name),
     /// This way has too many nodes, this relation too many members, or this element too many tags.
     TooMany(Name),
-    /// The element is referred to.
+    /// Another element refers to the element.
     InUse {
         /// The name of the element.
         name: Name,
         /// The least name that refers to it.
         user: Name,
     },
-    /// Two elements that are to be one have different values at this key.
+    /// Two elements that are to become one have different values at this key.
     TagConflict(&'a Text<Global>),
-    /// A way is to be split where it has no two parts, or unglued where it has no node.
+    /// A split at this position would leave no two parts of the way, or the way has no node at the position of an
+    /// unglue.
     BadPosition,
-    /// Two ways are to be joined, and the first does not end where the second begins.
+    /// The first of two ways to be joined does not end where the second begins.
     NotEndToEnd,
-    /// The map after the action would be the map before it.
+    /// The action would leave the map unchanged.
     Nothing,
     /// An action of a group is refused.
     Refused {
         /// The position of the action in its group, from 0.
         action: u32,
-        /// Why the action is refused.
+        /// The reason of the refusal.
         why: &'a Refusal<Global>,
     },
-    /// The author's accepted entry of this number spent the id.
+    /// An accepted call of the author already spent the id.
     Repeat {
-        /// The number of that entry.
+        /// The number of that call's entry.
         seq: u64,
     },
-    /// A later entry stands that touched what the entry of the number did.
+    /// A later active entry touched what the entry did.
     Conflict {
-        /// The number of the first later entry that stands and whose footprint meets that of the entry.
+        /// The number of the first later active entry whose footprint meets that of the entry.
         blocker: u64,
-        /// The least name that both footprints have.
+        /// The least name of a cell that both footprints have.
         shared: Name,
     },
-    /// A field of the message is missing or not of its form.
+    /// A field of the message is missing or malformed.
     BadField(Field),
-    /// A field of an action of a group is missing or not of its form.
+    /// A field of an action of a group is missing or malformed.
     BadActionField {
         /// The position of the action in its group, from 0.
         action: u32,
         /// The field.
         field: Field,
     },
-    /// A growth was refused.
+    /// An allocation failed.
     Memory,
-    /// The journal has as many entries as it may have.
+    /// The journal has reached its limit.
     Full,
-    /// No entry of the author's stands.
+    /// The author has no active entry.
     NothingToUndo,
     /// The author has nothing to redo.
     NothingToRedo,
-    /// No entry has the number.
+    /// No entry has this number.
     NoSuch,
-    /// The entry of the number is another author's.
+    /// The entry is another author's.
     NotYours,
-    /// The entry of the number is an undo, or has been undone.
+    /// The entry is an undo, or has been undone.
     NotStanding,
-    /// The text is no JSON.
+    /// The text is not JSON.
     NotJson,
-    /// The message is no object.
+    /// The message is not an object.
     NotObject,
-    /// The message has no id of the right form.
+    /// The message has no valid id.
     BadId,
-    /// The message asks for nothing known.
+    /// The message has no known `do`.
     UnknownDo,
-    /// An action of a group asks for nothing known.
+    /// An action of a group has no known `do`.
     UnknownAction {
         /// The position of the action in its group, from 0.
         action: u32,
     },
     /// The line is not an author, a space and a message.
     BadLine,
-    /// The session has not begun: its first message is to be a hello.
+    /// The session has not begun: its first message must be a hello.
     NoHello,
-    /// There is no room of the name that the hello tells.
+    /// There is no room with the name in the hello.
     NoRoom,
     /// The session has begun already.
     HelloTwice,

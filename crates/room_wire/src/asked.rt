@@ -1,4 +1,4 @@
-//! What a message asks of its room, and what it is answered.
+//! What a message asks of its room, and the answer to it.
 ghost use Rattle.std.specs.Prelude.{◌≡◌};
 ghost use Rattle.std.specs.Option.{option_copied};
 ghost use Rattle.std.specs.declared.alloc.Global.{Global};
@@ -16,7 +16,7 @@ use room_stacks::author::Author;
 use std::alloc::Global;
 
 impl Body {
-    /// What the message of an author's under this id asks of its room, or none where it is a hello.
+    /// Returns the call that an author's message under this id makes to its room, or `None` for a hello.
     pub fn into_call(self, author: Author, id: u64) -> Option<RoomCall<Global>>
         ensures { result ≡ asked author id self }
     {
@@ -34,7 +34,7 @@ impl Body {
     }
 }
 
-/// The name whose element a room is asked for, or none where it is asked for something else.
+/// Returns the name whose element is asked for, or `None` if the call asks for something else.
 pub fn name_asked(call: &RoomCall<Global>) -> Option<Name>
     ensures { result ≡ name_asked call.now }
 {
@@ -45,7 +45,7 @@ pub fn name_asked(call: &RoomCall<Global>) -> Option<Name>
 }
 
 impl<'a> Answer<'a> {
-    /// The answer to who asked for the element of a name, where it was found or not.
+    /// Returns the answer to a request for the element of a name, whether it was found or not.
     pub fn found(name: Name, element: Option<&'a Element<Global>>) -> Answer<'a>
         ensures { AreToldAlike result (found_answer name (option_copied element.entry)) }
     {
@@ -55,9 +55,10 @@ impl<'a> Answer<'a> {
         }
     }
 
-    /// The answer to what a room was asked, by what it replied. Beside the reply it takes the name whose element was
-    /// asked for, if one was (see [`name_asked`]). Where the room had no memory, or replied in another form than it was
-    /// asked, the answer is `Memory`.
+    /// Returns the answer to a call, from the room's reply to it.
+    ///
+    /// `name` is the name whose element was asked for, if any (see [`name_asked`]). The answer is `Memory` if the room
+    /// ran out of memory, or if the reply is not of the call's form.
     pub fn to(name: Option<Name>, reply: &'a RoomReply<Global>) -> Answer<'a>
         ensures { (call : RoomCall Global) → name_asked call ≡ name → AreToldAlike result (answer_to call reply.now) }
     {

@@ -1,4 +1,4 @@
-//! The writing of elements (OpenStreetMap wiki, "Elements").
+//! Writing elements (OpenStreetMap wiki, "Elements").
 ghost use Rattle.std.specs.Prelude.{◌≡◌, true, OnOk};
 ghost use Rattle.serde_json.specs.Data.{boolean, string};
 ghost use Rattle.std.specs.Str.{IsAscii};
@@ -22,7 +22,7 @@ use osm_elements::tags::Tag;
 use std::alloc::Global;
 use std::str;
 
-// What stands behind a key of a row of a map or of news.
+// The value of a member of a row of a map or of news.
 #[derive(Clone, Copy)]
 pub enum Part<'a> {
     Name(Name),
@@ -84,14 +84,14 @@ pub fn write_element(out: &mut Writer, name: Name, element: &Element<Global>) ->
     }
 }
 
-// Writes that the row of a name is gone.
+// Writes a row of news that is gone.
 pub fn write_gone(out: &mut Writer, name: Name) -> Result<(), Memory>
     ensures { OnOk result (Tells out.old out.new (gone_tree name)) }
 {
     write_object(out, &[("el", Part::Name(name)), ("gone", Part::Gone)])
 }
 
-// Writes that something is so.
+// Writes `true`.
 fn write_true(out: &mut Writer) -> Result<(), Memory>
     ensures { OnOk result (Tells out.old out.new (boolean true)) }
 {
@@ -108,7 +108,7 @@ pub fn write_name(out: &mut Writer, name: Name) -> Result<(), Memory>
     write_ascii(out, &buffer[..length])
 }
 
-// Writes a latitude in degrees, with its seven decimals.
+// Writes a latitude in degrees, with seven decimals.
 fn write_lat(out: &mut Writer, lat: Lat) -> Result<(), Memory>
     ensures { OnOk result (Tells out.old out.new (part_tree (Part.Lat lat))) }
 {
@@ -117,7 +117,7 @@ fn write_lat(out: &mut Writer, lat: Lat) -> Result<(), Memory>
     write_ascii(out, &buffer[..length])
 }
 
-// Writes a longitude in degrees, with its seven decimals.
+// Writes a longitude in degrees, with seven decimals.
 fn write_lon(out: &mut Writer, lon: Lon) -> Result<(), Memory>
     ensures { OnOk result (Tells out.old out.new (part_tree (Part.Lon lon))) }
 {
@@ -143,7 +143,7 @@ pub fn write_text(out: &mut Writer, text: &str) -> Result<(), Memory>
     Ok(())
 }
 
-// A node of a way is its id.
+// A node of a way is written as its id.
 impl Told for Name {
     ghost tree = { id_tree };
 
@@ -153,7 +153,7 @@ impl Told for Name {
     }
 }
 
-// The id of a name, which is an i64.
+// Returns the id of a name, which is an i64.
 fn id_of(name: &Name) -> i64
     ensures value { result ≡ name.now.id }
     ensures fits { HasId name.now }
@@ -161,7 +161,7 @@ fn id_of(name: &Name) -> i64
     name.id()
 }
 
-// A member of a relation is an array of its name and its role.
+// A member of a relation is written as an array of its name and its role.
 impl Told for Member<Global> {
     ghost tree = { λ m. member_tree (member_pair m) };
 
@@ -181,7 +181,7 @@ fn write_tags(out: &mut Writer, tags: &SharedTags<Global>) -> Result<(), Memory>
     write_object(out, tags.rows())
 }
 
-// The value of a tag stands behind its key.
+// A tag is written as a member of an object.
 impl ToldMember for Tag<Global> {
     ghost pair = { λ t. (t.key, string t.value) };
 

@@ -2,7 +2,7 @@
 ghost use Rattle.std.specs.Prelude.{◌≡◌};
 ghost use Rattle.room_wire.specs.Fields.{field_text};
 
-/// A field of a message, of the welcome or of news.
+/// A field of a message, of a welcome or of news.
 #[derive(Clone, Copy, Debug, PartialEq, Eq)]
 pub enum Field {
     /// The name of an element.
@@ -17,15 +17,15 @@ pub enum Field {
     Nodes,
     /// A relation's members.
     Members,
-    /// An element's tags, or what its keys are given.
+    /// An element's tags, or the values that a retag gives to keys.
     Tags,
-    /// How far to the north.
+    /// The distance of a move to the north.
     Dlat,
-    /// How far to the east.
+    /// The distance of a move to the east.
     Dlon,
     /// The position at which a way is split or unglued.
     At,
-    /// The name of the way that a split makes, or of the node that an unglue does.
+    /// The name of the way that a split makes, or of the node that an unglue makes.
     Into,
     /// The name of the element that a join or a merge takes in.
     With,
@@ -37,20 +37,20 @@ pub enum Field {
     Room,
     /// The name of an author.
     Name,
-    /// What a message was answered.
+    /// The answer in a reply.
     Ok,
     /// The elements of a map.
     Map,
-    /// What an entry changed.
+    /// The content of news.
     News,
-    /// Whose entry it is.
+    /// The author of the entry.
     By,
     /// The names that an entry changed, with their elements.
     Rows,
 }
 
 impl Field {
-    /// The key under which a message has the field, which a reply about a bad field shows too.
+    /// Returns the key under which a message has the field. A reply about a bad field shows the key, too.
     pub fn as_str(self) -> &'static str
         ensures { result.now ≡ field_text self }
     {

@@ -27,21 +27,21 @@ use room_stacks::author::Author;
 use serde_json::Value;
 use std::alloc::Global;
 
-// The text of a field, where the field is there and is a string.
+// Returns the text of a field, if the field is there and is a string.
 fn text_at(message: &Value, field: Field) -> Option<&str>
     ensures { option_map (λ t. t.now) result ≡ text_at field (view message.now) }
 {
     message.get(field.as_str()).and_then(Value::as_str)
 }
 
-// The name of the element that a message is about.
+// Reads the name of the element that a message is about.
 pub fn el_of(message: &Value) -> Result<Name, Fault>
     ensures { result ≡ el_at (view message.now) }
 {
     name_at(message, Field::El)
 }
 
-// The name of an element.
+// Reads the name of an element.
 pub fn name_at(message: &Value, field: Field) -> Result<Name, Fault>
     ensures { result ≡ name_at field (view message.now) }
 {
@@ -50,7 +50,7 @@ pub fn name_at(message: &Value, field: Field) -> Result<Name, Fault>
         .ok_or(Fault::BadField(field))
 }
 
-// The name of an author, or of a room, which has the same form.
+// Reads the name of an author or of a room, which have the same form.
 pub fn author_at(message: &Value, field: Field) -> Result<Author, Fault>
     ensures { result ≡ author_at field (view message.now) }
 {
@@ -59,7 +59,7 @@ pub fn author_at(message: &Value, field: Field) -> Result<Author, Fault>
         .ok_or(Fault::BadField(field))
 }
 
-// The position at which a way is split or unglued.
+// Reads the position at which a way is split or unglued.
 pub fn place_at(message: &Value) -> Result<u32, Fault>
     ensures { result ≡ place_at (view message.now) }
 {
@@ -69,7 +69,7 @@ pub fn place_at(message: &Value) -> Result<u32, Fault>
         .ok_or(Fault::BadField(Field::At))
 }
 
-// A whole number in `0..=4294967295`.
+// Returns a whole number in `0..=4294967295`.
 fn place_of(value: &Value) -> Option<u32>
     ensures { result ≡ place_of (view value.now) }
 {
@@ -81,7 +81,7 @@ fn place_of(value: &Value) -> Option<u32>
     }
 }
 
-// The names of elements.
+// Reads the names of elements.
 pub fn els_of(alloc: Global, message: &Value) -> Result<Names<Global>, Fault>
     ensures { Gives result (els_at (view message.now)) }
 {
@@ -92,7 +92,7 @@ pub fn els_of(alloc: Global, message: &Value) -> Result<Names<Global>, Fault>
     names_in(alloc, items)
 }
 
-// The names that these items are.
+// Reads each item as a name.
 fn names_in(alloc: Global, items: &[Value]) -> Result<Names<Global>, Fault>
     ensures { Gives result (or_fault (BadField field.Els) (names_in (items_view items.now))) }
 {
@@ -106,14 +106,14 @@ fn names_in(alloc: Global, items: &[Value]) -> Result<Names<Global>, Fault>
     Ok(names)
 }
 
-// The name that a string is.
+// Reads a string as a name.
 fn name_item(item: &Value) -> Option<Name>
     ensures { result ≡ name_item (view item.now) }
 {
     item.as_str().and_then(Name::read)
 }
 
-// How far to move, to the north or to the east.
+// Reads the distance of a move to the north or to the east.
 pub fn distance_of(message: &Value, field: Field) -> Result<i64, Fault>
     ensures { result ≡ distance_at field (view message.now) }
 {
@@ -123,7 +123,7 @@ pub fn distance_of(message: &Value, field: Field) -> Result<i64, Fault>
         .ok_or(Fault::BadField(field))
 }
 
-// A node's latitude.
+// Reads a node's latitude.
 pub fn lat_of(message: &Value) -> Result<Lat, Fault>
     ensures { result ≡ lat_at (view message.now) }
 {
@@ -132,7 +132,7 @@ pub fn lat_of(message: &Value) -> Result<Lat, Fault>
         .ok_or(Fault::BadField(Field::Lat))
 }
 
-// A node's longitude.
+// Reads a node's longitude.
 pub fn lon_of(message: &Value) -> Result<Lon, Fault>
     ensures { result ≡ lon_at (view message.now) }
 {
@@ -141,7 +141,7 @@ pub fn lon_of(message: &Value) -> Result<Lon, Fault>
         .ok_or(Fault::BadField(Field::Lon))
 }
 
-// The nodes of a way.
+// Reads the nodes of a way.
 pub fn nodes_of(alloc: Global, message: &Value) -> Result<Shared<Nodes<Global>, Global>, Fault>
     ensures { Gives result (nodes_at (view message.now)) }
 {
@@ -152,7 +152,7 @@ pub fn nodes_of(alloc: Global, message: &Value) -> Result<Shared<Nodes<Global>, 
     Ok(Shared::new(alloc, nodes_in(alloc, items)?)?)
 }
 
-// The nodes with these ids.
+// Reads each item as the id of a node.
 fn nodes_in(alloc: Global, items: &[Value]) -> Result<Nodes<Global>, Fault>
     ensures { Gives result (or_fault (BadField field.Nodes) (nodes_in (items_view items.now))) }
 {
@@ -166,7 +166,7 @@ fn nodes_in(alloc: Global, items: &[Value]) -> Result<Nodes<Global>, Fault>
     Ok(nodes)
 }
 
-// The node whose id this is.
+// Reads a number as the id of a node.
 fn node_of(item: &Value) -> Option<Name>
     ensures value { result ≡ node_of (view item.now) }
     ensures kind { IfSome result (λ n. n.kind ≡ kind.Node) }
@@ -174,7 +174,7 @@ fn node_of(item: &Value) -> Option<Name>
     item.as_i64().and_then(node_with)
 }
 
-// The node with this id, unless it is 0.
+// Returns the node with this id, unless the id is 0.
 fn node_with(id: i64) -> Option<Name>
     ensures value { result ≡ name_with kind.Node id }
     ensures kind { IfSome result (λ n. n.kind ≡ kind.Node) }
@@ -182,7 +182,7 @@ fn node_with(id: i64) -> Option<Name>
     Name::new(Kind::Node, id)
 }
 
-// The members of a relation.
+// Reads the members of a relation.
 pub fn members_of(alloc: Global, message: &Value) -> Result<Shared<Members<Global>, Global>, Fault>
     ensures { Gives result (members_at (view message.now)) }
 {
@@ -193,7 +193,7 @@ pub fn members_of(alloc: Global, message: &Value) -> Result<Shared<Members<Globa
     Ok(Shared::new(alloc, members_in(alloc, items)?)?)
 }
 
-// The members with these names and roles.
+// Reads each item as a member, which has a name and a role.
 fn members_in(alloc: Global, items: &[Value]) -> Result<Members<Global>, Fault>
     ensures { Gives result (or_fault (BadField field.Members) (members_in (items_view items.now))) }
 {
@@ -205,7 +205,7 @@ fn members_in(alloc: Global, items: &[Value]) -> Result<Members<Global>, Fault>
     Ok(members)
 }
 
-// The name and the role of a member.
+// Reads the name and the role of a member.
 fn member_of(alloc: Global, item: &Value) -> Result<(Name, Text<Global>), Fault>
     ensures { Gives result (or_fault (BadField field.Members) (member_of (view item.now))) }
 {
@@ -213,7 +213,7 @@ fn member_of(alloc: Global, item: &Value) -> Result<(Name, Text<Global>), Fault>
     member_in(alloc, items)
 }
 
-// The name and the role that two items are.
+// Reads two items as a name and a role.
 fn member_in(alloc: Global, items: &[Value]) -> Result<(Name, Text<Global>), Fault>
     ensures { Gives result (or_fault (BadField field.Members) (member_in (items_view items.now))) }
 {
@@ -223,7 +223,7 @@ fn member_in(alloc: Global, items: &[Value]) -> Result<(Name, Text<Global>), Fau
     member_with(alloc, &items[0], &items[1])
 }
 
-// The name and the role that two strings are.
+// Reads two strings as a name and a role.
 fn member_with(alloc: Global, name: &Value, role: &Value) -> Result<(Name, Text<Global>), Fault>
     ensures { Gives result (or_fault (BadField field.Members) (member_with (view name.now) (view role.now))) }
 {
@@ -233,7 +233,7 @@ fn member_with(alloc: Global, name: &Value, role: &Value) -> Result<(Name, Text<
     Ok((name, role))
 }
 
-// The number of an entry, which may be missing.
+// Reads the number of an entry, which may be missing.
 pub fn seq_of(message: &Value) -> Result<Option<u64>, Fault>
     ensures { result ≡ seq_at (view message.now) }
 {
@@ -246,14 +246,14 @@ pub fn seq_of(message: &Value) -> Result<Option<u64>, Fault>
     }
 }
 
-// A key, a value or a role.
+// Copies a role.
 pub fn text_of(alloc: Global, field: Field, text: &str) -> Result<Text<Global>, Fault>
     ensures { Gives result (or_fault (BadField field) (text_of text.now)) }
 {
     Text::new(alloc, text).map_err(|fault| fault_in(field, fault))
 }
 
-// What a fault of a text or a tag of a field is to a message.
+// Returns the message's fault for a fault of a text or a tag in a field.
 pub fn fault_in(field: Field, fault: TextFault) -> Fault
     ensures { result ≡ fault_in field fault }
 {
@@ -265,7 +265,7 @@ pub fn fault_in(field: Field, fault: TextFault) -> Fault
     }
 }
 
-// A field that is an object.
+// Returns a field that must be an object.
 pub fn object_at(message: &mut Value, field: Field) -> Result<&mut Value, Fault>
     ensures { result_map_both (λ v. view v.now) (λ f. f) result ≡ object_at field (view message.old) }
 {

@@ -1,4 +1,4 @@
-//! The actions of a group, read from a message.
+//! Reading the actions of a group from a message.
 ghost use Rattle.std.specs.Prelude.{◌≡◌, ◌&&◌, true, length, IfOk};
 ghost use Rattle.std.specs.Result.{result_map_both};
 ghost use Rattle.serde_json.specs.Events.{items_len};
@@ -16,7 +16,7 @@ use edit_groups::actions::{Actions, MOST_ACTIONS};
 use serde_json::Value;
 use std::alloc::{AllocError, Global};
 
-// The group that a message asks for. Its actions are taken out of the message.
+// Reads the group that a message asks for. Its actions are taken out of the message.
 pub fn group_of(alloc: Global, message: &mut Value) -> Result<Actions<Global>, Fault>
     ensures { Gives result (actions_at (view message.old)) }
 {
@@ -25,7 +25,7 @@ pub fn group_of(alloc: Global, message: &mut Value) -> Result<Actions<Global>, F
     Actions::from_vec(actions).ok_or(Fault::BadField(Field::Actions))
 }
 
-// The objects under `actions`, one for each action, which are taken out of the message.
+// Takes the objects under `actions`, one for each action, out of the message.
 fn objects_of(message: &mut Value) -> Result<Vec<Value>, Fault>
     ensures objects { result_map_both (λ v. items_view v.items) (λ f. f) result ≡ group_at (view message.old) }
     ensures length { IfOk result (λ v. is_group_length (length v.items) ≡ true) }
@@ -36,7 +36,7 @@ fn objects_of(message: &mut Value) -> Result<Vec<Value>, Fault>
     }
 }
 
-// Whether these are as many objects as a group may have.
+// Returns whether the items are objects, as many as a group may have.
 fn is_group(items: &[Value]) -> bool
     ensures group { result ≡ (is_group_length (items_len (items_view items.now)) && are_objects (items_view items.now)) }
     ensures length { result ≡ true → is_group_length (length items.now) ≡ true }
@@ -44,14 +44,14 @@ fn is_group(items: &[Value]) -> bool
     is_group_length(items.len()) && all_objects(items)
 }
 
-// Whether a group may have so many actions.
+// Returns whether a group may have this number of actions.
 fn is_group_length(count: usize) -> bool
     ensures { result ≡ is_group_length count }
 {
     1 <= count && count <= MOST_ACTIONS
 }
 
-// Whether all of these are objects.
+// Returns whether all items are objects.
 fn all_objects(items: &[Value]) -> bool
     ensures { result ≡ are_objects (items_view items.now) }
 {
@@ -63,7 +63,7 @@ fn all_objects(items: &[Value]) -> bool
     true
 }
 
-// The actions that objects are, in their order.
+// Reads each object as an action, in order.
 fn actions_of(alloc: Global, objects: Vec<Value>) -> Result<Vec<Action<Global>>, Fault>
     requires { is_group_length (length objects.items) ≡ true }
     ensures read { Gives (result_map_both (λ v. v.items) (λ f. f) result) (actions_from 0 (items_view objects.items)) }
@@ -82,7 +82,7 @@ fn actions_of(alloc: Global, objects: Vec<Value>) -> Result<Vec<Action<Global>>,
     Ok(actions)
 }
 
-// The action that the object at a position of a group is.
+// Reads the object at a position of a group as an action.
 fn action_in(alloc: Global, position: u32, mut object: Value) -> Result<Action<Global>, Fault>
     ensures { Gives result (with_position position (action_at (view object))) }
 {
@@ -92,7 +92,7 @@ fn action_in(alloc: Global, position: u32, mut object: Value) -> Result<Action<G
     }
 }
 
-// A fault of the action at a position.
+// Adds the position in a group to the fault of an action.
 fn at_action(position: u32, fault: Fault) -> Fault
     ensures { result ≡ at_action position fault }
 {

@@ -7,11 +7,11 @@ use std::alloc::Global;
 /// What a message asks for.
 #[derive(Debug, Drop)]
 pub enum Body {
-    /// To begin a session.
+    /// A hello: the client wants to begin a session.
     Hello {
-        /// The name of the room, which has the form of an author's.
+        /// The name of the room, which has the form of an author's name.
         room: Author,
-        /// Whose calls the session's are to be.
+        /// The author of the session's calls.
         name: Author,
     },
     /// A change of the room.
@@ -20,14 +20,14 @@ pub enum Body {
     Get(Name),
     /// The whole map.
     Map,
-    /// What the sender may undo and redo.
+    /// The entries that the author may undo or redo.
     Undos,
 }
 
 /// A message to a room.
 #[derive(Debug, Drop)]
 pub struct Incoming {
-    /// The id that the sender gave the message, in `1..=9007199254740991`.
+    /// The id that the client gave to the message, in `1..=9007199254740991`.
     pub id: u64,
     /// What the message asks for.
     pub body: Body,

@@ -1,4 +1,4 @@
-//! Texts of JSON.
+//! JSON texts.
 ghost use Rattle.std.specs.Prelude.{◌≡◌, [], IfOk};
 ghost use Rattle.json.specs.Print.{print};
 
@@ -7,16 +7,16 @@ use osm_elements::Memory;
 use std::alloc::Global;
 use std::marker::Model;
 
-// The bytes that most replies fit.
+// The length in bytes that most replies do not exceed.
 const SHORT_REPLY: usize = 128;
 
-/// A JSON text without needless space (RFC 8259).
+/// A JSON text without insignificant whitespace (RFC 8259).
 #[derive(Debug, Drop)]
 pub struct Json {
     text: String,
 }
 
-// A text is seen as its bytes.
+// Contracts model a text as its bytes.
 impl Model for Json {
     ghost use Rattle.std.specs.Prelude.{List, ℕ};
     ghost use Rattle.std.specs.String.{string_bytes};
@@ -27,14 +27,14 @@ impl Model for Json {
 }
 
 impl Json {
-    // What writes a text, of which nothing is written. It has room for a short reply.
+    // Returns an empty writer with space for a short reply.
     pub(crate) fn begin(alloc: Global) -> Result<Writer, Memory>
         ensures { IfOk result (λ out. (out.before ≡ []) × (out.tokens ≡ [])) }
     {
         Ok(Writer::new(Vec::with_capacity(alloc, SHORT_REPLY)?))
     }
 
-    // The text that was written. It takes no memory.
+    // Returns the text that was written.
     pub(crate) fn from_writer(out: Writer) -> Json
         requires { out.before ≡ [] }
         ensures { result ≡ print out.tokens }
@@ -45,14 +45,14 @@ impl Json {
         }
     }
 
-    /// The text.
+    /// Returns the text.
     pub fn as_str(&self) -> &str
         ensures { result.now ≡ self.now }
     {
         self.text.as_str()
     }
 
-    /// The bytes of the text.
+    /// Returns the bytes of the text.
     pub fn as_bytes(&self) -> &[u8]
         ensures { result.now ≡ self.now }
     {

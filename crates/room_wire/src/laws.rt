@@ -1,4 +1,4 @@
-//! Laws of the definitions, each the contract of a function that does nothing.
+//! Laws about the definitions, each the contract of a function that does nothing.
 ghost use Rattle.std.specs.Prelude.{◌≡◌, ◌≢◌, ◌≤◌, ◌↔◌, List, ℕ, None, Some, Ok, Err, IfErr, IfOk, IsOk, is_some, true};
 ghost use Rattle.std.specs.declared.alloc.Global.{Global};
 ghost use Rattle.osm_elements.specs.Elements.{kind_of};
@@ -25,7 +25,7 @@ ghost use Rattle.serde_json.specs.Read.{read};
 ghost use Rattle.room_wire.specs.Examples.{reads_messages, tells_no_id, tells_an_id, writes_replies, writes_elements};
 ghost use Rattle.room_wire.specs.NewsExamples.{writes_news, reads_news, tells_bad_news, reads_welcomes, tells_bad_welcomes};
 
-/// What the definitions say of worked examples is what was worked out by hand.
+/// On worked examples of messages, replies and elements, the definitions have the results that were worked out by hand.
 pub fn examples_are_as_worked()
     ensures reads_messages { reads_messages }
     ensures tells_no_id { tells_no_id }
@@ -34,7 +34,7 @@ pub fn examples_are_as_worked()
     ensures writes_elements { writes_elements }
 {}
 
-/// What the definitions say of worked examples of news and of the welcome is what was worked out by hand.
+/// On worked examples of news and welcomes, the definitions have the results that were worked out by hand.
 pub fn news_are_as_worked()
     ensures writes_news { writes_news }
     ensures reads_news { reads_news }
@@ -43,8 +43,8 @@ pub fn news_are_as_worked()
     ensures tells_bad_welcomes { tells_bad_welcomes }
 {}
 
-/// The members of a written element are read, as those of a `create`, as that very element under its
-/// name: what a room shows can be sent again as it is.
+/// The members of a written element are read as a `create` of the same element under the same name. So a client can
+/// send back what a room shows.
 pub fn an_element_is_read_back()
     ensures { (name : Name) (element : Element Global) → HasId name → kind_of element ≡ name.kind
         → IsWhole element → create_at (element_tree name element) ≡ Ok (Create name element) }
@@ -53,8 +53,8 @@ pub fn an_element_is_read_back()
     osm_coords::laws::longitude_is_read_back();
 }
 
-/// Every text whose tree is that of news, as the one that [`news_text`](crate::news_text) writes is, is read as those
-/// very news: a client makes of a text what the room was told.
+/// Every text whose tree is that of news, for example the text that [`news_text`](crate::news_text) writes, is read as
+/// the same news.
 pub fn news_are_read_back()
     ensures { (text : List ℕ) (n : News Global) → read text ≡ Some (news_tree n) → AreNews n → spells_news text ≡ Ok n }
 {
@@ -62,8 +62,8 @@ pub fn news_are_read_back()
     osm_coords::laws::longitude_is_read_back();
 }
 
-/// Every text whose tree is that of a welcome, as the one that [`welcome_text`](crate::welcome_text) writes is, is read
-/// as that very welcome, and so is the reply to a `map`.
+/// Every text whose tree is that of a welcome, for example the text that [`welcome_text`](crate::welcome_text) writes,
+/// is read as the same welcome. So is the reply to a `map`.
 pub fn a_welcome_is_read_back()
     ensures { (text : List ℕ) (w : Welcome) → read text ≡ Some (welcome_tree w) → IsWelcome w
         → spells_welcome text ≡ Ok w }
@@ -72,43 +72,42 @@ pub fn a_welcome_is_read_back()
     osm_coords::laws::longitude_is_read_back();
 }
 
-/// A whole number of a reply is read as that number, where it can be the id of a message or the number of an entry.
+/// A whole number of a reply is read as the same number, if it can be the id of a message or the number of an entry.
 pub fn a_number_is_read_back()
     ensures { (n : ℕ) → 1 ≤ n → n ≤ 9007199254740991 → ordinal (whole n) ≡ Some n }
 {}
 
-/// No text asks for the answer that a growth was refused.
+/// No text has the fault `Memory`.
 #[tactic(auto, using(crate::proofs::NeverMemory::spells_is_never_memory))]
 pub fn no_text_spells_memory()
     ensures { (text : List ℕ) → IfErr (spells text) (λ bad. bad.fault ≢ Memory) }
 {}
 
-/// Every text that is a well-formed message spells that message, however its members are ordered and whatever else it
-/// holds.
+/// Every text that is a well-formed message spells that message, in any order of its members and with any other
+/// members.
 pub fn a_message_spells_itself()
     ensures { (text : List ℕ) (d : Data) (message : Incoming) → read text ≡ Some d → IsMessage d message
         → spells text ≡ Ok message }
 {}
 
-/// What a text spells is a well-formed message of its tree: the tree has the word and the fields of that message, and
-/// of these holds what their types keep. So a text that has a tree spells a message exactly where it has the tree of
-/// one.
+/// If a text spells a message, its tree is well formed: it has the word and the fields of that message, and their
+/// values are as their types require. So a text spells a message exactly if its tree is that of a message.
 pub fn what_is_spelled_is_a_message()
     ensures { (text : List ℕ) (d : Data) (message : Incoming) → read text ≡ Some d → spells text ≡ Ok message
         → IsMessage d message }
 {}
 
-/// What a text spells has its values as their types keep them: coordinates in their ranges, tags in order and within
-/// their limits, and of a way nodes.
+/// The values of a message that a text spells are as their types require: coordinates are in range, tags are in order
+/// and within their limits, and the list of a way has nodes.
 #[tactic(auto, using(crate::proofs::SpelledMade::spelled_is_made))]
 pub fn what_is_spelled_is_made()
     ensures { (text : List ℕ) → IfOk (spells text) (λ message. is_made_body message.body ≡ true) }
 {}
 
-/// Each fault of a text comes exactly where it should: by the tree of the text, by its id and its word, and then by
-/// the first field, in the order in which they are read, that is not well formed; of a group by its first action that
-/// has no word or such a field, with its position. Under the same premises the text spells a message exactly where every
-/// field and every action is well formed.
+/// A text has each fault exactly if it should. The faults depend on the text's tree, then its id and its word. Then
+/// comes the first field, in reading order, that is not well formed. Last comes the first action of a group that has no
+/// word or such a field, with its position. Under the same premises, the text spells a message exactly if every field
+/// and every action is well formed.
 pub fn each_fault_is_told()
     ensures not_json { (text : List ℕ) → read text ≡ None → spells text ≡ Err (record { id = 0; fault = NotJson }) }
     ensures not_object { (text : List ℕ) (d : Data) → read text ≡ Some d → as_object d ≡ None

@@ -1,9 +1,12 @@
 //! The messages to a room and its replies, as JSON texts (RFC 8259).
 //!
-//! [`read_request`] reads a message, [`reply_text`] writes the text of a reply, and [`map_text`] that of a reply with a
-//! whole map. [`welcome_text`] and [`news_text`] write what a client is told beside that, and [`read_welcome`] and
-//! [`read_news`] read it. What a text means, and which fault it has, is one definite answer for each text. The rows of
-//! both have names that rise, which [`are_rising`](rising::are_rising) tests of any rows.
+//! [`read_request`] reads a message as an [`Incoming`](incoming::Incoming), or returns its first fault
+//! ([`Bad`](bad::Bad)). [`reply_text`] writes the reply for an [`Answer`](answer::Answer), and [`map_text`] a reply
+//! with a whole map. [`welcome_text`] and [`news_text`] write welcomes and news, and [`read_welcome`] and [`read_news`]
+//! read them. The rows of both have rising names, which [`are_rising`](rising::are_rising) tests.
+//!
+//! The definitions give each text exactly one meaning or one fault. A reader may return `Memory` instead, if an
+//! allocation fails. A function that cannot return `Memory` allocates nothing.
 #![tactic(auto)]
 
 pub mod answer;

@@ -1,4 +1,4 @@
-//! Rows whose names rise, read from an array.
+//! Reading an array of rows whose names rise.
 ghost use Rattle.std.specs.Prelude.{◌≡◌, true, map, IfOk};
 ghost use Rattle.std.specs.Result.{result_map_both, result_ok};
 ghost use Rattle.std.specs.Option.{option_and_then, option_map};
@@ -19,7 +19,7 @@ use osm_elements::map::Row;
 use serde_json::Value;
 use std::alloc::{AllocError, Global};
 
-// What an item of an array is, under the name of an element.
+// A row that is read from an item of an array.
 pub trait Listed: Named + Drop {
     ghost use Rattle.std.specs.Prelude.{Result};
     ghost use Rattle.serde_json.specs.Data.{Data};
@@ -31,7 +31,7 @@ pub trait Listed: Named + Drop {
         ensures { Gives result (reads (view item)) };
 }
 
-// An element under its name.
+// A row of a map is an element with its name.
 impl Listed for Row<Global> {
     ghost reads = { row_at };
 
@@ -42,7 +42,7 @@ impl Listed for Row<Global> {
     }
 }
 
-// The rows of a field, whose names rise. They are taken out of the message, and keep its texts.
+// Reads a field of rows whose names rise. The rows are taken out of the message, and keep its texts.
 pub fn rows_of<T: Listed>(alloc: Global, field: Field, message: &mut Value) -> Result<Vec<T>, Fault>
     ensures read { Gives (result_map_both (λ v. v.items) (λ f. f) result)
         (rows_at T.reads T.named field (view message.old)) }
@@ -57,7 +57,7 @@ pub fn rows_of<T: Listed>(alloc: Global, field: Field, message: &mut Value) -> R
     }
 }
 
-// The items of a field that is an array, taken out of the message.
+// Takes the items of a field that is an array out of the message.
 pub fn items_at(field: Field, message: &mut Value) -> Option<Vec<Value>>
     ensures { option_map (λ v. items_view v.items) result
         ≡ option_and_then as_array (get (field_text field) (view message.old)) }
@@ -68,7 +68,7 @@ pub fn items_at(field: Field, message: &mut Value) -> Option<Vec<Value>>
     }
 }
 
-// The rows that some items are.
+// Reads each item as a row.
 fn rows_in<T: Listed>(alloc: Global, field: Field, items: Vec<Value>) -> Result<Vec<T>, Fault>
     ensures { Gives (result_map_both (λ v. v.items) (λ f. f) result)
         (or_fault (BadField field) (rows_in T.reads T.named (items_view items.items))) }
@@ -84,7 +84,7 @@ fn rows_in<T: Listed>(alloc: Global, field: Field, items: Vec<Value>) -> Result<
     Ok(rows)
 }
 
-// The row that an item is, whose faults are those of its list.
+// Reads an item as a row. A fault of the row is a fault of its list.
 fn row_in<T: Listed>(alloc: Global, field: Field, item: Value) -> Result<T, Fault>
     ensures { Gives result (or_fault (BadField field) (result_ok (T.reads (view item)))) }
 {
@@ -94,7 +94,7 @@ fn row_in<T: Listed>(alloc: Global, field: Field, item: Value) -> Result<T, Faul
     }
 }
 
-// What a fault inside a list is.
+// Returns the fault of a list for a fault inside the list.
 fn in_list(field: Field, fault: Fault) -> Fault
     ensures { result ≡ in_list field fault }
 {

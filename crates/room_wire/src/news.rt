@@ -1,4 +1,4 @@
-//! The texts of news.
+//! Reading news.
 ghost use Rattle.std.specs.Prelude.{◌≡◌, ◌<◌, length, IfErr};
 ghost use Rattle.serde_json.specs.Read.{read};
 ghost use Rattle.serde_json.specs.View.{view};
@@ -18,15 +18,24 @@ use room_history::news::{News, NewsRow, NewsRows};
 use serde_json::Value;
 use std::alloc::Global;
 
-/// The news that a JSON text is (RFC 8259), or its first fault, under the id 0.
+/// Reads a JSON text as news (RFC 8259), or returns its first fault, under the id 0.
 ///
-/// The text has to be JSON that nests at most 127 deep (`NotJson`), and an object (`NotObject`). The first of these
-/// that is missing or not of its form is told (`BadField`): `news`, an object; in it `by`, a string of 1 to 32
-/// characters of `a-z`, `0-9` and `_`; `rows`, an array whose names rise; and `seq`, a whole number in
-/// `1..=9007199254740991`. A row whose `gone` is `true` has a name in `el`; any other is an element with the fields of
-/// a `create`, of which `tags` may be missing. A fault inside a row is that of `rows`. Other members are ignored.
+/// The text is an object with the member `news`, an object with these members:
 ///
-/// `Memory` stands in the place of any other answer where a growth was refused.
+/// - `by`: a string of 1 to 32 characters of `a-z`, `0-9` and `_`
+/// - `rows`: an array whose names rise. A row whose `gone` is `true` has a name in `el`. Any other row is an element
+///   with the fields of a `create`, of which `tags` may be missing
+/// - `seq`: a whole number in `1..=9007199254740991`
+///
+/// Other members are ignored.
+///
+/// # Errors
+///
+/// - `NotJson`, if the text is not JSON that nests at most 127 deep.
+/// - `NotObject`, if it is not an object.
+/// - `BadField` with the first of `news`, `by`, `rows` and `seq` that is missing or malformed. A fault inside a row is
+///   a fault of `rows`.
+/// - `Memory` instead of any other result, if an allocation fails.
 pub fn read_news(alloc: Global, text: &str) -> Result<News<Global>, Bad>
     ensures exact { GivesUnder (λ _. 0) result (spells_news text.now) }
     ensures memory { IfErr result (λ bad. bad.fault ≡ Memory → 0 < length text.now) }
@@ -37,7 +46,7 @@ pub fn read_news(alloc: Global, text: &str) -> Result<News<Global>, Bad>
     }
 }
 
-// The news of a text.
+// Reads a text as news.
 fn news_in(alloc: Global, text: &str) -> Result<News<Global>, Fault>
     ensures exact { Gives result (news_told (read text.now)) }
     ensures memory { IfErr result (λ f. f ≡ Memory → 0 < length text.now) }
@@ -46,7 +55,7 @@ fn news_in(alloc: Global, text: &str) -> Result<News<Global>, Fault>
     news_of(alloc, &mut message)
 }
 
-// The news of a message.
+// Reads a message as news.
 fn news_of(alloc: Global, message: &mut Value) -> Result<News<Global>, Fault>
     ensures { Gives result (news_at (view message.old)) }
 {
@@ -57,8 +66,8 @@ fn news_of(alloc: Global, message: &mut Value) -> Result<News<Global>, Fault>
     told_of(alloc, told)
 }
 
-// The news that an object tells. The number is looked for before the rows, since these are taken out, and where both
-// are amiss the rows are told.
+// Reads an object as the content of news. The number is read before the rows, because the rows are taken out. If both
+// are bad, the fault is that of the rows.
 fn told_of(alloc: Global, told: &mut Value) -> Result<News<Global>, Fault>
     ensures { Gives result (told_at (view told.old)) }
 {
@@ -70,7 +79,7 @@ fn told_of(alloc: Global, told: &mut Value) -> Result<News<Global>, Fault>
     Ok(News { seq, author, rows })
 }
 
-// The number of an entry.
+// Reads the number of an entry.
 fn number_of(told: &Value) -> Result<u64, Fault>
     ensures { result ≡ number_at (view told.now) }
 {
@@ -79,7 +88,7 @@ fn number_of(told: &Value) -> Result<u64, Fault>
         .ok_or(Fault::BadField(Field::Seq))
 }
 
-// A changed name, with the element that it has since.
+// A row of news is a changed name with its current element, or gone.
 impl Listed for NewsRow<Global> {
     ghost reads = { news_row_at };
 
@@ -95,7 +104,7 @@ impl Listed for NewsRow<Global> {
     }
 }
 
-// Whether a row says that it is gone.
+// Returns whether a row is gone.
 fn is_gone(item: &Value) -> bool
     ensures { result ≡ is_gone (view item.now) }
 {

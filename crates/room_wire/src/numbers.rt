@@ -1,4 +1,4 @@
-//! The numbers that messages tell.
+//! The whole numbers in messages.
 ghost use Rattle.std.specs.Prelude.{◌≡◌};
 ghost use Rattle.serde_json.specs.View.{view};
 ghost use Rattle.room_wire.specs.Spelling.{ordinal};
@@ -6,10 +6,10 @@ ghost use Rattle.room_wire.specs.Welcomes.{count_of};
 
 use serde_json::Value;
 
-// The greatest whole number that means the same to every reader of JSON.
+// The greatest whole number that has the same value for every reader of JSON: 2^53 - 1.
 const GREATEST_NUMBER: u64 = 9_007_199_254_740_991;
 
-// A whole number in `1..=9007199254740991`.
+// Returns a whole number in `1..=9007199254740991`.
 pub fn ordinal(value: &Value) -> Option<u64>
     ensures { result ≡ ordinal (view value.now) }
 {
@@ -21,7 +21,7 @@ pub fn ordinal(value: &Value) -> Option<u64>
     }
 }
 
-// A whole number in `0..=9007199254740991`.
+// Returns a whole number in `0..=9007199254740991`.
 pub fn count_in(value: &Value) -> Option<u64>
     ensures { result ≡ count_of (view value.now) }
 {

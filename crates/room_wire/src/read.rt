@@ -1,4 +1,4 @@
-//! Messages, read from their texts.
+//! Reading messages from their texts.
 ghost use Rattle.std.specs.Prelude.{◌≡◌, ◌⊎◌, ◌<◌, length, Some, None, Err, IfOk, OnOk, IfErr, IfSome, IfNone};
 ghost use Rattle.serde_json.specs.Data.{Data};
 ghost use Rattle.serde_json.specs.Read.{read};
@@ -27,7 +27,7 @@ use room_history::call::Request;
 use serde_json::Value;
 use std::alloc::Global;
 
-// The action of a word, with the fields that it has.
+// Reads the action of a word, with the action's fields.
 macro_rules! read_by {
     (($alloc:expr, $word:expr, $message:expr) $($variant:ident $text:literal { $($field:ident: $how:ident from $source:ident $(by $name:ident)?),* } by $plan:ident about $part:ident $way:ident [$($subject:ident),*];)*) => {
         match $word {
@@ -40,7 +40,7 @@ macro_rules! read_by {
     };
 }
 
-// A word that is one of some, or that of an action.
+// Returns the word if it is one of these or the word of an action.
 macro_rules! word_among {
     (($word:expr, $($other:literal),*) $($variant:ident $text:literal { $($field:ident: $how:ident from $source:ident $(by $name:ident)?),* } by $plan:ident about $part:ident $way:ident [$($subject:ident),*];)*) => {
         match $word {
@@ -51,7 +51,7 @@ macro_rules! word_among {
     };
 }
 
-// A field of an action as a message has it.
+// Reads a field of an action.
 macro_rules! field {
     (el ($alloc:expr, $message:expr)) => { el_of($message) };
     (els ($alloc:expr, $message:expr)) => { els_of($alloc, $message) };
@@ -66,11 +66,10 @@ macro_rules! field {
     (with ($alloc:expr, $message:expr)) => { name_at($message, Field::With) };
 }
 
-/// The message that a JSON text is (RFC 8259), or its first fault.
+/// Reads a JSON text as a message (RFC 8259), or returns its first fault.
 ///
-/// The text has to be JSON that nests at most 127 deep (`NotJson`), and an object (`NotObject`), whose
-/// `id` is a whole number in `1..=9007199254740991` (`BadId`) and whose `do` is a word of this
-/// project's protocol (`UnknownDo`):
+/// The text is an object. Its `id` is a whole number in `1..=9007199254740991`, and its `do` a word of this project's
+/// protocol:
 ///
 /// | `do` | Fields, in the order in which they are read |
 /// |---|---|
@@ -87,25 +86,38 @@ macro_rules! field {
 /// | `redo`, `undos`, `map` | none |
 /// | `hello` | `room`, `name` |
 ///
-/// The first field that is missing or not of its form is told (`BadField`). `el`, `into` and `with` are each
-/// the name of an element, and `els` is an array of such names, which may be empty. `at` is a whole number in
-/// `0..=4294967295`. `lat` and `lon` are strings that [`osm_coords`]
-/// reads. `nodes` is an array of whole numbers, each an `i64` other than 0. `members` is an array of arrays of two
-/// strings each, the name of an element and a role of at most 255 characters, which may be empty. `tags` is an
-/// object of at most 1,000 keys, each of 1 to 255 characters, whose values are strings of at most 255 characters
-/// (OpenStreetMap wiki, "Elements"); those of `retag` may be `null` too, which removes the key. `dlat` and `dlon`
-/// are whole numbers, each an `i64`, in ten-millionths of a degree. `seq` has the form of `id`. `room` and
-/// `name` are strings of 1 to 32 characters of `a-z`, `0-9` and `_`. `actions` is an array of 1 to 10,000 objects. The
-/// first fault of an action of a group is told with its position, from 0 (`UnknownAction`, `BadActionField`).
+/// - `el`, `into` and `with`: the name of an element
+/// - `els`: an array of names of elements, which may be empty
+/// - `at`: a whole number in `0..=4294967295`
+/// - `lat` and `lon`: strings that [`osm_coords`] reads
+/// - `nodes`: an array of whole numbers, each an `i64` other than 0
+/// - `members`: an array of arrays of two strings, the name of an element and a role of at most 255 characters, which
+///   may be empty
+/// - `tags`: an object of at most 1,000 keys, each of 1 to 255 characters, whose values are strings of at most 255
+///   characters (OpenStreetMap wiki, "Elements"). In a `retag`, a value may also be `null`, which removes the key
+/// - `dlat` and `dlon`: whole numbers, each an `i64`, in ten-millionths of a degree
+/// - `seq`: a number of the form of `id`
+/// - `room` and `name`: strings of 1 to 32 characters of `a-z`, `0-9` and `_`
+/// - `actions`: an array of 1 to 10,000 objects
 ///
-/// A whole number is one that is written without a point and an exponent and fits 64 bits, and is not
-/// `-0`. Of members with the same key the last counts, `null` is a value, and members that no message
-/// has are ignored. `UnknownDo`, `BadField` and the faults of actions carry the id that was read, and the faults before
-/// them the id 0.
+/// A whole number is written without a point and an exponent, fits 64 bits, and is not `-0`. If several members have
+/// the same key, the last one counts. `null` is a value. Members that no message has are ignored.
 ///
-/// `Memory` stands in the place of any other answer where a growth was refused, under the id if that was read
-/// before, or else under 0. `scratch` is working memory, which grows to the length of the longest text. The time is
-/// linear in the length of the text, but for the tags, whose number is limited.
+/// The time is linear in the length of the text, except for the tags, whose number is limited. `scratch` is reusable
+/// memory, which grows to the length of the longest text.
+///
+/// # Errors
+///
+/// `NotJson`, `NotObject` and `BadId` come under the id 0, and the later faults under the id of the message.
+///
+/// - `NotJson`, if the text is not JSON that nests at most 127 deep.
+/// - `NotObject`, if it is not an object.
+/// - `BadId`, if `id` is missing or malformed.
+/// - `UnknownDo`, if `do` is missing or not a word of the protocol.
+/// - `BadField` with the first field that is missing or malformed.
+/// - `UnknownAction` or `BadActionField`, for the first fault of an action of a group, with its position from 0.
+/// - `Memory` instead of any other result, if an allocation fails. The id is that of the message if it was read before,
+///   and otherwise 0.
 pub fn read_request(alloc: Global, text: &str, scratch: &mut Scratch) -> Result<Incoming, Bad>
     ensures exact { GivesMessage result (spells text.now) }
     ensures memory { IfErr result (λ bad. bad.fault ≡ Memory → 0 < length text.now) }
@@ -115,7 +127,7 @@ pub fn read_request(alloc: Global, text: &str, scratch: &mut Scratch) -> Result<
     incoming_of(alloc, id, &mut message)
 }
 
-// The tree of a text.
+// Reads a text as a tree.
 #[tactic(auto, using(crate::proofs::Empty::read_is_filled))]
 pub fn parse(alloc: Global, text: &str, scratch: &mut Scratch) -> Result<Value, Fault>
     ensures ok { IfOk result (λ v. read text.now ≡ Some (view v)) }
@@ -126,7 +138,7 @@ pub fn parse(alloc: Global, text: &str, scratch: &mut Scratch) -> Result<Value, 
     Ok(read_value(alloc, text, scratch)?)
 }
 
-// The id of a message.
+// Reads the id of a message.
 pub fn id_of(message: &Value) -> Result<u64, Fault>
     ensures { result ≡ id_at (view message.now) }
 {
@@ -136,7 +148,7 @@ pub fn id_of(message: &Value) -> Result<u64, Fault>
     message.get("id").and_then(ordinal).ok_or(Fault::BadId)
 }
 
-// What a message asks for, under its id.
+// Reads what a message asks for, under its id.
 fn incoming_of(alloc: Global, id: u64, message: &mut Value) -> Result<Incoming, Bad>
     ensures exact { GivesMessage result (under incoming id (body_at (view message.old))) }
 {
@@ -146,7 +158,7 @@ fn incoming_of(alloc: Global, id: u64, message: &mut Value) -> Result<Incoming, 
     }
 }
 
-// What a message asks for.
+// Reads what a message asks for.
 fn body_of(alloc: Global, message: &mut Value) -> Result<Body, Fault>
     ensures { Gives result (body_at (view message.old)) }
 {
@@ -160,7 +172,7 @@ fn body_of(alloc: Global, message: &mut Value) -> Result<Body, Fault>
     }
 }
 
-// The word as it stands here, so that the message is not borrowed, or none where no message has it.
+// Returns the same word as a constant, so that the message is not borrowed, or `None` if no message has it.
 fn known(word: &str) -> Option<&'static str>
     ensures known { IfSome result (λ w. w.now ≡ word.now) }
     ensures unknown { IfNone result ((d : Data) → body_by word.now d ≡ Err UnknownDo) }
@@ -170,7 +182,7 @@ fn known(word: &str) -> Option<&'static str>
     ))
 }
 
-// What a message with this word asks for.
+// Reads what a message with this word asks for.
 fn body_by(alloc: Global, word: &str, message: &mut Value) -> Result<Body, Fault>
     ensures { Gives result (body_by word.now (view message.old)) }
 {
@@ -185,7 +197,7 @@ fn body_by(alloc: Global, word: &str, message: &mut Value) -> Result<Body, Fault
     }
 }
 
-// What a message with this word does to the map.
+// Reads the edit that a message with this word asks for.
 fn edit_by(alloc: Global, word: &str, message: &mut Value) -> Result<Edit<Global>, Fault>
     ensures { Gives result (edit_by word.now (view message.old)) }
 {
@@ -195,7 +207,7 @@ fn edit_by(alloc: Global, word: &str, message: &mut Value) -> Result<Edit<Global
     }
 }
 
-// Whom a hello asks for.
+// Reads the room and the author of a hello.
 fn hello_of(message: &Value) -> Result<Body, Fault>
     ensures { Gives result (hello_at (view message.now)) }
 {
@@ -204,7 +216,7 @@ fn hello_of(message: &Value) -> Result<Body, Fault>
     Ok(Body::Hello { room, name })
 }
 
-// The action that an object asks for, whose values are taken out of it.
+// Reads the action that an object asks for. Its values are taken out of the object.
 pub fn action_of(alloc: Global, object: &mut Value) -> Result<Action<Global>, Fault>
     ensures { Gives result (action_at (view object.old)) }
 {
@@ -218,7 +230,7 @@ pub fn action_of(alloc: Global, object: &mut Value) -> Result<Action<Global>, Fa
     }
 }
 
-// The word of an action as it stands here, or none where it is no action's.
+// Returns the same word as a constant, or `None` if it is not the word of an action.
 fn known_action(word: &str) -> Option<&'static str>
     ensures known { IfSome result (λ w. w.now ≡ word.now) }
     ensures unknown { IfNone result ((d : Data) → action_by word.now d ≡ Err UnknownDo) }
@@ -226,16 +238,16 @@ fn known_action(word: &str) -> Option<&'static str>
     each_action!(word_among(word,))
 }
 
-// The action that a message with this word asks for. Its fields are read in the order of the list of actions, up to the
-// first fault.
+// Reads the action that a message with this word asks for. Its fields are read in the order of the list of actions, up
+// to the first fault.
 fn action_by(alloc: Global, word: &str, message: &mut Value) -> Result<Action<Global>, Fault>
     ensures { Gives result (action_by word.now (view message.old)) }
 {
     each_action!(read_by(alloc, word, message))
 }
 
-// The element of a `create`, by the kind of its name. Its tags are taken out of the message, whose other fields are
-// read before.
+// Reads the element of a `create`, by the kind of its name. The tags are read last, because they are taken out of the
+// message.
 pub fn element_of(alloc: Global, kind: Kind, message: &mut Value) -> Result<Element<Global>, Fault>
     ensures { Gives result (element_at kind (view message.old)) }
 {

@@ -9,13 +9,13 @@ use room_history::news::NewsRow;
 use std::alloc::Allocator;
 use std::cmp::Ordering;
 
-/// What stands under the name of an element.
+/// A value with the name of an element.
 pub trait Named {
     ghost use Rattle.osm_elements.specs.declared.name.Name.{Name};
 
     ghost named: { Self → Name };
 
-    /// The name.
+    /// Returns the name.
     fn name(&self) -> Name
         ensures { result ≡ named self.now };
 }
@@ -36,7 +36,7 @@ impl<A: Allocator> Named for NewsRow<A> {
     }
 }
 
-/// Whether the names of the rows rise, each above the one before it. It takes time linear in their number.
+/// Returns whether the names of the rows rise strictly. The time is linear in the number of rows.
 pub fn are_rising<T: Named>(rows: &[T]) -> bool
     ensures { result ≡ are_rising (map T.named rows.now) }
 {
@@ -48,7 +48,7 @@ pub fn are_rising<T: Named>(rows: &[T]) -> bool
     true
 }
 
-// Whether a name comes before another.
+// Returns whether a name comes before another name.
 fn is_before(one: &Name, other: &Name) -> bool
     ensures { result ≡ is_before one.now other.now }
 {

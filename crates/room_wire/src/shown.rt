@@ -1,4 +1,4 @@
-//! What replies and news show behind their keys.
+//! The values of members of replies and news.
 ghost use Rattle.std.specs.Prelude.{◌≡◌, OnOk};
 ghost use Rattle.room_wire.specs.Inner.Writing.{Tells, shown_tree};
 ghost use Rattle.room_wire.specs.News.{row_tree};
@@ -15,7 +15,7 @@ use osm_elements::name::Name;
 use room_history::news::{NewsRow, NewsRows};
 use std::alloc::Global;
 
-// What stands behind a key of a reply or of news.
+// The value of a member of a reply or of news.
 #[derive(Clone, Copy)]
 pub enum Shown<'a> {
     Number(u64),
@@ -53,7 +53,7 @@ fn write_number(out: &mut Writer, number: u64) -> Result<(), Memory>
     Ok(())
 }
 
-// The number of an entry.
+// The number of an entry is written as a whole number.
 impl Told for u64 {
     ghost tree = { whole };
 
@@ -62,7 +62,7 @@ impl Told for u64 {
     }
 }
 
-// A row of a map is its element.
+// A row of a map is written as its element.
 impl Told for Row<Global> {
     ghost tree = { λ r. element_tree r.name r.element };
 
@@ -71,7 +71,7 @@ impl Told for Row<Global> {
     }
 }
 
-// A row of news is its element, or tells that it is gone.
+// A row of news is written as its element, or as gone.
 impl Told for NewsRow<Global> {
     ghost tree = { λ r. row_tree r.name r.element };
 

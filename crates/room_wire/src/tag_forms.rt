@@ -1,4 +1,4 @@
-//! The tags of a message: those of an element, and what a retag gives its keys.
+//! Reading the tags of an element, and the values that a retag gives to keys.
 ghost use Rattle.std.specs.Prelude.{◌≡◌, ◌≢◌, ◌<◌, [], length, OnOk, IfErr};
 ghost use Rattle.std.specs.FinMap.Entries.{put};
 ghost use Rattle.std.specs.String.{string_bytes};
@@ -19,7 +19,7 @@ use osm_elements::text::Text;
 use serde_json::{Map, Value};
 use std::alloc::Global;
 
-// The tags of an element, which may be missing. They are taken out of the message, and keep its texts.
+// Reads the tags of an element, which may be missing. They are taken out of the message, and keep its texts.
 pub fn tags_of(alloc: Global, message: &mut Value) -> Result<SharedTags<Global>, Fault>
     ensures { Gives result (tags_at (view message.old)) }
 {
@@ -32,7 +32,7 @@ pub fn tags_of(alloc: Global, message: &mut Value) -> Result<SharedTags<Global>,
     }
 }
 
-// The tags with these keys and values, whose texts they keep.
+// Reads the members as tags, which keep the members' texts.
 fn tags_in(alloc: Global, members: Map<String, Value>) -> Result<Tags<Global>, Fault>
     ensures { Gives result
         (or_fault (BadField field.Tags) (tags_of (members_view members.entries))) }
@@ -48,7 +48,7 @@ fn tags_in(alloc: Global, members: Map<String, Value>) -> Result<Tags<Global>, F
     Ok(tags)
 }
 
-// The key and the value of a tag.
+// Reads the key and the value of a tag.
 fn tag_of(key: String, value: Value) -> Result<(Text<Global>, Text<Global>), Fault>
     ensures { Gives result (or_fault (BadField field.Tags) (entry_of value_of (string_bytes key) (view value))) }
 {
@@ -57,7 +57,7 @@ fn tag_of(key: String, value: Value) -> Result<(Text<Global>, Text<Global>), Fau
     Ok((key, value))
 }
 
-// Gives a key its value, where there is room for one more tag.
+// Sets the value of a key. There must be space for one more tag.
 fn put_tag(tags: &mut Tags<Global>, key: Text<Global>, value: Text<Global>) -> Result<(), Fault>
     requires key { key ≢ [] }
     requires room { length tags.old < 1000 }
@@ -68,7 +68,7 @@ fn put_tag(tags: &mut Tags<Global>, key: Text<Global>, value: Text<Global>) -> R
         .map_err(|fault| fault_in(Field::Tags, fault))
 }
 
-// What a retag gives its keys. It is taken out of the message, and keeps its texts.
+// Reads what a retag gives to keys. It is taken out of the message, and keeps its texts.
 pub fn given_tags_of(alloc: Global, message: &mut Value) -> Result<Retag<Global>, Fault>
     ensures { Gives result (given_tags_at (view message.old)) }
 {
@@ -81,7 +81,7 @@ pub fn given_tags_of(alloc: Global, message: &mut Value) -> Result<Retag<Global>
     }
 }
 
-// What these keys are given, whose texts it keeps.
+// Reads the members as keys with a value or none, which keep the members' texts.
 fn given_tags_in(alloc: Global, members: Map<String, Value>) -> Result<Retag<Global>, Fault>
     ensures { Gives result
         (or_fault (BadField field.Tags) (given_tags_of (members_view members.entries))) }
@@ -97,7 +97,7 @@ fn given_tags_in(alloc: Global, members: Map<String, Value>) -> Result<Retag<Glo
     Ok(given_tags)
 }
 
-// A key, and the value that it is given, if it is.
+// Reads a key with the value that it gets, if any.
 fn given_tag_of(key: String, value: Value) -> Result<(Text<Global>, Option<Text<Global>>), Fault>
     ensures { Gives result (or_fault (BadField field.Tags) (entry_of given_of (string_bytes key) (view value))) }
 {
@@ -106,7 +106,7 @@ fn given_tag_of(key: String, value: Value) -> Result<(Text<Global>, Option<Text<
     Ok((key, given))
 }
 
-// Gives a key its value or none, where there is room for one more key.
+// Gives a key a value or none. There must be space for one more key.
 fn put_given_tag(
     given_tags: &mut Retag<Global>,
     key: Text<Global>,
@@ -122,7 +122,7 @@ fn put_given_tag(
         .map_err(|fault| fault_in(Field::Tags, fault))
 }
 
-// A key.
+// Reads a key.
 fn key_of(key: String) -> Result<Text<Global>, Fault>
     ensures { Gives result (or_fault (BadField field.Tags) (key_of (string_bytes key))) }
 {
@@ -132,7 +132,7 @@ fn key_of(key: String) -> Result<Text<Global>, Fault>
     text_in(key)
 }
 
-// The value of a tag.
+// Reads the value of a tag.
 fn value_of(value: Value) -> Result<Text<Global>, Fault>
     ensures { Gives result (or_fault (BadField field.Tags) (value_of (view value))) }
 {
@@ -142,7 +142,7 @@ fn value_of(value: Value) -> Result<Text<Global>, Fault>
     }
 }
 
-// What a key is given: a value, or none where it is null.
+// Reads what a key gets: a value, or none for `null`.
 fn given_of(value: Value) -> Result<Option<Text<Global>>, Fault>
     ensures { Gives result (or_fault (BadField field.Tags) (given_of (view value))) }
 {
@@ -153,7 +153,7 @@ fn given_of(value: Value) -> Result<Option<Text<Global>>, Fault>
     Ok(Some(value))
 }
 
-// A key or a value, which keeps the string's memory.
+// Reads a key or a value, which keeps the string's memory.
 fn text_in(text: String) -> Result<Text<Global>, Fault>
     ensures { Gives result (or_fault (BadField field.Tags) (text_of (string_bytes text))) }
 {

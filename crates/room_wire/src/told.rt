@@ -1,4 +1,4 @@
-//! JSON written token by token: values, arrays and objects (RFC 8259).
+//! Writing JSON token by token: values, arrays and objects (RFC 8259).
 ghost use Rattle.std.specs.Prelude.{◌≡◌, ◌∷◌, T, map, OnOk};
 ghost use Rattle.std.specs.FinMap.Entries.{is_sorted};
 ghost use Rattle.serde_json.specs.Data.{array, object};
@@ -9,33 +9,33 @@ ghost use Rattle.room_wire.specs.Inner.Writing.{Tells, TellsMember, TellsMembers
 use json::Writer;
 use osm_elements::Memory;
 
-// What is written as one value.
+// A type that is written as one JSON value.
 pub trait Told {
     ghost use Rattle.std.specs.Prelude.{OnOk};
     ghost use Rattle.serde_json.specs.Data.{Data};
     ghost use Rattle.room_wire.specs.Inner.Writing.{Tells};
 
-    // The tree that is written.
+    // the tree that is written
     ghost tree: { Self → Data };
 
     fn write(&self, out: &mut Writer) -> Result<(), Memory>
         ensures { OnOk result (Tells out.old out.new (tree self.now)) };
 }
 
-// What is written as one member of an object.
+// A type that is written as one member of an object.
 pub trait ToldMember {
     ghost use Rattle.std.specs.Prelude.{List, ℕ, OnOk};
     ghost use Rattle.serde_json.specs.Data.{Data};
     ghost use Rattle.room_wire.specs.Inner.Writing.{TellsMember};
 
-    // The key, and the tree that is written behind it.
+    // the key, and the tree that is written after it
     ghost pair: { Self → List ℕ × Data };
 
     fn write(&self, out: &mut Writer) -> Result<(), Memory>
         ensures { OnOk result (TellsMember out.old out.new (pair self.now)) };
 }
 
-// A value behind its key.
+// A pair of a key and a value is written as a member.
 impl<'a, V: Told> ToldMember for (&'a str, V) {
     ghost pair = { λ m. (m.0.now, V.tree m.1) };
 
@@ -68,7 +68,7 @@ pub fn write_object<M: ToldMember>(out: &mut Writer, members: &[M]) -> Result<()
     Ok(())
 }
 
-// Writes an object of a member and these members after it, whose keys rise.
+// Writes an object of a first member and these members after it. The keys rise.
 pub fn write_object_from<F: ToldMember, M: ToldMember>(
     out: &mut Writer,
     first: &F,
@@ -84,7 +84,7 @@ pub fn write_object_from<F: ToldMember, M: ToldMember>(
     Ok(())
 }
 
-// Writes these members of an object that has begun.
+// Writes these members into an object that has begun.
 fn write_members<M: ToldMember>(out: &mut Writer, members: &[M]) -> Result<(), Memory>
     ensures { OnOk result (TellsMembers out.old out.new (map M.pair members.now)) }
 {

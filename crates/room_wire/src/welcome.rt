@@ -1,4 +1,4 @@
-//! The welcome to a hello.
+//! Reading welcomes.
 ghost use Rattle.std.specs.Prelude.{◌≡◌, ◌<◌, length, true, IfErr, IfOk};
 ghost use Rattle.serde_json.specs.View.{view};
 ghost use Rattle.osm_elements.specs.Rows.{AreInOrder};
@@ -18,31 +18,40 @@ use osm_elements::map::{Row, Rows};
 use serde_json::Value;
 use std::alloc::Global;
 
-/// What a hello is answered where its room is there: the room's map, and how many entries its journal has.
+/// The reply to a hello to an existing room: the room's map, and the entry count of its journal.
 #[derive(Debug, Drop)]
 pub struct Welcome {
     /// The id of the hello.
     pub id: u64,
-    /// How many entries the journal has, which is the number of the last one.
+    /// The entry count of the journal, which is also the number of its last entry.
     pub seq: u64,
-    /// The elements after that entry, in name order.
+    /// The elements of the map after that entry, in name order.
     pub rows: Rows<Global>,
 }
 
-/// The welcome that a JSON text is (RFC 8259), or its first fault.
+/// Reads a JSON text as a welcome (RFC 8259), or returns its first fault.
 ///
-/// The text has to be JSON that nests at most 127 deep (`NotJson`), and an object (`NotObject`), whose `id` is a whole
-/// number in `1..=9007199254740991` (`BadId`). The first of these that is missing or not of its form is told
-/// (`BadField`), under that id: `ok`, an object; in it `map`, an array of elements whose names rise, each with the
-/// fields of a `create`, of which `tags` may be missing; and `seq`, a whole number in `0..=9007199254740991`. A fault
-/// inside an element is that of `map`. Other members are ignored.
+/// The text is an object. Its `id` is a whole number in `1..=9007199254740991`, and its `ok` an object with these
+/// members:
 ///
-/// `Memory` stands in the place of any other answer where a growth was refused, under the id if that was read before,
-/// or else under 0.
+/// - `map`: an array of elements whose names rise, each with the fields of a `create`, of which `tags` may be missing
+/// - `seq`: a whole number in `0..=9007199254740991`
+///
+/// Other members are ignored.
+///
+/// # Errors
+///
+/// - `NotJson` under the id 0, if the text is not JSON that nests at most 127 deep.
+/// - `NotObject` under the id 0, if it is not an object.
+/// - `BadId` under the id 0, if `id` is missing or malformed.
+/// - `BadField` under the id that was read, with the first of `ok`, `map` and `seq` that is missing or malformed. A
+///   fault inside an element is a fault of `map`.
+/// - `Memory` instead of any other result, if an allocation fails. The id is that of the text if it was read before,
+///   and otherwise 0.
 pub fn read_welcome(alloc: Global, text: &str) -> Result<Welcome, Bad>
     ensures exact { GivesUnder (λ w. w.id) result (spells_welcome text.now) }
     ensures memory { IfErr result (λ bad. bad.fault ≡ Memory → 0 < length text.now) }
-    // A mirror can be made of them, and a room can begin with them.
+    // A mirror can be made of these rows, and a room can begin with them.
     ensures in_order { IfOk result (λ w. AreInOrder w.rows) }
     ensures kinds { IfOk result (λ w. are_of_kinds w.rows ≡ true) }
 {
@@ -51,7 +60,7 @@ pub fn read_welcome(alloc: Global, text: &str) -> Result<Welcome, Bad>
     welcomed(alloc, id, &mut reply)
 }
 
-// The welcome of a reply, under its id.
+// Reads a reply as a welcome, under its id.
 fn welcomed(alloc: Global, id: u64, reply: &mut Value) -> Result<Welcome, Bad>
     ensures exact { GivesUnder (λ w. w.id) result (under welcome id (told_at (view reply.old))) }
     ensures in_order { IfOk result (λ w. AreInOrder w.rows) }
@@ -63,8 +72,8 @@ fn welcomed(alloc: Global, id: u64, reply: &mut Value) -> Result<Welcome, Bad>
     }
 }
 
-// The elements and the number that a reply tells. The number is looked for first, since the elements are taken out, and
-// where both are amiss the elements are told.
+// Reads the elements and the number of a reply. The number is read first, because the elements are taken out. If both
+// are bad, the fault is that of the elements.
 fn told_of(alloc: Global, reply: &mut Value) -> Result<(Rows<Global>, u64), Fault>
     ensures exact { Gives result (told_at (view reply.old)) }
     ensures in_order { IfOk result (λ told. AreInOrder told.0) }
@@ -75,7 +84,7 @@ fn told_of(alloc: Global, reply: &mut Value) -> Result<(Rows<Global>, u64), Faul
     Ok((rows, seq?))
 }
 
-// The elements of a map.
+// Reads the elements of a map.
 #[tactic(auto, using(crate::proofs::RowsInOrder::rising_is_in_order))]
 fn map_of(alloc: Global, told: &mut Value) -> Result<Rows<Global>, Fault>
     ensures exact { Gives result (map_at (view told.old)) }
@@ -85,7 +94,7 @@ fn map_of(alloc: Global, told: &mut Value) -> Result<Rows<Global>, Fault>
     Ok(Rows::from_vec(rows))
 }
 
-// How many entries there are.
+// Reads the entry count.
 fn count_of(told: &Value) -> Result<u64, Fault>
     ensures { result ≡ count_at (view told.now) }
 {

@@ -1,4 +1,4 @@
-//! The texts of replies.
+//! Writing replies.
 ghost use Rattle.std.specs.Prelude.{◌≡◌, ◌∷◌, T, Some, codes, map, IfOk, OnOk};
 ghost use Rattle.std.specs.Ordering.{is_lt};
 ghost use Rattle.std.specs.FinMap.Entries.{is_sorted};
@@ -20,11 +20,11 @@ use osm_elements::name::Name;
 use osm_elements::text::Text;
 use std::alloc::Global;
 
-/// The text of the reply to the message with this id: `{"id":ID,"ok":O}` where it was answered, and
-/// `{"id":ID,"no":N}` where it was refused. For a message whose id was not read the id is 0.
+/// Returns the text of the reply to the message with this id: `{"id":ID,"ok":O}` if the message was accepted, and
+/// `{"id":ID,"no":N}` if it was refused. For a message whose id was not read, the id is 0.
 ///
-/// It is the compact text of a JSON tree (RFC 8259): no space, the keys of each object in the order of
-/// their bytes, whole numbers in decimal, and strings with `serde_json`'s escapes.
+/// It is the compact text of a JSON tree (RFC 8259): without spaces, the keys of each object in the order of their
+/// bytes, whole numbers in decimal, and strings with `serde_json`'s escapes.
 ///
 /// | Answer | O |
 /// |---|---|
@@ -46,16 +46,18 @@ use std::alloc::Global;
 /// | every other | `{"why":WHY}` |
 /// | `Refused`, `BadActionField`, `UnknownAction` | as without a group, with `"action":POSITION` as the first member |
 ///
-/// WHY is the answer's name in lower case, as `wrong_kind`. A node is
-/// `{"el":NAME,"lat":TEXT,"lon":TEXT,"tags":{..}}`, a way is
-/// `{"el":NAME,"nodes":[ID,..],"tags":{..}}`, and a relation is
-/// `{"el":NAME,"members":[[NAME,ROLE],..],"tags":{..}}` (OpenStreetMap wiki, "Elements").
+/// WHY is the answer's name in snake case, for example `wrong_kind`. A node is
+/// `{"el":NAME,"lat":TEXT,"lon":TEXT,"tags":{..}}`, a way is `{"el":NAME,"nodes":[ID,..],"tags":{..}}`, and a relation
+/// is `{"el":NAME,"members":[[NAME,ROLE],..],"tags":{..}}` (OpenStreetMap wiki, "Elements").
 ///
-/// The one refusal is `Memory`. The time is that of the reply's length. The text is written from front to back, and no
-/// tree is held.
+/// The time is linear in the length of the reply. The text is written sequentially, without a tree in memory.
+///
+/// # Errors
+///
+/// `Memory`, if an allocation fails.
 pub fn reply_text(alloc: Global, id: u64, answer: &Answer<'_>) -> Result<Json, Memory>
     ensures text { IfOk result (λ json. json ≡ compact_text (tree_of id answer.now)) }
-    // Any reader of JSON finds the tree in it.
+    // Any reader of JSON reads the text as this tree.
     ensures reads_back { IfOk result (λ json. read json ≡ Some (tree_of id answer.now)) }
 {
     let mut out = Json::begin(alloc)?;
@@ -102,7 +104,7 @@ fn write_reply(out: &mut Writer, id: u64, answer: &Answer<'_>) -> Result<(), Mem
     }
 }
 
-// Writes the reply to a message that was answered, with these members, whose keys rise.
+// Writes the reply to a message that was accepted, with these members, whose keys rise.
 pub fn answered(out: &mut Writer, id: u64, members: &[(&str, Shown<'_>)]) -> Result<(), Memory>
     requires { T (is_sorted text_cmp (map (λ m. (m.0.now, shown_tree m.1)) members.now)) }
     ensures { OnOk result
@@ -111,7 +113,7 @@ pub fn answered(out: &mut Writer, id: u64, members: &[(&str, Shown<'_>)]) -> Res
     under(out, id, "ok", members)
 }
 
-// Writes the reply to a message that was refused, with the position of the action in its group, if there is one.
+// Writes the reply to a message that was refused, with the position of the action in its group, if any.
 fn refused(
     out: &mut Writer,
     id: u64,
@@ -152,7 +154,7 @@ fn refused(
         Answer::NoHello => bare(out, id, action, "no_hello"),
         Answer::NoRoom => bare(out, id, action, "no_room"),
         Answer::HelloTwice => bare(out, id, action, "hello_twice"),
-        // Other answers refuse nothing.
+        // The other answers are not refusals.
         _ => why(out, id, action, &[]),
     }
 }
@@ -248,7 +250,7 @@ fn bad_field(out: &mut Writer, id: u64, action: Option<u32>, field: Field) -> Re
     )
 }
 
-// Writes a refusal that shows nothing but why.
+// Writes a refusal that shows only its reason.
 fn bare(out: &mut Writer, id: u64, action: Option<u32>, reason: &str) -> Result<(), Memory>
     ensures { OnOk result (Tells out.old out.new (no_tree id (object (with_position action (bare reason.now))))) }
 {
@@ -310,7 +312,7 @@ fn at_action(
     Ok(())
 }
 
-// Writes an id, and behind a word that comes after it an object of these members, whose keys rise.
+// Writes an object with an id and, under a word that comes after `id`, an object of these members, whose keys rise.
 fn under(out: &mut Writer, id: u64, word: &str, members: &[(&str, Shown<'_>)]) -> Result<(), Memory>
     requires word { T (is_lt (text_cmp (codes "id") word.now)) }
     requires rising { T (is_sorted text_cmp (map (λ m. (m.0.now, shown_tree m.1)) members.now)) }

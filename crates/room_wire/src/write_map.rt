@@ -1,4 +1,4 @@
-//! The texts of whole maps.
+//! Writing whole maps.
 ghost use Rattle.std.specs.Prelude.{◌≡◌, Some, map, IfOk, OnOk};
 ghost use Rattle.serde_json.specs.Read.{read};
 ghost use Rattle.serde_json.specs.Written.{compact_text};
@@ -14,15 +14,19 @@ use osm_elements::Memory;
 use osm_elements::map::OsmMap;
 use std::alloc::Global;
 
-/// The text of the reply to the message with this id, which asks for the whole map:
-/// `{"id":ID,"ok":{"map":[ELEMENT,..],"seq":FRONT}}`, in name order, where `front` is how many entries the journal has.
+/// Returns the text of the reply to a message that asks for the whole map:
+/// `{"id":ID,"ok":{"map":[ELEMENT,..],"seq":FRONT}}`, in name order. `id` is the message's id, and `front` is the entry
+/// count of the journal.
 ///
-/// It is the text that [`reply_text`](crate::reply_text) gives for the rows of the map, which are not copied here.
+/// It is the text that [`reply_text`](crate::reply_text) returns for the rows of the map, without copying them. The
+/// time is linear in the length of the text.
 ///
-/// The one refusal is `Memory`. The time is that of the text's length.
+/// # Errors
+///
+/// `Memory`, if an allocation fails.
 pub fn map_text(alloc: Global, id: u64, map: &OsmMap<Global>, front: u64) -> Result<Json, Memory>
     ensures text { IfOk result (λ json. json ≡ compact_text (map_tree id map.now front)) }
-    // Any reader of JSON finds the tree in it.
+    // Any reader of JSON reads the text as this tree.
     ensures reads_back { IfOk result (λ json. read json ≡ Some (map_tree id map.now front)) }
 {
     let mut out = Json::begin(alloc)?;

@@ -1,4 +1,4 @@
-//! The texts of news and of the welcome.
+//! Writing news and welcomes.
 ghost use Rattle.std.specs.Prelude.{◌≡◌, Some, IfOk, OnOk};
 ghost use Rattle.serde_json.specs.Read.{read};
 ghost use Rattle.serde_json.specs.Written.{compact_text};
@@ -17,15 +17,18 @@ use osm_elements::Memory;
 use room_history::news::News;
 use std::alloc::Global;
 
-/// The text of news: `{"news":{"by":AUTHOR,"rows":[ROW,..],"seq":SEQ}}`, the rows in their order.
+/// Returns the text of news: `{"news":{"by":AUTHOR,"rows":[ROW,..],"seq":SEQ}}`, with the rows in order.
 ///
-/// It is the compact text of a JSON tree (RFC 8259), as a reply's. A row that is gone is `{"el":NAME,"gone":true}`, and
-/// any other is its element, as [`reply_text`](crate::reply_text) writes it.
+/// It is the compact text of a JSON tree (RFC 8259), like a reply. A row that is gone is `{"el":NAME,"gone":true}`. Any
+/// other row is its element, as [`reply_text`](crate::reply_text) writes it. The time is linear in the length of the
+/// text.
 ///
-/// The one refusal is `Memory`. The time is that of the text's length.
+/// # Errors
+///
+/// `Memory`, if an allocation fails.
 pub fn news_text(alloc: Global, news: &News<Global>) -> Result<Json, Memory>
     ensures text { IfOk result (λ json. json ≡ compact_text (news_tree news.now)) }
-    // Any reader of JSON finds the tree in it.
+    // Any reader of JSON reads the text as this tree.
     ensures reads_back { IfOk result (λ json. read json ≡ Some (news_tree news.now)) }
 {
     let mut out = Json::begin(alloc)?;
@@ -33,13 +36,17 @@ pub fn news_text(alloc: Global, news: &News<Global>) -> Result<Json, Memory>
     Ok(Json::from_writer(out))
 }
 
-/// The text of a welcome, which is that of the reply to a `map` with the welcome's elements and number:
-/// `{"id":ID,"ok":{"map":[ELEMENT,..],"seq":SEQ}}`, as [`reply_text`](crate::reply_text) writes it.
+/// Returns the text of a welcome: `{"id":ID,"ok":{"map":[ELEMENT,..],"seq":SEQ}}`. It is the text of the reply to a
+/// `map` with the welcome's elements and number, as [`reply_text`](crate::reply_text) writes it.
 ///
-/// The one refusal is `Memory`. The time is that of the text's length.
+/// The time is linear in the length of the text.
+///
+/// # Errors
+///
+/// `Memory`, if an allocation fails.
 pub fn welcome_text(alloc: Global, welcome: &Welcome) -> Result<Json, Memory>
     ensures text { IfOk result (λ json. json ≡ compact_text (welcome_tree welcome.now)) }
-    // Any reader of JSON finds the tree in it.
+    // Any reader of JSON reads the text as this tree.
     ensures reads_back { IfOk result (λ json. read json ≡ Some (welcome_tree welcome.now)) }
 {
     let map = Answer::Map {
@@ -60,7 +67,7 @@ fn write_news(out: &mut Writer, news: &News<Global>) -> Result<(), Memory>
     Ok(())
 }
 
-// Writes whose entry it was, the changed names, and the entry's number.
+// Writes the author, the changed names and the number of the entry.
 fn write_told(out: &mut Writer, news: &News<Global>) -> Result<(), Memory>
     ensures { OnOk result (Tells out.old out.new (told_tree news.now)) }
 {

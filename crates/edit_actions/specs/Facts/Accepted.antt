@@ -1,4 +1,4 @@
--- What holds of accepted actions.
+-- Facts about accepted actions.
 use Rattle.std.proofs.Common.{◌≡◌, ◌≢◌, true, not, None, reverse, if◌then◌else◌}
 use Rattle.std.specs.List.{filter}
 use Rattle.std.specs.FinMap.Entries.{is_sorted-where_key}
@@ -36,7 +36,7 @@ use Rattle.edit_actions.specs.MadeActions.{is_made_action}
 use Rattle.edit_actions.specs.Refusals.{refusal}
 
 module _ {A : Type 0} where
-  -- the law of refusals
+  -- an accepted action with made values leads from a sound map to another sound map
   pub accepted_keeps_sound : (m : Rows A) (a : Action A) → is_sound m ≡ true → is_made_action a ≡ true → refusal m a ≡ None → (is_sound (after m a) ≡ true) × (after m a ≢ m)
   accepted_keeps_sound m (Create x v) sound made ok = create_accepted m x v sound made ok
   accepted_keeps_sound m (Retag x given) sound made ok = retag_accepted m x given sound made ok
@@ -51,7 +51,7 @@ module _ {A : Type 0} where
   accepted_keeps_sound m (Merge k g) sound made ok = merge_accepted m k g sound ok
   accepted_keeps_sound m (Unglue w i v) sound made ok = unglue_accepted m w i v sound ok
 
-  -- the map after has its names in order, whether or not the action is accepted
+  -- the map after an action has its names in order, even if the action is refused
   pub AreInOrder-after : (m : Rows A) (a : Action A) → AreInOrder m → AreInOrder (after m a)
   AreInOrder-after m (Create x v) h = AreInOrder-put_row m x v h
   AreInOrder-after m (Retag x given) h = AreInOrder-each_row (at_name x (with_tags (λ tags. retagged tags given))) m h
@@ -67,6 +67,6 @@ module _ {A : Type 0} where
   AreInOrder-after m (Merge k g) h = AreInOrder-each_row (merge_row m k g) (rows_but g m) (AreInOrder-rows_but m g h)
   AreInOrder-after m (Unglue w i v) h = AreInOrder-after_unglue m w i v h
 
-  -- the changes lead to the map after
+  -- the changes lead to the map after the action
   pub changes_lead : (m : Rows A) (a : Action A) → is_sound m ≡ true → is_made_action a ≡ true → refusal m a ≡ None → changed m (changes m a) ≡ after m a
   changes_lead m a sound made ok = let order = sound_in_order m sound in changed-differences m (after m a) order (AreInOrder-after m a order)

@@ -1,4 +1,4 @@
--- What has to be shown of an action, so that it is accepted alike in a map that agrees at its footprint.
+-- Conditions under which an action is accepted alike in a map that agrees at its footprint.
 use Rattle.std.proofs.Common.{◌≡◌, true, false, Option, None, sym, ap, ◌∙◌}
 use Rattle.osm_elements.specs.declared.name.Name.{Name}
 use Rattle.osm_elements.specs.declared.element.Element.{Element}
@@ -23,15 +23,16 @@ use Rattle.edit_footprint.specs.Facts.Halfwise.{becomes_halfwise}
 use Rattle.edit_footprint.specs.Facts.Footprints.{halves_outside}
 
 module _ {A : Type 0} where
-  -- accepted in a sound map, the action is accepted alike in each sound map that agrees at its footprint
+  -- if a sound map accepts the action, each sound map that agrees at its footprint accepts it alike
   abbrev pub IsLocal : Action A → Type 0
   IsLocal a = (m n : Rows A) → is_sound m ≡ true → is_sound n ≡ true → refusal m a ≡ None → Agree m n (footprint m a) → AcceptedAlike m n a
 
-  -- a half of each row of n stays, where its cell is outside
+  -- one half of each row of n is unchanged if its cell is outside the footprint
   abbrev pub Keeps : Part → Rows A → Rows A → Action A → Type 0
   Keeps p m n a = (y : Name) → has (footprint m a) (record { name = y; part = p }) ≡ false → half p (row_at (after n a) y) ≡ half p (row_at n y)
 
-  -- it is, where it reads the same of both maps, keeps the halves of n outside, and has the same checks
+  -- the action is accepted alike if it reads the same from both maps, keeps the halves of n outside, and has the same
+  -- checks
   pub accepted_alike : (m n : Rows A) (a : Action A) → Agree m n (footprint m a) → ((y : Name) (o : Option (Element A)) → becomes n a y o ≡ becomes m a y o) → Keeps Tags m n a → Keeps Rest m n a
       → checks n a ≡ checks m a → refusal m a ≡ None → AcceptedAlike m n a
   accepted_alike m n a agree reads kept_tags kept_rest same ok =

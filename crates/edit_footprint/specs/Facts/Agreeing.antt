@@ -1,4 +1,4 @@
--- What two maps have in common that agree at the footprint of an action on the one.
+-- Facts about two maps that agree at the footprint of an action on the first.
 use Rattle.std.proofs.Common.{◌≡◌, ◌≢◌, Bool, true, false, sym, ap, ◌∙◌, refl}
 use Rattle.std.proofs.lemmas.Bool.{false_from_ne_true}
 use Rattle.osm_elements.specs.declared.name.Name.{Name}
@@ -34,13 +34,13 @@ module _ {A : Type 0} (m n : Rows A) (a : Action A) (agree : Agree m n (footprin
   pub same_users_of_subject : (x : Name) → has (subjects a) (rest_at x) ≡ true → users m x ≡ users n x
   same_users_of_subject x own = agree.same_users x (subjects_inside m a (rest_at x) own)
 
-  -- the rows that name a name whose rest is inside
+  -- the rows that refer to a name whose rest is inside the footprint
   same_namers : is_sound m ≡ true → is_sound n ≡ true → (e : Name) → has (footprint m a) (rest_at e) ≡ true → (y : Name) → is_among (row_references (row_at n y)) e ≡ is_among (row_references (row_at m y)) e
   same_namers sound sound_n e i y =
       sym (is_among-users n (sound_in_order n sound_n) e y) ∙ ap (λ list. is_among list y) (sym (agree.same_users e i)) ∙ is_among-users m (sound_in_order m sound) e y
 
-  -- where in m all rows change that name such a name, and those with their rest outside keep their tags, no row of n
-  -- with its rest outside names it
+  -- suppose all rows of m that refer to such a name change, and rows with their rest outside keep their tags; then no
+  -- row of n with its rest outside refers to the name
   pub not_named : is_sound m ≡ true → is_sound n ≡ true → (e : Name) → has (footprint m a) (rest_at e) ≡ true
       → ((y : Name) → is_among (row_references (row_at m y)) e ≡ true → row_at (after m a) y ≢ row_at m y)
       → ((y : Name) → has (footprint m a) (rest_at y) ≡ false → half Tags (row_at (after m a) y) ≡ half Tags (row_at m y))
@@ -49,7 +49,7 @@ module _ {A : Type 0} (m n : Rows A) (a : Action A) (agree : Agree m n (footprin
       same_namers sound sound_n e i y
       ∙ false_from_ne_true (is_among (row_references (row_at m y)) e) (λ named. change y named (same_whole (row_at (after m a) y) (row_at m y) (tags y out) (halves_outside m a (rest_at y) out)))
 
-  -- what a subject's row names after the action, and m has, n has too, also where it is outside
+  -- if a subject's row refers to a name after the action, and m has the name, n has it too, even outside the footprint
   pub still_there : is_sound n ≡ true → (x e : Name) → has (subjects a) (rest_at x) ≡ true → is_among (row_references (row_at (after m a) x)) e ≡ true → is_present m e ≡ true → is_present n e ≡ true
   still_there sound_n x e own named here = by (has (footprint m a) (rest_at e)) refl
     where

@@ -1,4 +1,4 @@
--- The map after an action, row by row: what each row becomes, by what the action reads of the map.
+-- The map after an action, row by row, from what the action reads of the map before.
 use Rattle.std.proofs.Common.{◌≡◌, Option, Some, None, reverse, cond}
 use Rattle.std.specs.Option.{option_map}
 use Rattle.osm_elements.specs.declared.name.Name.{Name}
@@ -25,7 +25,7 @@ use Rattle.edit_actions.specs.declared.action.Action.TheVariants.{Create, Retag,
 use Rattle.edit_actions.specs.After.{after}
 
 module _ {A : Type 0} where
-  -- what an action makes of the row at y, where m stands for what is read of the map
+  -- the row at y after an action; m is the map that the action reads
   abbrev pub becomes : Rows A → Action A → Name → Option (Element A) → Option (Element A)
   becomes m (Create x v) y o = cond (is_same y x) (Some v) o
   becomes m (Retag x given) y o = option_map (at_name x (with_tags (λ tags. retagged tags given)) y) o

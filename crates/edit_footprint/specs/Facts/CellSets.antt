@@ -1,4 +1,4 @@
--- Which cells a list of cells has.
+-- The cells of a list.
 use Rattle.std.proofs.Common.{◌≡◌, ◌||◌, Bool, true, false, T, List, [], ◌∷◌, map, refl, ap, ◌∙◌}
 use Rattle.std.specs.Ordering.{is_eq}
 use Rattle.std.specs.FinMap.Entries.{below_all}
@@ -10,7 +10,7 @@ use Rattle.osm_changes.specs.Facts.Cells.{is_same_cell-itself, rest_rest}
 use Rattle.rising_lists.specs.Rising.{bare_rows}
 use Rattle.rising_lists.specs.Facts.Sorted.{first, second, less}
 
--- a cell is among those that it is the first of, and among more than it is already among
+-- a list has its first cell, and keeps its cells when it gets longer
 pub has-own : (c : Cell) (cs : List Cell) → has (c ∷ cs) c ≡ true
 has-own c cs = ap (λ b. b || has cs c) (is_same_cell-itself c)
 
@@ -21,16 +21,16 @@ has-more c d cs i = by (is_same_cell c d)
     by true = refl
     by false = i
 
--- the rest of a name is among those of others where the name is among them
+-- a list of rests has the rest of a name exactly if the names have the name
 pub has-rests : (names : List Name) (e : Name) → has (map rest_at names) (rest_at e) ≡ is_among names e
 has-rests [] e = refl
 has-rests (x ∷ xs) e = λ i. rest_rest e x i || has-rests xs e i
 
--- a cell below all of a list is not among it
+-- a list does not have a cell that is below all of its cells
 pub none_above : (c : Cell) (cs : List Cell) → T (below_all cell_cmp c (bare_rows cs)) → has cs c ≡ false
 none_above c [] h = refl
 none_above c (d ∷ ds) h = ap (λ o. is_eq o || has ds c) (less _ (first _ _ h)) ∙ none_above c ds (second _ _ h)
 
--- the first of a rising list is not among the rest
+-- the rest of a rising list does not have its first cell
 pub first_not_among_rest : (c : Cell) (cs : List Cell) → IsRising (c ∷ cs) → has cs c ≡ false
 first_not_among_rest c cs h = none_above c cs (first _ _ h)

@@ -1,4 +1,4 @@
--- Two actions, accepted one after the other, change places where their footprints share no cell.
+-- Two actions, accepted in sequence, commute if their footprints share no cell.
 use Rattle.std.proofs.Common.{◌≡◌, Bool, true, false, None, refl, sym, ap, ◌∙◌}
 use Rattle.std.proofs.lemmas.Bool.{false_from_ne_true}
 use Rattle.osm_elements.specs.Maps.{Rows}
@@ -43,11 +43,11 @@ module _ {A : Type 0} where
       sound_k : is_sound k ≡ true
       sound_k = (accepted_keeps_sound m a sound made_a ok_a).0
 
-      -- a cell of a's footprint is none of b's
+      -- a cell of a's footprint is not in b's
       not_both : (c : Cell) → has (footprint m a) c ≡ true → has (footprint k b) c ≡ false
       not_both c i = false_from_ne_true (has (footprint k b) c) (apart (footprint m a) (footprint k b) none c i)
 
-      -- what is in b's footprint is outside a's
+      -- a cell of b's footprint is outside a's
       not_in_a : (c : Cell) → has (footprint k b) c ≡ true → has (footprint m a) c ≡ false
       not_in_a c i = false_from_ne_true (has (footprint m a) c) (λ j. apart (footprint m a) (footprint k b) none c j i)
 
@@ -60,7 +60,7 @@ module _ {A : Type 0} where
       sound_n : is_sound n ≡ true
       sound_n = (accepted_keeps_sound m b sound made_b b_first.accepted).0
 
-      -- and what is in a's is outside b's
+      -- a cell of a's footprint is outside b's
       not_in_b : (c : Cell) → has (footprint m a) c ≡ true → has (footprint m b) c ≡ false
       not_in_b c i = ap (λ l. has l c) b_first.same_footprint ∙ not_both c i
 
@@ -70,7 +70,7 @@ module _ {A : Type 0} where
       a_second : AcceptedAlike m n a
       a_second = locality m n a sound sound_n ok_a a_agrees
 
-      -- a cell of a's footprint has the half that a makes of it, and any other the half that b makes of it
+      -- a cell of a's footprint has the half after a, and any other cell has the half after b
       by : (c : Cell) (t : Bool) → has (footprint m a) c ≡ t → half_at (after n a) c ≡ half_at (after k b) c
       by c true i =
           same_after m (after m a) n (after n a) c a_second.same_changes (sym (a_agrees.same_half c i))

@@ -1,4 +1,4 @@
--- Maps that differ alike.
+-- Maps with the same differences.
 use Rattle.std.proofs.Common.{◌≡◌, Bool, true, false, not, List, [], ◌∷◌, map, refl, sym, ap, ◌∙◌}
 use Rattle.osm_elements.specs.Maps.{Rows}
 use Rattle.osm_changes.specs.declared.cell.Cell.{Cell}
@@ -10,7 +10,7 @@ use Rattle.osm_changes.specs.Facts.Changing.{has-differing, IsRising-differing, 
 use Rattle.osm_changes.specs.Facts.Halves.{same_itself}
 use Rattle.edit_footprint.specs.Facts.CellSets.{has-own, has-more}
 
--- lists that are the same where they are looked at
+-- functions that agree at the cells of a list give the same list
 map_same : {X : Type 0} (f g : Cell → X) (cells : List Cell) → ((c : Cell) → has cells c ≡ true → f c ≡ g c) → map f cells ≡ map g cells
 map_same f g [] h = refl
 map_same f g (c ∷ cs) h =
@@ -19,15 +19,15 @@ map_same f g (c ∷ cs) h =
     λ i. own i ∷ rest i
 
 module _ {A : Type 0} where
-  -- rising cells that are those at which two maps differ
+  -- rising cells are the differing cells of two maps if they pass the same test
   differing_are : (m n : Rows A) (cells : List Cell) → IsRising cells → ((c : Cell) → has cells c ≡ not (are_same_halves (half_at m c) (half_at n c))) → cells ≡ differing m n
   differing_are m n cells up are = same_rising cells (differing m n) up (IsRising-differing m n) (λ c. are c ∙ sym (has-differing m n c))
 
-  -- maps with the same half don't differ there
+  -- maps with the same half at a cell do not differ there
   alike_there : (m n : Rows A) (c : Cell) → half_at n c ≡ half_at m c → not (are_same_halves (half_at m c) (half_at n c)) ≡ false
   alike_there m n c p = ap (λ h. not (are_same_halves (half_at m c) h)) p ∙ ap not (same_itself (half_at m c))
 
-  -- two pairs of maps differ alike, where they are the same at some cells, and neither differs elsewhere
+  -- two pairs of maps have the same differences if they are equal at some cells, and neither pair differs elsewhere
   pub same_differences : (m m2 n n2 : Rows A) (cells : List Cell)
       → ((c : Cell) → has cells c ≡ true → (half_at n c ≡ half_at m c) × (half_at n2 c ≡ half_at m2 c))
       → ((c : Cell) → has cells c ≡ false → half_at m2 c ≡ half_at m c)
@@ -41,7 +41,7 @@ module _ {A : Type 0} where
       test c true i = λ j. not (are_same_halves ((inside c i).0 j) ((inside c i).1 j))
       test c false i = alike_there n n2 c (kept_n c i) ∙ sym (alike_there m m2 c (kept c i))
 
-      -- a cell at which the first two differ is among the cells
+      -- a cell at which the first pair differs is among the cells
       within : (c : Cell) → has (differing m m2) c ≡ true → (b : Bool) → has cells c ≡ b → has cells c ≡ true
       within c i true e = e
       within c i false e = absurd (cc (sym i ∙ has-differing m m2 c ∙ alike_there m m2 c (kept c e)))
@@ -49,6 +49,6 @@ module _ {A : Type 0} where
       alike : (c : Cell) → has cells c ≡ true → change_at n n2 c ≡ change_at m m2 c
       alike c i = λ j. record { name = c.name; part = c.part; before = (inside c i).0 j; after = (inside c i).1 j }
 
-  -- the same changes make of the same half the same half
+  -- the same changes turn the same half into the same half
   pub same_after : (m m2 n n2 : Rows A) (c : Cell) → differences n n2 ≡ differences m m2 → half_at n c ≡ half_at m c → half_at n2 c ≡ half_at m2 c
   same_after m m2 n n2 c e p = sym (half_after-differences n n2 c) ∙ (λ i. half_after (e i) c (p i)) ∙ half_after-differences m m2 c

@@ -1,5 +1,5 @@
--- What is used of a footprint, whatever the action: it rises, its subjects are inside and both cells of the node that
--- it unglues a way from, a cell outside keeps its half, and a name whose rest is outside is named by the same rows.
+-- Facts about the footprint of any action. It rises. It has the subjects, and both cells of the node that an unglue
+-- takes from its way. A cell outside keeps its half. The same rows refer to a name whose rest is outside.
 use Rattle.std.proofs.Common.{◌≡◌, ◌&&◌, ◌||◌, Bool, true, false, not, List, [], ◌∷◌, ◌++◌, map, refl, sym, ap, ◌∙◌}
 use Rattle.std.proofs.lemmas.Bool.{or_parts, true_from_ne_false}
 use Rattle.std.specs.List.{flat_map}
@@ -23,7 +23,7 @@ use Rattle.edit_footprint.specs.Footprints.{half_references, subjects, begun_or_
 use Rattle.edit_footprint.specs.Facts.Halves.{references_by_half}
 use Rattle.edit_footprint.specs.Facts.CellSets.{has-rests}
 
--- tests of which neither passes without the other
+-- tests are equal if neither passes without the other
 alike : (a b : Bool) → (not a && b) ≡ false → (not b && a) ≡ false → b ≡ a
 alike true true e f = refl
 alike true false e f = absurd (cc)
@@ -31,7 +31,7 @@ alike false true e f = absurd (cc)
 alike false false e f = refl
 
 module _ {A : Type 0} where
-  -- what a half neither begins nor ceases to name it names after the change where it does before
+  -- if a half neither begins nor ceases to refer to a name, it refers to it after the change exactly if it did before
   not_begun_or_ceased : (c : Change A) (e : Name) → is_among (begun_or_ceased c) e ≡ false → is_among (half_references c.after) e ≡ is_among (half_references c.before) e
   not_begun_or_ceased c e h =
       let before = half_references c.before in
@@ -40,7 +40,7 @@ module _ {A : Type 0} where
       alike (is_among before e) (is_among after e)
       (sym (is_among-passing (λ z. not (is_among before z)) after e) ∙ neither.1) (sym (is_among-passing (λ z. not (is_among after z)) before e) ∙ neither.0)
 
-  -- what no change begins or ceases to name, none of a listed cell does
+  -- if no change begins or ceases to refer to a name, neither does the change of a listed cell
   none_at : (m n : Rows A) (e : Name) (cells : List Cell) → is_among (flat_map begun_or_ceased (map (change_at m n) cells)) e ≡ false
       → (c : Cell) → has cells c ≡ true → is_among (begun_or_ceased (change_at m n c)) e ≡ false
   none_at m n e [] h c i = absurd (cc)
@@ -58,15 +58,15 @@ module _ {A : Type 0} where
   IsRising-footprint_of a cs = IsRising-cell_set (subjects a ++ changed_cells cs ++ map rest_at (flat_map begun_or_ceased cs) ++ flat_map both_at (option_to_list (unglued_from a cs)))
 
   module _ (m : Rows A) (a : Action A) where
-    -- both cells of the node that a way is unglued from, if the action does that
+    -- both cells of the node that an unglue takes from its way
     abbrev pub from : List Cell
     from = flat_map both_at (option_to_list (unglued_from a (changes m a)))
 
-    -- the rest of what changes begin or cease to name
+    -- the rest of each name that changes begin or cease to refer to
     abbrev named : List Cell
     named = map rest_at (flat_map begun_or_ceased (changes m a))
 
-    -- a cell is in the footprint where it is in one of its four parts
+    -- a cell is in the footprint if it is in one of the four parts
     parts : (c : Cell) → has (footprint m a) c ≡ (((has (subjects a) c || has (differing m (after m a)) c) || has named c) || has from c)
     parts c =
         has-cell_set c (subjects a ++ changed_cells (changes m a) ++ named ++ from) ∙ has-append c (subjects a ++ changed_cells (changes m a) ++ named) from
@@ -74,7 +74,7 @@ module _ {A : Type 0} where
         (has-append c (subjects a ++ changed_cells (changes m a)) named
         ∙ ap (λ b. b || has named c) (has-append c (subjects a) (changed_cells (changes m a)) ∙ ap (λ l. has (subjects a) c || has l c) (cells-differences m (after m a))))
 
-    -- and outside where it is in none
+    -- a cell outside the footprint is in no part
     outside : (c : Cell) → has (footprint m a) c ≡ false
         → (((has (subjects a) c ≡ false) × (has (differing m (after m a)) c ≡ false)) × (has named c ≡ false)) × (has from c ≡ false)
     outside c out =

@@ -1,4 +1,4 @@
--- Each half of a row becomes what it does whatever the other half is; and rows that keep their tags.
+-- Rewrites in which each new half depends only on its old half, and rewrites that keep the tags.
 use Rattle.std.proofs.Common.{◌≡◌, ◌+◌, ℤ, ℕ, Bool, true, false, not, List, Option, Some, None, reverse, set, take, refl, sym, ap, ◌∙◌, cond}
 use Rattle.std.specs.Prelude.{◌+ℤ◌}
 use Rattle.std.specs.List.{filter}
@@ -36,7 +36,7 @@ some_inside x y e = cc
 module _ {A : Type 0} where
   -- ---- elements rewritten half by half
 
-  -- each half becomes what it does whatever the other is
+  -- each new half depends only on the same old half
   abbrev pub IsHalfwise : (Element A → Element A) → Type 0
   IsHalfwise f = (p : Part) (u v : Element A) → half_in p u ≡ half_in p v → half_in p (f u) ≡ half_in p (f v)
 
@@ -65,7 +65,7 @@ module _ {A : Type 0} where
   keeps_if true f h u = h u
   keeps_if false f h u = refl
 
-  -- where it is not the one that is rewritten
+  -- an element that is not rewritten keeps its tags
   pub keeps_unless : (b : Bool) (f : Element A → Element A) → b ≡ false → KeepsTags (λ u. cond b (f u) u)
   keeps_unless true f e u = absurd (cc)
   keeps_unless false f e u = refl
@@ -75,7 +75,7 @@ module _ {A : Type 0} where
   keeps_rest f (Way nodes tags) = refl
   keeps_rest f (Relation members tags) = refl
 
-  -- where the tags are kept and the rest is rewritten
+  -- if the tags are kept and the rest is rewritten from the rest, the rewrite is by halves
   by_rest : (f : Element A → Element A) (g : Half A → Half A) → KeepsTags f
       → ((u : Element A) → rest_of (f u) ≡ g (rest_of u)) → IsHalfwise f
   by_rest f g keeps is Tags u v e = ap halves.Tags (keeps u) ∙ e ∙ ap halves.Tags (sym (keeps v))
@@ -153,7 +153,7 @@ module _ {A : Type 0} where
   chosen true k p o q e = refl
   chosen false k p o q e = e
 
-  -- a row of which every element keeps its tags keeps them
+  -- a row keeps its tags if every element does
   pub tags_kept : (f : Element A → Element A) → KeepsTags f → (o : Option (Element A))
       → half Tags (option_map f o) ≡ half Tags o
   tags_kept f h None = refl

@@ -1,4 +1,4 @@
--- What the halves of rows tell: what a row names, its nodes, its members, its tags.
+-- What the halves of a row determine: its references, nodes, members and tags.
 use Rattle.std.proofs.Common.{◌≡◌, ℕ, List, [], Option, Some, None, refl, sym, ap, ◌∙◌}
 use Rattle.osm_elements.specs.declared.name.Name.{Name}
 use Rattle.osm_elements.specs.declared.element.Element.{Element}
@@ -13,7 +13,7 @@ use Rattle.edit_simple.specs.Contents.{nodes_of, members_of, row_tags}
 use Rattle.edit_footprint.specs.Footprints.{half_references, half_nodes}
 
 module _ {A : Type 0} where
-  -- what a row names stands in its rest
+  -- the references of a row are those of its rest
   pub references_by_half : (o : Option (Element A)) → row_references o ≡ half_references (half parts.Rest o)
   references_by_half None = refl
   references_by_half (Some (Node lat lon tags)) = refl
@@ -24,7 +24,7 @@ module _ {A : Type 0} where
       → row_references o ≡ row_references q
   same_references o q e = references_by_half o ∙ ap half_references e ∙ sym (references_by_half q)
 
-  -- so do the nodes of a way
+  -- the nodes of a way are those of its rest
   pub nodes_by_half : (o : Option (Element A)) → nodes_of o ≡ half_nodes (half parts.Rest o)
   nodes_by_half None = refl
   nodes_by_half (Some (Node lat lon tags)) = refl
@@ -34,7 +34,7 @@ module _ {A : Type 0} where
   pub same_nodes_of : (o q : Option (Element A)) → half parts.Rest o ≡ half parts.Rest q → nodes_of o ≡ nodes_of q
   same_nodes_of o q e = nodes_by_half o ∙ ap half_nodes e ∙ sym (nodes_by_half q)
 
-  -- and the members of a relation
+  -- the members of a relation are those of its rest
   abbrev members_in : Option (Half A) → List (Name × List ℕ)
   members_in (Some (Members members)) = members
   members_in _ = []

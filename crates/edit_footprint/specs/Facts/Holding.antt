@@ -1,4 +1,4 @@
--- The holders after an entry came to stand or fell, and that there is just one first entry behind another.
+-- The holders after an entry becomes active or ceases to be, and the uniqueness of the first entry after a number.
 use Rattle.std.proofs.Common.{◌≡◌, ◌||◌, ℕ, Bool, true, false, not, cond, T, List, [], ◌∷◌, ◌++◌, Option, Some, None, refl, sym, ap, subst, ◌∙◌, arith}
 use Rattle.std.specs.Ordering.{is_lt, nat_cmp}
 use Rattle.std.specs.FinMap.Entries.{put, is_sorted}
@@ -24,7 +24,7 @@ has_none-last : (seq : ℕ) (numbers : List ℕ) → T (not (has_none (numbers +
 has_none-last seq [] = tt
 has_none-last seq (n ∷ ns) = tt
 
--- an entry stands
+-- an entry becomes active
 holding-more : (held : Held) (c : Cell) (seq : ℕ) (q : Cell) → holding (put cell_cmp c (holding held c ++ seq ∷ []) held) q ≡ cond (is_same_cell q c) (holding held q ++ seq ∷ []) (holding held q)
 holding-more held c seq q = tables.listed-put cell_cmp cell_cmp_total c (holding held c ++ seq ∷ []) held q ∙ by (is_same_cell q c) refl
   where
@@ -49,14 +49,14 @@ AreHeld-standing held [] seq h = h
 AreHeld-standing held (c ∷ cs) seq h =
     AreHeld-standing (put cell_cmp c (holding held c ++ seq ∷ []) held) cs seq (tables.IsTable-put cell_cmp cell_cmp_total c (holding held c ++ seq ∷ []) held (has_none-last seq (holding held c)) h)
 
--- an entry fell
+-- an entry ceases to be active
 pub holding-fallen : (held : Held) (seq : ℕ) (q : Cell) → T (is_sorted cell_cmp held) → holding (fallen held seq) q ≡ but nat_cmp seq (holding held q)
 holding-fallen held seq q h = tables.listed-kept cell_cmp cell_cmp_total (but nat_cmp seq) refl held q h
 
 pub AreHeld-fallen : (held : Held) (seq : ℕ) → T (is_sorted cell_cmp held) → AreHeld (fallen held seq)
 AreHeld-fallen held seq h = tables.IsTable-kept cell_cmp cell_cmp_total (but nat_cmp seq) refl held h
 
--- an entry that came last holds its own cells alone
+-- the entry with the greatest number holds only its own cells
 pub HoldsOnly-standing : (held : Held) (cells : List Cell) (seq : ℕ) → IsRising cells → IsNext held seq → HoldsOnly (standing held cells seq) cells seq
 HoldsOnly-standing held cells seq r next c there = by (has cells c) refl
   where
@@ -67,7 +67,7 @@ HoldsOnly-standing held cells seq r next c there = by (has cells c) refl
         let low = next c seq (ap (λ l. is_among nat_cmp l seq) (sym same) ∙ there) in
         absurd (omega (arith, low))
 
--- and leaves all as it was where it falls again
+-- adding an entry and removing it again changes nothing
 pub fallen_again : (held : Held) (cells : List Cell) (seq : ℕ) → AreHeld held → IsRising cells → IsNext held seq → fallen (standing held cells seq) seq ≡ held
 fallen_again held cells seq h r next =
     let stands = AreHeld-standing held cells seq h in
@@ -78,7 +78,7 @@ fallen_again held cells seq h r next =
     by c true = but-last seq (holding held c) (next c)
     by c false = but-none seq (holding held c) (not_among seq (holding held c) (next c))
 
--- there is just one first entry behind another
+-- there is exactly one first entry after a number
 pub just_one : (held : Held) (cells : List Cell) (seq : ℕ) (o p : Option (ℕ × Name)) → IsFirstAfter held cells seq o → IsFirstAfter held cells seq p → o ≡ p
 just_one held cells seq None None f g = refl
 just_one held cells seq None (Some p) f g = absurd (f p.0 g.cell g.meets)

@@ -1,4 +1,4 @@
--- A join looks at its footprint alone.
+-- A join looks only at its footprint.
 use Rattle.std.proofs.Common.{◌≡◌, false, Option, None, refl, sym, ap, ◌∙◌, cond}
 use Rattle.std.specs.Option.{option_map}
 use Rattle.osm_elements.specs.declared.name.Name.{Name}
@@ -27,7 +27,7 @@ use Rattle.edit_footprint.specs.Facts.Halfwise.{keeps_members, keeps_both, keeps
 use Rattle.edit_footprint.specs.Facts.Subjects.{first, second, another}
 
 module _ {A : Type 0} where
-  -- every row but those of the two ways keeps its tags
+  -- every row except those of the two ways keeps its tags
   join_tags : (m : Rows A) (w v y : Name) → is_same w y ≡ false → is_same y v ≡ false → half Tags (row_at (after_join m w v) y) ≡ half Tags (row_at m y)
   join_tags m w v y not_w not_v =
       ap (half Tags) (row_at-each_but m v (join_row m w v) y ∙ ap (λ b. option_map (join_row m w v y) (cond b None (row_at m y))) not_v)
@@ -49,11 +49,11 @@ module _ {A : Type 0} where
       row_v : row_at m v ≡ row_at n v
       row_v = same_row_of_subject m n a agree v (λ p. second p w v)
 
-      -- what a join makes of an element, by v's row
+      -- an element after a join, given v's row
       joined : Option (Element A) → Name → Element A → Element A
       joined r y e = with_members (joined_members w v) (at_name w (λ u. with_nodes (λ list. end_to_end list (nodes_of r)) (with_tags (λ tags. both_tags tags (row_tags r)) u)) y e)
 
-      -- a row whose rest is outside does not name v, for all that do change
+      -- a row whose rest is outside does not refer to v, because all rows that do change
       unnamed : (y : Name) → has (footprint m a) (rest_at y) ≡ false → is_among (row_references (row_at n y)) v ≡ false
       unnamed = not_named m n a agree sound sound_n v (subjects_inside m a (rest_at v) (second Rest w v)) (λ y. join_changes m w v y sound ok)
           (λ y out. join_tags m w v y (same_either_way w y ∙ another m a Rest w y (first Rest w v) out) (another m a Rest v y (second Rest w v) out))

@@ -1,4 +1,4 @@
--- An action leaves what is outside its footprint as it is.
+-- An action changes nothing outside its footprint.
 use Rattle.std.proofs.Common.{◌≡◌, true, Option, Some, None, refl, sym, ◌∙◌}
 use Rattle.osm_elements.specs.declared.name.Name.{Name}
 use Rattle.osm_elements.specs.declared.element.Element.{Element}
@@ -16,7 +16,7 @@ use Rattle.edit_footprint.specs.Locality.{LeavesTheRest}
 use Rattle.edit_footprint.specs.Facts.Footprints.{halves_outside, namers_outside}
 
 module _ {A : Type 0} where
-  -- the users of a name are those whose rows name it
+  -- the users of a name are the names of the rows that refer to it
   pub is_among-users : (m : Rows A) → AreInOrder m → (e y : Name) → is_among (users m e) y ≡ is_among (row_references (row_at m y)) e
   is_among-users m h e y = among_rows (λ r. refers_to r.1 e) m h y ∙ by (row_at m y)
     where
@@ -24,7 +24,7 @@ module _ {A : Type 0} where
       by None = refl
       by (Some v) = refl
 
-  -- a name that the same rows name has the same users
+  -- a name has the same users if the same rows refer to it
   same_users : (m n : Rows A) → AreInOrder m → AreInOrder n → (e : Name) → ((y : Name) → is_among (row_references (row_at m y)) e ≡ is_among (row_references (row_at n y)) e) → users m e ≡ users n e
   same_users m n g h e is =
       same_rising (users m e) (users n e) (rising_names (λ r. refers_to r.1 e) m g) (rising_names (λ r. refers_to r.1 e) n h)

@@ -1,4 +1,4 @@
--- Every action looks at its footprint alone.
+-- Every action looks only at its footprint.
 use Rattle.std.proofs.Common.{◌≡◌, true, None}
 use Rattle.osm_elements.specs.Maps.{Rows}
 use Rattle.osm_changes.specs.Sound.{is_sound}

@@ -1,4 +1,4 @@
--- What two footprints share, in plain words.
+-- The meaning of a meeting of two footprints.
 use Rattle.std.proofs.Common.{◌≡◌, ◌||◌, Bool, true, false, T, List, [], ◌∷◌, Option, Some, None, refl, sym, ap, ◌∙◌, cond}
 use Rattle.std.specs.List.{find}
 use Rattle.std.specs.Option.{option_map}
@@ -18,7 +18,7 @@ use Rattle.rising_lists.specs.Rising.{bare_rows}
 use Rattle.edit_footprint.specs.Footprints.{meets, Shares}
 use Rattle.edit_footprint.specs.Facts.CellSets.{has-own, has-more}
 
--- where two lists share no cell, a cell of the one is none of the other
+-- if two lists share no cell, no cell of one is in the other
 pub apart : (one two : List Cell) → meets one two ≡ None → (c : Cell) → has one c ≡ true → has two c ≡ true → ⊥
 apart [] two none c i k = absurd (cc)
 apart (x ∷ xs) two none c i k = by (has two x) refl none (is_same_cell c x) refl i (λ n h. apart xs two n c h k)
@@ -29,7 +29,7 @@ apart (x ∷ xs) two none c i k = by (has two x) refl none (is_same_cell c x) re
     by false g n true f j go = cc (sym k ∙ ap (has two) (same_cells c x f) ∙ g)
     by false g n false f j go = go n j
 
--- what two lists share first is a cell of both
+-- the cell in which two lists meet is in both
 pub both_have : (one two : List Cell) (x : Name) → meets one two ≡ Some x → Shares one two x
 both_have [] two x h = absurd (cc)
 both_have (y ∷ ys) two x h = by (has two y) refl h (both_have ys two x)
@@ -38,7 +38,7 @@ both_have (y ∷ ys) two x h = by (has two y) refl h (both_have ys two x)
     by true e f go = let same : y.name ≡ x = cc in record { cell = y; name = same; in_one = has-own y ys; in_two = e }
     by false e f go = let found = go f in record { cell = found.cell; name = found.name; in_one = has-more found.cell y ys found.in_one; in_two = found.in_two }
 
--- a cell behind another has no lesser name
+-- a cell after another cell has no lesser name
 pub not_less : (c d : Cell) → T (is_lt (cell_cmp c d)) → is_lt (name_cmp d.name c.name) ≡ false
 not_less c d h = ap is_lt (name_cmp_total.antisymm d.name c.name) ∙ by (name_cmp c.name d.name) h
   where
@@ -66,7 +66,7 @@ first_is_least c cs rise d h = by (is_same_cell d c) refl h
     by true e h = ap (λ (q : Cell). is_lt (name_cmp q.name c.name)) (same_cells d c e) ∙ not_less_itself c.name
     by false e h = not_less_among c cs (first _ _ rise) d h
 
--- no cell of a lesser name than the one that is met first is in both
+-- no cell in both lists has a lesser name than the one in which they meet
 pub none_lesser : (one two : List Cell) (e : Name) → IsRising one → meets one two ≡ Some e → (c : Cell) → has one c ≡ true → has two c ≡ true → is_lt (name_cmp c.name e) ≡ false
 none_lesser [] two e rise h c i k = absurd (cc)
 none_lesser (y ∷ ys) two e rise h c i k = by (has two y) refl h (is_same_cell c y) refl i (λ m g. none_lesser ys two e (second _ _ rise) m c g k)
@@ -77,7 +77,7 @@ none_lesser (y ∷ ys) two e rise h c i k = by (has two y) refl h (is_same_cell 
     by false g m true f j go = absurd (cc (sym k ∙ ap (has two) (same_cells c y f) ∙ g))
     by false g m false f j go = go m j
 
--- names of which neither is less are the same
+-- two names are the same if neither is less
 pub neither_less : (x y : Name) → is_lt (name_cmp x y) ≡ false → is_lt (name_cmp y x) ≡ false → x ≡ y
 neither_less x y low high = by (name_cmp x y) refl low
   where
@@ -86,7 +86,7 @@ neither_less x y low high = by (name_cmp x y) refl low
     by Equal e f = name_cmp-IsAntisymmetric x y e
     by Greater e f = absurd (cc (sym high ∙ ap is_lt (name_cmp_total.antisymm y x ∙ ap ordering_reverse e)))
 
--- which of two footprints is asked does not matter
+-- the order of the two footprints does not matter
 pub either_way : (one two : List Cell) → IsRising one → IsRising two → meets one two ≡ meets two one
 either_way one two r s = by (meets one two) refl (meets two one) refl
   where

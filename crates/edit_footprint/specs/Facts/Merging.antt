@@ -1,4 +1,4 @@
--- A merge looks at its footprint alone.
+-- A merge looks only at its footprint.
 use Rattle.std.proofs.Common.{◌≡◌, ◌&&◌, Bool, true, false, List, [], Option, Some, None, length, nat_lt, refl, sym, ap, ◌∙◌, cond}
 use Rattle.std.proofs.lemmas.Bool.{and_left}
 use Rattle.std.specs.Option.{option_map}
@@ -36,7 +36,7 @@ use Rattle.edit_footprint.specs.Facts.NonePassing.{none_of_map}
 use Rattle.edit_footprint.specs.Facts.Subjects.{first, second, another}
 
 module _ {A : Type 0} where
-  -- every row but those of the two nodes keeps its tags
+  -- every row except those of the two nodes keeps its tags
   merge_tags : (m : Rows A) (k g y : Name) → is_same k y ≡ false → is_same y g ≡ false → half Tags (row_at (after_merge m k g) y) ≡ half Tags (row_at m y)
   merge_tags m k g y not_k not_g =
       ap (half Tags) (row_at-each_but m g (merge_row m k g) y ∙ ap (λ b. option_map (merge_row m k g y) (cond b None (row_at m y))) not_g)
@@ -59,11 +59,11 @@ module _ {A : Type 0} where
       row_g : row_at m g ≡ row_at n g
       row_g = same_row_of_subject m n a agree g (λ p. second p k g)
 
-      -- what a merge makes of an element, by g's row
+      -- an element after a merge, given g's row
       merged : Option (Element A) → Name → Element A → Element A
       merged r y e = with_nodes (merged_nodes k g) (with_members (renamed_members g k) (at_name k (with_tags (λ tags. both_tags tags (row_tags r))) y e))
 
-      -- a row whose rest is outside does not name g, for all that do change
+      -- a row whose rest is outside does not refer to g, because all rows that do change
       unnamed : (y : Name) → has (footprint m a) (rest_at y) ≡ false → is_among (row_references (row_at n y)) g ≡ false
       unnamed = not_named m n a agree sound sound_n g (subjects_inside m a (rest_at g) (second Rest k g)) (λ y. merge_changes m k g y sound ok)
           (λ y out. merge_tags m k g y (same_either_way k y ∙ another m a Rest k y (first Rest k g) out) (another m a Rest g y (second Rest k g) out))
@@ -71,7 +71,7 @@ module _ {A : Type 0} where
       gets_too_short : List Name → Bool
       gets_too_short list = is_among list g && nat_lt (length (merged_nodes k g list)) 2
 
-      -- no way that names g gets too short in either map
+      -- no way that refers to g gets too short in either map
       long : shrunk m k g ≡ []
       long = no_least {A = A} TooFew (shrunk m k g) (nones (checks m a) ok).1.1.1.1.1.0
 

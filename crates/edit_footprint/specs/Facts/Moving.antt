@@ -1,4 +1,4 @@
--- A move looks at its footprint alone.
+-- A move looks only at its footprint.
 use Rattle.std.proofs.Common.{◌≡◌, ◌&&◌, ◌||◌, ℤ, pos, Bool, true, false, not, List, [], ◌∷◌, Option, Some, None, length, nat_eq, refl, sym, ap, ◌∙◌, cond}
 use Rattle.std.proofs.lemmas.Bool.{or_from, false_from_ne_true, and_left, and_right}
 use Rattle.std.specs.List.{filter, list_any}
@@ -46,7 +46,7 @@ use Rattle.edit_footprint.specs.Facts.Halves.{same_nodes_of}
 use Rattle.edit_footprint.specs.Facts.Naming.{named_there, none_of_nodes}
 use Rattle.edit_footprint.specs.Facts.NonePassing.{none_of_list, none_of_map}
 
--- tests that tell the same of each name of a list
+-- tests that agree on each name of a list
 any_alike : (p q : Name → Bool) (list : List Name) → ((e : Name) → is_among list e ≡ true → p e ≡ q e) → list_any p list ≡ list_any q list
 any_alike p q [] h = refl
 any_alike p q (x ∷ xs) h =
@@ -69,12 +69,12 @@ module _ {A : Type 0} where
       ap (half Tags) (row_at-after m (Move list dlat dlon) y)
       ∙ tags_kept (moves m list dlat dlon y) (keeps_if (is_moved m list y) (moved_by dlat dlon) (keeps_moved dlat dlon)) (row_at m y)
 
-  -- so a row whose rest is outside stays
+  -- a row whose rest is outside is unchanged
   row_stays : (m : Rows A) (list : List Name) (dlat dlon : ℤ) (y : Name) → has (footprint m (Move list dlat dlon)) (rest_at y) ≡ false → row_at (after m (Move list dlat dlon)) y ≡ row_at m y
   row_stays m list dlat dlon y out =
       let a : Action A = Move list dlat dlon in same_whole (row_at (after m a) y) (row_at m y) (tags_stay m list dlat dlon y) (halves_outside m a (rest_at y) out)
 
-  -- a moved node that is there is elsewhere afterwards, so its row changes
+  -- a present node that is moved has a different place afterwards, so its row changes
   moved_away : (m : Rows A) (list : List Name) (dlat dlon : ℤ) → is_sound m ≡ true → refusal m (Move list dlat dlon) ≡ None
       → (y : Name) → is_node y.kind ≡ true → is_present m y ≡ true → is_moved m list y ≡ true → has (footprint m (Move list dlat dlon)) (rest_at y) ≡ false → ⊥
   moved_away m list dlat dlon sound ok y node here moved out = let row = node_there m y sound node here in still row.0 row.1 row.2 row.3
@@ -91,7 +91,7 @@ module _ {A : Type 0} where
           (ap (λ b. Some (cond b (moved_by dlat dlon (elements.Node lat lon tags)) (elements.Node lat lon tags))) (sym moved)
           ∙ ap (option_map (moves m list dlat dlon y)) (sym is) ∙ sym (row_at-after m a y) ∙ row_stays m list dlat dlon y out ∙ is)
 
-  -- so no name whose rest is outside is moved
+  -- no name whose rest is outside is moved
   none_moved : (m : Rows A) (list : List Name) (dlat dlon : ℤ) → is_sound m ≡ true → refusal m (Move list dlat dlon) ≡ None
       → (y : Name) → has (footprint m (Move list dlat dlon)) (rest_at y) ≡ false → is_moved m list y ≡ false
   none_moved m list dlat dlon sound ok y out = false_from_ne_true (is_moved m list y) (λ moved. by (is_present m y) refl moved)
@@ -99,7 +99,7 @@ module _ {A : Type 0} where
       in_a_way : Name → Bool
       in_a_way w = is_among (nodes_of (row_at m w)) y
 
-      -- what is not there is no node of a way
+      -- an absent name is not a node of a way
       in_none : is_present m y ≡ false → (w : Name) → in_a_way w ≡ false
       in_none gone w = none_of_nodes (row_at m w) y (false_from_ne_true (is_among (row_references (row_at m w)) y) (λ named. cc (sym (named_there m sound w y named) ∙ gone)))
 
@@ -109,7 +109,7 @@ module _ {A : Type 0} where
           ∙ and_right (is_node y.kind) (is_among list y || list_any in_a_way list)
           (or_from (is_among list y) (list_any in_a_way list) (sym (has-rests list y) ∙ no_subject m (Move list dlat dlon) (rest_at y) out) (none_at_all in_a_way list (in_none gone))))
 
-  -- whether an element leaves the range is told by its rest
+  -- the rest of an element determines whether it leaves the range
   abbrev is_far : ℤ → ℤ → Half A → Bool
   is_far dlat dlon (Place lat lon) = let bare : Element A = elements.Node lat lon [] in is_out_of_range (moved_by dlat dlon bare)
   is_far dlat dlon h = false
@@ -139,12 +139,12 @@ module _ {A : Type 0} where
       same_rest : (w : Name) → is_among list w ≡ true → half Rest (row_at m w) ≡ half Rest (row_at n w)
       same_rest w i = same_subject m n a agree Rest w (has-rests list w ∙ i)
 
-      -- the same nodes are moved, for what is listed has the same nodes
+      -- the same nodes are moved, because the listed elements have the same nodes
       same_moved : (y : Name) → is_moved n list y ≡ is_moved m list y
       same_moved y = ap (λ b. is_node y.kind && (is_among list y || b))
           (any_alike (λ w. is_among (nodes_of (row_at n w)) y) (λ w. is_among (nodes_of (row_at m w)) y) list (λ w i. ap (λ l. is_among l y) (sym (same_nodes_of (row_at m w) (row_at n w) (same_rest w i)))))
 
-      -- what is listed is in both maps
+      -- all listed names are in both maps
       here : filter (is_absent m) list ≡ []
       here = no_least {A = A} Absent (filter (is_absent m) list) (nones (checks m a) ok).1.0
 

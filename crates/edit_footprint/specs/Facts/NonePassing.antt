@@ -1,4 +1,4 @@
--- Lists and maps of which none passes a test.
+-- Lists and maps in which nothing passes a test.
 use Rattle.std.proofs.Common.{◌≡◌, Bool, true, false, List, [], ◌∷◌, Option, Some, None, refl, sym, ap, ◌∙◌, cond}
 use Rattle.std.specs.List.{filter}
 use Rattle.osm_elements.specs.declared.name.Name.{Name}

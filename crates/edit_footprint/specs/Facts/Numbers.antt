@@ -1,4 +1,4 @@
--- Rising numbers: one more at the end, one taken out, and the first above another.
+-- Rising numbers: one appended, one removed, and the first above a number.
 use Rattle.std.proofs.Common.{◌≡◌, ◌||◌, ◌<◌, ◌≤◌, ℕ, Bool, true, false, not, cond, T, List, [], ◌∷◌, ◌++◌, Some, None, nat_eq, nat_lt, refl, sym, ap, subst, ◌∙◌, arith}
 use Rattle.std.proofs.lemmas.Bool.Decides.{nat_tests}
 use Rattle.std.specs.List.{find}
@@ -52,7 +52,7 @@ or_else : (a b : Bool) → b ≡ true → (a || b) ≡ true
 or_else true b e = refl
 or_else false b e = e
 
--- all of some numbers are below another
+-- all numbers are below s
 abbrev pub AreBelow : List ℕ → ℕ → Type 0
 AreBelow xs s = (n : ℕ) → is_among nat_cmp xs n ≡ true → n < s
 
@@ -62,7 +62,7 @@ first_below x s xs h = h x (ap (λ b. b || is_among nat_cmp xs x) (same x))
 others_below : (x s : ℕ) (xs : List ℕ) → AreBelow (x ∷ xs) s → AreBelow xs s
 others_below x s xs h n e = h n (or_else (is_eq (nat_cmp n x)) (is_among nat_cmp xs n) e)
 
--- what is behind the first of rising numbers is above it
+-- the numbers after the first of rising numbers are above it
 above_first : (x : ℕ) (xs : List ℕ) → T (below_all nat_cmp x (bare_rows xs)) → (n : ℕ) → is_among nat_cmp xs n ≡ true → x < n
 above_first x [] h n e = absurd (cc)
 above_first x (y ∷ ys) h n e = by (is_eq (nat_cmp n y)) refl e (above_first x ys (second _ _ h) n)
@@ -75,7 +75,7 @@ below_last : (x s : ℕ) (xs : List ℕ) → x < s → T (below_all nat_cmp x (b
 below_last x s [] h low = both _ _ (subst (λ o. T (is_lt o)) (sym (less x s h)) tt) tt
 below_last x s (y ∷ ys) h low = both _ _ (first _ _ low) (below_last x s ys h (second _ _ low))
 
--- a number above all others is put at the end
+-- appending a number above all others keeps the list rising
 pub IsRising-last : (s : ℕ) (xs : List ℕ) → AreBelow xs s → IsRising nat_cmp xs → IsRising nat_cmp (xs ++ s ∷ [])
 IsRising-last s [] h r = tt
 IsRising-last s (x ∷ xs) h r = both _ _ (below_last x s xs (first_below x s xs h) (first _ _ r)) (IsRising-last s xs (others_below x s xs h) (second _ _ r))
@@ -89,7 +89,7 @@ is_among-last s (x ∷ xs) n = ap (λ b. is_eq (nat_cmp n x) || b) (is_among-las
     swap true false c = refl
     swap false b c = refl
 
--- a number that is not there is not taken out
+-- removing a number that is absent changes nothing
 pub but-none : (s : ℕ) (xs : List ℕ) → is_among nat_cmp xs s ≡ false → but nat_cmp s xs ≡ xs
 but-none s [] e = refl
 but-none s (x ∷ xs) e = by (is_eq (nat_cmp s x)) e (but-none s xs)
@@ -98,7 +98,7 @@ but-none s (x ∷ xs) e = by (is_eq (nat_cmp s x)) e (but-none s xs)
     by true f go = absurd (cc)
     by false f go = ap (λ ys. x ∷ ys) (go f)
 
--- a number above all others is not among them
+-- a number above all others is not in the list
 pub not_among : (s : ℕ) (xs : List ℕ) → AreBelow xs s → is_among nat_cmp xs s ≡ false
 not_among s xs h = by (is_among nat_cmp xs s) refl
   where
@@ -106,14 +106,14 @@ not_among s xs h = by (is_among nat_cmp xs s) refl
     by true e = absurd (let low = h s e in omega (arith, low))
     by false e = refl
 
--- and goes again
+-- removing an appended number restores the list
 pub but-last : (s : ℕ) (xs : List ℕ) → AreBelow xs s → but nat_cmp s (xs ++ s ∷ []) ≡ xs
 but-last s [] h = ap (λ b. cond (not b) (s ∷ []) []) (same s)
 but-last s (x ∷ xs) h =
     ap (λ o. cond (not (is_eq o)) (x ∷ but nat_cmp s (xs ++ s ∷ [])) (but nat_cmp s (xs ++ s ∷ []))) (greater s x (first_below x s xs h))
     ∙ ap (λ ys. x ∷ ys) (but-last s xs (others_below x s xs h))
 
--- the first of rising numbers that is above another: it is there, and the least such
+-- the first of rising numbers above a number is in the list, and is the least above it
 pub first_above : (s : ℕ) (xs : List ℕ) (m : ℕ) → find (nat_lt s) xs ≡ Some m → (s < m) × (is_among nat_cmp xs m ≡ true)
 first_above s [] m e = absurd (cc)
 first_above s (x ∷ xs) m e = by (nat_lt s x) refl e (first_above s xs m)

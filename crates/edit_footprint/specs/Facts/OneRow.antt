@@ -1,5 +1,4 @@
--- A retag, a reverse, a create, a delete, and other nodes or members look at their footprints alone: each changes one
--- row.
+-- Actions that change one row look only at their footprints: retag, reverse, create, delete, `nodes` and `members`.
 use Rattle.std.proofs.Common.{◌≡◌, ◌&&◌, ℕ, Bool, true, false, not, List, [], Option, Some, None, map, reverse, refl, ap, ◌∙◌, cond}
 use Rattle.std.specs.List.{filter}
 use Rattle.std.specs.Option.{option_map}
@@ -40,7 +39,7 @@ use Rattle.edit_footprint.specs.Facts.NonePassing.{none_of_list}
 use Rattle.edit_footprint.specs.Facts.Subjects.{alone, either, another}
 
 module _ {A : Type 0} where
-  -- a row that is not the one that is rewritten stays
+  -- a row other than the rewritten one is unchanged
   elsewhere : (x y : Name) (f : Element A → Element A) (o : Option (Element A)) → is_same y x ≡ false → option_map (at_name x f y) o ≡ o
   elsewhere x y f None other = refl
   elsewhere x y f (Some v) other = ap (λ b. Some (cond b (f v) v)) (same_either_way x y ∙ other)
@@ -56,7 +55,7 @@ module _ {A : Type 0} where
       a : Action A
       a = Retag x given
 
-      -- the rest stays everywhere
+      -- the rest of every row is unchanged
       rest_stays : (b : Bool) (o : Option (Element A)) → half Rest (option_map (λ v. cond b (with_tags (λ tags. retagged tags given) v) v) o) ≡ half Rest o
       rest_stays b None = refl
       rest_stays true (Some v) = ap Some (keeps_rest (λ tags. retagged tags given) v)
@@ -69,7 +68,7 @@ module _ {A : Type 0} where
           let tags = same_row_tags (row_at m x) (row_at n x) its_tags in
           rw (← here, ← tags) refl
 
-  -- where the rest of a subject is rewritten and the tags stay everywhere, the halves outside are kept
+  -- if a subject's rest is rewritten and all tags are unchanged, the halves outside are unchanged
   rest_alone : (m n : Rows A) (a : Action A) (x : Name) (f : Element A → Element A) → KeepsTags f → has (subjects a) (rest_at x) ≡ true
       → ((y : Name) → row_at (after n a) y ≡ option_map (at_name x f y) (row_at n y)) → Keeps Tags m n a × Keeps Rest m n a
   rest_alone m n a x f keeps own rewritten = (
@@ -122,13 +121,13 @@ module _ {A : Type 0} where
       way = way_there m w sound (from_false (is_way w.kind) (not_so {X = Refusal A} (not (is_way w.kind)) (WrongKind w) (nones (checks m a) ok).0))
           (from_false (is_present m w) (not_so {X = Refusal A} (is_absent m w) (Absent w) (nones (checks m a) ok).1.0))
 
-      -- w's row names the list afterwards
+      -- the row of w refers to the list afterwards
       named : (e : Name) → is_among list e ≡ true → is_among (row_references (row_at (after m a) w)) e ≡ true
       named e i =
           ap (λ o. is_among (row_references o) e)
           (row_at-after m a w ∙ ap (option_map (at_name w (with_nodes (λ _. list)) w)) way.2 ∙ ap (λ b. Some (cond b (elements.Way list way.1) (elements.Way way.0 way.1))) (is_eq-name_cmp_itself w)) ∙ i
 
-      -- what is listed is in both maps
+      -- all listed names are in both maps
       here : filter (is_absent m) list ≡ []
       here = no_least {A = A} Absent (filter (is_absent m) list) (nones (checks m a) ok).1.1.1.1.0
 
@@ -155,14 +154,14 @@ module _ {A : Type 0} where
       relation = relation_there m r sound (from_false (is_relation r.kind) (not_so {X = Refusal A} (not (is_relation r.kind)) (WrongKind r) (nones (checks m a) ok).0))
           (from_false (is_present m r) (not_so {X = Refusal A} (is_absent m r) (Absent r) (nones (checks m a) ok).1.0))
 
-      -- r's row names the members afterwards
+      -- the row of r refers to the members afterwards
       named : (e : Name) → is_among (map (λ z. z.0) list) e ≡ true → is_among (row_references (row_at (after m a) r)) e ≡ true
       named e i =
           ap (λ o. is_among (row_references o) e)
           (row_at-after m a r ∙ ap (option_map (at_name r (with_members (λ _. list)) r)) relation.2
           ∙ ap (λ b. Some (cond b (elements.Relation list relation.1) (elements.Relation relation.0 relation.1))) (is_eq-name_cmp_itself r)) ∙ i
 
-      -- what is listed is in both maps
+      -- all listed names are in both maps
       here : filter (is_absent m) (map (λ e. e.0) list) ≡ []
       here = no_least {A = A} Absent (filter (is_absent m) (map (λ e. e.0) list)) (nones (checks m a) ok).1.1.1.0
 
@@ -187,11 +186,11 @@ module _ {A : Type 0} where
       stays : (y : Name) → is_same y x ≡ false → row_at (after n a) y ≡ row_at n y
       stays y other = row_at-after n a y ∙ ap (λ b. cond b (Some v) (row_at n y)) other
 
-      -- x's row names afterwards what v refers to
+      -- the row of x refers afterwards to all that v refers to
       named : (e : Name) → is_among (references v) e ≡ true → is_among (row_references (row_at (after m a) x)) e ≡ true
       named e i = ap (λ o. is_among (row_references o) e) (row_at-after m a x ∙ ap (λ b. cond b (Some v) (row_at m x)) (is_eq-name_cmp_itself x)) ∙ i
 
-      -- what v refers to is missing in neither map
+      -- no map lacks a name that v refers to
       here : filter (is_missing m x) (references v) ≡ []
       here = no_least {A = A} Absent (filter (is_missing m x) (references v)) (nones (checks m a) ok).1.1.1.1.0
 

@@ -1,4 +1,4 @@
--- A purge looks at its footprint alone.
+-- A purge looks only at its footprint.
 use Rattle.std.proofs.Common.{◌≡◌, ◌≢◌, ◌||◌, ℕ, Bool, true, false, not, List, [], ◌∷◌, Option, Some, None, is_some, length, nat_lt, map, refl, sym, ap, ◌∙◌, cond}
 use Rattle.std.proofs.lemmas.Bool.{and_left, or_from, or_parts, false_from_ne_true, true_from_ne_false}
 use Rattle.std.specs.List.{filter}
@@ -31,7 +31,7 @@ use Rattle.edit_footprint.specs.Facts.Halves.{same_nodes_of}
 use Rattle.edit_footprint.specs.Facts.Naming.{named_there, none_of_nodes}
 use Rattle.edit_footprint.specs.Facts.Subjects.{either, another}
 
--- members of which none goes
+-- members of which none is removed
 members_stay : (go : Name → Bool) (members : List (Name × List ℕ)) → ((e : Name) → go e ≡ true → is_among (map (λ r. r.0) members) e ≡ false) → filter (λ r. not (go r.0)) members ≡ members
 members_stay go [] h = refl
 members_stay go (r ∷ rs) h =
@@ -39,7 +39,7 @@ members_stay go (r ∷ rs) h =
     ∙ ap (λ l. r ∷ l) (members_stay go rs (λ e g. (or_parts _ _ (h e g)).1))
 
 module _ {A : Type 0} where
-  -- a row that does not go, and names nothing that goes, stays
+  -- a row that is not removed and refers to nothing removed is unchanged
   purge_leaves : (m : Rows A) (x y : Name) → goes m x y ≡ false → ((e : Name) → goes m x e ≡ true → is_among (row_references (row_at m y)) e ≡ false) → row_at (after_purge m x) y ≡ row_at m y
   purge_leaves m x y stays unnamed = row_at-after_purge m x y ∙ ap (λ b. cond b None (option_map (what_is_left m x) (row_at m y))) stays ∙ by (row_at m y) unnamed
     where
@@ -49,13 +49,13 @@ module _ {A : Type 0} where
       by (Some (Way nodes tags)) free = ap (λ l. Some (Way l tags)) (without_none x nodes (free x (x_goes m x)))
       by (Some (Relation members tags)) free = ap (λ l. Some (Relation l tags)) (members_stay (goes m x) members free)
 
-  -- a row that names something that goes changes, for nothing names it afterwards
+  -- a row that refers to a removed name changes, because nothing refers to this name afterwards
   purge_changes : (m : Rows A) (x e : Name) → is_sound m ≡ true → goes m x e ≡ true → (y : Name) → is_among (row_references (row_at m y)) e ≡ true → row_at (after_purge m x) y ≢ row_at m y
   purge_changes m x e sound go y named kept =
       let there = named_there (after_purge m x) (purge_sound m x sound) y e (ap (λ o. is_among (row_references o) e) kept ∙ named) in
       cc (sym there ∙ ap is_some (is_gone m x e go))
 
-  -- a name with a cell outside stays: it is not the subject, and a way that went would have changed in both halves
+  -- a name with a cell outside is not removed: it is not the subject, and a removed way changes in both halves
   stays_outside : (m : Rows A) (x : Name) (p : Part) (y : Name) → has (footprint m (Purge x)) (record { name = y; part = p }) ≡ false → goes m x y ≡ false
   stays_outside m x p y out =
       false_from_ne_true (goes m x y) (λ go. by (row_at m y) (sym (halves_outside m (Purge x) (record { name = y; part = p }) out) ∙ ap (half p) (is_gone m x y go)) go)
@@ -64,7 +64,7 @@ module _ {A : Type 0} where
       by None is go = cc (sym go ∙ or_from (is_same x y) false (same_either_way x y ∙ another m (Purge x) p x y (either p x []) out) refl)
       by (Some v) is go = cc
 
-  -- what does not go keeps its tags
+  -- a row that is not removed keeps its tags
   tags_stay : (m : Rows A) (x y : Name) → goes m x y ≡ false → half Tags (row_at (after_purge m x) y) ≡ half Tags (row_at m y)
   tags_stay m x y stays =
       ap (half Tags) (row_at-after_purge m x y ∙ ap (λ b. cond b None (option_map (what_is_left m x) (row_at m y))) stays)
@@ -82,14 +82,14 @@ module _ {A : Type 0} where
       a : Action A
       a = Purge x
 
-      -- a row whose rest is outside names nothing that goes, for all that do change
+      -- a row whose rest is outside refers to nothing removed, because all rows that do change
       unnamed : (e : Name) → goes m x e ≡ true → (y : Name) → has (footprint m a) (rest_at y) ≡ false → is_among (row_references (row_at n y)) e ≡ false
       unnamed e go = not_named m n a agree sound sound_n e inside (purge_changes m x e sound go) (λ y out. tags_stay m x y (stays_outside m x Rest y out))
         where
           inside : has (footprint m a) (rest_at e) ≡ true
           inside = true_from_ne_false (has (footprint m a) (rest_at e)) (λ out. cc (sym go ∙ stays_outside m x Rest e out))
 
-      -- the same goes in both maps
+      -- the same names are removed from both maps
       same_goes : goes n x ≡ goes m x
       same_goes j y = by (has (footprint m a) (rest_at y)) refl j
         where

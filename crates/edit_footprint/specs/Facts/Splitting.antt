@@ -1,4 +1,4 @@
--- A split looks at its footprint alone.
+-- A split looks only at its footprint.
 use Rattle.std.proofs.Common.{◌≡◌, ◌&&◌, ◌+◌, ℕ, Bool, true, false, [], Option, Some, None, length, nat_lt, take, refl, sym, ap, ◌∙◌, cond}
 use Rattle.std.proofs.lemmas.Bool.{and_left, and_right}
 use Rattle.std.specs.Option.{option_map}
@@ -33,7 +33,7 @@ use Rattle.edit_footprint.specs.Facts.NonePassing.{none_of_map}
 use Rattle.edit_footprint.specs.Facts.Subjects.{first, second, another}
 
 module _ {A : Type 0} where
-  -- every row but the new one keeps its tags
+  -- every row except the new one keeps its tags
   split_tags : (m : Rows A) (w : Name) (i : ℕ) (v y : Name) → is_same y v ≡ false → half Tags (row_at (after_split m w i v) y) ≡ half Tags (row_at m y)
   split_tags m w i v y other =
       ap (half Tags) (row_at-after_split m w i v y ∙ ap (λ b. cond b (Some (split_off m w i)) (option_map (split_row w i v y) (row_at m y))) other)
@@ -55,7 +55,7 @@ module _ {A : Type 0} where
       row_w : row_at m w ≡ row_at n w
       row_w = same_row_of_subject m n a agree w (λ p. first p w v)
 
-      -- a row whose rest is outside does not name w, for all that do change
+      -- a row whose rest is outside does not refer to w, because all rows that do change
       unnamed : (y : Name) → has (footprint m a) (rest_at y) ≡ false → is_among (row_references (row_at n y)) w ≡ false
       unnamed = not_named m n a agree sound sound_n w (subjects_inside m a (rest_at w) (first Rest w v)) (λ y. split_changes m w i v y sound ok)
           (λ y out. split_tags m w i v y (another m a Rest v y (second Rest w v) out))

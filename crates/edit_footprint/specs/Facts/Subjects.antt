@@ -1,4 +1,4 @@
--- The cells that are subjects of an action, and those that are not.
+-- The cells that are subjects of an action, and the cells that are not.
 use Rattle.std.proofs.Common.{◌≡◌, true, false, List, [], ◌∷◌, ◌++◌, sym, ap, ◌∙◌}
 use Rattle.std.proofs.lemmas.Bool.{false_from_ne_true}
 use Rattle.osm_elements.specs.declared.name.Name.{Name}
@@ -13,7 +13,7 @@ use Rattle.edit_footprint.specs.Footprints.{subjects, footprint}
 use Rattle.edit_footprint.specs.Facts.CellSets.{has-own, has-more}
 use Rattle.edit_footprint.specs.Facts.Footprints.{no_subject}
 
--- the one of one, either of both of a name, and of both of two names
+-- a list of one cell, of both cells of a name, and of both cells of two names has each of its cells
 pub alone : (c : Cell) → has (c ∷ []) c ≡ true
 alone c = has-own c []
 
@@ -28,7 +28,7 @@ pub second : (p : Part) (x y : Name) → has (both_at x ++ both_at y) (record { 
 second p x y =
     has-more (record { name = y; part = p }) (tags_at x) (rest_at x ∷ both_at y) (has-more (record { name = y; part = p }) (rest_at x) (both_at y) (either p y []))
 
--- a name with a cell outside is another than that of a subject of this part
+-- a name with a cell outside differs from each name that is a subject with this part
 pub another : {A : Type 0} (m : Rows A) (a : Action A) (p : Part) (x y : Name) → has (subjects a) (record { name = x; part = p }) ≡ true → has (footprint m a) (record { name = y; part = p }) ≡ false → is_same y x ≡ false
 another m a p x y own out =
     false_from_ne_true (is_same y x)

@@ -1,4 +1,4 @@
--- An unglue looks at its footprint alone.
+-- An unglue looks only at its footprint.
 use Rattle.std.proofs.Common.{◌≡◌, ◌||◌, ℕ, Bool, true, false, List, [], ◌∷◌, map, set, Some, None, refl, sym, ap, ◌∙◌, cond}
 use Rattle.std.proofs.lemmas.Bool.{true_from_ne_false}
 use Rattle.std.specs.List.{find, flat_map, slice_get}
@@ -42,7 +42,7 @@ module _ {A : Type 0} where
       by true = refl
       by false = refl
 
-  -- where changes tell a cell, they have the half that it had before
+  -- if the changes have a cell, they have its earlier half
   half_before-map : (m n : Rows A) (cells : List Cell) (c : Cell) → half_before (map (change_at m n) cells) c ≡ cond (has cells c) (half_at m c) None
   half_before-map m n [] c = refl
   half_before-map m n (d ∷ ds) c =
@@ -52,13 +52,13 @@ module _ {A : Type 0} where
       by true e = ap (half_at m) (sym (same_cells c d e))
       by false e = refl
 
-  -- every row but the new one keeps its tags
+  -- every row except the new one keeps its tags
   unglue_tags : (m : Rows A) (w : Name) (i : ℕ) (v y : Name) → is_same y v ≡ false → half Tags (row_at (after_unglue m w i v) y) ≡ half Tags (row_at m y)
   unglue_tags m w i v y other =
       ap (half Tags) (row_at-after_unglue m w i v y ∙ ap (λ b. cond b (row_standing m w i) (option_map (unglue_row w i v y) (row_at m y))) other)
       ∙ tags_kept (unglue_row w i v y) (keeps_if (is_same w y) (with_nodes (λ list. set list i v)) (keeps_nodes (λ list. set list i v))) (row_at m y)
 
-  -- both cells of the node that stood there are in the footprint
+  -- the footprint has both cells of the old node
   stood_inside : (m : Rows A) (w : Name) (i : ℕ) (v : Name) → is_sound m ≡ true → refusal m (Unglue w i v) ≡ None → (s : Unglues m w i v)
       → (p : Part) → has (footprint m (Unglue w i v)) (record { name = s.stood.name; part = p }) ≡ true
   stood_inside m w i v sound ok s p =
@@ -73,7 +73,7 @@ module _ {A : Type 0} where
       stood : Cell
       stood = record { name = s.stood.name; part = p }
 
-      -- w's list changes, for w's row does and keeps its tags
+      -- the list of w changes, because its row changes and keeps its tags
       changed : has (differing m k) (rest_at w) ≡ true
       changed = true_from_ne_false (has (differing m k) (rest_at w))
           (λ out. unglue_changes m w i v sound ok (same_whole (row_at k w) (row_at m w) (unglue_tags m w i v w (not_new m w i v s)) (sym (not_differing m k (rest_at w) out))))
@@ -100,7 +100,7 @@ module _ {A : Type 0} where
       row_stood = same_whole (row_at m s.stood.name) (row_at n s.stood.name) (agree.same_half (tags_at s.stood.name) (stood_inside m w i v sound ok s Tags))
           (agree.same_half (rest_at s.stood.name) (stood_inside m w i v sound ok s Rest))
 
-      -- the new node gets the same row in both
+      -- the new node gets the same row in both maps
       same_standing : row_standing n w i ≡ row_standing m w i
       same_standing =
           ap (λ o. option_and_then (row_at n) (slice_get (nodes_of o) i)) (sym row_w ∙ s.row) ∙ ap (option_and_then (row_at n)) s.stood.at ∙ sym row_stood ∙ sym (row_standing_is m w i v s)

@@ -1,8 +1,8 @@
--- The search for the first entry behind another.
+-- The search for the first entry after a number.
 use Rattle.std.specs.Prelude.{ℕ, Option, Some, None, nat_lt, if◌then◌else◌}
 use Rattle.osm_elements.specs.declared.name.Name.{Name}
 
--- the sooner of a first number with its name and the number of a cell of a name
+-- the sooner of two entries with their names; of the same entry, the first name
 abbrev pub sooner : Option (ℕ × Name) → Option ℕ → Name → Option (ℕ × Name)
 sooner first None x = first
 sooner None (Some m) x = Some (m, x)

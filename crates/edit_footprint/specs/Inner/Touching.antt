@@ -1,4 +1,4 @@
--- What changes touch, collected change by change.
+-- The names that changes touch, collected change by change.
 use Rattle.std.specs.Prelude.{◌++◌, List}
 use Rattle.std.specs.List.{flat_map}
 use Rattle.osm_elements.specs.declared.name.Name.{Name}
@@ -8,12 +8,12 @@ use Rattle.osm_refs.specs.Rising.{names_but}
 use Rattle.edit_footprint.specs.Footprints.{half_references}
 
 module _ {A : Type 0} where
-  -- what a half begins or ceases to name, by the sets of its references before and after
+  -- the names that a half begins or ceases to refer to, from the sets of its references before and after
   abbrev pub begun_or_ceased_once : Change A → List Name
   begun_or_ceased_once c =
       names_but (name_set (half_references c.before)) (name_set (half_references c.after))
       ++ names_but (name_set (half_references c.after)) (name_set (half_references c.before))
 
-  -- the same of each of some changes
+  -- the names that the halves of all changes begin or cease to refer to
   abbrev pub all_begun_or_ceased : List (Change A) → List Name
   all_begun_or_ceased cs = flat_map begun_or_ceased_once cs

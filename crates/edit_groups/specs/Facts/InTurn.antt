@@ -1,5 +1,5 @@
--- Actions in turn: the map after stays in order and sound, what no action touches stays, and maps that agree at what
--- all of them touch agree after each.
+-- Actions in order: the map after them stays in order and sound, cells that no action touches are unchanged, and maps
+-- that agree at all touched cells agree after each action.
 use Rattle.std.proofs.Common.{◌≡◌, ◌&&◌, ◌||◌, ◌+◌, ℕ, Bool, true, false, List, [], ◌∷◌, ◌++◌, Option, Some, None, refl, sym, ap, ◌∙◌}
 use Rattle.std.proofs.lemmas.Bool.{or_parts, and_parts}
 use Rattle.osm_elements.specs.declared.name.Name.{Name}
@@ -30,7 +30,7 @@ use Rattle.edit_footprint.specs.Facts.Locality.{locality}
 use Rattle.edit_groups.specs.declared.refusal.EditRefusal.{EditRefusal}
 use Rattle.edit_groups.specs.Groups.{after_all, refused_at, first_refused, touched, are_made}
 
--- what is in one of two lists is in both together
+-- a cell of one list is in both lists together
 pub in_first : (c : Cell) (one two : List Cell) → has one c ≡ true → has (one ++ two) c ≡ true
 in_first c one two i = has-append c one two ∙ ap (λ b. b || has two c) i
 
@@ -42,7 +42,7 @@ in_second c one two i = has-append c one two ∙ ap (λ b. has one c || b) i ∙
     always false = refl
 
 module _ {A : Type 0} where
-  -- a name that the same rows name has the same users
+  -- a name has the same users if the same rows refer to it
   pub same_users : (m n : Rows A) → AreInOrder m → AreInOrder n → (e : Name) → ((y : Name) → is_among (row_references (row_at m y)) e ≡ is_among (row_references (row_at n y)) e) → users m e ≡ users n e
   same_users m n g h e is =
       same_rising (users m e) (users n e) (rising_names (λ r. refers_to r.1 e) m g) (rising_names (λ r. refers_to r.1 e) n h)
@@ -52,7 +52,7 @@ module _ {A : Type 0} where
   AreInOrder-after_all m [] h = h
   AreInOrder-after_all m (a ∷ rest) h = AreInOrder-after_all (after m a) rest (AreInOrder-after m a h)
 
-  -- where no action of some is refused, neither is the first, nor one of the others
+  -- if none of the actions is refused, neither the first nor a later one is
   pub none_refused : (k : ℕ) (o : Option (Refusal A)) (later : Option (EditRefusal A)) → refused_at k o later ≡ None → (o ≡ None) × (later ≡ None)
   none_refused k None later h = (refl, h)
   none_refused k (Some why) later h = absurd (cc)
@@ -64,7 +64,7 @@ module _ {A : Type 0} where
       let none = none_refused k (refusal m a) (first_refused (after m a) (k + 1) rest) ok in
       sound_after_all (after m a) (k + 1) rest (accepted_keeps_sound m a sound own.0 none.0).0 own.1 none.1
 
-  -- what no action touches stays, the half of a cell and the users of a name whose rest it is
+  -- cells that no action touches keep their half, and names whose rest is such a cell keep their users
   pub half_untouched : (m : Rows A) (g : List (Action A)) (c : Cell) → has (touched m g) c ≡ false → half_at (after_all m g) c ≡ half_at m c
   half_untouched m [] c out = refl
   half_untouched m (a ∷ rest) c out =
@@ -78,7 +78,7 @@ module _ {A : Type 0} where
       users_untouched (after m a) rest (AreInOrder-after m a order) e both.1
       ∙ same_users (after m a) m (AreInOrder-after m a order) order e (namers_outside m a e both.0)
 
-  -- two maps that agree at some cells, those of an action's footprint among them, agree there after it too
+  -- two maps that agree at cells that include an action's footprint agree there after it too
   pub agree_after : (m n : Rows A) (a : Action A) (cells : List Cell) → AreInOrder m → AreInOrder n
       → ((c : Cell) → has (footprint m a) c ≡ true → has cells c ≡ true) → Agree m n cells → AcceptedAlike m n a → Agree (after m a) (after n a) cells
   agree_after m n a cells order order_n inside agree alike = record {
@@ -97,12 +97,12 @@ module _ {A : Type 0} where
           ∙ sym (is_among-users m order e y) ∙ ap (λ l. is_among l y) (agree.same_users e i) ∙ is_among-users n order_n e y
           ∙ ap (λ l. is_among l e) (sym (same_references (row_at (after n a) y) (row_at n y) (halves_outside n a (rest_at y) (ap (λ l. has l (rest_at y)) alike.same_footprint ∙ out))))
 
-  -- a map that agrees at cells agrees at fewer
+  -- maps that agree at cells agree at fewer cells
   pub agree_at_fewer : (m n : Rows A) (cells fewer : List Cell) → ((c : Cell) → has fewer c ≡ true → has cells c ≡ true) → Agree m n cells → Agree m n fewer
   agree_at_fewer m n cells fewer inside agree = record { same_half = λ c i. agree.same_half c (inside c i); same_users = λ e i. agree.same_users e (inside (rest_at e) i) }
 
-  -- actions in turn that are accepted in one map are so in another that agrees at what they touch; they touch the same
-  -- there, and the maps after them agree too
+  -- if one map accepts actions in order, another map that agrees at the touched cells accepts them too; they touch the
+  -- same cells there, and the maps after them agree too
   pub record InTurnAlike (m n : Rows A) (k : ℕ) (g : List (Action A)) (cells : List Cell) : Type 0 where
     pub none_refused : first_refused n k g ≡ None
     pub same_touched : touched n g ≡ touched m g

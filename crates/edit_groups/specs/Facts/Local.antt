@@ -1,4 +1,4 @@
--- An edit stays within its footprint, keeps the map sound, and looks at its footprint alone.
+-- An edit changes and looks at nothing outside its footprint, and keeps the map sound.
 use Rattle.std.proofs.Common.{◌≡◌, ◌≢◌, ℕ, Bool, true, false, not, cond, List, [], ◌∷◌, ◌++◌, Option, Some, None, map, refl, sym, ap, ◌∙◌}
 use Rattle.std.specs.List.{filter}
 use Rattle.osm_elements.specs.declared.name.Name.{Name}
@@ -32,7 +32,7 @@ use Rattle.edit_groups.specs.Laws.{LeavesTheRest, AcceptedAlike}
 use Rattle.edit_groups.specs.Facts.InTurn.{AreInOrder-after_all, sound_after_all, half_untouched, users_untouched, agree_at_fewer, InTurnAlike, in_turn_alike}
 
 module _ {A : Type 0} where
-  -- a refusal of one action told as that of an edit
+  -- from an edit of one action to the action
   untold : (o : Option (Refusal A)) → refused_alone o ≡ None → o ≡ None
   untold None h = refl
   untold (Some why) h = absurd (cc)
@@ -72,7 +72,7 @@ module _ {A : Type 0} where
   none_from_itself : (m : Rows A) → differences m m ≡ []
   none_from_itself m = ap (map (change_at m m)) (none_differ m (cells_of (name_set (names_of m ++ names_of m))))
 
-  -- and leads to another one
+  -- an accepted edit leads to another map
   pub another : (m : Rows A) (a : Edit A) → is_sound m ≡ true → is_made_edit a ≡ true → refusal m a ≡ None → after m a ≢ m
   another m (One a) sound made ok e = (accepted.accepted_keeps_sound m a sound made (untold (of_actions.refusal m a) ok)).1 e
   another m (Group g) sound made ok e =
@@ -85,7 +85,7 @@ module _ {A : Type 0} where
     same_users = λ e out. users_untouched m g (sound_in_order m sound) e (sym (has-cell_set (rest_at e) (touched m g)) ∙ out);
   }
 
-  -- an edit looks at its footprint alone
+  -- an edit looks only at its footprint
   pub locality : (m n : Rows A) (a : Edit A) → is_sound m ≡ true → is_sound n ≡ true → is_made_edit a ≡ true → refusal m a ≡ None → Agree m n (footprint m a) → AcceptedAlike m n a
   locality m n (One a) sound sound_n made ok agree =
       let alike = local.locality m n a sound sound_n (untold (of_actions.refusal m a) ok) agree in

@@ -1,4 +1,4 @@
--- Changes that are made in turn, those of one rising name after the other.
+-- The changes of rising names, made name by name.
 use Rattle.std.proofs.Common.{◌≡◌, ◌<◌, ◌+◌, ℕ, zero, suc, T, List, [], ◌∷◌, ◌++◌, Option, length, take, get_or, sym, subst}
 use Rattle.std.specs.Ordering.{is_lt}
 use Rattle.std.specs.FinMap.Entries.{is_sorted, below_all}
@@ -14,7 +14,7 @@ use Rattle.osm_changes.specs.declared.change.Change.{Change}
 use Rattle.osm_changes.specs.Changes.{row_changes, rows_changes, AreChanges}
 use Rattle.osm_changes.specs.Facts.RowChanges.{AreChanges-rows_changes, more-rows_changes}
 
--- the front of a rising list rises
+-- a prefix of a rising list rises
 
 below-take : (x : Name) (xs : List Name) (i : ℕ) → T (below_all name_cmp x (bare_rows xs)) → T (below_all name_cmp x (bare_rows (take i xs)))
 below-take x xs zero h = tt
@@ -31,7 +31,7 @@ IsRising-take (y ∷ ys) (suc i) h =
     (IsRising-take ys i (second (below_all name_cmp y (bare_rows ys)) (is_sorted name_cmp (bare_rows ys)) h))
 
 module _ {A : Type 0} (m : Rows A) (after : Name → Option (Element A)) where
-  -- the changes of the next name go behind those before it
+  -- the changes of the next name can follow those of the earlier names
   pub one_fits : (xs : List Name) (i : ℕ) (x : Name) → i < length xs → x ≡ get_or xs i x → IsRising xs
       → (cs : List (Change A)) (o p : Option (Element A)) → cs ≡ rows_changes m after (take i xs) → o ≡ row_at m x → p ≡ after x → AreChanges (cs ++ row_changes x o p)
   one_fits xs i x l is rising cs o p e f g =

@@ -1,4 +1,4 @@
--- What is told by a list of checks of which none holds.
+-- The facts that follow if no check holds.
 use Rattle.std.proofs.Common.{◌≡◌, Bool, true, false, not, List, [], ◌∷◌, Option, Some, None, Result, Ok, Err, IfErr, refl, sym, subst}
 use Rattle.std.specs.Bool.{then_some}
 use Rattle.std.specs.Result.{IsErrAnd}
@@ -10,7 +10,7 @@ pub first_none : {X : Type 0} (o : Option X) (os : List (Option X)) → first_th
 first_none None os e = (refl, e)
 first_none (Some x) os e = absurd (cc)
 
--- each check of a list does not hold
+-- no check of the list holds
 abbrev pub Nones : {X : Type 0} → List (Option X) → Type 0
 Nones [] = Unit
 Nones (o ∷ os) = (o ≡ None) × Nones os
@@ -31,12 +31,12 @@ pub from_not : (b : Bool) → not b ≡ true → b ≡ false
 from_not true e = absurd (cc)
 from_not false e = refl
 
--- no least name, so no name
+-- a list without a least name is empty
 pub no_least : {A : Type 0} (why : Name → Refusal A) (names : List Name) → the_least why names ≡ None → names ≡ []
 no_least why [] e = refl
 no_least why (x ∷ names) e = absurd (cc)
 
--- what holds of an error holds of the error that is answered
+-- a fact about the expected error is a fact about the returned error
 pub err_same : {X E : Type 0} (Q : E → Type 0) (r : Result X E) (e : E) → IsErrAnd r (λ x. x ≡ e) → Q e → IfErr r Q
 err_same Q (Ok x) e h q = tt
 err_same Q (Err x) e h q = subst Q (sym h) q

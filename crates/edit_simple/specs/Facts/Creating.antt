@@ -28,7 +28,7 @@ module _ {A : Type 0} where
   long_enough (Way nodes tags) s l = both_true (nat_le 2 (length nodes)) (nat_le (length nodes) most_nodes) (at_least (length nodes) 2 s) (at_least most_nodes (length nodes) l)
   long_enough (Relation members tags) s l = at_least most_members (length members) l
 
-  -- what is present after a put
+  -- the names of a map after a put
   pub present_put : (m : Rows A) (x : Name) (v : Element A) (e : Name) → is_present (put_row m x v) e ≡ (is_same e x || is_present m e)
   present_put m x v e = ap is_some (row_at-put_row m x v e) ∙ by (is_same e x)
     where

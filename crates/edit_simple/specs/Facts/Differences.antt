@@ -1,4 +1,4 @@
--- Changes that are those between two maps.
+-- Changes that are the differences of two maps.
 use Rattle.std.proofs.Common.{◌≡◌, ◌≢◌, Bool, true, false, not, ◌&&◌, ◌||◌, List, [], ◌∷◌, ◌++◌, append-nil, Option, Some, None, is_some, refl, sym, ap, ◌∙◌, cond}
 use Rattle.std.specs.Option.{option_map}
 use Rattle.osm_elements.specs.declared.name.Name.{Name}
@@ -34,20 +34,20 @@ module _ {A : Type 0} where
       by true e = refl
       by false e = there ∙ one (row_at m x) (row_at n x) e
 
-  -- rising names that are those at which two maps differ
+  -- the names at which two maps differ, as a rising list
   pub differing_are : (m n : Rows A) (names : List Name) → IsRising names → ((y : Name) → is_among names y ≡ not (is_same_row (row_at m y) (row_at n y))) → names ≡ differing_names m n
   differing_are m n names rising are =
       same_rising names (differing_names m n) rising (IsRising-filter (λ y. not (is_same_row (row_at m y) (row_at n y))) (name_set (names_of m ++ names_of n)) (IsRising-name_set (names_of m ++ names_of n)))
       (λ y. are y ∙ sym (is_among-differing_names m n y))
 
-  -- the changes of rising names to their rows in another map, which differs at these alone
+  -- changes of exactly the names at which two maps differ are their differences
   pub rows_differing : (m n : Rows A) (after : Name → Option (Element A)) (names : List Name) → IsRising names → ((y : Name) → is_among names y ≡ not (is_same_row (row_at m y) (row_at n y)))
       → ((y : Name) → is_among names y ≡ true → after y ≡ row_at n y) → rows_changes m after names ≡ differences m n
   rows_differing m n after names rising are becomes =
       same-rows_changes m m after (row_at n) names (λ y i. (refl, becomes y i)) ∙ ap (rows_changes m (row_at n)) (differing_are m n names rising are)
       ∙ sym (differences-rows m n)
 
-  -- two maps that differ at one name alone
+  -- two maps that differ at only one name
   pub one_difference : (m n : Rows A) (x : Name) → is_same_row (row_at m x) (row_at n x) ≡ false → ((y : Name) → is_same y x ≡ false → row_at n y ≡ row_at m y)
       → row_changes x (row_at m x) (row_at n x) ≡ differences m n
   one_difference m n x other rest =
@@ -58,7 +58,7 @@ module _ {A : Type 0} where
       by y true e = sym (ap (λ z. not (is_same_row (row_at m z) (row_at n z))) (same_names y x e) ∙ ap not other)
       by y false e = sym (ap (λ o. not (is_same_row (row_at m y) o)) (rest y e) ∙ ap not (same_row (row_at m y)))
 
-  -- rows that are not the same pass no test of sameness
+  -- different rows do not pass the test of equality
   pub apart_rows : (o p : Option (Element A)) → p ≢ o → is_same_row o p ≡ false
   apart_rows o p apart = by (is_same_row o p) refl
     where
@@ -66,7 +66,7 @@ module _ {A : Type 0} where
       by true e = absurd (apart (sym (told_same_row o p e)))
       by false e = refl
 
-  -- the row of one name rewritten
+  -- the change of one element
   pub one_rewritten : (m : Rows A) (x : Name) (f : Element A → Element A) (v : Element A) → row_at m x ≡ Some v → Some (f v) ≢ Some v
       → row_changes x (Some v) (Some (f v)) ≡ differences m (each_row (at_name x f) m)
   one_rewritten m x f v is apart =

@@ -1,4 +1,4 @@
--- Every row of a map rewritten.
+-- Maps with every element replaced.
 use Rattle.std.proofs.Common.{◌≡◌, Bool, true, false, ◌&&◌, T, [], ◌∷◌, Some, refl, sym, ap, subst, ◌∙◌, cond}
 use Rattle.std.specs.Option.{option_map}
 use Rattle.std.specs.Ordering.{is_eq, is_lt}
@@ -32,6 +32,6 @@ module _ {A : Type 0} where
       by true t rest = ap (λ z. Some (f z e.1)) (sym (same_names q e.0 t))
       by false t rest = rest
 
-  -- the row at a name after every row was rewritten
+  -- the row at a name after every element is replaced
   pub row_at-each_row : (f : Name → Element A → Element A) (m : Rows A) (q : Name) → row_at (each_row f m) q ≡ option_map (f q) (row_at m q)
   row_at-each_row f m q = row_at_is_find (each_row f m) q ∙ find-each_row f q m ∙ ap (option_map (f q)) (sym (row_at_is_find m q))

@@ -1,4 +1,4 @@
--- The least user of a name is the first one that a search of the rows finds.
+-- The least user of a name is the first that a search of the rows finds.
 use Rattle.std.proofs.Common.{◌≡◌, Bool, true, false, T, [], ◌∷◌, Option, Some, None, refl, sym, ap, ◌∙◌, cond, slice_get}
 use Rattle.std.specs.List.{filter}
 use Rattle.std.specs.Ordering.{ord_min, is_lt, ordering_reverse}
@@ -24,7 +24,7 @@ min_below x y t = ap (λ r. cond (is_lt r) y x) (name_cmp_total.antisymm y x ∙
 
 module _ {A : Type 0} where
   module _ (p : Name × Element A → Bool) where
-    -- a name below all rows is less than the least of those that pass
+    -- a name below all rows is less than all names of rows that pass
     below_passing : (x : Name) (es : Rows A) → T (below_all name_cmp x es) → lesser x (least (names_of (filter p es))) ≡ x
     below_passing x [] h = refl
     below_passing x (e ∷ es) h = by (p e) (below_passing x es (second (is_lt (name_cmp x e.0)) (below_all name_cmp x es) h))
@@ -37,7 +37,7 @@ module _ {A : Type 0} where
         by true i = least_of (least (names_of (filter p es))) i
         by false i = i
 
-    -- in rising rows the first that passes is the least
+    -- in rising rows, the first that passes is the least
     pub first_is_least : (es : Rows A) → AreInOrder es → slice_get (names_of (filter p es)) 0 ≡ least (names_of (filter p es))
     first_is_least [] h = refl
     first_is_least (e ∷ es) h = by (p e) (first_is_least es (second (below_all name_cmp e.0 es) (is_sorted name_cmp es) h))

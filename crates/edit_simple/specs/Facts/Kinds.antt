@@ -1,4 +1,4 @@
--- What a sound map has at a name of a kind.
+-- The rows of a sound map at names of a kind.
 use Rattle.std.proofs.Common.{◌≡◌, ℕ, ℤ, true, List, Option, Some, None, is_some, refl, ◌∙◌}
 use Rattle.osm_elements.specs.declared.name.Name.{Name}
 use Rattle.osm_elements.specs.declared.name.Kind.{Kind}

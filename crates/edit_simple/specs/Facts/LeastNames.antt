@@ -1,4 +1,4 @@
--- The least of some names.
+-- The least name of a list.
 use Rattle.std.proofs.Common.{◌≡◌, ◌<◌, ◌+◌, ℕ, length, take, get_or, Bool, true, false, List, [], ◌∷◌, ◌++◌, Option, Some, None, refl, sym, ap, ◌∙◌, cond, map, append-nil}
 use Rattle.std.specs.List.{filter}
 use Rattle.std.proofs.lemmas.List.{take_more, map-append}
@@ -17,7 +17,7 @@ less Less e = refl
 less Equal e = absurd (cc)
 less Greater e = absurd (cc)
 
--- what is below y is below o, if y is not above o
+-- if x is not less than o, and o is not less than y, then x is not less than y
 below_both : (x y o : Name) → is_lt (name_cmp x o) ≡ false → is_lt (name_cmp o y) ≡ false → is_lt (name_cmp x y) ≡ false
 below_both x y o p q = by (is_lt (name_cmp x y)) refl
   where
@@ -54,18 +54,18 @@ module _ (p : Name → Bool) (names : List Name) (i : ℕ) (x : Name) (h : i < l
   pub filter_more : filter p (take (i + 1) names) ≡ filter p (take i names) ++ cond (p x) (x ∷ []) []
   filter_more = ap (filter p) (take_more names i x h ∙ ap (λ y. take i names ++ y ∷ []) (sym is)) ∙ filter-append p (take i names) (x ∷ [])
 
-  -- the least of the names that pass, where the next name passes
+  -- the least of the names that pass, if the next name passes
   pub least_taken : (old : Option Name) → old ≡ least (filter p (take i names)) → true ≡ p x → Some (lesser_of old x) ≡ least (filter p (take (i + 1) names))
   least_taken old e t =
       ap (λ o. Some (lesser_of o x)) e ∙ sym (least-append (filter p (take i names)) x)
       ∙ ap (λ b. least (filter p (take i names) ++ cond b (x ∷ []) [])) t ∙ ap least (sym filter_more)
 
-  -- and where it doesn't
+  -- the least of the names that pass, if the next name does not pass
   pub least_passed : (old : Option Name) → old ≡ least (filter p (take i names)) → false ≡ p x → old ≡ least (filter p (take (i + 1) names))
   least_passed old e t =
       e ∙ ap least (sym (append-nil (filter p (take i names)))) ∙ ap (λ b. least (filter p (take i names) ++ cond b (x ∷ []) [])) t ∙ ap least (sym filter_more)
 
--- the same of names that are parts of other things
+-- the same for names that are parts of items
 module _ {X : Type 0} (f : X → Name) (p : Name → Bool) (xs : List X) (i : ℕ) (x : X) (h : i < length xs) (is : x ≡ get_or xs i x) where
   mapped_more : map f (take (i + 1) xs) ≡ map f (take i xs) ++ f x ∷ []
   mapped_more = ap (map f) (take_more xs i x h ∙ ap (λ y. take i xs ++ y ∷ []) (sym is)) ∙ map-append f (take i xs) (x ∷ [])

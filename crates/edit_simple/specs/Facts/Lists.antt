@@ -1,4 +1,4 @@
--- Tests over lists of names, and what is left of a list.
+-- Tests over lists of names, and rests of lists.
 use Rattle.std.proofs.Common.{◌≡◌, ◌<◌, ◌+◌, ℕ, suc, Bool, true, false, ◌||◌, List, [], ◌∷◌, length, drop, get_or, nat_lt, nat_le, reverse, refl, sym, ap, ◌∙◌, cond, arith, add-one}
 use Rattle.std.proofs.Math.Seq.{drop-cons}
 use Rattle.std.proofs.lemmas.Bool.Decides.{nat_tests}
@@ -36,15 +36,15 @@ or_turned true false = refl
 or_turned false true = refl
 or_turned false false = refl
 
--- what is not less is at least as great
+-- a number that is not less is at least as great
 pub at_least : (n k : ℕ) → nat_lt n k ≡ false → nat_le k n ≡ true
 at_least n k e = grind (arith, nat_tests)
 
--- the first of a list is among them
+-- a list contains its first name
 pub is_among_own : (x : Name) (xs : List Name) → is_among (x ∷ xs) x ≡ true
 is_among_own x xs = or_left (is_same x x) (is_among xs x) (is_eq-name_cmp_itself x)
 
--- a test that all of a list pass is passed by each
+-- if all names of a list pass a test, each of them passes
 pub all_listed : (p : Name → Bool) (names : List Name) (e : Name) → list_all p names ≡ true → is_among names e ≡ true → p e ≡ true
 all_listed p [] e all i = absurd (cc)
 all_listed p (x ∷ xs) e all i = by (is_same e x) refl i (all_listed p xs e (second_true (p x) (list_all p xs) all))
@@ -53,12 +53,12 @@ all_listed p (x ∷ xs) e all i = by (is_same e x) refl i (all_listed p xs e (se
     by true s j rest = ap p (same_names e x s) ∙ first_true (p x) (list_all p xs) all
     by false s j rest = rest j
 
--- and the other way round
+-- if each name of a list passes a test, all pass
 pub all_from : (p : Name → Bool) (names : List Name) → ((e : Name) → is_among names e ≡ true → p e ≡ true) → list_all p names ≡ true
 all_from p [] h = refl
 all_from p (x ∷ xs) h = both_true (p x) (list_all p xs) (h x (is_among_own x xs)) (all_from p xs (λ e i. h e (or_right (is_same e x) (is_among xs e) i)))
 
--- none of a list passes where none is left of those that do
+-- if a filter keeps no name, no name passes
 pub none_left : (p : Name → Bool) (names : List Name) → filter p names ≡ [] → (e : Name) → is_among names e ≡ true → p e ≡ false
 none_left p [] h e i = absurd (cc)
 none_left p (x ∷ xs) h e i = by (p x) refl h (is_same e x) refl i (none_left p xs)
@@ -75,6 +75,6 @@ is_among-reverse (x ∷ xs) e =
     ap (λ l. is_among l e) (reverse-append (x ∷ []) xs) ∙ is_among-append e (reverse xs) (x ∷ [])
     ∙ ap (λ b. b || (is_same e x || false)) (is_among-reverse xs e) ∙ ap (λ b. is_among xs e || b) (or_false (is_same e x)) ∙ or_turned (is_among xs e) (is_same e x)
 
--- what is left of a list from a place on
+-- the rest of a list from a position on
 pub drop_at : {X : Type 0} (xs : List X) (i : ℕ) (x : X) → i < length xs → x ≡ get_or xs i x → drop i xs ≡ x ∷ drop (i + 1) xs
 drop_at xs i x h is = drop-cons xs i x h ∙ ap (λ y. y ∷ drop (suc i) xs) (sym is) ∙ ap (λ n. x ∷ drop n xs) (sym (add-one i))

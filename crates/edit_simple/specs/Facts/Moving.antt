@@ -31,12 +31,12 @@ use Rattle.edit_simple.specs.Facts.Lists.{or_left, or_right, first_false, second
 use Rattle.edit_simple.specs.Facts.Relisting.{all_present}
 use Rattle.edit_simple.specs.Facts.Rewriting.{Fine, fine, each_stays_sound, each_rewrites, differs}
 
--- where a sum is its first part, the second is 0
+-- if a sum is equal to its first part, the second part is 0
 pub no_distance : (z d : ℤ) → z +ℤ d ≡ z → d ≡ pos 0
 no_distance z d e = sym (+ℤ-neg_ℤ_cancel d z) ∙ ap (λ t. t -ℤ z) (+ℤ_comm d z ∙ e ∙ sym (+ℤ_idl z)) ∙ +ℤ-neg_ℤ_cancel (pos 0) z
 
 module _ {A : Type 0} where
-  -- what is moved and does not leave the range is fine
+  -- a moved row that does not leave the range is fine
   moved_fine : (m : Rows A) (y : Name) (dlat dlon : ℤ) (v : Element A) → Fine m y v → is_out_of_range (moved_by dlat dlon v) ≡ false → Fine m y (moved_by dlat dlon v)
   moved_fine m y dlat dlon (Node lat lon tags) f t =
       let both = from_false (is_some (latitude (lat +ℤ dlat)) && is_some (longitude (lon +ℤ dlon))) t in
@@ -59,7 +59,7 @@ module _ {A : Type 0} where
   lon_of d (Some (Node lat lon tags)) = lon
   lon_of d o = d
 
-  -- a node that is moved by some distance is elsewhere
+  -- a node that is moved by a distance other than 0 changes
   pub elsewhere : (lat lon dlat dlon : ℤ) (tags : Pairs) → (int_eq dlat (pos 0) && int_eq dlon (pos 0)) ≡ false → ◌≢◌ {A = Option (Element A)} (Some (Node (lat +ℤ dlat) (lon +ℤ dlon) tags)) (Some (Node lat lon tags))
   unfolding lat_of lon_of
   elsewhere lat lon dlat dlon tags some e =
@@ -79,7 +79,7 @@ module _ {A : Type 0} where
     f.refs n (is_among_own n nodes),
   )
 
-  -- a list that is not empty, of names that are there and no relations', moves a node that is there
+  -- a list of present names that is not empty and has no relation moves a node
   some_moved : (m : Rows A) (list : List Name) → is_sound m ≡ true → nat_eq (length list) 0 ≡ false
       → ((e : Name) → is_among list e ≡ true → is_present m e ≡ true) → ((e : Name) → is_among list e ≡ true → is_relation e.kind ≡ false)
       → (n : Name) × (is_node n.kind ≡ true) × (is_moved m list n ≡ true) × (is_present m n ≡ true)

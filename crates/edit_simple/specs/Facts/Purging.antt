@@ -31,7 +31,7 @@ use Rattle.edit_simple.specs.Facts.Kinds.{node_there}
 use Rattle.edit_simple.specs.Facts.Lists.{or_left, or_right, second_false, at_least, is_among_own, all_listed}
 use Rattle.edit_simple.specs.Facts.Rewriting.{Fine, fine, Rewrites, stays_sound, rewritten, still_there, differ_at}
 
--- ---- lists of which some are left out
+-- ---- filtered lists
 
 pub shorter : {X : Type 0} (p : X → Bool) (xs : List X) → length (filter p xs) ≤ length xs
 shorter p [] = omega arith
@@ -52,13 +52,13 @@ all_kept q p (x ∷ xs) h = by (p x) (all_kept q p xs (second_true (q x) (list_a
     by true i = both_true (q x) (list_all q (filter p xs)) (first_true (q x) (list_all q xs) h) i
     by false i = i
 
--- where all pass, all are left
+-- if all names pass, a filter keeps them all
 pub all_left : (p : Name → Bool) (xs : List Name) → ((e : Name) → is_among xs e ≡ true → p e ≡ true) → filter p xs ≡ xs
 all_left p [] h = refl
 all_left p (x ∷ xs) h =
     ap (λ b. cond b (x ∷ filter p xs) (filter p xs)) (h x (is_among_own x xs)) ∙ ap (λ l. x ∷ l) (all_left p xs (λ e i. h e (or_right (is_same e x) (is_among xs e) i)))
 
--- a name that is not among a list is another than each of it
+-- a name that a list does not contain differs from each name in it
 pub other_than : (x : Name) (xs : List Name) → is_among xs x ≡ false → (e : Name) → is_among xs e ≡ true → is_same x e ≡ false
 other_than x xs none e i = by (is_same x e) refl
   where
@@ -66,11 +66,11 @@ other_than x xs none e i = by (is_same x e) refl
     by true s = absurd (cc (sym none ∙ ap (is_among xs) (same_names x e s) ∙ i))
     by false s = refl
 
--- a list that x is not among loses nothing with x
+-- a list that does not contain x stays the same without x
 pub without_none : (x : Name) (xs : List Name) → is_among xs x ≡ false → without x xs ≡ xs
 without_none x xs none = all_left (λ n. not (is_same x n)) xs (λ e i. ap not (other_than x xs none e i))
 
--- the names of the members that are left
+-- the names of the members that stay
 pub names_left : (p : Name → Bool) (members : List (Name × List ℕ)) → map (λ r. r.0) (filter (λ r. p r.0) members) ≡ filter p (map (λ r. r.0) members)
 names_left p [] = refl
 names_left p (r ∷ members) = by (p r.0) (names_left p members)
@@ -81,9 +81,9 @@ names_left p (r ∷ members) = by (p r.0) (names_left p members)
     by false i = i
 
 module _ {A : Type 0} where
-  -- ---- the rows after
+  -- ---- the rows after a purge
 
-  -- the row at a name, of the rows whose names pass
+  -- the row at a name, among the rows whose names pass
   pub row_at-passing : (p : Name → Bool) (m : Rows A) (y : Name) → row_at (filter (λ r. p r.0) m) y ≡ cond (p y) (row_at m y) None
   row_at-passing p m y =
       row_at_is_find (filter (λ r. p r.0) m) y ∙ find-where_key name_cmp p y (λ z e. ap p (sym (name_cmp-IsAntisymmetric y z e))) m ∙ ap (λ o. cond (p y) o None) (sym (row_at_is_find m y))
@@ -107,17 +107,17 @@ module _ {A : Type 0} where
   pub x_goes : (m : Rows A) (x : Name) → goes m x x ≡ true
   x_goes m x = or_left (is_same x x) (falls_short x (nodes_of (row_at m x))) (is_eq-name_cmp_itself x)
 
-  -- what goes is gone
+  -- a removed name has no row
   pub is_gone : (m : Rows A) (x e : Name) → goes m x e ≡ true → row_at (after_purge m x) e ≡ None
   is_gone m x e gone = row_at-after_purge m x e ∙ ap (λ b. cond b None (option_map (what_is_left m x) (row_at m e))) gone
 
   module _ (m : Rows A) (x : Name) (sound : is_sound m ≡ true) where
-    -- what was there and does not go is there
+    -- a name that is not removed still has a row
     stands : (e : Name) → is_present m e ≡ true → goes m x e ≡ false → is_present (after_purge m x) e ≡ true
     stands e here stays =
         ap is_some (row_at-after_purge m x e ∙ ap (λ b. cond b None (option_map (what_is_left m x) (row_at m e))) stays) ∙ still_there (what_is_left m x) (row_at m e) ∙ here
 
-    -- a node other than x does not go
+    -- a node other than x is not removed
     node_stays : (e : Name) → is_node e.kind ≡ true → is_present m e ≡ true → is_same x e ≡ false → goes m x e ≡ false
     node_stays e node here other =
         let row = node_there m e sound node here in

@@ -28,7 +28,7 @@ use Rattle.edit_simple.specs.Facts.Kinds.{way_there, relation_there}
 use Rattle.edit_simple.specs.Facts.Lists.{at_least, all_listed, all_from, none_left, is_among-reverse}
 use Rattle.edit_simple.specs.Facts.Rewriting.{Fine, one_stays_sound, one_differs}
 
--- lists that are equal pass the test of equality
+-- a list passes the test of equality with itself
 pub same_nodes_itself : (list : List Name) → are_same_names list list ≡ true
 same_nodes_itself list = first_true (are_same_names list list) (are_same_tags [] []) (same_element {A = ⊤} (elements.Way list []))
 
@@ -36,7 +36,7 @@ pub same_members_itself : (list : List (Name × List ℕ)) → are_same_members 
 same_members_itself list = first_true (are_same_members list list) (are_same_tags [] []) (same_element {A = ⊤} (elements.Relation list []))
 
 module _ {A : Type 0} where
-  -- where no listed name is absent, each is present
+  -- if no listed name is absent, each is present
   pub all_present : (m : Rows A) (list : List Name) → the_least {A = A} Absent (filter (is_absent m) list) ≡ None → (e : Name) → is_among list e ≡ true → is_present m e ≡ true
   all_present m list none e i = from_false (is_present m e) (none_left (is_absent m) list (no_least {A = A} Absent (filter (is_absent m) list) none) e i)
 
@@ -67,7 +67,7 @@ module _ {A : Type 0} where
           let other : are_same_names (nodes_of (row_at m w)) (reverse (nodes_of (row_at m w))) ≡ false = not_so {X = Refusal A} (are_same_names (nodes_of (row_at m w)) (reverse (nodes_of (row_at m w)))) Nothing (nones (reverse_checks m w) ok).1.1.0 in
           cc (sym (same_nodes_itself way.0) ∙ ap (are_same_names way.0) (sym e) ∙ ap (λ o. are_same_names (nodes_of o) (reverse (nodes_of o))) (sym way.2) ∙ other)
 
-  -- a way of a list that may be one
+  -- a way with an allowed list is fine
   pub listed : (m : Rows A) (y : Name) (list : List Name) → are_nodes list ≡ true → nat_lt (length list) 2 ≡ false → nat_lt most_nodes (length list) ≡ false
       → ((e : Name) → is_among list e ≡ true → is_present m e ≡ true) → (v : Element A) → Fine m y v → Fine m y (with_nodes (λ _. list) v)
   listed m y list made few many here (elements.Node lat lon tags) f = f

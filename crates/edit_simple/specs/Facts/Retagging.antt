@@ -45,7 +45,7 @@ third true true c h = h
 third true false c h = absurd (cc)
 third false b c h = absurd (cc)
 
--- tags stay tags after a put of one
+-- a put of a tag keeps the conditions of tags
 pub tags_put : (key value : List ℕ) → is_tag (key, value) ≡ true → (tags : Pairs) → list_all is_tag tags ≡ true → list_all is_tag (put text_cmp key value tags) ≡ true
 tags_put key value h tags all = is_true (list_all is_tag (put text_cmp key value tags)) (each_row-put is_short key value (passes (is_tag (key, value)) h) tags (passes (list_all is_tag tags) all))
 
@@ -68,7 +68,7 @@ sorted_retagged : (given : GivenTags) (tags : Pairs) → T (is_sorted text_cmp t
 sorted_retagged [] tags h = h
 sorted_retagged (g ∷ gs) tags h = sorted_retagged gs (tagged tags g.0 g.1) (sorted_tagged tags g.0 g.1 h)
 
--- tags from their three tests
+-- tags are valid if they pass three tests
 pub tags_from : (tags : Pairs) → T (is_sorted text_cmp tags) → nat_lt most_tags (length tags) ≡ false → list_all is_tag tags ≡ true → are_tags tags ≡ true
 tags_from tags sorted few all =
     both_true (is_sorted text_cmp tags) (nat_le (length tags) 1000 && list_all is_tag tags) (is_true (is_sorted text_cmp tags) sorted)
@@ -85,7 +85,7 @@ are_tags-retagged given tags g h few =
     tags_from (retagged tags given) (sorted_retagged given tags (tags_sorted tags h)) few
     (tags_retagged given tags (third (is_sorted text_cmp given) (nat_le (length given) most_tags) (list_all is_given given) g) (tags_all tags h))
 
--- tags that are equal pass the test of equality
+-- tags pass the test of equality with themselves
 pub same_tags_itself : (tags : Pairs) → are_same_tags tags tags ≡ true
 same_tags_itself tags = second_true (are_same_names [] []) (are_same_tags tags tags) (same_element {A = ⊤} (Way [] tags))
 
@@ -100,7 +100,7 @@ module _ {A : Type 0} where
   tags_of-with_tags f (Way nodes tags) = refl
   tags_of-with_tags f (Relation members tags) = refl
 
-  -- a fine row with other tags is fine, if these are tags
+  -- a fine row with other valid tags is fine
   pub fine_tagged : (m : Rows A) (y : Name) (f : Pairs → Pairs) (v : Element A) → are_tags (f (tags_of v)) ≡ true → Fine m y v → Fine m y (with_tags f v)
   fine_tagged m y f (Node lat lon tags) t own = record {
     kind = own.kind;

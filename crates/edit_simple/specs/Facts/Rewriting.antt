@@ -1,4 +1,4 @@
--- A map whose rows are worked out from those of another: when it is sound, and when it is another.
+-- A map whose rows are computed from those of another map: when it is sound, and when it differs.
 use Rattle.std.proofs.Common.{◌≡◌, ◌≢◌, Bool, true, false, ◌&&◌, Option, Some, None, is_some, refl, sym, ap, ◌∙◌, cond}
 use Rattle.std.specs.List.{list_all}
 use Rattle.std.specs.Option.{option_map, unwrap_or}
@@ -18,7 +18,7 @@ use Rattle.edit_simple.specs.Facts.EachRow.{AreInOrder-each_row, row_at-each_row
 use Rattle.edit_simple.specs.Facts.Lists.{all_listed, all_from}
 
 module _ {A : Type 0} where
-  -- a sound row, part by part, with what it names as a fact for every name
+  -- a sound row, condition by condition; the condition on references is a fact about every name
   pub record Fine (m : Rows A) (y : Name) (v : Element A) : Type 0 where
     pub kind : is_kind (kind_of v) y.kind ≡ true
     pub made : is_made v ≡ true
@@ -44,21 +44,21 @@ module _ {A : Type 0} where
       both_true (is_kind (kind_of v) y.kind) (is_made v && (is_of_length v && refs)) f.kind
       (both_true (is_made v) (is_of_length v && refs) f.made (both_true (is_of_length v) refs f.lengthy (all_from (is_present m) (references v) f.refs)))
 
-  -- a row that is fine in a map is fine in one that has the same names or more
+  -- a row that is fine in a map is fine in a map that has at least the same names
   pub fine_in : (m n : Rows A) → ((e : Name) → is_present m e ≡ true → is_present n e ≡ true) → (y : Name) (v : Element A) → Fine m y v → Fine n y v
   fine_in m n more y v f = record { kind = f.kind; made = f.made; lengthy = f.lengthy; refs = λ e i. more e (f.refs e i) }
 
-  -- n's names rise, and its row at a name is worked out from that of m
+  -- the names of n rise, and its row at each name is computed from the row of m
   pub record Rewrites (m n : Rows A) (f : Name → Option (Element A) → Option (Element A)) : Type 0 where
     pub in_order : AreInOrder n
     pub rows : (y : Name) → row_at n y ≡ f y (row_at m y)
 
-  -- n is sound where each row that becomes something becomes something fine
+  -- n is sound if each of its rows is fine
   pub stays_sound : (m n : Rows A) (f : Name → Option (Element A) → Option (Element A)) → Rewrites m n f
       → ((y : Name) (u : Element A) → f y (row_at m y) ≡ Some u → Fine n y u) → is_sound n ≡ true
   stays_sound m n f r h = sound_from_rows n r.in_order (λ y u is. from_fine n y u (h y u (sym (r.rows y) ∙ is)))
 
-  -- n is another map than m where some row becomes another
+  -- n differs from m if a row changes
   pub differs : (m n : Rows A) (f : Name → Option (Element A) → Option (Element A)) → Rewrites m n f → (y : Name) → f y (row_at m y) ≢ row_at m y → n ≢ m
   differs m n f r y apart e = apart (sym (r.rows y) ∙ ap (λ k. row_at k y) e)
 
@@ -66,12 +66,12 @@ module _ {A : Type 0} where
   pub differ_at : (m n : Rows A) (y : Name) → is_present m y ≡ true → is_present n y ≡ false → m ≢ n
   differ_at m n y p q e = absurd (cc (sym p ∙ ap (λ k. is_present k y) e ∙ q))
 
-  -- ---- rows rewritten one by one, where none comes or goes
+  -- ---- all rows are kept, and their elements replaced
 
   pub each_rewrites : (m : Rows A) → AreInOrder m → (f : Name → Element A → Element A) → Rewrites m (each_row f m) (λ y. option_map (f y))
   each_rewrites m h f = record { in_order = AreInOrder-each_row f m h; rows = row_at-each_row f m }
 
-  -- what was there, where a row is rewritten
+  -- the element before, given the element after
   pub rewritten : (f : Element A → Element A) (o : Option (Element A)) (u : Element A) → option_map f o ≡ Some u → (v : Element A) × (o ≡ Some v) × (f v ≡ u)
   rewritten f None u e = absurd (cc)
   rewritten f (Some v) u e = (v, refl, ap (λ o. unwrap_or o u) e)
@@ -99,7 +99,7 @@ module _ {A : Type 0} where
             refs = λ e i. g.refs e (ap (λ z. is_among (references z) e) p ∙ i);
           }
 
-  -- ---- the row of one name rewritten
+  -- ---- the element of one name is replaced
 
   pub at_one : (m : Rows A) (x y : Name) (f : Element A → Element A) (v : Element A) → Fine m y v → (is_same x y ≡ true → Fine m y (f v)) → Fine m y (at_name x f y v)
   at_one m x y f v own h = by (is_same x y) refl
@@ -117,7 +117,7 @@ module _ {A : Type 0} where
           let g = h v (ap (row_at m) e ∙ is) (record { kind = ap (λ z. is_kind (kind_of v) z.kind) e ∙ own.kind; made = own.made; lengthy = own.lengthy; refs = own.refs }) in
           record { kind = ap (λ z. is_kind (kind_of (f v)) z.kind) (sym e) ∙ g.kind; made = g.made; lengthy = g.lengthy; refs = g.refs }
 
-  -- a part of the row of one name that becomes another
+  -- the map changes if a part of the element changes
   pub one_differs : {X : Type 0} (m : Rows A) (x : Name) (f : Element A → Element A) (v : Element A) → row_at m x ≡ Some v
       → (part : Option (Element A) → X) → part (Some (f v)) ≢ part (Some v) → each_row (at_name x f) m ≢ m
   one_differs m x f v is part apart e =

@@ -1,4 +1,4 @@
--- An action that is refused for changing nothing would lead to the map that is there.
+-- An action that is refused with `Nothing` would leave the map the same.
 use Rattle.std.proofs.Common.{◌≡◌, ◌≢◌, ℕ, ℤ, pos, Bool, true, false, not, ◌&&◌, ◌||◌, List, [], ◌∷◌, Option, Some, None, length, nat_eq, nat_lt, reverse, refl, sym, ap, ◌∙◌, cond, map, arith}
 use Rattle.std.proofs.lemmas.Bool.Decides.{nat_tests}
 use Rattle.std.proofs.Math.IntN.{+ℤ_idr}
@@ -34,7 +34,7 @@ use Rattle.edit_simple.specs.Reverse.{reverse_checks, after_reverse}
 use Rattle.edit_simple.specs.Tagging.{GivenTags, retagged, most_tags}
 use Rattle.edit_simple.specs.Facts.EachRow.{AreInOrder-each_row, row_at-each_row}
 
--- ---- the first check that holds is none of those that refuse otherwise
+-- ---- checks with another refusal do not hold
 
 past_if : {X : Type 0} (b : Bool) (x y : X) (checks : List (Option X)) → x ≢ y → first_that_holds (then_some b x ∷ checks) ≡ Some y → first_that_holds checks ≡ Some y
 past_if true x y checks apart e = absurd (apart (cc))
@@ -49,7 +49,7 @@ last_holds : {X : Type 0} (b : Bool) (y : X) → first_that_holds (then_some b y
 last_holds true y e = refl
 last_holds false y e = absurd (cc)
 
--- ---- what the tests of equality tell
+-- ---- the tests of equality are exact
 
 told_tags : (p q : Pairs) → are_same_tags p q ≡ true → p ≡ q
 told_tags p q e = ap (row_tags {A = ⊤}) (told_same_row {A = ⊤} (Some (Way [] p)) (Some (Way [] q)) (both_true (are_same_names [] []) (are_same_tags p q) refl e))
@@ -79,7 +79,7 @@ module _ {A : Type 0} where
   same_members f (Way nodes tags) e = refl
   same_members f (Relation members tags) e = ap (λ l. Relation l tags) (sym e)
 
-  -- a map in which the row of one name is rewritten as it is
+  -- a map in which one element is replaced by itself is the same
   one_stays : (m : Rows A) → is_sound m ≡ true → (x : Name) (f : Element A → Element A) → ((v : Element A) → row_at m x ≡ Some v → f v ≡ v) → each_row (at_name x f) m ≡ m
   one_stays m sound x f still =
       same_rows (each_row (at_name x f) m) m (AreInOrder-each_row (at_name x f) m (sound_in_order m sound)) (sound_in_order m sound)

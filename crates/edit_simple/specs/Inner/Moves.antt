@@ -1,4 +1,4 @@
--- Moves of nodes one by one.
+-- Moves, node by node.
 use Rattle.std.specs.Prelude.{◌≡◌, ◌⊎◌, ◌&&◌, ℤ, pos, Bool, true, false, List, [], Option, Some, None, Result, MatchResult}
 use Rattle.std.specs.List.{filter, list_all}
 use Rattle.std.specs.Ordering.{int_eq}
@@ -21,17 +21,17 @@ module _ {A : Type 0} where
   is_node_row (Some (Way nodes tags)) = false
   is_node_row (Some (Relation members tags)) = false
 
-  -- rising names of nodes that are there, and a distance
+  -- the names rise and are those of nodes of the map, and the distance is not 0
   pub record MayMove (m : Rows A) (moved : List Name) (dlat dlon : ℤ) : Type 0 where
     pub rising : IsRising moved
     pub there : list_all (λ y. is_node_row (row_at m y)) moved ≡ true
     pub distance : (int_eq dlat (pos 0) && int_eq dlon (pos 0)) ≡ false
 
-  -- those of the names that would leave the range
+  -- the names that would leave the range
   abbrev pub leaving : Rows A → ℤ → ℤ → List Name → List Name
   leaving m dlat dlon names = filter (λ y. row_leaves dlat dlon (row_at m y)) names
 
-  -- the changes of each, where none leaves the range; else the first that does
+  -- the changes of all names if no name leaves the range, otherwise the refusal of the first that does, or `Memory`
   abbrev pub IsMoved : Rows A → List Name → ℤ → ℤ → Result (List (Change A)) (Refusal A) → Type 0
   IsMoved m moved dlat dlon r =
       MatchResult r (λ cs. (leaving m dlat dlon moved ≡ []) × (cs ≡ rows_changes m (moved_row m dlat dlon) moved))

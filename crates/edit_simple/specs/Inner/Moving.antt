@@ -1,4 +1,4 @@
--- What a move does to one row.
+-- One row of a move.
 use Rattle.std.specs.Prelude.{ℤ, Bool, false, List, [], ◌∷◌, Option, Some, None}
 use Rattle.std.specs.List.{flat_map}
 use Rattle.std.specs.Option.{option_map}
@@ -10,7 +10,7 @@ use Rattle.osm_elements.specs.Rows.{row_at}
 use Rattle.edit_simple.specs.Move.{moved_by, is_out_of_range}
 
 module _ {A : Type 0} where
-  -- the nodes that a listed name moves, by its row: itself, or those of the way
+  -- the nodes that a listed name moves, given its row: itself, or the nodes of the way
   abbrev pub moved_with : Name → Option (Element A) → List Name
   moved_with x None = []
   moved_with x (Some (Node lat lon tags)) = x ∷ []
@@ -25,6 +25,6 @@ module _ {A : Type 0} where
   row_leaves dlat dlon None = false
   row_leaves dlat dlon (Some v) = is_out_of_range (moved_by dlat dlon v)
 
-  -- what a moved row becomes
+  -- the row of a moved name after the move
   abbrev pub moved_row : Rows A → ℤ → ℤ → Name → Option (Element A)
   moved_row m dlat dlon y = option_map (moved_by dlat dlon) (row_at m y)

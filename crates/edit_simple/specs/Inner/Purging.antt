@@ -1,4 +1,4 @@
--- A purge, name by name.
+-- Purges, name by name.
 use Rattle.std.specs.Prelude.{◌≡◌, ◌≢◌, true, not, List, [], ◌∷◌, Option, None, if◌then◌else◌}
 use Rattle.std.specs.List.{filter, flat_map, list_all}
 use Rattle.std.specs.Option.{option_map}
@@ -11,32 +11,32 @@ use Rattle.osm_refs.specs.Tables.{Table, users_in}
 use Rattle.edit_simple.specs.Contents.{nodes_of, with_nodes, with_members}
 use Rattle.edit_simple.specs.Purge.{without, falls_short}
 
--- a user of a purged name, and its own users where it goes
+-- a user of the purged name, and the users of this user if it is removed
 abbrev pub reached_with : Table → List Name → Name → List Name
 reached_with users gone u = u ∷ (if is_among gone u then users_in users u else [])
 
--- the purged name, and what its users reach
+-- the purged name, its users, and the users of removed names
 abbrev pub all_reached : Table → List Name → Name → List Name
 all_reached users gone x = x ∷ flat_map (reached_with users gone) (users_in users x)
 
 module _ {A : Type 0} where
-  -- the purged name, and those of its users that fall short without it
+  -- the purged name, and those of its users that would be too short without it
   abbrev pub all_gone : Rows A → List Name → Name → List Name
   all_gone m users x = x ∷ filter (λ u. falls_short x (nodes_of (row_at m u))) users
 
-  -- what is left of an element that stays
+  -- an element that stays, without its removed references
   abbrev pub left_of : List Name → Name → Element A → Element A
   left_of gone x v = with_nodes (without x) (with_members (filter (λ r. not (is_among gone r.0))) v)
 
-  -- what a row becomes
+  -- a row after the purge
   abbrev pub row_left : List Name → Name → Name → Option (Element A) → Option (Element A)
   row_left gone x y o = if is_among gone y then None else option_map (left_of gone x) o
 
-  -- what the row of a name becomes
+  -- the row of a name after the purge
   abbrev pub purged_row : Rows A → List Name → Name → Name → Option (Element A)
   purged_row m gone x y = row_left gone x y (row_at m y)
 
-  -- rising names that are there, whose rows all become others
+  -- the names rise, the map has them, and the row of each changes
   pub record MayPurge (m : Rows A) (gone : List Name) (x : Name) (names : List Name) : Type 0 where
     pub rising : IsRising names
     pub there : list_all (is_present m) names ≡ true

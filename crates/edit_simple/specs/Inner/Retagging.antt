@@ -1,4 +1,4 @@
--- A retag in two goes: first keys lose their tags, and then keys get their values.
+-- A retag in two passes: the first removes tags, and the second sets values.
 use Rattle.std.specs.Prelude.{ℕ, List, Option, Some, None}
 use Rattle.std.specs.List.{fold}
 use Rattle.std.specs.FinMap.Entries.{put}
@@ -6,20 +6,20 @@ use Rattle.osm_elements.specs.KeyedRows.{text_cmp, without_key}
 use Rattle.osm_elements.specs.TagRows.{Pairs}
 use Rattle.edit_simple.specs.Tagging.{GivenTags}
 
--- the tags after a key lost its tag, where it is given no value
+-- the tags after the first pass for one key
 abbrev pub removed : Pairs → List ℕ → Option (List ℕ) → Pairs
 removed tags key None = without_key tags key
 removed tags key (Some value) = tags
 
--- the tags after a key got its value, where it is given one
+-- the tags after the second pass for one key
 abbrev pub valued : Pairs → List ℕ → Option (List ℕ) → Pairs
 valued tags key None = tags
 valued tags key (Some value) = put text_cmp key value tags
 
--- the tags after the keys with no value lost theirs
+-- the tags after the tags of all keys without a value are removed
 abbrev pub all_removed : Pairs → GivenTags → Pairs
 all_removed tags given = fold (λ t g. removed t g.0 g.1) tags given
 
--- the tags after the keys with a value got it
+-- the tags after the values of all keys with a value are set
 abbrev pub all_valued : Pairs → GivenTags → Pairs
 all_valued tags given = fold (λ t g. valued t g.0 g.1) tags given

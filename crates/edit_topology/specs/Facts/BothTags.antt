@@ -1,4 +1,4 @@
--- The tags of two elements that become one are tags; those of an element with itself are its own.
+-- The united tags of two elements are valid tags. An element's tags united with themselves are unchanged.
 use Rattle.std.proofs.Common.{◌≡◌, ℕ, Bool, true, false, not, ◌&&◌, T, List, [], ◌∷◌, Option, Some, None, length, nat_lt, refl, sym, ap, ◌∙◌, cond}
 use Rattle.std.specs.FinMap.{nat_cmp-IsAntisymmetric, slice_cmp-IsAntisymmetric}
 use Rattle.std.specs.FinMap.Entries.{put, is_sorted, below_all, is_sorted-put, find-put, same_entries}
@@ -24,7 +24,7 @@ use Rattle.edit_simple.specs.Facts.Retagging.{tags_put, tags_from, tags_sorted, 
 use Rattle.edit_simple.specs.Facts.Rewriting.{fine}
 use Rattle.edit_topology.specs.BothTags.{both_tags, is_another, conflict}
 
--- ---- tags stay tags
+-- ---- united tags are tags
 
 sorted_both : (others tags : Pairs) → T (is_sorted text_cmp tags) → T (is_sorted text_cmp (both_tags tags others))
 sorted_both [] tags h = h
@@ -37,7 +37,7 @@ all_both (p ∷ ps) tags g h = all_both ps (put text_cmp p.0 p.1 tags) (second_t
 pub are_tags-both_tags : (tags others : Pairs) → are_tags tags ≡ true → are_tags others ≡ true → nat_lt most_tags (length (both_tags tags others)) ≡ false → are_tags (both_tags tags others) ≡ true
 are_tags-both_tags tags others h g few = tags_from (both_tags tags others) (sorted_both others tags (tags_sorted tags h)) few (all_both others tags (tags_all others g) (tags_all tags h))
 
--- ---- tags with themselves
+-- ---- tags united with themselves
 
 pub same_keys : (x y : List ℕ) → is_eq (text_cmp x y) ≡ true → x ≡ y
 same_keys x y e = slice_cmp-IsAntisymmetric nat_cmp-IsAntisymmetric x y (same (text_cmp x y) e)
@@ -46,12 +46,12 @@ pub same_text_itself : (s : List ℕ) → is_same_text s s ≡ true
 same_text_itself s =
     first_true (is_same_text s s) (is_same_text s s) (first_true (is_same_text s s && is_same_text s s) true (same_tags_itself ((s, s) ∷ [])))
 
--- each of the others is among the tags with the same value
+-- the tags have each of the others, with the same value
 abbrev Has : Pairs → Pairs → Type 0
 Has tags [] = Unit
 Has tags (p ∷ ps) = (value_at tags p.0 ≡ Some p.1) × Has tags ps
 
--- what is found among later tags is found among all
+-- a value that later tags have is the value among all tags
 pub later : (e : List ℕ × List ℕ) (es : Pairs) → T (below_all text_cmp e.0 es) → (key value : List ℕ) → value_at es key ≡ Some value → value_at (e ∷ es) key ≡ Some value
 later e es h key value is = by (is_eq (text_cmp key e.0)) refl
   where
@@ -71,7 +71,7 @@ has_itself (e ∷ es) h = (
   has_later e es es (first (below_all text_cmp e.0 es) (is_sorted text_cmp es) h) (has_itself es (second (below_all text_cmp e.0 es) (is_sorted text_cmp es) h)),
 )
 
--- a tag that is there is put
+-- putting a tag that is there changes nothing
 put_same : (tags : Pairs) (key value : List ℕ) → T (is_sorted text_cmp tags) → value_at tags key ≡ Some value → put text_cmp key value tags ≡ tags
 put_same tags key value h is =
     same_entries text_cmp nat_list_cmp_total (slice_cmp-IsAntisymmetric nat_cmp-IsAntisymmetric) (put text_cmp key value tags) tags (is_sorted-put text_cmp nat_list_cmp_total key value tags h) h

@@ -1,4 +1,4 @@
--- The rows that an accepted split, join or merge changes beside those of its subjects, and the way that an unglue
+-- The rows that an accepted split, join or merge changes in addition to its subjects', and the way that an unglue
 -- changes.
 use Rattle.std.proofs.Common.{◌≡◌, ◌≢◌, ◌+◌, ◌++◌, ℕ, Bool, true, false, ◌||◌, List, [], ◌∷◌, Option, Some, None, is_some, take, map, refl, sym, ap, ◌∙◌, cond}
 use Rattle.std.specs.Option.{option_map}
@@ -27,7 +27,7 @@ use Rattle.edit_topology.specs.Facts.Merging.{merge_accepted}
 use Rattle.edit_topology.specs.Facts.Splitting.{Splits, splits, row_at-after_split}
 use Rattle.edit_topology.specs.Facts.Ungluing.{Unglues, unglues, not_new, way_after, new_among}
 
--- where w is a member, v is one after the split
+-- if w is a member, v is a member after the split
 split_names : (w v : Name) (members : List (Name × List ℕ)) → is_among (map (λ r. r.0) members) w ≡ true → is_among (map (λ r. r.0) (split_members w v members)) v ≡ true
 split_names w v [] h = absurd (cc)
 split_names w v (r ∷ rs) h = by (is_same w r.0) h (split_names w v rs)
@@ -38,7 +38,7 @@ split_names w v (r ∷ rs) h = by (is_same w r.0) h (split_names w v rs)
     by false i rest = or_right (is_same v r.0) (is_among (map (λ s. s.0) (split_members w v rs)) v) (rest i)
 
 module _ {A : Type 0} where
-  -- in a sound map nothing names what is not there
+  -- no element of a sound map refers to an absent name
   nothing_names : (m : Rows A) (x y : Name) → is_sound m ≡ true → is_present m x ≡ false → is_among (row_references (row_at m y)) x ≡ false
   nothing_names m x y sound gone = by (row_at m y) refl
     where
@@ -50,7 +50,7 @@ module _ {A : Type 0} where
       by None is = refl
       by (Some u) is = no u is (is_among (references u) x) refl
 
-  -- a row that names x, and one that does not
+  -- a row that refers to x differs from a row that does not
   apart_rows : (x : Name) (o p : Option (Element A)) → is_among (row_references o) x ≡ true → is_among (row_references p) x ≡ false → o ≢ p
   apart_rows x o p one other e = cc (sym one ∙ ap (λ z. is_among (row_references z) x) e ∙ other)
 
@@ -64,7 +64,7 @@ module _ {A : Type 0} where
       no_row None e h = cc
       no_row (Some u) e h = cc
 
-      -- w is no node
+      -- w is not a node's name
       no_node : is_node w.kind ≡ true → ⊥
       no_node h = cc (sym h ∙ ap is_node (told_way w.kind s.way_w))
 

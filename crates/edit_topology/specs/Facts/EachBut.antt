@@ -1,4 +1,4 @@
--- A map of which one row goes and every other is rewritten.
+-- A map from which one row is removed, and in which every other row is rewritten.
 use Rattle.std.proofs.Common.{◌≡◌, ◌≢◌, Bool, true, false, Some, None, is_some, sym, ap, ◌∙◌, cond}
 use Rattle.std.specs.Option.{option_map}
 use Rattle.osm_elements.specs.declared.name.Name.{Name}
@@ -27,7 +27,7 @@ module _ {A : Type 0} where
   pub each_but_gone : (m : Rows A) (x : Name) (f : Name → Element A → Element A) → is_present (each_row f (rows_but x m)) x ≡ false
   each_but_gone m x f = ap is_some (row_at-each_but m x f x ∙ ap (λ b. option_map (f x) (cond b None (row_at m x))) (is_eq-name_cmp_itself x))
 
-  -- it is sound, and another map, where the name was there and each other row becomes something fine
+  -- if the name was present and each other row becomes a fine row, the result is sound and differs from the map
   pub each_but_accepted : (m : Rows A) (x : Name) (f : Name → Element A → Element A) → is_sound m ≡ true → is_present m x ≡ true
       → ((y : Name) (v : Element A) → row_at m y ≡ Some v → Fine (each_row f (rows_but x m)) y (f y v))
       → (is_sound (each_row f (rows_but x m)) ≡ true) × (each_row f (rows_but x m) ≢ m)

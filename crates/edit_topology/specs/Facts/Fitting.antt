@@ -17,13 +17,13 @@ use Rattle.edit_simple.specs.Facts.Rewriting.{Fine}
 use Rattle.edit_topology.specs.Facts.Lists.{from_not}
 
 module _ {A : Type 0} where
-  -- 2 to 2,000 nodes that are there
+  -- 2 to 2,000 nodes, all present
   pub record FitsWay (m : Rows A) (nodes : List Name) : Type 0 where
     pub made : are_nodes nodes ≡ true
     pub lengthy : (nat_le 2 (length nodes) && nat_le (length nodes) most_nodes) ≡ true
     pub refs : (e : Name) → is_among nodes e ≡ true → is_present m e ≡ true
 
-  -- at most 32,000 members that are there
+  -- at most 32,000 members, all present
   pub record FitsRelation (m : Rows A) (members : List (Name × List ℕ)) : Type 0 where
     pub made : are_members members ≡ true
     pub lengthy : nat_le (length members) most_members ≡ true
@@ -35,7 +35,7 @@ module _ {A : Type 0} where
   pub relation_fits : (m : Rows A) (y : Name) (members : List (Name × List ℕ)) (tags : Pairs) → Fine m y (Relation members tags) → FitsRelation m members
   relation_fits m y members tags f = record { made = first_true (are_members members) (are_tags tags) f.made; lengthy = f.lengthy; refs = f.refs }
 
-  -- fine rows with other lists that fit, perhaps in another map
+  -- a fine row stays fine with another list that fits, possibly in another map
   pub fine_node : (m n : Rows A) (y : Name) (lat lon : ℤ) (tags : Pairs) → Fine m y (Node lat lon tags) → Fine n y (Node lat lon tags)
   fine_node m n y lat lon tags f = record { kind = f.kind; made = f.made; lengthy = refl; refs = λ e i. absurd (cc) }
 
@@ -58,7 +58,7 @@ module _ {A : Type 0} where
   pub same_fine : (n : Rows A) (y : Name) (v u : Element A) → v ≡ u → Fine n y v → Fine n y u
   same_fine n y v u e f = subst (λ (z : Element A). Fine n y z) e f
 
-  -- no row passes a test where none is named that does
+  -- if no name has a row that passes a test, every row fails it
   pub none_named : (p : Name → Element A → Bool) (m : Rows A) → names_of (filter (λ r. p r.0 r.1) m) ≡ [] → (y : Name) (v : Element A) → row_at m y ≡ Some v → p y v ≡ false
   none_named p m none y v is =
       from_not (p y v) (found_passes (λ z u. not (p z u)) m (none_passes (λ r. p r.0 r.1) m (names_of_none (filter (λ r. p r.0 r.1) m) none)) y v is)

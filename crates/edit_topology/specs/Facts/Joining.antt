@@ -39,17 +39,17 @@ use Rattle.edit_topology.specs.Facts.Renaming.{renamed_gone, renamed_within, nam
 
 -- ---- the members
 
--- a member that doesn't go on from the one before is kept
+-- a member that does not go on from the one in front of it is kept
 pub kept_on : (w v : Name) (before : Option (Name × List ℕ)) (r : Name × List ℕ) (rs : List (Name × List ℕ)) → goes_on w v before r ≡ false → kept_members w v before (r ∷ rs) ≡ r ∷ kept_members w v (Some r) rs
 kept_on w v before r rs e =
     ap (λ b. map (λ p. p.1) (cond (not b) ((before, r) ∷ filter (λ p. not (goes_on w v p.0 p.1)) (zip (Some r ∷ map Some rs) rs)) (filter (λ p. not (goes_on w v p.0 p.1)) (zip (Some r ∷ map Some rs) rs)))) e
 
--- and one that does is dropped
+-- a member that goes on from the one in front of it is dropped
 pub kept_off : (w v : Name) (before : Option (Name × List ℕ)) (r : Name × List ℕ) (rs : List (Name × List ℕ)) → goes_on w v before r ≡ true → kept_members w v before (r ∷ rs) ≡ kept_members w v (Some r) rs
 kept_off w v before r rs e =
     ap (λ b. map (λ p. p.1) (cond (not b) ((before, r) ∷ filter (λ p. not (goes_on w v p.0 p.1)) (zip (Some r ∷ map Some rs) rs)) (filter (λ p. not (goes_on w v p.0 p.1)) (zip (Some r ∷ map Some rs) rs)))) e
 
--- a member that isn't v goes on from none
+-- a member that is not v goes on from no member
 pub not_on : (w v : Name) (before : Option (Name × List ℕ)) (r : Name × List ℕ) → is_same v r.0 ≡ false → goes_on w v before r ≡ false
 not_on w v None r h = refl
 not_on w v (Some b) r h = ap (λ c. c && (is_same w b.0 && is_same_text b.1 r.1)) h
@@ -116,7 +116,7 @@ module _ {A : Type 0} where
       which : (e : Name) → is_among (end_to_end nodes others) e ≡ true → (is_among nodes e || is_among (drop 1 others) e) ≡ true
       which e i = sym (is_among-append e nodes (drop 1 others)) ∙ i
 
-  -- what an accepted join tells
+  -- what is true if a join is accepted
   pub record Joins (m : Rows A) (w v : Name) : Type 0 where
     pub others : List Name
     pub tags : Pairs
@@ -166,7 +166,7 @@ module _ {A : Type 0} where
       j : Joins m w v
       j = joins m w v sound ok
 
-      -- w's element
+      -- the element of w
       longer : (y : Name) (u : Element A) → row_at m w ≡ Some u → Fine m y u → Fine m y (lengthened m v u)
       longer y u is f = by u is (fine_tagged m y both u tagged f)
         where
@@ -188,7 +188,7 @@ module _ {A : Type 0} where
       there : (e : Name) → is_present m e ≡ true → is_same e v ≡ false → is_present n e ≡ true
       there = each_but_there m v (join_row m w v)
 
-      -- a row's members
+      -- the members of a row
       lists : (y : Name) (u : Element A) → Fine m y u → Fine n y (with_members (joined_members w v) u)
       lists y (Node lat lon tags) f = fine_node m n y lat lon tags f
       lists y (Way nodes tags) f =

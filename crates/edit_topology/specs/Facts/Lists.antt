@@ -15,7 +15,7 @@ pub or_cases : (a b c : Bool) → (a || b) ≡ true → (a ≡ true → c ≡ tr
 or_cases true b c h f g = f refl
 or_cases false b c h f g = g h
 
--- what neither of two tests passes
+-- if neither of two tests passes, the first fails
 pub or_first : (a b : Bool) → (a || b) ≡ false → a ≡ false
 or_first true b h = h
 or_first false b h = refl
@@ -24,15 +24,15 @@ pub or_second : (a b : Bool) → (a || b) ≡ false → b ≡ false
 or_second true b h = absurd (cc)
 or_second false b h = h
 
--- what is short enough is not too long
+-- a length within the limit does not exceed it
 pub not_more : (n most : ℕ) → nat_le n most ≡ true → nat_lt most n ≡ false
 not_more n most h = grind (arith, nat_tests)
 
--- what is at most as long as a list that is short enough
+-- a list that is no longer than a list within the limit is within the limit
 pub still_short : (n k most : ℕ) → n ≤ k → nat_le k most ≡ true → nat_le n most ≡ true
 still_short n k most h e = grind (arith, nat_tests)
 
--- what is at least as long as a list that is long enough
+-- a list that is no shorter than a list of the least length has the least length
 pub still_long : (n k least : ℕ) → n ≤ k → nat_le least n ≡ true → nat_le least k ≡ true
 still_long n k least h e = grind (arith, nat_tests)
 
@@ -50,7 +50,7 @@ take_within (suc n) e (x ∷ xs) h = by (is_same e x) h (take_within n e xs)
     by true i rest = refl
     by false i rest = rest i
 
--- a name of a list is another than one that the list has not
+-- a name in a list differs from a name that is not in the list
 pub another_name : (e x : Name) (list : List Name) → is_among list e ≡ true → is_among list x ≡ false → is_same e x ≡ false
 another_name e x list i none = by (is_same e x) refl
   where
@@ -58,7 +58,7 @@ another_name e x list i none = by (is_same e x) refl
     by true s = absurd (cc (sym i ∙ ap (is_among list) (same_names e x s) ∙ none))
     by false s = s
 
--- names of which a test of their kinds tells different things are not the same
+-- names differ if a test of their kinds has different results
 pub another_kind : (p : Kind → Bool) (e x : Name) → p e.kind ≡ true → p x.kind ≡ false → is_same e x ≡ false
 another_kind p e x one other = by (is_same e x) refl
   where

@@ -42,7 +42,7 @@ from_shorter same x (z ∷ zs) = by (same z x) (from_shorter same x zs) (from_sh
     by true i k = omega arith
     by false i k = omega arith
 
--- what is left was there
+-- each name that is left was there
 from_within : (same : Name → Name → Bool) (e x : Name) (xs : List Name) → is_among (dedup_from same x xs) e ≡ true → (is_same e x || is_among xs e) ≡ true
 from_within same e x [] h = h
 from_within same e x (z ∷ zs) h = by (same z x) h (is_same e x) refl (from_within same e x zs) (from_within same e z zs)
@@ -79,7 +79,7 @@ merged_shorter k g nodes = by (is_among nodes g)
         omega arith
     by false = omega arith
 
--- g is named no more
+-- the list no longer names g
 merged_gone : (k g : Name) → is_same g k ≡ false → (nodes : List Name) → is_among (merged_nodes k g nodes) g ≡ false
 merged_gone k g apart nodes = by (is_among nodes g) refl
   where
@@ -92,7 +92,7 @@ merged_gone k g apart nodes = by (is_among nodes g) refl
     by false i = i
 
 module _ {A : Type 0} where
-  -- what an accepted merge tells
+  -- what is true if a merge is accepted
   pub record Merges (m : Rows A) (k g : Name) : Type 0 where
     pub node_k : is_node k.kind ≡ true
     pub node_g : is_node g.kind ≡ true
@@ -137,7 +137,7 @@ module _ {A : Type 0} where
       both : Pairs → Pairs
       both tags = both_tags tags (row_tags (row_at m g))
 
-      -- k's element
+      -- the element of k
       tagged : (y : Name) (u : Element A) → row_at m k ≡ Some u → Fine m y u → Fine m y (with_tags both u)
       tagged y u is f =
           fine_tagged m y both u
@@ -149,7 +149,7 @@ module _ {A : Type 0} where
       away : is_same g k ≡ false
       away = same_either_way g k ∙ s.apart
 
-      -- a row's list
+      -- the list of a row
       lists : (y : Name) (u : Element A) → Fine m y u → (is_among (nodes_of (Some u)) g && nat_lt (length (merged_nodes k g (nodes_of (Some u)))) 2) ≡ false
           → Fine n y (with_nodes (merged_nodes k g) (with_members (renamed_members g k) u))
       lists y (Node lat lon tags) f long = fine_node m n y lat lon tags f

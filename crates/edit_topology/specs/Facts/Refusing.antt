@@ -1,4 +1,4 @@
--- The relations that a split is refused for are users of the way.
+-- A split is refused as `TooMany` only for users of the way.
 use Rattle.std.proofs.Common.{◌≡◌, Bool, true, false, ◌&&◌, [], ◌∷◌, Some, length, map, nat_lt, refl, ap, ◌∙◌, cond}
 use Rattle.std.specs.FinMap.Entries.{is_sorted}
 use Rattle.std.specs.List.{filter, list_all}
@@ -18,7 +18,7 @@ use Rattle.edit_topology.specs.Facts.Lists.{not_more}
 use Rattle.edit_topology.specs.Facts.Staying.{split_members_same}
 
 module _ {A : Type 0} where
-  -- tests that tell the same of each row leave the same rows
+  -- two tests that agree on each row select the same rows
   same_left : (p q s : Name × Element A → Bool) → ((r : Name × Element A) → s r ≡ true → p r ≡ q r) → (es : Rows A) → list_all s es ≡ true → filter p es ≡ filter q es
   same_left p q s same [] h = refl
   same_left p q s same (r ∷ es) h =
@@ -26,7 +26,7 @@ module _ {A : Type 0} where
       let rest = same_left p q s same es (second_true (s r) (list_all s es) h) in
       λ j. cond (own j) (r ∷ rest j) (rest j)
 
-  -- on a sound map a relation that gets too long names w
+  -- on a sound map, a relation that would get too long names w
   pub overfull_are_users : (m : Rows A) (w v : Name) → is_sound m ≡ true
       → overfull m w v ≡ names_of (filter (λ r. refers_to r.1 w && nat_lt most_members (length (split_members w v (members_of (Some r.1))))) m)
   overfull_are_users m w v sound =

@@ -1,4 +1,4 @@
--- Lists in which one name stands in the place of another.
+-- Lists in which one name replaces another.
 use Rattle.std.proofs.Common.{◌≡◌, ℕ, Bool, true, false, not, ◌&&◌, ◌||◌, List, [], ◌∷◌, map, refl, sym, ap, ◌∙◌, cond}
 use Rattle.osm_elements.specs.declared.name.Name.{Name}
 use Rattle.osm_elements.specs.Maps.{is_same, is_among}
@@ -15,7 +15,7 @@ renamed_gone x y apart (n ∷ ns) = by (is_same x n) refl (renamed_gone x y apar
     by true s rest = ap (λ b. b || is_among (map (renamed x y) ns) x) apart ∙ rest
     by false s rest = ap (λ b. b || is_among (map (renamed x y) ns) x) s ∙ rest
 
--- what is named is the new name, or was named
+-- each name in the new list is the new name, or was in the old list
 pub renamed_within : (x y e : Name) (names : List Name) → is_among (map (renamed x y) names) e ≡ true → (is_same e y || is_among names e) ≡ true
 renamed_within x y e [] h = absurd (cc)
 renamed_within x y e (n ∷ ns) h = by (is_same x n) h (is_same e y) refl (is_same e n) refl (renamed_within x y e ns)
@@ -35,7 +35,7 @@ pub are_members-renamed : (x y : Name) (members : List (Name × List ℕ)) → a
 are_members-renamed x y [] = refl
 are_members-renamed x y (e ∷ es) = ap (λ b. not (is_long e.1) && b) (are_members-renamed x y es)
 
--- a list that doesn't have the old name stays as it is
+-- a list without the old name is unchanged
 pub renamed_members_same : (x y : Name) (members : List (Name × List ℕ)) → is_among (map (λ e. e.0) members) x ≡ false → renamed_members x y members ≡ members
 renamed_members_same x y [] h = refl
 renamed_members_same x y (e ∷ es) h = by (is_same x e.0) h (renamed_members_same x y es)

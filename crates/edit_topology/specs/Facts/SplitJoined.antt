@@ -1,4 +1,4 @@
--- The parts of a split way join to the way that was split.
+-- A join of both parts of a split way gives the way that was split.
 use Rattle.std.proofs.Common.{◌≡◌, ◌+◌, ◌++◌, ℕ, zero, suc, Bool, true, false, not, ◌&&◌, List, [], ◌∷◌, Option, Some, None, is_some, length, nat_lt, nat_le, take, drop, map, refl, sym, ap, ◌∙◌, cond, add-one, arith}
 use Rattle.std.proofs.lemmas.Bool.Decides.{nat_tests}
 use Rattle.std.specs.Bool.{then_some}
@@ -75,7 +75,7 @@ parts_meet i xs inside =
 
 -- ---- the members
 
--- v right after w in its role goes on
+-- v right after w in the same role goes on
 on_itself : (w v : Name) (r : Name × List ℕ) → is_same w r.0 ≡ true → goes_on w v (Some r) (v, r.1) ≡ true
 on_itself w v r h = both_true (is_same v v) (is_same w r.0 && is_same_text r.1 r.1) (is_eq-name_cmp_itself v) (both_true (is_same w r.0) (is_same_text r.1 r.1) h (same_text_itself r.1))
 
@@ -201,7 +201,7 @@ module _ {A : Type 0} where
       own : Fine m w (Way s.nodes s.tags)
       own = fine m sound w (Way s.nodes s.tags) s.row
 
-      -- what both make of an element, where it is w's or not
+      -- an element after the split and the join, if it is w's and if it is not
       made : Bool → Element A → Element A
       made b u = with_members (joined_members w v) (cond b (lengthened n v (with_members (split_members w v) (cond b (with_nodes (take (i + 1)) u) u))) (with_members (split_members w v) (cond b (with_nodes (take (i + 1)) u) u)))
 

@@ -96,7 +96,7 @@ split_roles w v (r ∷ rs) h = by (is_same w r.0) (split_roles w v rs (second_tr
     by false i = both_true (not (is_long r.1)) (are_members (split_members w v rs)) own i
 
 module _ {A : Type 0} where
-  -- what an accepted split tells
+  -- what is true if a split is accepted
   pub record Splits (m : Rows A) (w : Name) (i : ℕ) (v : Name) : Type 0 where
     pub nodes : List Name
     pub tags : Pairs
@@ -189,14 +189,14 @@ module _ {A : Type 0} where
           old : Fine m w (Way s.nodes s.tags)
           old = fine m sound w (Way s.nodes s.tags) s.row
 
-      -- w's row
+      -- the row of w
       cut : (y : Name) (u : Element A) → row_at m w ≡ Some u → Fine m y u → Fine m y (with_nodes (take (i + 1)) u)
       cut y (Node lat lon tags) is f = f
       cut y (Way nodes tags) is f =
           fine_way m m y nodes (take (i + 1) nodes) tags f (first_fits m i nodes (way_fits m y nodes tags f) (ap (λ o. is_inside i (nodes_of o)) (sym is ∙ s.row) ∙ s.inside))
       cut y (Relation members tags) is f = f
 
-      -- a row's members
+      -- the members of a row
       lists : (y : Name) (u : Element A) → Fine m y u → nat_lt most_members (length (split_members w v (members_of (Some u)))) ≡ false → Fine n y (with_members (split_members w v) u)
       lists y (Node lat lon tags) f few = fine_node m n y lat lon tags f
       lists y (Way nodes tags) f few = fine_way m n y nodes nodes tags f (way_in m n nodes more (way_fits m y nodes tags f))

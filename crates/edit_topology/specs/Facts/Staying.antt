@@ -1,4 +1,4 @@
--- The rows that a split, a join, a merge or an unglue leaves as they are.
+-- The rows that a split, a join, a merge or an unglue leaves unchanged.
 use Rattle.std.proofs.Common.{◌≡◌, ◌+◌, ◌++◌, ℕ, false, List, [], ◌∷◌, Option, Some, None, take, map, set, refl, ap, ◌∙◌, cond}
 use Rattle.std.specs.Option.{option_map}
 use Rattle.osm_elements.specs.declared.name.Name.{Name}
@@ -21,7 +21,7 @@ use Rattle.edit_topology.specs.Facts.Splitting.{row_at-after_split}
 use Rattle.edit_topology.specs.Facts.Ungluing.{unglue_row, row_at-after_unglue}
 use Rattle.edit_topology.specs.Unglue.{row_standing, after_unglue}
 
--- ---- lists that don't have the name
+-- ---- lists that do not have the name
 
 pub split_members_same : (w v : Name) (members : List (Name × List ℕ)) → is_among (map (λ r. r.0) members) w ≡ false → split_members w v members ≡ members
 split_members_same w v [] h = refl
@@ -44,7 +44,7 @@ merged_nodes_same k g nodes h = ap (λ b. cond b (without_doubled k (map (rename
 -- ---- rows
 
 module _ {A : Type 0} where
-  -- a row of which each element stays
+  -- a row whose element is unchanged, if it does not refer to x
   left : (f : Element A → Element A) (x : Name) → ((u : Element A) → is_among (references u) x ≡ false → f u ≡ u) → (o : Option (Element A)) → is_among (row_references o) x ≡ false → option_map f o ≡ o
   left f x same None h = refl
   left f x same (Some u) h = ap Some (same u h)

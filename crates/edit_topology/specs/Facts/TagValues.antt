@@ -1,4 +1,4 @@
--- What the united tags have at a key, and what a conflict is, told by what is found at keys.
+-- The value that united tags have at a key, and the meaning of a conflict.
 use Rattle.std.proofs.Common.{◌≡◌, ◌≢◌, ℕ, Bool, true, false, not, T, List, [], ◌∷◌, Option, Some, None, refl, sym, ap, subst, ◌∙◌, cond}
 use Rattle.std.specs.Cmp.{tied_itself}
 use Rattle.std.specs.Cmp.Lexicographic.{nat_list_cmp_total}
@@ -16,7 +16,7 @@ use Rattle.edit_simple.specs.Facts.Retagging.{tags_sorted}
 use Rattle.edit_topology.specs.BothTags.{both_tags, is_another, conflict, HasTwo}
 use Rattle.edit_topology.specs.Facts.BothTags.{same_keys, same_text_itself, later}
 
--- at each key stands the others' value, or else the one's
+-- the value at each key is the others', or else the tags' own
 values_both : (others tags : Pairs) → T (is_sorted text_cmp others) → (key : List ℕ) → value_at (both_tags tags others) key ≡ option_or (value_at others key) (value_at tags key)
 values_both [] tags h key = refl
 values_both (p ∷ ps) tags h key =
@@ -32,14 +32,14 @@ united_values tags others h key = values_both others tags (tags_sorted others h)
 
 -- ---- conflicts
 
--- the values of a key that the first of the tags has
+-- the value at the key of the first tag
 own_value : (p : List ℕ × List ℕ) (ps : Pairs) → value_at (p ∷ ps) p.0 ≡ Some p.1
 own_value p ps = ap (λ o. cond (is_eq o) (Some p.1) (value_at ps p.0)) (tied_itself nat_list_cmp_total p.0)
 
 some_same : {X : Type 0} (x y : X) → Some x ≡ Some y → x ≡ y
 some_same x y e = ap (λ o. unwrap_or o x) e
 
--- the first key has two values where it has another among the others
+-- the first key has two values if the others have a different value there
 is_two : (p : List ℕ × List ℕ) (ps others : Pairs) → is_another (value_at others p.0) p.1 ≡ true → HasTwo (p ∷ ps) others p.0
 is_two p ps others e = by (value_at others p.0) refl e
   where
@@ -51,7 +51,7 @@ is_two p ps others e = by (value_at others p.0) refl e
         told true f = absurd (cc)
         told false f = refl
 
--- a key with two values that isn't the first's is one of the rest
+-- if the first key does not have two values, each key with two values is in the rest
 in_rest : (p : List ℕ × List ℕ) (ps others : Pairs) → is_another (value_at others p.0) p.1 ≡ false → (key : List ℕ) → HasTwo (p ∷ ps) others key → HasTwo ps others key
 in_rest p ps others e key two = by (is_eq (text_cmp key p.0)) refl two.ours
   where
@@ -65,18 +65,18 @@ in_rest p ps others e key two = by (is_eq (text_cmp key p.0)) refl two.ours
         from_not_false false f = absurd (cc)
     by false t is = record { one = two.one; other = two.other; ours = is; theirs = two.theirs; differ = two.differ }
 
--- and one of the rest is one of all
+-- a key with two values in the rest has two values in all
 in_all : (p : List ℕ × List ℕ) (ps others : Pairs) → T (below_all text_cmp p.0 ps) → (key : List ℕ) → HasTwo ps others key → HasTwo (p ∷ ps) others key
 in_all p ps others h key two = record { one = two.one; other = two.other; ours = later p ps h key two.one two.ours; theirs = two.theirs; differ = two.differ }
 
--- no key that is less than all has a value
+-- no key that is less than all keys has two values
 none_below : (p : List ℕ × List ℕ) (ps others : Pairs) → T (below_all text_cmp p.0 ps) → (key : List ℕ) → HasTwo (p ∷ ps) others key → text_cmp key p.0 ≢ Less
 none_below p ps others h key two less =
     let low : T (below_all text_cmp key (p ∷ ps)) = both (is_lt (text_cmp key p.0)) (below_all text_cmp key ps) (subst (λ o. T (is_lt o)) (sym less) tt) (below_less text_cmp nat_list_cmp_total key p.0 ps less h) in
     let none : value_at (p ∷ ps) key ≡ None = find_below text_cmp key (p ∷ ps) low in
     cc (sym none ∙ two.ours)
 
--- where there is no conflict no key has two values
+-- if there is no conflict, no key has two values
 pub no_key_has_two : (tags others : Pairs) → conflict tags others ≡ None → (key : List ℕ) → HasTwo tags others key → ⊥
 no_key_has_two [] others e key two = cc (two.ours)
 no_key_has_two (p ∷ ps) others e key two = by (is_another (value_at others p.0) p.1) refl e (no_key_has_two ps others)

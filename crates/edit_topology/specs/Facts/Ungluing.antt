@@ -1,4 +1,4 @@
--- What an accepted unglue tells, the rows after it, and that it keeps a sound map sound and changes it.
+-- The facts of an accepted unglue, the rows after it, and that it keeps a sound map sound and changes it.
 use Rattle.std.proofs.Common.{◌≡◌, ◌≢◌, ℕ, ℤ, zero, suc, Bool, true, false, not, ◌&&◌, ◌||◌, List, [], ◌∷◌, Some, None, is_some, length, set, nat_lt, nat_le, refl, sym, ap, subst, ◌∙◌, cond, arith, length-set}
 use Rattle.std.proofs.lemmas.Bool.Decides.{nat_tests}
 use Rattle.std.specs.List.{slice_get}
@@ -28,7 +28,7 @@ use Rattle.edit_simple.specs.Facts.Rewriting.{Fine, fine, fine_in, stays_sound, 
 use Rattle.edit_topology.specs.Facts.Fitting.{FitsWay, way_fits, fine_way, same_fine}
 use Rattle.edit_topology.specs.Unglue.{row_standing, unglue_checks, after_unglue}
 
--- ---- lists with another entry at one position
+-- ---- lists with one entry replaced
 
 none_within : (i : ℕ) → nat_lt i 0 ≡ true → ⊥
 none_within i h = grind (arith, nat_tests)
@@ -42,7 +42,7 @@ entry_at [] i h = absurd (none_within i h)
 entry_at (x ∷ xs) zero h = (x, refl, is_among_own x xs)
 entry_at (x ∷ xs) (suc i) h = let rest = entry_at xs i (less i (length xs) h) in (rest.0, rest.1, or_right (is_same rest.0 x) (is_among xs rest.0) rest.2)
 
--- what is in the new list is the new entry, or was there before
+-- each name in the new list is the new entry, or was there before
 among_set : (l : List Name) (i : ℕ) (v e : Name) → is_among (set l i v) e ≡ true → (is_same e v || is_among l e) ≡ true
 among_set [] i v e h = absurd (cc)
 among_set (x ∷ xs) zero v e h = by (is_same e v) h
@@ -57,16 +57,16 @@ among_set (x ∷ xs) (suc i) v e h = by (is_same e x) (is_same e v) h (among_set
     by true false j rest = refl
     by false false j rest = rest j
 
--- the new entry is in it
+-- the new list has the new entry
 pub new_among : (l : List Name) (i : ℕ) (v : Name) → nat_lt i (length l) ≡ true → is_among (set l i v) v ≡ true
 new_among [] i v h = absurd (none_within i h)
 new_among (x ∷ xs) zero v h = is_among_own v xs
 new_among (x ∷ xs) (suc i) v h = or_right (is_same v x) (is_among (set xs i v) v) (new_among xs i v (less i (length xs) h))
 
 module _ {A : Type 0} where
-  -- ---- what an accepted unglue tells
+  -- ---- what is true if an unglue is accepted
 
-  -- a node that stands at a position of a list, and its row
+  -- a node at a position of a list, and its row
   pub record Standing (m : Rows A) (nodes : List Name) (i : ℕ) : Type 0 where
     pub name : Name
     pub at : slice_get nodes i ≡ Some name
@@ -75,7 +75,7 @@ module _ {A : Type 0} where
     pub tags : Pairs
     pub row : row_at m name ≡ Some (Node lat lon tags)
 
-  -- at each position of a way of a sound map one does
+  -- in a sound map, each position of a way has a node with a row
   pub standing : (m : Rows A) (w : Name) (nodes : List Name) (tags : Pairs) (i : ℕ) → is_sound m ≡ true → row_at m w ≡ Some (Way nodes tags) → nat_lt i (length nodes) ≡ true → Standing m nodes i
   standing m w nodes tags i sound is within =
       let its = entry_at nodes i within in
@@ -119,7 +119,7 @@ module _ {A : Type 0} where
 
   -- ---- the rows after it
 
-  -- what an unglue makes of a row that was there
+  -- a row after the unglue, if it was there before
   abbrev pub unglue_row : Name → ℕ → Name → Name → Element A → Element A
   unglue_row w i v y u = at_name w (with_nodes (λ list. set list i v)) y u
 
@@ -133,7 +133,7 @@ module _ {A : Type 0} where
   pub AreInOrder-after_unglue : (m : Rows A) (w : Name) (i : ℕ) (v : Name) → AreInOrder m → AreInOrder (after_unglue m w i v)
   AreInOrder-after_unglue m w i v h = AreInOrder-with_row (each_row (unglue_row w i v) m) v (row_standing m w i) (AreInOrder-each_row (unglue_row w i v) m h)
 
-  -- w is another name than v, for it is there
+  -- w is not v, because w is present
   pub not_new : (m : Rows A) (w : Name) (i : ℕ) (v : Name) → Unglues m w i v → is_same w v ≡ false
   not_new m w i v s = by (is_same w v) refl
     where
@@ -141,17 +141,17 @@ module _ {A : Type 0} where
       by true e = absurd (cc (sym s.fresh ∙ ap (is_present m) (sym (same_names w v e)) ∙ ap is_some s.row))
       by false e = refl
 
-  -- v's row afterwards
+  -- the row of v afterwards
   pub new_row : (m : Rows A) (w : Name) (i : ℕ) (v : Name) → row_at (after_unglue m w i v) v ≡ row_standing m w i
   new_row m w i v = row_at-after_unglue m w i v v ∙ ap (λ b. cond b (row_standing m w i) (option_map (unglue_row w i v v) (row_at m v))) (is_eq-name_cmp_itself v)
 
-  -- w's row afterwards
+  -- the row of w afterwards
   pub way_after : (m : Rows A) (w : Name) (i : ℕ) (v : Name) → is_same w v ≡ false → (u : Element A) → row_at m w ≡ Some u → row_at (after_unglue m w i v) w ≡ Some (with_nodes (λ list. set list i v) u)
   way_after m w i v other u is =
       row_at-after_unglue m w i v w ∙ ap (λ b. cond b (row_standing m w i) (option_map (unglue_row w i v w) (row_at m w))) other
       ∙ ap (option_map (unglue_row w i v w)) is ∙ ap (λ b. Some (cond b (with_nodes (λ list. set list i v) u) u)) (is_eq-name_cmp_itself w)
 
-  -- ---- it is sound, and another map
+  -- ---- the map after it is sound, and differs
 
   module _ (m : Rows A) (w : Name) (i : ℕ) (v : Name) (sound : is_sound m ≡ true) (s : Unglues m w i v) where
     abbrev n : Rows A
@@ -170,7 +170,7 @@ module _ {A : Type 0} where
         by true = ap is_some copied
         by false = still_there (unglue_row w i v e) (row_at m e) ∙ here
 
-    -- the list with v at its position
+    -- the list with v at position i
     set_fits : (nodes : List Name) → FitsWay m nodes → FitsWay n (set nodes i v)
     set_fits nodes f = record {
       made = all_from (λ z. is_node z.kind) (set nodes i v) (λ e j. of e (is_same e v) refl (among_set nodes i v e j));
@@ -186,7 +186,7 @@ module _ {A : Type 0} where
         there e true t j = ap (is_present n) (same_names e v t) ∙ there_new
         there e false t j = more e (f.refs e j)
 
-    -- a way with v at the position, and any other row as it is
+    -- a way with v at position i; any other row is unchanged
     set_fine : (y : Name) (u : Element A) → Fine m y u → Fine n y (with_nodes (λ list. set list i v) u)
     set_fine y (Node lat lon tags) f = fine_in m n more y (Node lat lon tags) f
     set_fine y (Way nodes tags) f = fine_way m n y nodes (set nodes i v) tags f (set_fits nodes (way_fits m y nodes tags f))
@@ -199,7 +199,7 @@ module _ {A : Type 0} where
         by true = set_fine y u f
         by false = fine_in m n more y u f
 
-    -- the new node, which is as the one that stood there
+    -- the new node has the element of the old one
     new_fine : Fine n v (Node s.stood.lat s.stood.lon s.stood.tags)
     new_fine =
         let old : Fine m s.stood.name (Node s.stood.lat s.stood.lon s.stood.tags) = fine m sound s.stood.name (Node s.stood.lat s.stood.lon s.stood.tags) s.stood.row in

@@ -1,4 +1,4 @@
--- A join, check by check and name by name.
+-- A join, check by check and row by row.
 use Rattle.std.specs.Prelude.{◌≡◌, ◌≢◌, true, not, List, [], ◌∷◌, Option, Some, None, length, nat_lt, if◌then◌else◌}
 use Rattle.std.specs.Bool.{then_some}
 use Rattle.std.specs.List.{list_all}
@@ -18,31 +18,31 @@ use Rattle.edit_topology.specs.BothTags.{both_tags}
 use Rattle.edit_topology.specs.Join.{meet_end_to_end, end_to_end, joined_members}
 
 module _ {A : Type 0} where
-  -- both names are ways' and not the same
+  -- both names are ways' and differ
   abbrev pub name_checks : Name → Name → List (Option (Refusal A))
   name_checks w v =
       then_some (not (is_way w.kind)) (WrongKind w) ∷ then_some (not (is_way v.kind)) (WrongKind v)
       ∷ then_some (is_same w v) (Same w) ∷ []
 
-  -- the one ends where the other begins, and the list gets not too long
+  -- one list ends where the other begins, and together they are not too long
   abbrev pub list_checks : Name → List Name → List Name → List (Option (Refusal A))
   list_checks w one other =
       then_some (not (meet_end_to_end one other)) NotEndToEnd
       ∷ then_some (nat_lt most_nodes (length (end_to_end one other))) (TooMany w) ∷ []
 
-  -- the way that both become
+  -- the joined way
   abbrev pub way_of_both : Rows A → Name → Name → Element A
   way_of_both m w v =
       Way (end_to_end (nodes_of (row_at m w)) (nodes_of (row_at m v)))
       (both_tags (row_tags (row_at m w)) (row_tags (row_at m v)))
 
-  -- what the row of y becomes, where that of w becomes `joined`
+  -- the row of y after the join, if w gets the row `joined`
   abbrev pub row_joined : Rows A → Name → Name → Option (Element A) → Name → Option (Element A)
   row_joined m w v joined y =
       if is_same y w then joined
       else (if is_same y v then None else option_map (with_members (joined_members w v)) (row_at m y))
 
-  -- rising names that are there, whose rows all become others
+  -- the names rise, are present, and all have different rows after the join
   pub record MayJoin (m : Rows A) (w v : Name) (joined : Element A) (names : List Name) : Type 0 where
     pub rising : IsRising names
     pub there : list_all (is_present m) names ≡ true

@@ -1,4 +1,4 @@
--- A merge, check by check and name by name.
+-- A merge, check by check and row by row.
 use Rattle.std.specs.Prelude.{◌≡◌, ◌≢◌, ◌||◌, Bool, true, false, not, List, [], ◌∷◌, Option, Some, None, length, map, nat_lt, if◌then◌else◌}
 use Rattle.std.specs.Bool.{then_some}
 use Rattle.std.specs.List.{list_all}
@@ -21,16 +21,16 @@ use Rattle.edit_topology.specs.Renaming.{renamed, renamed_members}
 abbrev pub is_either : Name → Name → Name → Bool
 is_either k g n = is_same k n || is_same g n
 
--- a list with k in the place of g, each run of k one k
+-- the list with k in place of g, in which each run of k becomes one k
 abbrev pub replaced : Name → Name → List Name → List Name
 replaced k g nodes = without_doubled k (map (renamed g k) nodes)
 
--- the names that a merge is of and whose rows change: g, and k where it gains a tag
+-- the subjects whose rows change: g, and k if it gains a tag
 abbrev pub subjects : Name → Name → Bool → List Name
 subjects k g gains = if gains then k ∷ g ∷ [] else g ∷ []
 
 module _ {A : Type 0} where
-  -- the checks that look at the names alone
+  -- the checks that need only the names
   abbrev pub name_checks : Name → Name → List (Option (Refusal A))
   name_checks k g =
       then_some (not (is_node k.kind)) (WrongKind k)
@@ -38,35 +38,35 @@ module _ {A : Type 0} where
       ∷ then_some (is_same k g) (Same k)
       ∷ []
 
-  -- those that look at the tags alone
+  -- the checks that need only the tags
   abbrev pub tag_checks : Name → Pairs → Pairs → List (Option (Refusal A))
   tag_checks k tags others =
       option_map TagConflict (conflict tags others)
       ∷ then_some (nat_lt most_tags (length (both_tags tags others))) (TooMany k)
       ∷ []
 
-  -- a way that has no nodes but k and g
+  -- the row is a way's that has no nodes except k and g
   abbrev pub is_cut_short : Name → Name → Option (Element A) → Bool
   is_cut_short k g None = false
   is_cut_short k g (Some (Node lat lon tags)) = false
   is_cut_short k g (Some (Way nodes tags)) = list_all (is_either k g) nodes
   is_cut_short k g (Some (Relation members tags)) = false
 
-  -- what an element becomes that names g, and what k's becomes, the one node among those that stay and change
+  -- an element after the merge, if it is k's or names g; of the nodes that stay, only k changes
   abbrev pub merged_element : Name → Name → Pairs → Element A → Element A
   merged_element k g both (Node lat lon tags) = Node lat lon both
   merged_element k g both (Way nodes tags) = Way (replaced k g nodes) tags
   merged_element k g both (Relation members tags) = Relation (renamed_members g k members) tags
 
-  -- what a row becomes
+  -- a row after the merge
   abbrev pub merged_row : Name → Name → Pairs → Name → Option (Element A) → Option (Element A)
   merged_row k g both y o = if is_same g y then None else option_map (merged_element k g both) o
 
-  -- what the row of y becomes
+  -- the row of y after the merge
   abbrev pub row_merged : Rows A → Name → Name → Pairs → Name → Option (Element A)
   row_merged m k g both y = merged_row k g both y (row_at m y)
 
-  -- a node's name, and rising names that are there, whose rows all become others
+  -- k is a node's name, and the names rise, are present, and all have different rows after the merge
   pub record MayMerge (m : Rows A) (k g : Name) (both : Pairs) (names : List Name) : Type 0 where
     pub node : is_node k.kind ≡ true
     pub rising : IsRising names

@@ -1,4 +1,4 @@
--- A split, name by name.
+-- A split, row by row.
 use Rattle.std.specs.Prelude.{◌≡◌, ◌≢◌, ◌+◌, ℕ, Bool, true, false, List, [], ◌∷◌, Option, Some, None, length, take, drop, count_by, nat_lt, if◌then◌else◌}
 use Rattle.osm_elements.specs.declared.name.Name.{Name}
 use Rattle.osm_elements.specs.declared.element.Element.{Element}
@@ -14,16 +14,16 @@ use Rattle.edit_topology.specs.Split.{split_members}
 abbrev pub count_named : Name → List (Name × List ℕ) → ℕ
 count_named w members = count_by (λ e. is_same w e.0) members
 
--- how many there are once each member w is two
+-- how many members there are after each member w has become two
 abbrev pub split_length : Name → List (Name × List ℕ) → ℕ
 split_length w members = length members + count_named w members
 
--- a member w in a role becomes w and v in that role
+-- a member w becomes two members, w and v, in the same role
 abbrev pub split_member : Name → Name → Name × List ℕ → List (Name × List ℕ)
 split_member w v e = if is_same w e.0 then e ∷ (v, e.1) ∷ [] else e ∷ []
 
 module _ {A : Type 0} where
-  -- a relation would have more than 32,000 members
+  -- the relation r would have more than 32,000 members
   abbrev pub is_overfull : Rows A → Name → Name → Bool
   is_overfull m w r = nat_lt most_members (split_length w (members_of (row_at m r)))
 
@@ -33,24 +33,24 @@ module _ {A : Type 0} where
   is_way_row (Some (Way nodes tags)) = true
   is_way_row (Some (Relation members tags)) = false
 
-  -- what becomes of an element: a way has the nodes from 0 to i, and in a relation a member w becomes w and v
+  -- an element after the split: a way has the nodes from 0 to i, and in a relation each member w becomes w and v
   abbrev pub split_element : Name → ℕ → Name → Element A → Element A
   split_element w i v u = with_members (split_members w v) (with_nodes (take (i + 1)) u)
 
-  -- the new way, by the row of the one that is split
+  -- the new way, from the row of the way that is split
   abbrev pub new_way : ℕ → Option (Element A) → Element A
   new_way i way = Way (drop i (nodes_of way)) (row_tags way)
 
-  -- what a row becomes: the new way where there was none
+  -- a row after the split; if there was no row, it is the new way's
   abbrev pub row_split : Rows A → Name → ℕ → Name → Option (Element A) → Element A
   row_split m w i v None = new_way i (row_at m w)
   row_split m w i v (Some u) = split_element w i v u
 
-  -- what the row of y becomes
+  -- the row of y after the split
   abbrev pub row_of_split : Rows A → Name → ℕ → Name → Name → Option (Element A)
   row_of_split m w i v y = Some (row_split m w i v (row_at m y))
 
-  -- a way that is there, and rising names whose rows all become others
+  -- the way is present, and the names rise and all have different rows after the split
   pub record MaySplit (m : Rows A) (w : Name) (i : ℕ) (v : Name) (names : List Name) : Type 0 where
     pub way : is_way_row (row_at m w) ≡ true
     pub rising : IsRising names

@@ -13,7 +13,7 @@ use Rattle.edit_simple.specs.declared.refusal.Refusal.TheVariants.{Absent, Prese
 use Rattle.edit_simple.specs.Kinds.{is_way}
 
 module _ {A : Type 0} where
-  -- what is asked of the names, before the position
+  -- the checks that need only the names, which come before the check of the position
   abbrev pub name_checks : Rows A → Name → Name → List (Option (Refusal A))
   name_checks m w v =
       then_some (not (is_way w.kind)) (WrongKind w)
@@ -22,6 +22,6 @@ module _ {A : Type 0} where
       ∷ then_some (is_present m v) (Present v)
       ∷ []
 
-  -- the row of the node at a position of a list
+  -- the row of the node at position i of a list
   abbrev pub node_standing : Rows A → List Name → ℕ → Option (Element A)
   node_standing m nodes i = option_and_then (row_at m) (slice_get nodes i)

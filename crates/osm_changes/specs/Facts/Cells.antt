@@ -1,4 +1,4 @@
--- The order of cells, and lists of cells that rise, each once. Such a list is known by the cells that are among it.
+-- The order of cells, and lists of cells that rise, each once. The cells in such a list determine it.
 use Rattle.std.proofs.Common.{◌≡◌, ◌||◌, ◌&&◌, Bool, true, false, T, List, [], ◌∷◌, ◌++◌, refl, sym, ap, subst, ◌∙◌}
 use Rattle.std.proofs.lemmas.Cmp.{on_total, then_total, nat_cmp_total}
 use Rattle.std.proofs.lemmas.List.Folds.{list_any-append}
@@ -59,7 +59,7 @@ same_either_way c d = by (is_same_cell c d) refl (is_same_cell d c) refl
     by false e true f = sym e ∙ ap (λ z. is_same_cell c z) (same_cells d c f) ∙ is_same_cell-itself c
     by false e false f = refl
 
--- ---- cells of one part are the same where their names are, those of two parts never, nor those of two names
+-- ---- cells are the same if and only if both their names and their parts are
 
 tied : (o p : Ordering) → is_eq p ≡ true → is_eq (ordering_then o p) ≡ is_eq o
 tied Less p e = refl
@@ -92,7 +92,7 @@ other_cell x y p q = by (name_cmp x y)
     by Equal e = absurd (cc)
     by Greater e = refl
 
--- cells of a lesser name are lesser, and tags are less than the rest
+-- cells of a lesser name are less, and the tags of a name are less than its rest
 pub lesser_cell : (x y : Name) (p q : Part) → T (is_lt (name_cmp x y))
     → T (is_lt (cell_cmp (record { name = x; part = p }) (record { name = y; part = q })))
 lesser_cell x y p q = by (name_cmp x y)
@@ -105,12 +105,12 @@ lesser_cell x y p q = by (name_cmp x y)
 pub tags_first : (x : Name) → T (is_lt (cell_cmp (tags_at x) (rest_at x)))
 tags_first x = subst (λ o. T (is_lt (ordering_then o Less))) (sym (tied_itself name_cmp_total x)) tt
 
--- ---- which cells are among others
+-- ---- the cells in a list
 
 pub has-append : (x : Cell) (xs ys : List Cell) → has (xs ++ ys) x ≡ (has xs x || has ys x)
 has-append x xs ys = list_any-append (λ y. is_same_cell x y) xs ys
 
--- which cells are among those that pass a test
+-- the cells that a filter keeps
 pub has-passing : (p : Cell → Bool) (cells : List Cell) (q : Cell) → has (filter p cells) q ≡ (p q && has cells q)
 has-passing p cells q = rising.is_among-passing cell_cmp p cells q (λ y e. ap p (sym (cell_cmp-IsAntisymmetric q y e)))
 
@@ -149,13 +149,13 @@ IsRising-fold set (y ∷ ys) h = IsRising-fold (with_value cell_cmp y set) ys
 pub IsRising-cell_set : (cells : List Cell) → IsRising (cell_set cells)
 IsRising-cell_set cells = IsRising-fold [] cells tt
 
--- a rising list with the cells of another is the set of that one
+-- a rising list with the cells of a second list is the set of that list
 pub same_as_cell_set : (xs cells : List Cell) → IsRising xs → ((q : Cell) → has xs q ≡ has cells q)
     → xs ≡ cell_set cells
 same_as_cell_set xs cells h is = same_rising xs (cell_set cells) h (IsRising-cell_set cells)
     (λ q. is q ∙ sym (has-cell_set q cells))
 
--- ---- both cells of each of some names
+-- ---- both cells of each given name
 
 pub has-cells_of : (xs : List Name) (c : Cell) → has (cells_of xs) c ≡ is_among xs c.name
 has-cells_of [] c = refl

@@ -1,4 +1,4 @@
--- Which cells of two maps differ, what changes make of halves and rows, and that those between two maps lead there and
+-- Cells at which two maps differ, halves and rows after changes, and that the changes between two maps lead there and
 -- back.
 use Rattle.std.proofs.Common.{◌≡◌, ◌||◌, ◌&&◌, Bool, true, false, not, List, [], ◌∷◌, ◌++◌, Option, Some, None, is_some, map, refl, sym, ap, ◌∙◌, cond}
 use Rattle.std.specs.List.{fold}
@@ -33,7 +33,7 @@ module _ {A : Type 0} where
   AreInOrder-with_row m y None h = AreInOrder-rows_but m y h
   AreInOrder-with_row m y (Some v) h = AreInOrder-put_row m y v h
 
-  -- ---- which cells differ
+  -- ---- the cells that differ
 
   pub has-differing : (m n : Rows A) (c : Cell)
       → has (differing m n) c ≡ not (are_same_halves (half_at m c) (half_at n c))
@@ -58,7 +58,7 @@ module _ {A : Type 0} where
       by true e = refl
       by false e = there ∙ one (row_at m c.name) (row_at n c.name) e
 
-  -- where two maps don't differ, they have the same half
+  -- at a cell where they do not differ, two maps have the same half
   pub not_differing : (m n : Rows A) (c : Cell) → has (differing m n) c ≡ false → half_at m c ≡ half_at n c
   not_differing m n c h = by (are_same_halves (half_at m c) (half_at n c)) refl (sym (has-differing m n c) ∙ h)
     where
@@ -78,9 +78,9 @@ module _ {A : Type 0} where
   pub cells-differences : (m n : Rows A) → changed_cells (differences m n) ≡ differing m n
   cells-differences m n = cells_back m n (differing m n)
 
-  -- ---- what changes make of halves
+  -- ---- halves after changes
 
-  -- what the changes at some cells make of a half
+  -- a half after the changes at the given cells
   half_after-map : (m n : Rows A) (cells : List Cell) (c : Cell) (h : Option (Half A))
       → half_after (map (change_at m n) cells) c h ≡ cond (has cells c) (half_at n c) h
   half_after-map m n [] c h = refl
@@ -110,7 +110,7 @@ module _ {A : Type 0} where
       ∙ half_after-map n m (differing m n) c (half_at n c)
       ∙ chosen (has (differing m n) c) (half_at m c) (half_at n c) (λ e. sym (not_differing m n c e))
 
-  -- a half of which no change tells
+  -- a half of a name without changes stays
   untold : (cs : List (Change A)) (x : Name) (p : Part) (h : Option (Half A))
       → is_among (map (λ (d : Change A). d.name) cs) x ≡ false → half_after cs (record { name = x; part = p }) h ≡ h
   untold [] x p h e = refl
@@ -125,9 +125,9 @@ module _ {A : Type 0} where
       by false e f rest = ap (λ b. cond b d.after (half_after ds (record { name = x; part = p }) h))
           (other_cell x d.name p d.part e) ∙ rest f
 
-  -- ---- what changes make of rows
+  -- ---- rows after changes
 
-  -- some names given rows
+  -- the row at a name after the given names get rows
   row_at-fold : (f : Name → Option (Element A)) (names : List Name) (n : Rows A) (x : Name)
       → row_at (fold (λ k y. with_row k y (f y)) n names) x ≡ cond (is_among names x) (f x) (row_at n x)
   row_at-fold f [] n x = refl
@@ -148,7 +148,7 @@ module _ {A : Type 0} where
   pub AreInOrder-changed : (m : Rows A) (cs : List (Change A)) → AreInOrder m → AreInOrder (changed m cs)
   AreInOrder-changed m cs h = AreInOrder-fold (λ x. row_after cs x (row_at m x)) (changed_names cs) m h
 
-  -- the row at any name after changes is what they make of its row
+  -- the row at any name after changes is computed from its row before
   pub row_at-changed : (m : Rows A) (cs : List (Change A)) (x : Name)
       → row_at (changed m cs) x ≡ row_after cs x (row_at m x)
   row_at-changed m cs x =
@@ -163,13 +163,13 @@ module _ {A : Type 0} where
       by false e = sym ((λ i. row_of (untold cs x Tags (half Tags (row_at m x)) e i)
           (untold cs x Rest (half Rest (row_at m x)) e i)) ∙ row_of-halves (row_at m x))
 
-  -- a name that no change tells of keeps its row
+  -- a name without changes keeps its row
   pub kept : (m : Rows A) (cs : List (Change A)) (x : Name) → is_among (changed_names cs) x ≡ false
       → row_at (changed m cs) x ≡ row_at m x
   kept m cs x e = row_at-fold (λ y. row_after cs y (row_at m y)) (changed_names cs) m x
       ∙ ap (λ b. cond b (row_after cs x (row_at m x)) (row_at m x)) e
 
-  -- a map that is told the rows after changes becomes the map after them
+  -- a map that gets the rows after changes becomes the map after them
   pub with_rows_after : (m : Rows A) (cs : List (Change A))
       → fold (λ n (r : RowAfter A). with_row n r.name r.element) m (rows_after m cs) ≡ changed m cs
   with_rows_after m cs = over (changed_names cs) m

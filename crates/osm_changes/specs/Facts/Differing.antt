@@ -1,4 +1,4 @@
--- What a create and a delete change: the one name.
+-- A create and a delete change one name.
 use Rattle.std.proofs.Common.{◌≡◌, ◌&&◌, ◌||◌, Bool, true, false, not, List, [], ◌∷◌, ◌++◌, Some, None, is_some, refl, ap, ◌∙◌, cond}
 use Rattle.std.proofs.lemmas.List.{append-nil}
 use Rattle.std.specs.List.{filter}
@@ -15,7 +15,7 @@ use Rattle.osm_changes.specs.Changes.{row_changes, rows_changes, differences}
 use Rattle.osm_changes.specs.Facts.RowChanges.{differences-rows}
 use Rattle.osm_changes.specs.Facts.SameElements.{same_row}
 
--- of rising names a test passes one alone
+-- a test that only one name passes keeps just this name
 only_name : (p : Name → Bool) (x : Name) (names : List Name) → ((q : Name) → p q ≡ is_same q x)
     → is_among (name_set names) x ≡ true → filter p (name_set names) ≡ x ∷ []
 only_name p x names tells among =
@@ -28,7 +28,7 @@ only_name p x names tells among =
     at q false e = refl
 
 module _ {A : Type 0} where
-  -- two maps that differ at one name alone
+  -- two maps that differ at only one name
   one_change : (m n : Rows A) (x : Name) → ((q : Name) → not (is_same_row (row_at m q) (row_at n q)) ≡ is_same q x)
       → (is_present m x || is_present n x) ≡ true → differences m n ≡ row_changes x (row_at m x) (row_at n x)
   one_change m n x tells is =
@@ -39,7 +39,7 @@ module _ {A : Type 0} where
       ∙ ap (λ b. is_present m x || b) (is_among-names_of n x) ∙ is))
       ∙ append-nil (row_changes x (row_at m x) (row_at n x))
 
-  -- a create changes its name from nothing
+  -- a create adds the row of its name
   pub created : (m : Rows A) (x : Name) (v : Element A) → row_at m x ≡ None
       → differences m (put_row m x v) ≡ row_changes x None (Some v)
   created m x v absent =
@@ -57,7 +57,7 @@ module _ {A : Type 0} where
       tells : (q : Name) → not (is_same_row (row_at m q) (row_at (put_row m x v) q)) ≡ is_same q x
       tells q = ap (λ o. not (is_same_row (row_at m q) o)) (row_at-put_row m x v q) ∙ by q (is_same q x) refl
 
-  -- a delete changes its name to nothing
+  -- a delete removes the row of its name
   pub deleted : (m : Rows A) (x : Name) (v : Element A) → row_at m x ≡ Some v
       → differences m (rows_but x m) ≡ row_changes x (Some v) None
   deleted m x v is =

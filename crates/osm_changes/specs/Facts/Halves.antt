@@ -1,4 +1,4 @@
--- What halves tell of rows, and what the tests of equality tell of halves.
+-- Rows and their halves, and the tests of equality on halves.
 use Rattle.std.proofs.Common.{◌≡◌, ◌≢◌, true, false, Option, Some, None, is_some, refl, sym, ap, ◌∙◌}
 use Rattle.std.specs.Ordering.{int_eq}
 use Rattle.osm_elements.specs.declared.element.Element.{Element}
@@ -12,7 +12,7 @@ use Rattle.osm_changes.specs.Halves.{half, row_of, is_same_half, are_same_halves
 use Rattle.osm_changes.specs.Facts.SameElements.{same_ints, same_tags, same_members, same_name_lists, int_itself, names_itself, tags_itself, members_itself}
 
 module _ {A : Type 0} where
-  -- a row is that of its halves
+  -- a row is the row of its halves
   pub row_of-halves : (o : Option (Element A)) → row_of (half parts.Tags o) (half parts.Rest o) ≡ o
   row_of-halves None = refl
   row_of-halves (Some (Node lat lon tags)) = refl
@@ -24,7 +24,7 @@ module _ {A : Type 0} where
       → half parts.Rest o ≡ half parts.Rest p → o ≡ p
   same_whole o p t r = sym (row_of-halves o) ∙ (λ i. row_of (t i) (r i)) ∙ row_of-halves p
 
-  -- a row is there where a half of it is
+  -- a row is there if and only if a half of it is
   pub there_by_half : (q : Part) (o : Option (Element A)) → is_some o ≡ is_some (half q o)
   there_by_half q None = refl
   there_by_half q (Some v) = refl

@@ -14,7 +14,7 @@ use Rattle.osm_refs.specs.Rising.{IsRising}
 use Rattle.rising_lists.specs.Rising.{bare_rows}
 
 module _ {A : Type 0} where
-  -- whether a row is there and passes
+  -- the row is there and passes
   abbrev pub passes_at : (Name × Element A → Bool) → Name → Option (Element A) → Bool
   passes_at p y None = false
   passes_at p y (Some v) = p (y, v)
@@ -36,7 +36,7 @@ module _ {A : Type 0} where
       by true i = both (below_all name_cmp e.0 (bare_rows (names_of (filter p es)))) (is_sorted name_cmp (bare_rows (names_of (filter p es)))) (below_names p e.0 es (first (below_all name_cmp e.0 es) (is_sorted name_cmp es) h)) i
       by false i = i
 
-  -- the names of the rows that pass are those of rows that are there and pass
+  -- a name is among those of the rows that pass if and only if its row is there and passes
   pub among_rows : (p : Name × Element A → Bool) (es : Rows A) → AreInOrder es → (y : Name) → is_among (names_of (filter p es)) y ≡ passes_at p y (row_at es y)
   among_rows p [] h y = refl
   among_rows p (e ∷ es) h y = by (is_same y e.0) refl (p e) refl (among_rows p es (second (below_all name_cmp e.0 es) (is_sorted name_cmp es) h) y)

@@ -1,4 +1,4 @@
--- The changes of one row, and of some rows; and the changes between two maps, row by row.
+-- The changes of one row, of several rows, and between two maps, row by row.
 use Rattle.std.proofs.Common.{◌≡◌, ◌≢◌, ◌<◌, ◌+◌, ◌||◌, ℕ, Bool, true, false, not, cond, T, All, List, [], ◌∷◌, ◌++◌, Option, length, map, take, get_or, refl, sym, ap, subst, ◌∙◌}
 use Rattle.std.proofs.lemmas.Grind.{flat_map-append}
 use Rattle.std.proofs.lemmas.List.{take_more, append-nil}
@@ -26,7 +26,7 @@ use Rattle.osm_changes.specs.Facts.Cells.{lesser_cell, tags_first}
 use Rattle.osm_changes.specs.Facts.Halves.{same_itself, not_same_halves}
 use Rattle.osm_changes.specs.Facts.SameElements.{told_same_row}
 
--- a name is among those that it is the first of, and among more than it is already among
+-- a list contains its first name, and all names of its tail
 own : (x : Name) (xs : List Name) → is_among (x ∷ xs) x ≡ true
 own x xs = ap (λ b. b || is_among xs x) (is_eq-name_cmp_itself x)
 
@@ -39,11 +39,11 @@ not_true true e = absurd (cc)
 not_true false e = refl
 
 module _ {A : Type 0} where
-  -- the changes of those halves that are chosen, and others behind them
+  -- the changes of the chosen halves, followed by further changes
   abbrev chosen : Bool → Bool → Change A → Change A → List (Change A) → List (Change A)
   chosen t u c d rest = cond t (c ∷ cond u (d ∷ []) []) (cond u (d ∷ []) []) ++ rest
 
-  -- the cell of a name and a part is below those of changes
+  -- the cell of a name and a part is below the cells of all these changes
   abbrev IsBelow : Name → Part → List (Change A) → Type 0
   IsBelow x p cs = T (below_all cell_cmp (record { name = x; part = p }) (bare_rows (changed_cells cs)))
 
@@ -87,19 +87,19 @@ module _ {A : Type 0} where
       by false e true f = All-cons (λ (c : Change A). c.after ≢ c.before) (half_change x o q Rest) cs (other Rest f) h
       by false e false f = h
 
-  -- ---- one row, and two
+  -- ---- the changes of one row, and of two rows
 
   alone : (x : Name) (o q : Option (Element A)) → row_changes x o q ++ [] ≡ row_changes x o q
   alone x o q = append-nil (row_changes x o q)
 
-  -- they are a list of changes by themselves
+  -- the changes of one row are a list of changes
   pub AreChanges-row_changes : (x : Name) (o q : Option (Element A)) → AreChanges (row_changes x o q)
   AreChanges-row_changes x o q = record {
     rising = subst (λ cs. IsRising (changed_cells cs)) (alone x o q) (rising_row x o q [] (λ p. tt) tt);
     differ = subst Differ (alone x o q) (differ_row x o q [] (All-nil (λ (c : Change A). c.after ≢ c.before)));
   }
 
-  -- those of a row go behind those of another, whose name comes before
+  -- the changes of a row can follow those of a row whose name is less
   pub AreChanges-two_rows : (x y : Name) (o p q r : Option (Element A)) → is_lt (name_cmp x y) ≡ true
       → AreChanges (row_changes x o p ++ row_changes y q r)
   AreChanges-two_rows x y o p q r lt =
@@ -110,7 +110,7 @@ module _ {A : Type 0} where
         differ = differ_row x o p (row_changes y q r) later.differ;
       }
 
-  -- ---- some rows
+  -- ---- the changes of several rows
 
   below_rows : (m : Rows A) (after : Name → Option (Element A)) (x : Name) (p : Part) (names : List Name)
       → T (below_all name_cmp x (bare_rows names)) → IsBelow x p (rows_changes m after names)
@@ -118,7 +118,7 @@ module _ {A : Type 0} where
   below_rows m after x p (y ∷ ys) h = below_row x y p (row_at m y) (after y) (rows_changes m after ys) (first _ _ h)
       (below_rows m after x p ys (second _ _ h))
 
-  -- of rising names they are a list of changes
+  -- the changes of rows whose names rise are a list of changes
   pub AreChanges-rows_changes : (m : Rows A) (after : Name → Option (Element A)) (names : List Name)
       → T (are_rising names) → AreChanges (rows_changes m after names)
   AreChanges-rows_changes m after [] rising =
@@ -141,7 +141,7 @@ module _ {A : Type 0} where
       let rest = same-rows_changes m n after other xs (λ y i. same y (among_more (is_same y x) (is_among xs y) i)) in
       λ i. row_changes x (first.0 i) (first.1 i) ++ rest i
 
-  -- the changes of one name more stand behind those before it
+  -- the changes of the next name follow those of the earlier names
   pub more-rows_changes : (m : Rows A) (after : Name → Option (Element A)) (names : List Name) (k : ℕ) (x : Name)
       → k < length names → x ≡ get_or names k x
       → (cs : List (Change A)) (o p : Option (Element A)) → cs ≡ rows_changes m after (take k names) → o ≡ row_at m x
@@ -165,11 +165,11 @@ module _ {A : Type 0} where
       none t u = cond (not t) (half_change x o o Tags ∷ cond (not u) (half_change x o o Rest ∷ []) [])
           (cond (not u) (half_change x o o Rest ∷ []) [])
 
-  -- the cells of some names at which two maps differ
+  -- the cells of the given names at which two maps differ
   abbrev differing_of : Rows A → Rows A → List Name → List Cell
   differing_of m n names = filter (λ c. not (are_same_halves (half_at m c) (half_at n c))) (cells_of names)
 
-  -- the changes between two maps are those of the rows of both
+  -- the changes between two maps are those of all rows of both
   pub differences-all_rows : (m n : Rows A)
       → differences m n ≡ rows_changes m (row_at n) (name_set (names_of m ++ names_of n))
   differences-all_rows m n = over (name_set (names_of m ++ names_of n))
@@ -188,7 +188,7 @@ module _ {A : Type 0} where
           by false true i = ap (λ l. change_at m n (rest_at x) ∷ l) i
           by false false i = i
 
-  -- those of some names at which two maps have other rows
+  -- the given names at which two maps have different rows
   abbrev pub others_of : Rows A → Rows A → List Name → List Name
   others_of m n names = filter (λ x. not (is_same_row (row_at m x) (row_at n x))) names
 
@@ -208,6 +208,6 @@ module _ {A : Type 0} where
       by true e i = ap (λ l. l ++ rows_changes m (row_at n) xs) (stays x (row_at m x) (row_at n x) e) ∙ i
       by false e i = ap (λ l. row_changes x (row_at m x) (row_at n x) ++ l) i
 
-  -- and so they are those of the rows that differ
+  -- so the changes between two maps are those of the rows that differ
   pub differences-rows : (m n : Rows A) → differences m n ≡ rows_changes m (row_at n) (differing_names m n)
   differences-rows m n = differences-all_rows m n ∙ rows_changes-others m n (name_set (names_of m ++ names_of n))

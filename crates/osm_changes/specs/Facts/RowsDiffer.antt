@@ -1,4 +1,4 @@
--- Each name that changes tell of has another row after them.
+-- Each changed name has a different row after the changes.
 use Rattle.std.proofs.Common.{◌≡◌, ◌≢◌, ◌||◌, Bool, true, false, All, List, [], ◌∷◌, map, refl, sym, ap, subst, ◌∙◌, cond, arith}
 use Rattle.std.proofs.lemmas.List.Elements.{All-tail}
 use Rattle.osm_elements.specs.declared.name.Name.{Name}
@@ -15,7 +15,7 @@ use Rattle.osm_changes.specs.Facts.Cells.{is_same_cell-itself, other_cell}
 use Rattle.osm_changes.specs.Facts.Changing.{row_at-changed}
 
 module _ {A : Type 0} where
-  -- a name of which a change tells has another half in some part
+  -- each changed name has a different half in some part
   other_half : (m : Rows A) (cs : List (Change A)) (x : Name)
       → All (λ (c : Change A). c.before ≡ half_at m (cell_of c)) cs → All (λ (c : Change A). c.after ≢ c.before) cs
       → is_among (map (λ (c : Change A). c.name) cs) x ≡ true

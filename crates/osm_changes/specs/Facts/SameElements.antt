@@ -1,4 +1,4 @@
--- What the tests of equality tell, and that they pass a value with itself.
+-- The tests of equality are exact: they pass equal values, and no others.
 use Rattle.std.proofs.Common.{◌≡◌, ◌&&◌, Bool, true, ℕ, ℤ, List, [], ◌∷◌, Option, Some, None, refl, sym, ap, arith, nat_eq}
 use Rattle.std.proofs.lemmas.Bool.Decides.{nat_tests}
 use Rattle.std.specs.Cmp.{tied_itself, int_cmp_total}
@@ -83,7 +83,7 @@ module _ {A : Type 0} where
   told_same_row (Some v) None e = absurd (cc)
   told_same_row (Some v) (Some w) e = ap Some (same_elements v w e)
 
--- ---- a value with itself
+-- ---- each value is equal to itself
 
 list_itself : {X : Type 0} (E : X → X → Bool) → ((x : X) → E x x ≡ true) → (xs : List X) → pointwise E xs xs ≡ true
 list_itself E told [] = refl

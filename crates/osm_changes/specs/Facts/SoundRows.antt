@@ -1,4 +1,4 @@
--- A map is sound where each row found under a name is.
+-- A map is sound if and only if each row that a look-up finds is sound.
 use Rattle.std.proofs.Common.{◌≡◌, Bool, true, false, not, ◌&&◌, T, [], ◌∷◌, Some, None, refl, sym, ap, ◌∙◌, cond}
 use Rattle.std.specs.List.{filter, list_all}
 use Rattle.std.specs.Ordering.{is_eq}
@@ -25,7 +25,7 @@ some_inside : {X : Type 0} (x y : X) → Some x ≡ Some y → x ≡ y
 some_inside x y e = cc
 
 module _ {A : Type 0} where
-  -- what is found in the later rows is found in all
+  -- a row that is found among the later rows is found among all rows
   later : (e : Name × Element A) (es : Rows A) → T (below_all name_cmp e.0 es) → (y : Name) (v : Element A) → find name_cmp y es ≡ Some v → find name_cmp y (e ∷ es) ≡ Some v
   later e es h y v is = by (is_eq (name_cmp y e.0)) refl
     where
@@ -34,7 +34,7 @@ module _ {A : Type 0} where
           let none : find name_cmp y es ≡ None = ap (λ q. find name_cmp q es) (same_names y e.0 t) ∙ find_below name_cmp e.0 es h in absurd (cc)
       by false t = is
 
-  -- a test that each found row passes is passed by all rows
+  -- if each row that is found passes a test, all rows pass it
   all_found : (p : Name → Element A → Bool) (es : Rows A) → AreInOrder es → ((y : Name) (v : Element A) → find name_cmp y es ≡ Some v → p y v ≡ true) → list_all (λ r. p r.0 r.1) es ≡ true
   all_found p [] sorted h = refl
   all_found p (e ∷ es) sorted h =
@@ -42,7 +42,7 @@ module _ {A : Type 0} where
       (h e.0 e.1 (ap (λ b. cond b (Some e.1) (find name_cmp e.0 es)) (is_eq-name_cmp_itself e.0)))
       (all_found p es (second (below_all name_cmp e.0 es) (is_sorted name_cmp es) sorted) (λ y v is. h y v (later e es (first (below_all name_cmp e.0 es) (is_sorted name_cmp es) sorted) y v is)))
 
-  -- a test that all rows pass is passed by each found row
+  -- if all rows pass a test, each row that is found passes it
   pub found_passes : (p : Name → Element A → Bool) (es : Rows A) → list_all (λ r. p r.0 r.1) es ≡ true → (y : Name) (v : Element A) → row_at es y ≡ Some v → p y v ≡ true
   found_passes p [] all y v is = absurd (cc)
   found_passes p (e ∷ es) all y v is = by (is_eq (name_cmp y e.0)) refl is (found_passes p es (second_true (p e.0 e.1) (list_all (λ r. p r.0 r.1) es) all) y v)
@@ -62,7 +62,7 @@ module _ {A : Type 0} where
       both_true (is_sorted name_cmp m) (list_all (λ r. is_sound_row m r.0 r.1) m) (is_true (is_sorted name_cmp m) sorted)
       (all_found (is_sound_row m) m sorted (λ y v is. h y v (row_at_is_find m y ∙ is)))
 
-  -- no row passes where none is left of those that do
+  -- if a filter keeps no row, no row passes
   pub none_passes : (p : Name × Element A → Bool) (es : Rows A) → filter p es ≡ [] → list_all (λ r. not (p r)) es ≡ true
   none_passes p [] e = refl
   none_passes p (r ∷ es) e = by (p r) (none_passes p es) e

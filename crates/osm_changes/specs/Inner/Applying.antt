@@ -1,4 +1,4 @@
--- Rows put into a map one by one.
+-- Writing rows to a map, one by one.
 use Rattle.std.specs.Prelude.{◌≡◌, ◌&&◌, Bool, true, false, List, All, is_some, is_none}
 use Rattle.osm_elements.specs.Rows.{row_at}
 use Rattle.osm_elements.specs.Maps.{Rows}
@@ -9,7 +9,7 @@ module _ {A : Type 0} where
   abbrev pub with_told : Rows A → RowAfter A → Rows A
   with_told m r = with_row m r.name r.element
 
-  -- the row comes under a name that the map has not
+  -- the row is there, and the map does not have its name
   abbrev pub is_new : Rows A → RowAfter A → Bool
   is_new m r = is_none (row_at m r.name) && is_some r.element
 

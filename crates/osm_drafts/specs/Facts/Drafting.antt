@@ -1,4 +1,4 @@
--- What a draft has at a name, who refers to a name in it, and the draft after one more row.
+-- The rows and the users of a draft, and the draft after one more row.
 use Rattle.std.proofs.Common.{◌≡◌, ◌||◌, ◌&&◌, ◌++◌, Bool, true, false, not, cond, List, [], ◌∷◌, Option, Some, None, is_some, refl, sym, ap, subst, ◌∙◌}
 use Rattle.std.specs.List.{filter, flat_map}
 use Rattle.std.specs.BTreeSet.{insert_key}
@@ -65,7 +65,7 @@ among_put x (y ∷ ys) q = by (name_cmp x y) refl (among_put x ys q)
     by Equal e i = twice (is_same q y) (is_among ys q) ∙ ap (λ z. is_same q z || (is_same q y || is_among ys q)) (sym (name_cmp-IsAntisymmetric x y e))
     by Greater e i = ap (λ b. is_same q y || b) i ∙ swap (is_same q y) (is_same q x) (is_among ys q)
 
--- a name among those that were written and one more
+-- the written names after one more name
 pub among_inserted : (cmp : Name → Name → Ordering) → cmp ≡ name_cmp → (x : Name) (xs : List Name) (q : Name) → is_among (insert_key cmp xs x) q ≡ (is_same q x || is_among xs q)
 among_inserted cmp is x xs q = ap (λ (c : Name → Name → Ordering). is_among (insert_key c xs x) q) is ∙ among_put x xs q
 
@@ -93,7 +93,7 @@ module _ {A : Type 0} where
       by None e = e
       by (Some v) e = absurd (cc (inside x (ap is_some e), out))
 
-  -- the row of a written name is the one that was written, any other's that of the map
+  -- a written name has its written row, and any other name has the map's row
   pub row_at-drafted : (m : Rows A) (w : List Name) (here : Rows A) (x : Name) → AreInOrder here → AreInside w here → row_at (drafted m w here) x ≡ cond (is_among w x) (row_at here x) (row_at m x)
   row_at-drafted m w here x h inside =
       row_at-put_all here (filter (λ r. not (is_among w r.0)) m) x h ∙ ap (or_else (row_at here x)) (row_at-left m w x) ∙ by (is_among w x) refl
@@ -108,7 +108,7 @@ module _ {A : Type 0} where
   pub row_unwritten : (m : Rows A) (w : List Name) (here : Rows A) (x : Name) → AreInOrder here → AreInside w here → false ≡ is_among w x → row_at m x ≡ row_at (drafted m w here) x
   row_unwritten m w here x h inside is = sym (row_at-drafted m w here x h inside ∙ ap (λ b. cond b (row_at here x) (row_at m x)) (sym is))
 
-  -- a map with nothing written over it
+  -- a draft with nothing written has the map's rows
   pub drafted_itself : (m : Rows A) → AreInOrder m → drafted m [] [] ≡ m
   drafted_itself m h = same_rows (drafted m [] []) m (AreInOrder-drafted m [] [] h) h (λ q. row_at-drafted m [] [] q tt (λ x e. absurd (cc)))
 
@@ -119,7 +119,7 @@ module _ {A : Type 0} where
       by None = refl
       by (Some v) = refl
 
-  -- who refers to a name: of the map's users those that were not written, and those of the rows that were
+  -- the users of a name: those of the map that were not written, and those among the written rows
   pub users-drafted : (m : Rows A) (w : List Name) (here : Rows A) (e : Name) → AreInOrder m → AreInOrder here → AreInside w here
       → name_set (flat_map (unwritten w) (users m e) ++ users here e) ≡ users (drafted m w here) e
   users-drafted m w here e g h inside =
@@ -138,7 +138,7 @@ module _ {A : Type 0} where
           ∙ ap (λ b. is_among (users m e) q || b) (sym (is_among-users here h e q ∙ ap (λ o. is_among (row_references o) e) (not_here here w q inside i)))
           ∙ ap (λ b. (not b && is_among (users m e) q) || is_among (users here e) q) (sym i)
 
-  -- one more row that is written
+  -- one more written row
   pub inside_with : (w more : List Name) (here : Rows A) (x : Name) (o : Option (Element A)) → AreInside w here → ((q : Name) → is_among more q ≡ (is_same q x || is_among w q)) → AreInside more (with_row here x o)
   inside_with w more here x o inside is q there = is q ∙ by (is_same q x) (ap is_some (sym (row_at-with_row here x o q)) ∙ there)
     where
@@ -159,12 +159,12 @@ module _ {A : Type 0} where
         by q true = refl
         by q false = refl
 
-  -- the users of the rows that were written, after one more
+  -- the users among the written rows, after one more row
   users_with : (here : Rows A) (x : Name) (o : Option (Element A)) → AreInOrder here → referring (table_of here) x (name_set (row_references o)) ≡ table_of (with_row here x o)
   users_with here x None h = sym (table_of-rows_but here x h)
   users_with here x (Some v) h = sym (table_of-put_row here x v h)
 
-  -- what a row that is written does to the references of its name
+  -- the references that begin and cease with a written row
   module _ (here : Rows A) (x : Name) (o : Option (Element A)) (order : AreInOrder here) where
     abbrev before : List Name
     before = name_set (row_references (row_at here x))
@@ -186,7 +186,7 @@ module _ {A : Type 0} where
         (names_but (references_at (gained (table_of here) x after (IsTable-table_of here order) (IsRising-name_set (row_references o))) x) (names_but names after))) (sym was)
         ∙ changed (table_of here) x after (IsTable-table_of here order) (IsRising-name_set (row_references o)) ∙ users_with here x o order
 
-  -- a draft with one more row is one
+  -- a draft with one more row is a draft
   pub is_draft_with : (w more : List Name) (here : Rows A) (x : Name) (o : Option (Element A)) (before after : Table) (put : Rows A) → IsDraft w here before
       → ((q : Name) → is_among more q ≡ (is_same q x || is_among w q)) → after ≡ table_of (with_row here x o) → put ≡ with_row here x o → IsDraft more put after
   is_draft_with w more here x o before after put d is users_are put_is =

@@ -1,4 +1,4 @@
--- Which names a list of names has.
+-- Names that a list contains.
 use Rattle.std.proofs.Common.{◌≡◌, ◌||◌, Bool, true, false, List, [], ◌∷◌, ◌++◌, Some, is_some, refl, sym, ap, ◌∙◌, cond}
 use Rattle.std.specs.List.{filter, fold}
 use Rattle.std.specs.Ordering.{match_ordering}
@@ -51,7 +51,7 @@ pub is_among-append : (x : Name) (xs ys : List Name) → is_among (xs ++ ys) x �
 is_among-append x [] ys = refl
 is_among-append x (y ∷ xs) ys = ap (λ b. is_same x y || b) (is_among-append x xs ys) ∙ sym (or_assoc (is_same x y) (is_among xs x) (is_among ys x))
 
--- a name that passes is among those that pass
+-- a filter keeps each name that passes
 pub is_among-filter : (q : Name → Bool) (x : Name) → q x ≡ true → (names : List Name) → is_among (filter q names) x ≡ is_among names x
 is_among-filter q x t [] = refl
 is_among-filter q x t (y ∷ ys) = by (q y) refl (is_same x y) refl (is_among-filter q x t ys)

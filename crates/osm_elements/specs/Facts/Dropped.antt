@@ -18,7 +18,7 @@ same_either_way x y = by (is_same x y) refl (is_same y x) refl
     by false e false f = refl
 
 module _ {A : Type 0} where
-  -- the row at a name after the rows of another were dropped
+  -- the row at a name after the rows of a name are dropped
   pub row_at-rows_but : (m : Rows A) (y x : Name) → row_at (rows_but y m) x ≡ cond (is_same x y) None (row_at m x)
   row_at-rows_but m y x =
       row_at_is_find (rows_but y m) x

@@ -1,4 +1,4 @@
--- What holds of rows under keys, and stays so after a put and after a key was cleared.
+-- The conditions of rows under keys, which a put and a removal keep.
 use Rattle.std.proofs.Common.{◌≡◌, ℕ, zero, suc, ◌+◌, ◌<◌, ◌≤◌, List, [], ◌∷◌, length, map, get_or, refl, sym, ap, subst, ◌∙◌, arith, true, false, Bool, not, ◌&&◌, T, is_some, cond, nat_eq, nat_lt, nat_le}
 use Rattle.std.specs.Bool.{passes}
 use Rattle.std.specs.declared.cmp.Ordering.TheVariants.{Less, Equal, Greater}
@@ -16,7 +16,7 @@ use Rattle.osm_elements.specs.Facts.Entries.{both, first, second}
 pub text_total : IsTotalOrder text_cmp
 text_total = lists_total nat_cmp_total
 
--- the three facts of rows under keys
+-- the three conditions of rows under keys
 module _ {V : Type 0} (keeps : V → Bool) where
   pub sorted_rows : (rows : List (List ℕ × V)) → AreRows keeps rows → T (is_sorted text_cmp rows)
   sorted_rows rows h = first (is_sorted text_cmp rows) (nat_le (length rows) 1000 && list_all (is_row keeps) rows) h
@@ -51,7 +51,7 @@ module _ {V : Type 0} (keeps : V → Bool) where
       let t : nat_le (length rows) 1000 ≡ true = grind (arith, nat_tests) in
       both (is_sorted text_cmp rows) (nat_le (length rows) 1000 && list_all (is_row keeps) rows) sorted (both (nat_le (length rows) 1000) (list_all (is_row keeps) rows) (passes _ t) each)
 
-  -- a row with another value
+  -- a row may have another value
   other_value : (key : List ℕ) (value old : V) → T (is_row keeps (key, old)) → T (keeps value) → T (is_row keeps (key, value))
   other_value key value old h kept =
       let some = not (nat_eq (length key) 0) in
@@ -59,7 +59,7 @@ module _ {V : Type 0} (keeps : V → Bool) where
       both some (key_short && keeps value) (first some (key_short && keeps old) h)
       (both key_short (keeps value) (first key_short (keeps old) (second some (key_short && keeps old) h)) kept)
 
-  -- rows keep their limits after a put, and after a key was cleared
+  -- rows keep their limits after a put and after a removal
   pub each_row-put : (key : List ℕ) (value : V) → T (is_row keeps (key, value)) → (rows : List (List ℕ × V)) → T (list_all (is_row keeps) rows) → T (list_all (is_row keeps) (put text_cmp key value rows))
   each_row-put key value h [] all = both (is_row keeps (key, value)) true h tt
   each_row-put key value h (e ∷ rows) all =
@@ -94,7 +94,7 @@ module _ {V : Type 0} (keeps : V → Bool) where
       (omega (arith, length-filter-le p rows, at_most_1000 rows h))
       (each_row-filter p rows (each_row keeps rows h))
 
-  -- a row with a key that is there, or with room for it
+  -- a put keeps the conditions if its key is there, or if there is room for a new row
   AreRows-put : (rows : List (List ℕ × V)) (key : List ℕ) (value : V) → AreRows keeps rows → T (is_row keeps (key, value)) → (is_some (value_at rows key) ≡ false → length rows < 1000) → AreRows keeps (put text_cmp key value rows)
   AreRows-put rows key value h row room =
       rows_from (put text_cmp key value rows) (is_sorted-put text_cmp text_total key value rows (sorted_rows keeps rows h))
@@ -107,11 +107,11 @@ module _ {V : Type 0} (keeps : V → Bool) where
   pub AreRows-put_new : (rows : List (List ℕ × V)) (key : List ℕ) (value : V) → AreRows keeps rows → T (is_row keeps (key, value)) → length rows < 1000 → AreRows keeps (put text_cmp key value rows)
   AreRows-put_new rows key value h row small = AreRows-put rows key value h row (λ _. small)
 
-  -- a key that is a text and a value that keeps what its type keeps make a row
+  -- a key with 1 to 255 characters, and a value that keeps its type's invariant, make a row
   pub is_row-made : (key : List ℕ) (value : V) → nat_eq (length key) 0 ≡ false → is_long key ≡ false → keeps value ≡ true → T (is_row keeps (key, value))
   is_row-made key value some short kept = rw (some, short, kept) tt
 
--- a put leaves no fewer rows
+-- a put does not shorten the list
 pub longer-put : {V : Type 0} (key : List ℕ) (value : V) (rows : List (List ℕ × V)) → T (is_sorted text_cmp rows) → length rows ≤ length (put text_cmp key value rows)
 longer-put key value rows h = subst (λ n. length rows ≤ n) (sym (length-put text_cmp text_total key value rows h)) (by (is_some (value_at rows key)))
   where
@@ -119,7 +119,7 @@ longer-put key value rows h = subst (λ n. length rows ≤ n) (sym (length-put t
     by true = omega arith
     by false = omega arith
 
--- each key has a character
+-- no key is empty
 some_key : {V : Type 0} (keeps : V → Bool) (key : List ℕ) (value : V) → T (is_row keeps (key, value)) → nat_eq (length key) 0 ≡ false
 some_key keeps key value h = by (nat_eq (length key) 0) (first (not (nat_eq (length key) 0)) (not (is_long key) && keeps value) h)
   where

@@ -1,4 +1,4 @@
--- A map made of rows in order, put one after another.
+-- A map made by putting rows in order.
 use Rattle.std.proofs.Common.{◌≡◌, Bool, true, false, T, List, [], ◌∷◌, ◌++◌, Option, Some, None, length, map, refl, sym, subst, ap, ◌∙◌, arith, cond}
 use Rattle.std.specs.List.{fold}
 use Rattle.std.specs.Cmp.{tied_itself}
@@ -25,7 +25,7 @@ module _ {A : Type 0} where
   AreInOrder-put_all [] m h = h
   AreInOrder-put_all (r ∷ rs) m h = AreInOrder-put_all rs (put_row m r.0 r.1) (AreInOrder-put_row m r.0 r.1 h)
 
-  -- a row, or another where there is none
+  -- an element if there is one, otherwise a second element if there is one
   abbrev pub or_else : Option (Element A) → Option (Element A) → Option (Element A)
   or_else None p = p
   or_else (Some v) p = Some v
@@ -48,15 +48,15 @@ module _ {A : Type 0} where
   or_none None = refl
   or_none (Some v) = refl
 
-  -- rows in order make their own map
+  -- a map made of rows in order has exactly these rows
   pub put_all_is : (rows : Rows A) → AreInOrder rows → put_all [] rows ≡ rows
   put_all_is rows h = same_rows (put_all [] rows) rows (AreInOrder-put_all rows [] tt) h (λ x. row_at-put_all rows [] x h ∙ or_none (row_at rows x))
 
-  -- one row more
+  -- the map after one more row is put
   pub put_more : (done : List (Row A)) (r : Row A) → put_all [] (map row_pair (done ++ r ∷ [])) ≡ put_row (put_all [] (map row_pair done)) r.name r.element
   put_more done r = ap (put_all []) (map-append row_pair done (r ∷ [])) ∙ fold-append (λ n (r : Name × Element A). put_row n r.0 r.1) [] (map row_pair done) (row_pair r ∷ [])
 
-  -- of names in order a later one is another
+  -- in rows in order, a later name differs from an earlier name
   pub later_differs : (r : Name × Element A) (rs : Rows A) (x : Name) (v : Element A) (later : Rows A) → AreInOrder (r ∷ rs ++ (x, v) ∷ later) → is_same x r.0 ≡ false
   later_differs r rs x v later h = by (is_same x r.0) refl
     where
@@ -77,7 +77,7 @@ module _ {A : Type 0} where
   in_order_behind : (r : Name × Element A) (rs : Rows A) → AreInOrder (r ∷ rs) → AreInOrder rs
   in_order_behind r rs h = second (below_all name_cmp r.0 rs) (is_sorted name_cmp rs) h
 
-  -- a name that comes after others in order is not among those that are put
+  -- the map does not yet have a name that comes after all names that were put
   pub not_yet_put : (done m : Rows A) (x : Name) (v : Element A) (later : Rows A) → AreInOrder (done ++ (x, v) ∷ later) → row_at (put_all m done) x ≡ row_at m x
   not_yet_put [] m x v later h = refl
   not_yet_put (r ∷ rs) m x v later h =

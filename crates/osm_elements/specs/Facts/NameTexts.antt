@@ -1,4 +1,4 @@
--- A name has one text, and the name of a text is the one that has it.
+-- A name has one text, and a text denotes the name that has it.
 use lib.Signed.{mag}
 use Prim.Native.Nat.{zero}
 use Rattle.std.proofs.Common.{◌≡◌, ◌≢◌, ◌↔◌, ◌≤◌, ◌<◌, ◌^◌, ◌&&◌, ℕ, ℤ, pos, negsuc, neg_ℤ, suc, List, [], ◌∷◌, Option, Some, None, Bool, true, false, T, not, cond, MatchOption, IfNone, FitsSigned, nat_eq, arith, refl, sym, ap, subst, ◌∙◌, get_or}
@@ -20,13 +20,13 @@ use Rattle.osm_elements.specs.Names.{Splits, NoLetter, letter_of}
 use Rattle.osm_elements.specs.Facts.Names.{same_name}
 use Rattle.osm_elements.specs.NameTexts.{name_text, name_of, name_with, named, is_id, if_written, id_of, kind_of_letter, if_passed}
 
--- the letters tell the kinds
+-- a kind's letter denotes the kind
 pub kind_of_letter_of : (kind : Kind) → kind_of_letter (letter_of kind) ≡ Some kind
 kind_of_letter_of Node = refl
 kind_of_letter_of Way = refl
 kind_of_letter_of Relation = refl
 
--- an i64 and only an i64 passes the test
+-- each i64 passes the test for an id
 pub is_id-fits : (id : ℤ) → FitsSigned w64 id → is_id id ≡ true
 is_id-fits (pos n) f = let h : n < 2 ^ 63 = f.sfits in grind (arith, nat_tests)
 is_id-fits (negsuc n) f = let h : n < 2 ^ 63 = f.sfits in grind (arith, nat_tests)
@@ -35,7 +35,7 @@ pub mag_fits : (id : ℤ) → FitsSigned w64 id → mag id < 2 ^ 63
 mag_fits (pos n) f = f.sfits
 mag_fits (negsuc n) f = f.sfits
 
--- the digits of a number begin with no sign, and give the number back
+-- the digits of a number begin with no sign, and denote the number
 first_digit : (n : ℕ) → n < 2 ^ 64 → 48 ≤ get_or (decimal n) 0 0
 first_digit zero h = subst (λ l. 48 ≤ get_or l 0 0) (sym (decimal_digit 0 (omega arith))) (omega arith)
 first_digit (suc n) h = let f = first_decimal (suc n) (omega arith) h in omega (arith, f)
@@ -63,7 +63,7 @@ if_written-signed_decimal id f = rw (is_id-fits id f, same_bytes (signed_decimal
 pub id_of-signed_decimal : (id : ℤ) → FitsSigned w64 id → id_of (signed_decimal id) ≡ Some id
 id_of-signed_decimal id f = ap (if_written (signed_decimal id)) (signed_digits_value-signed_decimal id f) ∙ if_written-signed_decimal id f
 
--- what `Name::new` answers is the name of the kind and the id
+-- `Name::new` returns the name of the kind and the id
 passed : {X : Type 0} (b : Bool) (f : T b → X) (t : T b) → if_passed b f ≡ Some (f t)
 passed true f t = refl
 passed false f t = absurd t
@@ -85,7 +85,7 @@ pub new_is : (kind : Kind) (id : ℤ) (r : Option Name) → MatchOption r (id �
 new_is kind id None none = sym (ap (name_with kind) none)
 new_is kind id (Some n) same = sym (name_with-some n) ∙ (λ i. name_with (same.0 i) (same.1 i))
 
--- the name of a text by its letter and its digits
+-- the name that a text denotes, by its letter and its digits
 pub name_of-split : (text : List ℕ) (kind : Kind) (digits : List ℕ) → Splits text kind digits → name_of text ≡ option_and_then (name_with kind) (id_of digits)
 name_of-split text kind digits e =
     ap name_of e ∙ ap (option_and_then (λ (k : Kind). option_and_then (name_with k) (id_of digits))) (kind_of_letter_of kind)
@@ -96,7 +96,7 @@ name_of_text n f =
     ∙ ap (option_and_then (name_with n.kind)) (id_of-signed_decimal n.id f)
     ∙ name_with-some n
 
--- a text that begins with no kind's letter is no name's
+-- a text that begins with no kind's letter denotes no name
 kind_of_letter-none : (c : ℕ) → ((kind : Kind) → c ≢ letter_of kind) → kind_of_letter c ≡ None
 kind_of_letter-none c h =
     let n : nat_eq c 110 ≡ false = let p = h Node in grind (arith, nat_tests) in
@@ -109,7 +109,7 @@ name_of-no_letter [] h = refl
 name_of-no_letter (c ∷ digits) h =
     ap (option_and_then (λ (k : Kind). option_and_then (name_with k) (id_of digits))) (kind_of_letter-none c (λ kind e. h kind digits (ap (λ b. b ∷ digits) e)))
 
--- a text that is no name's has no name
+-- a text that is not that of a name denotes no name
 is_named : Option Name → Bool
 is_named None = false
 is_named (Some m) = true
@@ -122,7 +122,7 @@ pub no_name : (text : List ℕ) (r : Option Name) → r ≡ name_of text → IfN
 no_name text None e = λ n f p. not_none n (e ∙ ap name_of p ∙ name_of_text n f)
 no_name text (Some m) e = tt
 
--- the name of a text has that text
+-- the name that a text denotes has that text
 letter_of_found : (c : ℕ) (kind : Kind) → kind_of_letter c ≡ Some kind → c ≡ letter_of kind
 letter_of_found c kind = by (nat_eq c 110) (nat_eq c 119) (nat_eq c 114) refl refl refl
   where
@@ -160,6 +160,6 @@ name_text-name_of (c ∷ digits) n e = by (kind_of_letter c) (id_of digits) refl
         let written = digits_of_written digits (signed_digits_value 10 digits) id q ∙ ap signed_decimal parts.1 in
         λ i. letter i ∷ written i
 
--- a text is read as a name exactly where it is the name's text
+-- a text is read as a name if and only if it is the name's text
 pub name_read_back : (text : List ℕ) (n : Name) → FitsSigned w64 n.id → (name_of text ≡ Some n) ↔ (text ≡ name_text n)
 name_read_back text n f = (name_text-name_of text n, λ e. ap name_of e ∙ name_of_text n f)

@@ -1,4 +1,4 @@
--- Names that compare equal are the same.
+-- Names that compare as equal are equal.
 use Rattle.std.proofs.Common.{◌≡◌, ℤ, pos, refl, rules}
 use mathlib.Core.HLevel.{Σ_prop_path, ¬_prop}
 use mathlib.Core.Logic.{◌≢◌}

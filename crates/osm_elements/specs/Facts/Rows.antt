@@ -1,4 +1,4 @@
--- What is found in a map's rows after a put and after a name was taken out.
+-- The rows of a map after a put and after a name is taken out.
 use Rattle.std.specs.Prelude.{◌≡◌, ◌≢◌, Bool, true, false, not, cond, T, List, Some, None}
 use mathlib.Core.Path.{refl, sym, ap, subst, ◌∙◌}
 use Rattle.std.specs.Ordering.{is_eq}
@@ -13,7 +13,7 @@ use Rattle.osm_elements.specs.NameOrder.{name_cmp}
 use Rattle.osm_elements.specs.Facts.Names.{name_cmp_total, name_cmp-IsAntisymmetric}
 use Rattle.osm_elements.specs.Rows.{row_at, put_row, without_row, AreInOrder}
 
--- names that compare as the same are equal
+-- the test for `Equal` is exact
 pub same : (o : Ordering) → is_eq o ≡ true → o ≡ Equal
 same Less e = absurd (subst (λ b. T (not b)) e tt)
 same Equal e = refl
@@ -25,7 +25,7 @@ same_names x y e = name_cmp-IsAntisymmetric x y (same (name_cmp x y) e)
 pub is_eq-name_cmp_itself : (x : Name) → is_eq (name_cmp x x) ≡ true
 is_eq-name_cmp_itself x = ap is_eq (tied_itself name_cmp_total x)
 
--- other names do not compare as the same
+-- different names do not compare as equal
 pub is_eq-name_cmp_other : (x y : Name) → x ≢ y → is_eq (name_cmp x y) ≡ false
 is_eq-name_cmp_other x y apart = by (is_eq (name_cmp x y)) refl
   where
@@ -33,12 +33,12 @@ is_eq-name_cmp_other x y apart = by (is_eq (name_cmp x y)) refl
     by true e = absurd (apart (same_names x y e))
     by false e = refl
 
--- names that do not compare as the same are others
+-- names that do not compare as equal differ
 pub not_same : (x y : Name) → is_eq (name_cmp x y) ≡ false → x ≢ y
 not_same x y e p = subst T (sym (is_eq-name_cmp_itself x) ∙ ap (λ z. is_eq (name_cmp x z)) p ∙ e) tt
 
 module _ {A : Type 0} where
-  -- the words for rows and those of `FinMap.Entries`
+  -- the operations on rows are those of `FinMap.Entries`
   pub row_at_is_find : (m : List (Name × Element A)) (x : Name) → row_at m x ≡ find name_cmp x m
   row_at_is_find m x = lookup_is_find name_cmp x m
 
@@ -62,7 +62,7 @@ module _ {A : Type 0} where
   pub row_at-put_row_other : (m : List (Name × Element A)) (x : Name) (v : Element A) (q : Name) → q ≢ x → row_at (put_row m x v) q ≡ row_at m q
   row_at-put_row_other m x v q apart = row_at-put_row m x v q ∙ ap (λ b. cond b (Some v) (row_at m q)) (is_eq-name_cmp_other q x apart)
 
-  -- the row at any name after a name was taken out
+  -- the row at any name after a name is taken out
   pub row_at-without_row : (m : List (Name × Element A)) (x : Name) (q : Name) → AreInOrder m → row_at (without_row m x) q ≡ cond (not (is_eq (name_cmp x q))) (row_at m q) None
   row_at-without_row m x q h =
       row_at_is_find (without_row m x) q
@@ -76,7 +76,7 @@ module _ {A : Type 0} where
   pub row_at-without_row_other : (m : List (Name × Element A)) (x : Name) (q : Name) → q ≢ x → AreInOrder m → row_at (without_row m x) q ≡ row_at m q
   row_at-without_row_other m x q apart h = row_at-without_row m x q h ∙ ap (λ b. cond (not b) (row_at m q) None) (is_eq-name_cmp_other x q (λ e. apart (sym e)))
 
-  -- both keep the order
+  -- puts and removals keep the order
   pub AreInOrder-put_row : (m : List (Name × Element A)) (x : Name) (v : Element A) → AreInOrder m → AreInOrder (put_row m x v)
   AreInOrder-put_row m x v h = subst (λ n. AreInOrder n) (sym (put_row_is_put m x v)) (is_sorted-put name_cmp name_cmp_total x v m h)
 
@@ -87,7 +87,7 @@ module _ {A : Type 0} where
   pub same_rows : (m n : List (Name × Element A)) → AreInOrder m → AreInOrder n → ((q : Name) → row_at m q ≡ row_at n q) → m ≡ n
   same_rows m n g h is = same_entries name_cmp name_cmp_total name_cmp-IsAntisymmetric m n g h (λ q. sym (row_at_is_find m q) ∙ is q ∙ row_at_is_find n q)
 
-  -- a row that is put and taken out again, and one that is taken out and put back
+  -- a put row that is taken out again, and a removed row that is put back, lead back to the map
   pub without_row-put_row : (m : List (Name × Element A)) (x : Name) (v : Element A) → AreInOrder m → row_at m x ≡ None → without_row (put_row m x v) x ≡ m
   without_row-put_row m x v h none =
       let sorted = AreInOrder-put_row m x v h in

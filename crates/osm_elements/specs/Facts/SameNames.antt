@@ -1,4 +1,4 @@
--- What `==` says of names.
+-- The derived `==` of names is that of the definition.
 use Rattle.std.proofs.Common.{◌≡◌, ◌&&◌, ℤ, pos, negsuc, refl, sym, ap, ◌∙◌}
 use Rattle.std.specs.Ordering.{is_eq, int_eq, int_cmp, nat_cmp, ordering_then}
 use Rattle.std.specs.declared.cmp.Ordering.{Ordering}

@@ -1,4 +1,4 @@
--- What the references of a name become when it gains those that come and loses those that go.
+-- The references of a name after it gains those that begin and loses those that cease.
 use Rattle.std.proofs.Common.{◌≡◌, ◌&&◌, ◌||◌, ◌++◌, Bool, true, false, not, cond, List, refl, sym, ap, ◌∙◌}
 use Rattle.osm_elements.specs.Facts.Among.{is_among-append, is_among-name_set}
 use Rattle.osm_elements.specs.Facts.Rows.{is_eq-name_cmp_itself}
@@ -14,7 +14,7 @@ among_with before after q =
     is_among-name_set q (before ++ names_but after before) ∙ is_among-append q before (names_but after before)
     ∙ ap (λ b. is_among before q || b) (is_among-passing (λ e. not (is_among before e)) after q)
 
--- names with those that come, without those that go
+-- the references after: with those that begin, and without those that cease
 pub after_is : (before after : List Name) → IsRising after → names_but (name_set (before ++ names_but after before)) (names_but before after) ≡ after
 after_is before after rises =
     let all = name_set (before ++ names_but after before) in
@@ -29,7 +29,7 @@ after_is before after rises =
     by false true = refl
     by false false = refl
 
--- names with those that come, without those
+-- gaining the references that begin, and losing them again, leads back to the references before
 pub before_is : (before after : List Name) → IsRising before → names_but (name_set (before ++ names_but after before)) (names_but after before) ≡ before
 before_is before after rises =
     let all = name_set (before ++ names_but after before) in
@@ -44,7 +44,7 @@ before_is before after rises =
     by false true = refl
     by false false = refl
 
--- of the names that come none is there
+-- no reference that begins was there before
 pub new_names : (before after : List Name) → IsRising after → names_but (names_but after before) before ≡ names_but after before
 new_names before after rises =
     let p : Name → Bool = λ e. not (is_among before e) in
@@ -66,7 +66,7 @@ module _ (t : Table) (x : Name) (after : List Name) (table : IsTable t) (rises :
   here : (u : Table) (names : List Name) → references_at (referring u x names) x ≡ names
   here u names = references_at-referring u x names x ∙ ap (λ b. cond b names (references_at u x)) (is_eq-name_cmp_itself x)
 
-  -- the table of a name that gained what comes and lost what goes
+  -- the table after a name gained and lost references
   pub changed : referring gained x (names_but (references_at gained x) (names_but before after)) ≡ referring t x after
   changed =
       ap (λ names. referring gained x (names_but names (names_but before after))) (here t (name_set (before ++ names_but after before))) ∙ ap (referring gained x) (after_is before after rises)

@@ -1,4 +1,4 @@
--- What code says in the order that is derived for names, said in their order, and back.
+-- A statement about the derived order of names is one about the defined order.
 use Rattle.std.proofs.Common.{sym, subst}
 use Rattle.std.specs.declared.cmp.Ordering.{Ordering}
 use Rattle.osm_elements.specs.declared.name.Name.{Name}

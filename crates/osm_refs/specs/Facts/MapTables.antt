@@ -1,4 +1,4 @@
--- The table of a map, against the map's own rows.
+-- The table of a map agrees with the map's rows.
 use Rattle.std.proofs.Common.{◌≡◌, Bool, true, false, cond, T, List, [], ◌∷◌, map, Some, None, unwrap_or, refl, sym, ap, ◌∙◌}
 use Rattle.std.specs.List.{filter}
 use Rattle.std.specs.FinMap.Entries.{find, below_all}

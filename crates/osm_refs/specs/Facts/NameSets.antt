@@ -23,7 +23,7 @@ use Rattle.osm_refs.specs.Facts.RisingNames.{same_as_name_set}
 use Rattle.osm_refs.specs.Rising.{IsRising}
 use Rattle.rising_lists.specs.Rising.{bare_rows}
 
--- a name is among a list exactly where the list contains it
+-- the test for a name in a list is exact
 among_contains : (xs : List Name) (q : Name) → is_among xs q ≡ true → Contains xs q
 among_contains [] q e = absurd (cc)
 among_contains (x ∷ xs) q e = by (is_same q x) refl e (among_contains xs q)
@@ -57,7 +57,7 @@ module _ (E : Name → Name → Bool) (ties : (x y : Name) → E x y ≡ is_same
   laws : IsEquivalence E
   laws = subst IsEquivalence (λ i x y. sym (ties x y) i) (eq_by_cmp_equiv name_cmp_total)
 
-  -- what sorting and dropping repeats leaves
+  -- sorting and dropping repeats leaves the set
   pub sorted_is_name_set : (cmp : Name → Name → Ordering) → cmp ≡ name_cmp → (names xs ys : List Name) → IsPermutation names xs → IsSorted cmp xs → IsFiltered (DiffersFromLast E) [] xs ys → ys ≡ name_set names
   sorted_is_name_set cmp is names xs ys moved by_cmp filtered =
       let sorted = subst (λ (c : Name → Name → Ordering). IsSorted c xs) is by_cmp in

@@ -1,4 +1,4 @@
--- Lists of names that rise, each once. Such a list is known by the names that are among it.
+-- Lists of names that rise, each once. The names in such a list determine it.
 use Rattle.std.proofs.Common.{◌≡◌, ◌&&◌, ℕ, Bool, List, [], ◌∷◌, length, Result, is_ok, refl, sym, ap, subst, ◌∙◌}
 use Rattle.std.specs.List.{filter, fold}
 use Rattle.std.specs.List.Sorted.{IsBinarySearchResult, IsSearchInRange}
@@ -21,11 +21,11 @@ same_rising = rising.same_rising name_cmp name_cmp_total name_cmp-IsAntisymmetri
 pub IsRising-filter : (p : Name → Bool) (xs : List Name) → IsRising xs → IsRising (filter p xs)
 IsRising-filter = rising.IsRising-filter name_cmp
 
--- which names are among those that pass a test
+-- the names that a filter keeps
 pub is_among-passing : (p : Name → Bool) (names : List Name) (q : Name) → is_among (filter p names) q ≡ (p q && is_among names q)
 is_among-passing p names q = rising.is_among-passing name_cmp p names q (λ y e. ap p (sym (name_cmp-IsAntisymmetric q y e)))
 
--- what a binary search tells of whether a name is there
+-- a search finds a name if and only if the list contains it
 pub search_tells : (cmp : Name → Name → Ordering) → cmp ≡ name_cmp → (x : Name) (xs : List Name) → IsRising xs → (r : Result ℕ ℕ) → IsSearchInRange r (length xs) → IsBinarySearchResult (λ y. cmp y x) xs r → is_ok r ≡ is_among xs x
 search_tells cmp is x xs h r within found = searching.search_tells name_cmp name_cmp_total x xs h r within (subst (λ (c : Name → Name → Ordering). IsBinarySearchResult (λ y. c y x) xs r) is found)
 
@@ -40,6 +40,6 @@ IsRising-fold set (y ∷ ys) h = IsRising-fold (with_name y set) ys (subst IsRis
 pub IsRising-name_set : (names : List Name) → IsRising (name_set names)
 IsRising-name_set names = IsRising-fold [] names tt
 
--- a rising list with the names of another is the set of that one
+-- a rising list with the names of a second list is the set of that list
 pub same_as_name_set : (xs names : List Name) → IsRising xs → ((q : Name) → is_among xs q ≡ is_among names q) → xs ≡ name_set names
 same_as_name_set xs names h is = same_rising xs (name_set names) h (IsRising-name_set names) (λ q. is q ∙ sym (is_among-name_set q names))

@@ -1,4 +1,4 @@
--- Tables whose names rise and whose rows refer to some name: each is known by what its names refer to.
+-- Tables whose names rise and whose rows are not empty. The references of all names determine such a table.
 use Rattle.std.proofs.Common.{◌++◌, ◌≡◌, Bool, true, false, not, cond, T, List, [], ◌∷◌, None, unwrap_or, refl, sym, ap, ◌∙◌}
 use Rattle.std.specs.List.{filter, list_all}
 use Rattle.std.specs.FinMap.Entries.{find, find-where_key, is_sorted-where_key}
@@ -12,15 +12,15 @@ use Rattle.osm_refs.specs.Tables.{Table, Note, references_at, referring, noted}
 use Rattle.rising_lists.specs.Lists.{has_none}
 use Rattle.rising_lists.specs.Facts.Tables as tables
 
--- the names rise, and each row has a name that it refers to
+-- the names rise, and each row has a reference
 abbrev pub IsTable : Table → Type 0
 IsTable t = tables.IsTable name_cmp t
 
--- tables in which each name refers to the same are equal
+-- tables in which each name has the same references are equal
 pub same_tables : (t u : Table) → IsTable t → IsTable u → ((q : Name) → references_at t q ≡ references_at u q) → t ≡ u
 same_tables = tables.same_tables name_cmp name_cmp_total name_cmp-IsAntisymmetric
 
--- what a name refers to after a name's references were written anew
+-- the references of each name after those of a name are replaced
 pub references_at-referring : (t : Table) (x : Name) (names : List Name) (q : Name) → references_at (referring t x names) q ≡ cond (is_same q x) names (references_at t q)
 references_at-referring t x [] q =
     ap (λ o. unwrap_or o []) (find-where_key name_cmp (λ z. not (is_same x z)) q (λ z e. ap (λ w. not (is_same x w)) (sym (name_cmp-IsAntisymmetric q z e))) t)
@@ -47,7 +47,7 @@ pub IsTable-noted : (t : Table) (notes : List Note) → IsTable t → IsTable (n
 IsTable-noted t [] h = h
 IsTable-noted t (n ∷ notes) h = IsTable-noted (referring t n.0 n.1) notes (IsTable-referring t n.0 n.1 h)
 
--- a note behind the others is entered last
+-- a note at the end is entered last
 pub noted-push : (t : Table) (notes : List Note) (n : Note) → noted t (notes ++ n ∷ []) ≡ referring (noted t notes) n.0 n.1
 noted-push t [] n = refl
 noted-push t (m ∷ notes) n = noted-push (referring t m.0 m.1) notes n

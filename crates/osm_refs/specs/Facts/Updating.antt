@@ -1,4 +1,4 @@
--- A table in which the references of names are written anew, one name after another.
+-- A table in which the references of names are replaced, name by name.
 use Rattle.std.proofs.Common.{◌≡◌, ◌||◌, Bool, true, false, cond, List, [], ◌∷◌, map, refl, sym, ap, ◌∙◌}
 use Rattle.std.specs.List.{fold}
 use Rattle.osm_elements.specs.declared.name.Name.{Name}
@@ -14,7 +14,7 @@ module _ {C : Type 0} (name : C → Name) (becomes : C → List Name → List Na
   abbrev pub updated_all : Table → List C → Table
   updated_all t cs = fold updated t cs
 
-  -- what the references of a name become
+  -- the references of a name after all replacements
   abbrev pub becomes_at : List C → Name → List Name → List Name
   becomes_at [] q names = names
   becomes_at (c ∷ cs) q names = becomes_at cs q (cond (is_same q (name c)) (becomes c names) names)
@@ -34,7 +34,7 @@ module _ {C : Type 0} (name : C → Name) (becomes : C → List Name → List Na
   IsTable-updated_all t [] h = h
   IsTable-updated_all t (c ∷ cs) h = IsTable-updated_all (updated t c) cs (IsTable-referring t (name c) (becomes c (references_at t (name c))) h)
 
-  -- a name that none of them is of keeps its references
+  -- a name that no replacement is about keeps its references
   pub untouched : (cs : List C) (q : Name) (names : List Name) → is_among (map name cs) q ≡ false → becomes_at cs q names ≡ names
   untouched [] q names e = refl
   untouched (c ∷ cs) q names e = by (is_same q (name c)) e (untouched cs q names)

@@ -1,4 +1,4 @@
-//! Changes applied to a store.
+//! Applying changes to a store.
 ghost use Rattle.std.specs.Prelude.{IfOk};
 ghost use Rattle.part_lines.specs.Applying.{MayApply};
 
@@ -11,7 +11,7 @@ use osm_changes::store::Store;
 use osm_elements::Memory;
 use std::alloc::Global;
 
-/// The plan of an action, whose changes may be applied to the store.
+/// Returns the changes of an action, which may be applied to the store.
 pub fn plan_of(
     alloc: Global,
     store: &Store<Global>,
@@ -22,7 +22,7 @@ pub fn plan_of(
     plan_on(alloc, store, action)
 }
 
-/// Applies changes, and answers those that take them back.
+/// Applies changes, and returns the changes that take them back.
 pub fn apply(
     alloc: Global,
     store: &mut Store<Global>,

@@ -1,25 +1,25 @@
-//! What comes of a line.
+//! The outcome of a line.
 use edit_simple::refusal::Refusal;
 use std::alloc::Global;
 use std::fmt::{self, Display, Formatter};
 
-/// What comes of a line.
+/// The outcome of a line.
 #[derive(Drop)]
 pub enum Outcome {
     /// The edit was refused.
     Refused(Refusal<Global>),
-    /// It was only planned: its changes, and the names that it touches.
+    /// The edit was only planned: its changes, and the names that it touches.
     Planned {
         changes: String,
         touched: String,
     },
-    /// It was done: its changes, the names that it touches, and the map then.
+    /// The edit was done: its changes, the names that it touches, and the map after it.
     Done {
         changes: String,
         touched: String,
         map: String,
     },
-    /// Its changes, taken back or applied again, did not lead to the map before or to that after.
+    /// The changes, taken back or applied again, did not lead to the map before or to the map after.
     Astray {
         wanted: String,
         found: String,

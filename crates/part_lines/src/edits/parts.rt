@@ -1,4 +1,4 @@
-//! Names and parts of elements from texts. A word that is not of the part that is read is left out.
+//! Reading names and parts of elements from texts. Words that do not belong to the part that is read are skipped.
 use crate::edits::unread::Unread;
 use edit_simple::retag::Retag;
 use osm_elements::member::Member;
@@ -10,24 +10,24 @@ use osm_elements::tags::Tags;
 use osm_elements::text::Text;
 use std::alloc::Global;
 
-/// The name that a text is.
+/// Reads a text as a name.
 pub fn name(text: &str) -> Result<Name, Unread> {
     Name::read(text).ok_or(Unread::NoEdit)
 }
 
-/// Two numbers with a comma between them.
+/// Reads two numbers with a comma between them.
 pub fn pair(words: &str) -> Result<(i64, i64), Unread> {
     let (word, _) = words.split_once(' ').unwrap_or((words, ""));
     let (first, second) = word.split_once(',').ok_or(Unread::NoEdit)?;
     Ok((number(first)?, number(second)?))
 }
 
-// The number that a text is.
+// Reads a text as a number.
 fn number(text: &str) -> Result<i64, Unread> {
     text.parse::<i64>().map_err(|_| Unread::NoEdit)
 }
 
-/// The names among some words.
+/// Returns the names among the words.
 pub fn names(alloc: Global, words: &str) -> Result<Names<Global>, Unread> {
     let mut names = Names::empty(alloc);
     for word in words.split(' ') {
@@ -38,7 +38,7 @@ pub fn names(alloc: Global, words: &str) -> Result<Names<Global>, Unread> {
     Ok(names)
 }
 
-/// The names of nodes among some words.
+/// Returns the names of nodes among the words.
 pub fn nodes(alloc: Global, words: &str) -> Result<Nodes<Global>, Unread> {
     let mut nodes = Nodes::empty(alloc);
     for word in words.split(' ') {
@@ -52,7 +52,7 @@ pub fn nodes(alloc: Global, words: &str) -> Result<Nodes<Global>, Unread> {
     Ok(nodes)
 }
 
-/// The members among some words: a name, a slash and a role.
+/// Returns the members among the words: a name, a slash and a role.
 pub fn members(alloc: Global, words: &str) -> Result<Members<Global>, Unread> {
     let mut members = Members::empty(alloc);
     for word in words.split(' ') {
@@ -63,13 +63,13 @@ pub fn members(alloc: Global, words: &str) -> Result<Members<Global>, Unread> {
     Ok(members)
 }
 
-// The member of a name and a role.
+// Returns the member with a name and a role.
 fn member_of(alloc: Global, member: &str, role: &str) -> Result<Member<Global>, Unread> {
     let name = name(member)?;
     Ok(Member::new(name, Text::new(alloc, role)?))
 }
 
-/// The tags among some words: a key, an equals sign and a value.
+/// Returns the tags among the words: a key, an equals sign and a value.
 pub fn tags(alloc: Global, words: &str) -> Result<Tags<Global>, Unread> {
     let mut tags = Tags::empty(alloc);
     for word in words.split(' ') {
@@ -87,7 +87,7 @@ fn set_tag(alloc: Global, tags: &mut Tags<Global>, key: &str, value: &str) -> Re
     Ok(())
 }
 
-/// What some words give the tags of an element: `key=value` a value, `-key` none.
+/// Returns the values that the words give to keys: `key=value` gives a value, and `-key` none.
 pub fn retag(alloc: Global, words: &str) -> Result<Retag<Global>, Unread> {
     let mut given = Retag::empty(alloc);
     for word in words.split(' ') {
@@ -100,7 +100,7 @@ pub fn retag(alloc: Global, words: &str) -> Result<Retag<Global>, Unread> {
     Ok(given)
 }
 
-// Gives a key a value, or takes it away.
+// Gives a key a value or none.
 fn give(
     alloc: Global,
     given: &mut Retag<Global>,

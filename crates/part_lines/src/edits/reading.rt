@@ -1,4 +1,4 @@
-//! Elements and actions from texts.
+//! Reading elements and actions from texts.
 use crate::edits::parts::{members, name, names, nodes, pair, retag, tags};
 use crate::edits::unread::Unread;
 use edit_actions::action::Action;
@@ -9,7 +9,7 @@ use osm_elements::shared::Shared;
 use osm_elements::shared_tags::SharedTags;
 use std::alloc::Global;
 
-/// The element of a kind that some words write.
+/// Reads words as an element of this kind.
 pub fn element(alloc: Global, kind: Kind, words: &str) -> Result<Element<Global>, Unread> {
     let tags = SharedTags::new(alloc, tags(alloc, words)?)?;
     match kind {
@@ -30,13 +30,12 @@ pub fn element(alloc: Global, kind: Kind, words: &str) -> Result<Element<Global>
     }
 }
 
-// The value of a coordinate.
+// Returns a number as the value of a coordinate.
 fn coordinate(value: i64) -> Result<i32, Unread> {
     i32::try_from(value).map_err(|_| Unread::NoEdit)
 }
 
-/// The action that a text writes. A move is written `move 7,-8 n1 w1`, a split `split w1 1 w2`, an unglue `unglue w1 1
-/// n2`.
+/// Reads a text as an action. A move is written `move 7,-8 n1 w1`, a split `split w1 1 w2`, an unglue `unglue w1 1 n2`.
 pub fn action(alloc: Global, text: &str) -> Result<Action<Global>, Unread> {
     let (word, rest) = text.split_once(' ').ok_or(Unread::NoEdit)?;
     if word == "move" {
@@ -48,7 +47,7 @@ pub fn action(alloc: Global, text: &str) -> Result<Action<Global>, Unread> {
     named_action(alloc, word, name(first)?, rest)
 }
 
-// The action on one name that a word, the name and further words write.
+// Reads an action on one name from its word, the name and the remaining words.
 fn named_action(
     alloc: Global,
     word: &str,
@@ -89,19 +88,19 @@ fn named_action(
     }
 }
 
-// The split of a way at a position into another, which some words write.
+// Reads the position and the new way of a split.
 fn split(name: Name, words: &str) -> Result<Action<Global>, Unread> {
     let (place, into) = place_and_name(words)?;
     Ok(Action::Split { name, place, into })
 }
 
-// The unglue of a way at a position into a new node, which some words write.
+// Reads the position and the new node of an unglue.
 fn unglue(name: Name, words: &str) -> Result<Action<Global>, Unread> {
     let (place, into) = place_and_name(words)?;
     Ok(Action::Unglue { name, place, into })
 }
 
-// A position and a name, which some words write.
+// Reads a position and a name.
 fn place_and_name(words: &str) -> Result<(u32, Name), Unread> {
     let (place, name) = words.split_once(' ').ok_or(Unread::NoEdit)?;
     let place = place.parse::<u32>().map_err(|_| Unread::NoEdit)?;

@@ -1,4 +1,4 @@
-//! Elements, changes and stores as texts.
+//! Writing elements, changes and stores as texts.
 use edit_footprint::footprint::Footprint;
 use osm_changes::changes::Changes;
 use osm_changes::row_after::RowAfter;
@@ -59,7 +59,7 @@ fn put_tag(text: &mut String, tag: &Tag<Global>) -> Result<(), AllocError> {
     text.push_str(tag.value.as_str())
 }
 
-// Writes an element, its parts each after a space.
+// Writes an element, with a space in front of each part.
 fn put_element(
     alloc: Global,
     text: &mut String,
@@ -76,7 +76,7 @@ fn put_element(
     put_tags(text, element.tags())
 }
 
-// Writes an element that there is before changes or after them, or that there is none.
+// Writes an element before or after changes, or `none`.
 fn put_side(
     alloc: Global,
     text: &mut String,
@@ -88,7 +88,7 @@ fn put_side(
     }
 }
 
-// Writes a changed name with its element before, if there is one, and after.
+// Writes a changed name with its elements before and after, if any.
 fn put_change(
     alloc: Global,
     text: &mut String,
@@ -128,7 +128,7 @@ fn put_row_copied(
     put_row(alloc, text, &row.copy()?, users.of(&row.name))
 }
 
-/// The names of a footprint as a text, each once and after a space.
+/// Returns the names of a footprint as a text, each once and after a space.
 pub fn touched_shown(alloc: Global, touched: &Footprint<Global>) -> Result<String, AllocError> {
     let mut names: Vec<Name> = Vec::new(alloc);
     for cell in touched.cells() {
@@ -143,8 +143,8 @@ pub fn touched_shown(alloc: Global, touched: &Footprint<Global>) -> Result<Strin
     Ok(text)
 }
 
-/// A copy of changes of a store as a text: each changed name once, with its whole element before and after, as
-/// `w1: n1 n2 -> n2 n1;` after a space, and `none` where there is no element.
+/// Returns a copy of a store's changes as a text. It has each changed name once, with its whole element before and
+/// after, for example `w1: n1 n2 -> n2 n1;`, each after a space. `none` stands for no element.
 pub fn changes_shown(
     alloc: Global,
     store: &Store<Global>,
@@ -158,19 +158,19 @@ pub fn changes_shown(
     Ok(text)
 }
 
-/// The map and the users of a store as a text: each row as `w1: n1 n2 <- r1;` after a space, with the names that refer
-/// to it.
+/// Returns the map and the users of a store as a text. It has each row with the names that refer to it, for example
+/// `w1: n1 n2 <- r1;`, each after a space.
 pub fn store_shown(alloc: Global, store: &Store<Global>) -> Result<String, AllocError> {
     let rows = rows_copied(alloc, store)?;
     rows_shown(alloc, &rows, store)
 }
 
-// A copy of the rows of a copy of the map.
+// Returns a copy of the rows of a copy of the map.
 fn rows_copied(alloc: Global, store: &Store<Global>) -> Result<Rows<Global>, AllocError> {
     store.map().copy()?.rows(alloc)?.copy()
 }
 
-// Rows with their users, these from a copy, as a text.
+// Returns rows as a text, with their users from a copy.
 fn rows_shown(
     alloc: Global,
     rows: &Rows<Global>,

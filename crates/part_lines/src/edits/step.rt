@@ -1,4 +1,4 @@
-//! An edit: planned, applied, taken back and applied again.
+//! Planning an edit, applying it, taking it back and applying it again.
 ghost use Rattle.std.specs.Prelude.{IfOk};
 ghost use Rattle.part_lines.specs.Applying.{MayApply};
 
@@ -13,8 +13,8 @@ use osm_changes::changes::Changes;
 use osm_changes::store::Store;
 use std::alloc::Global;
 
-/// Does an edit that a text writes; or only plans it, where `plan` stands before it. Where it is refused, and where it
-/// is only planned, the store is as it was.
+/// Does the edit in a text, or only plans it after the word `plan`. If the edit is refused or only planned, the store
+/// is unchanged.
 pub fn step(alloc: Global, store: &mut Store<Global>, line: &str) -> Result<Outcome, Unread> {
     let (text, is_done) = match line.strip_prefix("plan ") {
         Some(text) => (text, false),
@@ -28,7 +28,7 @@ pub fn step(alloc: Global, store: &mut Store<Global>, line: &str) -> Result<Outc
     }
 }
 
-// Tells what an action would change.
+// Returns what an action would change.
 fn planned(
     alloc: Global,
     store: &Store<Global>,
@@ -41,7 +41,7 @@ fn planned(
     })
 }
 
-// Applies the changes of an action, and tells all of it.
+// Applies the changes of an action, and returns what it changed.
 fn done(
     alloc: Global,
     store: &mut Store<Global>,
@@ -65,7 +65,7 @@ fn done(
     }
 }
 
-// The names that an action touches.
+// Returns the names that an action touches.
 fn touched(
     alloc: Global,
     action: &Action<Global>,
@@ -75,8 +75,7 @@ fn touched(
     Ok(touched_shown(alloc, &touched)?)
 }
 
-// Takes changes back and applies them again, and tells where that did not lead to the map before them and to that after
-// them.
+// Takes changes back and applies them again. Returns an outcome if this did not lead to the maps `before` and `after`.
 fn there_again(
     alloc: Global,
     store: &mut Store<Global>,
@@ -93,7 +92,7 @@ fn there_again(
     Ok(first.or(second))
 }
 
-// Tells where a store is not shown as it should be.
+// Returns an outcome if a store is not shown as the text `wanted`.
 fn astray(alloc: Global, store: &Store<Global>, wanted: &str) -> Result<Option<Outcome>, Unread> {
     let found = store_shown(alloc, store)?;
     if found.as_str() == wanted {

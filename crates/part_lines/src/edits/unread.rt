@@ -1,15 +1,15 @@
-//! Why a line is no edit, or was not done.
+//! The reasons for which a line is no edit, or was not done.
 use osm_elements::fault::TextFault;
 use std::alloc::AllocError;
 use thiserror::Error;
 
-/// Why a line did nothing.
+/// The reason for which a line did nothing.
 #[derive(Debug, Drop, Error)]
 pub enum Unread {
-    /// It is no edit.
+    /// The line is no edit.
     #[error("no edit")]
     NoEdit,
-    /// A growth was refused. In an edit that is taken back and done again, the map is that before it or that after it.
+    /// An allocation failed. If the edit was being taken back and done again, the map is the one before or after it.
     #[error("out of memory")]
     Memory,
 }

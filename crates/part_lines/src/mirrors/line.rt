@@ -1,17 +1,17 @@
-//! Lines: what a mirror is handed, or asked for.
+//! Reading the lines of a mirror.
 
-/// What a line says.
+/// The content of a line.
 #[derive(Clone, Copy)]
 pub enum Line<'a> {
     /// The text of a welcome.
     Welcome(&'a str),
     /// The text of news.
     News(&'a str),
-    /// The map is asked for.
+    /// A request for the map.
     Map,
 }
 
-/// What a line says, or none where it says nothing known.
+/// Reads a line, or returns `None` if it has none of the known forms.
 pub fn read(line: &str) -> Option<Line<'_>> {
     if line == "map" {
         return Some(Line::Map);

@@ -1,4 +1,4 @@
-//! What is told for a line.
+//! The result of a line.
 use crate::mirrors::line::{Line, read};
 use osm_elements::Memory;
 use room_history::news::{News, NewsRows};
@@ -12,15 +12,15 @@ use std::alloc::Global;
 use std::fmt::{self, Display, Formatter};
 use thiserror::Error;
 
-// The id under which a map is told.
+// The id of the welcome with the map.
 const ID: u64 = 1;
 
-/// What is told of a mirror.
+/// The result of a line.
 #[derive(Drop)]
 pub enum Told {
-    /// The number of its last entry.
+    /// The number of the mirror's last entry.
     Number(u64),
-    /// Its map, as a room tells it.
+    /// The mirror's map, as the text of a welcome.
     Map(Json),
 }
 
@@ -33,22 +33,22 @@ impl Display for Told {
     }
 }
 
-/// Why a line did nothing.
+/// The reason for which a line did nothing.
 #[derive(Debug, Drop, Error)]
 pub enum Refused {
-    /// The line says nothing known.
+    /// The line has none of the known forms.
     #[error("the line says nothing known")]
     Unknown,
     /// There was no welcome yet.
     #[error("there is no mirror")]
     NoMirror,
-    /// The text is not what it should be.
+    /// The text is not a welcome or not news.
     #[error("{0}")]
     Text(Bad),
     /// The mirror did not take the news.
     #[error("{0}")]
     News(MirrorFault),
-    /// A growth was refused.
+    /// An allocation failed.
     #[error("out of memory")]
     Memory,
 }
@@ -59,7 +59,7 @@ impl From<Memory> for Refused {
     }
 }
 
-/// Hands a mirror what a line says, and gives what is told for it. After a refusal the mirror is as it was.
+/// Gives a mirror the text of a line, and returns the result. After a refusal the mirror is unchanged.
 pub fn tell(
     alloc: Global,
     mirror: &mut Option<Mirror<Global>>,
@@ -78,20 +78,20 @@ pub fn tell(
     }
 }
 
-// The mirror that the text of a welcome makes.
+// Makes a mirror from the text of a welcome.
 fn made(alloc: Global, text: &str) -> Result<Mirror<Global>, Refused> {
     let welcome = read_welcome(alloc, text).map_err(Refused::Text)?;
     Ok(Mirror::from_welcome(alloc, welcome)?)
 }
 
-// Hands a mirror a copy of the news that a text tells.
+// Gives a mirror a copy of the news in a text.
 fn take(alloc: Global, mirror: &mut Mirror<Global>, text: &str) -> Result<Told, Refused> {
     let news = read_news(alloc, text).map_err(Refused::Text)?;
     mirror.take(&copied(alloc, &news)?).map_err(Refused::News)?;
     Ok(Told::Number(mirror.seq()))
 }
 
-// News, copied row by row.
+// Copies news, row by row.
 fn copied(alloc: Global, news: &News<Global>) -> Result<News<Global>, Memory> {
     let mut rows = Vec::new(alloc);
     for row in news.rows.as_slice() {
@@ -104,7 +104,7 @@ fn copied(alloc: Global, news: &News<Global>) -> Result<News<Global>, Memory> {
     })
 }
 
-// The map of a mirror, as a welcome tells it.
+// Returns the map of a mirror as a welcome.
 fn map(alloc: Global, mirror: &Mirror<Global>) -> Result<Told, Refused> {
     let welcome = Welcome {
         id: ID,

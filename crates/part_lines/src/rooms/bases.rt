@@ -1,4 +1,4 @@
-//! Rooms that begin with the map of another.
+//! Rooms that begin with the map of another room.
 ghost use Rattle.std.specs.Prelude.{◌≡◌, true};
 ghost use Rattle.osm_changes.specs.Sound.{is_sound};
 
@@ -15,8 +15,8 @@ use std::alloc::Global;
 use std::io::{self, ErrorKind};
 use std::sync::Wait;
 
-/// Shows what is answered by a room that begins with the map of this one, to calls without the one of a place; and how
-/// many entries two rooms of a table have that begin with it.
+/// Shows the replies of a room that begins with the map of `room`, to calls without the call at position `without`.
+/// Then shows the number of rooms of a table that begin with this map.
 pub fn show<R: Print + Wait>(
     rt: &R,
     alloc: Global,
@@ -27,7 +27,7 @@ pub fn show<R: Print + Wait>(
     show_table(rt, alloc, room.map_rows()?)
 }
 
-// A run: nothing can be taken back, a node of the base cannot be created, and another can.
+// Runs a room: nothing can be undone, a node of the base cannot be created, and another node can be created.
 fn show_run<R: Print>(rt: &R, alloc: Global, rows: Rows<Global>, without: u32) -> io::Result<()>
     requires { is_sound rows ≡ true }
 {
@@ -40,7 +40,7 @@ fn show_run<R: Print>(rt: &R, alloc: Global, rows: Rows<Global>, without: u32) -
     }
 }
 
-// A table of two rooms, which are closed at once.
+// Opens a table of two rooms, and closes it at once.
 fn show_table<R: Print + Wait>(rt: &R, alloc: Global, rows: Rows<Global>) -> io::Result<()>
     requires { is_sound rows ≡ true }
 {
@@ -65,7 +65,8 @@ fn calls(alloc: Global, without: u32) -> io::Result<Calls<Global>> {
     Ok(Calls::from_vec(calls))
 }
 
-// The call of a place: Anna takes back what she did not do, creates node -6, which the base has, and node -7.
+// Returns the call at a position: Anna undoes without having done anything, creates node -6, which the base has, and
+// node -7.
 fn call_at(alloc: Global, place: u32) -> io::Result<Call<Global>> {
     let anna = author("anna")?;
     Ok(match place {

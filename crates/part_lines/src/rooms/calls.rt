@@ -1,4 +1,4 @@
-//! What rooms are asked here.
+//! The calls that are made to rooms here.
 use edit_actions::action::Action;
 use edit_groups::edit::Edit;
 use osm_coords::{Lat, Lon};
@@ -11,17 +11,17 @@ use room_stacks::author::Author;
 use std::alloc::Global;
 use std::io::{self, ErrorKind};
 
-/// The author of a name.
+/// Returns the author with a name.
 pub fn author(name: &str) -> io::Result<Author> {
     Author::read(name).ok_or(ErrorKind::InvalidInput.into())
 }
 
-/// The name of a node.
+/// Returns the name of a node.
 pub fn node(id: i64) -> io::Result<Name> {
     Name::new(Kind::Node, id).ok_or(ErrorKind::InvalidInput.into())
 }
 
-/// The call of an author to create a node of this name where both coordinates are 0.
+/// Returns the call of an author to create a node with this name at the coordinates 0 and 0.
 pub fn creation(alloc: Global, author: Author, id: u64, name: Name) -> Option<Call<Global>> {
     let lat = Lat::new(0)?;
     let lon = Lon::new(0)?;
@@ -31,12 +31,12 @@ pub fn creation(alloc: Global, author: Author, id: u64, name: Name) -> Option<Ca
     Some(call(author, id, Request::Do(create)))
 }
 
-/// The same, by the id of the node, which is not 0.
+/// Returns the same call for a node id, which is not 0.
 pub fn create(alloc: Global, author: Author, id: u64, name: i64) -> io::Result<Call<Global>> {
     creation(alloc, author, id, node(name)?).ok_or(ErrorKind::InvalidInput.into())
 }
 
-/// A call of an author.
+/// Returns a call of an author.
 pub fn call(author: Author, id: u64, request: Request<Global>) -> Call<Global> {
     Call {
         author,
@@ -45,7 +45,7 @@ pub fn call(author: Author, id: u64, request: Request<Global>) -> Call<Global> {
     }
 }
 
-/// To take a call.
+/// Returns a call of an author as a call to a room.
 pub fn take(author: Author, id: u64, request: Request<Global>) -> RoomCall<Global> {
     RoomCall::Take(call(author, id, request))
 }

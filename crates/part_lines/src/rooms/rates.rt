@@ -1,16 +1,17 @@
-//! How many turns a second are taken at a room by one thread without rivals, and by two, four and eight.
+//! The number of turns that one, two, four and eight threads take at a room in a second.
 use crate::rooms::turns::{Asked, rate};
 use std::alloc::Global;
 use std::rt::Clock;
 use std::sync::Wait;
 use std::thread::Threads;
 
-// How many rounds there are, of which the quickest counts.
+// The number of rounds, of which the fastest counts.
 const ROUNDS: u32 = 5;
 
-/// Prints on standard error how many turns a second are taken, a line for each number of threads and each thing asked.
-/// A measurement is of so many turns, which the threads share evenly, with the opening and the closing of their room;
-/// of five rounds the quickest counts. None without memory or a clock.
+/// Prints turns per second on standard error, one line for each number of threads and each kind of call.
+///
+/// A measurement is of `turns` turns, which the threads share evenly, including the opening and the closing of their
+/// room. The fastest of five rounds counts. Returns `None` if an allocation or the clock fails.
 pub fn measure<R: Clock + Eprint + Threads + Wait + Sync>(
     rt: &R,
     alloc: Global,
@@ -36,7 +37,7 @@ fn compare<R: Clock + Eprint + Threads + Wait + Sync>(
     Some(())
 }
 
-// The rate of the quickest round; none without memory or a clock.
+// Returns the rate of the fastest round, or `None` if an allocation or the clock fails.
 fn best_rate<R: Clock + Threads + Wait + Sync>(
     rt: &R,
     alloc: Global,
@@ -51,7 +52,7 @@ fn best_rate<R: Clock + Threads + Wait + Sync>(
     Some(best)
 }
 
-// Prints a measurement, also as a share of what one thread takes.
+// Prints a measurement, and its percentage of the rate of one thread.
 fn report<R: Eprint>(rt: &R, asked: Asked, threads: u32, rate: u128, alone: u128) {
     let word = asked.word();
     let share = rate.saturating_mul(100).checked_div(alone).unwrap_or(0);

@@ -13,36 +13,37 @@ use std::alloc::Global;
 use std::io;
 use std::sync::Wait;
 
-// How many calls the first run has.
+// The number of calls of the first run.
 const CALLS: u32 = 9;
 
-// How many calls the long run has, and how many entries its room takes.
+// The number of calls of the long run, and the limit of its room.
 const MANY: u32 = 3000;
 
 const LIMIT: u32 = 2999;
 
-/// Shows what runs are answered: a redo at once and then a redo that cannot be, what rooms are answered that begin with
-/// the map of that room, and thousands of calls.
+/// Shows the replies to a redo that succeeds and a redo that cannot be done, those of rooms that begin with that room's
+/// map, and the replies to thousands of calls.
 pub fn show<R: Print + Wait>(rt: &R, alloc: Global) -> io::Result<()> {
     show_each(rt, alloc, 0)?;
     show_many(rt, alloc)
 }
 
-/// Shows each reply to a few calls, and the room then; and rooms that begin with its map. The call of one place is left
-/// out: places 1 to 9 are in the first run, 10 to 12 in the second, which begins with a map; 0 is no place.
+/// Shows each reply to a few calls, and the room after them; then rooms that begin with its map. The call at position
+/// `without` is left out. Positions 1 to 9 are in the first run, and 10 to 12 in the second run, which begins with the
+/// map. No call has position 0.
 pub fn show_each<R: Print + Wait>(rt: &R, alloc: Global, without: u32) -> io::Result<()> {
     let (room, replies) = ran(alloc, 9, calls(alloc, without)?)?;
     show_replies(rt, &room, &replies)?;
     bases::show(rt, alloc, &room, without)
 }
 
-// Shows how many replies to many calls are right, and the room then.
+// Shows how many replies to many calls are right, and the room after them.
 fn show_many<R: Print>(rt: &R, alloc: Global) -> io::Result<()> {
     let (room, replies) = ran(alloc, LIMIT, creations(alloc)?)?;
     show_count(rt, &room, &replies)
 }
 
-// A run.
+// Runs a room.
 fn ran(
     alloc: Global,
     limit: u32,
@@ -68,8 +69,7 @@ fn show_count<R: Print>(rt: &R, room: &Room<Global>, replies: &Replies<Global>) 
     show_room(rt, room)
 }
 
-/// Prints how many entries a room has, how many changes were applied to its map, and how many elements there are, these
-/// by its rows.
+/// Prints the entry count of a room, the count of changes applied to its map, and the number of its rows.
 pub fn show_room<R: Print>(rt: &R, room: &Room<Global>) -> io::Result<()> {
     let elements = count_elements(room)?;
     println!(rt;
@@ -94,7 +94,8 @@ fn calls(alloc: Global, without: u32) -> io::Result<Calls<Global>> {
     Ok(Calls::from_vec(calls))
 }
 
-// The call of a place: Anna creates node -5, takes it back and does it again, and Carl moves it and can do so no more.
+// Returns the call at a position. Anna creates node -5, and undoes and redoes this. Carl moves the node and undoes the
+// move. Anna undoes her redo, so Carl cannot redo the move. His last call repeats an id.
 fn call_at(alloc: Global, place: u32) -> io::Result<Call<Global>> {
     let anna = author("anna")?;
     let carl = author("carl")?;
@@ -111,7 +112,7 @@ fn call_at(alloc: Global, place: u32) -> io::Result<Call<Global>> {
     })
 }
 
-// To move node -5 by one ten-millionth of a degree to the north.
+// Returns a move of node -5 by one ten-millionth of a degree to the north.
 fn movement(alloc: Global) -> io::Result<Request<Global>> {
     let mut names = Vec::new(alloc);
     names.push(node(-5)?)?;
@@ -123,7 +124,7 @@ fn movement(alloc: Global) -> io::Result<Request<Global>> {
     })))
 }
 
-// Creates of an author with the longest name that there is.
+// Returns creates of an author with a name of the greatest length.
 fn creations(alloc: Global) -> io::Result<Calls<Global>> {
     let author = author("a_name_of_thirty_two_characters0")?;
     let mut calls = Vec::new(alloc);
@@ -133,7 +134,7 @@ fn creations(alloc: Global) -> io::Result<Calls<Global>> {
     Ok(Calls::from_vec(calls))
 }
 
-// How many replies are those of creates in a room that takes so many entries.
+// Returns how many replies are right for creates in a room with this limit.
 fn right_replies(replies: &Replies<Global>) -> usize {
     replies
         .as_slice()

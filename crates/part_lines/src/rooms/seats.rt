@@ -1,4 +1,4 @@
-//! Rooms with several seats, on one thread and on two.
+//! Rooms with several seats, on one thread and on two threads.
 ghost use Rattle.std.specs.Prelude.{◌≡◌};
 ghost use Rattle.turn_desk.specs.Desk.{IsAt};
 
@@ -15,17 +15,17 @@ use std::sync::Wait;
 use std::thread::Threads;
 use turn_desk::{Desk, Seat};
 
-// How many nodes each of two threads creates.
+// The number of nodes that each of two threads creates.
 const EACH: u32 = 100;
 
-/// Shows what seats are told: by the turns of another, by those of two authors, and after those of two threads.
+/// Shows what seats see: after a turn of another seat, in turns of two authors, and after the turns of two threads.
 pub fn show<R: Print + Threads + Wait + Sync>(rt: &R, alloc: Global) -> io::Result<()> {
     show_to_all(rt, alloc)?;
     show_two_authors(rt, alloc)?;
     show_two_threads(rt, alloc)
 }
 
-// Prints what a call in a turn is answered.
+// Prints the reply to a call in a turn.
 fn show_turn<R: Print + Wait>(
     rt: &R,
     desk: &Desk<Room<Global>, Global>,
@@ -41,7 +41,7 @@ fn show_turn<R: Print + Wait>(
     }
 }
 
-// Prints how many entries there are, and the name of each row.
+// Prints the entry count, and the name of each row.
 fn show_rows<R: Print>(rt: &R, front: u64, rows: &Rows<Global>) -> io::Result<()> {
     println!(rt; "entries {front}")?;
     for row in rows.as_slice() {
@@ -50,7 +50,7 @@ fn show_rows<R: Print>(rt: &R, front: u64, rows: &Rows<Global>) -> io::Result<()
     Ok(())
 }
 
-// A turn at one seat is seen at two others.
+// A turn at one seat is seen at two other seats.
 fn show_to_all<R: Print + Wait>(rt: &R, alloc: Global) -> io::Result<()> {
     let (desk, first) = Desk::open(alloc, Room::open(alloc, 9))?;
     let (first, mut second) = desk.split(first);
@@ -58,7 +58,8 @@ fn show_to_all<R: Print + Wait>(rt: &R, alloc: Global) -> io::Result<()> {
     take_and_look(rt, alloc, &desk, &mut first, &mut second, &mut third)
 }
 
-// Creates a node in a turn at one seat, looks at another how many entries there are, and asks for the rows at a third.
+// Creates a node in a turn at one seat, looks at the entry count at a second seat, and asks for the rows at a third
+// seat.
 fn take_and_look<R: Print + Wait>(
     rt: &R,
     alloc: Global,
@@ -77,14 +78,14 @@ fn take_and_look<R: Print + Wait>(
     show_turn(rt, desk, third, RoomCall::Rows)
 }
 
-// The worked example of a redo at once, each author at a seat.
+// The worked example of an immediate redo, with a seat for each author.
 fn show_two_authors<R: Print + Wait>(rt: &R, alloc: Global) -> io::Result<()> {
     let (desk, seat) = Desk::open(alloc, Room::open(alloc, 9))?;
     let (mut hers, mut his) = desk.split(seat);
     redo_at_once(rt, alloc, &desk, &mut hers, &mut his)
 }
 
-// Anna creates a node, and Bob another; she takes hers back, and does it again.
+// Anna creates a node, and Bob creates another. Anna undoes her own and redoes it.
 fn redo_at_once<R: Print + Wait>(
     rt: &R,
     alloc: Global,
@@ -105,7 +106,7 @@ fn redo_at_once<R: Print + Wait>(
     println!(rt; "front {}", desk.front(his))
 }
 
-// Two threads create nodes, each at a seat of its own; the room that is left has all of them.
+// Two threads create nodes, each at its own seat. The room has all the nodes at the end.
 fn show_two_threads<R: Print + Threads + Wait + Sync>(rt: &R, alloc: Global) -> io::Result<()> {
     let room = shared(rt, alloc, Asked::Create, 2, EACH)?;
     show_room(rt, &room)

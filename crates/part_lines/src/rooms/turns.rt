@@ -1,4 +1,4 @@
-//! Turns that threads take at one room.
+//! Turns of threads at one room.
 ghost use Rattle.std.specs.Prelude.{◌≡◌, ◌≤◌, ◌<◌, ◌+◌, ◌*◌, ◌^◌};
 ghost use Rattle.turn_desk.specs.Desk.{IsAt};
 
@@ -14,20 +14,20 @@ use std::thread::{Threads, join};
 use std::time::{Clock, Instant};
 use turn_desk::{Desk, Seat};
 
-// How many threads take turns at most.
+// The most threads that take turns.
 const MOST_THREADS: u32 = 8;
 
-/// What a room is asked in each turn.
+/// The kind of call in each turn.
 #[derive(Clone, Copy)]
 pub enum Asked {
-    /// For a node that is not there.
+    /// A request for a node that does not exist.
     Get,
-    /// To create a node.
+    /// A create of a node.
     Create,
 }
 
 impl Asked {
-    /// The word for it.
+    /// Returns the word for the kind of call.
     pub fn word(self) -> &'static str {
         match self {
             Asked::Get => "get",
@@ -36,7 +36,7 @@ impl Asked {
     }
 }
 
-// What a thread asks in its turns, how many it takes, and which thread it is, counted from 0.
+// The work of a thread: the kind of its calls, the number of its turns, and the number of the thread, counted from 0.
 #[derive(Clone, Copy)]
 struct Work {
     alloc: Global,
@@ -47,7 +47,7 @@ struct Work {
 }
 
 impl Work {
-    // The same of the next thread.
+    // Returns the same work for the next thread.
     fn next(&self) -> Work {
         Work {
             thread: self.thread.wrapping_add(1),
@@ -55,7 +55,7 @@ impl Work {
         }
     }
 
-    // What is asked in the turn of this number. Nodes and ids are each thread's own.
+    // Returns the call in the turn with this number. Each thread has nodes and ids of its own.
     fn call(&self, turn: u32) -> Option<RoomCall<Global>> {
         let id = id_of(turn, self.thread);
         let name = Name::new(Kind::Node, i64::try_from(id).ok()?)?;
@@ -69,13 +69,13 @@ impl Work {
     }
 }
 
-// The id of a thread's turn, which no other turn of the threads has, and which is not 0.
+// Returns the id of a thread's turn. It is not 0, and no other turn of the threads has it.
 fn id_of(turn: u32, thread: u32) -> u64 {
     u64::from(turn) * u64::from(MOST_THREADS) + u64::from(thread) + 1
 }
 
-/// How many turns a second so many threads take, 1 to 8, from before their room is opened until it is closed; none
-/// without memory or a clock, or for another number.
+/// Returns the turns that 1 to 8 threads take in a second, measured from before their room is opened until it is
+/// closed. Returns `None` if an allocation or the clock fails, or for another number of threads.
 pub fn rate<R: Clock + Threads + Wait + Sync>(
     rt: &R,
     alloc: Global,
@@ -92,7 +92,7 @@ pub fn rate<R: Clock + Threads + Wait + Sync>(
     (taken * 1_000_000_000).checked_div(time?.as_nanos())
 }
 
-/// The room that so many threads leave which take so many turns each. There are 1 to 8 threads.
+/// Returns the room after the turns of 1 to 8 threads, `turns` each.
 pub fn shared<R: Threads + Wait + Sync>(
     rt: &R,
     alloc: Global,
@@ -115,7 +115,7 @@ pub fn shared<R: Threads + Wait + Sync>(
     Ok(desk.close(rt, seat))
 }
 
-// Takes the turns of a thread and so many others, each at a seat of its own.
+// Takes the turns of `others` + 1 threads, each at a seat of its own.
 fn in_threads<R: Threads + Wait + Sync>(
     rt: &R,
     desk: &Desk<Room<Global>, Global>,

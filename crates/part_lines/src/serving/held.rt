@@ -1,23 +1,23 @@
-//! A gate that holds one message back until another was answered.
+//! A gate that delays a message until another message was answered.
 use room_socket::Gate;
 use std::sync::Wait;
 use std::sync::atomic::{AtomicBool, Ordering};
 use std::thread;
 use std::time::{Clock, Duration};
 
-// How often it is looked whether the other message was answered, and how long it is waited in between, in milliseconds.
+// The most looks at whether the other message was answered, and the milliseconds between two looks.
 const LOOKS: u32 = 10_000;
 
 const PAUSE_MILLIS: u64 = 1;
 
-/// Holds the third message of session 1 back until the second one of session 2 was answered, or ten seconds are over.
+/// Delays the third message of session 1 until the second message of session 2 was answered, or for ten seconds.
 #[derive(Drop)]
 pub struct Held {
     is_answered: AtomicBool,
 }
 
 impl Held {
-    /// The gate, before any message.
+    /// Returns the gate, before any message.
     pub fn new() -> Held {
         Held {
             is_answered: AtomicBool::new(false),

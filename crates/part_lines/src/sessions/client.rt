@@ -1,4 +1,4 @@
-//! What comes from a client, and what goes out to it.
+//! The events of a client, and what goes out to it.
 ghost use Rattle.room_session.specs.Rooms.{KeepsKnown};
 ghost use Rattle.room_session.specs.Running.{IsRunOn};
 ghost use Rattle.room_server.specs.Tables.{known_of};
@@ -11,7 +11,7 @@ use std::alloc::Global;
 use std::io;
 use std::sync::Wait;
 
-/// Hands the session that a line is for what the line says, and prints what goes out for it.
+/// Gives the event of a line to its client's session, and prints what goes out.
 #[tactic(auto, using(room_session::specs::Facts::Running::still_runs))]
 pub fn hear_line<R: Print + Wait>(
     rt: &R,
@@ -33,7 +33,7 @@ pub fn hear_line<R: Print + Wait>(
     }
 }
 
-// Hands a session what comes from its client, and prints what goes out for it.
+// Gives an event to a session, and prints what goes out.
 fn hear<R: Print + Wait>(
     rt: &R,
     alloc: Global,

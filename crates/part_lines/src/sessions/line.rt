@@ -1,20 +1,20 @@
-//! Lines: whose they are, and what comes from this client.
+//! Reading the lines of sessions.
 
-/// Who says something.
+/// The client of a line.
 #[derive(Clone, Copy)]
 pub enum Client {
     Anna,
     Bob,
 }
 
-/// What comes from a client.
+/// An event of a client.
 #[derive(Clone, Copy)]
 pub enum Event<'a> {
-    /// A new connection in the place of the one before.
+    /// A new connection, which replaces the earlier one.
     Connect,
     /// Nothing for a while.
     Quiet,
-    /// A message that is no text.
+    /// A message that is not a text.
     Binary,
     /// The end of the connection.
     Close,
@@ -22,7 +22,7 @@ pub enum Event<'a> {
     Text(&'a str),
 }
 
-/// What a line says, or none where it names no client.
+/// Reads a line, or returns `None` if it names no client.
 pub fn read(line: &str) -> Option<(Client, Event<'_>)> {
     let (name, event) = line.split_once(' ')?;
     Some((client_of(name)?, event_of(event)))

@@ -1,4 +1,4 @@
--- Lists that rise: what is among them after a value came or went, and that they rise still.
+-- Rising lists: their values after an addition or a removal, and that they still rise.
 use Rattle.std.proofs.Common.{◌≡◌, ◌||◌, ◌&&◌, Bool, true, false, not, cond, T, List, [], ◌∷◌, map, Some, None, is_some, refl, sym, ap, subst, ◌∙◌}
 use Rattle.std.specs.List.{filter}
 use Rattle.std.specs.Cmp.{IsTotalOrder, alike_right, eq_by_cmp_equiv}
@@ -54,7 +54,7 @@ module _ {X : Type 0} (cmp : X → X → Ordering) where
   pub IsRising-but : (x : X) (xs : List X) → IsRising cmp xs → IsRising cmp (but cmp x xs)
   IsRising-but x = IsRising-filter (λ y. not (is_eq (cmp x y)))
 
-  -- which values are among those that pass a test, where it passes equal ones alike
+  -- the values that a filter keeps, if equal values pass alike
   pub is_among-passing : (p : X → Bool) (xs : List X) (q : X) → ((y : X) → cmp q y ≡ Equal → p y ≡ p q) → is_among cmp (filter p xs) q ≡ (p q && is_among cmp xs q)
   is_among-passing p xs q alike =
       among_is (filter p xs) q ∙ ap (λ rows. is_some (find cmp q rows)) (bare_rows-filter p xs) ∙ ap is_some (find-where_key cmp p q alike (bare_rows xs)) ∙ by (p q)
@@ -75,13 +75,13 @@ module _ {X : Type 0} (cmp : X → X → Ordering) where
         by true = refl
         by false = sym (among_is xs q)
 
-    -- which values are among those but x
+    -- the values of a list without x
     pub is_among-but : (x : X) (xs : List X) (q : X) → is_among cmp (but cmp x xs) q ≡ (not (is_eq (cmp q x)) && is_among cmp xs q)
     is_among-but x xs q =
         is_among-passing (λ y. not (is_eq (cmp x y))) xs q (λ y e. ap (λ o. not (is_eq o)) (sym (alike_right total q y x e)))
         ∙ ap (λ b. not b && is_among cmp xs q) ((eq_by_cmp_equiv total).symm x q)
 
-    -- rising lists with the same values are equal, where only the same are equal
+    -- rising lists with the same values are equal, if only identical values compare as equal
     pub same_rising : IsAntisymmetric cmp → (xs ys : List X) → IsRising cmp xs → IsRising cmp ys → ((q : X) → is_among cmp xs q ≡ is_among cmp ys q) → xs ≡ ys
     same_rising same xs ys g h is =
         let e = same_entries cmp total same (bare_rows xs) (bare_rows ys) g h (λ q. find-bare_rows xs q ∙ ap (λ b. cond b (Some tt) None) (is q) ∙ sym (find-bare_rows ys q)) in

@@ -1,4 +1,4 @@
--- Lists after the row of one key was written anew, or taken out.
+-- Lists after the row of one key is replaced or removed.
 use Rattle.std.proofs.Common.{Result, Ok, Err, OnOk, OnErr, ◌≡◌, ◌&&◌, ◌||◌, Bool, true, false, not, cond, T, List, [], ◌∷◌, Option, Some, None, is_some, unwrap_or, refl, sym, ap, subst, ◌∙◌}
 use Rattle.std.specs.List.{filter}
 use Rattle.std.specs.Map.{lookup, set_value, remove_entry}
@@ -21,7 +21,7 @@ same_choice Less a b c d e = refl
 same_choice Equal a b c d e = refl
 same_choice Greater a b c d e = e
 
--- the words of `BTreeMap` and those of `FinMap`
+-- the look-up of `BTreeMap` is that of `FinMap`
 module _ {K X : Type 0} (order : K → K → Ordering) where
   lookup_is_find : (k : K) (rows : List (K × X)) → lookup (is_at (order k)) rows ≡ find order k rows
   lookup_is_find k [] = refl
@@ -52,7 +52,7 @@ module _ {K X : Type 0} (order : K → K → Ordering) where
         by Equal p i = sym (without_below k rs (below_equal order total k r.0 rs p (first _ _ h)))
         by Greater p i = ap (λ l. r ∷ l) i
 
-    -- a value written over that of a key that is there
+    -- replacing the value of a key that is there is a put
     set_is_put : (k : K) (w v : X) (rows : List (K × X)) → T (is_sorted order rows) → find order k rows ≡ Some v → set_value (is_at (order k)) rows w ≡ put order k w rows
     set_is_put k w v [] h found = absurd (some_none v (sym found))
     set_is_put k w v (r ∷ rs) h found = by (order k r.0) refl found (set_is_put k w v rs (second _ _ h))
@@ -63,7 +63,7 @@ module _ {K X : Type 0} (order : K → K → Ordering) where
         by Equal p f i = refl
         by Greater p f i = ap (λ l. r ∷ l) (i f)
 
--- what was looked up in lists
+-- the values that a look-up in lists finds
 module _ {K V : Type 0} {order : K → K → Ordering} {by_value : V → V → Ordering} {lists : Table K V} (kept : AreLists order by_value lists) (k : K) (o : Option (List V)) (was : o ≡ lookup (is_at (order k)) lists) where
   pub values_found : unwrap_or o [] ≡ listed order lists k
   values_found = sym (ap (λ r. unwrap_or r []) (found_row order lists k o was))
@@ -74,7 +74,7 @@ module _ {K V : Type 0} {order : K → K → Ordering} {by_value : V → V → O
   pub filled_found : has_none_at o ≡ false
   filled_found = sym (ap has_none_at (found_row order lists k o was)) ∙ kept.none_empty k
 
--- the lists have a row at one key in the place of an old one, and at each other key what they had
+-- at one key the new row replaces the old row, and each other key has the same row as before
 pub record Rewritten {K V : Type 0} (order : K → K → Ordering) (before after : Table K V) (k : K) (old new : Option (List V)) : Type 0 where
   pub was : find order k before ≡ old
   pub in_order : T (is_sorted order after)
@@ -89,17 +89,17 @@ module _ {K V : Type 0} {order : K → K → Ordering} (total : IsTotalOrder ord
   }
 
   module _ {by_value : V → V → Ordering} {before : Table K V} (kept : AreLists order by_value before) (k : K) where
-    -- a list that was changed where it stands
+    -- a list that was changed in place
     pub changed : {after : Table K V} {v : List V} (w : List V) → Some v ≡ lookup (is_at (order k)) before → after ≡ set_value (is_at (order k)) before w → Rewritten order before after k (Some v) (Some w)
     changed {after} {v} w was set =
         let found = found_row order before k (Some v) was in
         by_put before after k (Some v) w kept.in_order found (set ∙ set_is_put order total k w v before kept.in_order found)
 
-    -- a first list
+    -- a first list for a key
     pub begun : {after : Table K V} (w : List V) → None ≡ lookup (is_at (order k)) before → after ≡ insert_entry order before k w → Rewritten order before after k None (Some w)
     begun {after} w was set = by_put before after k None w kept.in_order (found_row order before k None was) (set ∙ insert_is_put order k w before)
 
-    -- no list, before and after
+    -- a key without a list before and after
     pub untouched : None ≡ lookup (is_at (order k)) before → Rewritten order before before k None None
     untouched was = record { was = none; in_order = kept.in_order; at = λ q. by q (is_eq (order q k)) refl }
       where
@@ -111,7 +111,7 @@ module _ {K V : Type 0} {order : K → K → Ordering} (total : IsTotalOrder ord
         by q false f = refl
 
   module _ {before middle : Table K V} {k : K} {o w : Option (List V)} (row : Rewritten order before middle k o w) where
-    -- a list that was changed and then taken out
+    -- a list that was changed and then removed
     pub ended : {after : Table K V} → after ≡ remove_entry (is_at (order k)) middle → Rewritten order before after k o None
     ended {after} gone =
         let same = gone ∙ remove_is_without order total k middle row.in_order in
@@ -129,7 +129,7 @@ module _ {K V : Type 0} {order : K → K → Ordering} (total : IsTotalOrder ord
         by q false = refl
 
   module _ {before after : Table K V} {k : K} {o w : Option (List V)} (row : Rewritten order before after k o w) where
-    -- what was at a key that is equal to k
+    -- the row before, at a key that is equal to k
     was_at : (q : K) → is_eq (order q k) ≡ true → find order q before ≡ o
     was_at q f = sym (find_tied order total q k (equal _ f) before) ∙ row.was
 
@@ -198,13 +198,13 @@ pub none_is : {V : Type 0} (values : List V) → has_none values ≡ true → va
 none_is [] e = refl
 none_is (y ∷ ys) e = absurd (cc)
 
--- what putting a value in leaves of a list, whether it succeeds or not
+-- after adding a value, whether it succeeds or not, a list rises and is not empty
 pub add_keeps : {X E V : Type 0} (r : Result X E) (by_value : V → V → Ordering) → IsTotalOrder by_value → (x : V) (v w : List V) → OnOk r (w ≡ with_value by_value x v) → OnErr r (w ≡ v)
     → IsRising by_value v → has_none v ≡ false → IsRising by_value w × (has_none w ≡ false)
 add_keeps (Ok y) by_value total x v w ok err rises some = (subst (IsRising by_value) (sym ok) (IsRising-with_value by_value total x v rises), ap has_none ok ∙ filled_with_value by_value x v)
 add_keeps (Err e) by_value total x v w ok err rises some = (subst (IsRising by_value) (sym err) rises, ap has_none err ∙ some)
 
--- what an insert of a first list leaves, whether it succeeds or not
+-- after inserting a first list, whether it succeeds or not, the lists keep their conditions
 pub first_keeps : {X E K V : Type 0} (r : Result X E) {order : K → K → Ordering} → IsTotalOrder order → {by_value : V → V → Ordering} {before after : Table K V} (k : K) (w : List V) → IsRising by_value w
     → has_none w ≡ false → AreLists order by_value before → None ≡ lookup (is_at (order k)) before → OnOk r (after ≡ insert_entry order before k w) → OnErr r (after ≡ before) → AreLists order by_value after
 first_keeps (Ok y) total k w rises some h was ok err = keeps_lists total (begun total h k w was ok) h rises some

@@ -1,4 +1,4 @@
--- A binary search in a rising list finds where a value stands, or where it would go.
+-- A binary search in a rising list finds the position of a value, or the position where it would be inserted.
 use Prim.Native.Nat.{zero}
 use Rattle.std.proofs.Common.{◌≡◌, ℕ, suc, ◌<◌, ◌≤◌, ◌&&◌, ◌||◌, not, cond, T, List, [], ◌∷◌, length, get_or, Result, Ok, Err, is_ok, refl, sym, ap, subst, ◌∙◌, arith}
 use Rattle.std.specs.List.{AllWithin, HoldsAt, insert, remove}
@@ -16,11 +16,11 @@ abbrev pub gap_at : ℕ → Result ℕ ℕ
 gap_at i = Err i
 
 module _ {X : Type 0} (cmp : X → X → Ordering) (total : IsTotalOrder cmp) where
-  -- values compared the other way round
+  -- the comparison of two values, reversed
   turned : (x y : X) (o : Ordering) → cmp x y ≡ o → cmp y x ≡ ordering_reverse o
   turned x y o e = total.antisymm y x ∙ ap ordering_reverse e
 
-  -- a lesser value compares with a third no higher than a greater one
+  -- a lesser value compares with z no higher than a greater value does
   rises : (x y z : X) → cmp x y ≡ Less → ordering_index (cmp x z) ≤ ordering_index (cmp y z)
   rises x y z low = by (cmp y z) refl
     where
@@ -107,7 +107,7 @@ module _ {X : Type 0} (cmp : X → X → Ordering) (total : IsTotalOrder cmp) wh
       pub out_in_gap : (i : ℕ) → i ≤ length xs → IsBinarySearchResult (λ y. cmp y x) xs (gap_at i) → but cmp x xs ≡ xs
       out_in_gap i within gap = let parts = gap (rising x xs h) in gap_out xs i within parts.0 parts.1
 
-      -- what a search tells of whether a value is there
+      -- a search finds a value if and only if the list contains it
       pub search_tells : (r : Result ℕ ℕ) → IsSearchInRange r (length xs) → IsBinarySearchResult (λ y. cmp y x) xs r → is_ok r ≡ is_among cmp xs x
       search_tells (Ok i) within here =
           sym (ap (λ values. is_among cmp values x) (sym (put_where_found xs i h within here)) ∙ is_among-with_value cmp total x xs x ∙ ap (λ o. is_eq o || is_among cmp xs x) (tied_itself total x))

@@ -29,12 +29,12 @@ pub equal : (o : Ordering) → is_eq o ≡ true → o ≡ Equal
 equal o e = (Equal-is o).0 e
 
 module _ {K X : Type 0} (order : K → K → Ordering) where
-  -- a key below all rows is not among them
+  -- a key below all rows has no row
   pub find_below : (k : K) (rows : List (K × X)) → T (below_all order k rows) → find order k rows ≡ None
   find_below k [] h = refl
   find_below k (r ∷ rs) h = ap (λ o. cond (is_eq o) (Some r.1) (find order k rs)) (less _ (first _ _ h)) ∙ find_below k rs (second _ _ h)
 
-  -- the rows that pass a test
+  -- a filter keeps the order of rows
   below_filter : (p : K × X → Bool) (k : K) (rows : List (K × X)) → T (below_all order k rows) → T (below_all order k (filter p rows))
   below_filter p k [] h = tt
   below_filter p k (r ∷ rs) h = by (p r) (below_filter p k rs (second _ _ h))
@@ -55,7 +55,7 @@ module _ {K X : Type 0} (order : K → K → Ordering) where
   below_map f k [] h = tt
   below_map f k (r ∷ rs) h = both _ _ (first _ _ h) (below_map f k rs (second _ _ h))
 
-  -- rows with other values
+  -- rows with other values keep their order
   pub is_sorted-map : {Y : Type 0} (f : X → Y) (rows : List (K × X)) → T (is_sorted order rows) → T (is_sorted order (map (λ r. (r.0, f r.1)) rows))
   is_sorted-map f [] h = tt
   is_sorted-map f (r ∷ rs) h = both _ _ (below_map f r.0 rs (first _ _ h)) (is_sorted-map f rs (second _ _ h))
@@ -64,7 +64,7 @@ module _ {K X : Type 0} (order : K → K → Ordering) where
     pub find_first : (r : K × X) (rs : List (K × X)) → find order r.0 (r ∷ rs) ≡ Some r.1
     find_first r rs = ap (λ o. cond (is_eq o) (Some r.1) (find order r.0 rs)) (tied_itself total r.0)
 
-    -- a key that is less than one, or equal to it, is below all that are above that one
+    -- a key that is less than or equal to another key is below all rows that are above that key
     pub below_less : (x y : K) (rows : List (K × X)) → order x y ≡ Less → T (below_all order y rows) → T (below_all order x rows)
     below_less x y [] p h = tt
     below_less x y (r ∷ rs) p h = both _ _ (subst (λ o. T (is_lt o)) (sym (total.trans x y r.0 p (less _ (first _ _ h)))) tt) (below_less x y rs p (second _ _ h))
@@ -73,6 +73,6 @@ module _ {K X : Type 0} (order : K → K → Ordering) where
     below_equal x y [] p h = tt
     below_equal x y (r ∷ rs) p h = both _ _ (subst (λ o. T (is_lt o)) (sym (total.congr x y r.0 p)) (first _ _ h)) (below_equal x y rs p (second _ _ h))
 
-    -- the key of the first row is not among the others
+    -- the key of the first row has no later row
     pub not_behind : (k : K) (r : K × X) (rs : List (K × X)) → T (is_sorted order (r ∷ rs)) → is_eq (order k r.0) ≡ true → find order k rs ≡ None
     not_behind k r rs h e = find_below k rs (below_equal k r.0 rs (equal _ e) (first _ _ h))

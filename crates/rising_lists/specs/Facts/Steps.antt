@@ -55,7 +55,7 @@ module _ {K V : Type 0} (order : K → K → Ordering) (by_value : V → V → O
       by true b c d e = e
       by false b c d e = refl
 
-  -- What was gained is lost again.
+  -- removing the added values restores the lists
   pub back : (failed : Table K V) → Lacks order by_value before keys x → Gains order by_value before middle keys x → SameLists order by_value middle failed → Loses order by_value failed after keys x
       → SameLists order by_value before after
   back failed lacks gains same loses q v =

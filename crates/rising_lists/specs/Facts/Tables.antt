@@ -1,4 +1,4 @@
--- Tables whose keys rise and have values: each is known by the values that its keys have.
+-- Tables whose keys rise and have values. The values of all keys determine such a table.
 use Rattle.std.proofs.Common.{◌≡◌, Bool, true, false, not, cond, T, List, [], ◌∷◌, map, Option, Some, None, unwrap_or, refl, sym, ap, ◌∙◌}
 use Rattle.std.specs.List.{filter, list_all}
 use Rattle.std.specs.Ordering.{is_eq}
@@ -11,7 +11,7 @@ use Rattle.rising_lists.specs.Facts.Rising.{same_rising}
 use Rattle.rising_lists.specs.Lists.{AreLists, SameLists, Table, has_none, has_none_at, listed}
 use Rattle.rising_lists.specs.Facts.Sorted.{both, first, second, find_first, is_sorted-filter, is_sorted-map, not_behind}
 
--- a list, if it has any value
+-- a list if it is not empty, otherwise none
 abbrev if_any : {V : Type 0} → List V → Option (List V)
 if_any [] = None
 if_any (x ∷ xs) = Some (x ∷ xs)
@@ -24,7 +24,7 @@ module _ {K V : Type 0} (order : K → K → Ordering) where
   abbrev has_values : Table K V → Bool
   has_values t = list_all (λ r. not (has_none r.1)) t
 
-  -- the keys rise, and each has a value
+  -- the keys rise, and each key has a value
   abbrev pub IsTable : Table K V → Type 0
   IsTable t = T (is_sorted order t) × T (has_values t)
 
@@ -45,7 +45,7 @@ module _ {K V : Type 0} (order : K → K → Ordering) where
       by Equal i = both _ _ n (second _ _ h)
       by Greater i = both _ _ (first _ _ h) i
 
-  -- the rows that have a value once each list is changed
+  -- the rows that still have a value after each list is changed
   module _ (f : List V → List V) (keeps_none : f [] ≡ []) where
     abbrev kept : Table K V → Table K V
     kept t = filter (λ r. not (has_none r.1)) (map (λ r. (r.0, f r.1)) t)
@@ -59,7 +59,7 @@ module _ {K V : Type 0} (order : K → K → Ordering) where
         by (x ∷ xs) i = i
 
   module _ (total : IsTotalOrder order) where
-    -- tables of which each key has the same values are equal
+    -- tables in which each key has the same values are equal
     pub same_tables : IsAntisymmetric order → (t u : Table K V) → IsTable t → IsTable u → ((k : K) → listed order t k ≡ listed order u k) → t ≡ u
     same_tables same t u g h is =
         same_entries order total same t u g.0 h.0 (λ k. find_is_if_any t k g.1 ∙ ap if_any (is k) ∙ sym (find_is_if_any u k h.1))
@@ -92,7 +92,7 @@ module _ {K V : Type 0} (order : K → K → Ordering) where
       pub IsTable-kept : (t : Table K V) → T (is_sorted order t) → IsTable (kept f keeps_none t)
       IsTable-kept t h = (is_sorted-filter order (λ r. not (has_none r.1)) (map (λ r. (r.0, f r.1)) t) (is_sorted-map order f t h), has_values-kept f keeps_none t)
 
-    -- lists are such a table
+    -- the lists of a multimap are such a table
     all_have : (lists : Table K V) → T (is_sorted order lists) → ((k : K) → has_none_at (find order k lists) ≡ false) → T (has_values lists)
     all_have [] h some = tt
     all_have (r ∷ lists) h some =
@@ -109,7 +109,7 @@ module _ {K V : Type 0} (order : K → K → Ordering) where
     pub IsTable-lists : {by_value : V → V → Ordering} (lists : Table K V) → AreLists order by_value lists → IsTable lists
     IsTable-lists lists kept = (kept.in_order, all_have lists kept.in_order kept.none_empty)
 
-    -- and equal to others of which each key has the same values
+    -- multimaps in which each key has the same values are equal
     pub same_lists : IsAntisymmetric order → {by_value : V → V → Ordering} → IsTotalOrder by_value → IsAntisymmetric by_value → (one other : Table K V) → AreLists order by_value one → AreLists order by_value other
         → SameLists order by_value one other → other ≡ one
     same_lists same {by_value} values_total values_same one other kept kept' is =

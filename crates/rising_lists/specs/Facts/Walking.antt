@@ -1,4 +1,4 @@
--- A walk over two rising lists that keeps what of the first is not among the second.
+-- A walk over two rising lists that keeps the values of the first that are not in the second.
 use Prim.Native.Nat.{zero}
 use Rattle.std.proofs.Common.{◌≡◌, ℕ, suc, ◌+◌, ◌<◌, ◌≤◌, ◌||◌, ◌++◌, not, cond, false, T, List, [], ◌∷◌, length, get_or, drop, refl, sym, ap, subst, ◌∙◌, add-one, arith, append_assoc}
 use Rattle.std.proofs.Math.Seq.{drop-cons}
@@ -19,7 +19,7 @@ module _ {X : Type 0} (cmp : X → X → Ordering) where
   IsRising-drop (suc i) [] h = h
   IsRising-drop (suc i) (x ∷ xs) h = IsRising-drop i xs (second _ _ h)
 
-  -- what is left of a list from a place on
+  -- the rest of a list from a position on
   left_from : (xs : List X) (i : ℕ) (x : X) → i < length xs → x ≡ get_or xs i x → drop i xs ≡ x ∷ drop (i + 1) xs
   left_from xs i x within is = drop-cons xs i x within ∙ ap (λ y. y ∷ drop (suc i) xs) (sym is) ∙ ap (λ j. x ∷ drop j xs) (sym (add-one i))
 
@@ -33,7 +33,7 @@ module _ {X : Type 0} (cmp : X → X → Ordering) where
   but_none [] = refl
   but_none (x ∷ xs) = ap (λ l. x ∷ l) (but_none xs)
 
-  -- where one list is walked to its end, what is left of the first is kept
+  -- at the end of either list, the rest of the first is kept
   pub first_at_end : (xs ys : List X) (i j : ℕ) → length xs ≤ i → but_all cmp (drop i xs) (drop j ys) ≡ drop i xs
   first_at_end xs ys i j h = ap (λ l. but_all cmp l (drop j ys)) (all_passed xs i h) ∙ sym (all_passed xs i h)
 
@@ -44,12 +44,12 @@ module _ {X : Type 0} (cmp : X → X → Ordering) where
     turned : (x y : X) (o : Ordering) → cmp x y ≡ o → cmp y x ≡ ordering_reverse o
     turned x y o e = total.antisymm y x ∙ ap ordering_reverse e
 
-    -- a value below a list is not among it
+    -- a value below a rising list is not in it
     none_above : (x : X) (ys : List X) → T (below_all cmp x (bare_rows ys)) → is_among cmp ys x ≡ false
     none_above x [] h = refl
     none_above x (y ∷ ys) h = ap (λ o. is_eq o || is_among cmp ys x) (less _ (first _ _ h)) ∙ none_above x ys (second _ _ h)
 
-    -- and takes nothing out of it
+    -- so such a value removes nothing from the list
     takes_none : (y : X) (xs ys : List X) → T (below_all cmp y (bare_rows xs)) → but_all cmp xs (y ∷ ys) ≡ but_all cmp xs ys
     takes_none y [] ys h = refl
     takes_none y (x ∷ xs) ys h =

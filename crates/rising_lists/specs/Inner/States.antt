@@ -1,4 +1,4 @@
--- What a rising list is.
+-- The values of a list, by its representation.
 use Rattle.std.specs.Prelude.{List, [], ◌∷◌}
 use Rattle.rising_lists.specs.declared.list.State.{State}
 use Rattle.rising_lists.specs.declared.list.State.TheVariants.{Many, Nothing, One}

@@ -1,4 +1,4 @@
--- A journal as what its authors did.
+-- The deeds of a journal's authors.
 use Rattle.std.specs.Prelude.{◌≡◌, ⊤, ℕ, true, List, Some}
 use Rattle.room_stacks.specs.declared.author.Author.{Author}
 use Rattle.room_stacks.specs.declared.deed.Deed.{Deed}
@@ -10,7 +10,7 @@ use Rattle.room_history.specs.declared.entry.EntryKind.{EntryKind}
 use Rattle.room_history.specs.declared.entry.EntryKind.TheVariants.{Do, Undo, Redo}
 
 module _ {A : Type 0} where
-  -- what an author did under an id, by the entry of a number
+  -- the deed of an entry of this kind
   abbrev pub deed_by : ℕ → Author → ℕ → EntryKind A → Deed
   deed_by seq author id (Do a) = Did author id seq
   deed_by seq author id (Undo s) = Undid author id s seq
@@ -22,8 +22,8 @@ module _ {A : Type 0} where
   abbrev pub deeds : List (Entry A) → List Deed
   deeds j = deeds_from deed 1 j
 
-  -- an author may do so after what was done: an undo is of an entry of its own that stands, a redo of the one on top of
-  -- its stack
+  -- the author may record an entry of this kind: an undo must be of an active entry of its own, and a redo of the top
+  -- of its redo stack
   abbrev pub MayNote : List Deed → Author → EntryKind A → Type 0
   MayNote ds author (Do a) = ⊤
   MayNote ds author (Undo s) = is_standing ds author s ≡ true

@@ -9,7 +9,7 @@ use Rattle.room_history.specs.Journals.{is_standing}
 use Rattle.room_history.specs.Replays.{Past}
 
 module _ {A : Type 0} where
-  -- the holders of what stands are those of the entries, and the footprints rise
+  -- the holders are those of the active entries, and the footprints rise
   pub record AreHolders (p : Past A) (j : List (Entry A)) (holders : Held) : Type 0 where
     pub rising : (s : ℕ) → is_standing j s ≡ true → IsRising (recorded_footprint p s)
     pub holders_are : holders ≡ holders_of (held p j)

@@ -1,4 +1,4 @@
--- What is kept of an effect.
+-- The effects that a room keeps.
 use Rattle.std.specs.Prelude.{[], ◌∷◌, None}
 use Rattle.osm_changes.specs.Changes.{row_changes}
 use Rattle.room_history.specs.declared.kept.ChangedRow.{ChangedRow}
@@ -7,7 +7,7 @@ use Rattle.room_history.specs.declared.kept.Form.{Form}
 use Rattle.room_history.specs.declared.kept.Form.TheVariants.{Row, Whole}
 
 module _ {A : Type 0} where
-  -- the effect that is of one row
+  -- the effect of one changed row
   abbrev pub effect_of_row : ChangedRow A → Effect A
   effect_of_row r = record {
     changes = row_changes r.name r.before r.after;

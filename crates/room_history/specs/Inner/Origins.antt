@@ -1,5 +1,5 @@
--- Where the action of an entry was first done: an entry that does one, or an undo, is its own origin, and a redo has
--- the origin of the entry that it names.
+-- The origin of an entry is the entry that stores its action. A redo has the origin of the entry that it names, and any
+-- other entry is its own origin.
 use Rattle.std.specs.Prelude.{◌+◌, ◌++◌, ℕ, List, [], ◌∷◌, Option, Some, None, length, unwrap_or}
 use Rattle.std.specs.List.{fold}
 use Rattle.edit_groups.specs.declared.edit.Edit.{Edit as Action}
@@ -9,7 +9,7 @@ use Rattle.room_history.specs.declared.entry.EntryKind.TheVariants.{Do, Undo, Re
 use Rattle.room_history.specs.Journals.{numbered}
 
 module _ {A : Type 0} where
-  -- the action that an entry does itself
+  -- the action that an entry of this kind stores
   abbrev pub own_action : EntryKind A → Option (Action A)
   own_action (Do a) = Some a
   own_action (Undo s) = None
@@ -19,7 +19,7 @@ module _ {A : Type 0} where
   done_by None = None
   done_by (Some e) = own_action e.kind
 
-  -- the origin of the next entry, from those of the entries before it
+  -- the origin of the next entry, from the origins of the earlier entries
   abbrev pub origin_next : List ℕ → EntryKind A → ℕ
   origin_next os (Do a) = length os + 1
   origin_next os (Undo s) = length os + 1

@@ -1,4 +1,4 @@
--- The reply that a plan's refusal becomes.
+-- The reply for the refusal of a plan.
 use Rattle.std.specs.Prelude.{ℕ, Option}
 use Rattle.edit_simple.specs.declared.refusal.Refusal.{Refusal}
 use Rattle.edit_simple.specs.declared.refusal.Refusal.TheVariants as refusals
@@ -6,7 +6,7 @@ use Rattle.edit_groups.specs.declared.refusal.EditRefusal.{EditRefusal}
 use Rattle.room_history.specs.declared.reply.Reply.{Reply}
 use Rattle.room_history.specs.declared.reply.Reply.TheVariants.{Refused, Memory}
 
--- out of memory is a reply of its own, which has no position
+-- `Memory` is a reply of its own, without a position
 abbrev pub refused_by : {A : Type 0} → Option ℕ → Refusal A → Reply A
 refused_by at refusals.Memory = Memory
 refused_by at why = Refused (record { action = at; why = why })

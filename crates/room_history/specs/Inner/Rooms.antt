@@ -1,4 +1,4 @@
--- What a room holds beside its journal.
+-- The state that a room holds in addition to its journal.
 use Rattle.std.specs.Prelude.{◌≡◌, ◌<◌, ℕ, true, List, Some, None, length}
 use Rattle.osm_changes.specs.Sound.{is_sound}
 use Rattle.osm_changes.specs.Stores.{StoreState}
@@ -22,8 +22,8 @@ use Rattle.room_history.specs.Inner.Holders.{AreHolders}
 use Rattle.room_history.specs.Inner.Origins.{origins}
 
 module _ {A : Type 0} where
-  -- the base is sound, and the journal one that calls lead to; the store, what is kept of what each entry changed,
-  -- where the actions are, the holders of what stands and the deeds are those of its entries
+  -- the base is sound, and calls lead to the journal from it; the store, the kept effects, the origins, the holders and
+  -- the deeds are those of the journal
   pub record IsRoom (store : StoreState A) (recorded : List (Effect A)) (firsts : List ℕ) (holders : Held)
       (done : List Deed) (base : Rows A) (limit : ℕ) (j : List (Entry A)) : Type 0 where
     pub base_sound : is_sound base ≡ true
@@ -39,8 +39,7 @@ module _ {A : Type 0} where
   abbrev pub MayAppend : ℕ → List (Entry A) → Author → ℕ → Type 0
   MayAppend limit j author id = (spent j author id ≡ None) × (length j < limit)
 
-  -- an entry does an action whose values are as their types keep them, or does again the one that its author can redo
-  -- next; an undo does none
+  -- the entry does an action with made values, or redoes the author's next entry to redo; it is not an undo
   abbrev pub MayWork : List (Entry A) → Author → EntryKind A → Type 0
   MayWork j author (Do a) = is_made_action a ≡ true
   MayWork j author (Undo s) = ⊥

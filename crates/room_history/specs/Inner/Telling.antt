@@ -1,4 +1,4 @@
--- What a room keeps of what its entries changed, and the news as it tells them by that.
+-- The effects that a room keeps of its entries, and the news computed from them.
 use Rattle.std.specs.Prelude.{◌+◌, ℕ, Bool, true, false, List, [], ◌∷◌, Option, Some, None, map}
 use Rattle.std.specs.Bool.{then_some}
 use Rattle.osm_elements.specs.Maps.{Rows}
@@ -21,42 +21,42 @@ module _ {A : Type 0} where
   is_group (Some (One a)) = false
   is_group (Some (Group g)) = true
 
-  -- the footprint, if a group has it; that of one action follows from the action and its changes
+  -- the footprint of a group; that of one action is not kept, because it follows from the action and its changes
   abbrev pub group_cells : Option (Edit A) → List Cell → Option (List Cell)
   group_cells o cells = then_some (is_group o) cells
 
-  -- the footprint of an edit with its changes, and with the footprint that was kept of a group
+  -- the footprint of an edit, from its changes, or as it was kept for a group
   abbrev pub footprint_by : Edit A → Option (List Cell) → List (Change A) → List Cell
   footprint_by (One a) kept cs = footprint_of a cs
   footprint_by (Group g) None cs = []
   footprint_by (Group g) (Some cells) cs = cells
 
-  -- changes that are no group's, with the rows after them
+  -- the effect of changes that are not a group's, with the rows after them
   abbrev pub single_effect : Rows A → List (Change A) → Effect A
   single_effect m cs = record { changes = cs; rows = rows_after m cs; group = None }
 
-  -- what an entry changed, with the rows after it
+  -- the effect of an entry, with the rows after it
   abbrev pub effect_of : Rows A → Recorded A → Effect A
   effect_of m r = record { changes = r.changes; rows = rows_after m r.changes; group = group_cells r.action r.footprint }
 
-  -- entries in their order, each with the rows after it
+  -- the effects of entries in order
   abbrev pub kept_from : Rows A → List (Recorded A) → List (Effect A)
   kept_from m [] = []
   kept_from m (r ∷ rs) = effect_of m r ∷ kept_from (changed m r.changes) rs
 
-  -- what is kept of each entry
+  -- the effect of each entry of a journal
   abbrev pub kept : Rows A → List (Entry A) → List (Effect A)
   kept base j = kept_from base (past base j).entries
 
-  -- a row as news tell it
+  -- a row in the form of news
   abbrev pub told_row : RowAfter A → NewsRow A
   told_row r = record { name = r.name; element = r.element }
 
-  -- the news of an entry under its number
+  -- the news of the entry with the number n
   abbrev pub told_of : ℕ → Entry A → Effect A → News A
   told_of n e k = record { seq = n; author = e.author; rows = map told_row k.rows }
 
-  -- the news of entries numbered from n on, each with what is kept of it
+  -- the news of entries numbered from n on, from their kept effects
   abbrev pub told_from : ℕ → List (Entry A) → List (Effect A) → List (News A)
   told_from n [] ks = []
   told_from n (e ∷ es) [] = []

@@ -1,4 +1,4 @@
--- The choice of what an undo takes back.
+-- The choice of the entry to undo.
 use Rattle.std.specs.Prelude.{ℕ, not, List, [], ◌∷◌, Option, Some, None, is_none, Result, Ok, Err}
 use Rattle.std.specs.Bool.{then_some}
 use Rattle.edit_simple.specs.Checks.{first_that_holds}
@@ -8,7 +8,7 @@ use Rattle.room_history.specs.declared.reply.Reply.{Reply}
 use Rattle.room_history.specs.declared.reply.Reply.TheVariants.{NothingToUndo, NoSuch, NotYours, NotStanding}
 use Rattle.room_history.specs.Journals.{is_by, is_standing, numbered}
 
--- an entry that can be undone, or the refusal
+-- the entry s, or its refusal
 abbrev pub undone_or : {A : Type 0} → ℕ → Option (Reply A) → Result ℕ (Reply A)
 undone_or s None = Ok s
 undone_or s (Some r) = Err r
@@ -17,7 +17,7 @@ abbrev pub asked_or : {A : Type 0} → (ℕ → Option (Reply A)) → Option ℕ
 asked_or refused None = Err NothingToUndo
 asked_or refused (Some s) = undone_or s (refused s)
 
--- why an entry is none that an author did and that stands, by the first check that holds
+-- the refusal of an entry that is not an active entry of the author: the first check that holds
 abbrev pub standing_refusal : {A : Type 0} → List (Entry A) → Author → ℕ → Option (Reply A)
 standing_refusal j author s = first_that_holds (
     then_some (is_none (numbered j s)) NoSuch

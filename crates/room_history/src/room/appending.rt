@@ -1,4 +1,4 @@
-//! How a room's journal grows: by the entry of an action, or of an undo.
+//! Appends entries to a room's journal.
 ghost use Rattle.std.specs.Prelude.{◌≡◌, ◌+◌, List, None, true, length, IfOk, OnErr};
 ghost use Rattle.osm_changes.specs.declared.change.Change.{Change};
 ghost use Rattle.osm_changes.specs.Changes.{differences, changed, inverse, AreChanges, AreFrom};
@@ -27,10 +27,9 @@ impl<A: Allocator + Copy> Room<A> {
     ghost use Rattle.room_history.specs.Inner.Rooms.{MayAppend, MayWork};
     ghost use Rattle.room_history.specs.Inner.Telling.{is_group};
 
-    // Appends the entry of an action that is not refused, done for the first time or again, with what it changes and
-    // touches now, and answers its number. All memory is taken before the store changes: room in the three lists and in
-    // the stacks, what is kept, the footprint among the holders; and `Store::apply_told` takes its own before its first
-    // change.
+    // Appends the entry of an accepted edit, done or redone, with its changes and its footprint on the current map, and
+    // returns its number. All allocations come before the first change of the store: those for the lists, the stacks,
+    // the kept effect and the holders, and those of `Store::apply_told`.
     pub(super) fn append_work(
         &mut self,
         author: Author,
@@ -83,7 +82,7 @@ impl<A: Allocator + Copy> Room<A> {
         Ok(seq)
     }
 
-    // Whether an entry of this kind, as the next one, does a group.
+    // Whether the next entry, if it is of this kind, does a group.
     fn does_group(&self, kind: &EntryKind<A>) -> bool
         ensures { result ≡ is_group (recorded_next (past self.now.base self.now.journal) kind.now).action }
     {
@@ -97,7 +96,7 @@ impl<A: Allocator + Copy> Room<A> {
         }
     }
 
-    // Appends the undo of an entry that nothing blocks, which takes back what that changed, and answers its number.
+    // Appends the undo of an entry that nothing blocks, takes back the entry's changes, and returns the undo's number.
     pub(super) fn append_undo(
         &mut self,
         author: Author,
@@ -151,7 +150,7 @@ impl<A: Allocator + Copy> Room<A> {
     }
 }
 
-// What holds of changes that are taken back. It does nothing.
+// Proves facts about changes and their inverses. It does nothing.
 fn leads_back<A: Allocator>()
     ensures differ { (m n : Rows A) → AreChanges (differences m n) }
     ensures from { (m n : Rows A) → AreFrom m (differences m n) }

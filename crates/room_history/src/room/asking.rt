@@ -1,4 +1,4 @@
-//! What a room is asked, calls and queries alike.
+//! Calls and queries of a room.
 ghost use Rattle.std.specs.Prelude.{◌≡◌, length, IfOk};
 
 use crate::ask::{RoomCall, RoomReply, Undoable};
@@ -17,9 +17,10 @@ impl<A: Allocator + Copy> Room<A> {
     ghost use Rattle.room_history.specs.Journals.{undos, redos};
     ghost use Rattle.room_history.specs.Replays.{mapof};
 
-    /// Answers what the room is asked, in the form of what it was asked: a call as [`Room::take`] does, a query with
-    /// copies of what the map holds. Where a growth was refused the reply tells it, and the room is as it was.
-    /// `replay`, where nobody waits, makes the answer to a query from what the room lends, and does not ask this.
+    /// Runs a call as [`Room::take`] does, or replies to a query with copies of the map's content.
+    ///
+    /// If an allocation fails, the reply says so, and the room is unchanged. `replay` does not use this function for
+    /// queries: it reads the room directly, because no other client waits for the room.
     pub fn ask(&mut self, call: RoomCall<A>) -> RoomReply<A>
         ensures answer { IsAnswered self.old.base self.old.limit self.old.journal call result self.new.journal }
         ensures base { self.new.base ≡ self.old.base }
@@ -34,7 +35,7 @@ impl<A: Allocator + Copy> Room<A> {
         }
     }
 
-    // A copy of the element of a name, or none.
+    // Returns a copy of the element of a name, or `None`.
     fn copy_of(&self, name: &Name) -> Result<Option<Element<A>>, Memory>
         ensures { IfOk result (λ found. found ≡ row_at (mapof self.now.base self.now.journal) name.now) }
     {
@@ -44,14 +45,14 @@ impl<A: Allocator + Copy> Room<A> {
         }
     }
 
-    // How many entries the journal has, and copies of the rows.
+    // Returns the entry count of the journal, and copies of the rows.
     fn front_and_rows(&self) -> Result<(u64, Rows<A>), Memory>
         ensures { IfOk result (λ rows. rows ≡ (length self.now.journal, mapof self.now.base self.now.journal)) }
     {
         Ok((self.front(), self.map_rows()?))
     }
 
-    // Copies of the numbers of an author's entries that stand, and of those that it can redo.
+    // Returns copies of the numbers of an author's active entries, and of the entries that it can redo.
     fn undoable_by(&self, author: &Author) -> Result<Undoable<A>, Memory>
         ensures { IfOk result (λ lists. lists ≡ record {
           undos = undos self.now.journal author.now;

@@ -1,5 +1,5 @@
--- Rows replaced where there is room: first each name that is absent gets an empty relation, and then each row is
--- replaced or taken out, which takes no memory.
+-- Replacing rows of a map: first each absent name gets an empty relation, and then each row is replaced or removed,
+-- which needs no memory.
 use Rattle.std.specs.Prelude.{◌≡◌, true, List, [], None}
 use Rattle.std.specs.List.{filter}
 use Rattle.osm_elements.specs.declared.element.Element.TheVariants.{Relation}
@@ -8,7 +8,7 @@ use Rattle.osm_elements.specs.Maps.{Rows, is_absent, is_among, is_present}
 use Rattle.osm_elements.specs.Rows.{put_row, row_at}
 
 module _ {A : Type 0} where
-  -- the map with an empty relation of this name
+  -- the map with an empty relation under the name x
   abbrev pub with_empty : Rows A → Name → Rows A
   with_empty m x = put_row m x (Relation [] [])
 

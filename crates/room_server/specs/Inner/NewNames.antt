@@ -1,4 +1,4 @@
--- Whether a name can be added to those of a table.
+-- Whether a name can be added to the names of a table.
 use Rattle.std.specs.Prelude.{◌≡◌, ℕ, Bool, true, List, Some, None}
 use Rattle.std.specs.List.{list_any}
 use Rattle.room_stacks.specs.Authors.{author_of}
@@ -6,11 +6,11 @@ use Rattle.room_stacks.specs.SameAuthors.{is_same_author}
 use Rattle.room_server.specs.declared.table.TableFault.{TableFault}
 use Rattle.room_server.specs.declared.table.TableFault.TheVariants.{BadName, Twice, Unsound, Memory}
 
--- one of the names is this one
+-- the list has this name
 abbrev pub contains_name : List (List ℕ) → List ℕ → Bool
 contains_name names name = list_any (is_same_author name) names
 
--- the text at a position is refused, after these names
+-- the text at a position is refused, because it is not a name or is one of the earlier names
 abbrev pub IsRefused : List (List ℕ) → List ℕ → ℕ → TableFault → Type 0
 IsRefused names text position (BadName at) = (at ≡ position) × (author_of text ≡ None)
 IsRefused names text position (Twice at) =

@@ -6,7 +6,7 @@ use Rattle.turn_desk.specs.Desk.{IsAt, IsFirst}
 use Rattle.room_server.specs.Openings.{opening}
 use Rattle.room_server.specs.Tables.{DeskView, SeatView}
 
--- so many rooms begin with this map, and the seats are the first of their desks
+-- this number of rooms begin with this map, and the seats are the first seats of their desks
 pub record AreOpened (base : Rows Global) (limit count : ℕ) (desks : List DeskView) (seats : List SeatView)
     : Type 0 where
   pub many : length desks ≡ count

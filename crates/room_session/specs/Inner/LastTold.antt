@@ -1,9 +1,9 @@
--- How far news tell.
+-- The number of the last news.
 use Rattle.std.specs.Prelude.{ℕ, List, [], ◌∷◌}
 use Rattle.std.specs.declared.alloc.Global.{Global}
 use Rattle.room_history.specs.declared.news.News.{News}
 
--- the number of the last news, or the number before them where there are none
+-- the number of the last news, or `before` if there are no news
 abbrev pub last_told : ℕ → List (News Global) → ℕ
 last_told before [] = before
 last_told before (n ∷ rest) = last_told n.seq rest

@@ -1,12 +1,12 @@
--- News that were told.
+-- News appended to texts.
 use Rattle.std.specs.Prelude.{◌≡◌, ◌⊎◌, ◌++◌, ℕ, List, length}
 use Rattle.room_history.specs.News.{news}
 use Rattle.room_session.specs.Events.{AsksForNews, FindsNoNews}
 use Rattle.room_session.specs.NewsTexts.{news_texts}
 use Rattle.room_session.specs.Rooms.{Known, IsJournalOf}
 
--- after the texts come the news of all that is then seen of the room, which is a legal journal, past what was told; and
--- the number is its length
+-- The texts are followed by the news of all entries after `told`, up to the last one seen of the room. What has been
+-- seen is a legal journal, whose length is the number.
 abbrev pub Tells : Known → ℕ → ℕ → List (List ℕ) → List (List ℕ) → ℕ → Known → Type 0
 Tells before room told texts all front after =
     let opening = (before.at room).opening in

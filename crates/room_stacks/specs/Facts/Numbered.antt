@@ -1,4 +1,4 @@
--- Deeds of a journal's entries, which are numbered in their order.
+-- The deeds of a journal's entries, which are numbered in order.
 use Prim.Native.Nat.{suc}
 use Rattle.std.proofs.Common.{◌≡◌, ◌+◌, ◌<◌, ◌≤◌, ◌&&◌, ◌||◌, ℕ, Bool, true, false, not, cond, List, [], ◌∷◌, ◌++◌, length, map, Option, Some, None, nat_lt, slice_get, refl, sym, ap, subst, ◌∙◌, arith}
 use Rattle.std.proofs.lemmas.Bool.Decides.{nat_tests}
@@ -44,14 +44,14 @@ position-cons p x xs = by (p x)
         ∙ over (nat_lt (position_or_len p xs) (length xs))
 
 module _ {E : Type 0} (deed : ℕ → E → Deed) (is_number : (n : ℕ) (e : E) → number (deed n e) ≡ n) where
-  -- one more entry is one more deed
+  -- one more entry gives one more deed
   pub deeds_from-push : (n : ℕ) (es : List E) (e : E) → deeds_from deed n (es ++ e ∷ []) ≡ deeds_from deed n es ++ deed (length es + n) e ∷ []
   deeds_from-push n [] e = ap (λ k. deed k e ∷ []) (omega arith)
   deeds_from-push n (x ∷ es) e =
       let same : length es + (n + 1) ≡ length (x ∷ es) + n = omega arith in
       ap (λ ds. deed n x ∷ ds) (deeds_from-push (n + 1) es e ∙ ap (λ k. deeds_from deed (n + 1) es ++ deed k e ∷ []) same)
 
-  -- the next number is above those of all entries
+  -- the next number is greater than those of all entries
   pub above_entries : (n : ℕ) (es : List E) → IsAboveAll (length es + n) (deeds_from deed n es)
   above_entries n [] = All-nil (λ d. number d < 0 + n)
   above_entries n (e ∷ es) =
@@ -60,7 +60,7 @@ module _ {E : Type 0} (deed : ℕ → E → Deed) (is_number : (n : ℕ) (e : E)
       All-cons (λ d. number d < length (e ∷ es) + n) (deed n e) (deeds_from deed (n + 1) es) (omega (arith, first))
       (subst (λ k. IsAboveAll k (deeds_from deed (n + 1) es)) same (above_entries (n + 1) es))
 
-  -- an id is spent by the first entry that spent it
+  -- the first entry that spent an id is the one that `spent` finds
   module _ (author : Author) (id : ℕ) (test : E → Bool) (spends_is : (n : ℕ) (e : E) → spends author id (deed n e) ≡ test e) where
     found : (n : ℕ) (es : List E) → spent (deeds_from deed n es) author id ≡ option_map (λ i. i + n) (position test es)
     found n [] = refl
@@ -89,17 +89,17 @@ module _ {E : Type 0} (deed : ℕ → E → Deed) (is_number : (n : ℕ) (e : E)
       All-cons (λ m. n ≤ m) (number (deed n e)) (map number (deeds_from deed (n + 1) es)) (omega (arith, first))
       (All-weaker (λ m. n + 1 ≤ m) (λ m. n ≤ m) (λ m h. omega (arith, h)) (map number (deeds_from deed (n + 1) es)) (numbers_from (n + 1) es))
 
-  -- `is_own` says that an entry did an action of the author, and `undid` that it undid a number
+  -- `is_own` tests that an entry did an action of the author, and `undid` that it undid a number
   module _ (author : Author) (is_own : E → Bool) (own_is : (n : ℕ) (e : E) → is_work_of author (deed n e) ≡ is_own e)
       (undid : ℕ → E → Bool) (undid_is : (s n : ℕ) (e : E) → undoes s (deed n e) ≡ (undid s e && nat_lt s n)) where
-    -- later entries undid just what they say
+    -- later entries undid exactly the entries that they name
     undone_later : (s n : ℕ) (es : List E) → s < n → list_any (undoes s) (deeds_from deed n es) ≡ list_any (undid s) es
     undone_later s n [] low = refl
     undone_later s n (e ∷ es) low =
         ap (λ b. b || list_any (undoes s) (deeds_from deed (n + 1) es)) (undid_is s n e ∙ ap (λ b. undid s e && b) (is_less s n low) ∙ and_true (undid s e))
         ∙ ap (λ b. undid s e || b) (undone_later s (n + 1) es (omega arith))
 
-    -- an entry undid nothing from its own number on
+    -- an entry undid no number from its own on
     none_of_later : (s n : ℕ) (e : E) → n ≤ s → undoes s (deed n e) ≡ false
     none_of_later s n e high = undid_is s n e ∙ ap (λ b. undid s e && b) (not_below s n high) ∙ and_false (undid s e)
 
@@ -133,7 +133,7 @@ module _ {E : Type 0} (deed : ℕ → E → Deed) (is_number : (n : ℕ) (e : E)
             ∙ ap (λ ns. cond (not (list_any (undid n) es)) (number (deed n e) ∷ ns) ns) (rest ∙ more)
             ∙ ap (λ k. cond (not (list_any (undid n) es)) (k ∷ kept_from is_own undid (n + 1) es) (kept_from is_own undid (n + 1) es)) (is_number n e)
 
-  -- an author's stack of what it can redo, by a step for each of its own entries
+  -- an author's redo stack, by a step for each of its own entries
   pub redo_entries : (author : Author) (own : E → Bool) → ((n : ℕ) (e : E) → is_same_author author (doer (deed n e)) ≡ own e)
       → (step : List ℕ → E → List ℕ) → ((stack : List ℕ) (n : ℕ) (e : E) → redo_after stack (deed n e) ≡ step stack e)
       → (n : ℕ) (es : List E) → redo (deeds_from deed n es) author ≡ fold step [] (filter own es)
@@ -151,8 +151,8 @@ module _ {E : Type 0} (deed : ℕ → E → Deed) (is_number : (n : ℕ) (e : E)
           by true more = more (redo_after stack (deed n e)) ∙ ap (λ k. fold step k (filter own es)) (step_is stack n e)
           by false more = more stack
 
--- of a journal's entries that stand, those that are an author's own. `stands_from` lists those that stand, and `own`
--- tests a number
+-- the active entries of a journal that are an author's own; `stands_from` lists the active entries, and `own` tests a
+-- number
 module _ {E : Type 0} (did : E → Bool) (by_author : E → Bool) (undid : ℕ → E → Bool) (stands_from : ℕ → List E → List ℕ) (none : (n : ℕ) → stands_from n [] ≡ [])
     (more : (n : ℕ) (e : E) (later : List E) → stands_from n (e ∷ later) ≡ cond (did e && not (list_any (undid n) later)) (n ∷ stands_from (n + 1) later) (stands_from (n + 1) later))
     (own : ℕ → Bool) where

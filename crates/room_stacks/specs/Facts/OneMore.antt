@@ -1,4 +1,4 @@
--- What one more deed changes.
+-- The changes that one more deed makes.
 use Rattle.std.proofs.Common.{◌≡◌, ◌&&◌, ◌||◌, ◌<◌, ℕ, Bool, true, false, not, cond, List, [], ◌∷◌, ◌++◌, map, nat_eq, nat_lt, refl, sym, ap, ◌∙◌, arith}
 use Rattle.std.proofs.lemmas.Bool.Decides.{nat_tests}
 use Rattle.std.proofs.lemmas.List.{map-append, append-nil}
@@ -16,11 +16,11 @@ use Rattle.room_stacks.specs.Inner.Lists.{IsRising, without}
 use Rattle.room_stacks.specs.Facts.Rising.{below_numbers, All-passing, among_filter, none_of_others, without_none}
 use Rattle.room_stacks.specs.Facts.SameAuthors.{one_author}
 
--- the author's deed that did an action
+-- the deed did an action, and is the author's
 abbrev pub is_work_of : Author → Deed → Bool
 is_work_of q d = is_work d && is_same_author q (doer d)
 
--- nobody undid the deed of this number
+-- nobody undid the deed with this number
 abbrev pub stands : List Deed → ℕ → Bool
 stands ds s = not (list_any (undoes s) ds)
 
@@ -63,7 +63,7 @@ filter_twice a b (x ∷ xs) = by (a x) (b x) refl (filter_twice a b xs)
     by false true is rest = rw is rest
     by false false is rest = rw is (ap (λ ys. x ∷ ys) rest)
 
--- nobody undid the latest
+-- nobody undid the latest deed
 latest : (seq : ℕ) (ds : List Deed) → IsAboveAll seq ds → list_any (undoes seq) ds ≡ false
 latest seq [] h = refl
 latest seq (Did author id n ∷ ds) h = latest seq ds (All-tail (λ d. number d < seq) (Did author id n) ds h)
@@ -78,7 +78,7 @@ module _ (ds : List Deed) (q : Author) where
   works-push : (d : Deed) → works (ds ++ d ∷ []) q ≡ works ds q ++ map number (filter (is_work_of q) (d ∷ []))
   works-push d = ap (map number) (filter-append (is_work_of q) ds (d ∷ [])) ∙ map-append number (filter (is_work_of q) ds) (filter (is_work_of q) (d ∷ []))
 
-  -- a deed that did an action stands for its author
+  -- a new deed that did an action is active for its author
   pub standing-work : (d : Deed) → is_work d ≡ true → ((s : ℕ) → undoes s d ≡ false) → IsAboveAll (number d) ds
       → standing (ds ++ d ∷ []) q ≡ cond (is_same_author q (doer d)) (standing ds q ++ number d ∷ []) (standing ds q)
   standing-work d work none h =
@@ -117,7 +117,7 @@ module _ (ds : List Deed) (q : Author) where
       by true = refl
       by false = refl
 
-  -- what stands for another author is none of this one's
+  -- an active entry of one author is not an active entry of another
   pub none_of_another : (author : Author) → is_same_author q author ≡ false → IsRising (map number ds) → (s : ℕ) → is_standing ds author s ≡ true → without s (standing ds q) ≡ standing ds q
   none_of_another author other h s stand =
       without_none s (standing ds q) (All-filter (stands ds) (λ t. nat_eq t s ≡ false) (works ds q)

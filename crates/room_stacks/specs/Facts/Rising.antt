@@ -1,4 +1,4 @@
--- Rising numbers, and those of the deeds that pass a test.
+-- Rising numbers, and the numbers of the deeds that pass a test.
 use Prim.Native.Nat.{zero, suc}
 use Rattle.std.proofs.Common.{◌≡◌, ◌||◌, ◌<◌, ℕ, Bool, true, false, cond, List, [], ◌∷◌, ◌++◌, map, nat_eq, not, get_or, ◌+◌, refl, ap, subst, ◌∙◌, arith}
 use Rattle.std.proofs.lemmas.Bool.Decides.{nat_tests}
@@ -21,7 +21,7 @@ IsRising-filter p (x ∷ xs) h = by (p x) (IsRising-filter p xs h.1)
     by true rest = (All-filter p (λ m. x < m) xs h.0, rest)
     by false rest = rest
 
--- each is below the next
+-- each number is below the next
 pub increasing : (xs : List ℕ) → IsRising xs → IsStrictlyIncreasing xs
 increasing [] h k within = absurd (omega arith)
 increasing (x ∷ xs) h zero within = h.0 0 0 (omega arith)
@@ -29,7 +29,7 @@ increasing (x ∷ xs) h (suc k) within =
     let same : suc (k + 1) ≡ suc k + 1 = omega arith in
     subst (λ j. get_or xs k 0 < get_or (x ∷ xs) j 0) same (increasing xs h.1 k (omega arith))
 
--- the numbers but one, which is not among them
+-- the numbers without x, if x is not among them
 module _ (x : ℕ) where
   pub keeps : (y : ℕ) (ys : List ℕ) → nat_eq y x ≡ false → without x (y ∷ ys) ≡ y ∷ without x ys
   keeps y ys e = ap (λ b. cond (not b) (y ∷ without x ys) (without x ys)) e
@@ -42,7 +42,7 @@ module _ (x : ℕ) where
   without_none (y ∷ ys) h =
       keeps y ys (All-head (λ z. nat_eq z x ≡ false) y ys h) ∙ ap (λ zs. y ∷ zs) (without_none ys (All-tail (λ z. nat_eq z x ≡ false) y ys h))
 
--- what holds of the numbers of all deeds holds of those of the deeds that pass
+-- a property of all deeds' numbers is a property of the passing deeds' numbers
 pub All-passing : (P : ℕ → Type 0) (p : Deed → Bool) (ds : List Deed) → All P (map number ds) → All P (map number (filter p ds))
 All-passing P p [] h = h
 All-passing P p (d ∷ ds) h = by (p d) (All-passing P p ds (All-tail P (number d) (map number ds) h))
@@ -66,7 +66,7 @@ among_rest : (a b : Bool) → (a || b) ≡ true → a ≡ false → b ≡ true
 among_rest true b h e = absurd (cc)
 among_rest false b h e = h
 
--- a number among those that stand is among the first
+-- a number among the selected numbers is among all numbers
 pub among_filter : (t p : ℕ → Bool) (xs : List ℕ) → list_any t (filter p xs) ≡ true → list_any t xs ≡ true
 among_filter t p [] h = h
 among_filter t p (x ∷ xs) h = by (p x) (t x) refl h (among_filter t p xs)
@@ -79,7 +79,7 @@ among_filter t p (x ∷ xs) h = by (p x) (t x) refl h (among_filter t p xs)
 below_same : (n x s : ℕ) → n < x → nat_eq x s ≡ true → n < s
 below_same n x s h e = grind (arith, nat_tests)
 
--- a number among some that are all above another is above it
+-- if all numbers are above n, each of them is above n
 above_among : (n s : ℕ) (xs : List ℕ) → All (λ m. n < m) xs → list_any (λ t. nat_eq t s) xs ≡ true → n < s
 above_among n s [] h among = absurd (cc)
 above_among n s (x ∷ xs) h among = by (nat_eq x s) refl (above_among n s xs (All-tail (λ m. n < m) x xs h))
@@ -97,8 +97,8 @@ same_or_not n s m e h = grind (arith, nat_tests)
 less_differs : (n s : ℕ) → n < s → nat_eq n s ≡ false
 less_differs n s h = grind (arith, nat_tests)
 
--- deeds of rising numbers: where no deed passes both tests, a number of one that passes the first is of none that
--- passes the second
+-- if the numbers of deeds rise and no deed passes both tests, no number belongs both to a deed that passes the first
+-- test and to a deed that passes the second
 module _ (p r : Deed → Bool) (never : (d : Deed) → p d ≡ true → r d ≡ true → ⊥) (s : ℕ) where
   pub none_of_others : (ds : List Deed) → IsRising (map number ds) → list_any (λ t. nat_eq t s) (map number (filter p ds)) ≡ true → All (λ t. nat_eq t s ≡ false) (map number (filter r ds))
   none_of_others [] h among = absurd (cc)
@@ -120,7 +120,7 @@ module _ (p r : Deed → Bool) (never : (d : Deed) → p d ≡ true → r d ≡ 
           All-cons P (number d) (map number (filter r ds)) (less_differs (number d) s (above_among (number d) s (map number (filter p ds)) (All-passing (λ k. number d < k) p ds h.0) m)) (more m)
       by false false e f m more = more m
 
--- after the deed of a number the next is above all
+-- after a deed with a number, the next number is above all
 pub IsAboveAll-push : (ds : List Deed) (d : Deed) → IsAboveAll (number d) ds → IsAboveAll (number d + 1) (ds ++ d ∷ [])
 IsAboveAll-push ds d h =
     All-push (λ e. number e < number d + 1) ds d (All-weaker (λ e. number e < number d) (λ e. number e < number d + 1) (λ e low. omega (arith, low)) ds h) (omega arith)

@@ -1,14 +1,14 @@
--- A name in 32 bytes, which come back from the name.
+-- A name padded to 32 bytes.
 use Rattle.std.proofs.Common.{◌≡◌, ◌≤◌, ◌++◌, ◌-◌, ℕ, true, List, length, take, drop, replicate, sym, ap, ◌∙◌, arith}
 use Rattle.std.proofs.lemmas.List.{take-append-drop, length-take-le}
 use Rattle.room_stacks.specs.Authors.{is_author}
 use Rattle.room_stacks.specs.declared.author.Author.TheInside.{Inside}
 
--- a name with zeros after it, 32 bytes in all
+-- a name, followed by zeros to 32 bytes
 abbrev pub padded_author : List ℕ → List ℕ
 padded_author text = text ++ replicate (32 - length text) 0
 
--- 32 bytes are a name of this length and zeros
+-- 32 bytes that are a name of this length, followed by zeros
 pub record IsPadded (bytes : List ℕ) (n : ℕ) : Type 0 where
   pub whole : length bytes ≡ 32
   pub fits : n ≤ 32

@@ -1,4 +1,4 @@
--- What authors may undo and redo, as the code keeps it.
+-- The entries that authors can undo and redo, as the code keeps them.
 use Rattle.std.specs.Prelude.{◌≡◌, ◌<◌, ℕ, Bool, true, false, not, cond, List, [], ◌∷◌, Option, Some, None, nat_eq, ⊤}
 use Rattle.std.specs.List.{All, filter}
 use Rattle.std.specs.Map.{lookup}
@@ -8,7 +8,7 @@ use Rattle.std.specs.Cmp.Lexicographic.{slice_cmp}
 use Rattle.room_stacks.specs.declared.author.Author.{Author}
 use Rattle.room_stacks.specs.SameAuthors.{is_same_author}
 
--- what stands, what can be redone, and whether there is room for one more of each
+-- the active entries, the redo stack, and whether each has capacity for one more number
 pub record Usable : Type 0 where
   pub standing : List ℕ
   pub redo : List ℕ
@@ -22,7 +22,7 @@ abbrev pub IsRising : List ℕ → Type 0
 IsRising [] = ⊤
 IsRising (n ∷ ns) = All (λ m. n < m) ns × IsRising ns
 
--- the numbers but one
+-- the numbers without s
 abbrev pub without : ℕ → List ℕ → List ℕ
 without s ns = filter (λ n. not (nat_eq n s)) ns
 
@@ -50,16 +50,16 @@ redo_at lists q = redo_of (usable_at lists q)
 abbrev pub has_room_at : Lists → Author → Bool
 has_room_at lists q = has_room_of (usable_at lists q)
 
--- each author has the stacks that it had
+-- each author has the same stacks before and after
 pub record SameStacks (before after : Lists) : Type 0 where
   pub standing : (q : Author) → standing_at after q ≡ standing_at before q
   pub redo : (q : Author) → redo_at after q ≡ redo_at before q
 
--- each author for whom there was room has it still
+-- each author with reserved memory before has it afterwards
 abbrev pub KeepsRooms : Lists → Lists → Type 0
 KeepsRooms before after = (q : Author) → has_room_at before q ≡ true → has_room_at after q ≡ true
 
--- one author has these stacks, and each other what it had
+-- one author has the given stacks, and the other authors have the same stacks as before
 pub record IsRewritten (before after : Lists) (author : Author) (standing redo : List ℕ) : Type 0 where
   pub standing_is : (q : Author) → standing_at after q ≡ cond (is_same_author q author) standing (standing_at before q)
   pub redo_is : (q : Author) → redo_at after q ≡ cond (is_same_author q author) redo (redo_at before q)

@@ -1,9 +1,9 @@
--- Names that rise, seen from one to the next.
+-- The order of two names that follow each other.
 use Rattle.std.specs.Prelude.{Bool}
 use Rattle.std.specs.Ordering.{is_lt}
 use Rattle.osm_elements.specs.declared.name.Name.{Name}
 use Rattle.osm_elements.specs.NameOrder.{name_cmp}
 
--- a name comes before another
+-- the first name comes before the second
 abbrev pub is_before : Name → Name → Bool
 is_before x y = is_lt (name_cmp x y)

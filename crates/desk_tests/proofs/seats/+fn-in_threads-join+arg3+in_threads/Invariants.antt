@@ -1,7 +1,7 @@
 use Rattle.std.proofs.Common.{◌+◌, ◌*◌}
 use Rattle.desk_tests.proofs.seats.+fn-in_threads-join+arg3+in_threads.Given as goal
 
--- the other threads that are left, each of which takes two calls: its own and the closure's
+-- the number of remaining threads; each takes two calls, its own and the closure's
 abbrev pub decreases-join+arg3 : goal.decreases-join+arg3
 decreases-join+arg3 g l = 2 * l.fewer + 1
 

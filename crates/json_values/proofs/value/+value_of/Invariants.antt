@@ -16,7 +16,7 @@ decreases-items_of l = 2 * l.depth + 1
 abbrev pub decreases-members_of : goal.decreases-members_of
 decreases-members_of l = 2 * l.depth + 1
 
--- The tokens at the beginning stand for the items found, and then for what the tokens that are left stand for.
+-- All tokens denote the items found so far, followed by the items that the remaining tokens denote.
 abbrev pub invariant-items_of-items : goal.invariant-items_of-items
 invariant-items_of-items l =
     (n : ℕ) × (length l.reader ≤ n)
@@ -26,7 +26,7 @@ invariant-items_of-items l =
 abbrev pub decreases-items_of-items : goal.decreases-items_of-items
 decreases-items_of-items l = length l.reader
 
--- The tokens at the beginning stand for what the tokens that are left stand for, put onto the members found.
+-- All tokens denote the members that the remaining tokens denote, added to the members found so far.
 abbrev pub invariant-members_of-members : goal.invariant-members_of-members
 invariant-members_of-members l =
     (n : ℕ) × (length l.reader ≤ n)

@@ -1,4 +1,4 @@
--- The line is that of the reader, and what it tells is what was read.
+-- The line is the reader's first, and the rows are those of the line.
 use Rattle.room_program.specs.Bases.{IsUnread}
 use Rattle.room_program.specs.Faults.{stream_fault}
 use Rattle.room_program.proofs.ReplayLemmas.{bad_rows, line_begins, line_unread, told_rows}

@@ -1,4 +1,4 @@
--- The line grows by what is read until a line feed comes.
+-- The line gets all bytes that are read, until a line feed is read.
 use Rattle.std.proofs.Common.{◌≡◌, ◌++◌, ◌∷◌, ◌||◌, ◌∙◌, ℕ, List, Bool, false, suc, add-one, ap, arith, subst, sym, take, append_assoc}
 use Rattle.std.specs.Io.KnownBytes.{Consumes}
 use Rattle.room_program.specs.Lines.{IsLine}
@@ -16,7 +16,7 @@ loop-used-init g c = record {
   gets = no_gets g.S.Source.gets c.args.reader.now;
 }
 
--- the line feed came
+-- the line feed was read
 pub returns-in-Some-clause-ok : goal.returns-in-Some-clause-ok
 returns-in-Some-clause-ok g c =
     let i = c.loop-used.invariant in
@@ -37,7 +37,7 @@ returns-in-Some-clause-ok g c =
       );
     }
 
--- it did not come yet
+-- the line feed was not read yet
 pub loop-used-preserved : goal.loop-used-preserved
 loop-used-preserved g c =
     let i = c.loop-used.invariant in

@@ -1,4 +1,4 @@
--- What is no text is no JSON.
+-- Bytes that are not UTF-8 are not JSON.
 use Rattle.std.proofs.Common.{◌≡◌, ◌⊎◌, Result, Ok, Err, sym, ap, subst, inl, inr, ◌∙◌}
 use Rattle.std.specs.Prelude.{MatchResult}
 use Rattle.room_wire.specs.declared.bad.Bad.{Bad}
@@ -12,7 +12,7 @@ use Rattle.room_program.proofs.base.welcome_of.Goals as goal
 abbrev IsSpelled : Result Welcome Bad → Result Welcome Bad → Type 0
 IsSpelled read r = MatchResult r (λ w. read ≡ Ok w) (λ bad. (bad.fault ≡ Memory) ⊎ (read ≡ Err bad))
 
--- the id under which want of memory is told is no matter
+-- if an allocation failed, the id of the result does not matter
 spelled_alike : (r read : Result Welcome Bad) → GivesUnder (λ w. w.id) r read → IsSpelled read r
 spelled_alike (Ok w) read is = is
 spelled_alike (Err bad) read (inl wanting) = inl wanting.0

@@ -1,4 +1,4 @@
--- Each turn answers the next line.
+-- Each iteration answers the next line.
 use Rattle.std.proofs.Common.{inr, arith}
 use Rattle.room_program.proofs.LineLemmas.{IsLine-append, after_shorter}
 use Rattle.room_program.proofs.RunLemmas.{front-next}

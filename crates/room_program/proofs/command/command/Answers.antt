@@ -1,4 +1,4 @@
--- What the words ask for was done, or an error's kind stands among those that they can be answered by.
+-- What the arguments ask for was done, or an error has one of the kinds that the arguments can lead to.
 use Rattle.std.proofs.Common.{◌≤◌, ℕ, inl, inr, refl, map, subst, sym}
 use Rattle.room_program.specs.CommandLine.{faults, is_mistake, is_request}
 use Rattle.room_program.proofs.AskedLemmas.{workers_number}

@@ -1,4 +1,4 @@
--- The fault that is told is the replay's.
+-- The fault that is reported is the replay's.
 use Rattle.std.proofs.Common.{refl, sym, ◌∙◌}
 use Rattle.room_program.proofs.CommandLemmas.{replay_done, replay_done_on, replay_failed, replay_failed_on}
 use Rattle.room_program.proofs.command.run.Goals as goal

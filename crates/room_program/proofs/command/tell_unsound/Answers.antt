@@ -1,4 +1,4 @@
--- Its three parts are told one after another, as far as the stream takes them.
+-- The three parts of the line are written in order, as far as the stream takes them.
 use Rattle.std.proofs.Common.{◌∷◌, ◌++◌, [], codes, refl, take}
 use Rattle.osm_elements.specs.NameTexts.{name_text}
 use Rattle.room_program.proofs.ServingLemmas.{told_no_more, told_then}

@@ -6,7 +6,7 @@ use Rattle.clap.specs.Matches.{found_of}
 use Rattle.clap.proofs.WalkLemmas.{first_value-rows}
 use Rattle.room_program.proofs.command_line.addr.Goals as goal
 
--- what stands behind the reference, or nothing
+-- the value of the reference, or nothing
 behind : (o : Option (Bor (List ℕ))) (none : Bor (List ℕ)) → none.now ≡ [] → (unwrap_or o none).now ≡ unwrap_or (option_map (λ s. s.now) o) []
 behind None none is = is
 behind (Some s) none is = refl

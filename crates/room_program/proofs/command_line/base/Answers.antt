@@ -1,4 +1,4 @@
--- The option was found where its first value is `true`.
+-- A base is asked for if the option's first value is `true`.
 use Rattle.std.proofs.Common.{◌≡◌, ◌∙◌, ap, refl, ℕ, List, [], Option, Some, None, codes}
 use Rattle.std.specs.Prelude.{option_map, unwrap_or}
 use Rattle.std.specs.Borrow.{Bor}
@@ -7,7 +7,7 @@ use Rattle.clap.specs.Matches.{found_of}
 use Rattle.clap.proofs.WalkLemmas.{first_value-rows}
 use Rattle.room_program.proofs.command_line.base.Goals as goal
 
--- what stands behind the reference, or nothing
+-- the value of the reference, or nothing
 behind : (o : Option (Bor (List ℕ))) (none : Bor (List ℕ)) → none.now ≡ [] → (unwrap_or o none).now ≡ unwrap_or (option_map (λ s. s.now) o) []
 behind None none is = is
 behind (Some s) none is = refl

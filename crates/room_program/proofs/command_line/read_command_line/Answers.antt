@@ -1,4 +1,4 @@
--- What clap's contract says of the matches, at the words.
+-- clap's contract on the matches, for these arguments.
 use Rattle.std.proofs.Common.{◌∙◌, ap, inl, inr, refl, sym, subst, true≢false, map, codes, is_some}
 use Rattle.clap.specs.Words.{app_of, found_of, rows_of}
 use Rattle.room_program.specs.CommandLine.{HasNumber, addr_in, base_in, number_in, rooms_in}

@@ -1,4 +1,4 @@
--- What a message asks for, or its fault.
+-- The answer to what a message asks for, or to its fault.
 use Rattle.std.proofs.Common.{ap, ◌∙◌}
 use Rattle.std.proofs.lemmas.Result.{IfOk-weaker}
 use Rattle.room_wire.specs.Asked.{answer_text}

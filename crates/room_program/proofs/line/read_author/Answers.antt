@@ -1,4 +1,4 @@
--- What is no text is no name.
+-- Bytes that are not UTF-8 are not a name.
 use Rattle.std.proofs.Common.{sym, ap, ◌∙◌}
 use Rattle.room_stacks.specs.Authors.{author_of}
 use Rattle.room_program.proofs.LineAnswerLemmas.{author_of-no_text}

@@ -1,4 +1,4 @@
--- What is no text is no JSON.
+-- Bytes that are not UTF-8 are not JSON.
 use Rattle.std.proofs.Common.{Result, Err, sym, ap, subst, inr, ◌∙◌}
 use Rattle.room_wire.specs.declared.bad.Bad.{Bad}
 use Rattle.room_wire.specs.declared.incoming.Incoming.{Incoming}

@@ -1,4 +1,4 @@
--- What was written before, and then the replies to some more lines.
+-- The replies to further lines are written after the earlier ones.
 use Rattle.std.proofs.Common.{List, ℕ, [], ◌++◌, sym, subst, append-nil}
 use Rattle.room_program.specs.Runs.{AnswersSome}
 use Rattle.room_program.proofs.BlockLemmas.{written-more, written-some}

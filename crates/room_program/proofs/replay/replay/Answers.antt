@@ -14,7 +14,7 @@ returns-in_err-block-clause-ran g c =
 pub returns-in_err-block-clause-calls : goal.returns-in_err-block-clause-calls
 returns-in_err-block-clause-calls g c = inl refl
 
--- what is written is said of the room that was opened, over the bytes of the reader alone
+-- the clauses are about the room that was opened, over the reader's bytes alone
 pub returns-in_err-replay_blocks-clause-ran : goal.returns-in_err-replay_blocks-clause-ran
 returns-in_err-replay_blocks-clause-ran g c =
     let said = c.in_err-replay_blocks.ensures in

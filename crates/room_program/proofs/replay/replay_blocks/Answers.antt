@@ -1,4 +1,4 @@
--- Each way to end, from how far the replay has come.
+-- Each end, from how far the replay has come.
 use Rattle.std.proofs.Common.{◌≡◌, ◌≢◌, ◌||◌, ◌∙◌, ℕ, List, [], Bool, false, Result, Ok, Err, OnOk, eqb, length, take, vec_len, ap, sym, refl, inl, add-one, suc, arith}
 use Rattle.std.proofs.lemmas.Bool.{eqb-true, eqb-false}
 use Rattle.std.proofs.lemmas.Result.{on_err_weaker}
@@ -9,7 +9,7 @@ use Rattle.room_program.proofs.CallLemmas.{no_gets, next_gets, one_more, calls_m
 use Rattle.room_program.proofs.ProgressLemmas.{progress-none, progress-block, progress-kept, progress-ended, progress-front, progress-all, progress-last, progress-stopped, progress-stopped_last}
 use Rattle.room_program.proofs.replay.replay_blocks.Goals as goal
 
--- what both clauses say of an answer
+-- two clauses about one result, combined
 last_ok : {T E P Q C : Type 0} (r : Result T E) → (P → Q → C) → OnOk r P → OnOk r Q → OnOk r C
 last_ok (Ok x) f p q = f p q
 last_ok (Err e) f p q = tt

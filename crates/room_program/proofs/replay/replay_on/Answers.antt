@@ -1,4 +1,4 @@
--- What stands behind a first line that tells a sound map is run; else that line's fault is told.
+-- The bytes after a first line with a sound map are run; otherwise that line's fault is returned.
 use Rattle.std.proofs.Common.{[], Err, Option, ap, inl, inr, refl, subst}
 use Rattle.room_program.specs.declared.base.Later.{Later}
 use Rattle.room_program.specs.Bases.{behind}
@@ -70,7 +70,7 @@ returns-in_default-clause-ran g c =
           c.in_ok-first.ensures.works c.requires.writer_works,
     )
 
--- what stands behind it was run
+-- the bytes after the line were run
 pub returns-in_err-replay_blocks-clause-ran : goal.returns-in_err-replay_blocks-clause-ran
 returns-in_err-replay_blocks-clause-ran g c =
     let reader = c.args.reader.now in

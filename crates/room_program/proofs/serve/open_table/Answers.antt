@@ -1,4 +1,4 @@
--- The first fault is told: of the names, of the line that tells the base, of that map.
+-- The first fault is reported: of the names, of the line with the base, or of the base's map.
 use Rattle.std.proofs.Common.{◌^◌, ◌∙◌, ap, arith, length, map, refl, subst, ℕ, List}
 use Rattle.std.proofs.lemmas.List.{length-map}
 use Rattle.std.specs.Borrow.{Bor}

@@ -1,4 +1,4 @@
--- What the output took, and the fronts of the rooms.
+-- The text that the output took, and the entry counts of the rooms.
 use Rattle.std.proofs.Common.{◌∙◌, ap₂, map, ℕ, List}
 use Rattle.std.specs.Borrow.{Bor}
 use Rattle.room_program.specs.Fronts.{front_lines}

@@ -6,7 +6,7 @@ use Rattle.room_server.proofs.Meeting.{fronts_more}
 use Rattle.room_server.proofs.Splitting.{length_more, next_at, whole_end, whole_more}
 use Rattle.room_server.proofs.fronts.close_all.Goals as goal
 
--- the desk and the seat stand at one place
+-- the desk and the seat have the same position
 pub close-requires : goal.close-requires
 close-requires g c =
     let i = c.loop-desk.invariant in
@@ -14,7 +14,7 @@ close-requires g c =
     (next_at c.args.table.desks c.loop-desk.yielded (into_iter_items c.loop-desk.desk-iterator) (into_iter_items c.next.new.self) c.in-Some.desk i.desks c.in-Some.ensures.steps.0 (length c.loop-desk.yielded) refl)
     (next_at c.args.seats.items i.seats.0 (into_iter_items c.loop-desk.seats) (into_iter_items c.next-in-loop-desk.new.self) c.in-Some-next.seat i.seats.1 c.in-Some-next.ensures.items (length c.loop-desk.yielded) (sym i.seats.2))
 
--- one more was closed
+-- one more desk was closed
 pub loop-desk-preserved : goal.loop-desk-preserved
 loop-desk-preserved g c =
     let i = c.loop-desk.invariant in

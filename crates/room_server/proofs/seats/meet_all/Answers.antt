@@ -30,7 +30,7 @@ meet-requires-clause-other c =
     c.requires.others.1 c.loop-other.room c.desk.result.now c.in-Some.other c.desk.ensures
     (next_at c.args.others.items c.loop-other.yielded (into_iter_items c.loop-other.other-iterator) (into_iter_items c.next.new.self) c.in-Some.other i.whole c.in-Some.ensures.steps.0 c.loop-other.room i.count)
 
--- one more was met
+-- one more seat was met
 pub loop-other-preserved : goal.loop-other-preserved
 loop-other-preserved c =
     let i = c.loop-other.invariant in

@@ -4,7 +4,7 @@ use Rattle.room_server.specs.Seats.{AreSplit}
 use Rattle.room_server.proofs.Splitting.{AtFirst, at_more, length_more, split_more, whole_more}
 use Rattle.room_server.proofs.seats.split_all.Goals as goal
 
--- one more was split
+-- one more seat was split
 pub loop-seat-preserved : goal.loop-seat-preserved
 loop-seat-preserved c =
     let i = c.loop-seat.invariant in

@@ -4,13 +4,13 @@ use Rattle.room_server.specs.Seats.{IsSet}
 use Rattle.room_server.proofs.Counting.{met_left, new_is_set, parts_for_one, parts_left}
 use Rattle.room_server.proofs.sets.split_sets.Goals as goal
 
--- there are parts for the sets that are left to be split off
+-- there are parts for the sets that are still to be split off
 pub split_all-requires-clause-parts : goal.split_all-requires-clause-parts
 split_all-requires-clause-parts c =
     let before = c.loop-test.true in
     parts_for_one (c.args.count - c.loop.counter) c.loop.left.items (omega (arith, before)) (c.loop.invariant.parts (c.args.count - c.loop.counter) (omega (arith, before)))
 
--- one set more, and parts for one fewer
+-- there is one set more, and parts for one set fewer
 pub loop-preserved : goal.loop-preserved
 loop-preserved c =
     let i = c.loop.invariant in

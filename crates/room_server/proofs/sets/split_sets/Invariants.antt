@@ -3,7 +3,7 @@ use Rattle.room_server.specs.Seats.{HaveMet, HavePartsFor, IsSet}
 use Rattle.room_server.specs.Tables.{AreAt}
 use Rattle.room_server.proofs.sets.split_sets.Given as goal
 
--- so many sets were split off, and there are parts for the others
+-- these sets were split off, and there are parts for the remaining sets
 abbrev pub invariant-loop : goal.invariant-loop
 invariant-loop l = record {
   at : AreAt l.table l.left.items;

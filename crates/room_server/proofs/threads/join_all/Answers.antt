@@ -6,7 +6,7 @@ use Rattle.room_server.specs.Tables.{AreAt}
 use Rattle.room_server.proofs.Counting.{head_of, if_none, still_set}
 use Rattle.room_server.proofs.threads.join_all.Goals as goal
 
--- the set is lost, for want of memory
+-- the allocation failed, and the set is lost
 pub loop-thread-preserved-then-is_err : goal.loop-thread-preserved-then-is_err
 loop-thread-preserved-then-is_err g c =
     let i = c.loop-thread.invariant in
@@ -16,7 +16,7 @@ loop-thread-preserved-then-is_err g c =
       none_lost = tt;
     }
 
--- the thread that is joined stood first among the rest, and what it gives back is the set that it was lent
+-- the joined thread was the first of the remaining threads, and it gives back the set that it was lent
 pub loop-thread-preserved : goal.loop-thread-preserved
 loop-thread-preserved g c =
     let i = c.loop-thread.invariant in

@@ -3,7 +3,7 @@ use Rattle.room_session.specs.Facts.Running.{keeps_both}
 use Rattle.room_server.specs.Tables.{known_of, known_through}
 use Rattle.room_server.proofs.workers.worker.Goals as goal
 
--- a session keeps what is kept and known, and so do all of them; and it is one session more
+-- one session more keeps what is kept and known, so all sessions do
 pub loop-preserved-in-loop : goal.loop-preserved-in-loop
 loop-preserved-in-loop g c =
     let served = c.loop.invariant.2 in (

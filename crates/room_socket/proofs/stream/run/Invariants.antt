@@ -5,7 +5,7 @@ use Rattle.room_session.specs.Running.{IsRunOn}
 use Rattle.room_socket.specs.Serving.{Event, Follows}
 use Rattle.room_socket.proofs.stream.run.Given as goal
 
--- the events that came by now, one a turn at most
+-- so far, at most one event came a turn
 abbrev pub invariant-loop : goal.invariant-loop
 invariant-loop g l = record {
   follows : (events : List Event) × (length events ≤ l.counter) × Follows events BeforeHello (g.R.Rooms.known l.fn.rooms) l.core (g.R.Rooms.known l.rooms);

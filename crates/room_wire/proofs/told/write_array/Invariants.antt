@@ -3,7 +3,7 @@ use Rattle.room_wire.specs.Inner.Writing.{IsReadable}
 use Rattle.room_wire.proofs.Written.{items_left}
 use Rattle.room_wire.proofs.told.write_array.Given as goal
 
--- what was written, and what is left, are the whole
+-- the tokens that were written, and those that are left, make the whole
 abbrev pub invariant-loop-item : goal.invariant-loop-item
 invariant-loop-item g l =
     (l.out.before ≡ l.initial.out.before)

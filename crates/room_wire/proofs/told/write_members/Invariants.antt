@@ -2,7 +2,7 @@ use Rattle.std.proofs.Common.{◌≡◌, ◌++◌, All, map, take, drop}
 use Rattle.room_wire.specs.Inner.Writing.{IsReadable, members_tokens}
 use Rattle.room_wire.proofs.told.write_members.Given as goal
 
--- what was written, and what is left, are the whole
+-- the tokens that were written, and those that are left, make the whole
 abbrev pub invariant-loop-member : goal.invariant-loop-member
 invariant-loop-member g l =
     (l.out.before ≡ l.initial.out.before)

@@ -4,7 +4,7 @@ use Rattle.room_wire.proofs.ToldParts.{row_told}
 use Rattle.room_wire.proofs.Written.{items_left}
 use Rattle.room_wire.proofs.write_map.write_map.Given as goal
 
--- what was written, and what is left, are the whole
+-- the tokens that were written, and those that are left, make the whole
 abbrev pub invariant-loop-name : goal.invariant-loop-name
 invariant-loop-name l =
     (l.out.before ≡ l.initial.out.before)

@@ -8,7 +8,7 @@ use Rattle.osm_changes.specs.Cells.{Cell}
 use Rattle.osm_changes.specs.declared.part.Part.{Part}
 use Rattle.osm_changes.proofs.cell.Cell.of.Goals as goal
 
--- the cell of a kind and an id is that of the name that has them
+-- a cell of a kind and an id is the cell of the name with this kind and id
 of_parts : (name : Name) (part : Part) (kind : Kind) (id : ℤ) (not_zero : id ≢ pos 0)
     → kind ≡ name.kind → id ≡ name.id
     → ◌≡◌ {A = Cell} (record { name = record { kind = kind; id = id; not_zero = not_zero }; part = part })

@@ -8,7 +8,7 @@ use Rattle.osm_changes.specs.declared.part.Part.TheVariants.{Tags, Rest}
 use Rattle.osm_changes.specs.Cells.{part_rank, cell_cmp}
 use Rattle.osm_changes.proofs.cell.CellOrd.cmp.Goals as goal
 
--- the derived order of parts is that of their definition
+-- the derived order of parts is the defined order
 part_order_is : (p q : Part) → (part_order.ghosts).cmp p q ≡ nat_cmp (part_rank p) (part_rank q)
 part_order_is Tags Tags = refl
 part_order_is Tags Rest = refl

@@ -12,7 +12,7 @@ use Rattle.room_history.specs.contracts.turned.RoomTurned.TheImpl.{no_dict}
 use Rattle.part_lines.proofs.rooms.turns.Work.TheSendSync as work
 use Rattle.part_lines.proofs.rooms.turns.+fn-in_threads-join+arg3+in_threads.Goals as goal
 
--- the closure takes with it references to the runtime, the desk and the work, and the seat
+-- the closure takes references to the runtime, the desk and the work, and the seat
 pub join-other-requires-send-F : goal.join-other-requires-send-F
 join-other-requires-send-F g t c κs within =
     closure_send 1 _ _ (_ ∷ _ ∷ _ ∷ _ ∷ []) (

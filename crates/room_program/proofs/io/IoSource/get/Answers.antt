@@ -1,4 +1,4 @@
--- The read that was answered is the last that is noted.
+-- The read that was answered is the last call in the notes.
 use Rattle.std.proofs.Common.{◌∙◌, ◌≤◌, ◌-◌, ◌^◌, ap, arith, inl, inr, length, refl}
 use Rattle.room_program.specs.Io.{calls_of}
 use Rattle.room_program.specs.Noted as noted

@@ -1,4 +1,4 @@
--- A line is answered by what it says.
+-- A line is answered by its author and its message.
 use Rattle.std.proofs.lemmas.Result.{IfOk-weaker}
 use Rattle.std.proofs.Common.{List, ℕ, ap, sym, ◌∙◌}
 use Rattle.room_program.proofs.LineAnswerLemmas.{answered-reply, answered-none}

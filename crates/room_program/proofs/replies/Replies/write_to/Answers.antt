@@ -1,11 +1,11 @@
--- A write that stops in the long reply, or at its line feed, stands behind all that was written before.
+-- A write that stops in the long reply, or at its line feed, comes after all that was written before.
 use Rattle.std.proofs.Common.{◌≡◌, ◌++◌, ◌∷◌, ◌∙◌, ℕ, List, [], Option, Some, ap, append_assoc, sym}
 use Rattle.std.proofs.lemmas.Result.{on_err_weaker}
 use Rattle.room_program.specs.Inner.LongReplies.{long_line}
 use Rattle.room_program.proofs.StreamLemmas.{Appends-then, on_err, put-behind}
 use Rattle.room_program.proofs.replies.Replies.write_to.Goals as goal
 
--- the replies, where one is long, as they are lent to be written
+-- the replies with a long one, as they are lent to be written
 all_are : (texts lent all : List ℕ) (long : Option (List ℕ)) (text bytes : List ℕ) → texts ++ long_line long ≡ all → long ≡ Some text → lent ≡ texts → bytes ≡ text →
     all ≡ lent ++ (bytes ++ 10 ∷ [])
 all_are texts lent all long text bytes view is lends gives = rw (lends, gives) (sym view ∙ ap (λ (o : Option (List ℕ)). texts ++ long_line o) is)

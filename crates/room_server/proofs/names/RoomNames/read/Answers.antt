@@ -24,7 +24,7 @@ returns-in_err-name-clause-err c =
     (first_fault texts c.loop-position.position text c.in_err-name.field-0.0 (read_at (λ text. text.now) c.args.texts.now c.loop-position.position none c.loop-position-test.true) i.fine
     (subst (λ names. IsRefused names text c.loop-position.position c.in_err-name.field-0.0) i.names c.in_err-name.ensures))
 
--- one more was read
+-- one more name was read
 pub loop-position-preserved : goal.loop-position-preserved
 loop-position-preserved c =
     let i = c.loop-position.invariant in

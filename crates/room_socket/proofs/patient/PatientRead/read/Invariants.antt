@@ -1,7 +1,7 @@
 use Rattle.std.specs.Prelude.{◌≡◌, ◌≤◌, ◌-◌, length}
 use Rattle.room_socket.proofs.patient.PatientRead.read.Given as goal
 
--- what was gathered lies in the buffer
+-- the bytes gathered so far fit in the buffer
 abbrev pub invariant-loop-count : goal.invariant-loop-count
 invariant-loop-count g l = (length l.buffer ≡ length l.fn.buffer) × (l.count ≤ length l.buffer)
 

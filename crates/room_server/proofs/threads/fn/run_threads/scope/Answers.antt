@@ -42,7 +42,7 @@ loop-seats-init g c =
       no_fault = refl;
     }
 
--- the thread promises to give back the set that it is lent, which stood first among the rest
+-- the thread promises to give back the set that it is lent, which was the first of the remaining sets
 pub loop-seats-preserved : goal.loop-seats-preserved
 loop-seats-preserved g c =
     let i = c.loop-seats.invariant in
