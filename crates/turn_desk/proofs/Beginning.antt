@@ -47,9 +47,10 @@ module _ {R E F C P : Type 0} (fixed : R → F) (list : R → List E) (answers :
     parts = omega arith;
     home = λ _. (room, refl, (refl, empty));
     seats = only_the_first (fixed room);
+    known = λ n has. absurd (has refl);
   }
 
-  -- the same, where the key and the slots are known by equations
+  -- the same, if equations give the key and the slots
   pub starts_with : (about room : R) (slots : List (Option R)) → about ≡ room → slots ≡ Some room ∷ [] → list room ≡ []
       → Kept fixed list answers (fixed about) (opening (0 ∷ 0 ∷ 0 ∷ []) slots (first_view (fixed about)))
   starts_with about room slots key laid empty =

@@ -9,14 +9,14 @@ use Rattle.turn_desk.specs.declared.view.View.{View}
 use Rattle.turn_desk.specs.declared.view.Stage.{Stage}
 use Rattle.turn_desk.specs.declared.view.Stage.TheVariants.{Idle, Waiting, Turning}
 use Rattle.turn_desk.proofs.Lists.{total-set}
-use Rattle.turn_desk.proofs.Known.{put, put_here, put_else, agrees_still, fits, fits_still, seats_stay, none_had_turn}
+use Rattle.turn_desk.proofs.Known.{put, put_here, put_else, agrees_still, fits, fits_still, seats_stay, known_still, none_had_turn}
 
 module _ {R E F C P : Type 0} (fixed : R → F) (list : R → List E) (answers : F → List E → C → P → List E → Type 0) (f : F) where
   -- the moment after: one ticket more was drawn, by the seat
   abbrev with_ticket : Moment E → ℕ → Moment E
   with_ticket now id = record now { drawn = now.drawn + 1; drawer = put (λ t. t ≡ now.drawn) (λ t. ℕ_discrete t now.drawn) now.drawer id }
 
-  -- a ticket of another seat is its own still
+  -- another seat still has its own ticket
   others_keep : (now : Moment E) (id j : ℕ) (v : View E F) (st : Stage) → HoldsTicket now j v st → HoldsTicket (with_ticket now id) j v st
   others_keep now id j v Idle h = h
   others_keep now id j v (Waiting t) h = let low = h.1 in (h.0, omega arith, put_else (λ t. t ≡ now.drawn) (λ t. ℕ_discrete t now.drawn) now.drawer id t (λ e. omega arith) ∙ h.2)
@@ -52,6 +52,7 @@ module _ {R E F C P : Type 0} (fixed : R → F) (list : R → List E) (answers :
             supply = it.supply;
             ticket = (order, omega arith, put_here (λ t. t ≡ now.drawn) (λ t. ℕ_discrete t now.drawn) now.drawer id now.drawn refl);
           } (λ j v other known. fits_still now later.drawn later.served later.drawer j f v known (others_keep now id j v v.stage known.ticket)) r.seats;
+          known = λ n has. known_still now.owner f s.views id n me.0 w at it.fixed (λ among. among) (r.known n has);
         },
         (now.drawn, ap (λ (ws : List ℕ). slice_index ws 1) r.words, has_part, refl),
       )

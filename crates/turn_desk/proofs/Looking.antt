@@ -10,7 +10,7 @@ use Rattle.turn_desk.specs.declared.view.View.{View}
 use Rattle.turn_desk.specs.declared.view.Stage.{Stage}
 use Rattle.turn_desk.specs.declared.view.Stage.TheVariants.{Idle}
 use Rattle.turn_desk.proofs.Lists.{total-set, starts_with_itself}
-use Rattle.turn_desk.proofs.Known.{agrees_still, fits, seats_stay, none_had_turn}
+use Rattle.turn_desk.proofs.Known.{agrees_still, fits, seats_stay, known_still, none_had_turn}
 
 module _ {R E F C P : Type 0} (fixed : R → F) (list : R → List E) (answers : F → List E → C → P → List E → Type 0) (f : F) where
   pub looks : (slots id : ℕ) (me : Me (Option R) (View E F)) → me.0.fixed ≡ Some f → me.0.stage ≡ Idle
@@ -41,6 +41,7 @@ module _ {R E F C P : Type 0} (fixed : R → F) (list : R → List E) (answers :
             supply = it.supply;
             ticket = subst (HoldsTicket now id w) (sym idle) (subst (HoldsTicket now id me.0) idle it.ticket);
           } (λ j v other known. known) r.seats;
+          known = λ n has. known_still now.owner f s.views id n me.0 w at it.fixed (λ among. among) (r.known n has);
         },
         λ f' own'. subst (λ (x : F). Sees fixed list answers x found me (w, me.1)) (let same : f ≡ f' = cc in same) record {
           h = now.log;
@@ -53,7 +54,7 @@ module _ {R E F C P : Type 0} (fixed : R → F) (list : R → List E) (answers :
         },
       )
 
-  -- what a look makes of the seat
+  -- the seat after a look
   pub looked : (before after : Seat (Option R) (View E F)) (found : ℕ) → Sees fixed list answers f found before.me after.me → LooksAt answers f (sitting before) found (sitting after)
   looked before after found it =
       let is = it.after in

@@ -1,41 +1,42 @@
 -- The step that meets one seat into another.
-use Rattle.std.proofs.Common.{◌≡◌, ◌≢◌, ℕ, ◌<◌, List, [], ◌∷◌, ◌++◌, length, set, sym, ap, ◌∙◌, subst, inl, inr, ⊎_elim, arith, Option, Some}
+use Rattle.std.proofs.Common.{◌≡◌, ◌≢◌, ℕ, ◌<◌, List, [], ◌∷◌, ◌++◌, length, set, sym, refl, ap, ◌∙◌, subst, inl, inr, ⊎_elim, arith, Option, Some}
 use Rattle.std.proofs.lemmas.List.Elements.{All-append}
-use mathlib.Core.Option.{some}
+use mathlib.Core.Option.{some, some-injective}
+use mathlib.Core.Logic.{dite}
 use native.Mathlib.Decide.{ℕ_discrete}
 use lib.ListN.{get_elem?}
 use Rattle.atomic_table.specs.Table.{Me, Joins}
 use Rattle.atomic_table.specs.declared.shared.Seat.{Seat}
 use Rattle.atomic_table.proofs.Lists.{at_set, set_else}
-use Rattle.turn_desk.specs.History.{History, entries_by, BeginsWith, IsLegal}
+use Rattle.turn_desk.specs.History.{History, IsAmong, entries_by, BeginsWith, IsLegal}
 use Rattle.turn_desk.specs.Desk.{sitting, MeetsAt}
-use Rattle.turn_desk.specs.Rule.{HasTurn, kin_of, Agrees, Moment, HoldsTicket, Fits, Kept}
+use Rattle.turn_desk.specs.Rule.{HasTurn, IsKnown, kin_of, Agrees, Moment, HoldsTicket, Fits, Kept}
 use Rattle.turn_desk.specs.Inner.Plays.{Sees}
 use Rattle.turn_desk.specs.Inner.Sharing.{joined, spent}
 use Rattle.turn_desk.specs.Inner.Steps.{IsAtRest}
 use Rattle.turn_desk.specs.declared.view.View.{View}
 use Rattle.turn_desk.specs.declared.view.Stage.{Stage}
 use Rattle.turn_desk.specs.declared.view.Stage.TheVariants.{Idle}
-use Rattle.turn_desk.proofs.Lists.{total-set, All-head}
-use Rattle.turn_desk.proofs.Known.{Known, put, put_here, put_else, agrees_still, fits, same_ticket, none_had_turn}
+use Rattle.turn_desk.proofs.Lists.{total-set, set_at, among_first, among_second, All-head}
+use Rattle.turn_desk.proofs.Known.{Known, put, put_here, put_else, agrees_still, fits, same_ticket, known_still, none_had_turn}
 
--- the seat that each number is with, where those of one seat went to another
+-- the owner of each number, after the numbers of `other` went to `id`
 abbrev passed : (ℕ → ℕ) → ℕ → ℕ → ℕ → ℕ
 passed owner other id = put (λ n. owner n ≡ other) (λ n. ℕ_discrete (owner n) other) owner id
 
 passed_on : (owner : ℕ → ℕ) (other id n : ℕ) → owner n ≡ other → passed owner other id n ≡ id
 passed_on owner other id n at = put_here (λ k. owner k ≡ other) (λ k. ℕ_discrete (owner k) other) owner id n at
 
--- what was with a third seat, or with the one that stays, is there still
+-- a number of any seat but `other` keeps its owner
 stays_with : (owner : ℕ → ℕ) (other id n j : ℕ) → j ≢ other → owner n ≡ j → passed owner other id n ≡ j
 stays_with owner other id n j apart at = put_else (λ k. owner k ≡ other) (λ k. ℕ_discrete (owner k) other) owner id n (λ e. apart (sym at ∙ e)) ∙ at
 
--- the moment after: the numbers of the other seat are with the one that stays
+-- the moment after: the numbers of the other seat are the remaining seat's
 abbrev with_met : {E : Type 0} → Moment E → ℕ → ℕ → Moment E
 with_met now other id = record now { owner = passed now.owner other id }
 
 module _ {E F : Type 0} where
-  -- what both knew of their kin the seat knows that stays
+  -- the remaining seat knows what both knew of their kin
   joined_agrees : (now : Moment E) (f : F) (id other : ℕ) (v w : View E F) → other ≢ id → Fits now id f v → Fits now other f w → Agrees now.log (joined v w)
   joined_agrees now f id other v w apart it its =
       let differ : (n m : ℕ) → now.owner n ≡ other → now.owner m ≡ id → n ≢ m = λ n m a b e. apart (sym a ∙ (ap now.owner e ∙ b)) in
@@ -62,7 +63,7 @@ module _ {E F : Type 0} where
         ticket = subst (HoldsTicket (with_met now other id) id (joined v w)) (sym idle) (omega arith);
       }
 
-  -- a third seat knows what it did
+  -- a third seat knows what it knew before
   thirds_stay : (now : Moment E) (f : F) (id other j : ℕ) (u : View E F) → j ≢ other → Fits now j f u → Fits (with_met now other id) j f u
   thirds_stay now f id other j u apart known = record {
     fixed = known.fixed;
@@ -90,7 +91,22 @@ module _ {E F : Type 0} where
       third later j u far (inl gone) = inl gone
       third later j u far (inr fit) = inr (thirds_stay now f id other j u far fit)
 
-  -- the seat that stays has the fixed part, and is idle
+  -- the numbers of both are known by the seat that stays
+  known_met : (owner : ℕ → ℕ) (f : F) (views : List (View E F)) (id other n : ℕ) (v w : View E F) → other ≢ id → get_elem? views id ≡ some v → get_elem? views other ≡ some w → v.fixed ≡ Some f
+      → IsKnown owner f views n → IsKnown (passed owner other id) f (set (set views id (joined v w)) other spent) n
+  known_met owner f views id other n v w apart at there own it =
+      let both : get_elem? (set (set views id (joined v w)) other spent) id ≡ some (joined v w) = set_else (set views id (joined v w)) other id spent (λ e. apart (sym e)) ∙ set_at views id v (joined v w) at in
+      dite (ℕ_discrete (owner n) other)
+      (λ (e : owner n ≡ other).
+      let same : it.0 ≡ w = some-injective it.0 w (sym it.1 ∙ (ap (get_elem? views) e ∙ there)) in
+      (joined v w, ap (get_elem? (set (set views id (joined v w)) other spent)) (passed_on owner other id n e) ∙ both, own,
+      inr (among_second n v.met (kin_of w) (subst (λ (x : View E F). IsAmong n (kin_of x)) same it.3))))
+      (λ (far : owner n ≢ other).
+      let still = stays_with owner other id n (owner n) far refl in
+      let one = known_still owner f views id n v (joined v w) at own (among_first n (kin_of v) (kin_of w)) it in
+      (one.0, ap (get_elem? (set (set views id (joined v w)) other spent)) still ∙ (set_else (set views id (joined v w)) other (owner n) spent far ∙ one.1), one.2, one.3))
+
+  -- the remaining seat has the fixed part, and is idle
   pub met_fixed : {S : Type 0} (before other place : Me S (View E F)) (f : F) → place ≡ (joined before.0 other.0, before.1) → before.0.fixed ≡ Some f → place.0.fixed ≡ Some f
   met_fixed {S} before other place f is own = ap (λ (x : Me S (View E F)). x.0.fixed) is ∙ own
 
@@ -115,9 +131,10 @@ module _ {R E F C P : Type 0} (fixed : R → F) (list : R → List E) (answers :
         home = λ none_turning. r.home (none_had_turn s.views id v (joined v w) at (subst (λ (st : Stage). ¬ HasTurn st) (sym idle) (λ h. h))
             (none_had_turn (set s.views id (joined v w)) other w spent at' (subst (λ (st : Stage). ¬ HasTurn st) (sym idling) (λ h. h)) none_turning));
         seats = seats_meet now f s.views id other v w apart idle it its r.seats;
+        known = λ n has. known_met now.owner f s.views id other n v w apart at there own (r.known n has);
       }
 
-  -- what a meeting, and the look after it, make of the seat
+  -- the seat after a meeting and the look that follows it
   pub met : (before other after : Seat (Option R) (View E F)) (place : Me (Option R) (View E F)) (found : ℕ) → place ≡ (joined before.me.0 other.me.0, before.me.1) → Sees fixed list answers f found place after.me
       → MeetsAt answers f (sitting before) (sitting other) (sitting after)
   met before other after place found is it =
@@ -134,7 +151,7 @@ module _ {R E F C P : Type 0} (fixed : R → F) (list : R → List E) (answers :
         parts = ap (λ (x : Me (Option R) (View E F)). x.0.parts) end ∙ ap (λ (x : Me (Option R) (View E F)). x.0.parts) is;
       }
 
-  -- it is at rest
+  -- this seat is at rest
   pub met_rests : (before other place after : Me (Option R) (View E F)) (found : ℕ) → place ≡ (joined before.0 other.0, before.1) → IsAtRest before → Sees fixed list answers f found place after → IsAtRest after
   met_rests before other place after found is rest it = subst IsAtRest (sym it.after) record {
     slots = ap (λ (x : Me (Option R) (View E F)). x.1) is ∙ rest.slots;

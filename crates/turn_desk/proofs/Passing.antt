@@ -1,4 +1,4 @@
--- The step that gives the turn on.
+-- The step that passes the turn on.
 use Rattle.std.proofs.Common.{◌≡◌, ◌≢◌, ℕ, ◌+◌, ◌%◌, ◌^◌, List, [], ◌∷◌, length, slice_index, slice_set, sym, refl, ap, ◌∙◌, subst, arith, Option, Some}
 use Rattle.std.proofs.Math.Nat.{mod-add-mod}
 use mathlib.Core.Option.{some}
@@ -9,7 +9,7 @@ use Rattle.turn_desk.specs.declared.view.View.{View}
 use Rattle.turn_desk.specs.declared.view.Stage.{Stage}
 use Rattle.turn_desk.specs.declared.view.Stage.TheVariants.{Idle, Waiting, Turning}
 use Rattle.turn_desk.proofs.Lists.{total-set}
-use Rattle.turn_desk.proofs.Known.{agrees_still, fits, fits_still, seats_stay}
+use Rattle.turn_desk.proofs.Known.{agrees_still, fits, fits_still, seats_stay, known_still}
 
 module _ {R E F C P : Type 0} (fixed : R → F) (list : R → List E) (answers : F → List E → C → P → List E → Type 0) (f : F) where
   one_slot : {A : Type 0} (xs : List A) (x : A) → length xs ≡ 1 → slice_set xs 0 x ≡ x ∷ []
@@ -17,7 +17,7 @@ module _ {R E F C P : Type 0} (fixed : R → F) (list : R → List E) (answers :
   one_slot (y ∷ []) x one = refl
   one_slot (y ∷ z ∷ zs) x one = absurd (omega arith)
 
-  -- a ticket of another seat is not the one that was served
+  -- a ticket of another seat is not the ticket that was served
   others_wait : (now : Moment E) (id j : ℕ) (v : View E F) (st : Stage) → now.drawer now.served ≡ id → j ≢ id → HoldsTicket now j v st → HoldsTicket (record now { served = now.served + 1 }) j v st
   others_wait now id j v Idle mine other h = h
   others_wait now id j v (Waiting t) mine other h = let low = h.0 in
@@ -61,6 +61,7 @@ module _ {R E F C P : Type 0} (fixed : R → F) (list : R → List E) (answers :
             supply = it.supply;
             ticket = omega arith;
           } (λ j v other known. fits_still now later.drawn later.served later.drawer j f v known (others_wait now id j v v.stage mine other known.ticket)) r.seats;
+          known = λ n has. known_still now.owner f s.views id n me.0 w at it.fixed (λ among. among) (r.known n has);
         },
         ap (λ c. (w, rest c)) carried,
       )

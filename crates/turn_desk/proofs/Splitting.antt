@@ -10,23 +10,23 @@ use lib.ListN.{get_elem?}
 use Rattle.atomic_table.specs.Table.{Me, Splits}
 use Rattle.atomic_table.proofs.Lists.{at_longer}
 use Rattle.turn_desk.specs.History.{History, entries_by}
-use Rattle.turn_desk.specs.Rule.{HasTurn, Supplies, Agrees, Moment, HoldsTicket, Fits, Kept}
+use Rattle.turn_desk.specs.Rule.{HasTurn, IsKnown, Supplies, Agrees, Moment, HoldsTicket, Fits, Kept}
 use Rattle.turn_desk.specs.Inner.Sharing.{kept, split_off}
 use Rattle.turn_desk.specs.Inner.Steps.{IsAtRest}
 use Rattle.turn_desk.specs.declared.view.View.{View}
 use Rattle.turn_desk.specs.declared.view.Stage.{Stage}
 use Rattle.turn_desk.specs.declared.view.Stage.TheVariants.{Idle}
 use Rattle.turn_desk.proofs.Lists.{total-set, total-append, at_end, All-more}
-use Rattle.turn_desk.proofs.Known.{Known, put, put_here, put_else, fits, same_ticket, seats_stay, none_had_turn}
+use Rattle.turn_desk.proofs.Known.{Known, put, put_here, put_else, fits, same_ticket, seats_stay, known_still, none_had_turn}
 
--- every second number from one on, and those between them, are not the same
+-- x, x + 2s, x + 4s and so on are different from x + s, x + 3s and so on
 second : (x s k j : ℕ) → 0 < s → (x + s) + k * (s + s) ≢ x + j * (s + s)
 second x s k j some_stride e = dite (dec_le j k)
     (λ (low : j ≤ k). let m : j * (s + s) ≤ k * (s + s) = mul-le-mul_right (s + s) low in omega arith)
     (λ (high : ¬ (j ≤ k)). let m : suc k * (s + s) ≤ j * (s + s) = mul-le-mul_right (s + s) (lt_of_not-le high) in omega (arith, suc-mul k (s + s)))
 
 module _ {E F : Type 0} where
-  -- the numbers that go with the seat that is split off: the next one, and every second after it
+  -- the numbers that go to the seat that is split off: the next number, and every second number after it
   abbrev Given : View E F → ℕ → Type 0
   Given v n = (k : ℕ) × (n ≡ v.next + k * (v.stride + v.stride))
 
@@ -38,7 +38,7 @@ module _ {E F : Type 0} where
       go (yes low) (no rest) = no (λ g. rest (ap (λ (x : ℕ). x % (v.stride + v.stride)) (let e : n - v.next ≡ g.0 * (v.stride + v.stride) = omega (arith, g.1) in e) ∙ mul-mod_left g.0 (v.stride + v.stride)))
       go (no low) _ = no (λ g. low (omega (arith, g.1)))
 
-  -- what is given was the seat's own to give
+  -- the seat could give each number that it gave, and each that it kept
   given_was_own : (v : View E F) (n : ℕ) → Given v n → Supplies v n
   given_was_own v n g = (g.0 + g.0, omega (arith, g.1, mul-add g.0 v.stride v.stride, add-mul g.0 g.0 v.stride))
 
@@ -48,11 +48,11 @@ module _ {E F : Type 0} where
   split_off_gives : (v : View E F) (n : ℕ) → Supplies (split_off v) n → Given v n
   split_off_gives v n s = (suc s.0, omega (arith, s.1, suc-mul s.0 (v.stride + v.stride)))
 
-  -- what is kept is not given
+  -- no number is both kept and given
   kept_or_given : (v : View E F) (n : ℕ) → 0 < v.stride → Supplies (kept v) n → ¬ Given v n
   kept_or_given v n some_stride s g = second v.next v.stride s.0 g.0 some_stride (sym s.1 ∙ g.1)
 
-  -- the seat that each number is with, where what was given is with the new one
+  -- the owner of each number, after the given numbers went to the new seat
   abbrev handed : View E F → (ℕ → ℕ) → ℕ → ℕ → ℕ
   handed v = put (Given v) (is_given v)
 
@@ -62,11 +62,11 @@ module _ {E F : Type 0} where
   handed_else : (v : View E F) (owner : ℕ → ℕ) (new n : ℕ) → ¬ Given v n → handed v owner new n ≡ owner n
   handed_else v = put_else (Given v) (is_given v)
 
-  -- what was known of the kin is known by the seat that keeps them
+  -- the seat that keeps its kin knows what it knew of them
   pub kept_agrees : (h : History E) (v : View E F) → Agrees h v → Agrees h (kept v)
   kept_agrees h v a = let stride = a.stride in record { kin = a.kin; apart = a.apart; supply = λ n s. a.supply n (kept_was_own v n s); stride = omega arith }
 
-  -- nothing is in the history under the new number, nor under those that it supplies
+  -- the history has no entry under the new seat's number, or under the numbers that it may give
   pub split_off_agrees : (h : History E) (v : View E F) → Agrees h v → Agrees h (split_off v)
   split_off_agrees h v a =
       let stride = a.stride in
@@ -81,18 +81,18 @@ module _ {E F : Type 0} where
         stride = omega arith;
       }
 
-  -- both are at rest where the seat was
+  -- if the seat was at rest, both seats are
   pub kept_rests : {S : Type 0} (before after : Me S (View E F)) → IsAtRest before → after ≡ (kept before.0, before.1) → IsAtRest after
   kept_rests before after rest is = subst IsAtRest (sym is) record { slots = rest.slots; stage = rest.stage; agrees = kept_agrees before.0.seen before.0 rest.agrees }
 
   pub split_off_rests : {S : Type 0} (before new : Me S (View E F)) → IsAtRest before → new ≡ (split_off before.0, []) → IsAtRest new
   split_off_rests before new rest is = subst IsAtRest (sym is) record { slots = refl; stage = refl; agrees = split_off_agrees before.0.seen before.0 rest.agrees }
 
-  -- the moment after: the numbers that were given are with the new seat
+  -- the moment after: the given numbers are the new seat's
   abbrev with_seat : Moment E → View E F → ℕ → Moment E
   with_seat now v new = record now { owner = handed v now.owner new }
 
-  -- of a seat that supplies what is given, other seats have nothing
+  -- no other seat has a number that was given
   others_own : (now : Moment E) (f : F) (id new : ℕ) (v : View E F) → Fits now id f v → (j : ℕ) (u : View E F) → j ≢ id → Fits now j f u → Fits (with_seat now v new) j f u
   others_own now f id new v it j u other known =
       let apart : (n : ℕ) → now.owner n ≡ j → ¬ Given v n = λ n at g. other (sym at ∙ it.supply n (given_was_own v n g)) in record {
@@ -139,6 +139,14 @@ module _ {E F : Type 0} where
       let is : new ≡ j = sym (t.0 ∙ length-set views id (kept v)) in inr (subst (λ (x : ℕ × View E F). Fits later x.0 f x.1) (λ i. (is i, t.1 i)) (split_off_fits now f id new v two it)))
       (at_end (set views id (kept v)) (split_off v) u j at)
 
+  -- no entry is under a number that is given, so what was known is known by the same seat
+  known_split : (now : Moment E) (f : F) (views : List (View E F)) (id n : ℕ) (v : View E F) → get_elem? views id ≡ some v → Fits now id f v → entries_by n now.log ≢ []
+      → IsKnown now.owner f views n → IsKnown (handed v now.owner (length views)) f (set views id (kept v) ++ split_off v ∷ []) n
+  known_split now f views id n v at it has known =
+      let still = handed_else v now.owner (length views) n (λ g. has (it.agrees.supply n (given_was_own v n g)).0) in
+      let one = known_still now.owner f views id n v (kept v) at it.fixed (λ among. among) known in
+      (one.0, ap (get_elem? (set views id (kept v) ++ split_off v ∷ [])) still ∙ at_longer (set views id (kept v)) (split_off v ∷ []) (now.owner n) one.0 one.1, one.2, one.3)
+
 module _ {R E F C P : Type 0} (fixed : R → F) (list : R → List E) (answers : F → List E → C → P → List E → Type 0) (f : F) where
   pub splits : (id : ℕ) (v : View E F) → v.fixed ≡ Some f → v.stage ≡ Idle → 2 ≤ v.parts → Splits (Kept fixed list answers f) id v (kept v) (split_off v)
   splits id v own idle two s r at =
@@ -154,4 +162,5 @@ module _ {R E F C P : Type 0} (fixed : R → F) (list : R → List E) (answers :
         parts = omega arith;
         home = λ none_turning. r.home (none_had_turn s.views id v (kept v) at (subst (λ (st : Stage). ¬ HasTurn st) (sym idle) (λ h. h)) (λ j u here. none_turning j u (at_longer (set s.views id (kept v)) (split_off v ∷ []) j u here)));
         seats = seats_split now f s.views id v idle two it r.seats;
+        known = λ n has. known_split now f s.views id n v at it has (r.known n has);
       }

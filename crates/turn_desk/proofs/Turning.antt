@@ -1,8 +1,8 @@
--- A whole turn, from what its steps told.
-use Rattle.std.proofs.Common.{◌≡◌, ℕ, List, [], ◌∷◌, sym, ap, ◌∙◌, subst, Option, Some}
+-- A whole turn, from what the seat learned in its steps.
+use Rattle.std.proofs.Common.{◌≡◌, ℕ, ◌-◌, ◌^◌, List, [], ◌∷◌, sym, ap, ◌∙◌, subst, arith, Option, Some}
 use Rattle.atomic_table.specs.Table.{Me}
-use Rattle.turn_desk.specs.History.{entries, BeginsWith}
-use Rattle.turn_desk.specs.Rule.{Agrees}
+use Rattle.turn_desk.specs.History.{IsAmong, entries, BeginsWith}
+use Rattle.turn_desk.specs.Rule.{kin_of, Agrees}
 use Rattle.turn_desk.specs.Inner.Plays.{Draws, Stores, waiting, turning, looking, TakesTurn, Enters}
 use Rattle.turn_desk.specs.Inner.Steps.{IsAtRest, HoldsRoom, GetsTurn, MakesCall}
 use Rattle.turn_desk.specs.declared.view.View.{View}
@@ -14,7 +14,7 @@ module _ {R E F C P : Type 0} (fixed : R → F) (list : R → List E) (answers :
   abbrev M : Type 0
   M = Me (Option R) (View E F)
 
-  -- a ticket, and the turn that it gave
+  -- a seat drew a ticket and got the turn with it
   pub gets : (before drawn after : M) (found : ℕ) → IsAtRest before → Draws before found drawn
       → ((t : ℕ) → drawn.0.stage ≡ Waiting t → TakesTurn fixed list answers f t drawn after) → GetsTurn fixed list answers f before after
   gets before drawn after found rest draw turn =
@@ -30,11 +30,12 @@ module _ {R E F C P : Type 0} (fixed : R → F) (list : R → List E) (answers :
         legal = took.legal;
         begins = subst (BeginsWith took.h) seen took.seen;
         agrees = agrees_still took.h (waiting t before.0) before.0.stage before.0.parts before.0.seen before.0.looks before.0.tickets agrees;
+        all = λ full n has. subst (λ (x : M). IsAmong n (kin_of x.0)) is (took.all (ap (λ (x : M). x.0.parts) is ∙ (let less : before.0.parts - 1 ≡ 2 ^ 64 - 2 = omega (arith, full) in less)) n has);
         stands = took.stands;
         after = took.after ∙ (ap (λ (x : M). (turning t took.h x.0, (0, Some took.room) ∷ x.1)) is ∙ ap (λ (c : List (ℕ × Option R)). (turning t took.h (waiting t before.0), (0, Some took.room) ∷ c)) rest.slots);
       }
 
-  -- what a call in a turn makes of the seat
+  -- the seat after a call in its turn
   pub calls : (m put after : M) (call : C) (reply : P) (room room' : R) (n : ℕ) → m.0.fixed ≡ Some f → m.1 ≡ (0, Some room) ∷ [] → HoldsRoom fixed list f m
       → answers (fixed room) (list room) call reply (list room') → put ≡ (m.0, (0, Some room') ∷ []) → Stores fixed list answers put n after → MakesCall fixed list answers f m call reply after
   calls m put after call reply room room' n own carried holds answer is stored =

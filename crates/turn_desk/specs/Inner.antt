@@ -1,5 +1,5 @@
--- What only the proofs and the functions within the crate speak of: the view of the first seat, what each kind of step
--- tells, how seats are split and met, and what the functions of the steps ask and tell.
+-- Definitions for the crate's own functions and for proofs: the view of a desk's first seat, what a seat learns from
+-- each kind of step, how seats are split and met, and the contracts of the steps' functions.
 pub mod Opening
 pub mod Plays
 pub mod Sharing

@@ -1,4 +1,4 @@
-//! A desk, at which a room is shared by turns.
+//! A desk, through which threads share one room.
 ghost use Rattle.std.specs.Prelude.{◌≡◌, ◌≤◌, [], IfOk};
 ghost use Rattle.turn_desk.specs.Desk.{IsAt, IsFirst, IsSameSeat, SplitsInto, MeetsAt, TurnsAt, LooksAt, HasKin, ClosesWith};
 
@@ -14,10 +14,10 @@ use std::marker::Model;
 use std::snapshot::Snapshot;
 use std::sync::Wait;
 
-/// A room that is shared by turns.
+/// A lock through which threads share one room, each with its own seat.
 ///
-/// Contracts see it as the table of words that it shares with its seats, and the room's fixed part.
-/// Each call is handed one of the desk's own seats.
+/// Contracts model a desk as the table of words that it shares with its seats, and the room's fixed part. Each call
+/// takes one of the desk's own seats.
 #[derive(Drop)]
 pub struct Desk<R: Turned, A: Allocator> {
     table: Table<Option<R>, View<R::Entry, R::Fixed>, Snapshot<R>, InTurns, A>,
@@ -35,10 +35,14 @@ impl<R: Turned, A: Allocator> Model for Desk<R, A> {
 }
 
 impl<R: Turned, A: Allocator> Desk<R, A> {
-    /// Opens a desk over a room whose list is empty, and gives it with its first seat, whose number is 0.
-    /// Where memory is refused, the room is dropped.
-    /// The fixed part is that of the room, which is kept as a value for proofs alone (`about`).
-    /// The allocator is cloned for the list of slots, and for nothing else.
+    /// Opens a desk over `room`, whose list is empty, and returns it with its first seat, whose number is 0.
+    ///
+    /// The fixed part is the room's. `about` is a snapshot of the room, which exists in proofs alone. The allocator is
+    /// cloned for the list of slots, and for nothing else.
+    ///
+    /// # Errors
+    ///
+    /// `Memory`, if an allocation or the allocator's clone fails. The room is then dropped.
     pub fn open(alloc: A, room: R) -> Result<(Desk<R, A>, Seat<R>), Memory>
     where
         A: Clone,
@@ -54,12 +58,14 @@ impl<R: Turned, A: Allocator> Desk<R, A> {
         Ok((Desk { table }, Seat { place }))
     }
 
-    /// Splits a seat in two, of which both have seen what it had seen.
+    /// Splits `seat` into two seats, which have both seen what `seat` had seen.
     ///
-    /// The first is the seat with fewer parts. The second has made no call, looked at no length and met no seat.
-    /// It has a number that no seat of the desk ever had, and a 64th of the parts, at least one:
-    /// so the first seat of a desk can be split more than two thousand times, and so can each of the new ones.
-    /// The numbers of a seat that was met into another are lost, which costs nothing: numbers exist in proofs alone.
+    /// The first seat is `seat` with fewer parts. The second seat has made no call, looked at no length and met no
+    /// seat. It has a number that no seat of the desk ever had, and a 64th of the parts, at least one part. So the
+    /// first seat of a desk can be split more than two thousand times.
+    ///
+    /// When a seat is met into another seat, the numbers that it could give to new seats are lost. This costs nothing,
+    /// because numbers exist in proofs alone.
     pub fn split(&self, seat: Seat<R>) -> (Seat<R>, Seat<R>)
         requires seat { IsAt self.now seat }
         requires parts { 2 ≤ seat.parts }
@@ -72,10 +78,10 @@ impl<R: Turned, A: Allocator> Desk<R, A> {
         (Seat { place }, Seat { place: other })
     }
 
-    /// Meets another seat into the seat, which has then seen all that either had seen, and has the kin and the parts of
+    /// Meets `other` into `seat`, which has then seen all that either seat had seen, and has the kin and the parts of
     /// both.
     ///
-    /// It waits for nobody. The seat looks at the length of the history once.
+    /// The call does not wait. `seat` looks at the length of the history once.
     pub fn meet(&self, seat: &mut Seat<R>, other: Seat<R>)
         requires seat { IsAt self.now seat.old }
         requires other { IsAt self.now other }
@@ -86,11 +92,11 @@ impl<R: Turned, A: Allocator> Desk<R, A> {
         take_in(&self.table.shared, &mut seat.place, other.place);
     }
 
-    /// Waits for a turn, makes the call in it and gives the turn on.
+    /// Waits for a turn, makes the call in it and passes the turn on.
     ///
     /// If it returns, the reply is the one that a single caller would get after some legal history, which begins with
-    /// what the seat had seen. The seat has then seen that history, with the call's entry if it was accepted. It draws
-    /// one ticket. It is not promised that the turn comes, in what time, or in which order.
+    /// what the seat had seen. The seat has then seen that history, with the call's entry if the call was accepted. It
+    /// has drawn one ticket. No contract promises that the turn comes, when it comes, or in which order.
     pub fn turn<W: Wait>(&self, rt: &W, seat: &mut Seat<R>, call: R::Call) -> R::Reply
         requires { IsAt self.now seat.old }
         ensures desk { IsAt self.now seat.new }
@@ -101,10 +107,12 @@ impl<R: Turned, A: Allocator> Desk<R, A> {
         take_turn(rt, &self.table.shared, &mut seat.place, call)
     }
 
-    /// How long the history is. The seat has then seen all of it, as it was at one moment of this call.
+    /// Returns the length of the history. The seat has then seen the whole history, as it was at one moment of this
+    /// call.
     ///
-    /// What it has seen begins with what it had seen, and begins the history at which each later call through this seat
-    /// is made. It waits for nobody. By the time that it returns, others may have made the history longer.
+    /// What the seat has then seen begins with what it had seen before. Each later call through this seat is made at a
+    /// history that begins with it. The call does not wait. Before it returns, other threads may have made the history
+    /// longer.
     pub fn front(&self, seat: &mut Seat<R>) -> u64
         requires { IsAt self.now seat.old }
         ensures desk { IsAt self.now seat.new }
@@ -115,11 +123,11 @@ impl<R: Turned, A: Allocator> Desk<R, A> {
         look(&self.table.shared, &mut seat.place)
     }
 
-    /// Waits for a last turn, makes no call in it and gives the room back.
+    /// Waits for a last turn, makes no call in it and returns the room.
     ///
-    /// If it returns, the room stands for a legal history that begins with what the seat had seen. It has the entries
-    /// of the seat's calls, and of those of each seat met into it. It is not promised that the turn comes, or in what
-    /// time.
+    /// If it returns, the room's list is that of a legal history, which begins with what the seat had seen. The history
+    /// has the entries of the seat's calls and those of each seat met into it. No contract promises that the turn
+    /// comes, or when.
     pub fn close<W: Wait>(self, rt: &W, seat: Seat<R>) -> R
         requires { IsAt self seat }
         ensures { ClosesWith R.fixed R.list R.answers self.fixed seat result }

@@ -1,10 +1,10 @@
-//! The rule of a desk's table, and what each kind of step on it tells.
+//! The rule of a desk's table, and what a seat learns from each kind of step on it.
 use crate::turned::Turned;
 use crate::view::View;
 use atomic_table::{Join, Play, Seat, Shared, Split, TableRule};
 use std::snapshot::Snapshot;
 
-/// The rule by which turns are taken.
+/// The rule of a desk's table.
 pub(crate) struct InTurns;
 
 impl<R: Turned> TableRule<Option<R>, View<R::Entry, R::Fixed>, Snapshot<R>> for InTurns {
@@ -34,8 +34,7 @@ impl<R: Turned> Play<Option<R>, View<R::Entry, R::Fixed>> for Ask {
     ghost then = { λ _. Asks R.fixed R.list R.answers };
 }
 
-/// The step that enters an event into the history.
-/// It is a look at the length, too, as [`Look`] says.
+/// The step that enters an event into the history. It is also a look at the length, like [`Look`].
 pub(crate) struct Store;
 
 impl<R: Turned> Play<Option<R>, View<R::Entry, R::Fixed>> for Store {
@@ -44,7 +43,7 @@ impl<R: Turned> Play<Option<R>, View<R::Entry, R::Fixed>> for Store {
     ghost then = { λ _. Stores R.fixed R.list R.answers };
 }
 
-/// The step that gives the turn on.
+/// The step that passes the turn on.
 pub(crate) struct PassOn;
 
 impl<R: Turned> Play<Option<R>, View<R::Entry, R::Fixed>> for PassOn {
@@ -54,8 +53,9 @@ impl<R: Turned> Play<Option<R>, View<R::Entry, R::Fixed>> for PassOn {
 }
 
 /// The step that looks at the length of the history.
-/// That a look is the length of the whole history is said by this step and by [`Store`], and not by the rule:
-/// a fact about one state cannot tell a stale look from a true one.
+///
+/// Only this step and [`Store`] say that the length is that of the whole history. The rule cannot say it: a fact about
+/// one state does not distinguish an outdated length from the current one.
 pub(crate) struct Look;
 
 impl<R: Turned> Play<Option<R>, View<R::Entry, R::Fixed>> for Look {
@@ -64,7 +64,7 @@ impl<R: Turned> Play<Option<R>, View<R::Entry, R::Fixed>> for Look {
     ghost then = { λ _. Looks R.fixed R.list R.answers };
 }
 
-/// How a seat is cut in two.
+/// How a seat is split into two.
 pub(crate) struct Cut;
 
 impl<E, F> Split<View<E, F>> for Cut {
@@ -75,7 +75,7 @@ impl<E, F> Split<View<E, F>> for Cut {
     ghost right = { split_off };
 }
 
-/// How one seat is met into another.
+/// How a seat is met into another seat.
 pub(crate) struct Meeting;
 
 impl<E, F> Join<View<E, F>> for Meeting {

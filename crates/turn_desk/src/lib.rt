@@ -1,16 +1,19 @@
-//! A turn lock. Callers share one value, the room, and take turns at it, each through a seat.
+//! A turn lock: threads share one value, the *room*, and take turns at it.
 //!
-//! All calls stand in one history, and each reply is the one that a single caller would get after the calls before it.
-//! The history that a seat sees begins with the history that it saw before.
+//! A [`Desk`] holds the room, which is any [`Turned`] value. Each thread makes its calls through its own [`Seat`] at
+//! the desk.
 //!
-//! A seat can be split in two, for another thread to take one, and can be met into another again, which then has seen
-//! what both had seen.
+//! All calls make one history. Each reply is the one that a single caller would get after the calls before it. The
+//! history that a seat sees begins with the history that it saw before.
 //!
-//! A turn begins with a ticket. Tickets are counted modulo 2^64 and served one after another.
-//! While it waits, a thread yields at first, and then sleeps until a turn is given on.
+//! A seat can be split in two, to give one seat to another thread. A seat can also be met into another seat, which then
+//! has seen what both had seen.
 //!
-//! It is not promised that a turn comes, in what time it comes, or in which order callers get theirs.
-//! A call that gets no turn does not return, and neither does any later one where the room's own call does not return.
+//! A turn begins with a ticket. Tickets are counted modulo 2^64 and served in order. A waiting thread yields at first,
+//! and then sleeps until a turn is passed on.
+//!
+//! No contract promises that a turn comes, when it comes, or in which order callers get their turns. A call that gets
+//! no turn does not return. If the room's own call does not return, no later call returns either.
 #![tactic(auto)]
 
 mod desk;

@@ -3,11 +3,11 @@ use crate::turned::Turned;
 use crate::view::View;
 use std::marker::Model;
 
-/// A seat at a desk. It has a number, under which the history has the entries of its own calls.
+/// A seat at a desk. It has a number, under which the history has the entries of the seat's own calls.
 ///
-/// Contracts see it as its desk, its number, the history that it has seen, the entries of its own calls,
-/// the seats that were met into it, the lengths of the history that it looked at, the tickets that it drew,
-/// and its parts of the right to sit at the desk.
+/// Contracts model a seat as its desk, its number, the history that it has seen, the entries of its own calls and the
+/// seats met into it. With these come the lengths of the history that it looked at, the tickets that it drew, and its
+/// parts of the right to sit at the desk.
 #[derive(Drop)]
 pub struct Seat<R: Turned> {
     pub(crate) place: atomic_table::Seat<Option<R>, View<R::Entry, R::Fixed>>,

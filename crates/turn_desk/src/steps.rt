@@ -1,8 +1,8 @@
 //! The steps of a turn, of a look, and of splitting and meeting seats, each in a function of its own.
 //!
-//! Word 0 is the length of the history, word 1 the number of tickets drawn, and word 2 the number of tickets served,
-//! both modulo 2^64. The one slot holds the room while no seat has the turn. From the load that gives a seat the turn
-//! until it gives the turn on, the slot is the seat's.
+//! Word 0 is the length of the history. Word 1 is the number of tickets drawn, and word 2 the number of tickets served,
+//! both modulo 2^64. The one slot holds the room while no seat has the turn. The slot is a seat's from the load that
+//! gives it the turn until it passes the turn on.
 ghost use Rattle.std.specs.Prelude.{◌≡◌, ◌⊎◌, ℕ, ◌%◌, ◌^◌, ◌<◌, ◌≤◌, [], ◌∷◌, length, Some, None};
 ghost use Rattle.turn_desk.specs.Inner.Plays.{Draws, Asks, Stores, PassesOn, Looks, TakesTurn};
 ghost use Rattle.turn_desk.specs.Inner.Steps.{SitsAt, IsSamePlace, IsWaiting, IsTurning, IsAtRest, HoldsRoom, MayEnter, GetsTurn, MakesCall};
@@ -26,10 +26,10 @@ const SERVING: usize = 2;
 /// How often a waiting thread yields before it sleeps.
 const YIELDS: u32 = 64;
 
-/// What a sleeping thread watches of a word.
+/// The part of a word that a sleeping thread watches.
 const LOW_BITS: u64 = 0xffff_ffff;
 
-/// Draws a ticket, which is the number of tickets drawn before it, modulo 2^64.
+/// Draws a ticket, and returns the number of tickets drawn before it, modulo 2^64.
 fn draw_ticket<R: Turned>(board: &Board<R>, place: &mut Place<R>) -> u64
     requires seat { SitsAt board.now.table_id (R.fixed board.now.key.value) place.old }
     requires idle { place.old.me.0.stage ≡ Idle }
@@ -39,7 +39,7 @@ fn draw_ticket<R: Turned>(board: &Board<R>, place: &mut Place<R>) -> u64
     board.fetch_add::<Draw>(place, TICKET, 1)
 }
 
-/// Loads the ticket that is served, modulo 2^64. Where it is the seat's own, the seat has the turn.
+/// Loads the ticket that is being served, modulo 2^64. If it is the seat's own, the seat has the turn.
 fn ask<R: Turned>(board: &Board<R>, place: &mut Place<R>) -> u64
     requires seat { SitsAt board.now.table_id (R.fixed board.now.key.value) place.old }
     requires waiting { (t : ℕ) × (place.old.me.0.stage ≡ Waiting t) }
@@ -49,7 +49,7 @@ fn ask<R: Turned>(board: &Board<R>, place: &mut Place<R>) -> u64
     board.load::<Ask>(place, SERVING)
 }
 
-/// Waits until the seat's ticket is served. The thread yields at first, and then sleeps until a turn is given on.
+/// Waits until the seat's ticket is served. The thread yields at first, and then sleeps until a turn is passed on.
 fn wait_for_turn<R: Turned, W: Wait>(rt: &W, board: &Board<R>, place: &mut Place<R>, ticket: u64)
     requires seat { SitsAt board.now.table_id (R.fixed board.now.key.value) place.old }
     requires waiting { IsWaiting place.old.me.0 ticket }
@@ -67,10 +67,10 @@ fn wait_for_turn<R: Turned, W: Wait>(rt: &W, board: &Board<R>, place: &mut Place
             yields += 1;
             thread::yield_now();
         } else {
-            // The thread goes to sleep only if the low half of the word is still what was loaded, and the system
-            // compares and puts it to sleep in one step. A turn is given on by changing the word first and then waking
-            // all who sleep on it: so a thread that loaded the word before the change does not go to sleep any more, or
-            // is woken. The low half is the same again only after 2^32 turns, which would all have to be given on
+            // The system compares the low half of the word with the loaded one and puts the thread to sleep in one
+            // step. If they differ, the thread does not sleep. `pass_on` first changes the word and then wakes all
+            // threads that sleep on it. So a thread that loaded the word before the change does not go to sleep, or is
+            // woken. The low half is the same again only after 2^32 turns, all of which would have to be passed on
             // between the load and the sleep.
             board.park(rt, SERVING, (serving & LOW_BITS) as u32);
         }
@@ -102,7 +102,7 @@ fn put_room<R: Turned>(board: &Board<R>, place: &mut Place<R>, room: R)
     board.exchange(place, 0, Some(room));
 }
 
-/// Stores the length of the room's list. Here the turn's event enters the history.
+/// Stores the length of the room's list. This step enters the turn's event into the history.
 fn enter_event<R: Turned>(board: &Board<R>, place: &mut Place<R>, count: u64)
     requires seat { SitsAt board.now.table_id (R.fixed board.now.key.value) place.old }
     requires turn { IsTurning place.old.me.0 }
@@ -114,7 +114,7 @@ fn enter_event<R: Turned>(board: &Board<R>, place: &mut Place<R>, count: u64)
     board.store::<Store>(place, LENGTH, count);
 }
 
-/// Gives the turn on, and wakes those who sleep until it is theirs.
+/// Passes the turn on, and wakes the threads that sleep until their turn.
 fn pass_on<R: Turned>(board: &Board<R>, place: &mut Place<R>)
     requires seat { SitsAt board.now.table_id (R.fixed board.now.key.value) place.old }
     requires turn { IsTurning place.old.me.0 }
@@ -122,13 +122,13 @@ fn pass_on<R: Turned>(board: &Board<R>, place: &mut Place<R>)
     ensures place { IsSamePlace place.old place.new }
     ensures idle { PassesOn place.old.me 0 place.new.me }
 {
-    // The word is changed before the wake, so that no one who saw it as it was sleeps on. All are woken, since one
-    // alone might be one whose turn it is not.
+    // The word is changed before the wake, so that no thread that saw the old word sleeps on. All threads are woken,
+    // because a single thread might be one whose turn it is not.
     board.fetch_add::<PassOn>(place, SERVING, 1);
     board.wake_all(SERVING);
 }
 
-/// Draws a ticket and waits until the turn is the seat's.
+/// Draws a ticket and waits until the seat has the turn.
 fn get_turn<R: Turned, W: Wait>(rt: &W, board: &Board<R>, place: &mut Place<R>)
     requires seat { SitsAt board.now.table_id (R.fixed board.now.key.value) place.old }
     requires idle { IsAtRest place.old.me }
@@ -157,7 +157,7 @@ fn make_call<R: Turned>(board: &Board<R>, place: &mut Place<R>, call: R::Call) -
     reply
 }
 
-/// Takes a turn and makes one call in it.
+/// Takes a turn, makes one call in it and passes the turn on.
 pub(crate) fn take_turn<R: Turned, W: Wait>(
     rt: &W,
     board: &Board<R>,
@@ -177,7 +177,7 @@ pub(crate) fn take_turn<R: Turned, W: Wait>(
     reply
 }
 
-/// Takes a last turn, and the room out in it.
+/// Takes a last turn, and takes the room out of the slot in it.
 pub(crate) fn take_last_turn<R: Turned, W: Wait>(
     rt: &W,
     board: &Board<R>,
@@ -202,7 +202,7 @@ fn load_length<R: Turned>(board: &Board<R>, place: &mut Place<R>) -> u64
     board.load::<Look>(place, LENGTH)
 }
 
-/// Looks at the length of the history.
+/// Looks at the length of the history, and returns it.
 pub(crate) fn look<R: Turned>(board: &Board<R>, place: &mut Place<R>) -> u64
     requires seat { SitsAt board.now.table_id (R.fixed board.now.key.value) place.old }
     requires idle { IsAtRest place.old.me }
@@ -214,7 +214,8 @@ pub(crate) fn look<R: Turned>(board: &Board<R>, place: &mut Place<R>) -> u64
     load_length(board, place)
 }
 
-/// Cuts the seat in two, by a load that tells nothing, and gives the new one.
+/// Splits the seat in two and returns the new one. A split needs a step on the table: it makes a load, of which no
+/// contract says what was loaded.
 pub(crate) fn cut<R: Turned>(board: &Board<R>, place: &mut Place<R>) -> Place<R>
     requires seat { SitsAt board.now.table_id (R.fixed board.now.key.value) place.old }
     requires idle { IsAtRest place.old.me }
@@ -227,7 +228,8 @@ pub(crate) fn cut<R: Turned>(board: &Board<R>, place: &mut Place<R>) -> Place<R>
     board.split_seat::<Cut>(place)
 }
 
-/// Takes the other seat into the seat, by a load that tells nothing, and loads the length of the history.
+/// Meets the other seat into the seat, by a load of which no contract says what was loaded, and then loads the length
+/// of the history.
 pub(crate) fn take_in<R: Turned>(board: &Board<R>, place: &mut Place<R>, other: Place<R>)
     requires seat { SitsAt board.now.table_id (R.fixed board.now.key.value) place.old }
     requires other { SitsAt board.now.table_id (R.fixed board.now.key.value) other }

@@ -1,4 +1,4 @@
--- How a seat is split in two, and how one is met into another.
+-- How a seat is split into two, and how a seat is met into another.
 use Rattle.std.specs.Prelude.{◌+◌, ◌-◌, [], ◌++◌, None}
 use Rattle.turn_desk.specs.Desk.{share}
 use Rattle.turn_desk.specs.Rule.{kin_of}
@@ -6,11 +6,12 @@ use Rattle.turn_desk.specs.declared.view.View.{View}
 use Rattle.turn_desk.specs.declared.view.Stage.TheVariants.{Idle}
 
 module _ {E F : Type 0} where
-  -- the seat that was split: it gave a share of its parts, and of its numbers the next one and every second after that
+  -- the seat that was split: it gave away a share of its parts, and the first, third, fifth and so on of the numbers
+  -- that it may give
   abbrev pub kept : View E F → View E F
   kept v = record v { parts = v.parts - share v.parts; next = v.next + v.stride; stride = v.stride + v.stride }
 
-  -- the seat that was split off it, under the next number, which supplies the others that were given
+  -- the seat that was split off it: it has the first of these numbers, and may give the third, fifth and so on
   abbrev pub split_off : View E F → View E F
   split_off v = record {
     fixed = v.fixed;
@@ -27,11 +28,11 @@ module _ {E F : Type 0} where
     stage = Idle;
   }
 
-  -- the seat into which another was met: it has the parts and the kin of both, and was told what the other had seen
+  -- the seat v into which w was met: it has the parts and the kin of both, and was told what w had seen
   abbrev pub joined : View E F → View E F → View E F
   joined v w = record v { told = w.seen; met = v.met ++ kin_of w; parts = v.parts + w.parts }
 
-  -- what is left of that other
+  -- what is left of a seat that was met into another
   abbrev pub spent : View E F
   spent = record {
     fixed = None;

@@ -1,10 +1,10 @@
--- What the functions of the steps ask and tell.
-use Rattle.std.specs.Prelude.{◌≡◌, ◌⊎◌, ℕ, ◌%◌, ◌^◌, ◌<◌, List, [], ◌∷◌, ◌++◌, length, Option, Some}
+-- What the functions of the steps require and ensure.
+use Rattle.std.specs.Prelude.{◌≡◌, ◌≢◌, ◌⊎◌, ℕ, ◌-◌, ◌%◌, ◌^◌, ◌<◌, List, [], ◌∷◌, ◌++◌, length, Option, Some}
 use Rattle.atomic_table.specs.Table.{Me}
 use Rattle.atomic_table.specs.Seated.{TableId}
 use Rattle.atomic_table.specs.declared.shared.Seat.{Seat}
-use Rattle.turn_desk.specs.History.{History, entries, BeginsWith, MayFollow, IsLegal}
-use Rattle.turn_desk.specs.Rule.{Agrees, StandsFor}
+use Rattle.turn_desk.specs.History.{History, IsAmong, entries, entries_by, BeginsWith, MayFollow, IsLegal}
+use Rattle.turn_desk.specs.Rule.{kin_of, Agrees, StandsFor}
 use Rattle.turn_desk.specs.Inner.Plays.{waiting, turning, looking, Grows}
 use Rattle.turn_desk.specs.declared.view.View.{View}
 use Rattle.turn_desk.specs.declared.view.Stage.TheVariants.{Idle, Waiting, Turning}
@@ -14,21 +14,21 @@ abbrev pub IsSized : TableId → Type 0
 IsSized z = (z.words ≡ 3) × (z.slots ≡ 1)
 
 module _ {S V : Type 0} where
-  -- the same seat of the same table, whatever it knows
+  -- it is the same seat at the same table, whatever the seat knows
   abbrev pub IsSamePlace : Seat S V → Seat S V → Type 0
   IsSamePlace s t = (t.table_id ≡ s.table_id) × (t.id ≡ s.id)
 
 module _ {S E F : Type 0} where
-  -- the seat is one of the table's, which has the fixed part
+  -- the seat is at this table, and knows this fixed part
   abbrev pub SitsAt : TableId → F → Seat S (View E F) → Type 0
   SitsAt z f seat = (seat.table_id ≡ z) × IsSized z × (seat.me.0.fixed ≡ Some f)
 
 module _ {E F : Type 0} where
-  -- the seat has a ticket, and what a word holds at its number is known
+  -- the seat waits with a ticket, whose number is `found` modulo 2^64
   abbrev pub IsWaiting : View E F → ℕ → Type 0
   IsWaiting v found = (t : ℕ) × (v.stage ≡ Waiting t) × (found ≡ t % 2 ^ 64)
 
-  -- the seat holds no slot and has no ticket, and what it knows of its kin is in what it has seen
+  -- the seat has no slot and no ticket, and what it has seen agrees with what it knows of its kin
   pub record IsAtRest {S : Type 0} (m : Me S (View E F)) : Type 0 where
     pub slots : m.1 ≡ []
     pub stage : m.0.stage ≡ Idle
@@ -39,24 +39,23 @@ module _ {E F : Type 0} where
   IsTurning v = (t : ℕ) × (v.stage ≡ Turning t)
 
 module _ {F E C P : Type 0} (answers : F → List E → C → P → List E → Type 0) where
-  -- the list stayed as it was, or a call appended one entry to it
+  -- the list is unchanged, or a call appended one entry to it
   abbrev pub MayLead : F → List E → List E → Type 0
   MayLead f before after = (after ≡ before) ⊎ ((e : E) × (after ≡ before ++ e ∷ []) × MayFollow answers f before e)
 
--- the seat has a turn and holds a room that stands for all that it has seen
+-- the seat has the slot with a room whose list is all that the seat has seen
 abbrev pub HoldsRoom : {R E F : Type 0} → (R → F) → (R → List E) → F → Me (Option R) (View E F) → Type 0
 HoldsRoom {R} fixed list f m = (room : R) × (m.1 ≡ (0, Some room) ∷ []) × StandsFor fixed list f room m.0.seen
 
 module _ {R E F C P : Type 0} (fixed : R → F) (list : R → List E) (answers : F → List E → C → P → List E → Type 0)
     (f : F) where
-  -- the seat has a turn and holds a room whose list is what it has seen, with at most one entry more, and so many
-  -- entries long
+  -- the seat has the slot with a room whose list has `count` entries: what the seat has seen, or one entry more
   abbrev pub MayEnter : Me (Option R) (View E F) → ℕ → Type 0
   MayEnter m count =
       (room : R) × (m.1 ≡ (0, Some room) ∷ []) × (fixed room ≡ f) × MayLead answers f (entries m.0.seen) (list room)
       × (count ≡ length (list room))
 
-  -- a seat at rest got a turn: it holds the room, which stands for the whole history
+  -- a seat at rest got a turn: it has the room, whose list is the whole history
   pub record GetsTurn (m m' : Me (Option R) (View E F)) : Type 0 where
     pub ticket : ℕ
     pub h : History E
@@ -65,10 +64,11 @@ module _ {R E F C P : Type 0} (fixed : R → F) (list : R → List E) (answers :
     pub legal : IsLegal answers f h
     pub begins : BeginsWith h m.0.seen
     pub agrees : Agrees h m.0
+    pub all : m.0.parts ≡ 2 ^ 64 - 1 → (n : ℕ) → entries_by n h ≢ [] → IsAmong n (kin_of m.0)
     pub stands : StandsFor fixed list f room h
     pub after : m' ≡ (turning ticket h (waiting ticket m.0), (0, Some room) ∷ [])
 
-  -- a seat with the turn made its call, and its event is in the history
+  -- a seat with the turn made its call, and the call's event is in the history
   pub record MakesCall (m : Me (Option R) (View E F)) (call : C) (reply : P) (m' : Me (Option R) (View E F))
       : Type 0 where
     pub h : History E
