@@ -41,7 +41,7 @@ TEXTS = [
 
 # The parts that run the built programs, in the order of tests/run.
 SCRIPTS = [
-    *scripts("program", "examples", "streams", "halts", "line_by_line", "command_line"),
+    *scripts("program", "examples", "order_of_checks", "streams", "halts", "line_by_line", "command_line"),
     *scripts("program", "replies", "large", "bases", "growths", "memory"),
     *scripts("documents", "protocol"),
     *scripts("program", "plans"),
