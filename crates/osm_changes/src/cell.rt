@@ -107,9 +107,14 @@ impl Ord for Cell {
     ghost matches_eq = { λ c d. refl };
 
     fn cmp(&self, other: &Cell) -> Ordering {
-        self.kind
-            .cmp(&other.kind)
-            .then(self.id.cmp(&other.id))
-            .then(self.part.cmp(&other.part))
+        let kinds = self.kind.cmp(&other.kind);
+        if kinds.is_ne() {
+            return kinds;
+        }
+        let ids = self.id.cmp(&other.id);
+        if ids.is_ne() {
+            return ids;
+        }
+        Part::cmp(&self.part, &other.part)
     }
 }
