@@ -1,11 +1,12 @@
 //! JSON texts.
-ghost use Rattle.std.specs.Prelude.{◌≡◌, [], IfOk};
+ghost use Rattle.std.specs.Prelude.{◌≡◌, [], IfOk, IsUtf8};
 ghost use Rattle.json.specs.Print.{print};
 
 use json::Writer;
 use osm_elements::Memory;
 use std::alloc::Global;
 use std::marker::Model;
+use std::str;
 
 // The length in bytes that most replies do not exceed.
 const SHORT_REPLY: usize = 128;
@@ -13,17 +14,17 @@ const SHORT_REPLY: usize = 128;
 /// A JSON text without insignificant whitespace (RFC 8259).
 #[derive(Debug, Drop)]
 pub struct Json {
-    text: String,
+    bytes: Vec<u8>,
+    ghost utf8: { ∥ IsUtf8 bytes.items ∥₁ },
 }
 
 // Contracts model a text as its bytes.
 impl Model for Json {
     ghost use Rattle.std.specs.Prelude.{List, ℕ};
-    ghost use Rattle.std.specs.String.{string_bytes};
 
     ghost Value = { List ℕ };
 
-    ghost view = { λ j. string_bytes j.text };
+    ghost view = { λ j. j.bytes.items };
 }
 
 impl Json {
@@ -39,23 +40,25 @@ impl Json {
         requires { out.before ≡ [] }
         ensures { result ≡ print out.tokens }
     {
-        match String::from_utf8(out.into_inner()) {
-            Ok(text) => Json { text },
-            Err(_) => unreachable!(),
+        Json {
+            bytes: out.into_inner(),
         }
     }
 
-    /// Returns the text.
+    /// Returns the text. It goes over the bytes, because only std makes a `str` without a test.
     pub fn as_str(&self) -> &str
         ensures { result.now ≡ self.now }
     {
-        self.text.as_str()
+        match str::from_utf8(&self.bytes) {
+            Ok(text) => text,
+            Err(_) => unreachable!(),
+        }
     }
 
     /// Returns the bytes of the text.
     pub fn as_bytes(&self) -> &[u8]
         ensures { result.now ≡ self.now }
     {
-        self.text.as_bytes()
+        &self.bytes
     }
 }
