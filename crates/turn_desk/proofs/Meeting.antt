@@ -98,9 +98,12 @@ module _ {E F : Type 0} where
       let both : get_elem? (set (set views id (joined v w)) other spent) id ≡ some (joined v w) = set_else (set views id (joined v w)) other id spent (λ e. apart (sym e)) ∙ set_at views id v (joined v w) at in
       dite (ℕ_discrete (owner n) other)
       (λ (e : owner n ≡ other).
-      let same : it.0 ≡ w = some-injective it.0 w (sym it.1 ∙ (ap (get_elem? views) e ∙ there)) in
-      (joined v w, ap (get_elem? (set (set views id (joined v w)) other spent)) (passed_on owner other id n e) ∙ both, own,
-      inr (among_second n v.met (kin_of w) (subst (λ (x : View E F). IsAmong n (kin_of x)) same it.3))))
+      let same : it.0 ≡ w = some-injective it.0 w (sym it.1 ∙ (ap (get_elem? views) e ∙ there)) in (
+        joined v w,
+        ap (get_elem? (set (set views id (joined v w)) other spent)) (passed_on owner other id n e) ∙ both,
+        own,
+        inr (among_second n v.met (kin_of w) (subst (λ (x : View E F). IsAmong n (kin_of x)) same it.3)),
+      ))
       (λ (far : owner n ≢ other).
       let still = stays_with owner other id n (owner n) far refl in
       let one = known_still owner f views id n v (joined v w) at own (among_first n (kin_of v) (kin_of w)) it in
