@@ -3,7 +3,7 @@ ghost use Rattle.std.specs.Prelude.{◌≡◌, [], nat_lt, OnOk, OnErr};
 ghost use Rattle.std.specs.List.{find};
 ghost use Rattle.std.specs.Ordering.{nat_cmp};
 ghost use Rattle.rising_lists.specs.Rising.{IsRising};
-ghost use Rattle.edit_footprint.specs.Holding.{IsNext, HoldsOnly, IsFirstAfter, standing, fallen};
+ghost use Rattle.edit_footprint.specs.Holding.{AreHeld, IsNext, HoldsOnly, IsFirstAfter, standing, fallen};
 ghost use Rattle.edit_footprint.specs.Inner.Searching as inner;
 
 use crate::footprint::Footprint;
@@ -48,7 +48,8 @@ impl<A: Allocator> Holders<A> {
 
     /// Adds an active entry. Its number must be greater than those of all active entries. For each cell of the
     /// footprint, it takes time logarithmic in the number of held cells. An entry can be added before the store
-    /// changes, and removed again if the store refuses the change.
+    /// changes, and removed again if the store refuses the change (law `a_fall_restores`). Clause `held` is true of all
+    /// holders, and a premise of that law.
     ///
     /// # Errors
     ///
@@ -57,6 +58,7 @@ impl<A: Allocator> Holders<A> {
     where
         A: Clone,
         requires { IsNext self.old seq }
+        ensures held { AreHeld self.old }
         ensures ok { OnOk result (self.new ≡ standing self.old footprint.now seq) }
         ensures err { OnErr result (self.new ≡ self.old) }
     {

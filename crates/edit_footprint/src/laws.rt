@@ -1,5 +1,5 @@
 //! Laws of footprints. Each law is the contract of an empty function.
-ghost use Rattle.std.specs.Prelude.{◌≡◌, true, false, List, Some, None};
+ghost use Rattle.std.specs.Prelude.{◌≡◌, ℕ, true, false, List, Some, None};
 ghost use Rattle.std.specs.Ordering.{is_lt};
 ghost use Rattle.osm_elements.specs.declared.name.Name.{Name};
 ghost use Rattle.osm_elements.specs.NameOrder.{name_cmp};
@@ -15,6 +15,7 @@ ghost use Rattle.edit_footprint.specs.Agreement.{Agree};
 ghost use Rattle.edit_footprint.specs.Commutation.{ChangePlaces};
 ghost use Rattle.edit_footprint.specs.Examples.{created, retagged, moved, reversed, nodes_given, members_given, deleted, purged, split, joined, merged, unglued, ceased, by_parts};
 ghost use Rattle.edit_footprint.specs.Footprints.{footprint, meets, Shares};
+ghost use Rattle.edit_footprint.specs.Holding.{Held, AreHeld, HoldsOnly, IsNext, standing, fallen};
 ghost use Rattle.edit_footprint.specs.Locality.{LeavesTheRest, AcceptedAlike};
 
 use std::alloc::Allocator;
@@ -52,6 +53,15 @@ pub fn footprints_meet_in_their_least()
         → is_lt (name_cmp c.name x) ≡ false }
     ensures none { (one two : List Cell) (c : Cell) → meets one two ≡ None → has one c ≡ true → has two c ≡ true → ⊥ }
     ensures either_way { (one two : List Cell) → IsRising one → IsRising two → meets one two ≡ meets two one }
+{}
+
+/// If an entry with the next number becomes active with a footprint, it holds only the cells of this footprint. If it
+/// then ceases to be active, each cell is held as before.
+pub fn a_fall_restores()
+    ensures only { (held : Held) (cells : List Cell) (seq : ℕ) → IsRising cells → IsNext held seq
+        → HoldsOnly (standing held cells seq) cells seq }
+    ensures restored { (held : Held) (cells : List Cell) (seq : ℕ) → AreHeld held → IsRising cells → IsNext held seq
+        → fallen (standing held cells seq) seq ≡ held }
 {}
 
 /// The definitions give the results that were worked out by hand: at least one footprint of each action, and the

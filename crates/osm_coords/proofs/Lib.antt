@@ -1,3 +1,4 @@
+mod ExampleProofs
 mod FormRead
 mod Numerals
 mod ReadBack

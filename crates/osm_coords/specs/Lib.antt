@@ -1,4 +1,5 @@
 pub mod Coordinate
+pub mod Examples
 pub mod Form
 pub mod Latitude
 pub mod Longitude

@@ -1,6 +1,7 @@
 //! Laws of the texts of coordinates. Each is the contract of a function that does nothing.
 ghost use Rattle.std.specs.Prelude.{◌≡◌, ◌≤◌, ◌↔◌, ℕ, ℤ, List, length};
 ghost use Rattle.osm_coords.specs.Coordinate.{coordinate};
+ghost use Rattle.osm_coords.specs.Examples.{texts_read, texts_refused, ranges_kept, texts_written};
 ghost use Rattle.osm_coords.specs.Form.{SaysCoordinate};
 ghost use Rattle.osm_coords.specs.Latitude.{latitude_of, IsLatitude};
 ghost use Rattle.osm_coords.specs.Longitude.{longitude_of, IsLongitude};
@@ -29,4 +30,12 @@ pub fn longitude_is_read_back()
 #[tactic(auto, using(crate::proofs::ReadBack::written_fits))]
 pub fn written_fits()
     ensures { (z : ℤ) → IsLongitude z → length (written z) ≤ 12 }
+{}
+
+/// The definitions agree with examples that were worked out by hand.
+pub fn examples_are_as_worked()
+    ensures texts_read { texts_read }
+    ensures texts_refused { texts_refused }
+    ensures ranges_kept { ranges_kept }
+    ensures texts_written { texts_written }
 {}

@@ -1,4 +1,5 @@
 pub mod Entering
+mod ExampleProofs
 pub mod MemberNames
 mod SameReferences
 pub mod Turning

@@ -1,4 +1,5 @@
 pub mod Changes
+pub mod Examples
 pub mod Facts
 pub mod Inner
 pub mod References

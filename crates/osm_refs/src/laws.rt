@@ -4,6 +4,7 @@ ghost use Rattle.osm_elements.specs.declared.element.Element.{Element};
 ghost use Rattle.osm_elements.specs.declared.name.Name.{Name};
 ghost use Rattle.osm_elements.specs.Maps.{Rows, name_set, rows_but};
 ghost use Rattle.osm_elements.specs.Rows.{row_at, put_row, AreInOrder};
+ghost use Rattle.osm_refs.specs.Examples.{references_found, users_found, tables_made, references_changed};
 ghost use Rattle.osm_refs.specs.References.{references, row_references, users};
 ghost use Rattle.osm_refs.specs.Tables.{table_of, users_in, references_at, referring};
 
@@ -21,4 +22,12 @@ pub fn a_table_changes_with_its_map<A: Allocator>()
     ensures put { (m : Rows A) (x : Name) (v : Element A) → AreInOrder m
         → table_of (put_row m x v) ≡ referring (table_of m) x (name_set (references v)) }
     ensures taken { (m : Rows A) (x : Name) → AreInOrder m → table_of (rows_but x m) ≡ referring (table_of m) x [] }
+{}
+
+/// The definitions agree with examples that were worked out by hand.
+pub fn examples_are_as_worked()
+    ensures references_found { references_found }
+    ensures users_found { users_found }
+    ensures tables_made { tables_made }
+    ensures references_changed { references_changed }
 {}

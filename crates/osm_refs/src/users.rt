@@ -45,7 +45,8 @@ impl<A: Allocator> Users<A> {
 
     /// Returns the users of a name, in name order. Takes time logarithmic in the number of used names.
     pub fn of(&self, name: &Name) -> &[Name]
-        ensures { result.now ≡ users_in self.now name.now }
+        ensures users { result.now ≡ users_in self.now name.now }
+        ensures rising { IsRising result.now }
     {
         self.lists.of(name)
     }

@@ -1,3 +1,4 @@
+pub mod Examples
 pub mod Facts
 pub mod Inner
 pub mod Lists

@@ -8,5 +8,6 @@
 #![tactic(auto)]
 
 pub mod but;
+pub mod laws;
 mod list;
 pub mod lists;

@@ -1,5 +1,6 @@
 pub mod Ascii
 pub mod Entering
+mod ExampleProofs
 pub mod Padding
 pub mod Rewriting
 pub mod Searching

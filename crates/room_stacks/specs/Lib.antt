@@ -1,4 +1,5 @@
 pub mod Authors
+pub mod Examples
 pub mod Facts
 pub mod Inner
 pub mod Numbered

@@ -12,5 +12,6 @@ pub mod author;
 mod author_lists;
 mod author_stacks;
 pub mod deed;
+pub mod laws;
 mod spent_ids;
 pub mod stacks;

@@ -1,8 +1,10 @@
 use Rattle.std.proofs.Common.{◌∙◌, sym, subst}
 use Rattle.edit_footprint.proofs.Keeping.{lacks_next, on_err, same_held, stands}
 use Rattle.edit_footprint.proofs.holders.Holders.stand.Goals as goal
-use Rattle.edit_footprint.specs.Holding.{standing}
-use Rattle.osm_changes.specs.Cells.{IsRising}
+use Rattle.edit_footprint.specs.Holding.{AreHeld, standing}
+use Rattle.osm_changes.specs.Cells.{IsRising, cell_cmp}
+use Rattle.osm_changes.specs.Facts.Cells.{cell_cmp_total}
+use Rattle.rising_lists.specs.Facts.Tables.{IsTable-lists}
 
 pub add_all-requires : goal.add_all-requires
 add_all-requires g c =
@@ -23,3 +25,9 @@ returns-clause-ok g c =
     let next = rw (← c.self.view_is) at c.requires in
     stands before after cells c.args.seq c.self.inside.lists.kept c.add_all.new.self.kept rises next c.in_ok-add_all.ensures.ok
     ∙ (λ i. standing (c.self.view_is i) (c.cells-cells.ensures.cells i) c.args.seq)
+
+pub returns-in_err-add_all-clause-held : goal.returns-in_err-add_all-clause-held
+returns-in_err-add_all-clause-held g c = subst AreHeld c.self.view_is (IsTable-lists cell_cmp cell_cmp_total c.self.inside.lists.lists.entries c.self.inside.lists.kept)
+
+pub returns-clause-held : goal.returns-clause-held
+returns-clause-held g c = subst AreHeld c.self.view_is (IsTable-lists cell_cmp cell_cmp_total c.self.inside.lists.lists.entries c.self.inside.lists.kept)

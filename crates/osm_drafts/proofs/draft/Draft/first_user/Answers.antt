@@ -16,8 +16,8 @@ returns-in-Some-Some g c =
     let w = c.self.inside.written.keys in
     let here = c.self.inside.here in
     let e = c.args.name.now in
-    let its = c.of.ensures ∙ ap (λ (t : Table). users_in t e) c.users.ensures ∙ users_in-table_of m e in
-    let own = c.of-2.ensures ∙ ap (λ (t : Table). users_in t e) c.self.invariant.users_are ∙ users_in-table_of here e in
+    let its = c.of.ensures.users ∙ ap (λ (t : Table). users_in t e) c.users.ensures ∙ users_in-table_of m e in
+    let own = c.of-2.ensures.users ∙ ap (λ (t : Table). users_in t e) c.self.invariant.users_are ∙ users_in-table_of here e in
     ap Some (c.min.ensures ∙ ap (λ R. ord_min R c.in-Some-Some.stored c.in-Some-Some.own) name_cmp_is)
     ∙ first_user_is m w here e (sound_in_order m c.map.ensures.sound) c.self.invariant.order c.self.invariant.inside
     (Some c.in-Some-Some.stored) (Some c.in-Some-Some.own)
@@ -31,8 +31,8 @@ returns-in-Some-None g c =
     let w = c.self.inside.written.keys in
     let here = c.self.inside.here in
     let e = c.args.name.now in
-    let its = c.of.ensures ∙ ap (λ (t : Table). users_in t e) c.users.ensures ∙ users_in-table_of m e in
-    let own = c.of-2.ensures ∙ ap (λ (t : Table). users_in t e) c.self.invariant.users_are ∙ users_in-table_of here e in
+    let its = c.of.ensures.users ∙ ap (λ (t : Table). users_in t e) c.users.ensures ∙ users_in-table_of m e in
+    let own = c.of-2.ensures.users ∙ ap (λ (t : Table). users_in t e) c.self.invariant.users_are ∙ users_in-table_of here e in
     first_user_is m w here e (sound_in_order m c.map.ensures.sound) c.self.invariant.order c.self.invariant.inside
     (Some c.in-Some-None.stored) None
     (sym c.in-Some-None.is-0 ∙ c.first_unwritten-stored.ensures ∙ ap (find (λ x. not (is_among w x))) its)
@@ -45,8 +45,8 @@ returns-in-None-default g c =
     let w = c.self.inside.written.keys in
     let here = c.self.inside.here in
     let e = c.args.name.now in
-    let its = c.of.ensures ∙ ap (λ (t : Table). users_in t e) c.users.ensures ∙ users_in-table_of m e in
-    let own = c.of-2.ensures ∙ ap (λ (t : Table). users_in t e) c.self.invariant.users_are ∙ users_in-table_of here e in
+    let its = c.of.ensures.users ∙ ap (λ (t : Table). users_in t e) c.users.ensures ∙ users_in-table_of m e in
+    let own = c.of-2.ensures.users ∙ ap (λ (t : Table). users_in t e) c.self.invariant.users_are ∙ users_in-table_of here e in
     first_user_is m w here e (sound_in_order m c.map.ensures.sound) c.self.invariant.order c.self.invariant.inside
     None c.copied-own.result
     (sym c.in-None-default.is-0 ∙ c.first_unwritten-stored.ensures ∙ ap (find (λ x. not (is_among w x))) its)

@@ -18,8 +18,8 @@ returns g c =
     let w = c.self.inside.written.keys in
     let here = c.self.inside.here in
     let e = c.args.name.now in
-    let its = c.of-its_users.ensures ∙ ap (λ (t : Table). users_in t e) c.users.ensures ∙ users_in-table_of m e in
-    let own = c.of.ensures ∙ ap (λ (t : Table). users_in t e) c.self.invariant.users_are ∙ users_in-table_of here e in
+    let its = c.of-its_users.ensures.users ∙ ap (λ (t : Table). users_in t e) c.users.ensures ∙ users_in-table_of m e in
+    let own = c.of.ensures.users ∙ ap (λ (t : Table). users_in t e) c.self.invariant.users_are ∙ users_in-table_of here e in
     let pushed = c.in_ok-push_all_unwritten.ensures ∙ (λ i. c.new-names.ensures.items i ++ flat_map (unwritten w) (its i)) in
     c.from_vec.ensures
     ∙ sorted_is_name_set _ name_eq_is _ name_cmp_is _ _ _ c.sort_unstable.ensures.permutation c.sort_unstable.ensures.sorted c.dedup.ensures.filtered

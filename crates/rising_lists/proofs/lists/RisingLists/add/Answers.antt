@@ -1,4 +1,4 @@
-use Rattle.std.proofs.Common.{[], ◌≡◌, ap, false, subst, sym}
+use Rattle.std.proofs.Common.{◌≡◌, ap, false, subst, sym}
 use Rattle.rising_lists.proofs.lists.RisingLists.add.Goals as goal
 use Rattle.rising_lists.specs.Facts.Rows.{OnErr-map, OnOk-map, add_keeps, begun, changed, filled_found, first_keeps, gains, keeps_lists, rising_found, same_lists}
 use Rattle.rising_lists.specs.Lists.{has_none}
