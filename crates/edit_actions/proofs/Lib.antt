@@ -1,2 +1,3 @@
+mod ExampleProofs
 pub mod Planned
 pub mod Retagged

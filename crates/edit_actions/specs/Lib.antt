@@ -1,4 +1,5 @@
 pub mod After
+pub mod Examples
 pub mod Facts
 pub mod MadeActions
 pub mod Refusals

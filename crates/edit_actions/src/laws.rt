@@ -12,6 +12,7 @@ ghost use Rattle.osm_changes.specs.Sound.{is_sound};
 ghost use Rattle.edit_simple.specs.Tagging.{GivenTags};
 ghost use Rattle.edit_actions.specs.declared.action.Action.{Action};
 ghost use Rattle.edit_actions.specs.After.{after, changes};
+ghost use Rattle.edit_actions.specs.Examples.{created, retagged, moved, split};
 ghost use Rattle.edit_actions.specs.MadeActions.{is_made_action};
 ghost use Rattle.edit_actions.specs.Refusals.{refusal};
 
@@ -39,4 +40,12 @@ pub fn one_name_is_changed<A: Allocator>()
         → changes m (Delete x) ≡ half_change x (Some v) None Tags ∷ half_change x (Some v) None Rest ∷ [] }
     ensures retag { (m : Rows A) (x : Name) (given : GivenTags) → refusal m (Retag x given) ≡ None
         → changed_cells (changes m (Retag x given)) ≡ tags_at x ∷ [] }
+{}
+
+/// The definitions agree with examples that were worked out by hand, of a create, a retag, a move and a split.
+pub fn examples_are_as_worked()
+    ensures created { created }
+    ensures retagged { retagged }
+    ensures moved { moved }
+    ensures split { split }
 {}

@@ -1,10 +1,9 @@
 -- Moves, node by node.
-use Rattle.std.proofs.Common.{◌≡◌, ◌≢◌, ◌⊎◌, ◌<◌, ◌+◌, ◌+ℤ◌, ℕ, ℤ, pos, zero, suc, Bool, true, false, not, ◌&&◌, T, List, [], ◌∷◌, ◌++◌, Option, Some, None, Result, Ok, Err, inl, inr, is_some, neg_ℤ, int_le, length, take, drop, get_or, refl, sym, ap, subst, ◌∙◌, cond, arith}
+use Rattle.std.proofs.Common.{◌≡◌, ◌≢◌, ◌⊎◌, ◌<◌, ◌+◌, ◌+ℤ◌, ℕ, ℤ, pos, zero, suc, Bool, true, false, not, ◌&&◌, T, List, [], ◌∷◌, ◌++◌, Option, Some, None, inl, inr, is_some, neg_ℤ, int_le, length, take, drop, get_or, refl, sym, ap, subst, ◌∙◌, cond, arith}
 use Rattle.std.proofs.lemmas.List.{take_more, take-append-drop}
 use Rattle.std.proofs.lemmas.List.Elements.{filter-append}
 use Rattle.std.specs.List.{list_all}
 use Rattle.std.specs.Option.{option_map}
-use Rattle.std.specs.Result.{IsErr, IsErrAnd}
 use Rattle.std.specs.Ordering.{int_eq, is_lt}
 use Rattle.std.specs.FinMap.Entries.{is_sorted, below_all}
 use Rattle.osm_coords.specs.Latitude.{latitude}
@@ -125,7 +124,3 @@ module _ {A : Type 0} (m : Rows A) (dlat dlon : ℤ) where
 -- a fact about two distances holds for equal distances
 pub of_distances : (P : ℤ → ℤ → Type 0) (d e dlat dlon : ℤ) → d ≡ dlat → e ≡ dlon → P d e → P dlat dlon
 of_distances P d e dlat dlon a b h = subst (λ z. P dlat z) b (subst (λ z. P z e) a h)
-
-pub err_result : {X E : Type 0} (Q : Result X E → Type 0) (r : Result X E) (e : E) → IsErr r → IsErrAnd r (λ x. x ≡ e) → Q (Err e) → Q r
-err_result Q (Ok x) e h k q = absurd (cc)
-err_result Q (Err x) e h k q = subst (λ z. Q (Err z)) (sym k) q

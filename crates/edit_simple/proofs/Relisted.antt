@@ -23,7 +23,7 @@ use Rattle.edit_simple.specs.Kinds.{is_way, is_relation}
 use Rattle.edit_simple.specs.Members.{members_checks, after_members}
 use Rattle.edit_simple.specs.Nodes.{nodes_checks, after_nodes}
 use Rattle.edit_simple.specs.Contents.{nodes_of, members_of, with_nodes, with_members}
-use Rattle.edit_simple.specs.Plans.{IsPlan}
+use Rattle.edit_simple.specs.Plans.{IsNamed, IsPlan}
 use Rattle.edit_simple.specs.Reverse.{reverse_checks, after_reverse}
 use Rattle.edit_simple.specs.Facts.Differences.{one_rewritten}
 use Rattle.edit_simple.specs.Facts.Kinds.{way_there, relation_there}
@@ -50,6 +50,11 @@ module _ {A : Type 0} where
   changed_planned m n checks x same v w left differs (Err e) (inl h) = inl (left ∙ ap (λ b. first_that_holds (then_some b Nothing ∷ [])) h.0 ∙ ap Some (sym h.1))
   changed_planned m n checks x same v w left differs (Err e) (inr h) = inr h
 
+  pub changed_named : (checks : List (Option (Refusal A))) (same : Bool) → first_that_holds checks ≡ first_that_holds (then_some same Nothing ∷ [])
+      → (r : Result (List (Change A)) (Refusal A)) → (same ≡ true → r ≡ Err Nothing) → IsNamed checks r
+  changed_named checks true left r h e is = h refl ∙ ap Err (cc)
+  changed_named checks false left r h e is = absurd (cc)
+
   nodes_apart : (nodes others : List Name) (t u : Pairs) → are_same_names nodes others ≡ false → ◌≢◌ {A = Option (Element A)} (Some (Way others t)) (Some (Way nodes u))
   nodes_apart nodes others t u other e = cc (sym (same_nodes_itself others) ∙ ap (λ o. are_same_names (nodes_of o) others) e ∙ other)
 
@@ -74,6 +79,12 @@ module _ {A : Type 0} where
 
   -- ---- reverse
 
+  -- the remaining check of a way that is there
+  pub reverse_left : (m : Rows A) (w : Name) (nodes : List Name) (tags : Pairs) → is_way w.kind ≡ true → row_at m w ≡ Some (Way nodes tags)
+      → first_that_holds (reverse_checks m w) ≡ first_that_holds {X = Refusal A} (then_some (are_same_names nodes (reverse nodes)) Nothing ∷ [])
+  reverse_left m w nodes tags way is =
+      λ i. first_that_holds (then_some (not (way i)) (WrongKind w) ∷ then_some (not (is_some (is i))) (Absent w) ∷ then_some (are_same_names (nodes_of (is i)) (reverse (nodes_of (is i)))) Nothing ∷ [])
+
   pub reverse_planned : (m : Rows A) (w : Name) (nodes turned : List Name) (tags : Pairs) → is_way w.kind ≡ true → row_at m w ≡ Some (Way nodes tags) → turned ≡ reverse nodes
       → (r : Result (List (Change A)) (Refusal A)) → Changed w (are_same_names nodes turned) (Way nodes tags) (Way turned tags) r → IsPlan m (reverse_checks m w) (after_reverse m w) r
   reverse_planned m w nodes turned tags way is e r h =
@@ -81,8 +92,7 @@ module _ {A : Type 0} where
     where
       left : first_that_holds (reverse_checks m w) ≡ first_that_holds (then_some (are_same_names nodes turned) Nothing ∷ [])
       left =
-          (λ i. first_that_holds (then_some (not (way i)) (WrongKind w) ∷ then_some (not (is_some (is i))) (Absent w) ∷ then_some (are_same_names (nodes_of (is i)) (reverse (nodes_of (is i)))) Nothing ∷ []))
-          ∙ ap (λ l. first_that_holds (then_some (are_same_names nodes l) Nothing ∷ [])) (sym e)
+          reverse_left m w nodes tags way is ∙ ap (λ l. first_that_holds (then_some (are_same_names nodes l) Nothing ∷ [])) (sym e)
 
       differs : are_same_names nodes turned ≡ false → row_changes w (Some (Way nodes tags)) (Some (Way turned tags)) ≡ differences m (after_reverse m w)
       differs other =
@@ -92,7 +102,7 @@ module _ {A : Type 0} where
   -- ---- nodes
 
   -- the remaining checks of a way that is there
-  nodes_left : (m : Rows A) (w : Name) (list nodes : List Name) (tags : Pairs) → is_way w.kind ≡ true → row_at m w ≡ Some (Way nodes tags) → false ≡ nat_lt (length list) 2 → false ≡ nat_lt most_nodes (length list)
+  pub nodes_left : (m : Rows A) (w : Name) (list nodes : List Name) (tags : Pairs) → is_way w.kind ≡ true → row_at m w ≡ Some (Way nodes tags) → false ≡ nat_lt (length list) 2 → false ≡ nat_lt most_nodes (length list)
       → (o : Option Name) → o ≡ least (filter (is_missing m w) list)
       → first_that_holds (nodes_checks m w list) ≡ first_that_holds (option_map {T = Name} {U = Refusal A} Absent o ∷ then_some (are_same_names nodes list) Nothing ∷ [])
   nodes_left m w list nodes tags way is few many o e =
@@ -103,24 +113,20 @@ module _ {A : Type 0} where
       names = ap least (sym (missing_is_absent m w (present_row m w (Way nodes tags) is) list)) ∙ sym e
 
   pub nodes_absent : (m : Rows A) (w : Name) (list nodes : List Name) (tags : Pairs) → is_way w.kind ≡ true → row_at m w ≡ Some (Way nodes tags) → false ≡ nat_lt (length list) 2 → false ≡ nat_lt most_nodes (length list)
-      → (absent : Name) → Some absent ≡ least (filter (is_missing m w) list) → IsPlan m (nodes_checks m w list) (after_nodes m w list) (Err (Absent absent))
-  nodes_absent m w list nodes tags way is few many absent e = inl (nodes_left m w list nodes tags way is few many (Some absent) e)
+      → (absent : Name) → Some absent ≡ least (filter (is_missing m w) list) → first_that_holds (nodes_checks m w list) ≡ Some (Absent absent)
+  nodes_absent m w list nodes tags way is few many absent e = nodes_left m w list nodes tags way is few many (Some absent) e
 
-  pub nodes_planned : (m : Rows A) (w : Name) (list nodes others : List Name) (tags : Pairs) → is_way w.kind ≡ true → row_at m w ≡ Some (Way nodes tags) → false ≡ nat_lt (length list) 2 → false ≡ nat_lt most_nodes (length list)
-      → None ≡ least (filter (is_missing m w) list) → others ≡ list
-      → (r : Result (List (Change A)) (Refusal A)) → Changed w (are_same_names nodes others) (Way nodes tags) (Way others tags) r → IsPlan m (nodes_checks m w list) (after_nodes m w list) r
-  nodes_planned m w list nodes others tags way is few many none e r h =
-      changed_planned m (after_nodes m w list) (nodes_checks m w list) w (are_same_names nodes others) (Way nodes tags) (Way others tags)
-      (nodes_left m w list nodes tags way is few many None none ∙ ap (λ l. first_that_holds (then_some (are_same_names nodes l) Nothing ∷ [])) (sym e)) differs r h
-    where
-      differs : are_same_names nodes others ≡ false → row_changes w (Some (Way nodes tags)) (Some (Way others tags)) ≡ differences m (after_nodes m w list)
-      differs other =
-          ap (λ l. row_changes w (Some (Way nodes tags)) (Some (Way l tags))) e
-          ∙ one_rewritten m w (with_nodes (λ _. list)) (Way nodes tags) is (nodes_apart nodes list tags tags (ap (are_same_names nodes) (sym e) ∙ other))
+  pub nodes_planned : (m : Rows A) (w : Name) (list nodes : List Name) (tags : Pairs) → is_way w.kind ≡ true → row_at m w ≡ Some (Way nodes tags) → false ≡ nat_lt (length list) 2 → false ≡ nat_lt most_nodes (length list)
+      → None ≡ least (filter (is_missing m w) list)
+      → (r : Result (List (Change A)) (Refusal A)) → Changed w (are_same_names nodes list) (Way nodes tags) (Way list tags) r → IsPlan m (nodes_checks m w list) (after_nodes m w list) r
+  nodes_planned m w list nodes tags way is few many none r h =
+      changed_planned m (after_nodes m w list) (nodes_checks m w list) w (are_same_names nodes list) (Way nodes tags) (Way list tags)
+      (nodes_left m w list nodes tags way is few many None none)
+      (λ other. one_rewritten m w (with_nodes (λ _. list)) (Way nodes tags) is (nodes_apart nodes list tags tags other)) r h
 
   -- ---- members
 
-  members_left : (m : Rows A) (r : Name) (list members : List (Name × List ℕ)) (tags : Pairs) → is_relation r.kind ≡ true → row_at m r ≡ Some (Relation members tags) → false ≡ nat_lt most_members (length list)
+  pub members_left : (m : Rows A) (r : Name) (list members : List (Name × List ℕ)) (tags : Pairs) → is_relation r.kind ≡ true → row_at m r ≡ Some (Relation members tags) → false ≡ nat_lt most_members (length list)
       → (o : Option Name) → o ≡ least (filter (is_missing m r) (map (λ e. e.0) list))
       → first_that_holds (members_checks m r list) ≡ first_that_holds (option_map {T = Name} {U = Refusal A} Absent o ∷ then_some (are_same_members members list) Nothing ∷ [])
   members_left m r list members tags relation is many o e =
@@ -131,8 +137,8 @@ module _ {A : Type 0} where
       names = ap least (sym (missing_is_absent m r (present_row m r (Relation members tags) is) (map (λ e. e.0) list))) ∙ sym e
 
   pub members_absent : (m : Rows A) (r : Name) (list members : List (Name × List ℕ)) (tags : Pairs) → is_relation r.kind ≡ true → row_at m r ≡ Some (Relation members tags) → false ≡ nat_lt most_members (length list)
-      → (absent : Name) → Some absent ≡ least (filter (is_missing m r) (map (λ e. e.0) list)) → IsPlan m (members_checks m r list) (after_members m r list) (Err (Absent absent))
-  members_absent m r list members tags relation is many absent e = inl (members_left m r list members tags relation is many (Some absent) e)
+      → (absent : Name) → Some absent ≡ least (filter (is_missing m r) (map (λ e. e.0) list)) → first_that_holds (members_checks m r list) ≡ Some (Absent absent)
+  members_absent m r list members tags relation is many absent e = members_left m r list members tags relation is many (Some absent) e
 
   pub members_planned : (m : Rows A) (r : Name) (list members : List (Name × List ℕ)) (tags : Pairs) → is_relation r.kind ≡ true → row_at m r ≡ Some (Relation members tags) → false ≡ nat_lt most_members (length list)
       → None ≡ least (filter (is_missing m r) (map (λ e. e.0) list))

@@ -15,3 +15,4 @@ pub mod Relisting
 pub mod Retagging
 pub mod Rewriting
 pub mod SameMaps
+pub mod Soundness

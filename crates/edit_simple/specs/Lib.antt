@@ -15,4 +15,5 @@ pub mod Purge
 pub mod Retag
 pub mod Reverse
 pub mod Scenes
+pub mod Soundness
 pub mod Tagging

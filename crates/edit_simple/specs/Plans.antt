@@ -12,3 +12,7 @@ abbrev pub IsPlan : {A : Type 0} → Rows A → List (Option (Refusal A)) → Ro
     → Type 0
 IsPlan m checks after (Ok cs) = (first_that_holds checks ≡ None) × (cs ≡ differences m after)
 IsPlan m checks after (Err r) = (first_that_holds checks ≡ Some r) ⊎ (r ≡ Memory)
+
+-- if a check holds, the result is the first that does: `Memory` does not replace it
+abbrev pub IsNamed : {A X : Type 0} → List (Option (Refusal A)) → Result X (Refusal A) → Type 0
+IsNamed {A = A} checks result = (r : Refusal A) → first_that_holds checks ≡ Some r → result ≡ Err r

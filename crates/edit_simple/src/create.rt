@@ -5,7 +5,7 @@ ghost use Rattle.osm_elements.specs.Maps.{is_kind};
 ghost use Rattle.edit_simple.specs.Checks.{first_that_holds};
 ghost use Rattle.edit_simple.specs.Create.{create_checks, after_create};
 ghost use Rattle.edit_simple.specs.Passing.{passed};
-ghost use Rattle.edit_simple.specs.Plans.{IsPlan};
+ghost use Rattle.edit_simple.specs.Plans.{IsNamed, IsPlan};
 
 use crate::changing::one_change;
 use crate::lists::list_fault;
@@ -18,14 +18,16 @@ use osm_elements::name::Name;
 use std::alloc::Allocator;
 
 /// Plans to create an element.
+#[tactic(auto, using(crate::specs::Facts::Checked::named_if_none))]
 pub fn plan<A: Allocator + Clone>(
     alloc: A,
     rows: &Draft<'_, A>,
     name: &Name,
     element: &Element<A>,
 ) -> Result<Changes<A>, Refusal<A>>
-    ensures { IsPlan rows.now (create_checks rows.now name.now element.now)
+    ensures plan { IsPlan rows.now (create_checks rows.now name.now element.now)
         (after_create rows.now name.now element.now) result }
+    ensures named { IsNamed (create_checks rows.now name.now element.now) result }
 {
     check(rows, name, element)?;
     let after = element.copy()?;

@@ -2,7 +2,7 @@
 ghost use Rattle.std.specs.Prelude.{◌≡◌, true};
 ghost use Rattle.osm_changes.specs.Sound.{is_sound};
 ghost use Rattle.edit_simple.specs.Delete.{delete_checks, after_delete};
-ghost use Rattle.edit_simple.specs.Plans.{IsPlan};
+ghost use Rattle.edit_simple.specs.Plans.{IsNamed, IsPlan};
 
 use crate::changing::one_change;
 use crate::refusal::Refusal;
@@ -12,13 +12,15 @@ use osm_elements::name::Name;
 use std::alloc::Allocator;
 
 /// Plans to delete an element.
+#[tactic(auto, using(crate::specs::Facts::Checked::named_if_none))]
 pub fn plan<A: Allocator + Clone>(
     alloc: A,
     rows: &Draft<'_, A>,
     name: &Name,
 ) -> Result<Changes<A>, Refusal<A>>
     requires { is_sound rows.now ≡ true }
-    ensures { IsPlan rows.now (delete_checks rows.now name.now) (after_delete rows.now name.now) result }
+    ensures plan { IsPlan rows.now (delete_checks rows.now name.now) (after_delete rows.now name.now) result }
+    ensures named { IsNamed (delete_checks rows.now name.now) result }
 {
     let Some(element) = rows.get(name) else {
         return Err(Refusal::Absent(*name));

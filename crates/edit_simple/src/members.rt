@@ -1,5 +1,5 @@
 //! The plan that gives a relation new members.
-ghost use Rattle.std.specs.Prelude.{◌≡◌, ◌⊎◌, true, false, [], ◌∷◌, not, MatchResult, Some};
+ghost use Rattle.std.specs.Prelude.{◌≡◌, ◌⊎◌, true, false, [], ◌∷◌, not, MatchResult, Some, Err};
 ghost use Rattle.std.specs.Bool.{then_some};
 ghost use Rattle.osm_elements.specs.Maps.{is_absent};
 ghost use Rattle.osm_elements.specs.Rows.{row_at};
@@ -11,7 +11,7 @@ ghost use Rattle.edit_simple.specs.declared.refusal.Refusal.TheVariants.{WrongKi
 ghost use Rattle.edit_simple.specs.Checks.{first_that_holds};
 ghost use Rattle.edit_simple.specs.Kinds.{is_relation};
 ghost use Rattle.edit_simple.specs.Members.{members_checks, after_members};
-ghost use Rattle.edit_simple.specs.Plans.{IsPlan};
+ghost use Rattle.edit_simple.specs.Plans.{IsNamed, IsPlan};
 
 use crate::changing::one_change;
 use crate::kinds::is_relation;
@@ -29,6 +29,7 @@ use osm_elements::shared_tags::SharedTags;
 use std::alloc::Allocator;
 
 /// Plans to give a relation new members.
+#[tactic(auto, using(crate::specs::Facts::Checked::named_if_none))]
 pub fn plan<A: Allocator + Clone>(
     alloc: A,
     rows: &Draft<'_, A>,
@@ -36,8 +37,9 @@ pub fn plan<A: Allocator + Clone>(
     list: &Shared<Members<A>, A>,
 ) -> Result<Changes<A>, Refusal<A>>
     requires { is_sound rows.now ≡ true }
-    ensures { IsPlan rows.now (members_checks rows.now name.now list.now)
+    ensures plan { IsPlan rows.now (members_checks rows.now name.now list.now)
         (after_members rows.now name.now list.now) result }
+    ensures named { IsNamed (members_checks rows.now name.now list.now) result }
 {
     let (members, tags) = relation_at(rows, name)?;
     if list.len() > MOST_MEMBERS {
@@ -81,10 +83,11 @@ fn change_members<A: Allocator + Clone>(
     tags: &SharedTags<A>,
     others: &Shared<Members<A>, A>,
 ) -> Result<Changes<A>, Refusal<A>>
-    ensures { MatchResult result
+    ensures changed { MatchResult result
         (λ cs. (are_same_members members.now others.now ≡ false)
         × (cs ≡ row_changes name.now (Some (Relation members.now tags.now)) (Some (Relation others.now tags.now))))
         (λ r. ((are_same_members members.now others.now ≡ true) × (r ≡ Nothing)) ⊎ (r ≡ OutOfMemory)) }
+    ensures named { are_same_members members.now others.now ≡ true → result ≡ Err Nothing }
 {
     if are_same_members(members, others) {
         return Err(Refusal::Nothing);

@@ -1,5 +1,5 @@
 //! The plan of a move.
-ghost use Rattle.std.specs.Prelude.{◌≡◌, ◌⊎◌, ◌&&◌, ◌||◌, ◌++◌, pos, true, false, Some, length, nat_eq, IfOk, OnOk, MatchResult};
+ghost use Rattle.std.specs.Prelude.{◌≡◌, ◌⊎◌, ◌&&◌, ◌||◌, ◌++◌, pos, true, false, Some, length, nat_eq, take, drop, IfOk, OnOk, MatchResult};
 ghost use Rattle.std.specs.List.{filter};
 ghost use Rattle.std.specs.Ordering.{int_eq};
 ghost use Rattle.osm_elements.specs.Maps.{is_absent, least, name_set};
@@ -10,7 +10,7 @@ ghost use Rattle.edit_simple.specs.Inner.Moving.{moved_with, all_moved, row_leav
 ghost use Rattle.edit_simple.specs.Inner.Moves.{IsMoved, MayMove, is_node_row};
 ghost use Rattle.edit_simple.specs.Kinds.{is_relation};
 ghost use Rattle.edit_simple.specs.Move.{move_checks, after_move};
-ghost use Rattle.edit_simple.specs.Plans.{IsPlan};
+ghost use Rattle.edit_simple.specs.Plans.{IsNamed, IsPlan};
 
 use crate::kinds::is_relation;
 use crate::lookup::{is_present, lesser};
@@ -23,6 +23,7 @@ use osm_elements::name::Name;
 use std::alloc::Allocator;
 
 /// Plans to move nodes and the nodes of ways.
+#[tactic(auto, using(crate::specs::Facts::Checked::named_if_none))]
 pub fn plan<A: Allocator + Clone>(
     alloc: A,
     rows: &Draft<'_, A>,
@@ -31,8 +32,10 @@ pub fn plan<A: Allocator + Clone>(
     dlon: i64,
 ) -> Result<Changes<A>, Refusal<A>>
     requires { is_sound rows.now ≡ true }
-    ensures { IsPlan rows.now (move_checks rows.now names.now dlat dlon)
+    ensures plan { IsPlan rows.now (move_checks rows.now names.now dlat dlon)
         (after_move rows.now names.now dlat dlon) result }
+    ensures named { IsNamed (take 2 (move_checks rows.now names.now dlat dlon)
+        ++ drop 3 (move_checks rows.now names.now dlat dlon)) result }
 {
     if let Some(relation) = least_relation(names) {
         return Err(Refusal::WrongKind(relation));

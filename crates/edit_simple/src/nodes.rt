@@ -2,7 +2,7 @@
 ghost use Rattle.std.specs.Prelude.{◌≡◌, true};
 ghost use Rattle.osm_changes.specs.Sound.{is_sound};
 ghost use Rattle.edit_simple.specs.Nodes.{nodes_checks, after_nodes};
-ghost use Rattle.edit_simple.specs.Plans.{IsPlan};
+ghost use Rattle.edit_simple.specs.Plans.{IsNamed, IsPlan};
 
 use crate::kinds::is_way;
 use crate::limits::{FEWEST_NODES, MOST_NODES};
@@ -17,6 +17,7 @@ use osm_elements::shared::Shared;
 use std::alloc::Allocator;
 
 /// Plans to give a way new nodes.
+#[tactic(auto, using(crate::specs::Facts::Checked::named_if_none))]
 pub fn plan<A: Allocator + Clone>(
     alloc: A,
     rows: &Draft<'_, A>,
@@ -24,8 +25,9 @@ pub fn plan<A: Allocator + Clone>(
     list: &Shared<Nodes<A>, A>,
 ) -> Result<Changes<A>, Refusal<A>>
     requires { is_sound rows.now ≡ true }
-    ensures { IsPlan rows.now (nodes_checks rows.now name.now list.now)
+    ensures plan { IsPlan rows.now (nodes_checks rows.now name.now list.now)
         (after_nodes rows.now name.now list.now) result }
+    ensures named { IsNamed (nodes_checks rows.now name.now list.now) result }
 {
     if !is_way(name) {
         return Err(Refusal::WrongKind(*name));
@@ -40,5 +42,5 @@ pub fn plan<A: Allocator + Clone>(
     if let Some(absent) = least_missing(rows, name, list.names()) {
         return Err(Refusal::Absent(absent));
     }
-    change_nodes(alloc, name, nodes, tags, list.copy()?)
+    change_nodes(alloc, name, nodes, tags, list)
 }

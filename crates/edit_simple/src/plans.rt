@@ -1,18 +1,19 @@
 //! The plans of the actions on single elements.
 //!
 //! Each plan returns the changes that lead to the map after the action, or the first of the action's checks that holds.
-//! `Memory` can replace either. The draft is unchanged. The errors of a plan are in the order of its checks.
+//! If an allocation fails, it returns `Memory` in place of the changes. `Memory` replaces no refusal, except those that
+//! [`plan_retag`] and [`plan_move`] name. The draft is unchanged. The errors of a plan are in the order of its checks.
 //!
 //! Plans take the allocator as their first argument because a store does not give out its allocator. For `Nothing`,
 //! they compare the tags, nodes or members of one element: no plan looks at the whole map.
-ghost use Rattle.std.specs.Prelude.{◌≡◌, true};
+ghost use Rattle.std.specs.Prelude.{◌≡◌, ◌++◌, true, take, drop};
 ghost use Rattle.osm_changes.specs.Sound.{is_sound};
 ghost use Rattle.edit_simple.specs.Create.{create_checks, after_create};
 ghost use Rattle.edit_simple.specs.Delete.{delete_checks, after_delete};
 ghost use Rattle.edit_simple.specs.Members.{members_checks, after_members};
 ghost use Rattle.edit_simple.specs.Move.{move_checks, after_move};
 ghost use Rattle.edit_simple.specs.Nodes.{nodes_checks, after_nodes};
-ghost use Rattle.edit_simple.specs.Plans.{IsPlan};
+ghost use Rattle.edit_simple.specs.Plans.{IsNamed, IsPlan};
 ghost use Rattle.edit_simple.specs.Purge.{purge_checks, after_purge};
 ghost use Rattle.edit_simple.specs.Retag.{retag_checks, after_retag};
 ghost use Rattle.edit_simple.specs.Reverse.{reverse_checks, after_reverse};
@@ -47,8 +48,9 @@ pub fn plan_create<A: Allocator + Clone>(
     element: &Element<A>,
 ) -> Result<Changes<A>, Refusal<A>>
     requires { is_sound draft.now ≡ true }
-    ensures { IsPlan draft.now (create_checks draft.now name.now element.now)
+    ensures plan { IsPlan draft.now (create_checks draft.now name.now element.now)
         (after_create draft.now name.now element.now) result }
+    ensures named { IsNamed (create_checks draft.now name.now element.now) result }
 {
     create::plan(alloc, draft, name, element)
 }
@@ -60,6 +62,8 @@ pub fn plan_create<A: Allocator + Clone>(
 /// - `Absent`, if the map does not have the name
 /// - `TooMany`, if the element would have more than 1,000 tags, a limit of this project
 /// - `Nothing`, if the tags of the element would be the same
+///
+/// The last two need memory. `Memory` can replace them, but not `Absent`.
 pub fn plan_retag<A: Allocator + Clone>(
     alloc: A,
     draft: &Draft<'_, A>,
@@ -67,8 +71,11 @@ pub fn plan_retag<A: Allocator + Clone>(
     given: &Retag<A>,
 ) -> Result<Changes<A>, Refusal<A>>
     requires { is_sound draft.now ≡ true }
-    ensures { IsPlan draft.now (retag_checks draft.now name.now given.now)
+    ensures plan { IsPlan draft.now (retag_checks draft.now name.now given.now)
         (after_retag draft.now name.now given.now) result }
+
+    // `Memory` can replace `TooMany` and `Nothing`.
+    ensures named { IsNamed (take 1 (retag_checks draft.now name.now given.now)) result }
 {
     retagging::plan(alloc, draft, name, given)
 }
@@ -82,6 +89,8 @@ pub fn plan_retag<A: Allocator + Clone>(
 /// - `Absent`, with the least listed name that the map does not have
 /// - `OutOfRange`, with the least node that would leave the range of latitudes or longitudes (OpenStreetMap API v0.6)
 /// - `Nothing`, if the list is empty or both distances are 0
+///
+/// Only `OutOfRange` needs memory. `Memory` can replace it, but no other refusal.
 pub fn plan_move<A: Allocator + Clone>(
     alloc: A,
     draft: &Draft<'_, A>,
@@ -90,8 +99,12 @@ pub fn plan_move<A: Allocator + Clone>(
     dlon: i64,
 ) -> Result<Changes<A>, Refusal<A>>
     requires { is_sound draft.now ≡ true }
-    ensures { IsPlan draft.now (move_checks draft.now names.now dlat dlon)
+    ensures plan { IsPlan draft.now (move_checks draft.now names.now dlat dlon)
         (after_move draft.now names.now dlat dlon) result }
+
+    // `Memory` can replace `OutOfRange` alone.
+    ensures named { IsNamed (take 2 (move_checks draft.now names.now dlat dlon)
+        ++ drop 3 (move_checks draft.now names.now dlat dlon)) result }
 {
     moving::plan(alloc, draft, names, dlat, dlon)
 }
@@ -109,8 +122,9 @@ pub fn plan_reverse<A: Allocator + Clone>(
     name: &Name,
 ) -> Result<Changes<A>, Refusal<A>>
     requires { is_sound draft.now ≡ true }
-    ensures { IsPlan draft.now (reverse_checks draft.now name.now)
+    ensures plan { IsPlan draft.now (reverse_checks draft.now name.now)
         (after_reverse draft.now name.now) result }
+    ensures named { IsNamed (reverse_checks draft.now name.now) result }
 {
     reverse::plan(alloc, draft, name)
 }
@@ -132,8 +146,9 @@ pub fn plan_nodes<A: Allocator + Clone>(
     list: &Shared<Nodes<A>, A>,
 ) -> Result<Changes<A>, Refusal<A>>
     requires { is_sound draft.now ≡ true }
-    ensures { IsPlan draft.now (nodes_checks draft.now name.now list.now)
+    ensures plan { IsPlan draft.now (nodes_checks draft.now name.now list.now)
         (after_nodes draft.now name.now list.now) result }
+    ensures named { IsNamed (nodes_checks draft.now name.now list.now) result }
 {
     nodes::plan(alloc, draft, name, list)
 }
@@ -154,8 +169,9 @@ pub fn plan_members<A: Allocator + Clone>(
     list: &Shared<Members<A>, A>,
 ) -> Result<Changes<A>, Refusal<A>>
     requires { is_sound draft.now ≡ true }
-    ensures { IsPlan draft.now (members_checks draft.now name.now list.now)
+    ensures plan { IsPlan draft.now (members_checks draft.now name.now list.now)
         (after_members draft.now name.now list.now) result }
+    ensures named { IsNamed (members_checks draft.now name.now list.now) result }
 {
     members::plan(alloc, draft, name, list)
 }
@@ -173,8 +189,9 @@ pub fn plan_delete<A: Allocator + Clone>(
     name: &Name,
 ) -> Result<Changes<A>, Refusal<A>>
     requires { is_sound draft.now ≡ true }
-    ensures { IsPlan draft.now (delete_checks draft.now name.now)
+    ensures plan { IsPlan draft.now (delete_checks draft.now name.now)
         (after_delete draft.now name.now) result }
+    ensures named { IsNamed (delete_checks draft.now name.now) result }
 {
     delete::plan(alloc, draft, name)
 }
@@ -197,8 +214,9 @@ pub fn plan_purge<A: Allocator + Clone>(
     name: &Name,
 ) -> Result<Changes<A>, Refusal<A>>
     requires { is_sound draft.now ≡ true }
-    ensures { IsPlan draft.now (purge_checks draft.now name.now)
+    ensures plan { IsPlan draft.now (purge_checks draft.now name.now)
         (after_purge draft.now name.now) result }
+    ensures named { IsNamed (purge_checks draft.now name.now) result }
 {
     purge::plan(alloc, draft, name)
 }

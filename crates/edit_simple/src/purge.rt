@@ -10,7 +10,7 @@ ghost use Rattle.osm_refs.specs.Tables.{users_in, table_of};
 ghost use Rattle.osm_changes.specs.Sound.{is_sound};
 ghost use Rattle.edit_simple.specs.Inner.Purging.{reached_with, all_reached, all_gone, left_of, row_left, purged_row, MayPurge};
 ghost use Rattle.edit_simple.specs.Contents.{nodes_of};
-ghost use Rattle.edit_simple.specs.Plans.{IsPlan};
+ghost use Rattle.edit_simple.specs.Plans.{IsNamed, IsPlan};
 ghost use Rattle.edit_simple.specs.Purge.{without, falls_short, purge_checks, after_purge};
 
 use crate::cut_short::is_cut_short;
@@ -30,13 +30,15 @@ use std::alloc::Allocator;
 use std::collections::BTreeSet;
 
 /// Plans to remove an element and every reference to it.
+#[tactic(auto, using(crate::specs::Facts::Checked::named_if_none))]
 pub fn plan<A: Allocator + Clone>(
     alloc: A,
     rows: &Draft<'_, A>,
     name: &Name,
 ) -> Result<Changes<A>, Refusal<A>>
     requires { is_sound rows.now ≡ true }
-    ensures { IsPlan rows.now (purge_checks rows.now name.now) (after_purge rows.now name.now) result }
+    ensures plan { IsPlan rows.now (purge_checks rows.now name.now) (after_purge rows.now name.now) result }
+    ensures named { IsNamed (purge_checks rows.now name.now) result }
 {
     if !is_present(rows, name) {
         return Err(Refusal::Absent(*name));

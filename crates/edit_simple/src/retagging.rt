@@ -1,5 +1,5 @@
 //! The plan that sets tags of an element.
-ghost use Rattle.std.specs.Prelude.{◌≡◌, ◌⊎◌, ◌<◌, ◌≤◌, true, false, T, map, length, nat_lt, nat_eq, is_some, MatchResult, IfOk, OnOk, IfErr};
+ghost use Rattle.std.specs.Prelude.{◌≡◌, ◌⊎◌, ◌<◌, ◌≤◌, true, false, T, map, length, nat_lt, nat_eq, is_some, take, MatchResult, IfOk, OnOk, IfErr};
 ghost use Rattle.std.specs.FinMap.Entries.{is_sorted};
 ghost use Rattle.osm_elements.specs.KeyedRows.{text_cmp, value_at};
 ghost use Rattle.osm_elements.specs.declared.fault.TextFault.TheVariants as faults;
@@ -8,7 +8,7 @@ ghost use Rattle.osm_changes.specs.Sound.{is_sound};
 ghost use Rattle.edit_simple.specs.declared.refusal.Refusal.TheVariants.{TooMany, Memory as OutOfMemory};
 ghost use Rattle.edit_simple.specs.Inner.Retagging.{all_removed, all_valued, valued};
 ghost use Rattle.edit_simple.specs.Contents.{with_tags};
-ghost use Rattle.edit_simple.specs.Plans.{IsPlan};
+ghost use Rattle.edit_simple.specs.Plans.{IsNamed, IsPlan};
 ghost use Rattle.edit_simple.specs.Retag.{retag_checks, after_retag};
 ghost use Rattle.edit_simple.specs.Tagging.{AreGiven, given_pair, retagged, most_tags};
 
@@ -27,6 +27,7 @@ use osm_elements::tags::Tags;
 use std::alloc::Allocator;
 
 /// Plans to set tags of an element.
+#[tactic(auto, using(crate::specs::Facts::Checked::named_if_none))]
 pub fn plan<A: Allocator + Clone>(
     alloc: A,
     rows: &Draft<'_, A>,
@@ -34,8 +35,9 @@ pub fn plan<A: Allocator + Clone>(
     given: &Retag<A>,
 ) -> Result<Changes<A>, Refusal<A>>
     requires { is_sound rows.now ≡ true }
-    ensures { IsPlan rows.now (retag_checks rows.now name.now given.now)
+    ensures plan { IsPlan rows.now (retag_checks rows.now name.now given.now)
         (after_retag rows.now name.now given.now) result }
+    ensures named { IsNamed (take 1 (retag_checks rows.now name.now given.now)) result }
 {
     let Some(element) = rows.get(name) else {
         return Err(Refusal::Absent(*name));

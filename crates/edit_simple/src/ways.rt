@@ -1,5 +1,5 @@
 //! Ways in a map, and the change of their nodes.
-ghost use Rattle.std.specs.Prelude.{◌≡◌, ◌⊎◌, true, false, MatchResult, Some};
+ghost use Rattle.std.specs.Prelude.{◌≡◌, ◌⊎◌, true, false, MatchResult, Some, Err};
 ghost use Rattle.osm_elements.specs.Maps.{is_absent};
 ghost use Rattle.osm_elements.specs.Rows.{row_at};
 ghost use Rattle.osm_elements.specs.declared.element.Element.TheVariants.{Way};
@@ -56,12 +56,13 @@ pub fn change_nodes<A: Allocator + Clone>(
     name: &Name,
     nodes: &Shared<Nodes<A>, A>,
     tags: &SharedTags<A>,
-    others: Shared<Nodes<A>, A>,
+    others: &Shared<Nodes<A>, A>,
 ) -> Result<Changes<A>, Refusal<A>>
-    ensures { MatchResult result
-        (λ cs. (are_same_names nodes.now others ≡ false)
-        × (cs ≡ row_changes name.now (Some (Way nodes.now tags.now)) (Some (Way others tags.now))))
-        (λ r. ((are_same_names nodes.now others ≡ true) × (r ≡ Nothing)) ⊎ (r ≡ OutOfMemory)) }
+    ensures changed { MatchResult result
+        (λ cs. (are_same_names nodes.now others.now ≡ false)
+        × (cs ≡ row_changes name.now (Some (Way nodes.now tags.now)) (Some (Way others.now tags.now))))
+        (λ r. ((are_same_names nodes.now others.now ≡ true) × (r ≡ Nothing)) ⊎ (r ≡ OutOfMemory)) }
+    ensures named { are_same_names nodes.now others.now ≡ true → result ≡ Err Nothing }
 {
     if are_same_names(nodes.names(), others.names()) {
         return Err(Refusal::Nothing);
@@ -71,7 +72,7 @@ pub fn change_nodes<A: Allocator + Clone>(
         tags: tags.copy()?,
     };
     let after = Element::Way {
-        nodes: others,
+        nodes: others.copy()?,
         tags: tags.copy()?,
     };
     Ok(one_change(alloc, name, Some(before), Some(after))?)

@@ -1,7 +1,6 @@
 -- Plans of merges: which check holds first, which rows change, and what they become.
-use Rattle.std.proofs.Common.{◌≡◌, ◌≢◌, ◌⊎◌, ℕ, ℤ, Bool, true, false, not, ◌&&◌, ◌||◌, T, List, [], ◌∷◌, ◌++◌, Option, Some, None, Result, Ok, Err, inl, inr, is_some, length, nat_lt, slice_get, refl, sym, ap, subst, ◌∙◌, cond, arith}
+use Rattle.std.proofs.Common.{◌≡◌, ◌≢◌, ◌⊎◌, ℕ, ℤ, Bool, true, false, not, ◌&&◌, ◌||◌, T, List, [], ◌∷◌, ◌++◌, Option, Some, None, Result, Ok, Err, inl, inr, is_some, length, nat_lt, slice_get, refl, sym, ap, subst, ◌∙◌, cond, arith, take}
 use Rattle.std.proofs.lemmas.Bool.Decides.{nat_tests}
-use Rattle.std.specs.Bool.{then_some}
 use Rattle.std.specs.FinMap.Entries.{is_sorted}
 use Rattle.std.specs.List.{filter, find, list_all}
 use Rattle.std.specs.Option.{option_map}
@@ -10,7 +9,7 @@ use Rattle.osm_elements.specs.declared.name.Name.{Name}
 use Rattle.osm_elements.specs.declared.element.Element.{Element}
 use Rattle.osm_elements.specs.declared.element.Element.TheVariants.{Node, Way, Relation}
 use Rattle.osm_elements.specs.Elements.{tags_of}
-use Rattle.osm_elements.specs.Maps.{Rows, is_same, is_among, is_present, is_absent, least, name_set}
+use Rattle.osm_elements.specs.Maps.{Rows, is_same, is_among, is_present, least, name_set}
 use Rattle.osm_elements.specs.Rows.{AreInOrder, row_at}
 use Rattle.osm_elements.specs.KeyedRows.{text_cmp}
 use Rattle.osm_elements.specs.TagRows.{Pairs}
@@ -26,11 +25,11 @@ use Rattle.osm_changes.specs.Sound.{is_sound}
 use Rattle.osm_changes.specs.Facts.SameElements.{same_row}
 use Rattle.osm_changes.specs.Facts.SoundRows.{sound_in_order}
 use Rattle.edit_simple.specs.declared.refusal.Refusal.{Refusal}
-use Rattle.edit_simple.specs.declared.refusal.Refusal.TheVariants.{Absent, TagConflict, TooFew, Memory}
+use Rattle.edit_simple.specs.declared.refusal.Refusal.TheVariants.{TagConflict, TooFew, Memory}
 use Rattle.edit_simple.specs.Checks.{first_that_holds, the_least}
-use Rattle.edit_simple.specs.Passing.{passed}
 use Rattle.edit_simple.specs.Contents.{nodes_of, row_tags, with_nodes, with_members}
 use Rattle.edit_simple.specs.Plans.{IsPlan}
+use Rattle.edit_simple.specs.Facts.Checked.{rest_decides}
 use Rattle.edit_simple.specs.Facts.Checked.{nones}
 use Rattle.edit_simple.specs.Facts.Differences.{rows_differing, apart_rows}
 use Rattle.edit_simple.specs.Facts.FirstUsers.{first_is_least}
@@ -39,7 +38,7 @@ use Rattle.edit_simple.specs.Facts.Lists.{all_from}
 use Rattle.osm_changes.specs.Facts.PassingRows.{passes_at, among_rows, rising_names}
 use Rattle.edit_simple.specs.Facts.Retagging.{tags_sorted}
 use Rattle.edit_topology.specs.BothTags.{both_tags, conflict}
-use Rattle.edit_topology.specs.Inner.Merging.{is_either, replaced, subjects, name_checks, tag_checks, is_cut_short, merged_element, row_merged, MayMerge}
+use Rattle.edit_topology.specs.Inner.Merging.{is_either, replaced, subjects, tag_checks, is_cut_short, merged_element, row_merged, MayMerge}
 use Rattle.edit_topology.specs.Merge.{merged_nodes, shrunk, merge_checks, after_merge, united, merge_row}
 use Rattle.edit_topology.specs.Renaming.{renamed_members}
 use Rattle.edit_topology.specs.Facts.BothTags.{are_tags-row_tags}
@@ -68,24 +67,9 @@ found_first p (x ∷ xs) = by (p x) (found_first p xs)
     by true rest = refl
     by false rest = rest
 
--- if no check of the first list holds, the second list decides
-after_none : {X : Type 0} (os ps : List (Option X)) → first_that_holds os ≡ None → first_that_holds (os ++ ps) ≡ first_that_holds ps
-after_none [] ps e = refl
-after_none (None ∷ os) ps e = after_none os ps e
-after_none (Some x ∷ os) ps e = absurd (cc)
-
-before_all : {X : Type 0} (os ps : List (Option X)) (x : X) → first_that_holds os ≡ Some x → first_that_holds (os ++ ps) ≡ Some x
-before_all [] ps x e = absurd (cc)
-before_all (None ∷ os) ps x e = before_all os ps x e
-before_all (Some y ∷ os) ps x e = e
-
 none_mapped : {X Y : Type 0} (f : X → Y) (o : Option X) → option_map f o ≡ None → o ≡ None
 none_mapped f None e = refl
 none_mapped f (Some x) e = absurd (cc)
-
-pub passed_ok : {X : Type 0} (u : Unit {0}) (o : Option X) → Ok u ≡ passed o → o ≡ None
-passed_ok u None e = refl
-passed_ok u (Some x) e = absurd (cc)
 
 none_more : (n : ℕ) → nat_lt n n ≡ false
 none_more n = grind (arith, nat_tests)
@@ -131,34 +115,20 @@ module _ {A : Type 0} (m : Rows A) (k g : Name) (sound : is_sound m ≡ true) wh
   abbrev rest : List (Option (Refusal A))
   rest = tag_checks k (row_tags (row_at m k)) (row_tags (row_at m g))
 
-  module _ (names : first_that_holds {X = Refusal A} (name_checks k g) ≡ None) where
-    from_names : first_that_holds (merge_checks m k g) ≡ first_that_holds (then_some (is_absent m k) (Absent k) ∷ then_some (is_absent m g) (Absent g) ∷ the_least TooFew (shrunk m k g) ∷ rest)
-    from_names = after_none (name_checks k g) (then_some (is_absent m k) (Absent k) ∷ then_some (is_absent m g) (Absent g) ∷ the_least TooFew (shrunk m k g) ∷ rest) names
+  module _ (early : first_that_holds (take 5 (merge_checks m k g)) ≡ None) (its : List Name) (its_are : its ≡ users m g) where
+    from_short : first_that_holds (merge_checks m k g) ≡ first_that_holds (option_map TooFew (find (λ u. is_cut_short k g (row_at m u)) its) ∷ rest)
+    from_short =
+        rest_decides (take 5 (merge_checks m k g)) (the_least TooFew (shrunk m k g) ∷ rest) early
+        ∙ ap (λ o. first_that_holds (option_map TooFew o ∷ rest)) (sym (ap (find (λ u. is_cut_short k g (row_at m u))) its_are ∙ first_short))
 
-    pub absent_k : row_at m k ≡ None → first_that_holds (merge_checks m k g) ≡ Some (Absent k)
-    absent_k e = from_names ∙ ap (λ o. first_that_holds (then_some (not (is_some o)) (Absent k) ∷ then_some (is_absent m g) (Absent g) ∷ the_least TooFew (shrunk m k g) ∷ rest)) e
+    pub too_few : (y : Name) → Some y ≡ find (λ u. is_cut_short k g (row_at m u)) its → first_that_holds (merge_checks m k g) ≡ Some (TooFew y)
+    too_few y e = from_short ∙ ap (λ o. first_that_holds (option_map TooFew o ∷ rest)) (sym e)
 
-    module _ (v : Element A) (at_k : row_at m k ≡ Some v) where
-      from_k : first_that_holds (merge_checks m k g) ≡ first_that_holds (then_some (is_absent m g) (Absent g) ∷ the_least TooFew (shrunk m k g) ∷ rest)
-      from_k = from_names ∙ ap (λ o. first_that_holds (then_some (not (is_some o)) (Absent k) ∷ then_some (is_absent m g) (Absent g) ∷ the_least TooFew (shrunk m k g) ∷ rest)) at_k
-
-      pub absent_g : row_at m g ≡ None → first_that_holds (merge_checks m k g) ≡ Some (Absent g)
-      absent_g e = from_k ∙ ap (λ o. first_that_holds (then_some (not (is_some o)) (Absent g) ∷ the_least TooFew (shrunk m k g) ∷ rest)) e
-
-      module _ (w : Element A) (at_g : row_at m g ≡ Some w) (its : List Name) (its_are : its ≡ users m g) where
-        from_short : first_that_holds (merge_checks m k g) ≡ first_that_holds (option_map TooFew (find (λ u. is_cut_short k g (row_at m u)) its) ∷ rest)
-        from_short =
-            from_k ∙ ap (λ o. first_that_holds (then_some (not (is_some o)) (Absent g) ∷ the_least TooFew (shrunk m k g) ∷ rest)) at_g
-            ∙ ap (λ o. first_that_holds (option_map TooFew o ∷ rest)) (sym (ap (find (λ u. is_cut_short k g (row_at m u))) its_are ∙ first_short))
-
-        pub too_few : (y : Name) → Some y ≡ find (λ u. is_cut_short k g (row_at m u)) its → first_that_holds (merge_checks m k g) ≡ Some (TooFew y)
-        too_few y e = from_short ∙ ap (λ o. first_that_holds (option_map TooFew o ∷ rest)) (sym e)
-
-        pub from_tags : None ≡ find (λ u. is_cut_short k g (row_at m u)) its → (tags others : Pairs) → tags ≡ tags_of v → others ≡ tags_of w
-            → first_that_holds (merge_checks m k g) ≡ first_that_holds (tag_checks k tags others)
-        from_tags e tags others ours theirs =
-            from_short ∙ ap (λ o. first_that_holds (option_map TooFew o ∷ rest)) (sym e)
-            ∙ (λ i. first_that_holds (tag_checks k ((ap row_tags at_k ∙ sym ours) i) ((ap row_tags at_g ∙ sym theirs) i)))
+    pub from_tags : None ≡ find (λ u. is_cut_short k g (row_at m u)) its → (v w : Element A) → row_at m k ≡ Some v → row_at m g ≡ Some w → (tags others : Pairs) → tags ≡ tags_of v → others ≡ tags_of w
+        → first_that_holds (merge_checks m k g) ≡ first_that_holds (tag_checks k tags others)
+    from_tags e v w at_k at_g tags others ours theirs =
+        from_short ∙ ap (λ o. first_that_holds (option_map TooFew o ∷ rest)) (sym e)
+        ∙ (λ i. first_that_holds (tag_checks k ((ap row_tags at_k ∙ sym ours) i) ((ap row_tags at_g ∙ sym theirs) i)))
 
   -- from a refusal of the tags to a refusal of the whole merge
   pub refused : (r : Result (List (Change A)) (Refusal A)) (e : Refusal A) (checks : List (Option (Refusal A))) → IsErr r → IsErrAnd r (λ x. x ≡ e)

@@ -1,5 +1,5 @@
 -- Plans of splits: which rows change, and what they become.
-use Rattle.std.proofs.Common.{◌≡◌, ◌≢◌, ◌+◌, ◌++◌, ℕ, min, Bool, true, false, not, ◌&&◌, ◌||◌, List, [], ◌∷◌, Option, Some, None, Ok, Err, is_some, find, slice_get, length, take, nat_lt, refl, sym, ap, subst, ◌∙◌, cond, arith}
+use Rattle.std.proofs.Common.{◌≡◌, ◌≢◌, ◌+◌, ◌++◌, ℕ, min, Bool, true, false, not, ◌&&◌, ◌||◌, List, [], ◌∷◌, Option, Some, None, Ok, is_some, find, slice_get, length, take, nat_lt, refl, sym, ap, subst, ◌∙◌, cond, arith}
 use Rattle.std.proofs.lemmas.Bool.Decides.{nat_tests}
 use Rattle.std.proofs.lemmas.List.{length-take}
 use Rattle.std.specs.Bool.{then_some}
@@ -30,6 +30,7 @@ use Rattle.edit_simple.specs.Passing.{passed}
 use Rattle.edit_simple.specs.Kinds.{is_way}
 use Rattle.edit_simple.specs.Contents.{nodes_of, members_of, with_nodes, with_members}
 use Rattle.edit_simple.specs.Plans.{IsPlan}
+use Rattle.edit_simple.specs.Facts.Checked.{rest_decides}
 use Rattle.edit_simple.specs.Facts.Differences.{rows_differing, apart_rows}
 use Rattle.edit_simple.specs.Facts.FirstUsers.{first_is_least}
 use Rattle.edit_simple.specs.Facts.Kinds.{told_way}
@@ -101,30 +102,33 @@ module _ {A : Type 0} where
         ap (find (is_overfull m w)) e ∙ find_is_first (is_overfull m w) (users m w) ∙ ap (λ l. slice_get l 0) (sym overfull_is)
         ∙ first_is_least (λ r. nat_lt most_members (length (split_members w v (members_of (Some r.1))))) m in_order
 
-  -- ---- if no check holds, except perhaps the last
+  -- ---- the first checks, which need only the names and the way
 
-  module _ (m : Rows A) (w : Name) (i : ℕ) (v : Name) (way : Element A) (its : List Name) (sound : is_sound m ≡ true) (its_are : its ≡ users m w) (way_w : is_way w.kind ≡ true) (way_v : is_way v.kind ≡ true)
-      (row : row_at m w ≡ Some way) (new : is_present m v ≡ false) (inside : is_inside i (nodes_of (Some way)) ≡ true) where
+  pub none_early : (m : Rows A) (w : Name) (i : ℕ) (v : Name) (way : Element A) → is_way w.kind ≡ true → is_way v.kind ≡ true → row_at m w ≡ Some way → is_present m v ≡ false → is_inside i (nodes_of (Some way)) ≡ true
+      → Ok tt ≡ passed (first_that_holds (take 5 (split_checks m w i v)))
+  none_early m w i v way way_w way_v row new inside =
+      λ j. passed (first_that_holds {X = Refusal A} (
+      then_some (not (sym way_w j)) (WrongKind w)
+      ∷ then_some (not (sym way_v j)) (WrongKind v)
+      ∷ then_some (not (is_some (sym row j))) (Absent w)
+      ∷ then_some (sym new j) (Present v)
+      ∷ then_some (not (sym (ap (λ o. is_inside i (nodes_of o)) row ∙ inside) j)) BadPosition
+      ∷ []))
+
+  -- ---- the last check, if no other holds
+
+  module _ (m : Rows A) (w : Name) (i : ℕ) (v : Name) (its : List Name) (sound : is_sound m ≡ true) (its_are : its ≡ users m w) (early : first_that_holds (take 5 (split_checks m w i v)) ≡ None) where
     abbrev last_check : Option Name → Option (Refusal A)
     last_check o = first_that_holds (option_map TooMany o ∷ [])
 
     last_left : first_that_holds (split_checks m w i v) ≡ last_check (find (is_overfull m w) its)
-    last_left =
-        (λ j. first_that_holds (
-        then_some (not (way_w j)) (WrongKind w)
-        ∷ then_some (not (way_v j)) (WrongKind v)
-        ∷ then_some (not (is_some (row j))) (Absent w)
-        ∷ then_some (new j) (Present v)
-        ∷ then_some (not ((ap (λ o. is_inside i (nodes_of o)) row ∙ inside) j)) BadPosition
-        ∷ the_least TooMany (overfull m w v)
-        ∷ []))
-        ∙ ap last_check (sym (first_overfull_is m w v sound its its_are))
+    last_left = rest_decides (take 5 (split_checks m w i v)) (the_least TooMany (overfull m w v) ∷ []) early ∙ ap last_check (sym (first_overfull_is m w v sound its its_are))
 
-    pub relation_told : (relation : Name) → Some relation ≡ find (is_overfull m w) its → Err (TooMany relation) ≡ passed (first_that_holds (split_checks m w i v))
-    relation_told relation found = sym (ap passed (last_left ∙ ap last_check (sym found)))
+    pub relation_told : (relation : Name) → Some relation ≡ find (is_overfull m w) its → first_that_holds (split_checks m w i v) ≡ Some (TooMany relation)
+    relation_told relation found = last_left ∙ ap last_check (sym found)
 
-    pub nothing_told : None ≡ find (is_overfull m w) its → Ok tt ≡ passed (first_that_holds (split_checks m w i v))
-    nothing_told found = sym (ap passed (last_left ∙ ap last_check (sym found)))
+    pub nothing_told : None ≡ find (is_overfull m w) its → first_that_holds (split_checks m w i v) ≡ None
+    nothing_told found = last_left ∙ ap last_check (sym found)
 
   -- ---- an accepted split
 

@@ -27,6 +27,7 @@ use Rattle.edit_simple.specs.declared.refusal.Refusal.TheVariants.{BadPosition}
 use Rattle.edit_simple.specs.Checks.{first_that_holds}
 use Rattle.edit_simple.specs.Contents.{nodes_of, with_nodes}
 use Rattle.edit_simple.specs.Plans.{IsPlan}
+use Rattle.edit_simple.specs.Facts.Checked.{rest_decides}
 use Rattle.edit_simple.specs.Facts.Differences.{rows_differing, apart_rows}
 use Rattle.edit_simple.specs.Facts.Kinds.{told_node, told_way}
 use Rattle.edit_topology.specs.Inner.Ungluing.{name_checks, node_standing}
@@ -41,12 +42,6 @@ unfolding name_cmp
 node_first v w p q = λ i. is_lt (ordering_then (nat_cmp (kind_rank (p i)) (kind_rank (q i))) (int_cmp v.id w.id))
 
 -- ---- checks in a row
-
--- if no check of the first list holds, the second list decides
-rest_decides : {X : Type 0} (first rest : List (Option X)) → first_that_holds first ≡ None → first_that_holds (first ++ rest) ≡ first_that_holds rest
-rest_decides [] rest e = refl
-rest_decides (None ∷ first) rest e = rest_decides first rest e
-rest_decides (Some x ∷ first) rest e = absurd (cc)
 
 less_test : (i n : ℕ) → i < n → nat_lt i n ≡ true
 less_test i n l = grind (arith, nat_tests)
@@ -101,7 +96,7 @@ module _ {A : Type 0} where
     -- ---- an accepted unglue
 
     module _ (node : Element A) (found : Some node ≡ node_standing m (nodes_of (Some way)) i) where
-      accepted : first_that_holds (unglue_checks m w i v) ≡ None
+      pub accepted : first_that_holds (unglue_checks m w i v) ≡ None
       accepted = position ∙ ap (λ b. first_that_holds (then_some (not b) BadPosition ∷ [])) (less_test i (length (nodes_of (Some way))) (within node found))
 
       s : Unglues m w i v

@@ -1,17 +1,17 @@
 //! Plans of joins.
-ghost use Rattle.std.specs.Prelude.{◌≡◌, ◌⊎◌, ◌≤◌, true, map, length, None, Some, MatchResult, IfOk, if◌then◌else◌, OnOk};
+ghost use Rattle.std.specs.Prelude.{◌≡◌, ◌⊎◌, ◌≤◌, true, map, length, take, None, Some, MatchResult, IfOk, if◌then◌else◌, OnOk};
 ghost use Rattle.std.specs.Option.{option_copied, option_map};
 ghost use Rattle.osm_elements.specs.Maps.{is_present, is_same};
 ghost use Rattle.osm_elements.specs.Members.{member_pair};
 ghost use Rattle.osm_elements.specs.Rows.{row_at};
-ghost use Rattle.osm_refs.specs.References.{users};
+ghost use Rattle.osm_elements.specs.declared.element.Element.TheVariants.{Way};
 ghost use Rattle.osm_changes.specs.Changes.{rows_changes};
 ghost use Rattle.osm_changes.specs.Sound.{is_sound, most_nodes};
 ghost use Rattle.edit_simple.specs.declared.refusal.Refusal.TheVariants.{TagConflict, Memory as OutOfMemory};
 ghost use Rattle.edit_simple.specs.Checks.{first_that_holds};
 ghost use Rattle.edit_simple.specs.Passing.{passed};
 ghost use Rattle.edit_simple.specs.Contents.{with_members};
-ghost use Rattle.edit_simple.specs.Plans.{IsPlan};
+ghost use Rattle.edit_simple.specs.Plans.{IsNamed, IsPlan};
 ghost use Rattle.edit_topology.specs.BothTags.{conflict};
 ghost use Rattle.edit_topology.specs.Inner.Joining.{name_checks, list_checks, way_of_both, row_joined, MayJoin};
 ghost use Rattle.edit_topology.specs.Join.{meet_end_to_end, end_to_end, goes_on, joined_members, join_checks, after_join};
@@ -38,45 +38,68 @@ use osm_elements::text::is_same_text;
 use std::alloc::Allocator;
 
 /// Plans to join a way to another.
+#[tactic(auto, using(edit_simple::specs::Facts::Checked::named_if_none))]
 pub fn plan<A: Allocator + Clone>(
     alloc: A,
     rows: &Draft<'_, A>,
-    its_users: &[Name],
     name: &Name,
     other: &Name,
 ) -> Result<Changes<A>, Refusal<A>>
-    requires sound { is_sound rows.now ≡ true }
-    requires users { its_users.now ≡ users rows.now other.now }
-    ensures { IsPlan rows.now (join_checks rows.now name.now other.now)
+    requires { is_sound rows.now ≡ true }
+    ensures plan { IsPlan rows.now (join_checks rows.now name.now other.now)
         (after_join rows.now name.now other.now) result }
+    ensures named { IsNamed (take 7 (join_checks rows.now name.now other.now)) result }
 {
-    let joined = way_of_both(alloc.clone()?, rows, name, other)?;
-    let names = subjects_and_users(alloc.clone()?, &[*name, *other], its_users)?;
+    let joined = way_of_both(&alloc, rows, name, other)?;
+    let its_users = rows.users_of(alloc.clone()?, other)?;
+    let names = subjects_and_users(alloc.clone()?, &[*name, *other], its_users.as_slice())?;
     Ok(change_all(alloc, rows, name, other, joined, &names)?)
 }
 
 // Returns the joined way, or the refusal of two ways that cannot be joined. The checks run in their order, and the
 // whole way is made before any change. It is later moved into the changes, never copied.
+#[tactic(auto, using(edit_simple::specs::Facts::Checked::named_if_none))]
 fn way_of_both<A: Allocator + Clone>(
-    alloc: A,
+    alloc: &A,
     rows: &Draft<'_, A>,
     name: &Name,
     other: &Name,
 ) -> Result<Element<A>, Refusal<A>>
     requires { is_sound rows.now ≡ true }
-    ensures { MatchResult result
+    ensures way { MatchResult result
         (λ joined. (first_that_holds (join_checks rows.now name.now other.now) ≡ None)
         × (joined ≡ way_of_both rows.now name.now other.now))
         (λ r. (first_that_holds (join_checks rows.now name.now other.now) ≡ Some r) ⊎ (r ≡ OutOfMemory)) }
+    ensures named { IsNamed (take 7 (join_checks rows.now name.now other.now)) result }
 {
-    check_names(name, other)?;
-    let (nodes, tags) = way_at(rows, name)?;
-    let (other_nodes, other_tags) = way_at(rows, other)?;
-    check_lists(name, nodes.names(), other_nodes.names())?;
+    let ((nodes, tags), (other_nodes, other_tags)) = ways_to_join(rows, name, other)?;
     check_tags(tags, other_tags)?;
     let tags = both_tags(alloc.clone()?, name, tags, other_tags)?;
-    let nodes = Shared::new(alloc, end_to_end(nodes, other_nodes)?)?;
+    let nodes = Shared::new(alloc.clone()?, end_to_end(nodes, other_nodes)?)?;
     Ok(Element::Way { nodes, tags })
+}
+
+// The nodes and the tags of a way.
+type Parts<'m, A> = (&'m Shared<Nodes<A>, A>, &'m SharedTags<A>);
+
+// Returns the nodes and the tags of both ways, or the first check of a join that holds, except the checks of the tags.
+fn ways_to_join<'m, A: Allocator>(
+    rows: &'m Draft<'_, A>,
+    name: &Name,
+    other: &Name,
+) -> Result<(Parts<'m, A>, Parts<'m, A>), Refusal<A>>
+    requires { is_sound rows.now ≡ true }
+    ensures { MatchResult result
+        (λ ways. (first_that_holds (take 7 (join_checks rows.now name.now other.now)) ≡ None)
+        × (row_at rows.now name.now ≡ Some (Way ways.0.0.now ways.0.1.now))
+        × (row_at rows.now other.now ≡ Some (Way ways.1.0.now ways.1.1.now)))
+        (λ r. first_that_holds (take 7 (join_checks rows.now name.now other.now)) ≡ Some r) }
+{
+    check_names(name, other)?;
+    let way = way_at(rows, name)?;
+    let other_way = way_at(rows, other)?;
+    check_lists(name, way.0.names(), other_way.0.names())?;
+    Ok((way, other_way))
 }
 
 // Refuses names that are not ways' or are the same.

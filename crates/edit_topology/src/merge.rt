@@ -1,18 +1,16 @@
 //! Plans of merges.
-ghost use Rattle.std.specs.Prelude.{◌≡◌, ◌⊎◌, ◌++◌, true, None, Some, IfOk, MatchResult};
+ghost use Rattle.std.specs.Prelude.{◌≡◌, ◌⊎◌, ◌++◌, true, take, None, Some, IfOk, MatchResult};
 ghost use Rattle.std.specs.List.{find, list_all};
 ghost use Rattle.osm_elements.specs.Made.{is_node};
 ghost use Rattle.osm_elements.specs.Maps.{is_present, is_same, name_set};
 ghost use Rattle.osm_elements.specs.Rows.{row_at};
-ghost use Rattle.osm_refs.specs.References.{users};
 ghost use Rattle.osm_changes.specs.Changes.{rows_changes};
 ghost use Rattle.osm_changes.specs.Sound.{is_sound};
 ghost use Rattle.edit_simple.specs.declared.refusal.Refusal.TheVariants.{Memory as OutOfMemory};
 ghost use Rattle.edit_simple.specs.Checks.{first_that_holds};
-ghost use Rattle.edit_simple.specs.Passing.{passed};
-ghost use Rattle.edit_simple.specs.Plans.{IsPlan};
+ghost use Rattle.edit_simple.specs.Plans.{IsNamed, IsPlan};
 ghost use Rattle.edit_topology.specs.BothTags.{both_tags};
-ghost use Rattle.edit_topology.specs.Inner.Merging.{is_either, subjects, name_checks, tag_checks, is_cut_short, merged_element, merged_row, row_merged, MayMerge};
+ghost use Rattle.edit_topology.specs.Inner.Merging.{is_either, subjects, tag_checks, is_cut_short, merged_element, merged_row, row_merged, MayMerge};
 ghost use Rattle.edit_topology.specs.Merge.{merge_checks, after_merge};
 
 use crate::both_tags::{both_tags, conflict};
@@ -31,38 +29,40 @@ use osm_elements::shared_tags::SharedTags;
 use std::alloc::Allocator;
 
 /// Plans to merge another node into a node.
+#[tactic(auto, using(edit_simple::specs::Facts::Checked::named_if_none))]
 pub fn plan<A: Allocator + Clone>(
     alloc: A,
     rows: &Draft<'_, A>,
-    its_users: &[Name],
     name: &Name,
     other: &Name,
 ) -> Result<Changes<A>, Refusal<A>>
-    requires sound { is_sound rows.now ≡ true }
-    requires users { its_users.now ≡ users rows.now other.now }
-    ensures { IsPlan rows.now (merge_checks rows.now name.now other.now)
+    requires { is_sound rows.now ≡ true }
+    ensures plan { IsPlan rows.now (merge_checks rows.now name.now other.now)
         (after_merge rows.now name.now other.now) result }
+    ensures named { IsNamed (take 5 (merge_checks rows.now name.now other.now)) result }
 {
-    check_names(name, other)?;
-    let Some(kept) = rows.get(name) else {
-        return Err(Refusal::Absent(*name));
-    };
-    let Some(gone) = rows.get(other) else {
-        return Err(Refusal::Absent(*other));
-    };
-    if let Some(way) = first_cut_short(rows, its_users, name, other) {
+    let (kept, gone) = nodes_to_merge(rows, name, other)?;
+    let its_users = rows.users_of(alloc.clone()?, other)?;
+    if let Some(way) = first_cut_short(rows, its_users.as_slice(), name, other) {
         return Err(Refusal::TooFew(way));
     }
     let tags = united(alloc.clone()?, name, kept.tags(), gone.tags())?;
     // If there is no conflict, the node's tags change exactly if both nodes together have more tags than the node.
     let gains = tags.len() > kept.tags().len();
-    let changed = all_changed(alloc.clone()?, its_users, name, other, gains)?;
+    let changed = all_changed(alloc.clone()?, its_users.as_slice(), name, other, gains)?;
     Ok(change_all(alloc, rows, name, other, &tags, &changed)?)
 }
 
-// Refuses names that are not nodes' or are the same.
-fn check_names<A: Allocator>(name: &Name, other: &Name) -> Result<(), Refusal<A>>
-    ensures { result ≡ passed (first_that_holds (name_checks name.now other.now)) }
+// Returns the elements of both nodes. Refuses names that are not nodes' or are the same, and absent nodes.
+fn nodes_to_merge<'m, A: Allocator>(
+    rows: &'m Draft<'_, A>,
+    name: &Name,
+    other: &Name,
+) -> Result<(&'m Element<A>, &'m Element<A>), Refusal<A>>
+    ensures { MatchResult result
+        (λ nodes. (first_that_holds (take 5 (merge_checks rows.now name.now other.now)) ≡ None)
+        × (row_at rows.now name.now ≡ Some nodes.0.now) × (row_at rows.now other.now ≡ Some nodes.1.now))
+        (λ r. first_that_holds (take 5 (merge_checks rows.now name.now other.now)) ≡ Some r) }
 {
     if !is_node(name) {
         return Err(Refusal::WrongKind(*name));
@@ -73,7 +73,13 @@ fn check_names<A: Allocator>(name: &Name, other: &Name) -> Result<(), Refusal<A>
     if is_same(name, other) {
         return Err(Refusal::Same(*name));
     }
-    Ok(())
+    let Some(kept) = rows.get(name) else {
+        return Err(Refusal::Absent(*name));
+    };
+    let Some(gone) = rows.get(other) else {
+        return Err(Refusal::Absent(*other));
+    };
+    Ok((kept, gone))
 }
 
 // Finds the least way among the other node's users that has no nodes except the two. The definition looks at every row,

@@ -3,10 +3,12 @@
 //! A plan looks at its subjects and at the users of one subject, which all change. The plan of an unglue looks at its
 //! subjects and at the node at the position. No plan looks at any other element. The cost is the size of these
 //! elements, times a logarithm.
-//! hold, times a logarithm.
-ghost use Rattle.std.specs.Prelude.{◌≡◌, true};
+//!
+//! If an allocation fails, a plan returns `Memory` in place of the changes. `Memory` replaces no refusal, except those
+//! that a plan's documentation names.
+ghost use Rattle.std.specs.Prelude.{◌≡◌, true, take};
 ghost use Rattle.osm_changes.specs.Sound.{is_sound};
-ghost use Rattle.edit_simple.specs.Plans.{IsPlan};
+ghost use Rattle.edit_simple.specs.Plans.{IsNamed, IsPlan};
 ghost use Rattle.edit_topology.specs.Join.{join_checks, after_join};
 ghost use Rattle.edit_topology.specs.Merge.{merge_checks, after_merge};
 ghost use Rattle.edit_topology.specs.Split.{split_checks, after_split};
@@ -33,6 +35,8 @@ use std::alloc::Allocator;
 /// - `Present`, if the map has the new way
 /// - `BadPosition`, if `place` is the first or the last position, or lies after the last
 /// - `TooMany` with the least relation that would have more than 32,000 members, a limit of this project
+///
+/// Only `TooMany` needs memory. `Memory` can replace it, but no other refusal.
 pub fn plan_split<A: Allocator + Clone>(
     alloc: A,
     draft: &Draft<'_, A>,
@@ -41,11 +45,13 @@ pub fn plan_split<A: Allocator + Clone>(
     into: &Name,
 ) -> Result<Changes<A>, Refusal<A>>
     requires { is_sound draft.now ≡ true }
-    ensures { IsPlan draft.now (split_checks draft.now name.now place into.now)
+    ensures plan { IsPlan draft.now (split_checks draft.now name.now place into.now)
         (after_split draft.now name.now place into.now) result }
+
+    // `Memory` can replace `TooMany` alone.
+    ensures named { IsNamed (take 5 (split_checks draft.now name.now place into.now)) result }
 {
-    let its_users = draft.users_of(alloc.clone()?, name)?;
-    split::plan(alloc, draft, its_users.as_slice(), name, place, into)
+    split::plan(alloc, draft, name, place, into)
 }
 
 /// Plans to join the way `name` to the way `other`, which begins where `name` ends.
@@ -65,6 +71,8 @@ pub fn plan_split<A: Allocator + Clone>(
 /// - `TooMany`, for more than 2,000 nodes
 /// - `TagConflict` with the least key that has two values
 /// - `TooMany`, for more than 1,000 tags
+///
+/// The last two need memory. `Memory` can replace them, but no other refusal.
 pub fn plan_join<A: Allocator + Clone>(
     alloc: A,
     draft: &Draft<'_, A>,
@@ -72,11 +80,13 @@ pub fn plan_join<A: Allocator + Clone>(
     other: &Name,
 ) -> Result<Changes<A>, Refusal<A>>
     requires { is_sound draft.now ≡ true }
-    ensures { IsPlan draft.now (join_checks draft.now name.now other.now)
+    ensures plan { IsPlan draft.now (join_checks draft.now name.now other.now)
         (after_join draft.now name.now other.now) result }
+
+    // `Memory` can replace the refusals of the tags alone.
+    ensures named { IsNamed (take 7 (join_checks draft.now name.now other.now)) result }
 {
-    let its_users = draft.users_of(alloc.clone()?, other)?;
-    join::plan(alloc, draft, its_users.as_slice(), name, other)
+    join::plan(alloc, draft, name, other)
 }
 
 /// Plans to merge the node `other` into the node `name`.
@@ -94,6 +104,8 @@ pub fn plan_join<A: Allocator + Clone>(
 /// - `TooFew` with the least way that named the other node and would have fewer than 2 nodes
 /// - `TagConflict` with the least key that has two values
 /// - `TooMany`, for more than 1,000 tags, a limit of this project
+///
+/// The last three need memory. `Memory` can replace them, but no other refusal.
 pub fn plan_merge<A: Allocator + Clone>(
     alloc: A,
     draft: &Draft<'_, A>,
@@ -101,11 +113,13 @@ pub fn plan_merge<A: Allocator + Clone>(
     other: &Name,
 ) -> Result<Changes<A>, Refusal<A>>
     requires { is_sound draft.now ≡ true }
-    ensures { IsPlan draft.now (merge_checks draft.now name.now other.now)
+    ensures plan { IsPlan draft.now (merge_checks draft.now name.now other.now)
         (after_merge draft.now name.now other.now) result }
+
+    // `Memory` can replace `TooFew`, `TagConflict` and `TooMany` alone.
+    ensures named { IsNamed (take 5 (merge_checks draft.now name.now other.now)) result }
 {
-    let its_users = draft.users_of(alloc.clone()?, other)?;
-    merge::plan(alloc, draft, its_users.as_slice(), name, other)
+    merge::plan(alloc, draft, name, other)
 }
 
 /// Plans to unglue the way `name` from the node at position `place`, counted from 0.
@@ -129,8 +143,9 @@ pub fn plan_unglue<A: Allocator + Clone>(
     into: &Name,
 ) -> Result<Changes<A>, Refusal<A>>
     requires { is_sound draft.now ≡ true }
-    ensures { IsPlan draft.now (unglue_checks draft.now name.now place into.now)
+    ensures plan { IsPlan draft.now (unglue_checks draft.now name.now place into.now)
         (after_unglue draft.now name.now place into.now) result }
+    ensures named { IsNamed (unglue_checks draft.now name.now place into.now) result }
 {
     unglue::plan(alloc, draft, name, place, into)
 }

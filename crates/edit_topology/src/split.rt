@@ -3,12 +3,11 @@ ghost use Rattle.std.specs.Prelude.{◌≡◌, ◌+◌, ◌++◌, true, Some, ma
 ghost use Rattle.osm_elements.specs.Maps.{is_same};
 ghost use Rattle.osm_elements.specs.Members.{member_pair};
 ghost use Rattle.osm_elements.specs.Rows.{row_at};
-ghost use Rattle.osm_refs.specs.References.{users};
 ghost use Rattle.osm_changes.specs.Changes.{rows_changes};
 ghost use Rattle.osm_changes.specs.Sound.{is_sound};
 ghost use Rattle.edit_simple.specs.Checks.{first_that_holds};
 ghost use Rattle.edit_simple.specs.Passing.{passed};
-ghost use Rattle.edit_simple.specs.Plans.{IsPlan};
+ghost use Rattle.edit_simple.specs.Plans.{IsNamed, IsPlan};
 ghost use Rattle.edit_topology.specs.Inner.Splitting.{split_length, is_overfull, is_way_row, split_member, split_element, new_way, row_of_split, MaySplit};
 ghost use Rattle.edit_topology.specs.Split.{is_inside, split_members, split_checks, after_split};
 
@@ -31,35 +30,37 @@ use osm_elements::shared::Shared;
 use std::alloc::Allocator;
 
 /// Plans to split a way in two.
+#[tactic(auto, using(edit_simple::specs::Facts::Checked::named_if_none))]
 pub fn plan<A: Allocator + Clone>(
     alloc: A,
     rows: &Draft<'_, A>,
-    its_users: &[Name],
     name: &Name,
     place: u32,
     into: &Name,
 ) -> Result<Changes<A>, Refusal<A>>
-    requires sound { is_sound rows.now ≡ true }
-    requires users { its_users.now ≡ users rows.now name.now }
-    ensures { IsPlan rows.now (split_checks rows.now name.now place into.now)
+    requires { is_sound rows.now ≡ true }
+    ensures plan { IsPlan rows.now (split_checks rows.now name.now place into.now)
         (after_split rows.now name.now place into.now) result }
+    ensures named { IsNamed (take 5 (split_checks rows.now name.now place into.now)) result }
 {
-    check(rows, its_users, name, place, into)?;
-    let names = subjects_and_users(alloc.clone()?, &[*name, *into], its_users)?;
+    check(rows, name, place, into)?;
+    let its_users = rows.users_of(alloc.clone()?, name)?;
+    if let Some(relation) = first_overfull(rows, its_users.as_slice(), name) {
+        return Err(Refusal::TooMany(relation));
+    }
+    let names = subjects_and_users(alloc.clone()?, &[*name, *into], its_users.as_slice())?;
     Ok(change_all(alloc, rows, &names, name, place, into)?)
 }
 
-// Returns the first check of a split that holds, if any.
+// Returns the first check of a split that holds, if any, except the last check, which needs the users of the way.
 fn check<A: Allocator>(
     rows: &Draft<'_, A>,
-    its_users: &[Name],
     name: &Name,
     place: u32,
     into: &Name,
 ) -> Result<(), Refusal<A>>
-    requires sound { is_sound rows.now ≡ true }
-    requires users { its_users.now ≡ users rows.now name.now }
-    ensures { result ≡ passed (first_that_holds (split_checks rows.now name.now place into.now)) }
+    requires { is_sound rows.now ≡ true }
+    ensures { result ≡ passed (first_that_holds (take 5 (split_checks rows.now name.now place into.now))) }
 {
     if !is_way(name) {
         return Err(Refusal::WrongKind(*name));
@@ -74,10 +75,7 @@ fn check<A: Allocator>(
     if !is_inside(place, nodes.names()) {
         return Err(Refusal::BadPosition);
     }
-    match first_overfull(rows, its_users, name) {
-        Some(relation) => Err(Refusal::TooMany(relation)),
-        None => Ok(()),
-    }
+    Ok(())
 }
 
 // Whether the position is in the list, and neither the first nor the last.

@@ -9,7 +9,7 @@ ghost use Rattle.osm_elements.specs.declared.element.Element.TheVariants.{Way};
 ghost use Rattle.osm_changes.specs.Changes.{row_changes};
 ghost use Rattle.osm_changes.specs.Sound.{is_sound};
 ghost use Rattle.edit_simple.specs.Checks.{first_that_holds};
-ghost use Rattle.edit_simple.specs.Plans.{IsPlan};
+ghost use Rattle.edit_simple.specs.Plans.{IsNamed, IsPlan};
 ghost use Rattle.edit_topology.specs.Inner.Ungluing.{name_checks, node_standing};
 ghost use Rattle.edit_topology.specs.Unglue.{unglue_checks, after_unglue};
 
@@ -28,6 +28,7 @@ use osm_elements::shared_tags::SharedTags;
 use std::alloc::Allocator;
 
 /// Plans to unglue a way from a node.
+#[tactic(auto, using(edit_simple::specs::Facts::Checked::named_if_none))]
 pub fn plan<A: Allocator + Clone>(
     alloc: A,
     rows: &Draft<'_, A>,
@@ -36,15 +37,15 @@ pub fn plan<A: Allocator + Clone>(
     into: &Name,
 ) -> Result<Changes<A>, Refusal<A>>
     requires { is_sound rows.now ≡ true }
-    ensures { IsPlan rows.now (unglue_checks rows.now name.now place into.now)
+    ensures plan { IsPlan rows.now (unglue_checks rows.now name.now place into.now)
         (after_unglue rows.now name.now place into.now) result }
+    ensures named { IsNamed (unglue_checks rows.now name.now place into.now) result }
 {
     let (nodes, tags) = way_to_unglue(rows, name, into)?;
     let Some(node) = node_at(rows, nodes, place) else {
         return Err(Refusal::BadPosition);
     };
-    let unglued = Shared::new(alloc.clone()?, with_node(nodes, place, into)?)?;
-    Ok(change_both(alloc, into, node, name, nodes, tags, unglued)?)
+    Ok(change_both(alloc, into, node, name, nodes, tags, place)?)
 }
 
 // Returns the nodes and tags of the way. Refuses a name of the wrong kind, an absent way, and a new node that is
@@ -108,13 +109,16 @@ fn change_both<A: Allocator + Clone>(
     name: &Name,
     nodes: &Shared<Nodes<A>, A>,
     tags: &SharedTags<A>,
-    unglued: Shared<Nodes<A>, A>,
+    place: u32,
 ) -> Result<Changes<A>, Memory>
-    requires { is_lt (name_cmp into.now name.now) ≡ true }
+    requires place { place < length nodes.now }
+    requires node { is_node into.now.kind ≡ true }
+    requires order { is_lt (name_cmp into.now name.now) ≡ true }
     ensures { IfOk result (λ cs. cs
         ≡ row_changes into.now None (Some node.now)
-        ++ row_changes name.now (Some (Way nodes.now tags.now)) (Some (Way unglued tags.now))) }
+        ++ row_changes name.now (Some (Way nodes.now tags.now)) (Some (Way (set nodes.now place into.now) tags.now))) }
 {
+    let unglued = Shared::new(alloc.clone()?, with_node(nodes, place, into)?)?;
     let mut changes = Changes::empty(alloc);
     changes.push_row(*into, None, Some(node.copy()?))?;
     let before = Element::Way {

@@ -47,7 +47,7 @@ AreHeld-each : (held : Holdings) (holders : Held) → AreHeld holders → AreHel
 AreHeld-each [] holders h = h
 AreHeld-each (e ∷ es) holders h = AreHeld-each es (stands holders e.1 e.0) (AreHeld-standing holders e.1 e.0 h)
 
-pub AreHeld-holders_of : (held : Holdings) → AreHeld (holders_of held)
+AreHeld-holders_of : (held : Holdings) → AreHeld (holders_of held)
 AreHeld-holders_of held = AreHeld-each held [] (tt, tt)
 
 -- one more entry becomes active

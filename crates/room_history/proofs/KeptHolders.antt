@@ -1,5 +1,5 @@
 -- The holders that a room keeps follow its journal.
-use Rattle.std.proofs.Common.{◌≡◌, ◌+◌, ◌-◌, ◌<◌, ◌≤◌, ◌++◌, ◌||◌, ℕ, suc, Bool, true, false, not, List, [], ◌∷◌, Option, Some, length, nat_eq, nat_lt, refl, sym, ap, subst, ◌∙◌, arith}
+use Rattle.std.proofs.Common.{◌≡◌, ◌+◌, ◌<◌, ◌≤◌, ◌++◌, ◌||◌, ℕ, suc, Bool, true, false, not, List, [], ◌∷◌, Option, Some, length, nat_eq, nat_lt, refl, sym, ap, subst, ◌∙◌, arith}
 use Rattle.std.specs.List.{filter}
 use Rattle.std.proofs.lemmas.List.Folds.{list_any-append}
 use Rattle.osm_elements.specs.declared.name.Name.{Name}
@@ -10,7 +10,7 @@ use Rattle.edit_groups.specs.declared.edit.Edit.{Edit as Action}
 use Rattle.edit_groups.specs.Edits.{footprint}
 use Rattle.edit_groups.specs.Facts.Local.{IsRising-footprint}
 use Rattle.edit_footprint.specs.Facts.Holding.{just_one}
-use Rattle.edit_footprint.specs.Holding.{Held, AreHeld, IsNext, HoldsOnly, standing as stands, fallen, IsFirstAfter}
+use Rattle.edit_footprint.specs.Holding.{Held, IsNext, HoldsOnly, standing as stands, fallen, IsFirstAfter}
 use Rattle.room_history.specs.declared.entry.Entry.{Entry}
 use Rattle.room_history.specs.declared.entry.EntryKind.TheVariants.{Undo}
 use Rattle.room_history.specs.Blockers.{recorded_footprint, footprint_of_recorded, held, blocker}
@@ -21,7 +21,7 @@ use Rattle.room_history.specs.Replays.{Past, past, mapof, recorded_of, recorded_
 use Rattle.room_history.proofs.Appending.{recorded-last, standing-work, standing-undo}
 use Rattle.room_history.proofs.Growing.{Rise, Rise-standing_from, equal_numbers}
 use Rattle.room_history.proofs.HeldEntries.{with_cells, blocker_is, earlier_stay, held-work, held-undo, is_next}
-use Rattle.room_history.proofs.Holders.{AreHeld-holders_of, holders_of-last, holders_of-without, AreRising-with_cells, IsNext-holders_of, HoldsOnly-holders_of, IsFirstAfter-holders_of}
+use Rattle.room_history.proofs.Holders.{holders_of-last, holders_of-without, AreRising-with_cells, IsNext-holders_of, HoldsOnly-holders_of, IsFirstAfter-holders_of}
 use Rattle.room_history.proofs.RisingNumbers.{is_in, at_least, out_of_filter}
 
 -- rising numbers are below their end
@@ -64,9 +64,6 @@ module _ {A : Type 0} where
         let first = IsFirstAfter-holders_of (recorded_footprint p) (standing j) kept.rising cells s (1 + length j) (kept.rising s there) (Rise-standing_from 1 j) in
         just_one holders cells s found (blocker p j s) told
         (subst (λ (o : Option (ℕ × Name)). IsFirstAfter holders cells s o) (sym (blocker_is p j s there)) (subst (λ (h : Held). IsFirstAfter h cells s (first_meeting cells (with_cells (recorded_footprint p) (filter (nat_lt s) (standing j))))) (sym kept.holders_are) first))
-
-    pub holders_held : AreHeld holders
-    holders_held = subst AreHeld (sym kept.holders_are) (AreHeld-holders_of (held p j))
 
     -- an active entry holds exactly the cells of its footprint
     pub holds_own : (s : ℕ) → is_standing j s ≡ true → HoldsOnly holders (recorded_footprint p s) s

@@ -1,7 +1,6 @@
 pub mod Appending
 pub mod Asking
 pub mod AtOnce
-pub mod Basing
 pub mod Beginnings
 pub mod BinarySearching
 pub mod Blocking

@@ -4,7 +4,6 @@ use Rattle.std.specs.Bool.{then_some}
 use Rattle.std.specs.Result.{IsErr}
 use Rattle.std.specs.Option.{option_map, option_and_then}
 use Rattle.std.proofs.lemmas.Bool.Decides.{nat_tests}
-use Rattle.std.proofs.lemmas.List.{map-append}
 use Rattle.std.proofs.lemmas.List.Sums.{fold-append}
 use Rattle.edit_actions.specs.declared.action.Action.{Action as SingleAction}
 use Rattle.edit_groups.specs.declared.edit.Edit.{Edit as Action}
@@ -60,10 +59,10 @@ use Rattle.osm_changes.specs.Facts.Changing.{changed-differences}
 use Rattle.osm_changes.specs.Facts.SoundRows.{sound_in_order}
 use Rattle.edit_groups.specs.Facts.Local.{AreInOrder-after, IsRising-footprint}
 use Rattle.edit_footprint.specs.Footprints.{footprint_of}
-use Rattle.edit_footprint.specs.Holding.{Held, AreHeld, IsNext, HoldsOnly, standing as stands, fallen}
+use Rattle.edit_footprint.specs.Holding.{Held, IsNext, HoldsOnly, standing as stands, fallen}
 use Rattle.room_history.specs.Blockers.{footprint_of_recorded, recorded_footprint}
 use Rattle.room_history.proofs.Appending.{past-append, mapof-append, applied-append, recorded-redo}
-use Rattle.room_history.proofs.KeptHolders.{AreHolders-opened, AreHolders-work, AreHolders-undo, stands_within, holders_held, holds_own, holders_next}
+use Rattle.room_history.proofs.KeptHolders.{AreHolders-opened, AreHolders-work, AreHolders-undo, stands_within, holds_own, holders_next}
 use Rattle.room_history.proofs.Leading.{IsLed, led_sound}
 use Rattle.room_history.proofs.TakingBack.{Undone, undone}
 use Rattle.room_history.proofs.Undoing.{Found, found}
@@ -317,10 +316,7 @@ module _ {A : Type 0} where
     room_led : IsLed base j
     room_led = journal_led base r.base_sound limit j r.journal
 
-    -- the cells of the holders rise, and the next number is greater than all that are held
-    pub may_stand : AreHeld holders
-    may_stand = holders_held (past base j) j holders r.holders_are
-
+    -- the next number is greater than all that are held
     pub stands_next : (n : ℕ) → n ≡ length j → IsNext holders (n + 1)
     stands_next n is = subst (λ m. IsNext holders (m + 1)) (sym is) (holders_next base j holders r.holders_are)
 

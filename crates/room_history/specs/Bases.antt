@@ -1,37 +1,10 @@
--- The maps that a room can begin with. (OpenStreetMap API v0.6: no element refers to an absent element. The limits and
--- the order of the checks are this project's.)
-use Rattle.std.specs.Prelude.{◌≡◌, Bool, true, false, Some}
-use Rattle.std.specs.List.{list_all}
-use Rattle.std.specs.Ordering.{is_lt}
-use Rattle.osm_elements.specs.declared.name.Name.{Name}
-use Rattle.osm_elements.specs.declared.element.Element.{Element}
-use Rattle.osm_elements.specs.Elements.{kind_of}
-use Rattle.osm_elements.specs.NameOrder.{name_cmp}
-use Rattle.osm_elements.specs.Maps.{Rows, is_kind}
-use Rattle.osm_elements.specs.Rows.{row_at}
-use Rattle.osm_changes.specs.Sound.{is_sound_row}
-use Rattle.edit_simple.specs.declared.refusal.Refusal.{Refusal}
-use Rattle.edit_simple.specs.Checks.{first_that_holds}
-use Rattle.edit_simple.specs.Create.{list_checks}
+-- The faults of maps that a room cannot begin with.
+use Rattle.osm_elements.specs.Maps.{Rows}
+use Rattle.edit_simple.specs.Soundness.{IsFirstUnsound}
 use Rattle.room_history.specs.declared.base.BaseFault.{BaseFault}
 use Rattle.room_history.specs.declared.base.BaseFault.TheVariants.{Unsound, Memory}
 
-module _ {A : Type 0} where
-  -- each element is of its name's kind
-  abbrev pub are_of_kinds : Rows A → Bool
-  are_of_kinds m = list_all (λ r. is_kind (kind_of r.1) r.0.kind) m
-
-  -- x is the least name whose row is not sound, and why is the row's first fault: of its length, or of an absent name
-  -- that it refers to
-  pub record IsFirstUnsound (m : Rows A) (x : Name) (why : Refusal A) : Type 0 where
-    pub element : Element A
-    pub there : row_at m x ≡ Some element
-    pub unsound : is_sound_row m x element ≡ false
-    pub reason : first_that_holds (list_checks m x element) ≡ Some why
-    pub first : (y : Name) (v : Element A) → row_at m y ≡ Some v → is_lt (name_cmp y x) ≡ true
-        → is_sound_row m y v ≡ true
-
-  -- the fault of a base map; `Memory` is possible for any map
-  abbrev pub IsBaseFault : Rows A → BaseFault A → Type 0
-  IsBaseFault m (Unsound x why) = IsFirstUnsound m x why
-  IsBaseFault m Memory = Unit {0}
+-- the fault of a base map; `Memory` is possible for any map
+abbrev pub IsBaseFault : {A : Type 0} → Rows A → BaseFault A → Type 0
+IsBaseFault m (Unsound x why) = IsFirstUnsound m x why
+IsBaseFault m Memory = Unit {0}

@@ -4,7 +4,7 @@ ghost use Rattle.osm_changes.specs.Changes.{changed, rows_after, AreFrom};
 ghost use Rattle.osm_changes.specs.Sound.{is_sound};
 ghost use Rattle.osm_changes.specs.Stores.{applied_to};
 ghost use Rattle.osm_changes.specs.Cells.{IsRising};
-ghost use Rattle.edit_footprint.specs.Holding.{AreHeld, IsNext, standing};
+ghost use Rattle.edit_footprint.specs.Holding.{IsNext, standing};
 ghost use Rattle.room_stacks.specs.Stacks.{IsAboveAll, spent};
 ghost use Rattle.room_history.specs.Inner.Deeds.{deed_by, MayNote};
 
@@ -104,7 +104,6 @@ pub(crate) fn stand<A: Allocator + Copy>(
     footprint: &Footprint<A>,
     seq: u64,
 ) -> Result<(), Memory>
-    requires held { AreHeld holders.old }
     requires rising { IsRising footprint.now }
     requires next { IsNext holders.old seq }
     requires from { AreFrom store.old.rows effect.now.changes }

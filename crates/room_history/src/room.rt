@@ -7,7 +7,7 @@ ghost use Rattle.osm_elements.specs.Rows.{AreInOrder};
 ghost use Rattle.osm_changes.specs.Sound.{is_sound};
 ghost use Rattle.room_history.specs.Journals.{numbered};
 
-use crate::base::{BaseFault, first_unsound};
+use crate::base::BaseFault;
 use crate::call::{Call, Request};
 use crate::entry::{Entry, EntryKind};
 use crate::journal::{action_of, numbered};
@@ -19,6 +19,7 @@ use edit_footprint::footprint::Footprint;
 use edit_footprint::holders::Holders;
 use edit_groups::edit::Edit;
 use edit_groups::plan::plan_edit;
+use edit_simple::soundness::first_unsound;
 use osm_changes::changes::Changes;
 use osm_changes::store::Store;
 use osm_elements::Memory;
@@ -86,7 +87,8 @@ impl<A: Allocator + Copy> Room<A> {
     ghost use Rattle.room_history.specs.Inner.Rooms.{MayAppend};
     ghost use Rattle.room_history.specs.News.{news};
     ghost use Rattle.room_history.specs.Runs.{IsStep};
-    ghost use Rattle.room_history.specs.Bases.{IsBaseFault, are_of_kinds};
+    ghost use Rattle.edit_simple.specs.Soundness.{are_of_kinds};
+    ghost use Rattle.room_history.specs.Bases.{IsBaseFault};
     ghost use Rattle.osm_elements.specs.Rows.{row_at};
 
     /// Returns a room with the empty map, whose journal takes at most `limit` entries.

@@ -1,7 +1,8 @@
 //! Runs of calls.
 ghost use Rattle.std.specs.Prelude.{◌≡◌, [], IfOk, IfErr, true};
 ghost use Rattle.osm_elements.specs.Rows.{AreInOrder};
-ghost use Rattle.room_history.specs.Bases.{IsBaseFault, are_of_kinds};
+ghost use Rattle.edit_simple.specs.Soundness.{are_of_kinds};
+ghost use Rattle.room_history.specs.Bases.{IsBaseFault};
 ghost use Rattle.room_history.specs.Runs.{Answers, IsRun};
 
 use crate::base::BaseFault;

@@ -12,7 +12,7 @@ use Rattle.osm_elements.specs.Facts.Tests.{both_true}
 use Rattle.osm_elements.specs.Maps.{Rows, is_kind}
 use Rattle.osm_elements.specs.RowPairs.{row_pair}
 use Rattle.osm_changes.specs.Changes.{are_rising}
-use Rattle.room_history.specs.Bases.{are_of_kinds}
+use Rattle.edit_simple.specs.Soundness.{are_of_kinds}
 use Rattle.room_wire.specs.declared.bad.Fault.TheVariants.{BadField}
 use Rattle.room_wire.specs.declared.field.Field.TheVariants as fields
 use Rattle.room_wire.specs.Fields.{field_text}

@@ -1,5 +1,5 @@
 -- A merge, check by check and row by row.
-use Rattle.std.specs.Prelude.{◌≡◌, ◌≢◌, ◌||◌, Bool, true, false, not, List, [], ◌∷◌, Option, Some, None, length, map, nat_lt, if◌then◌else◌}
+use Rattle.std.specs.Prelude.{◌≡◌, ◌≢◌, ◌||◌, Bool, true, false, List, [], ◌∷◌, Option, Some, None, length, map, nat_lt, if◌then◌else◌}
 use Rattle.std.specs.Bool.{then_some}
 use Rattle.std.specs.List.{list_all}
 use Rattle.std.specs.Option.{option_map}
@@ -12,7 +12,7 @@ use Rattle.osm_elements.specs.Rows.{row_at}
 use Rattle.osm_elements.specs.TagRows.{Pairs}
 use Rattle.osm_refs.specs.Rising.{IsRising}
 use Rattle.edit_simple.specs.declared.refusal.Refusal.{Refusal}
-use Rattle.edit_simple.specs.declared.refusal.Refusal.TheVariants.{WrongKind, Same, TagConflict, TooMany}
+use Rattle.edit_simple.specs.declared.refusal.Refusal.TheVariants.{TagConflict, TooMany}
 use Rattle.edit_simple.specs.Tagging.{most_tags}
 use Rattle.edit_topology.specs.BothTags.{both_tags, conflict}
 use Rattle.edit_topology.specs.Merge.{without_doubled}
@@ -30,14 +30,6 @@ abbrev pub subjects : Name → Name → Bool → List Name
 subjects k g gains = if gains then k ∷ g ∷ [] else g ∷ []
 
 module _ {A : Type 0} where
-  -- the checks that need only the names
-  abbrev pub name_checks : Name → Name → List (Option (Refusal A))
-  name_checks k g =
-      then_some (not (is_node k.kind)) (WrongKind k)
-      ∷ then_some (not (is_node g.kind)) (WrongKind g)
-      ∷ then_some (is_same k g) (Same k)
-      ∷ []
-
   -- the checks that need only the tags
   abbrev pub tag_checks : Name → Pairs → Pairs → List (Option (Refusal A))
   tag_checks k tags others =

@@ -7,8 +7,8 @@ use Rattle.edit_simple.proofs.MoveLoops.{of_distances}
 use Rattle.edit_simple.proofs.MovePlans.{may_move, move_planned, move_nothing, all_there, full_and_far}
 use Rattle.edit_simple.proofs.moving.plan.Goals as goal
 
-pub returns-then-moves_nothing : goal.returns-then-moves_nothing
-returns-then-moves_nothing g c =
+pub returns-then-moves_nothing-clause-plan : goal.returns-then-moves_nothing-clause-plan
+returns-then-moves_nothing-clause-plan g c =
     let a = to_z-of_z w64 c.args.dlat c.ranges.dlat in
     let b = to_z-of_z w64 c.args.dlon c.ranges.dlon in
     move_nothing c.args.rows.now c.requires c.args.names.now c.args.dlat c.args.dlon c.in_default.ensures c.in_default-least_absent.ensures
@@ -24,8 +24,8 @@ move_all-requires g c =
     (subst (λ l. MayMove c.args.rows.now l c.args.dlat c.args.dlon) (sym (c.deref.ensures.value ∙ c.in_ok-moved.ensures))
     (may_move c.args.rows.now c.requires c.args.names.now here c.args.dlat c.args.dlon (full_and_far c.args.rows.now c.requires c.args.names.now c.args.dlat c.args.dlon far).1))
 
-pub returns : goal.returns
-returns g c =
+pub returns-clause-plan : goal.returns-clause-plan
+returns-clause-plan g c =
     let a = to_z-of_z w64 c.args.dlat c.ranges.dlat in
     let b = to_z-of_z w64 c.args.dlon c.ranges.dlon in
     let here = all_there c.args.rows.now c.requires c.args.names.now c.args.dlat c.args.dlon c.in_default-least_absent.ensures in

@@ -8,7 +8,7 @@ change_all-requires g c =
     found_may c.args.rows.now c.args.name.now c.requires (sym c.if-not-is_present.ensures) (table_of c.args.rows.now) refl c.as_slice.result.now c.in_ok-gone.gone.keys c.deref.result.now
     (c.as_slice.ensures ∙ c.in_ok-its_users.ensures) c.in_ok-gone.ensures (c.deref.ensures.value ∙ c.in_ok-reached.ensures)
 
-pub returns : goal.returns
-returns g c =
+pub returns-clause-plan : goal.returns-clause-plan
+returns-clause-plan g c =
     purge_planned c.args.rows.now c.args.name.now c.requires (sym c.if-not-is_present.ensures) (table_of c.args.rows.now) refl c.as_slice.result.now c.in_ok-gone.gone.keys c.deref.result.now
     (c.as_slice.ensures ∙ c.in_ok-its_users.ensures) c.in_ok-gone.ensures (c.deref.ensures.value ∙ c.in_ok-reached.ensures) c.in_ok-change_all.field-0 c.in_ok-change_all.ensures

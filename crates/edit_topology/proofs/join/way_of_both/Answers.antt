@@ -1,14 +1,17 @@
-use Rattle.std.proofs.Common.{length, ◌≤◌, sym, subst, ◌∙◌}
-use Rattle.osm_changes.specs.Sound.{most_nodes}
-use Rattle.edit_topology.proofs.JoinWays.{has_one, has_few}
+use Rattle.std.proofs.Common.{◌≡◌, ◌⊎◌, ◌≤◌, None, Some, MatchResult, drop, inl, length, sym, subst, take}
+use Rattle.edit_simple.specs.declared.refusal.Refusal.TheVariants.{Memory}
+use Rattle.edit_simple.specs.Checks.{first_that_holds}
+use Rattle.edit_simple.specs.Facts.Checked.{err_result, first_stays}
+use Rattle.edit_topology.specs.Inner.Joining.{way_of_both}
+use Rattle.edit_topology.specs.Join.{join_checks}
+use Rattle.edit_topology.proofs.JoinWays.{has_one}
 use Rattle.edit_topology.proofs.join.way_of_both.Goals as goal
 
-pub check_lists-requires : goal.check_lists-requires
-check_lists-requires g c = record {
-  some = subst (λ l. 1 ≤ length l) (sym (c.names-2.ensures.names ∙ c.deref-2.ensures)) (has_one c.args.rows.now c.args.other.now c.in_ok-other_nodes.other_nodes.now c.in_ok-other_nodes.other_tags.now c.requires c.in_ok-other_nodes.ensures);
-  few = subst (λ l. length l ≤ most_nodes) (sym (c.names.ensures.names ∙ c.deref.ensures)) (has_few c.args.rows.now c.args.name.now c.in_ok-nodes.nodes.now c.in_ok-nodes.tags.now c.requires c.in_ok-nodes.ensures);
-  other_few = subst (λ l. length l ≤ most_nodes) (sym (c.names-2.ensures.names ∙ c.deref-2.ensures)) (has_few c.args.rows.now c.args.other.now c.in_ok-other_nodes.other_nodes.now c.in_ok-other_nodes.other_tags.now c.requires c.in_ok-other_nodes.ensures);
-}
+pub returns-in_err-nodes-clause-way : goal.returns-in_err-nodes-clause-way
+returns-in_err-nodes-clause-way g c =
+    let checks = join_checks c.args.rows.now c.args.name.now c.args.other.now in
+    err_result (λ result. MatchResult result (λ joined. (first_that_holds checks ≡ None) × (joined ≡ way_of_both c.args.rows.now c.args.name.now c.args.other.now)) (λ r. (first_that_holds checks ≡ Some r) ⊎ (r ≡ Memory)))
+    c.from_residual.result c.in_err-nodes.field-0.0 c.from_residual.ensures.0 c.from_residual.ensures.1 (inl (first_stays (take 7 checks) (drop 7 checks) _ c.in_err-nodes.ensures))
 
 pub end_to_end-requires : goal.end_to_end-requires
-end_to_end-requires g c = subst (λ l. 1 ≤ length l) (sym c.deref-4.ensures) (has_one c.args.rows.now c.args.other.now c.in_ok-other_nodes.other_nodes.now c.in_ok-other_nodes.other_tags.now c.requires c.in_ok-other_nodes.ensures)
+end_to_end-requires g c = subst (λ l. 1 ≤ length l) (sym c.deref-2.ensures) (has_one c.args.rows.now c.args.other.now c.in_ok-nodes.other_nodes.now c.in_ok-nodes.other_tags.now c.requires c.in_ok-nodes.ensures.2)

@@ -1,17 +1,29 @@
-use Rattle.std.proofs.Common.{refl, ◌∙◌}
+use Rattle.std.proofs.Common.{inl, take, refl, ◌∙◌}
 use Rattle.edit_simple.specs.Checks.{first_that_holds}
 use Rattle.edit_topology.specs.Split.{split_checks}
-use Rattle.edit_topology.proofs.SplitPlans.{passed_ok, found_may, split_planned}
+use Rattle.edit_topology.proofs.SplitPlans.{passed_ok, nothing_told, relation_told, found_may, split_planned}
 use Rattle.edit_topology.proofs.split.plan.Goals as goal
+
+pub returns-in-Some-clause-plan : goal.returns-in-Some-clause-plan
+returns-in-Some-clause-plan g c =
+    let m = c.args.rows.now in
+    let early = passed_ok c.in_ok-check.field-0 (first_that_holds (take 5 (split_checks m c.args.name.now c.args.place c.args.into.now))) c.in_ok-check.ensures in
+    inl (relation_told m c.args.name.now c.args.place c.args.into.now c.as_slice.result.now c.requires (c.as_slice.ensures ∙ c.in_ok-its_users.ensures) early c.in-Some.relation c.in-Some.ensures)
 
 pub change_all-requires : goal.change_all-requires
 change_all-requires g c =
-    found_may c.args.rows.now c.args.name.now c.args.place c.args.into.now c.requires.sound
-    (passed_ok c.in_ok-check.field-0 (first_that_holds (split_checks c.args.rows.now c.args.name.now c.args.place c.args.into.now)) c.in_ok-check.ensures)
-    _ c.args.its_users.now c.deref.result.now refl c.requires.users (c.deref.ensures.value ∙ c.in_ok-names.ensures)
+    let m = c.args.rows.now in
+    let its_are = c.as_slice.ensures ∙ c.in_ok-its_users.ensures in
+    let early = passed_ok c.in_ok-check.field-0 (first_that_holds (take 5 (split_checks m c.args.name.now c.args.place c.args.into.now))) c.in_ok-check.ensures in
+    found_may m c.args.name.now c.args.place c.args.into.now c.requires
+    (nothing_told m c.args.name.now c.args.place c.args.into.now c.as_slice.result.now c.requires its_are early c.in_default.ensures)
+    _ c.as_slice-2.result.now c.deref.result.now refl (c.as_slice-2.ensures ∙ c.in_ok-its_users.ensures) (c.deref.ensures.value ∙ c.in_ok-names.ensures)
 
-pub returns : goal.returns
-returns g c =
-    split_planned c.args.rows.now c.args.name.now c.args.place c.args.into.now c.requires.sound
-    (passed_ok c.in_ok-check.field-0 (first_that_holds (split_checks c.args.rows.now c.args.name.now c.args.place c.args.into.now)) c.in_ok-check.ensures)
-    _ c.args.its_users.now c.deref.result.now refl c.requires.users (c.deref.ensures.value ∙ c.in_ok-names.ensures) c.in_ok-change_all.field-0 c.in_ok-change_all.ensures
+pub returns-clause-plan : goal.returns-clause-plan
+returns-clause-plan g c =
+    let m = c.args.rows.now in
+    let its_are = c.as_slice.ensures ∙ c.in_ok-its_users.ensures in
+    let early = passed_ok c.in_ok-check.field-0 (first_that_holds (take 5 (split_checks m c.args.name.now c.args.place c.args.into.now))) c.in_ok-check.ensures in
+    split_planned m c.args.name.now c.args.place c.args.into.now c.requires
+    (nothing_told m c.args.name.now c.args.place c.args.into.now c.as_slice.result.now c.requires its_are early c.in_default.ensures)
+    _ c.as_slice-2.result.now c.deref.result.now refl (c.as_slice-2.ensures ∙ c.in_ok-its_users.ensures) (c.deref.ensures.value ∙ c.in_ok-names.ensures) c.in_ok-change_all.field-0 c.in_ok-change_all.ensures

@@ -11,5 +11,5 @@ fall-requires g c =
 pub returns-in-Err-clause-err : goal.returns-in-Err-clause-err
 returns-in-Err-clause-err g c = (
   c.in-Err.ensures.err,
-  c.fall.ensures ∙ ap (λ (h : Held). fallen h c.args.seq) c.in_ok-stand.ensures.ok ∙ fallen_again c.args.holders.now c.args.footprint.now c.args.seq c.requires.held c.requires.rising c.requires.next,
+  c.fall.ensures ∙ ap (λ (h : Held). fallen h c.args.seq) c.in_ok-stand.ensures.ok ∙ fallen_again c.args.holders.now c.args.footprint.now c.args.seq c.in_ok-stand.ensures.held c.requires.rising c.requires.next,
 )

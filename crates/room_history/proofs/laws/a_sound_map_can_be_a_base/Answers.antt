@@ -5,7 +5,7 @@ use Rattle.osm_elements.specs.Maps.{Rows}
 use Rattle.room_history.specs.Bases.{IsBaseFault}
 use Rattle.room_history.specs.declared.base.BaseFault.{BaseFault}
 use Rattle.room_history.specs.declared.base.BaseFault.TheVariants.{Unsound, Memory}
-use Rattle.room_history.proofs.Basing.{sound_kinds, unsound_map}
+use Rattle.edit_simple.specs.Facts.Soundness.{sound_kinds, unsound_map}
 use Rattle.room_history.proofs.laws.a_sound_map_can_be_a_base.Goals as goal
 
 memory_alone : {A : Type 0} (m : Rows A) (fault : BaseFault A) → is_sound m ≡ true → IsBaseFault m fault → fault ≡ Memory

@@ -1,4 +1,4 @@
-use Rattle.room_history.proofs.Basing.{one_fault, unsound_map}
+use Rattle.edit_simple.specs.Facts.Soundness.{one_fault, unsound_map}
 use Rattle.room_history.proofs.laws.an_unsound_map_has_one_fault.Goals as goal
 
 pub returns-clause-unsound : goal.returns-clause-unsound

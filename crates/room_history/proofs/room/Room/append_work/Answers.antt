@@ -12,7 +12,7 @@ use Rattle.room_history.specs.Inner.Origins.{origin_next}
 use Rattle.room_history.specs.Inner.Rooms.{MayAppend, MayWork}
 use Rattle.room_history.specs.Inner.Telling.{is_group}
 use Rattle.room_history.proofs.KeptEffects.{worked_effect}
-use Rattle.room_history.proofs.Stepping.{IsRoom-work, may_stand, stands_next, unspent_deed, above_deeds, work_rises, work_noted, on_err, on_ok}
+use Rattle.room_history.proofs.Stepping.{IsRoom-work, stands_next, unspent_deed, above_deeds, work_rises, work_noted, on_err, on_ok}
 use Rattle.room_history.proofs.room.Room.append_work.Goals as goal
 
 pub stand-requires-clause-next : goal.stand-requires-clause-next
@@ -20,11 +20,6 @@ stand-requires-clause-next g c =
     let room = c.self.inside in
     let count : c.len.result ≡ length room.entries.items = search rules in
     stands_next room.store room.recorded.items room.origins.items room.holders room.stacks.deeds room.base.value room.limit room.entries.items c.self.invariant c.len.result count
-
-pub stand-requires-clause-held : goal.stand-requires-clause-held
-stand-requires-clause-held g c =
-    let room = c.self.inside in
-    may_stand room.store room.recorded.items room.origins.items room.holders room.stacks.deeds room.base.value room.limit room.entries.items c.self.invariant
 
 pub stand-requires-clause-rising : goal.stand-requires-clause-rising
 stand-requires-clause-rising g c =

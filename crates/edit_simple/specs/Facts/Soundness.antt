@@ -31,7 +31,7 @@ use Rattle.edit_simple.specs.Create.{is_missing, is_too_long, is_too_short, list
 use Rattle.edit_simple.specs.Facts.Checked.{no_least, nones, not_so}
 use Rattle.edit_simple.specs.Facts.Creating.{long_enough}
 use Rattle.edit_simple.specs.Facts.Lists.{all_from, none_left}
-use Rattle.room_history.specs.Bases.{IsFirstUnsound, are_of_kinds}
+use Rattle.edit_simple.specs.Soundness.{IsFirstUnsound, are_of_kinds}
 
 at_most : (n k : ℕ) → nat_le n k ≡ true → nat_lt k n ≡ false
 at_most n k e = grind (arith, nat_tests)

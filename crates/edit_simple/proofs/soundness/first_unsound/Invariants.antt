@@ -1,6 +1,6 @@
 use Rattle.std.proofs.Common.{◌≡◌, ◌++◌, map}
-use Rattle.room_history.proofs.Basing.{AreSound}
-use Rattle.room_history.proofs.base.first_unsound.Given as goal
+use Rattle.edit_simple.specs.Facts.Soundness.{AreSound}
+use Rattle.edit_simple.proofs.soundness.first_unsound.Given as goal
 
 abbrev pub invariant-loop-name : goal.invariant-loop-name
 invariant-loop-name g l = record {

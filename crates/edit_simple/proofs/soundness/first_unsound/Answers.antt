@@ -2,8 +2,8 @@ use Rattle.std.proofs.Common.{◌≡◌, ◌++◌, ◌∷◌, [], map, refl, sub
 use Rattle.std.proofs.lemmas.List.{map-append}
 use Rattle.osm_elements.specs.declared.element.Element.{Element}
 use Rattle.osm_elements.specs.declared.name.Name.{Name}
-use Rattle.room_history.proofs.Basing.{AreSound, all_sound, first_unsound, sound_one_more}
-use Rattle.room_history.proofs.base.first_unsound.Goals as goal
+use Rattle.edit_simple.specs.Facts.Soundness.{AreSound, all_sound, first_unsound, sound_one_more}
+use Rattle.edit_simple.proofs.soundness.first_unsound.Goals as goal
 
 pub loop-name-init : goal.loop-name-init
 loop-name-init g c = record { all = search rules; sound = refl }
