@@ -1,12 +1,12 @@
 -- A client that reads a room's texts in order has the room's map.
-use Rattle.std.proofs.Common.{◌≡◌, ◌≢◌, ◌&&◌, ◌+◌, ◌≤◌, ◌++◌, ℕ, zero, suc, true, List, [], ◌∷◌, Option, Some, None, Ok, All, IfSome, is_some, drop, length, length-append, map, take, refl, sym, ap, ap₂, subst, ◌∙◌, append_assoc, arith}
+use Rattle.std.proofs.Common.{◌≡◌, ◌≢◌, ◌&&◌, ◌+◌, ◌≤◌, ◌++◌, ℕ, zero, suc, true, List, [], ◌∷◌, Option, Some, None, All, IfSome, is_some, drop, length, length-append, map, take, refl, sym, ap, ap₂, subst, ◌∙◌, append_assoc, arith}
 use Rattle.std.specs.Option.{option_and_then}
 use Rattle.std.specs.Result.{result_ok}
 use Rattle.std.specs.FinMap.Entries.{below_all, is_sorted}
 use Rattle.std.specs.declared.alloc.Global.{Global}
+use Rattle.std.proofs.lemmas.List.{take-append-drop}
 use Rattle.std.proofs.lemmas.List.Elements.{All-cons, All-nil}
 use Rattle.std.proofs.Math.Seq.{take-append_seam}
-use Rattle.serde_json.specs.Read.{read}
 use Rattle.osm_elements.specs.declared.name.Name.{Name}
 use Rattle.osm_elements.specs.declared.element.Element.{Element}
 use Rattle.osm_elements.specs.Maps.{Rows, is_same, is_among, names_of}
@@ -23,17 +23,17 @@ use Rattle.edit_simple.specs.Facts.Lists.{or_right, is_among_own}
 use Rattle.room_history.specs.declared.entry.Entry.{Entry}
 use Rattle.room_history.specs.declared.news.News.{News}
 use Rattle.room_history.specs.declared.news.NewsRow.{NewsRow}
-use Rattle.room_history.specs.News.{news_behind, news_of, news_row}
+use Rattle.room_history.specs.Headline.{Holds}
+use Rattle.room_history.specs.News.{news, news_behind, news_of, news_row}
 use Rattle.room_history.specs.Replays.{mapof, past, recorded_next}
-use Rattle.room_wire.specs.News.{news_tree, spells_news}
 use Rattle.room_wire.specs.NewsBack.{AreNews, IsNewsRow, IsUnder, IsWelcome}
 use Rattle.room_wire.specs.ReadBack.{HasId}
 use Rattle.room_wire.specs.WellFormed.{IsNumber}
 use Rattle.room_mirror.specs.declared.fault.MirrorFault.{MirrorFault}
-use Rattle.room_mirror.specs.Clients.{IsBrought, SpellNews, followed, taken}
+use Rattle.room_mirror.specs.Clients.{IsBrought, IsReadBack, SpellNews, followed, taken, welcome_to}
 use Rattle.room_mirror.specs.Mirrors.{MirrorState, fault, taken_in_turn, taken_or, with_news}
 use Rattle.room_mirror.proofs.Following.{IsStep, AreSteps, LeadTo, StartFrom, names_rise, of_changed_names}
-use Rattle.room_mirror.proofs.NamesKept.{HaveIds}
+use Rattle.room_mirror.proofs.NamesKept.{HaveIds, ids_of_base, ids_of_map}
 use Rattle.room_mirror.proofs.WholeRows.{map_rows, row_under}
 
 -- a property of all items is a property of the first n items
@@ -132,17 +132,28 @@ module _ (base : Rows Global) (limit : ℕ) (j : List (Entry Global)) (few : len
       (news_fine i k e is steps.0 (b 0 e (omega arith)))
       (all_fine (i ++ e ∷ []) k (append_assoc i (e ∷ []) k ∙ is) steps.1 (λ k d l. b (suc k) d (omega (arith, l))))
 
+-- the news and the welcomes of a room can be read back
+module _ (base : Rows Global) (limit : ℕ) (j : List (Entry Global)) (ids : All HasId (names_of base)) (brought : All IsBrought j) (few : length j ≤ 9007199254740991)
+    (holds : (n : ℕ) → Holds base limit (take n j)) where
+  room_ids : (n : ℕ) → HaveIds (mapof base (take n j))
+  room_ids n = ids_of_map base (take n j) (ids_of_base base ids) (all_front IsBrought n j brought) (holds n).replayed
+
+  pub room_news : (a : ℕ) → AreSteps base (take a j) (drop a j) → All (λ (n : News Global). AreNews n) (news base j a)
+  room_news a steps = all_fine base limit j few brought (λ n. (holds n).sound) room_ids (take a j) (drop a j) (take-append-drop a j) steps (all_behind IsBrought a j brought)
+
+  pub room_welcome : (id a : ℕ) → IsNumber id → a ≤ length j → IsWelcome (welcome_to id base j a)
+  room_welcome id a number l = is_welcome id a (mapof base (take a j)) number (omega (arith, l, few)) (holds a).sound (room_ids a)
+
 -- texts that spell news lead to the same mirror as the news
-module _ (back : (text : List ℕ) (n : News Global) → read text ≡ Some (news_tree n) → AreNews n → spells_news text ≡ Ok n) where
-  pub followed_is : (s : MirrorState Global) (texts : List (List ℕ)) (ns : List (News Global)) → SpellNews texts ns → All (λ (n : News Global). AreNews n) ns → followed s texts ≡ result_ok (taken_in_turn s ns)
-  followed_is s [] [] spelled fine = refl
-  followed_is s [] (n ∷ ns) spelled fine = absurd spelled
-  followed_is s (text ∷ texts) [] spelled fine = absurd spelled
-  followed_is s (text ∷ texts) (n ∷ ns) spelled fine =
-      ap (λ r. option_and_then (λ n. option_and_then (λ t. followed t texts) (taken s n (fault s n))) (result_ok r)) (back text n spelled.0 (fine 0 n (omega arith)))
-      ∙ by (fault s n) (followed_is (with_news s n) texts ns spelled.1 (λ k d l. fine (suc k) d (omega (arith, l))))
-    where
-      by : (o : Option MirrorFault) → followed (with_news s n) texts ≡ result_ok (taken_in_turn (with_news s n) ns)
-          → option_and_then (λ t. followed t texts) (taken s n o) ≡ result_ok (taken_or o (taken_in_turn (with_news s n) ns))
-      by None later = later
-      by (Some f) later = refl
+pub followed_is : (s : MirrorState Global) (texts : List (List ℕ)) (ns : List (News Global)) → SpellNews texts ns → All IsReadBack ns → followed s texts ≡ result_ok (taken_in_turn s ns)
+followed_is s [] [] spelled back = refl
+followed_is s [] (n ∷ ns) spelled back = absurd spelled
+followed_is s (text ∷ texts) [] spelled back = absurd spelled
+followed_is s (text ∷ texts) (n ∷ ns) spelled back =
+    ap (λ r. option_and_then (λ n. option_and_then (λ t. followed t texts) (taken s n (fault s n))) (result_ok r)) (back 0 n (omega arith) text spelled.0)
+    ∙ by (fault s n) (followed_is (with_news s n) texts ns spelled.1 (λ k d l. back (suc k) d (omega (arith, l))))
+  where
+    by : (o : Option MirrorFault) → followed (with_news s n) texts ≡ result_ok (taken_in_turn (with_news s n) ns)
+        → option_and_then (λ t. followed t texts) (taken s n o) ≡ result_ok (taken_or o (taken_in_turn (with_news s n) ns))
+    by None later = later
+    by (Some f) later = refl

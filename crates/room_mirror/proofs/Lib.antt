@@ -1,5 +1,6 @@
 pub mod ClientTexts
 pub mod Following
+pub mod FromCalls
 pub mod NamesKept
 pub mod Refusing
 pub mod ReplacedRows

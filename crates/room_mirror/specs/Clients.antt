@@ -1,6 +1,6 @@
 -- Clients of a room: a client reads a welcome, and then news in order, and keeps a mirror. (Welcomes, news and mirrors
 -- are this project's.)
-use Rattle.std.specs.Prelude.{◌≡◌, ℕ, true, List, [], ◌∷◌, Option, Some, None, All, take}
+use Rattle.std.specs.Prelude.{◌≡◌, ℕ, true, List, [], ◌∷◌, Option, Some, None, Ok, All, take}
 use Rattle.std.specs.Option.{option_and_then}
 use Rattle.std.specs.Result.{result_ok}
 use Rattle.std.specs.declared.alloc.Global.{Global}
@@ -11,10 +11,14 @@ use Rattle.edit_actions.specs.declared.action.Action.{Action}
 use Rattle.edit_footprint.specs.Footprints.{subjects}
 use Rattle.edit_groups.specs.declared.edit.Edit.{Edit}
 use Rattle.edit_groups.specs.declared.edit.Edit.TheVariants.{One, Group}
+use Rattle.room_history.specs.declared.call.Call.{Call}
+use Rattle.room_history.specs.declared.call.Request.{Request}
+use Rattle.room_history.specs.declared.call.Request.TheVariants as requests
 use Rattle.room_history.specs.declared.entry.Entry.{Entry}
 use Rattle.room_history.specs.declared.entry.EntryKind.{EntryKind}
 use Rattle.room_history.specs.declared.entry.EntryKind.TheVariants.{Do, Undo, Redo}
 use Rattle.room_history.specs.declared.news.News.{News}
+use Rattle.room_history.specs.LegalJournals.{is_made_request}
 use Rattle.room_history.specs.Replays.{mapof}
 use Rattle.room_stacks.specs.Authors.{is_author}
 use Rattle.room_wire.specs.declared.welcome.Welcome.{Welcome}
@@ -27,6 +31,10 @@ use Rattle.room_mirror.specs.Mirrors.{MirrorState, fault, with_news}
 -- the welcome to a room whose journal has n entries, with the id of its message
 abbrev pub welcome_to : ℕ → Rows Global → List (Entry Global) → ℕ → Welcome
 welcome_to id base j n = record { id = id; seq = n; rows = mapof base (take n j) }
+
+-- every JSON text with the tree of the news is read as these news
+abbrev pub IsReadBack : News Global → Type 0
+IsReadBack n = (text : List ℕ) → read text ≡ Some (news_tree n) → spells_news text ≡ Ok n
 
 -- each text is a JSON text with the tree of the news at its position
 abbrev pub SpellNews : List (List ℕ) → List (News Global) → Type 0
@@ -74,3 +82,16 @@ HasSubjectIds (Redo s) = Unit {0}
 -- messages
 abbrev pub IsBrought : Entry Global → Type 0
 IsBrought e = (is_author e.author ≡ true) × HasSubjectIds e.kind
+
+-- the subjects of the request's actions have ids as in messages
+abbrev pub HasRequestIds : Request Global → Type 0
+HasRequestIds (requests.Do e) = HasEditIds e
+HasRequestIds (requests.Undo s) = Unit {0}
+HasRequestIds requests.Redo = Unit {0}
+
+-- the call can come from a message: its author has an author's name, its values are made, and the subjects of its
+-- actions have ids as in messages
+pub record IsBroughtCall (c : Call Global) : Type 0 where
+  pub author : is_author c.author ≡ true
+  pub made : is_made_request c.request ≡ true
+  pub ids : HasRequestIds c.request

@@ -1,17 +1,24 @@
 //! Laws of mirrors. Each law is the contract of an empty function.
-ghost use Rattle.std.specs.Prelude.{◌≡◌, ◌≤◌, ◌-◌, ℕ, true, List, Ok, Some, All, length, take};
+ghost use Rattle.std.specs.Prelude.{◌≡◌, ◌≤◌, ◌-◌, ℕ, true, List, Ok, Some, All, IfSome, length, take};
 ghost use Rattle.std.specs.declared.alloc.Global.{Global};
 ghost use Rattle.osm_changes.specs.Sound.{is_sound};
 ghost use Rattle.osm_elements.specs.Maps.{Rows, names_of};
 ghost use Rattle.osm_elements.specs.Rows.{AreInOrder};
+ghost use Rattle.room_history.specs.declared.call.Call.{Call};
 ghost use Rattle.room_history.specs.declared.entry.Entry.{Entry};
+ghost use Rattle.room_history.specs.declared.news.News.{News};
+ghost use Rattle.room_history.specs.declared.reply.Reply.{Reply};
 ghost use Rattle.room_history.specs.LegalJournals.{IsJournal};
 ghost use Rattle.room_history.specs.News.{news};
 ghost use Rattle.room_history.specs.Replays.{mapof};
-ghost use Rattle.room_mirror.specs.Clients.{IsBrought, SpellNews, mirror_made, welcome_to};
+ghost use Rattle.room_history.specs.Rooms.{RoomState};
+ghost use Rattle.room_history.specs.Runs.{Answers, IsStep};
+ghost use Rattle.room_mirror.specs.Clients.{IsBrought, IsBroughtCall, IsReadBack, SpellNews, mirror_made, welcome_to};
 ghost use Rattle.room_mirror.specs.Mirrors.{mirror_of, taken_in_turn};
+ghost use Rattle.room_stacks.specs.Authors.{author_of, is_author};
+ghost use Rattle.room_wire.specs.NewsBack.{AreNews, IsWelcome};
 ghost use Rattle.room_wire.specs.ReadBack.{HasId};
-ghost use Rattle.room_wire.specs.Welcomes.{welcome_tree};
+ghost use Rattle.room_wire.specs.Welcomes.{spells_welcome, welcome_tree};
 ghost use Rattle.room_wire.specs.WellFormed.{IsNumber};
 ghost use Rattle.serde_json.specs.Read.{read};
 
@@ -37,13 +44,41 @@ pub fn mirrors_follow<A: Allocator>()
     entries_change_their_maps::<A>();
 }
 
+/// A client can read a room's texts: the news of each entry after the first `a` are as [`news_are_read_back`] requires,
+/// and a welcome after `a` entries is as [`a_welcome_is_read_back`] requires. So each text with the tree of these news
+/// or of this welcome, such as the texts that a session writes, is read as the same value.
+///
+/// The names of the base and of the actions' subjects have ids that fit an `i64`, as in messages. A contract's id is
+/// any whole number, and an accepted action creates no other ids. The entries' authors have authors' names. The journal
+/// has at most 2^53 - 1 entries, because greater numbers are not read back.
+pub fn a_rooms_texts_are_read_back()
+    ensures news { (base : Rows Global) (limit : ℕ) (j : List (Entry Global)) (a : ℕ) → is_sound base ≡ true
+        → IsJournal base limit j → All HasId (names_of base) → All IsBrought j → length j ≤ 9007199254740991
+        → All (λ (n : News Global). AreNews n) (news base j a) }
+    ensures welcome { (base : Rows Global) (limit : ℕ) (j : List (Entry Global)) (id a : ℕ) → is_sound base ≡ true
+        → IsJournal base limit j → All HasId (names_of base) → All IsBrought j → length j ≤ 9007199254740991
+        → IsNumber id → a ≤ length j → IsWelcome (welcome_to id base j a) }
+    ensures news_text { (base : Rows Global) (limit : ℕ) (j : List (Entry Global)) (a : ℕ) → is_sound base ≡ true
+        → IsJournal base limit j → All HasId (names_of base) → All IsBrought j → length j ≤ 9007199254740991
+        → All IsReadBack (news base j a) }
+    ensures welcome_text { (base : Rows Global) (limit : ℕ) (j : List (Entry Global)) (id a : ℕ) (text : List ℕ)
+        → is_sound base ≡ true → IsJournal base limit j → All HasId (names_of base) → All IsBrought j
+        → length j ≤ 9007199254740991 → IsNumber id → a ≤ length j
+        → read text ≡ Some (welcome_tree (welcome_to id base j a))
+        → spells_welcome text ≡ Ok (welcome_to id base j a) }
+{
+    journals_hold::<Global>();
+    journals_begin::<Global>();
+    entries_change_their_maps::<Global>();
+    a_welcome_is_read_back();
+    news_are_read_back();
+}
+
 /// A client reads the text of a welcome to a room after `a` entries, and then the text of the news of each entry from
 /// `a + 1` to `b`, in order. No text is refused, and the client's mirror then has the room's map after `b` entries.
 ///
 /// Each text can be any text with the tree of the welcome or the news, such as the texts that a session writes. The
-/// names of the base and of the actions' subjects have ids that fit an `i64`, as in messages. A contract's id is any
-/// whole number, and an accepted action creates no other ids. The entries' authors have authors' names. The journal has
-/// at most 2^53 - 1 entries, because greater numbers are not read back.
+/// premises on ids, authors and the number of entries are those of [`a_rooms_texts_are_read_back`].
 pub fn a_client_has_the_rooms_map()
     ensures { (base : Rows Global) (limit : ℕ) (j : List (Entry Global)) (id a b : ℕ) (welcome : List ℕ)
         (texts : List (List ℕ))
@@ -52,9 +87,34 @@ pub fn a_client_has_the_rooms_map()
         → read welcome ≡ Some (welcome_tree (welcome_to id base j a)) → SpellNews texts (take (b - a) (news base j a))
         → mirror_made welcome texts ≡ Some (mirror_of base j b) }
 {
-    journals_hold::<Global>();
-    journals_begin::<Global>();
-    entries_change_their_maps::<Global>();
-    a_welcome_is_read_back();
-    news_are_read_back();
+    a_rooms_texts_are_read_back();
+    mirrors_follow::<Global>();
 }
+
+/// If the names of the base and of the actions' subjects have ids that fit an `i64`, so do the names of the room's map.
+pub fn actions_create_no_other_ids()
+    ensures { (base : Rows Global) (limit : ℕ) (j : List (Entry Global)) → is_sound base ≡ true → IsJournal base limit j
+        → All HasId (names_of base) → All IsBrought j → All HasId (names_of (mapof base j)) }
+{
+    journals_hold::<Global>();
+}
+
+/// Every author that [`Author::read`](room_stacks::author::Author::read) returns has an author's name.
+pub fn read_authors_have_names()
+    ensures { (text : List ℕ) → IfSome (author_of text) (λ author. is_author author ≡ true) }
+{}
+
+/// If calls can come from messages, so can the entries that they append: after each step of a room, and after a run
+/// from an empty journal. The journal is then one to which calls lead. So it meets the premises of
+/// [`a_rooms_texts_are_read_back`] and [`a_client_has_the_rooms_map`] on journals and entries.
+///
+/// Types keep most of what a call needs: [`call_has_ids`](crate::brought::call_has_ids) proves `made` and `ids` of
+/// `IsBroughtCall`, and [`read_authors_have_names`] says which authors have names.
+pub fn calls_bring_their_entries()
+    ensures step { (base : Rows Global) (limit : ℕ) (j k : List (Entry Global)) (c : Call Global) (reply : Reply Global)
+        → IsJournal base limit j → All IsBrought j → IsBroughtCall c → IsStep base limit j c reply k
+        → IsJournal base limit k × All IsBrought k }
+    ensures run { (base : Rows Global) (limit : ℕ) (calls : List (Call Global)) (room : RoomState Global)
+        (replies : List (Reply Global)) → All IsBroughtCall calls → Answers base limit calls room replies
+        → IsJournal base limit room.journal × All IsBrought room.journal }
+{}

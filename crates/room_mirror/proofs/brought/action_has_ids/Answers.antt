@@ -1,0 +1,12 @@
+use Rattle.std.proofs.Common.{◌≡◌, All, sym, subst, rules}
+use Rattle.std.proofs.lemmas.List.Elements.{All-map}
+use Rattle.osm_changes.specs.declared.cell.Cell.{Cell}
+use Rattle.osm_changes.specs.Cells.{rest_at}
+use Rattle.room_wire.specs.ReadBack.{HasId}
+use Rattle.room_mirror.specs.Clients.{HasIds}
+use Rattle.room_mirror.proofs.brought.action_has_ids.Goals as goal
+
+pub returns-in-Move : goal.returns-in-Move
+returns-in-Move c =
+    let same : c.as_slice.result.now ≡ c.in-Move.names = search rules in
+    subst HasIds (sym c.in-Move.is) (All-map (λ (c : Cell). HasId c.name) rest_at c.in-Move.names (subst (All HasId) same c.names_have_ids.ensures))
