@@ -8,7 +8,8 @@ use Rattle.edit_simple.specs.declared.refusal.Refusal.{Refusal}
 use Rattle.osm_elements.specs.declared.name.Name.{Name}
 use Rattle.osm_elements.specs.Maps.{Rows}
 use Rattle.osm_elements.specs.Rows.{row_at}
-use Rattle.room_history.specs.Bases.{IsBaseFault, IsFirstUnsound}
+use Rattle.edit_simple.specs.Soundness.{IsFirstUnsound}
+use Rattle.room_history.specs.Bases.{IsBaseFault}
 use Rattle.room_history.specs.declared.base.BaseFault.{BaseFault}
 use Rattle.room_history.specs.declared.base.BaseFault.TheVariants as bases
 use Rattle.room_history.specs.declared.entry.Entry.{Entry}

@@ -4,7 +4,7 @@ use Rattle.std.specs.Option.{option_map}
 use Rattle.std.specs.Str.{is_utf8}
 use Rattle.std.specs.declared.alloc.Global.{Global}
 use Rattle.osm_elements.specs.Maps.{Rows}
-use Rattle.room_history.specs.Bases.{IsFirstUnsound}
+use Rattle.edit_simple.specs.Soundness.{IsFirstUnsound}
 use Rattle.room_wire.specs.declared.bad.Bad.{Bad}
 use Rattle.room_wire.specs.declared.bad.Fault.TheVariants.{NotJson}
 use Rattle.room_wire.specs.declared.welcome.Welcome.{Welcome}

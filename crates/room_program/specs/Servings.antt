@@ -15,7 +15,10 @@ use Rattle.room_program.specs.Faults.{Takes, fault_line, fault_status}
 use Rattle.room_program.specs.Fronts.{front_lines}
 use Rattle.room_server.specs.declared.table.TableFault.TheVariants as tables
 use Rattle.room_program.specs.Streams.{GetsAtMost}
-use Rattle.room_server.specs.Openings.{AreFine, IsNameFault}
+use Rattle.room_server.specs.Fronts.{AreFronts}
+use Rattle.room_server.specs.Openings.{AreFine, IsNameFault, Opens}
+use Rattle.room_server.specs.Pools.{Pools}
+use Rattle.room_server.specs.Tables.{SeatView, TableView}
 
 -- the rooms can be served: there are at most 64, each with a name of its own
 abbrev pub CanBeServed : List Text → Type 0
@@ -46,11 +49,20 @@ module _ {S : Type 0} (source : sources.Ghosts S) (on_base : Bool) where
 -- the contracts' view of an output
 module _ {W : Type 0} (sink : sinks.Ghosts W) where
   -- The rooms were served to the end, each from this map on. The output took the line `listening`, and then for each
-  -- room a line with the entry count of its journal.
-  pub record ServesAll (rooms : List Text) (base : Rows Global) (limit : ℕ) (output output' : W) : Type 0 where
+  -- room a line with the entry count of its journal, which has the entries of the workers' sessions and no others.
+  pub record ServesAll (rooms : List Text) (base : Rows Global) (limit workers : ℕ) (output output' : W) : Type 0 where
     pub can : CanBeServed rooms
     pub sound : is_sound base ≡ true
+    -- the rooms' desks with their first seats
+    pub table : TableView
+    pub first : List SeatView
+    pub opens : Opens rooms base limit table first
+    -- these seats at the end, after the seats through which the workers served sessions were met into them
+    pub seats : List SeatView
+    pub pools : Pools table (10 ^ 9) workers seats
+    -- the entry counts of the desks that were closed with these seats, in the rooms' order
     pub fronts : List ℕ
+    pub closed : AreFronts table.desks seats fronts
     pub as_many : length fronts ≡ length rooms
     pub each : All (IsFrontOf base limit) fronts
     pub written : Takes sink output output' (listening ++ front_lines rooms fronts)
@@ -68,11 +80,11 @@ module _ {S W : Type 0} (source : sources.Ghosts S) (sink : sinks.Ghosts W) (on_
 
   -- rooms were served with this limit, and the call ended with this status; the line of a fault is written to the
   -- errors
-  pub record Serves {E : Type 0} (errors_sink : sinks.Ghosts E) (rooms : List Text) (limit status : ℕ)
+  pub record Serves {E : Type 0} (errors_sink : sinks.Ghosts E) (rooms : List Text) (limit workers status : ℕ)
       (input input' : S) (output output' : W) (errors errors' : E) : Type 0 where
     pub range : status ≤ 2
     pub done : status ≡ 0 → ((base : Rows Global) × BeginsOn source on_base input base
-        × ServesAll sink rooms base limit output output') × (errors' ≡ errors)
+        × ServesAll sink rooms base limit workers output output') × (errors' ≡ errors)
     pub failed : 0 < status → (fault : ProgramFault) × (status ≡ fault_status fault)
         × Takes errors_sink errors errors' (fault_line fault)
         × StopsBy rooms input input' output output' fault

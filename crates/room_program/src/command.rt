@@ -82,8 +82,8 @@ where
         × Replays S.Source W.Sink E.Sink base limit result input.old input.new output.old output.new errors.old
         errors.new)
         ⊎ ((asked : ServeOptions) × AsksForServe texts asked
-        × Serves S.Source W.Sink asked.base E.Sink (map (λ room. room.now) asked.rooms.items) asked.limit result
-        input.old input.new output.old output.new errors.old errors.new)
+        × Serves S.Source W.Sink asked.base E.Sink (map (λ room. room.now) asked.rooms.items) asked.limit asked.workers
+        result input.old input.new output.old output.new errors.old errors.new)
         ⊎ ((asks_for_help texts ≡ true) × (result ≡ 0) × (input.new ≡ input.old)
         × TakesOne W.Sink output.old output.new × (errors.new ≡ errors.old))
         ⊎ ((has_mistake texts ≡ true) × (result ≡ 2) × (input.new ≡ input.old)
@@ -141,7 +141,7 @@ where
     requires output_works { W.has_failed output.old ≡ false }
     requires errors_work { E.has_failed errors.old ≡ false }
     ensures { Serves S.Source W.Sink asked.now.base E.Sink
-        (map (λ room. room.now) asked.now.rooms.items) asked.now.limit result
+        (map (λ room. room.now) asked.now.rooms.items) asked.now.limit asked.now.workers result
         input.old input.new output.old output.new errors.old errors.new }
 {
     match serve(rt, alloc, asked, input, output) {

@@ -3,7 +3,7 @@ ghost use Rattle.std.specs.Prelude.{◌≡◌, ◌≤◌, ◌^◌, IfErr, IfOk, 
 ghost use Rattle.std.specs.declared.alloc.Global.{Global};
 ghost use Rattle.osm_elements.specs.Maps.{Rows};
 ghost use Rattle.osm_elements.specs.Rows.{AreInOrder};
-ghost use Rattle.room_history.specs.Bases.{are_of_kinds};
+ghost use Rattle.edit_simple.specs.Soundness.{are_of_kinds};
 ghost use Rattle.room_program.specs.Bases.{BeginsOn, IsUnread};
 ghost use Rattle.room_program.specs.Servings.{CanBeServed, IsUnopened, ServesAll, StopsBy};
 ghost use Rattle.room_program.specs.Streams.{GetsAtMost};
@@ -72,7 +72,7 @@ where
     requires works { W.has_failed output.old ≡ false }
     ensures ok { let rooms = map (λ room. room.now) asked.now.rooms.items in
         OnOk result ((base : Rows Global) × BeginsOn S.Source asked.now.base input.old base
-        × ServesAll W.Sink rooms base asked.now.limit output.old output.new) }
+        × ServesAll W.Sink rooms base asked.now.limit asked.now.workers output.old output.new) }
     ensures err { let rooms = map (λ room. room.now) asked.now.rooms.items in
         IfErr result
         (λ fault. StopsBy S.Source W.Sink asked.now.base rooms input.old input.new output.old output.new fault) }

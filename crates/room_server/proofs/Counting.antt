@@ -7,7 +7,7 @@ use Rattle.std.specs.declared.alloc.Global.{Global}
 use Rattle.room_history.specs.declared.entry.Entry.{Entry}
 use Rattle.std.specs.List.{slice_index_or}
 use Rattle.turn_desk.specs.Desk.{IsFirst, kin, share}
-use Rattle.room_server.specs.Seats.{AreMet, AreSplit, HaveMet, HavePartsFor, IsSet}
+use Rattle.room_server.specs.Seats.{AreMet, AreSplit, HaveMet, HavePartsFor, IsFresh, IsSet}
 use Rattle.room_server.specs.Tables.{AreAt, SeatView, TableView, mark}
 use Rattle.room_server.proofs.Seating.{some_is}
 
@@ -40,6 +40,16 @@ if_none (Some x) f p = tt
 pub first_parts : (count : ℕ) (seats : List SeatView) → count ≤ 64 → All IsFirst seats → HavePartsFor count seats
 first_parts count seats most first = all_from (λ seat. (count * 2 ^ 58 ≤ seat.parts + 1) × (seat.parts + 1 ≤ 2 ^ 64)) seats
     (λ i seat at. let is = (all_at IsFirst seats i seat first at).parts in (omega (arith, is, most), omega (arith, is)))
+
+pub first_own : (seats : List SeatView) → All IsFirst seats → All (λ seat. seat.mine ≡ []) seats
+first_own seats first = all_from (λ seat. seat.mine ≡ []) seats (λ i seat at. (all_at IsFirst seats i seat first at).mine)
+
+pub none_met : (seats : List SeatView) → HaveMet 0 seats → All (λ seat. seat.met ≡ []) seats
+none_met seats have = all_from (λ seat. seat.met ≡ []) seats (λ i seat at. by seat.met (all_at (λ seat. (seat.number ≡ 0) × (length seat.met ≡ 0)) seats i seat have at).1)
+  where
+    by : (met : List (ℕ × List (Entry Global))) → length met ≡ 0 → met ≡ []
+    by [] e = refl
+    by (k ∷ met) e = absurd (omega (arith, e))
 
 pub first_met : (seats : List SeatView) → All IsFirst seats → HaveMet 0 seats
 first_met seats first = all_from (λ seat. (seat.number ≡ 0) × (length seat.met ≡ 0)) seats
@@ -83,17 +93,30 @@ module _ (seats kept new : List SeatView) (are : AreSplit seats kept new) where
           let had = all_at (λ seat. (seat.number ≡ 0) × (length seat.met ≡ count)) seats i was.0 have was.1 in
           (split.number ∙ had.0, ap length split.met ∙ had.1)
 
-  pub new_is_set : (table : TableView) → AreAt table new → IsSet table new
-  new_is_set table at = (at, all_from (λ seat. seat.met ≡ []) new one)
+  pub own_left : All (λ seat. seat.mine ≡ []) seats → All (λ seat. seat.mine ≡ []) kept
+  own_left own = all_from (λ seat. seat.mine ≡ []) kept one
     where
-      one : (i : ℕ) (n : SeatView) → slice_get new i ≡ Some n → n.met ≡ []
+      one : (i : ℕ) (k : SeatView) → slice_get kept i ≡ Some k → k.mine ≡ []
+      one i k at =
+          let below = slice_get_within kept i k at in
+          let many = are.as_many in
+          let of_new = are.of_new in
+          let was = there_is seats i (omega (arith, below, many)) in
+          let other = there_is new i (omega (arith, below, many, of_new)) in
+          (are.split i was.0 k other.0 was.1 at other.1).mine ∙ all_at (λ seat. seat.mine ≡ []) seats i was.0 own was.1
+
+  pub new_is_fresh : (table : TableView) → AreAt table new → IsFresh table new
+  new_is_fresh table at = (at, all_from (λ seat. (seat.mine ≡ []) × (seat.met ≡ [])) new one)
+    where
+      one : (i : ℕ) (n : SeatView) → slice_get new i ≡ Some n → (n.mine ≡ []) × (n.met ≡ [])
       one i n here =
           let below = slice_get_within new i n here in
           let many = are.as_many in
           let of_new = are.of_new in
           let was = there_is seats i (omega (arith, below, of_new)) in
           let k = there_is kept i (omega (arith, below, many, of_new)) in
-          (are.split i was.0 k.0 n was.1 k.1 here).fresh.3
+          let fresh = (are.split i was.0 k.0 n was.1 k.1 here).fresh in
+          (fresh.0, fresh.3)
 
 -- ---- kin
 
@@ -130,8 +153,8 @@ tails x y xs ys e = ap tail_of e
     tail_of (z ∷ zs) = zs
 
 -- seats with the marks of a set are a set
-pub still_set : (table : TableView) (lent back : List SeatView) → AreAt table back → map mark back ≡ map mark lent → All (λ seat. seat.met ≡ []) lent → IsSet table back
-still_set table lent back at same alone = (at, all_from (λ seat. seat.met ≡ []) back (λ i b here. no_kin i b here))
+pub still_set : (table : TableView) (lent back : List SeatView) → AreAt table back → map mark back ≡ map mark lent → IsFresh table lent → IsSet table back
+still_set table lent back at same fresh = (at, all_from (λ seat. seat.met ≡ []) back (λ i b here. no_kin i b here))
   where
     no_kin : (i : ℕ) (b : SeatView) → slice_get back i ≡ Some b → b.met ≡ []
     no_kin i b here =
@@ -140,5 +163,5 @@ still_set table lent back at same alone = (at, all_from (λ seat. seat.met ≡ [
         let l = there_is lent i (omega (arith, below, many)) in
         let marks : mark b ≡ mark l.0 = some_is (slice_get (map mark lent) i) (mark l.0) (mark b)
         (slice_get-map mark lent i ∙ ap (option_map mark) l.1) (sym (ap (λ ms. slice_get ms i) same) ∙ slice_get-map mark back i ∙ ap (option_map mark) here) in
-        let alone_there = all_at (λ seat. seat.met ≡ []) lent i l.0 alone l.1 in
+        let alone_there = (all_at (λ seat. (seat.mine ≡ []) × (seat.met ≡ [])) lent i l.0 fresh.1 l.1).1 in
         no_numbers b.met (tails b.number l.0.number (map (λ k. k.0) b.met) (map (λ k. k.0) l.0.met) (ap (λ m. m.1) marks) ∙ ap (map (λ k. k.0)) alone_there)

@@ -2,5 +2,7 @@ mod Counting
 mod Crossing
 mod Meeting
 mod Opening
+mod Parts
+mod Pooling
 mod Seating
 mod Splitting

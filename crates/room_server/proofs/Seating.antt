@@ -43,10 +43,11 @@ map_set_same f (z ∷ xs) (suc i) x y at same = ap (λ t. f z ∷ t) (map_set_sa
 
 same_mark : (before after : SeatView) → IsSameSeat before after → mark after ≡ mark before
 same_mark before after same =
-    ap (λ t. ((t, after.fixed), after.number ∷ map (λ k. k.0) after.met)) same.table
-    ∙ ap (λ f. ((before.table, f), after.number ∷ map (λ k. k.0) after.met)) same.fixed
-    ∙ ap (λ n. ((before.table, before.fixed), n ∷ map (λ k. k.0) after.met)) same.number
-    ∙ ap (λ m. ((before.table, before.fixed), before.number ∷ map (λ k. k.0) m)) same.met
+    ap (λ t. ((t, after.fixed), after.number ∷ map (λ k. k.0) after.met, after.parts)) same.table
+    ∙ ap (λ f. ((before.table, f), after.number ∷ map (λ k. k.0) after.met, after.parts)) same.fixed
+    ∙ ap (λ n. ((before.table, before.fixed), n ∷ map (λ k. k.0) after.met, after.parts)) same.number
+    ∙ ap (λ m. ((before.table, before.fixed), before.number ∷ map (λ k. k.0) m, after.parts)) same.met
+    ∙ ap (λ p. ((before.table, before.fixed), before.number ∷ map (λ k. k.0) before.met, p)) same.parts
 
 entries_begin : {E : Type 0} (h seen : History E) → BeginsWith h seen → BeginsWith (entries h) (entries seen)
 entries_begin h seen starts = (entries starts.0, ap entries starts.1 ∙ map-append (λ p. p.1) seen starts.0)

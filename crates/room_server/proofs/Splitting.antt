@@ -36,7 +36,7 @@ module _ {X : Type 0} (all taken rest later : List X) (x : X) (whole : taken ++ 
   pub whole_more : (taken ++ x ∷ []) ++ later ≡ all
   whole_more = append_assoc taken (x ∷ []) later ∙ ap (λ xs. taken ++ xs) (sym next) ∙ whole
 
-no_more : {X : Type 0} (xs : List X) → length xs ≡ 0 → xs ≡ []
+pub no_more : {X : Type 0} (xs : List X) → length xs ≡ 0 → xs ≡ []
 no_more [] e = refl
 no_more (x ∷ xs) e = absurd (omega (arith, e))
 

@@ -1,11 +1,11 @@
 -- The entry counts of the rooms of a table that is closed.
-use Rattle.std.specs.Prelude.{◌≡◌, ℕ, List, Some, length, slice_get}
+use Rattle.std.specs.Prelude.{◌≡◌, ◌≢◌, ◌-◌, ◌^◌, ℕ, List, [], Some, length, slice_get}
 use Rattle.std.specs.declared.alloc.Global.{Global}
 use Rattle.room_history.specs.declared.entry.Entry.{Entry}
 use Rattle.room_history.specs.Turns.{IsTurn}
 use Rattle.room_server.specs.Tables.{DeskView, SeatView}
-use Rattle.turn_desk.specs.Desk.{HasKin}
-use Rattle.turn_desk.specs.History.{History, IsLegal, BeginsWith}
+use Rattle.turn_desk.specs.Desk.{HasKin, kin}
+use Rattle.turn_desk.specs.History.{History, IsAmong, IsLegal, BeginsWith, entries_by}
 
 -- the number is the length of a legal history of the desk, which begins with all that the seat has seen and has the
 -- entries of each of its kin
@@ -13,6 +13,8 @@ pub record IsFront (desk : DeskView) (seat : SeatView) (front : ℕ) : Type 0 wh
   pub h : History (Entry Global)
   pub legal : IsLegal IsTurn desk.fixed h
   pub begins : BeginsWith h seat.seen
+  -- if the seat has all parts, no entry is another's than its kin's
+  pub all : seat.parts ≡ 2 ^ 64 - 1 → (n : ℕ) → entries_by n h ≢ [] → IsAmong n (kin seat)
   pub kin : HasKin h seat
   pub count : front ≡ length h
 

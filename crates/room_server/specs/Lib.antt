@@ -1,5 +1,6 @@
 pub mod Fronts
 pub mod Inner
 pub mod Openings
+pub mod Pools
 pub mod Seats
 pub mod Tables

@@ -4,7 +4,7 @@ use Rattle.std.specs.declared.alloc.Global.{Global}
 use Rattle.osm_changes.specs.Sound.{is_sound}
 use Rattle.osm_elements.specs.Maps.{Rows}
 use Rattle.room_history.specs.declared.turned.Opening.{Opening}
-use Rattle.room_history.specs.Bases.{IsFirstUnsound}
+use Rattle.edit_simple.specs.Soundness.{IsFirstUnsound}
 use Rattle.room_stacks.specs.Authors.{author_of}
 use Rattle.room_server.specs.declared.table.TableFault.{TableFault}
 use Rattle.room_server.specs.declared.table.TableFault.TheVariants.{BadName, Twice, Unsound, Memory}

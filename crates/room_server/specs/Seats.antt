@@ -26,6 +26,10 @@ pub record AreMet (table : TableView) (seats others seats' : List SeatView) : Ty
 abbrev pub IsSet : TableView → List SeatView → Type 0
 IsSet table seats = AreAt table seats × All (λ seat. seat.met ≡ []) seats
 
+-- a seat at each desk, none of which has made a call or met another seat
+abbrev pub IsFresh : TableView → List SeatView → Type 0
+IsFresh table seats = AreAt table seats × All (λ seat. (seat.mine ≡ []) × (seat.met ≡ [])) seats
+
 -- these are the first seats of the desks, and `count` seats were met into each
 abbrev pub HaveMet : ℕ → List SeatView → Type 0
 HaveMet count seats = All (λ seat. (seat.number ≡ 0) × (length seat.met ≡ count)) seats

@@ -77,10 +77,10 @@ known_of s = known_through s.table s.seats
 
 -- the identity of a seat: its desk, its number and the numbers of its kin
 abbrev pub Mark : Type 0
-Mark = (TableId × Option (Opening Global)) × List ℕ
+Mark = (TableId × Option (Opening Global)) × List ℕ × ℕ
 
 abbrev pub mark : SeatView → Mark
-mark seat = ((seat.table, seat.fixed), seat.number ∷ map (λ k. k.0) seat.met)
+mark seat = ((seat.table, seat.fixed), seat.number ∷ map (λ k. k.0) seat.met, seat.parts)
 
 -- what no call changes: the table, and the identity of each seat
 abbrev pub Kept : Type 0

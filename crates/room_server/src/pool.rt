@@ -1,5 +1,6 @@
 //! A pool of workers.
 ghost use Rattle.std.specs.Prelude.{◌≡◌, ◌≤◌, All, IfOk};
+ghost use Rattle.room_server.specs.Pools.{Pools};
 ghost use Rattle.room_server.specs.Seats.{HaveMet};
 ghost use Rattle.room_server.specs.Tables.{AreAt};
 ghost use Rattle.turn_desk.specs.Desk.{IsFirst};
@@ -75,6 +76,8 @@ pub fn serve_rooms<R: Threads + Wait + Clock + Log + Sync, G: Gate + Sync>(
     ensures at { IfOk result (λ back. AreAt table.now back.items) }
     // Each seat has met one seat of each worker: no seat was lost.
     ensures met { IfOk result (λ back. HaveMet load.workers back.items) }
+    // Each worker served sessions through seats that were fresh; the calls of these are all that the seats have met.
+    ensures pools { IfOk result (λ back. Pools table.now load.turns load.workers back.items) }
 {
     let (mut seats, sets) = split_sets(alloc, table, seats, load.workers)?;
     let (sender, jobs) = bounded(alloc, load.workers as usize)?;

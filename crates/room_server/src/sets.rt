@@ -1,7 +1,8 @@
 //! The sets of seats for the workers.
-ghost use Rattle.std.specs.Prelude.{◌≡◌, ◌≤◌, All, IfOk, vec_len};
+ghost use Rattle.std.specs.Prelude.{◌≡◌, ◌≤◌, ℕ, [], ◌∷◌, All, IfOk, map, vec_items, vec_len};
+ghost use Rattle.room_server.specs.Inner.Parts.{parts_in};
 ghost use Rattle.room_server.specs.Tables.{AreAt};
-ghost use Rattle.room_server.specs.Seats.{HaveMet, HavePartsFor, IsSet};
+ghost use Rattle.room_server.specs.Seats.{HaveMet, HavePartsFor, IsFresh};
 
 use crate::seats::{RoomSeat, split_all};
 use crate::table::RoomTable;
@@ -18,9 +19,14 @@ pub(crate) fn split_sets(
     requires at { AreAt table.now seats.items }
     requires first { HaveMet 0 seats.items }
     requires parts { HavePartsFor count seats.items }
+    requires own { All (λ seat. seat.mine ≡ []) seats.items }
     ensures left { IfOk result (λ r. AreAt table.now r.0.items × HaveMet 0 r.0.items) }
-    ensures sets { IfOk result (λ r. All (λ set. IsSet table.now set.items) r.1.items) }
+    ensures own { IfOk result (λ r. All (λ seat. seat.mine ≡ []) r.0.items) }
+    ensures sets { IfOk result (λ r. All (λ set. IsFresh table.now set.items) r.1.items) }
     ensures count { IfOk result (λ r. vec_len r.1 ≡ count) }
+    // No part is lost.
+    ensures parts { IfOk result (λ r. (room : ℕ)
+        → parts_in room (r.0.items ∷ map vec_items r.1.items) ≡ parts_in room (seats.items ∷ [])) }
 {
     let mut left = seats;
     let mut sets = Vec::new(alloc);

@@ -1,7 +1,8 @@
 //! The table of rooms.
 ghost use Rattle.std.specs.Prelude.{◌≡◌, ◌<◌, ◌++◌, ◌∷◌, [], Some, true, length, slice_get, map, IfOk, IfErr, OnOk};
 ghost use Rattle.osm_elements.specs.Rows.{AreInOrder};
-ghost use Rattle.room_history.specs.Bases.{IsBaseFault, are_of_kinds};
+ghost use Rattle.edit_simple.specs.Soundness.{are_of_kinds};
+ghost use Rattle.room_history.specs.Bases.{IsBaseFault};
 ghost use Rattle.room_stacks.specs.Authors.{author_of};
 ghost use Rattle.room_server.specs.Inner.Opened.{AreOpened};
 ghost use Rattle.room_server.specs.Openings.{AreFine, IsFirstFault, Opens, opening};

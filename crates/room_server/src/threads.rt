@@ -1,8 +1,10 @@
 //! The threads of a pool.
-ghost use Rattle.std.specs.Prelude.{◌≡◌, [], All, IfNone, None, map, vec_len};
+ghost use Rattle.std.specs.Prelude.{◌≡◌, ℕ, All, IfNone, None, map, vec_items, vec_len};
 ghost use Rattle.std.specs.Thread.{IsSync};
-ghost use Rattle.room_server.specs.Seats.{IsSet};
-ghost use Rattle.room_server.specs.Tables.{AreAt, mark};
+ghost use Rattle.room_server.specs.Pools.{Pairs, Works};
+ghost use Rattle.room_server.specs.Seats.{IsFresh, IsSet};
+ghost use Rattle.room_server.specs.Tables.{AreAt, known_through, mark};
+ghost use Rattle.room_socket.specs.Serving.{ServesEach};
 
 use crate::accepting::accept_all;
 use crate::job::Job;
@@ -21,18 +23,23 @@ use std::thread;
 use std::thread::{Promise, PromisedHandle, Threads};
 use std::time::Clock;
 
-/// The promise of a worker's thread: it gives back the seats that it was lent.
+/// The promise of a worker's thread to return the seats that it was lent, and to ask through them only what sessions ask,
+/// each of at most `turns` messages.
 #[derive(Drop)]
 pub(crate) struct GivesBack<'t> {
     table: &'t RoomTable,
+    turns: u64,
     lent: Snapshot<Vec<RoomSeat, Global>>,
 }
 
 impl<'t> Promise<Vec<RoomSeat, Global>> for GivesBack<'t> {
-    ghost use Rattle.std.specs.Prelude.{◌≡◌, map};
-    ghost use Rattle.room_server.specs.Tables.{AreAt, mark};
+    ghost use Rattle.std.specs.Prelude.{◌≡◌, ℕ, map};
+    ghost use Rattle.room_server.specs.Tables.{AreAt, known_through, mark};
+    ghost use Rattle.room_socket.specs.Serving.{ServesEach};
 
-    ghost kept_by = { λ p back. AreAt p.table.now back.items × (map mark back.items ≡ map mark p.lent.value.items) };
+    ghost kept_by = { λ p back. AreAt p.table.now back.items × (map mark back.items ≡ map mark p.lent.value.items)
+        × ((sessions : ℕ) × ServesEach p.turns sessions (known_through p.table.now p.lent.value.items)
+        (known_through p.table.now back.items)) };
 }
 
 /// The thread of a worker.
@@ -64,10 +71,13 @@ pub(crate) fn run_threads<R: Threads + Wait + Clock + Log + Sync, G: Gate + Sync
     ),
     load: Load,
 ) -> Joined
-    requires { All (λ set. IsSet table.now set.items) sets.items }
+    requires { All (λ set. IsFresh table.now set.items) sets.items }
     ensures sets { All (λ set. IsSet table.now set.items) result.sets.items }
     // Without a fault, no set is lost.
     ensures all { IfNone result.fault (vec_len result.sets ≡ vec_len sets) }
+    // A worker was lent each set, and gave it back.
+    ensures works { IfNone result.fault
+        (Pairs (Works table.now load.turns) (map vec_items sets.items) (map vec_items result.sets.items)) }
 {
     let (sender, jobs) = ends;
     thread::scope(
@@ -75,19 +85,27 @@ pub(crate) fn run_threads<R: Threads + Wait + Clock + Log + Sync, G: Gate + Sync
         rt,
         move |scope| -> Joined
             requires sync { IsSync R.row × IsSync G.row }
-            requires sets { All (λ set. IsSet table.now set.items) sets.items }
+            requires sets { All (λ set. IsFresh table.now set.items) sets.items }
             ensures sets { All (λ set. IsSet table.entry.now set.items) result.sets.items }
             ensures all { IfNone result.fault (vec_len result.sets ≡ vec_len sets) }
+            ensures works { IfNone result.fault
+                (Pairs (Works table.entry.now load.turns) (map vec_items sets.items) (map vec_items result.sets.items)) }
         {
             let mut threads = Vec::new(alloc);
             let mut fault = None;
             for seats in sets {
                 let lent = Snapshot::of(&seats);
-                let promise = GivesBack { table, lent };
+                let promise = GivesBack {
+                    table,
+                    turns: load.turns,
+                    lent,
+                };
                 let work = move || -> Vec<RoomSeat, Global>
                     requires { AreAt table.now seats.items }
                     ensures at { AreAt table.entry.now result.items }
                     ensures same { map mark result.items ≡ map mark seats.items }
+                    ensures serves { (sessions : ℕ) × ServesEach load.turns sessions
+                        (known_through table.entry.now seats.items) (known_through table.entry.now result.items) }
                 { worker(rt, alloc, gate, table, seats, jobs, load.turns) };
                 // The list gets its memory before the thread starts, so that each started thread is also joined.
                 if threads.reserve(1).is_err() {
@@ -109,7 +127,7 @@ pub(crate) fn run_threads<R: Threads + Wait + Clock + Log + Sync, G: Gate + Sync
                 let _ = sender.send(rt, Job::Stop);
             }
             drop(sender);
-            join_all(rt, alloc, table, threads, fault)
+            join_all(rt, alloc, table, load.turns, threads, fault)
         },
     )
 }
@@ -119,13 +137,16 @@ fn join_all<R: Threads>(
     rt: &R,
     alloc: Global,
     table: &RoomTable,
+    turns: u64,
     threads: Vec<WorkerThread<'_>, Global>,
     fault: Option<PoolFault>,
 ) -> Joined
-    requires { All (λ thread. (thread.promise.table.now ≡ table.now)
-        × All (λ seat. seat.met ≡ []) thread.promise.lent.value.items) threads.items }
+    requires { All (λ thread. (thread.promise.table.now ≡ table.now) × (thread.promise.turns ≡ turns)
+        × IsFresh table.now thread.promise.lent.value.items) threads.items }
     ensures sets { All (λ set. IsSet table.now set.items) result.sets.items }
     ensures all { IfNone result.fault ((fault ≡ None) × (vec_len result.sets ≡ vec_len threads.entry)) }
+    ensures works { IfNone result.fault (Pairs (Works table.now turns)
+        (map (λ thread. thread.promise.lent.value.items) threads.entry.items) (map vec_items result.sets.items)) }
 {
     let mut sets = Vec::new(alloc);
     let mut fault = fault;

@@ -15,23 +15,23 @@ pub returns-in_err-block-clause-calls : goal.returns-in_err-block-clause-calls
 returns-in_err-block-clause-calls g c = inl refl
 
 -- the clauses are about the room that was opened, over the reader's bytes alone
-pub returns-in_err-replay_blocks-clause-ran : goal.returns-in_err-replay_blocks-clause-ran
-returns-in_err-replay_blocks-clause-ran g c =
-    let said = c.in_err-replay_blocks.ensures in
-    let fault = c.in_err-replay_blocks.field-0.0 in
+pub returns-in_err-ran-clause-ran : goal.returns-in_err-ran-clause-ran
+returns-in_err-ran-clause-ran g c =
+    let said = c.in_err-ran.ensures in
+    let fault = c.in_err-ran.field-0.0 in
     let left = g.S.Source.left c.args.reader.now in
-    let reader = c.replay_blocks.new.reader in
-    let writer = c.replay_blocks.new.writer in
+    let reader = c.replay_blocks-ran.new.reader in
+    let writer = c.replay_blocks-ran.new.writer in
     let opened = script-opened [] c.args.limit c.open-room.result c.open-room.ensures in
     let alone = with_bytes-none [] left refl in
-    ended_run g.S.Source g.W.Sink (script [] c.args.limit) left c.args.reads c.args.reader.now reader c.args.writer.now writer c.from_residual-in_err-replay_blocks.result fault
-    c.from_residual-in_err-replay_blocks.ensures.1
+    ended_run g.S.Source g.W.Sink (script [] c.args.limit) left c.args.reads c.args.reader.now reader c.args.writer.now writer c.from_residual-in_err-ran.result fault
+    c.from_residual-in_err-ran.ensures.1
     (ended_by g.S.Source g.W.Sink (script [] c.args.limit) left c.args.reads c.args.reader.now reader c.args.writer.now writer fault (rw (opened, alone) at said.front)
     (λ is. rw (opened, alone) at (said.read (ap Err is))) (λ is. said.why_read (ap Err is)) (λ is. said.why_write (ap Err is)) (λ is. said.why_memory (ap Err is)))
 
 pub returns-clause-ran : goal.returns-clause-ran
 returns-clause-ran g c =
-    let said = c.in_ok-replay_blocks.ensures in
+    let said = c.in_ok-ran.ensures in
     let opened = script-opened [] c.args.limit c.open-room.result c.open-room.ensures in
     let alone = with_bytes-none [] (g.S.Source.left c.args.reader.now) refl in
     (rw (opened, alone) at said.ok, said.works.0, said.works.1)

@@ -71,8 +71,8 @@ returns-in_default-clause-ran g c =
     )
 
 -- the bytes after the line were run
-pub returns-in_err-replay_blocks-clause-ran : goal.returns-in_err-replay_blocks-clause-ran
-returns-in_err-replay_blocks-clause-ran g c =
+pub returns-in_err-ran-clause-ran : goal.returns-in_err-ran-clause-ran
+returns-in_err-ran-clause-ran g c =
     let reader = c.args.reader.now in
     let between = c.read_first_line.new.reader in
     let line = c.in_ok-first.first.line.items in
@@ -82,16 +82,16 @@ returns-in_err-replay_blocks-clause-ran g c =
     let later = c.in-Some.later in
     let to = subst (λ (l : Option Later). ReadsTo g.S.Source c.args.reads reader between line l) c.in-Some.is read.to in
     let opened = script-opened base c.args.limit c.in_ok-room.room c.in_ok-room.ensures.ok in
-    let said = c.in_err-replay_blocks.ensures in
-    let fault = c.in_err-replay_blocks.field-0.0 in
-    let end = c.replay_blocks.new.reader in
-    let writer = c.replay_blocks.new.writer in
+    let said = c.in_err-ran.ensures in
+    let fault = c.in_err-ran.field-0.0 in
+    let end = c.replay_blocks-ran.new.reader in
+    let writer = c.replay_blocks-ran.new.writer in
     inl (
       base,
       (line, begins, c.in_ok-rows.ensures.ok),
       c.in_ok-room.ensures.sound,
-      ended_run g.S.Source g.W.Sink (script base c.args.limit) (behind (g.S.Source.left reader)) c.args.reads reader end c.args.writer.now writer c.from_residual-in_err-replay_blocks.result fault
-          c.from_residual-in_err-replay_blocks.ensures.1
+      ended_run g.S.Source g.W.Sink (script base c.args.limit) (behind (g.S.Source.left reader)) c.args.reads reader end c.args.writer.now writer c.from_residual-in_err-ran.result fault
+          c.from_residual-in_err-ran.ensures.1
           (ended_behind_by g.S.Source g.W.Sink (script base c.args.limit) c.args.reads reader between end c.args.writer.now writer line read.is_line later to fault (rw (opened, c.deref.ensures.value) at said.front)
           (λ is. rw (opened, c.deref.ensures.value) at (said.read (ap Err is))) (λ is. said.why_read (ap Err is)) (λ is. said.why_write (ap Err is)) (λ is. said.why_memory (ap Err is))),
     )
@@ -107,28 +107,28 @@ returns-clause-ran g c =
     let later = c.in-Some.later in
     let to = subst (λ (l : Option Later). ReadsTo g.S.Source c.args.reads reader between line l) c.in-Some.is read.to in
     let opened = script-opened base c.args.limit c.in_ok-room.room c.in_ok-room.ensures.ok in
-    let said = c.in_ok-replay_blocks.ensures in
+    let said = c.in_ok-ran.ensures in
     inl (
       base,
       (line, begins, c.in_ok-rows.ensures.ok),
       c.in_ok-room.ensures.sound,
       (
-        done_behind g.S.Source g.W.Sink (script base c.args.limit) c.args.reads reader between c.replay_blocks.new.reader c.args.writer.now c.replay_blocks.new.writer line read.is_line later to
+        done_behind g.S.Source g.W.Sink (script base c.args.limit) c.args.reads reader between c.replay_blocks-ran.new.reader c.args.writer.now c.replay_blocks-ran.new.writer line read.is_line later to
             (rw (opened, c.deref.ensures.value) at said.ok),
         said.works.0,
         said.works.1,
       ),
     )
 
-pub returns-in_err-replay_blocks-clause-calls : goal.returns-in_err-replay_blocks-clause-calls
-returns-in_err-replay_blocks-clause-calls g c =
+pub returns-in_err-ran-clause-calls : goal.returns-in_err-ran-clause-calls
+returns-in_err-ran-clause-calls g c =
     let reader = c.args.reader.now in
     let between = c.read_first_line.new.reader in
     let line = c.in_ok-first.first.line.items in
     let read = c.in_ok-first.ensures.ok in
     let to = subst (λ (l : Option Later). ReadsTo g.S.Source c.args.reads reader between line l) c.in-Some.is read.to in
-    calls_behind g.S.Source g.W.Sink (script [] c.args.limit) c.args.reads reader between c.replay_blocks.new.reader c.args.writer.now c.replay_blocks.new.writer line read.is_line c.in-Some.later to
-    c.in_err-replay_blocks.ensures.calls
+    calls_behind g.S.Source g.W.Sink (script [] c.args.limit) c.args.reads reader between c.replay_blocks-ran.new.reader c.args.writer.now c.replay_blocks-ran.new.writer line read.is_line c.in-Some.later to
+    c.in_err-ran.ensures.calls
 
 pub returns-clause-calls : goal.returns-clause-calls
 returns-clause-calls g c =
@@ -137,5 +137,5 @@ returns-clause-calls g c =
     let line = c.in_ok-first.first.line.items in
     let read = c.in_ok-first.ensures.ok in
     let to = subst (λ (l : Option Later). ReadsTo g.S.Source c.args.reads reader between line l) c.in-Some.is read.to in
-    calls_behind g.S.Source g.W.Sink (script [] c.args.limit) c.args.reads reader between c.replay_blocks.new.reader c.args.writer.now c.replay_blocks.new.writer line read.is_line c.in-Some.later to
-    c.in_ok-replay_blocks.ensures.calls
+    calls_behind g.S.Source g.W.Sink (script [] c.args.limit) c.args.reads reader between c.replay_blocks-ran.new.reader c.args.writer.now c.replay_blocks-ran.new.writer line read.is_line c.in-Some.later to
+    c.in_ok-ran.ensures.calls

@@ -28,6 +28,12 @@ returns-clause-ok g c =
       record {
         can = opened.0;
         sound = opens.sound;
+        table = c.in_ok-table.table;
+        first = c.in_ok-table.seats.items;
+        opens = opens;
+        seats = c.in_ok-seats.seats.items;
+        pools = c.in_ok-seats.ensures.pools;
+        closed = c.in_ok-fronts.ensures;
         fronts = fronts;
         as_many = are.0;
         each = are.1;

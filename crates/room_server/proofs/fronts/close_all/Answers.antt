@@ -25,6 +25,7 @@ loop-desk-preserved g c =
       h = c.close.ensures.h;
       legal = c.close.ensures.legal;
       begins = c.close.ensures.begins;
+      all = c.close.ensures.all;
       kin = c.close.ensures.kin;
       count = c.front-in-loop-desk.ensures ∙ ap length c.close.ensures.stands ∙ length-map c.close.ensures.h (λ p. p.1);
     } in
