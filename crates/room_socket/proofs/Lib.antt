@@ -1,1 +1,3 @@
 mod Following
+mod Talking
+mod Written

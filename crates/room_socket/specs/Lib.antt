@@ -1,1 +1,5 @@
+pub mod Conversing
+pub mod Hearing
+pub mod Patience
+pub mod Sending
 pub mod Serving

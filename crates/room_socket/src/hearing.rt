@@ -1,4 +1,8 @@
 //! Reading from a client.
+ghost use Rattle.std.specs.Prelude.{◌≡◌};
+ghost use Rattle.room_socket.specs.Hearing.{Hears, is_silent};
+ghost use Rattle.room_socket.specs.Patience.{remaining_of};
+
 use crate::patient::{Patient, is_quiet};
 use std::io::{Read, Write};
 use tungstenite::{Error, Message, NoMask, Utf8Bytes, WebSocket};
@@ -24,19 +28,30 @@ pub(crate) enum Heard {
 }
 
 /// Reads the next message.
-pub(crate) fn hear<S: Read + Write + Drop>(socket: &mut Socket<S>) -> Heard {
+pub(crate) fn hear<S: Read + Write + Drop>(socket: &mut Socket<S>) -> Heard
+    ensures { Hears (remaining_of S.remaining) socket.old result socket.new }
+{
     match socket.read() {
         Ok(Message::Text(text)) => Heard::Text(text),
         Ok(Message::Binary(_)) => Heard::Binary,
         Ok(Message::Ping(_)) | Ok(Message::Pong(_)) => Heard::Other,
         Ok(Message::Close(_)) => Heard::Close,
-        Err(Error::Io(error)) => {
-            if is_quiet(&error) {
+        Err(error) => {
+            if is_silent(&error) {
                 Heard::Quiet
             } else {
                 Heard::Fault
             }
         }
-        Err(_) => Heard::Fault,
+    }
+}
+
+// Returns whether a read failed only because the stream gave nothing in time or a signal interrupted it.
+fn is_silent(error: &Error) -> bool
+    ensures { result ≡ is_silent error.now }
+{
+    match error {
+        Error::Io(cause) => is_quiet(cause),
+        _ => false,
     }
 }

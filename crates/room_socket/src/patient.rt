@@ -1,5 +1,9 @@
 //! A stream that waits for the head of a handshake.
+ghost use Rattle.std.specs.Prelude.{◌≡◌};
 ghost use Rattle.std.specs.Io.{ReadsAtMost};
+ghost use Rattle.std.specs.IoError.{error_kind};
+ghost use Rattle.room_socket.specs.Hearing.{is_quiet};
+ghost use Rattle.room_socket.specs.Patience.{remaining_of, contents_of};
 
 use std::io;
 use std::io::{ErrorKind, Read, Write};
@@ -32,8 +36,13 @@ impl<S> Patient<S> {
 
 /// Returns whether a read failed only because nothing came in time or a signal interrupted it. Such a read can be
 /// repeated.
-pub(crate) fn is_quiet(error: &io::Error) -> bool {
-    is_late(error) || error.kind() == ErrorKind::Interrupted
+pub(crate) fn is_quiet(error: &io::Error) -> bool
+    ensures { result ≡ is_quiet (error_kind error.now) }
+{
+    matches!(
+        error.kind(),
+        ErrorKind::WouldBlock | ErrorKind::TimedOut | ErrorKind::Interrupted
+    )
 }
 
 // Returns whether a read or a write reached its time limit.
@@ -77,7 +86,8 @@ impl Line {
 impl<S: Read> Patient<S> {
     // Reads, and repeats the read while it is quiet and quiet reads are left.
     fn read_some(&mut self, buffer: &mut [u8]) -> io::Result<usize>
-        ensures { ReadsAtMost result buffer.new }
+        ensures bound { ReadsAtMost result buffer.new }
+        ensures written { self.new.has_written ≡ self.old.has_written }
     {
         for _ in 0..=self.quiet_left {
             match self.stream.read(buffer) {
@@ -92,6 +102,8 @@ impl<S: Read> Patient<S> {
 }
 
 impl<S: Read> Read for Patient<S> {
+    ghost remaining = { remaining_of S.remaining };
+
     fn read(&mut self, buffer: &mut [u8]) -> io::Result<usize> {
         if self.has_written {
             return self.stream.read(buffer);
@@ -109,6 +121,8 @@ impl<S: Read> Read for Patient<S> {
 }
 
 impl<S: Write> Write for Patient<S> {
+    ghost contents = { contents_of S.contents };
+
     fn write(&mut self, bytes: &[u8]) -> io::Result<usize> {
         self.has_written = true;
         match self.stream.write(bytes) {

@@ -1,4 +1,8 @@
 //! Sending to a client.
+ghost use Rattle.std.specs.Prelude.{◌≡◌, ◌≢◌, [], OnErr, OnOk};
+ghost use Rattle.room_socket.specs.Patience.{remaining_of, contents_of};
+ghost use Rattle.room_socket.specs.Sending.{Closes, Sends, SendsTexts, code_of, end_of};
+
 use crate::closing::close;
 use crate::end::End;
 use crate::hearing::Socket;
@@ -17,20 +21,32 @@ pub(crate) fn send<S: Read + Write + Drop>(
     alloc: Global,
     socket: &mut Socket<S>,
     sent: Result<Sent, Ended>,
-) -> Option<End> {
+) -> Option<End>
+    ensures { Sends (remaining_of S.remaining) (contents_of S.contents) sent socket.old result socket.new }
+{
     let Ok(sent) = sent else {
         return Some(End::Fault);
     };
     if send_texts(alloc, socket, &sent).is_err() {
         return Some(End::Fault);
     }
-    let code = sent.close?;
+    match sent.close {
+        None => None,
+        Some(code) => Some(send_close(socket, code)),
+    }
+}
+
+// Closes the connection with one of the two codes of a session's core, and returns the end that this is.
+fn send_close<S: Read + Write + Drop>(socket: &mut Socket<S>, code: u16) -> End
+    ensures end { result ≡ end_of code }
+    ensures closes { Closes (remaining_of S.remaining) (contents_of S.contents) (code_of code) socket.old socket.new }
+{
     if code == UNSUPPORTED_DATA {
         close(socket, CloseCode::Unsupported);
-        Some(End::Binary)
+        End::Binary
     } else {
         close(socket, CloseCode::Error);
-        Some(End::Memory)
+        End::Memory
     }
 }
 
@@ -40,7 +56,10 @@ fn send_texts<S: Read + Write + Drop>(
     alloc: Global,
     socket: &mut Socket<S>,
     sent: &Sent,
-) -> Result<(), Error> {
+) -> Result<(), Error>
+    ensures ok { OnOk result (SendsTexts (contents_of S.contents) sent.now.texts socket.old socket.new) }
+    ensures err { OnErr result (sent.now.texts ≢ []) }
+{
     let texts = sent.texts.as_slice();
     if texts.is_empty() {
         return Ok(());

@@ -2,6 +2,10 @@
 ghost use Rattle.std.specs.Prelude.{◌≡◌, ◌≤◌, ◌∷◌, [], List, length};
 ghost use Rattle.room_session.specs.Rooms.{KeepsKnown};
 ghost use Rattle.room_session.specs.Running.{IsRunOn};
+ghost use Rattle.room_session.specs.declared.session.State.{State};
+ghost use Rattle.room_session.specs.declared.session.State.TheVariants.{BeforeHello};
+ghost use Rattle.room_socket.specs.Conversing.{Converses, Talks, TakesQuiet, TakesText, TakesTurn};
+ghost use Rattle.room_socket.specs.Patience.{remaining_of, contents_of};
 ghost use Rattle.room_socket.specs.Serving.{Serves, Follows, Event};
 
 use crate::closing::close;
@@ -48,6 +52,8 @@ pub fn serve<S: Read + Write + Drop, R: Rooms, G: Gate, W: Wait + Clock>(
     // The rooms were asked what the core of one session asks for at most `turns` texts and quiet waits, and nothing
     // else.
     ensures serves { Serves turns (R.known rooms.old) (R.known rooms.new) }
+    // What the core got is what the socket read, what went out is what the core returned, and the end is for its cause.
+    ensures talks { Talks S.remaining S.contents turns (R.known rooms.old) result (R.known rooms.new) }
     ensures keeps { KeepsKnown (R.known rooms.old) (R.known rooms.new) }
     ensures kept { R.kept rooms.new ≡ R.kept rooms.old }
 {
@@ -70,6 +76,8 @@ fn run<S: Read + Write + Drop, R: Rooms, G: Gate, W: Wait + Clock>(
     turns: u64,
 ) -> End
     ensures serves { Serves turns (R.known rooms.old) (R.known rooms.new) }
+    ensures converses { (state : State) × Converses (remaining_of S.remaining) (contents_of S.contents) turns
+        socket.old BeforeHello (R.known rooms.old) result socket.new state (R.known rooms.new) }
     ensures keeps { KeepsKnown (R.known rooms.old) (R.known rooms.new) }
     ensures kept { R.kept rooms.new ≡ R.kept rooms.old }
 {
@@ -96,6 +104,8 @@ fn turn<S: Read + Write + Drop, R: Rooms, G: Gate, W: Wait + Clock>(
     requires { IsRunOn core.old (R.known rooms.old) }
     ensures follows { (events : List Event) × (length events ≤ 1)
         × Follows events core.old (R.known rooms.old) core.new (R.known rooms.new) }
+    ensures takes { TakesTurn (remaining_of S.remaining) (contents_of S.contents)
+        socket.old core.old (R.known rooms.old) result socket.new core.new (R.known rooms.new) }
     ensures keeps { KeepsKnown (R.known rooms.old) (R.known rooms.new) }
     ensures runs { IsRunOn core.new (R.known rooms.new) }
     ensures kept { R.kept rooms.new ≡ R.kept rooms.old }
@@ -139,6 +149,7 @@ fn take_text<R: Rooms, W: Wait>(
 ) -> Result<Sent, Ended>
     requires { IsRunOn core.old (R.known rooms.old) }
     ensures follows { (event : Event) × Follows (event ∷ []) core.old (R.known rooms.old) core.new (R.known rooms.new) }
+    ensures takes { TakesText text.now result core.old (R.known rooms.old) core.new (R.known rooms.new) }
     ensures keeps { KeepsKnown (R.known rooms.old) (R.known rooms.new) }
     ensures runs { IsRunOn core.new (R.known rooms.new) }
     ensures kept { R.kept rooms.new ≡ R.kept rooms.old }
@@ -155,6 +166,7 @@ fn take_quiet<R: Rooms, W: Wait>(
 ) -> Result<Sent, Ended>
     requires { IsRunOn core.old (R.known rooms.old) }
     ensures follows { (event : Event) × Follows (event ∷ []) core.old (R.known rooms.old) core.new (R.known rooms.new) }
+    ensures takes { TakesQuiet result core.old (R.known rooms.old) core.new (R.known rooms.new) }
     ensures keeps { KeepsKnown (R.known rooms.old) (R.known rooms.new) }
     ensures runs { IsRunOn core.new (R.known rooms.new) }
     ensures kept { R.kept rooms.new ≡ R.kept rooms.old }
