@@ -216,7 +216,7 @@ pub fn replay_on<S: Source, W: Sink>(
 }
 
 // Leaves the memory of a room to the system, which takes it back when the program ends. Freeing each element would take
-// 4 to 7 % of the time of a run.
+// a few percent of a run.
 fn leave(room: Room<Global>) {
     mem::forget(room);
 }
