@@ -6,6 +6,7 @@ ghost use Rattle.rising_lists.specs.Lists.{AreLists, Gains, Lacks, Loses, SameLi
 use crate::list::RisingList;
 use std::alloc::{AllocError, Allocator};
 use std::collections::BTreeMap;
+use std::collections::btree_map::Entry;
 
 /// A sorted multimap: each key that has values, with its list of values. A look-up takes time logarithmic in the number
 /// of keys.
@@ -91,10 +92,10 @@ impl<K: Ord + Copy, V: Ord + Copy, A: Allocator> RisingLists<K, V, A> {
         ensures ok { OnOk result (Gains K.cmp V.cmp self.old.lists.entries self.new.lists.entries (key.now ∷ []) value) }
         ensures err { OnErr result (SameLists K.cmp V.cmp self.old.lists.entries self.new.lists.entries) }
     {
-        match self.lists.get_mut(key) {
-            Some(list) => list.add(alloc, value),
-            None => {
-                self.lists.insert(*key, RisingList::one(value))?;
+        match self.lists.entry(*key)? {
+            Entry::Occupied(entry) => entry.into_mut().add(alloc, value),
+            Entry::Vacant(entry) => {
+                entry.insert(RisingList::one(value));
                 Ok(())
             }
         }

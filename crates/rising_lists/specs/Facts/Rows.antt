@@ -95,9 +95,9 @@ module _ {K V : Type 0} {order : K → K → Ordering} (total : IsTotalOrder ord
         let found = found_row order before k (Some v) was in
         by_put before after k (Some v) w kept.in_order found (set ∙ set_is_put order total k w v before kept.in_order found)
 
-    -- a first list for a key
-    pub begun : {after : Table K V} (w : List V) → None ≡ lookup (is_at (order k)) before → after ≡ insert_entry order before k w → Rewritten order before after k None (Some w)
-    begun {after} w was set = by_put before after k None w kept.in_order (found_row order before k None was) (set ∙ insert_is_put order k w before)
+    -- a list for a key, its first or in place of another
+    pub entered : {after : Table K V} {o : Option (List V)} (w : List V) → o ≡ lookup (is_at (order k)) before → after ≡ insert_entry order before k w → Rewritten order before after k o (Some w)
+    entered {after} {o} w was set = by_put before after k o w kept.in_order (found_row order before k o was) (set ∙ insert_is_put order k w before)
 
     -- a key without a list before and after
     pub untouched : None ≡ lookup (is_at (order k)) before → Rewritten order before before k None None
@@ -203,12 +203,6 @@ pub add_keeps : {X E V : Type 0} (r : Result X E) (by_value : V → V → Orderi
     → IsRising by_value v → has_none v ≡ false → IsRising by_value w × (has_none w ≡ false)
 add_keeps (Ok y) by_value total x v w ok err rises some = (subst (IsRising by_value) (sym ok) (IsRising-with_value by_value total x v rises), ap has_none ok ∙ filled_with_value by_value x v)
 add_keeps (Err e) by_value total x v w ok err rises some = (subst (IsRising by_value) (sym err) rises, ap has_none err ∙ some)
-
--- after inserting a first list, whether it succeeds or not, the lists keep their conditions
-pub first_keeps : {X E K V : Type 0} (r : Result X E) {order : K → K → Ordering} → IsTotalOrder order → {by_value : V → V → Ordering} {before after : Table K V} (k : K) (w : List V) → IsRising by_value w
-    → has_none w ≡ false → AreLists order by_value before → None ≡ lookup (is_at (order k)) before → OnOk r (after ≡ insert_entry order before k w) → OnErr r (after ≡ before) → AreLists order by_value after
-first_keeps (Ok y) total k w rises some h was ok err = keeps_lists total (begun total h k w was ok) h rises some
-first_keeps (Err e) {order} total {by_value} k w rises some h was ok err = subst (AreLists order by_value) (sym err) h
 
 pub OnOk-map : {X E P Q : Type 0} (r : Result X E) → (P → Q) → OnOk r P → OnOk r Q
 OnOk-map (Ok x) f p = f p
