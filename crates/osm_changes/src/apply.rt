@@ -1,7 +1,7 @@
 //! Writes rows to a map: first the rows of new names, which need memory and can be taken out again, and then all other
 //! rows, which need no memory.
-ghost use Rattle.std.specs.Prelude.{◌≡◌, true, not, T, map, IfOk, OnOk, OnErr};
-ghost use Rattle.std.specs.List.{fold, filter};
+ghost use Rattle.std.specs.Prelude.{◌≡◌, true, T, map, OnOk, OnErr};
+ghost use Rattle.std.specs.List.{fold};
 ghost use Rattle.osm_elements.specs.Maps.{rows_but};
 ghost use Rattle.osm_elements.specs.Rows.{AreInOrder};
 ghost use Rattle.osm_changes.specs.declared.row_after.RowAfter.{RowAfter as Row};
@@ -14,34 +14,6 @@ use osm_elements::element::Element;
 use osm_elements::map::OsmMap;
 use osm_elements::name::Name;
 use std::alloc::Allocator;
-
-/// Copies rows to two lists, each in order: rows that are there under names that the map does not have, and all others.
-pub fn part_new<A: Allocator + Clone>(
-    alloc: A,
-    rows: &OsmMap<A>,
-    told: &[RowAfter<A>],
-) -> Result<(Vec<RowAfter<A>, A>, Vec<RowAfter<A>, A>), Memory>
-    ensures { IfOk result (λ parts. (parts.0.items ≡ filter (is_new rows.now) told.now)
-        × (parts.1.items ≡ filter (λ r. not (is_new rows.now r)) told.now)) }
-{
-    let mut new = Vec::new(alloc.clone()?);
-    let mut others = Vec::new(alloc);
-    for row in told {
-        if is_new(rows, row) {
-            new.push(row.copy()?)?;
-        } else {
-            others.push(row.copy()?)?;
-        }
-    }
-    Ok((new, others))
-}
-
-// Returns whether a row is there, and the map does not have its name.
-fn is_new<A: Allocator>(rows: &OsmMap<A>, row: &RowAfter<A>) -> bool
-    ensures { result ≡ is_new rows.now row.now }
-{
-    rows.get(&row.name).is_none() && row.element.is_some()
-}
 
 /// Puts the rows of new names, or returns `Memory`.
 pub fn put_new<A: Allocator + Clone>(

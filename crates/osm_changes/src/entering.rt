@@ -1,12 +1,11 @@
 //! Enters the references of rows in the users of a map: of all rows of a map, and of changed rows.
-ghost use Rattle.std.specs.Prelude.{◌≡◌, [], IfOk, OnErr, OnOk, map};
+ghost use Rattle.std.specs.Prelude.{◌≡◌, [], IfOk, OnErr, OnOk};
 ghost use Rattle.std.specs.List.{fold};
 ghost use Rattle.osm_elements.specs.Maps.{name_set};
 ghost use Rattle.osm_refs.specs.References.{references};
 ghost use Rattle.osm_refs.specs.Tables.{references_at, referring, table_of};
-ghost use Rattle.osm_changes.specs.Inner.References.{AreChangesOf, gained, given_back, lost, reference_change_of};
+ghost use Rattle.osm_changes.specs.Inner.References.{AreChangesOf, gained, given_back, lost};
 
-use crate::row_after::RowAfter;
 use osm_elements::Memory;
 use osm_elements::element::Element;
 use osm_elements::map::OsmMap;
@@ -40,23 +39,6 @@ fn enter_row<A: Allocator + Clone>(
 {
     let names = refs_of(alloc.clone()?, element)?;
     users.gain(alloc, *name, names.as_slice())
-}
-
-/// Returns the references that begin and cease with each changed row, or `Memory`.
-pub fn reference_changes<A: Allocator + Clone>(
-    alloc: &A,
-    rows: &OsmMap<A>,
-    told: &[RowAfter<A>],
-) -> Result<Vec<ReferenceChange<A>, A>, Memory>
-    ensures { IfOk result (λ changes. changes.items ≡ map (reference_change_of rows.now) told.now) }
-{
-    let mut changes = Vec::with_capacity(alloc.clone()?, told.len())?;
-    for row in told {
-        let before = rows.get(&row.name);
-        let change = ReferenceChange::of(alloc, row.name, before, row.element.as_ref())?;
-        changes.push(change)?;
-    }
-    Ok(changes)
 }
 
 /// Enters the references that begin, or returns `Memory`.

@@ -13,6 +13,7 @@ mod apply;
 pub mod cell;
 pub mod change;
 pub mod changes;
+mod division;
 mod entering;
 pub mod half;
 mod halving;

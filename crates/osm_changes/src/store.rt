@@ -10,9 +10,10 @@ ghost use Rattle.osm_changes.specs.declared.row_after.RowAfter.{RowAfter as Row}
 ghost use Rattle.osm_changes.specs.Inner.Applying.{is_new, with_told};
 ghost use Rattle.osm_changes.specs.Inner.References.{gained, reference_change_of};
 
-use crate::apply::{part_new, put_new, replace};
+use crate::apply::{put_new, replace};
 use crate::changes::Changes;
-use crate::entering::{gain, give_back, lose, reference_changes, users_of};
+use crate::division::{Division, divide};
+use crate::entering::{gain, give_back, lose, users_of};
 use crate::row_after::{RowAfter, RowsAfter};
 use crate::rows::rows_after;
 use osm_elements::Memory;
@@ -217,8 +218,11 @@ fn prepare<A: Allocator + Clone>(
         × (users.new ≡ fold gained (table_of rows.old) (map (reference_change_of rows.old) told.now))) }
     ensures err { OnErr result ((rows.new ≡ rows.old) × (users.new ≡ users.old)) }
 {
-    let changes = reference_changes(&alloc, rows, told)?;
-    let (new, others) = part_new(alloc.clone()?, rows, told)?;
+    let Division {
+        new,
+        others,
+        changes,
+    } = divide(&alloc, rows, told)?;
     gain(&alloc, users, &changes)?;
     if let Err(memory) = put_new(rows, new) {
         give_back(users, &changes);
