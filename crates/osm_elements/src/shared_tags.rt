@@ -1,5 +1,5 @@
 //! Tags that several owners share.
-ghost use Rattle.std.specs.Prelude.{◌≡◌, ◌↔◌, [], IfOk, map, length, IsTrue};
+ghost use Rattle.std.specs.Prelude.{◌≡◌, ◌↔◌, [], Ok, IfOk, map, length, IsTrue};
 ghost use Rattle.std.specs.Option.{option_copied};
 ghost use Rattle.osm_elements.specs.KeyedRows.{value_at};
 ghost use Rattle.osm_elements.specs.TagRows.{AreTagRows, tag_pair};
@@ -37,7 +37,8 @@ impl<A: Allocator> SharedTags<A> {
 
     /// Returns these tags with their first owner, or `Memory`. If there are no tags, it allocates nothing.
     pub fn new(alloc: A, tags: Tags<A>) -> Result<SharedTags<A>, Memory>
-        ensures { IfOk result (λ t. t ≡ tags) }
+        ensures exact { IfOk result (λ t. t ≡ tags) }
+        ensures named { tags ≡ [] → result ≡ Ok [] }
     {
         if tags.is_empty() {
             return Ok(SharedTags { some: None });
