@@ -5,7 +5,7 @@ ghost use Rattle.std.specs.Prelude.{◌≡◌, All, IfSome, true};
 ghost use Rattle.osm_elements.specs.Maps.{names_of};
 ghost use Rattle.room_history.specs.Journals.{numbered};
 ghost use Rattle.room_history.specs.LegalJournals.{is_made_request};
-ghost use Rattle.room_mirror.specs.Clients.{HasEditIds, HasIds, HasRequestIds, HasSubjectIds};
+ghost use Rattle.room_mirror.specs.Clients.{HasEditIds, HasIds, HasRequestIds, IsBrought, IsBroughtCall};
 ghost use Rattle.room_wire.specs.ReadBack.{HasId};
 
 use edit_actions::action::Action;
@@ -102,42 +102,51 @@ pub fn edit_has_ids(edit: &Edit<Global>)
     }
 }
 
-/// Proves that the values of a call are made, and that the ids of its actions' subjects fit an `i64`. If its author has
-/// an author's name, too, the call can come from a message.
-pub fn call_has_ids(call: &Call<Global>)
-    ensures made { is_made_request call.now.request ≡ true }
-    ensures ids { HasRequestIds call.now.request }
+// Proves that a request's values are made, and that the ids of its actions' subjects fit an `i64`.
+fn request_has_ids(request: &Request<Global>)
+    ensures made { is_made_request request.now ≡ true }
+    ensures ids { HasRequestIds request.now }
 {
-    if let Request::Do(edit) = &call.request {
+    if let Request::Do(edit) = request {
         keeps_values(edit);
         edit_has_ids(edit);
     }
 }
 
-/// Proves that the ids of the subjects of an entry's actions fit an `i64`. If its author has an author's name, too, the
-/// entry can come from a message.
-pub fn entry_has_ids(entry: &Entry<Global>)
-    ensures { HasSubjectIds entry.now.kind }
+/// Proves that a call can come from a message: its author has an author's name, its values are made, and the ids of its
+/// actions' subjects fit an `i64`.
+pub fn call_is_brought(call: &Call<Global>)
+    ensures { IsBroughtCall call.now }
 {
+    let _ = call.author.as_bytes();
+    request_has_ids(&call.request);
+}
+
+/// Proves that an entry can come from a message: its author has an author's name, and the ids of its actions' subjects
+/// fit an `i64`.
+pub fn entry_is_brought(entry: &Entry<Global>)
+    ensures { IsBrought entry.now }
+{
+    let _ = entry.author.as_bytes();
     if let EntryKind::Do(edit) = &entry.kind {
         edit_has_ids(edit);
     }
 }
 
-/// Proves that the ids of the subjects of the actions of all entries of a room fit an `i64`.
-pub fn entries_have_ids(room: &Room<Global>)
-    ensures { All (λ e. HasSubjectIds e.kind) room.now.journal }
+/// Proves that all entries of a room can come from messages.
+pub fn entries_are_brought(room: &Room<Global>)
+    ensures { All IsBrought room.now.journal }
 {
     for place in 0..room.front() {
-        numbered_has_ids(room, place + 1);
+        numbered_is_brought(room, place + 1);
     }
 }
 
 // Proves it of the entry with a number, if there is one.
-fn numbered_has_ids(room: &Room<Global>, seq: u64)
-    ensures { IfSome (numbered room.now.journal seq) (λ e. HasSubjectIds e.kind) }
+fn numbered_is_brought(room: &Room<Global>, seq: u64)
+    ensures { IfSome (numbered room.now.journal seq) IsBrought }
 {
     if let Some(entry) = room.entry(seq) {
-        entry_has_ids(entry);
+        entry_is_brought(entry);
     }
 }

@@ -1,5 +1,5 @@
 //! Laws of mirrors. Each law is the contract of an empty function.
-ghost use Rattle.std.specs.Prelude.{◌≡◌, ◌≤◌, ◌-◌, ℕ, true, List, Ok, Some, All, IfSome, length, take};
+ghost use Rattle.std.specs.Prelude.{◌≡◌, ◌≤◌, ◌-◌, ℕ, true, List, Ok, Some, All, length, take};
 ghost use Rattle.std.specs.declared.alloc.Global.{Global};
 ghost use Rattle.osm_changes.specs.Sound.{is_sound};
 ghost use Rattle.osm_elements.specs.Maps.{Rows, names_of};
@@ -15,7 +15,6 @@ ghost use Rattle.room_history.specs.Rooms.{RoomState};
 ghost use Rattle.room_history.specs.Runs.{Answers, IsStep};
 ghost use Rattle.room_mirror.specs.Clients.{IsBrought, IsBroughtCall, IsReadBack, SpellNews, mirror_made, welcome_to};
 ghost use Rattle.room_mirror.specs.Mirrors.{mirror_of, taken_in_turn};
-ghost use Rattle.room_stacks.specs.Authors.{author_of, is_author};
 ghost use Rattle.room_wire.specs.NewsBack.{AreNews, IsWelcome};
 ghost use Rattle.room_wire.specs.ReadBack.{HasId};
 ghost use Rattle.room_wire.specs.Welcomes.{spells_welcome, welcome_tree};
@@ -99,17 +98,12 @@ pub fn actions_create_no_other_ids()
     journals_hold::<Global>();
 }
 
-/// Every author that [`Author::read`](room_stacks::author::Author::read) returns has an author's name.
-pub fn read_authors_have_names()
-    ensures { (text : List ℕ) → IfSome (author_of text) (λ author. is_author author ≡ true) }
-{}
-
 /// If calls can come from messages, so can the entries that they append: after each step of a room, and after a run
 /// from an empty journal. The journal is then one to which calls lead. So it meets the premises of
 /// [`a_rooms_texts_are_read_back`] and [`a_client_has_the_rooms_map`] on journals and entries.
 ///
-/// Types keep most of what a call needs: [`call_has_ids`](crate::brought::call_has_ids) proves `made` and `ids` of
-/// `IsBroughtCall`, and [`read_authors_have_names`] says which authors have names.
+/// Every call that a program makes can come from a message, because its types keep what that needs:
+/// [`call_is_brought`](crate::brought::call_is_brought).
 pub fn calls_bring_their_entries()
     ensures step { (base : Rows Global) (limit : ℕ) (j k : List (Entry Global)) (c : Call Global) (reply : Reply Global)
         → IsJournal base limit j → All IsBrought j → IsBroughtCall c → IsStep base limit j c reply k

@@ -1,5 +1,5 @@
 //! Names of authors.
-ghost use Rattle.std.specs.Prelude.{◌≡◌};
+ghost use Rattle.std.specs.Prelude.{◌≡◌, true};
 ghost use Rattle.std.specs.List.{list_all};
 ghost use Rattle.room_stacks.specs.Authors.{author_of, is_author, is_name_character};
 
@@ -51,9 +51,10 @@ impl Author {
         Some(Author { bytes, length })
     }
 
-    /// Returns the bytes of the name.
+    /// Returns the bytes of the name. Every author has an author's name.
     pub fn as_bytes(&self) -> &[u8]
-        ensures { result.now ≡ self.now }
+        ensures bytes { result.now ≡ self.now }
+        ensures name { is_author self.now ≡ true }
     {
         &self.bytes[..self.length]
     }

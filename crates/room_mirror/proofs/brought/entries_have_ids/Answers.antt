@@ -1,8 +1,0 @@
-use Rattle.std.proofs.Common.{arith}
-use Rattle.room_mirror.specs.Clients.{HasSubjectIds}
-use Rattle.room_mirror.proofs.FromCalls.{one_more}
-use Rattle.room_mirror.proofs.brought.entries_have_ids.Goals as goal
-
-pub loop-place-preserved : goal.loop-place-preserved
-loop-place-preserved c =
-    one_more (λ e. HasSubjectIds e.kind) c.args.room.now.journal c.loop-place.place (omega (arith, c.loop-place-test.true, c.front-place-end.ensures)) c.loop-place.invariant c.numbered_has_ids.ensures
