@@ -93,8 +93,9 @@ macro_rules! field {
 /// - `nodes`: an array of whole numbers, each an `i64` other than 0
 /// - `members`: an array of arrays of two strings, the name of an element and a role of at most 255 characters, which
 ///   may be empty
-/// - `tags`: an object of at most 1,000 keys, each of 1 to 255 characters, whose values are strings of at most 255
-///   characters (OpenStreetMap wiki, "Elements"). In a `retag`, a value may also be `null`, which removes the key
+/// - `tags`: an object of keys of 1 to 255 characters, whose values are strings of at most 255 characters
+///   (OpenStreetMap wiki, "Elements"), at most 1,000 keys (a limit of this project). In a `retag`, a value may also be
+///   `null`, which removes the key
 /// - `dlat` and `dlon`: whole numbers, each an `i64`, in ten-millionths of a degree
 /// - `seq`: a number of the form of `id`
 /// - `room` and `name`: strings of 1 to 32 characters of `a-z`, `0-9` and `_`
