@@ -1,4 +1,4 @@
-use Rattle.std.proofs.Common.{◌≡◌, None, Some, ap, false, rules, subst, sym}
+use Rattle.std.proofs.Common.{◌≡◌, None, Some, ap, rules, subst, sym}
 use Rattle.std.specs.BTreeMap.{get}
 use Rattle.rising_lists.proofs.lists.RisingLists.add.Goals as goal
 use Rattle.rising_lists.specs.Facts.Rows.{OnErr-map, OnOk-map, add_keeps, entered, filled_found, gains, keeps_lists, rising_found, same_lists}
