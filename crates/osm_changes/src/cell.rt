@@ -107,13 +107,14 @@ impl Ord for Cell {
     ghost matches_eq = { λ c d. refl };
 
     fn cmp(&self, other: &Cell) -> Ordering {
-        let kinds = self.kind.cmp(&other.kind);
-        if kinds.is_ne() {
-            return kinds;
+        if self.kind != other.kind {
+            return self.kind.cmp(&other.kind);
         }
-        let ids = self.id.cmp(&other.id);
-        if ids.is_ne() {
-            return ids;
+        if self.id > other.id {
+            return Ordering::Greater;
+        }
+        if self.id < other.id {
+            return Ordering::Less;
         }
         Part::cmp(&self.part, &other.part)
     }

@@ -5,6 +5,7 @@ ghost use Rattle.std.specs.Int.{w64};
 ghost use Rattle.osm_elements.specs.Names.{Splits, NoLetter, letter_of};
 
 use itoa::Buffer;
+use std::cmp::Ordering;
 
 /// The kinds of elements, in the order in which maps are listed (OpenStreetMap wiki, "Elements").
 #[derive(Clone, Copy, Debug, PartialEq, Eq, PartialOrd, Ord)]
@@ -34,7 +35,7 @@ impl Kind {
 ///
 /// Each kind has its own ids, so node 5 and way 5 differ (OpenStreetMap wiki, "Elements"). Names are ordered by kind
 /// (node, way, relation), and then by id as a number.
-#[derive(Clone, Copy, Debug, PartialEq, Eq, PartialOrd, Ord)]
+#[derive(Clone, Copy, Debug, PartialEq, Eq)]
 pub struct Name {
     kind: Kind,
     id: i64,
@@ -43,6 +44,51 @@ pub struct Name {
 
 /// The length in bytes of the longest text of a name, for example `n-9223372036854775808`.
 pub const NAME_LENGTH: usize = 21;
+
+impl PartialOrd for Name {
+    ghost use Rattle.std.specs.Prelude.{Some, refl};
+    ghost use Rattle.std.specs.Cmp.{partial_order_from_agreeing_total};
+    ghost use Rattle.osm_elements.specs.NameOrder.{name_cmp};
+    ghost use Rattle.osm_elements.specs.Facts.Names.{name_cmp_total};
+    ghost use Rattle.osm_elements.specs.Facts.SameNames.{name_eq_is};
+
+    ghost partial_cmp = { λ a b. Some (name_cmp a b) };
+
+    ghost laws = { partial_order_from_agreeing_total name_cmp name_cmp_total (λ a b. refl) name_eq_is };
+
+    fn partial_cmp(&self, other: &Name) -> Option<Ordering> {
+        Some(self.cmp(other))
+    }
+}
+
+// Written by hand, because it decides at the first part that differs: each look-up in a map compares some thirty names.
+impl Ord for Name {
+    ghost use Rattle.std.specs.Prelude.{refl};
+    ghost use Rattle.osm_elements.specs.NameOrder.{name_cmp};
+    ghost use Rattle.osm_elements.specs.Facts.Names.{name_cmp_total};
+    ghost use Rattle.osm_elements.specs.Facts.SameNames.{name_eq_is};
+
+    ghost cmp = { name_cmp };
+
+    ghost total = { name_cmp_total };
+
+    ghost matches_partial_cmp = { λ a b. refl };
+
+    ghost matches_eq = { name_eq_is };
+
+    fn cmp(&self, other: &Name) -> Ordering {
+        if self.kind != other.kind {
+            return self.kind.cmp(&other.kind);
+        }
+        if self.id > other.id {
+            return Ordering::Greater;
+        }
+        if self.id < other.id {
+            return Ordering::Less;
+        }
+        Ordering::Equal
+    }
+}
 
 impl Name {
     ghost use Rattle.osm_elements.specs.NameTexts.{name_text, name_of};

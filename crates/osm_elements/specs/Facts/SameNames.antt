@@ -12,7 +12,7 @@ use Rattle.osm_elements.specs.Names.{kind_rank}
 use Rattle.osm_elements.specs.NameOrder.{name_cmp}
 use Rattle.osm_elements.specs.Maps.{is_same}
 
-kind_eq_is : (k j : Kind) → (kind_equality.ghosts).eq k j ≡ is_eq (nat_cmp (kind_rank k) (kind_rank j))
+pub kind_eq_is : (k j : Kind) → (kind_equality.ghosts).eq k j ≡ is_eq (nat_cmp (kind_rank k) (kind_rank j))
 kind_eq_is Node Node = refl
 kind_eq_is Node Way = refl
 kind_eq_is Node Relation = refl

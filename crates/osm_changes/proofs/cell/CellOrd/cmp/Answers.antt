@@ -1,9 +1,13 @@
-use Rattle.std.proofs.Common.{◌≡◌, true, false, refl, sym, ◌∙◌}
-use Rattle.std.specs.Ordering.{int_cmp, is_ne, nat_cmp, ordering_then}
+use Rattle.std.proofs.Common.{◌≡◌, true, false, refl, sym, ap, ◌∙◌, rules}
+use Rattle.std.specs.Cmp.{int_cmp_is}
+use Rattle.std.specs.Ordering.{int_cmp, is_eq, nat_cmp, ordering_then}
 use Rattle.std.specs.declared.cmp.Ordering.{Ordering}
 use Rattle.std.specs.declared.cmp.Ordering.TheVariants.{Less, Equal, Greater}
 use Rattle.osm_elements.specs.Facts.NameOrder.{kind_order_is}
+use Rattle.osm_elements.specs.Facts.SameNames.{kind_eq_is}
 use Rattle.osm_elements.specs.NameOrder.{name_cmp}
+use Rattle.osm_elements.specs.Names.{kind_rank}
+use Rattle.osm_elements.specs.contracts.name.KindPartialEq.TheImpl as kind_equality
 use Rattle.osm_changes.specs.contracts.part.PartOrd.TheImpl as part_order
 use Rattle.osm_changes.specs.declared.part.Part.{Part}
 use Rattle.osm_changes.specs.declared.part.Part.TheVariants.{Tags, Rest}
@@ -18,46 +22,62 @@ part_order_is Rest Tags = refl
 part_order_is Rest Rest = refl
 
 -- the first ordering that is not equality decides
-by_kinds : (k i p : Ordering) → is_ne k ≡ true → k ≡ ordering_then (ordering_then k i) p
+by_kinds : (k i p : Ordering) → is_eq k ≡ false → k ≡ ordering_then (ordering_then k i) p
 by_kinds Less i p e = refl
 by_kinds Equal i p e = absurd (cc)
 by_kinds Greater i p e = refl
 
-by_ids : (k i p : Ordering) → is_ne k ≡ false → is_ne i ≡ true → i ≡ ordering_then (ordering_then k i) p
+by_ids : (k i p : Ordering) → is_eq k ≡ true → is_eq i ≡ false → i ≡ ordering_then (ordering_then k i) p
 by_ids Equal Less p e f = refl
 by_ids Equal Equal p e f = absurd (cc)
 by_ids Equal Greater p e f = refl
 by_ids Less i p e f = absurd (cc)
 by_ids Greater i p e f = absurd (cc)
 
-by_parts : (k i p : Ordering) → is_ne k ≡ false → is_ne i ≡ false → p ≡ ordering_then (ordering_then k i) p
+by_parts : (k i p : Ordering) → is_eq k ≡ true → is_eq i ≡ true → p ≡ ordering_then (ordering_then k i) p
 by_parts Equal Equal p e f = refl
 by_parts Equal Less p e f = absurd (cc)
 by_parts Equal Greater p e f = absurd (cc)
 by_parts Less i p e f = absurd (cc)
 by_parts Greater i p e f = absurd (cc)
 
-pub returns-then-is_ne : goal.returns-then-is_ne
+pub returns-then-ne : goal.returns-then-ne
 unfolding name_cmp
-returns-then-is_ne c =
-    let kinds = c.cmp-kinds.ensures ∙ kind_order_is c.self.inside.kind c.other.inside.kind in
-    by_kinds c.cmp-kinds.result (int_cmp c.self.inside.id c.other.inside.id) (nat_cmp (part_rank c.self.inside.part) (part_rank c.other.inside.part)) (sym c.is_ne.ensures ∙ c.if-is_ne.true)
-    ∙ (λ j. ordering_then (ordering_then (kinds j) (int_cmp c.self.inside.id c.other.inside.id)) (nat_cmp (part_rank c.self.inside.part) (part_rank c.other.inside.part)))
+returns-then-ne c =
+    let a = c.self.inside in
+    let b = c.other.inside in
+    let other : (kind_equality.ghosts).eq a.kind b.kind ≡ false = search rules in
+    c.cmp.ensures ∙ kind_order_is a.kind b.kind
+    ∙ by_kinds (nat_cmp (kind_rank a.kind) (kind_rank b.kind)) (int_cmp a.id b.id) (nat_cmp (part_rank a.part) (part_rank b.part)) (sym (kind_eq_is a.kind b.kind) ∙ other)
     ∙ (λ i. cell_cmp (c.self.view_is i) (c.other.view_is i))
 
-pub returns-then-is_ne-2 : goal.returns-then-is_ne-2
+pub returns-then-self-other : goal.returns-then-self-other
 unfolding name_cmp
-returns-then-is_ne-2 c =
-    let kinds = c.cmp-kinds.ensures ∙ kind_order_is c.self.inside.kind c.other.inside.kind in
-    by_ids c.cmp-kinds.result c.cmp-ids.result (nat_cmp (part_rank c.self.inside.part) (part_rank c.other.inside.part)) (sym c.is_ne.ensures ∙ c.if-is_ne.false) (sym c.is_ne-2.ensures ∙ c.if-is_ne-2.true)
-    ∙ (λ j. ordering_then (ordering_then (kinds j) (c.cmp-ids.ensures j)) (nat_cmp (part_rank c.self.inside.part) (part_rank c.other.inside.part)))
+returns-then-self-other c =
+    let a = c.self.inside in
+    let b = c.other.inside in
+    let same : (kind_equality.ghosts).eq a.kind b.kind ≡ true = search rules in
+    let above : Greater ≡ int_cmp a.id b.id = int_cmp_is a.id b.id Greater (search rules) in
+    above ∙ by_ids (nat_cmp (kind_rank a.kind) (kind_rank b.kind)) (int_cmp a.id b.id) (nat_cmp (part_rank a.part) (part_rank b.part)) (sym (kind_eq_is a.kind b.kind) ∙ same) (sym (ap is_eq above))
+    ∙ (λ i. cell_cmp (c.self.view_is i) (c.other.view_is i))
+
+pub returns-then-self-other-2 : goal.returns-then-self-other-2
+unfolding name_cmp
+returns-then-self-other-2 c =
+    let a = c.self.inside in
+    let b = c.other.inside in
+    let same : (kind_equality.ghosts).eq a.kind b.kind ≡ true = search rules in
+    let below : Less ≡ int_cmp a.id b.id = int_cmp_is a.id b.id Less (search rules) in
+    below ∙ by_ids (nat_cmp (kind_rank a.kind) (kind_rank b.kind)) (int_cmp a.id b.id) (nat_cmp (part_rank a.part) (part_rank b.part)) (sym (kind_eq_is a.kind b.kind) ∙ same) (sym (ap is_eq below))
     ∙ (λ i. cell_cmp (c.self.view_is i) (c.other.view_is i))
 
 pub returns : goal.returns
 unfolding name_cmp
 returns c =
-    let kinds = c.cmp-kinds.ensures ∙ kind_order_is c.self.inside.kind c.other.inside.kind in
-    let parts = c.cmp.ensures ∙ part_order_is c.self.inside.part c.other.inside.part in
-    by_parts c.cmp-kinds.result c.cmp-ids.result c.cmp.result (sym c.is_ne.ensures ∙ c.if-is_ne.false) (sym c.is_ne-2.ensures ∙ c.if-is_ne-2.false)
-    ∙ (λ j. ordering_then (ordering_then (kinds j) (c.cmp-ids.ensures j)) (parts j))
+    let a = c.self.inside in
+    let b = c.other.inside in
+    let same : (kind_equality.ghosts).eq a.kind b.kind ≡ true = search rules in
+    let level : Equal ≡ int_cmp a.id b.id = int_cmp_is a.id b.id Equal (search rules) in
+    c.cmp-2.ensures ∙ part_order_is a.part b.part
+    ∙ by_parts (nat_cmp (kind_rank a.kind) (kind_rank b.kind)) (int_cmp a.id b.id) (nat_cmp (part_rank a.part) (part_rank b.part)) (sym (kind_eq_is a.kind b.kind) ∙ same) (sym (ap is_eq level))
     ∙ (λ i. cell_cmp (c.self.view_is i) (c.other.view_is i))
