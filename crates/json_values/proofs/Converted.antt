@@ -1,5 +1,5 @@
 -- The result of reading tokens, if the parts that were read are converted.
-use Rattle.std.proofs.Common.{◌≡◌, List, Option, Some, None, option_map, refl, ap, ◌∙◌}
+use Rattle.std.proofs.Common.{◌≡◌, ◌≢◌, List, Option, Some, None, option_map, refl, ap, ◌∙◌}
 use Rattle.json.specs.Json as json
 use Rattle.json.specs.Json.{if_last, parse_map}
 use Rattle.json.specs.Token.{Token}
@@ -58,8 +58,9 @@ whole o = option_and_then of_json (option_and_then (λ p. if_last p.0 p.1) o)
 pub whole_is : (o : Option (json.Json × List Token)) (d : Data) → converted of_json o ≡ Some (d, []) → whole o ≡ Some d
 whole_is o d e = let read = had_been_read of_json o d [] e in ap whole read.1 ∙ read.2
 
-pub more_is_left : (o : Option (json.Json × List Token)) (d : Data) (t : Token) (ts : List Token) → converted of_json o ≡ Some (d, t ∷ ts) → whole o ≡ None
-more_is_left o d t ts e = ap whole (had_been_read of_json o d (t ∷ ts) e).1
+pub more_is_left : (o : Option (json.Json × List Token)) (d : Data) (rest : List Token) → rest ≢ [] → converted of_json o ≡ Some (d, rest) → whole o ≡ None
+more_is_left o d [] more e = absurd (more refl)
+more_is_left o d (t ∷ ts) more e = ap whole (had_been_read of_json o d (t ∷ ts) e).1
 
 pub whole_refused : (o : Option (json.Json × List Token)) → converted of_json o ≡ None → whole o ≡ None
 whole_refused None e = refl

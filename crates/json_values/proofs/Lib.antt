@@ -1,4 +1,5 @@
 mod Converted
 mod Items
 mod Members
+mod Objects
 mod Values

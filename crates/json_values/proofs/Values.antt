@@ -1,5 +1,5 @@
 -- A value, by its first token.
-use Rattle.std.proofs.Common.{◌≡◌, ℕ, ◌+◌, ◌-◌, ◌<◌, List, [], ◌∷◌, length, Option, Some, None, refl, sym, ap, ap₂, ◌∙◌, arith, rules}
+use Rattle.std.proofs.Common.{◌≡◌, ℕ, ◌+◌, ◌-◌, ◌<◌, List, [], ◌∷◌, length, None, refl, ap, ◌∙◌, arith}
 use Rattle.json.proofs.Grammar.{value-begin_array, value-begin_object, value_is}
 use Rattle.json.specs.Json as json
 use Rattle.json.specs.Json.{items, members, parse_map, value}
@@ -7,7 +7,7 @@ use Rattle.json.specs.Lex.{lex, punctuate, tokens}
 use Rattle.json.specs.Token.{Token}
 use Rattle.json_values.proofs.Converted.{under}
 use Rattle.json_values.proofs.Members.{onto}
-use Rattle.serde_json.specs.Data.{Data, array, no_members, object}
+use Rattle.serde_json.specs.Data.{array, no_members, object}
 use Rattle.serde_json.specs.Read.{converted, of_items, of_json, of_members}
 
 -- Without a token there is no value.

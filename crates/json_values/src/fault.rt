@@ -12,6 +12,9 @@ pub enum Fault {
     /// The text is not JSON, nests deeper than 127, or has a number that is too large for a float.
     #[error("the text is no JSON")]
     NotJson,
+    /// The text is JSON, but not an object.
+    #[error("the text is no object")]
+    NotObject,
     /// An allocation failed.
     #[error("out of memory")]
     Memory,

@@ -1,13 +1,16 @@
-//! Reads JSON texts (RFC 8259) as [`serde_json::Value`], with working memory that the caller keeps.
+//! Reads JSON texts that are objects (RFC 8259), with working memory that the caller keeps.
 //!
-//! [`Value::from_str`](serde_json::Value::from_str) makes a [`Scratch`] of 16 KiB for each text. [`read_value`] borrows
-//! a `Scratch` instead, so a program that reads many short texts makes it only once.
+//! [`read_object`] reads the values of an object as [`serde_json::Value`]s. [`Value::from_str`](serde_json::Value::from_str)
+//! makes a [`Scratch`] of 16 KiB for each text, and a tree of owned keys. [`read_object`] borrows a `Scratch`, and the
+//! keys of the outermost object, so a program reads many short texts fast.
 #![tactic(auto)]
 
 mod fault;
+pub mod laws;
 mod number;
+mod object;
 mod value;
 
 pub use fault::Fault;
 pub use json::Scratch;
-pub use value::read_value;
+pub use object::{Object, read_object};

@@ -1,53 +1,52 @@
 //! Values in JSON texts.
-ghost use Rattle.std.specs.Prelude.{◌≡◌, ◌+◌, ◌<◌, Err, IfOk, MatchResult, None, OnOk, Some, length};
+ghost use Rattle.std.specs.Prelude.{◌≡◌, ◌≢◌, ◌+◌, ◌<◌, ◌≤◌, ◌∷◌, Err, IfOk, MatchResult, None, OnOk, Some, length};
 ghost use Rattle.json.specs.Json.{items, members, value};
-ghost use Rattle.json_values.specs.declared.fault.Fault.TheVariants.{Memory, NotJson};
+ghost use Rattle.json.specs.Reads.{token_of};
+ghost use Rattle.json.specs.declared.token.Token.TheVariants.{BeginObject};
+ghost use Rattle.json_values.specs.declared.fault.Fault.TheVariants.{Memory, NotJson, NotObject};
 ghost use Rattle.serde_json.specs.Data.{no_members};
-ghost use Rattle.serde_json.specs.Read.{converted, of_items, of_json, of_members, read};
+ghost use Rattle.serde_json.specs.Find.{as_object};
+ghost use Rattle.serde_json.specs.Read.{converted, of_items, of_json, of_members};
 ghost use Rattle.serde_json.specs.View.{items_view, members_view, view};
 
 use crate::fault::Fault;
 use crate::number::number_of;
-use json::{Reader, Scratch, Token};
+use json::{Reader, Token};
 use serde_json::{Map, Value};
 use std::alloc::Global;
 
 // The deepest nesting of arrays and objects.
-const MAX_DEPTH: usize = 127;
-
-/// Reads the value of a JSON text (RFC 8259).
-///
-/// If members of an object have the same key, the last one counts. An integer that fits 64 bits stays an integer,
-/// except `-0`. Any other number becomes the nearest float. `scratch` grows to the length in bytes of the longest text
-/// that is read with it.
-///
-/// # Errors
-///
-/// - `NotJson`, if the text is not JSON, nests deeper than 127, or has a number that is too large for a float
-/// - `Memory`, if an allocation fails
-pub fn read_value(alloc: Global, text: &str, scratch: &mut Scratch) -> Result<Value, Fault>
-    ensures ok { IfOk result (λ v. read text.now ≡ Some (view v)) }
-    ensures not_json { result ≡ Err NotJson → read text.now ≡ None }
-    ensures memory { result ≡ Err Memory → 0 < length text.now }
-{
-    let mut reader = Reader::new(text, scratch)?;
-    let value = value_of(alloc, &mut reader, MAX_DEPTH)?;
-    match reader.next() {
-        Some(_) => Err(Fault::NotJson),
-        None => Ok(value),
-    }
-}
+pub const MAX_DEPTH: usize = 127;
 
 // Reads the next value, which may nest at most `depth` deep.
 #[cycle(value_of)]
-fn value_of(alloc: Global, reader: &mut Reader<'_>, depth: usize) -> Result<Value, Fault>
+pub fn value_of(alloc: Global, reader: &mut Reader<'_>, depth: usize) -> Result<Value, Fault>
     ensures ok { IfOk result
         (λ v. converted of_json (value depth reader.old) ≡ Some (view v, reader.new)) }
     ensures shorter { OnOk result (length reader.new < length reader.old) }
     ensures not_json { result ≡ Err NotJson → converted of_json (value depth reader.old) ≡ None }
+    ensures never { result ≢ Err NotObject }
     ensures memory { result ≡ Err Memory → 0 < length reader.old }
 {
     let token = reader.next().ok_or(Fault::NotJson)?;
+    value_from(alloc, reader, token, depth)
+}
+
+// Reads the value that begins with this token, and may nest at most `depth` deep.
+#[cycle(value_of)]
+pub fn value_from(
+    alloc: Global,
+    reader: &mut Reader<'_>,
+    token: Token<'_>,
+    depth: usize,
+) -> Result<Value, Fault>
+    ensures ok { IfOk result
+        (λ v. converted of_json (value depth (token_of token.entry ∷ reader.old)) ≡ Some (view v, reader.new)) }
+    ensures other { IfOk result (λ v. token.entry ≢ BeginObject → as_object (view v) ≡ None) }
+    ensures shorter { OnOk result (length reader.new ≤ length reader.old) }
+    ensures not_json { result ≡ Err NotJson → converted of_json (value depth (token_of token.entry ∷ reader.old)) ≡ None }
+    ensures never { result ≢ Err NotObject }
+{
     match token {
         Token::Null => Ok(Value::Null),
         Token::Bool(is_true) => Ok(Value::Bool(is_true)),
@@ -87,6 +86,7 @@ fn items_of(alloc: Global, reader: &mut Reader<'_>, depth: usize) -> Result<Vec<
     ensures shorter { OnOk result (length reader.new < length reader.old) }
     ensures not_json { result ≡ Err NotJson
         → converted of_items (items (value depth) (length reader.old) reader.old) ≡ None }
+    ensures never { result ≢ Err NotObject }
 {
     let mut found = Vec::new(alloc);
     'items: while !reader.take_end_array() {
@@ -111,6 +111,7 @@ fn members_of(
     ensures not_json { result ≡ Err NotJson
         → converted (λ ms. of_members ms no_members)
         (members (value depth) (length reader.old) reader.old) ≡ None }
+    ensures never { result ≢ Err NotObject }
 {
     let mut found = Map::new(alloc);
     'members: while let Some(key) = reader.next_key()? {

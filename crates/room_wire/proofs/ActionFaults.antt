@@ -1,36 +1,19 @@
 -- The first malformed action of a group is reported with its position.
-use Rattle.std.proofs.Common.{◌≡◌, ◌⊎◌, ◌+◌, inl, inr, zero, suc, ◌↔◌, ◌&&◌, ◌∙◌, ℕ, List, [], ◌∷◌, codes, Bool, true, false, cond, true≢false, Option, Some, None, Result, Ok, Err, is_some, nat_le, refl, sym, ap, subst, arith}
+use Rattle.std.proofs.Common.{◌≡◌, ◌⊎◌, ◌+◌, inl, inr, zero, suc, ◌∙◌, ℕ, List, ◌∷◌, codes, Bool, true, false, true≢false, Option, Some, None, Result, Ok, Err, refl, sym, ap, subst, arith}
 use Rattle.std.specs.Prelude.{IsOk}
 use Rattle.std.specs.declared.alloc.Global.{Global}
 use Rattle.std.specs.Str.{bytes_eq}
 use Rattle.std.proofs.lemmas.Slice.Eq.{bytes_eq-Decides}
 use Rattle.std.specs.Option.{option_and_then}
-use Rattle.std.proofs.lemmas.Bool.Decides.{nat_tests}
-use Rattle.serde_json.specs.Data.{Data, Items, no_items, item, null, boolean, number, string, array, object, unsigned, negative, float}
-use Rattle.serde_json.specs.Find.{get, as_object, as_str}
-use Rattle.serde_json.specs.Read.{read}
-use Rattle.osm_elements.specs.declared.name.Name.{Name}
-use Rattle.osm_elements.specs.declared.name.Kind.{Kind}
-use Rattle.osm_elements.specs.declared.name.Kind.TheVariants as kinds
-use Rattle.osm_elements.specs.declared.element.Element.{Element}
-use Rattle.osm_elements.specs.declared.element.Element.TheVariants as elements
+use Rattle.serde_json.specs.Data.{Data, Items, no_items, item, null, boolean, number, string, array, object}
+use Rattle.serde_json.specs.Find.{get, as_str}
 use Rattle.edit_actions.specs.declared.action.Action.{Action}
-use Rattle.edit_actions.specs.declared.action.Action.TheVariants as actions
-use Rattle.edit_groups.specs.declared.edit.Edit.TheVariants.{One, Group}
-use Rattle.room_history.specs.declared.call.Request.TheVariants as requests
-use Rattle.room_wire.specs.declared.bad.Bad.{Bad}
 use Rattle.room_wire.specs.declared.bad.Fault.{Fault}
 use Rattle.room_wire.specs.declared.bad.Fault.TheVariants.{BadActionField, BadField, BadId, Memory, NotJson, NotObject, UnknownAction, UnknownDo}
 use Rattle.room_wire.specs.declared.field.Field.{Field}
-use Rattle.room_wire.specs.declared.field.Field.TheVariants.{El, Els, Lat, Lon, Nodes, Members, Tags, Dlat, Dlon, At, Into, With, Actions, Seq}
-use Rattle.room_wire.specs.declared.field.Field.TheVariants as fields
-use Rattle.room_wire.specs.declared.incoming.Incoming.{Incoming}
-use Rattle.room_wire.specs.declared.incoming.Body.{Body}
-use Rattle.room_wire.specs.declared.incoming.Body.TheVariants as bodies
-use Rattle.room_wire.specs.Reading.{◌>>=◌, or_fault, under}
-use Rattle.room_wire.specs.Spelling.{action_at, action_by, actions_from, at_action, group_at, with_position, author_at, body_by, create_at, retag_at, move_at, relist_way_at, relist_relation_at, split_at, join_at, merge_at, unglue_at, name_at, place_at, distance_at, given_tags_at, el_at, els_at, element_at, lat_at, lon_at, by_id, incoming, body_at, message_of, members_at, nodes_at, ordinal, seq_at, seq_from, spells, tags_at, tags_from}
-use Rattle.room_wire.specs.Trees.{whole}
-use Rattle.room_wire.specs.WellFormed.{AreGood, AreGoodActions, IsBadAction, IsFirstBadAction, IsGoodAction, actions_in, group_items, HasWord, IsFirstBad, IsNumber, MessageId, Slot, element_slots, slot, slots}
+use Rattle.room_wire.specs.Reading.{◌>>=◌, or_fault}
+use Rattle.room_wire.specs.Spelling.{action_at, action_by, actions_from, at_action, with_position}
+use Rattle.room_wire.specs.WellFormed.{AreGoodActions, IsBadAction, IsFirstBadAction, IsGoodAction, HasWord, slots}
 use Rattle.room_wire.specs.Words.{Word, is_action_word, word_text}
 use Rattle.room_wire.specs.Words as words
 use Rattle.room_wire.proofs.FirstFaults.{Tells, action_word_tells, none_good, one_first}

@@ -23,7 +23,6 @@ use Rattle.edit_simple.specs.Tagging.{AreGiven}
 use Rattle.edit_actions.specs.declared.action.Action.{Action}
 use Rattle.edit_actions.specs.declared.action.Action.TheVariants as actions
 use Rattle.edit_groups.specs.declared.edit.Edit.{Edit}
-use Rattle.edit_groups.specs.declared.edit.Edit.TheVariants.{One, Group}
 use Rattle.edit_groups.specs.Groups.{is_group_length}
 use Rattle.room_stacks.specs.Authors.{author_of, is_author}
 use Rattle.room_history.specs.declared.call.Request.TheVariants as requests

@@ -1,7 +1,7 @@
 //! Faults of messages.
 ghost use Rattle.std.specs.Prelude.{◌≡◌};
 ghost use Rattle.json_values.specs.declared.fault.Fault.TheVariants as values;
-ghost use Rattle.room_wire.specs.declared.bad.Fault.TheVariants.{Memory, NotJson};
+ghost use Rattle.room_wire.specs.declared.bad.Fault.TheVariants.{Memory, NotJson, NotObject};
 
 use crate::field::Field;
 use std::alloc::AllocError;
@@ -72,11 +72,13 @@ impl From<AllocError> for Fault {
 }
 
 impl From<json_values::Fault> for Fault {
-    ghost from_gives = { λ v f. (v ≡ values.Memory → f ≡ Memory) × (v ≡ values.NotJson → f ≡ NotJson) };
+    ghost from_gives = { λ v f. (v ≡ values.Memory → f ≡ Memory) × (v ≡ values.NotJson → f ≡ NotJson)
+        × (v ≡ values.NotObject → f ≡ NotObject) };
 
     fn from(fault: json_values::Fault) -> Fault {
         match fault {
             json_values::Fault::NotJson => Fault::NotJson,
+            json_values::Fault::NotObject => Fault::NotObject,
             json_values::Fault::Memory => Fault::Memory,
         }
     }

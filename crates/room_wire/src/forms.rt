@@ -13,6 +13,7 @@ ghost use Rattle.room_wire.specs.declared.field.Field.TheVariants as field;
 
 use crate::bad::Fault;
 use crate::field::Field;
+use crate::fields::Fields;
 use crate::numbers::ordinal;
 use osm_coords::{Lat, Lon};
 use osm_elements::fault::TextFault;
@@ -28,22 +29,22 @@ use serde_json::Value;
 use std::alloc::Global;
 
 // Returns the text of a field, if the field is there and is a string.
-fn text_at(message: &Value, field: Field) -> Option<&str>
-    ensures { option_map (λ t. t.now) result ≡ text_at field (view message.now) }
+fn text_at<F: Fields>(message: &F, field: Field) -> Option<&str>
+    ensures { option_map (λ t. t.now) result ≡ text_at field (F.Fields.tree message.now) }
 {
-    message.get(field.as_str()).and_then(Value::as_str)
+    message.field(field.as_str()).and_then(Value::as_str)
 }
 
 // Reads the name of the element that a message is about.
-pub fn el_of(message: &Value) -> Result<Name, Fault>
-    ensures { result ≡ el_at (view message.now) }
+pub fn el_of<F: Fields>(message: &F) -> Result<Name, Fault>
+    ensures { result ≡ el_at (F.Fields.tree message.now) }
 {
     name_at(message, Field::El)
 }
 
 // Reads the name of an element.
-pub fn name_at(message: &Value, field: Field) -> Result<Name, Fault>
-    ensures { result ≡ name_at field (view message.now) }
+pub fn name_at<F: Fields>(message: &F, field: Field) -> Result<Name, Fault>
+    ensures { result ≡ name_at field (F.Fields.tree message.now) }
 {
     text_at(message, field)
         .and_then(Name::read)
@@ -51,8 +52,8 @@ pub fn name_at(message: &Value, field: Field) -> Result<Name, Fault>
 }
 
 // Reads the name of an author or of a room, which have the same form.
-pub fn author_at(message: &Value, field: Field) -> Result<Author, Fault>
-    ensures { result ≡ author_at field (view message.now) }
+pub fn author_at<F: Fields>(message: &F, field: Field) -> Result<Author, Fault>
+    ensures { result ≡ author_at field (F.Fields.tree message.now) }
 {
     text_at(message, field)
         .and_then(Author::read)
@@ -60,11 +61,11 @@ pub fn author_at(message: &Value, field: Field) -> Result<Author, Fault>
 }
 
 // Reads the position at which a way is split or unglued.
-pub fn place_at(message: &Value) -> Result<u32, Fault>
-    ensures { result ≡ place_at (view message.now) }
+pub fn place_at<F: Fields>(message: &F) -> Result<u32, Fault>
+    ensures { result ≡ place_at (F.Fields.tree message.now) }
 {
     message
-        .get(Field::At.as_str())
+        .field(Field::At.as_str())
         .and_then(place_of)
         .ok_or(Fault::BadField(Field::At))
 }
@@ -82,11 +83,11 @@ fn place_of(value: &Value) -> Option<u32>
 }
 
 // Reads the names of elements.
-pub fn els_of(alloc: Global, message: &Value) -> Result<Names<Global>, Fault>
-    ensures { Gives result (els_at (view message.now)) }
+pub fn els_of<F: Fields>(alloc: Global, message: &F) -> Result<Names<Global>, Fault>
+    ensures { Gives result (els_at (F.Fields.tree message.now)) }
 {
     let items = message
-        .get(Field::Els.as_str())
+        .field(Field::Els.as_str())
         .and_then(Value::as_array)
         .ok_or(Fault::BadField(Field::Els))?;
     names_in(alloc, items)
@@ -114,18 +115,18 @@ fn name_item(item: &Value) -> Option<Name>
 }
 
 // Reads the distance of a move to the north or to the east.
-pub fn distance_of(message: &Value, field: Field) -> Result<i64, Fault>
-    ensures { result ≡ distance_at field (view message.now) }
+pub fn distance_of<F: Fields>(message: &F, field: Field) -> Result<i64, Fault>
+    ensures { result ≡ distance_at field (F.Fields.tree message.now) }
 {
     message
-        .get(field.as_str())
+        .field(field.as_str())
         .and_then(Value::as_i64)
         .ok_or(Fault::BadField(field))
 }
 
 // Reads a node's latitude.
-pub fn lat_of(message: &Value) -> Result<Lat, Fault>
-    ensures { result ≡ lat_at (view message.now) }
+pub fn lat_of<F: Fields>(message: &F) -> Result<Lat, Fault>
+    ensures { result ≡ lat_at (F.Fields.tree message.now) }
 {
     text_at(message, Field::Lat)
         .and_then(Lat::read)
@@ -133,8 +134,8 @@ pub fn lat_of(message: &Value) -> Result<Lat, Fault>
 }
 
 // Reads a node's longitude.
-pub fn lon_of(message: &Value) -> Result<Lon, Fault>
-    ensures { result ≡ lon_at (view message.now) }
+pub fn lon_of<F: Fields>(message: &F) -> Result<Lon, Fault>
+    ensures { result ≡ lon_at (F.Fields.tree message.now) }
 {
     text_at(message, Field::Lon)
         .and_then(Lon::read)
@@ -142,11 +143,14 @@ pub fn lon_of(message: &Value) -> Result<Lon, Fault>
 }
 
 // Reads the nodes of a way.
-pub fn nodes_of(alloc: Global, message: &Value) -> Result<Shared<Nodes<Global>, Global>, Fault>
-    ensures { Gives result (nodes_at (view message.now)) }
+pub fn nodes_of<F: Fields>(
+    alloc: Global,
+    message: &F,
+) -> Result<Shared<Nodes<Global>, Global>, Fault>
+    ensures { Gives result (nodes_at (F.Fields.tree message.now)) }
 {
     let items = message
-        .get(Field::Nodes.as_str())
+        .field(Field::Nodes.as_str())
         .and_then(Value::as_array)
         .ok_or(Fault::BadField(Field::Nodes))?;
     Ok(Shared::new(alloc, nodes_in(alloc, items)?)?)
@@ -183,11 +187,14 @@ fn node_with(id: i64) -> Option<Name>
 }
 
 // Reads the members of a relation.
-pub fn members_of(alloc: Global, message: &Value) -> Result<Shared<Members<Global>, Global>, Fault>
-    ensures { Gives result (members_at (view message.now)) }
+pub fn members_of<F: Fields>(
+    alloc: Global,
+    message: &F,
+) -> Result<Shared<Members<Global>, Global>, Fault>
+    ensures { Gives result (members_at (F.Fields.tree message.now)) }
 {
     let items = message
-        .get(Field::Members.as_str())
+        .field(Field::Members.as_str())
         .and_then(Value::as_array)
         .ok_or(Fault::BadField(Field::Members))?;
     Ok(Shared::new(alloc, members_in(alloc, items)?)?)
@@ -234,10 +241,10 @@ fn member_with(alloc: Global, name: &Value, role: &Value) -> Result<(Name, Text<
 }
 
 // Reads the number of an entry, which may be missing.
-pub fn seq_of(message: &Value) -> Result<Option<u64>, Fault>
-    ensures { result ≡ seq_at (view message.now) }
+pub fn seq_of<F: Fields>(message: &F) -> Result<Option<u64>, Fault>
+    ensures { result ≡ seq_at (F.Fields.tree message.now) }
 {
-    match message.get(Field::Seq.as_str()) {
+    match message.field(Field::Seq.as_str()) {
         None => Ok(None),
         Some(value) => match ordinal(value) {
             Some(seq) => Ok(Some(seq)),
@@ -266,17 +273,11 @@ pub fn fault_in(field: Field, fault: TextFault) -> Fault
 }
 
 // Returns a field that must be an object.
-pub fn object_at(message: &mut Value, field: Field) -> Result<&mut Value, Fault>
-    ensures { result_map_both (λ v. view v.now) (λ f. f) result ≡ object_at field (view message.old) }
+pub fn object_at<F: Fields>(message: F, field: Field) -> Result<Value, Fault>
+    ensures { result_map_both view (λ f. f) result ≡ object_at field (F.Fields.tree message) }
 {
-    match message.get_mut(field.as_str()) {
-        Some(value) => {
-            if value.is_object() {
-                Ok(value)
-            } else {
-                Err(Fault::BadField(field))
-            }
-        }
-        None => Err(Fault::BadField(field)),
+    match message.into_field(field.as_str()) {
+        Some(value) if value.is_object() => Ok(value),
+        _ => Err(Fault::BadField(field)),
     }
 }

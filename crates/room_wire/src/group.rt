@@ -9,6 +9,7 @@ ghost use Rattle.room_wire.specs.Spelling.{action_at, actions_at, actions_from, 
 
 use crate::bad::Fault;
 use crate::field::Field;
+use crate::fields::Fields;
 use crate::listed::items_at;
 use crate::read::action_of;
 use edit_actions::action::Action;
@@ -17,8 +18,8 @@ use serde_json::Value;
 use std::alloc::{AllocError, Global};
 
 // Reads the group that a message asks for. Its actions are taken out of the message.
-pub fn group_of(alloc: Global, message: &mut Value) -> Result<Actions<Global>, Fault>
-    ensures { Gives result (actions_at (view message.old)) }
+pub fn group_of<F: Fields>(alloc: Global, message: F) -> Result<Actions<Global>, Fault>
+    ensures { Gives result (actions_at (F.Fields.tree message)) }
 {
     let objects = objects_of(message)?;
     let actions = actions_of(alloc, objects)?;
@@ -26,8 +27,8 @@ pub fn group_of(alloc: Global, message: &mut Value) -> Result<Actions<Global>, F
 }
 
 // Takes the objects under `actions`, one for each action, out of the message.
-fn objects_of(message: &mut Value) -> Result<Vec<Value>, Fault>
-    ensures objects { result_map_both (λ v. items_view v.items) (λ f. f) result ≡ group_at (view message.old) }
+fn objects_of<F: Fields>(message: F) -> Result<Vec<Value>, Fault>
+    ensures objects { result_map_both (λ v. items_view v.items) (λ f. f) result ≡ group_at (F.Fields.tree message) }
     ensures length { IfOk result (λ v. is_group_length (length v.items) ≡ true) }
 {
     match items_at(Field::Actions, message) {
@@ -83,10 +84,10 @@ fn actions_of(alloc: Global, objects: Vec<Value>) -> Result<Vec<Action<Global>>,
 }
 
 // Reads the object at a position of a group as an action.
-fn action_in(alloc: Global, position: u32, mut object: Value) -> Result<Action<Global>, Fault>
+fn action_in(alloc: Global, position: u32, object: Value) -> Result<Action<Global>, Fault>
     ensures { Gives result (with_position position (action_at (view object))) }
 {
-    match action_of(alloc, &mut object) {
+    match action_of(alloc, object) {
         Ok(action) => Ok(action),
         Err(fault) => Err(at_action(position, fault)),
     }

@@ -14,6 +14,7 @@ pub mod asked;
 pub mod bad;
 mod element;
 pub mod field;
+mod fields;
 mod forms;
 mod group;
 pub mod incoming;

@@ -12,6 +12,7 @@ ghost use Rattle.room_wire.specs.Reading.{Gives, or_fault};
 
 use crate::bad::Fault;
 use crate::field::Field;
+use crate::fields::Fields;
 use crate::forms::el_of;
 use crate::read::element_of;
 use crate::rising::{Named, are_rising};
@@ -35,17 +36,17 @@ pub trait Listed: Named + Drop {
 impl Listed for Row<Global> {
     ghost reads = { row_at };
 
-    fn read(alloc: Global, mut item: Value) -> Result<Row<Global>, Fault> {
+    fn read(alloc: Global, item: Value) -> Result<Row<Global>, Fault> {
         let name = el_of(&item)?;
-        let element = element_of(alloc, name.kind(), &mut item)?;
+        let element = element_of(alloc, name.kind(), item)?;
         Ok(Row { name, element })
     }
 }
 
 // Reads a field of rows whose names rise. The rows are taken out of the message, and keep its texts.
-pub fn rows_of<T: Listed>(alloc: Global, field: Field, message: &mut Value) -> Result<Vec<T>, Fault>
+pub fn rows_of<T: Listed>(alloc: Global, field: Field, message: Value) -> Result<Vec<T>, Fault>
     ensures read { Gives (result_map_both (λ v. v.items) (λ f. f) result)
-        (rows_at T.reads T.named field (view message.old)) }
+        (rows_at T.reads T.named field (view message)) }
     ensures rising { IfOk result (λ v. are_rising (map T.named v.items) ≡ true) }
 {
     let items = items_at(field, message).ok_or(Fault::BadField(field))?;
@@ -58,11 +59,11 @@ pub fn rows_of<T: Listed>(alloc: Global, field: Field, message: &mut Value) -> R
 }
 
 // Takes the items of a field that is an array out of the message.
-pub fn items_at(field: Field, message: &mut Value) -> Option<Vec<Value>>
+pub fn items_at<F: Fields>(field: Field, message: F) -> Option<Vec<Value>>
     ensures { option_map (λ v. items_view v.items) result
-        ≡ option_and_then as_array (get (field_text field) (view message.old)) }
+        ≡ option_and_then as_array (get (field_text field) (F.Fields.tree message)) }
 {
-    match message.get_mut(field.as_str())?.take() {
+    match message.into_field(field.as_str())? {
         Value::Array(items) => Some(items),
         _ => None,
     }

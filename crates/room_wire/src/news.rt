@@ -3,7 +3,7 @@ ghost use Rattle.std.specs.Prelude.{◌≡◌, ◌<◌, length, IfErr};
 ghost use Rattle.serde_json.specs.Read.{read};
 ghost use Rattle.serde_json.specs.View.{view};
 ghost use Rattle.room_wire.specs.declared.bad.Fault.TheVariants.{Memory};
-ghost use Rattle.room_wire.specs.News.{is_gone, news_at, news_row_at, news_told, number_at, spells_news, told_at};
+ghost use Rattle.room_wire.specs.News.{is_gone, news_row_at, news_told, number_at, spells_news, told_at};
 ghost use Rattle.room_wire.specs.Reading.{Gives, GivesUnder};
 
 use crate::bad::{Bad, Fault};
@@ -51,28 +51,19 @@ fn news_in(alloc: Global, text: &str) -> Result<News<Global>, Fault>
     ensures exact { Gives result (news_told (read text.now)) }
     ensures memory { IfErr result (λ f. f ≡ Memory → 0 < length text.now) }
 {
-    let mut message = parse(alloc, text, &mut Scratch::new(alloc))?;
-    news_of(alloc, &mut message)
-}
-
-// Reads a message as news.
-fn news_of(alloc: Global, message: &mut Value) -> Result<News<Global>, Fault>
-    ensures { Gives result (news_at (view message.old)) }
-{
-    if !message.is_object() {
-        return Err(Fault::NotObject);
-    }
+    let mut scratch = Scratch::new(alloc);
+    let message = parse(alloc, text, &mut scratch)?;
     let told = object_at(message, Field::News)?;
     told_of(alloc, told)
 }
 
 // Reads an object as the content of news. The number is read before the rows, because the rows are taken out. If both
 // are bad, the fault is that of the rows.
-fn told_of(alloc: Global, told: &mut Value) -> Result<News<Global>, Fault>
-    ensures { Gives result (told_at (view told.old)) }
+fn told_of(alloc: Global, told: Value) -> Result<News<Global>, Fault>
+    ensures { Gives result (told_at (view told)) }
 {
-    let author = author_at(told, Field::By)?;
-    let seq = number_of(told);
+    let author = author_at(&told, Field::By)?;
+    let seq = number_of(&told);
     let rows = rows_of::<NewsRow<Global>>(alloc, Field::Rows, told)?;
     let seq = seq?;
     let rows = NewsRows::from_vec(rows);

@@ -1,14 +1,17 @@
 //! Reading messages from their texts.
 ghost use Rattle.std.specs.Prelude.{◌≡◌, ◌⊎◌, ◌<◌, length, Some, None, Err, IfOk, OnOk, IfErr, IfSome, IfNone};
+ghost use Rattle.json_values.specs.Objects.{object_view};
 ghost use Rattle.serde_json.specs.Data.{Data};
+ghost use Rattle.serde_json.specs.Find.{as_object};
 ghost use Rattle.serde_json.specs.Read.{read};
 ghost use Rattle.serde_json.specs.View.{view};
-ghost use Rattle.room_wire.specs.declared.bad.Fault.TheVariants.{NotJson, Memory, UnknownDo};
+ghost use Rattle.room_wire.specs.declared.bad.Fault.TheVariants.{Memory, NotJson, NotObject, UnknownDo};
 ghost use Rattle.room_wire.specs.Reading.{Gives, GivesMessage, under};
 ghost use Rattle.room_wire.specs.Spelling.{spells, incoming, id_at, body_at, body_by, edit_by, hello_at, action_at, action_by, element_at};
 
 use crate::bad::{Bad, Fault};
 use crate::field::Field;
+use crate::fields::Fields;
 use crate::forms::{
     author_at, distance_of, el_of, els_of, lat_of, lon_of, members_of, name_at, nodes_of, place_at,
     seq_of,
@@ -20,7 +23,7 @@ use crate::tag_forms::{given_tags_of, tags_of};
 use edit_actions::action::Action;
 use edit_actions::each_action;
 use edit_groups::edit::Edit;
-use json_values::{Scratch, read_value};
+use json_values::{Object, Scratch, read_object};
 use osm_elements::element::Element;
 use osm_elements::name::Kind;
 use room_history::call::Request;
@@ -53,17 +56,17 @@ macro_rules! word_among {
 
 // Reads a field of an action.
 macro_rules! field {
-    (el ($alloc:expr, $message:expr)) => { el_of($message) };
-    (els ($alloc:expr, $message:expr)) => { els_of($alloc, $message) };
+    (el ($alloc:expr, $message:expr)) => { el_of(&$message) };
+    (els ($alloc:expr, $message:expr)) => { els_of($alloc, &$message) };
     (element ($alloc:expr, $message:expr) $name:ident) => { element_of($alloc, $name.kind(), $message) };
     (given_tags ($alloc:expr, $message:expr)) => { given_tags_of($alloc, $message) };
-    (nodes ($alloc:expr, $message:expr)) => { nodes_of($alloc, $message) };
-    (members ($alloc:expr, $message:expr)) => { members_of($alloc, $message) };
-    (dlat ($alloc:expr, $message:expr)) => { distance_of($message, Field::Dlat) };
-    (dlon ($alloc:expr, $message:expr)) => { distance_of($message, Field::Dlon) };
-    (at ($alloc:expr, $message:expr)) => { place_at($message) };
-    (into ($alloc:expr, $message:expr)) => { name_at($message, Field::Into) };
-    (with ($alloc:expr, $message:expr)) => { name_at($message, Field::With) };
+    (nodes ($alloc:expr, $message:expr)) => { nodes_of($alloc, &$message) };
+    (members ($alloc:expr, $message:expr)) => { members_of($alloc, &$message) };
+    (dlat ($alloc:expr, $message:expr)) => { distance_of(&$message, Field::Dlat) };
+    (dlon ($alloc:expr, $message:expr)) => { distance_of(&$message, Field::Dlon) };
+    (at ($alloc:expr, $message:expr)) => { place_at(&$message) };
+    (into ($alloc:expr, $message:expr)) => { name_at(&$message, Field::Into) };
+    (with ($alloc:expr, $message:expr)) => { name_at(&$message, Field::With) };
 }
 
 /// Reads a JSON text as a message (RFC 8259), or returns its first fault.
@@ -123,35 +126,37 @@ pub fn read_request(alloc: Global, text: &str, scratch: &mut Scratch) -> Result<
     ensures exact { GivesMessage result (spells text.now) }
     ensures memory { IfErr result (λ bad. bad.fault ≡ Memory → 0 < length text.now) }
 {
-    let mut message = parse(alloc, text, scratch).map_err(Bad::unread)?;
+    let message = parse(alloc, text, scratch).map_err(Bad::unread)?;
     let id = id_of(&message).map_err(Bad::unread)?;
-    incoming_of(alloc, id, &mut message)
+    incoming_of(alloc, id, message)
 }
 
-// Reads a text as a tree.
+// Reads a text as an object.
 #[tactic(auto, using(crate::proofs::Empty::read_is_filled))]
-pub fn parse(alloc: Global, text: &str, scratch: &mut Scratch) -> Result<Value, Fault>
-    ensures ok { IfOk result (λ v. read text.now ≡ Some (view v)) }
+pub fn parse<'a>(
+    alloc: Global,
+    text: &'a str,
+    scratch: &'a mut Scratch,
+) -> Result<Object<'a>, Fault>
+    ensures ok { IfOk result (λ o. read text.now ≡ Some (object_view o)) }
     ensures filled { OnOk result (0 < length text.now) }
-    ensures err { IfErr result (λ f. (f ≡ Memory) ⊎ ((f ≡ NotJson) × (read text.now ≡ None))) }
+    ensures err { IfErr result (λ f. (f ≡ Memory) ⊎ ((f ≡ NotJson) × (read text.now ≡ None))
+        ⊎ ((f ≡ NotObject) × (d : Data) × (read text.now ≡ Some d) × (as_object d ≡ None))) }
     ensures memory { IfErr result (λ f. f ≡ Memory → 0 < length text.now) }
 {
-    Ok(read_value(alloc, text, scratch)?)
+    Ok(read_object(alloc, text, scratch)?)
 }
 
 // Reads the id of a message.
-pub fn id_of(message: &Value) -> Result<u64, Fault>
-    ensures { result ≡ id_at (view message.now) }
+pub fn id_of(message: &Object<'_>) -> Result<u64, Fault>
+    ensures { result ≡ id_at (object_view message.now) }
 {
-    if !message.is_object() {
-        return Err(Fault::NotObject);
-    }
     message.get("id").and_then(ordinal).ok_or(Fault::BadId)
 }
 
 // Reads what a message asks for, under its id.
-fn incoming_of(alloc: Global, id: u64, message: &mut Value) -> Result<Incoming, Bad>
-    ensures exact { GivesMessage result (under incoming id (body_at (view message.old))) }
+fn incoming_of(alloc: Global, id: u64, message: Object<'_>) -> Result<Incoming, Bad>
+    ensures exact { GivesMessage result (under incoming id (body_at (object_view message.entry))) }
 {
     match body_of(alloc, message) {
         Ok(body) => Ok(Incoming { id, body }),
@@ -160,8 +165,8 @@ fn incoming_of(alloc: Global, id: u64, message: &mut Value) -> Result<Incoming, 
 }
 
 // Reads what a message asks for.
-fn body_of(alloc: Global, message: &mut Value) -> Result<Body, Fault>
-    ensures { Gives result (body_at (view message.old)) }
+fn body_of(alloc: Global, message: Object<'_>) -> Result<Body, Fault>
+    ensures { Gives result (body_at (object_view message.entry)) }
 {
     let word = message
         .get("do")
@@ -184,23 +189,23 @@ fn known(word: &str) -> Option<&'static str>
 }
 
 // Reads what a message with this word asks for.
-fn body_by(alloc: Global, word: &str, message: &mut Value) -> Result<Body, Fault>
-    ensures { Gives result (body_by word.now (view message.old)) }
+fn body_by(alloc: Global, word: &str, message: Object<'_>) -> Result<Body, Fault>
+    ensures { Gives result (body_by word.now (object_view message.entry)) }
 {
     match word {
-        "hello" => hello_of(message),
-        "undo" => Ok(Body::Change(Request::Undo(seq_of(message)?))),
+        "hello" => hello_of(&message),
+        "undo" => Ok(Body::Change(Request::Undo(seq_of(&message)?))),
         "redo" => Ok(Body::Change(Request::Redo)),
         "undos" => Ok(Body::Undos),
-        "get" => Ok(Body::Get(el_of(message)?)),
+        "get" => Ok(Body::Get(el_of(&message)?)),
         "map" => Ok(Body::Map),
         _ => Ok(Body::Change(Request::Do(edit_by(alloc, word, message)?))),
     }
 }
 
 // Reads the edit that a message with this word asks for.
-fn edit_by(alloc: Global, word: &str, message: &mut Value) -> Result<Edit<Global>, Fault>
-    ensures { Gives result (edit_by word.now (view message.old)) }
+fn edit_by(alloc: Global, word: &str, message: Object<'_>) -> Result<Edit<Global>, Fault>
+    ensures { Gives result (edit_by word.now (object_view message.entry)) }
 {
     match word {
         "group" => Ok(Edit::Group(group_of(alloc, message)?)),
@@ -209,8 +214,8 @@ fn edit_by(alloc: Global, word: &str, message: &mut Value) -> Result<Edit<Global
 }
 
 // Reads the room and the author of a hello.
-fn hello_of(message: &Value) -> Result<Body, Fault>
-    ensures { Gives result (hello_at (view message.now)) }
+fn hello_of(message: &Object<'_>) -> Result<Body, Fault>
+    ensures { Gives result (hello_at (object_view message.now)) }
 {
     let room = author_at(message, Field::Room)?;
     let name = author_at(message, Field::Name)?;
@@ -218,8 +223,8 @@ fn hello_of(message: &Value) -> Result<Body, Fault>
 }
 
 // Reads the action that an object asks for. Its values are taken out of the object.
-pub fn action_of(alloc: Global, object: &mut Value) -> Result<Action<Global>, Fault>
-    ensures { Gives result (action_at (view object.old)) }
+pub fn action_of(alloc: Global, object: Value) -> Result<Action<Global>, Fault>
+    ensures { Gives result (action_at (view object)) }
 {
     let word = object
         .get("do")
@@ -241,31 +246,35 @@ fn known_action(word: &str) -> Option<&'static str>
 
 // Reads the action that a message with this word asks for. Its fields are read in the order of the list of actions, up
 // to the first fault.
-fn action_by(alloc: Global, word: &str, message: &mut Value) -> Result<Action<Global>, Fault>
-    ensures { Gives result (action_by word.now (view message.old)) }
+fn action_by<F: Fields>(alloc: Global, word: &str, message: F) -> Result<Action<Global>, Fault>
+    ensures { Gives result (action_by word.now (F.Fields.tree message)) }
 {
     each_action!(read_by(alloc, word, message))
 }
 
 // Reads the element of a `create`, by the kind of its name. The tags are read last, because they are taken out of the
 // message.
-pub fn element_of(alloc: Global, kind: Kind, message: &mut Value) -> Result<Element<Global>, Fault>
-    ensures { Gives result (element_at kind (view message.old)) }
+pub fn element_of<F: Fields>(
+    alloc: Global,
+    kind: Kind,
+    message: F,
+) -> Result<Element<Global>, Fault>
+    ensures { Gives result (element_at kind (F.Fields.tree message)) }
 {
     match kind {
         Kind::Node => {
-            let lat = lat_of(message)?;
-            let lon = lon_of(message)?;
+            let lat = lat_of(&message)?;
+            let lon = lon_of(&message)?;
             let tags = tags_of(alloc, message)?;
             Ok(Element::Node { lat, lon, tags })
         }
         Kind::Way => {
-            let nodes = nodes_of(alloc, message)?;
+            let nodes = nodes_of(alloc, &message)?;
             let tags = tags_of(alloc, message)?;
             Ok(Element::Way { nodes, tags })
         }
         Kind::Relation => {
-            let members = members_of(alloc, message)?;
+            let members = members_of(alloc, &message)?;
             let tags = tags_of(alloc, message)?;
             Ok(Element::Relation { members, tags })
         }

@@ -11,6 +11,7 @@ ghost use Rattle.room_wire.specs.declared.field.Field.TheVariants as field;
 
 use crate::bad::Fault;
 use crate::field::Field;
+use crate::fields::Fields;
 use crate::forms::fault_in;
 use edit_simple::retag::Retag;
 use osm_elements::shared_tags::SharedTags;
@@ -20,12 +21,12 @@ use serde_json::{Map, Value};
 use std::alloc::Global;
 
 // Reads the tags of an element, which may be missing. They are taken out of the message, and keep its texts.
-pub fn tags_of(alloc: Global, message: &mut Value) -> Result<SharedTags<Global>, Fault>
-    ensures { Gives result (tags_at (view message.old)) }
+pub fn tags_of<F: Fields>(alloc: Global, message: F) -> Result<SharedTags<Global>, Fault>
+    ensures { Gives result (tags_at (F.Fields.tree message)) }
 {
-    match message.get_mut(Field::Tags.as_str()) {
+    match message.into_field(Field::Tags.as_str()) {
         None => Ok(SharedTags::empty()),
-        Some(value) => match value.take() {
+        Some(value) => match value {
             Value::Object(members) => Ok(SharedTags::new(alloc, tags_in(alloc, members)?)?),
             _ => Err(Fault::BadField(Field::Tags)),
         },
@@ -69,12 +70,12 @@ fn put_tag(tags: &mut Tags<Global>, key: Text<Global>, value: Text<Global>) -> R
 }
 
 // Reads what a retag gives to keys. It is taken out of the message, and keeps its texts.
-pub fn given_tags_of(alloc: Global, message: &mut Value) -> Result<Retag<Global>, Fault>
-    ensures { Gives result (given_tags_at (view message.old)) }
+pub fn given_tags_of<F: Fields>(alloc: Global, message: F) -> Result<Retag<Global>, Fault>
+    ensures { Gives result (given_tags_at (F.Fields.tree message)) }
 {
-    match message.get_mut(Field::Tags.as_str()) {
+    match message.into_field(Field::Tags.as_str()) {
         None => Err(Fault::BadField(Field::Tags)),
-        Some(value) => match value.take() {
+        Some(value) => match value {
             Value::Object(members) => given_tags_in(alloc, members),
             _ => Err(Fault::BadField(Field::Tags)),
         },

@@ -1,5 +1,6 @@
 //! Reading welcomes.
 ghost use Rattle.std.specs.Prelude.{◌≡◌, ◌<◌, length, true, IfErr, IfOk};
+ghost use Rattle.json_values.specs.Objects.{object_view};
 ghost use Rattle.serde_json.specs.View.{view};
 ghost use Rattle.osm_elements.specs.Rows.{AreInOrder};
 ghost use Rattle.edit_simple.specs.Soundness.{are_of_kinds};
@@ -13,7 +14,7 @@ use crate::forms::object_at;
 use crate::listed::rows_of;
 use crate::numbers::count_in;
 use crate::read::{id_of, parse};
-use json_values::Scratch;
+use json_values::{Object, Scratch};
 use osm_elements::map::{Row, Rows};
 use serde_json::Value;
 use std::alloc::Global;
@@ -55,14 +56,15 @@ pub fn read_welcome(alloc: Global, text: &str) -> Result<Welcome, Bad>
     ensures in_order { IfOk result (λ w. AreInOrder w.rows) }
     ensures kinds { IfOk result (λ w. are_of_kinds w.rows ≡ true) }
 {
-    let mut reply = parse(alloc, text, &mut Scratch::new(alloc)).map_err(Bad::unread)?;
+    let mut scratch = Scratch::new(alloc);
+    let reply = parse(alloc, text, &mut scratch).map_err(Bad::unread)?;
     let id = id_of(&reply).map_err(Bad::unread)?;
-    welcomed(alloc, id, &mut reply)
+    welcomed(alloc, id, reply)
 }
 
 // Reads a reply as a welcome, under its id.
-fn welcomed(alloc: Global, id: u64, reply: &mut Value) -> Result<Welcome, Bad>
-    ensures exact { GivesUnder (λ w. w.id) result (under welcome id (told_at (view reply.old))) }
+fn welcomed(alloc: Global, id: u64, reply: Object<'_>) -> Result<Welcome, Bad>
+    ensures exact { GivesUnder (λ w. w.id) result (under welcome id (told_at (object_view reply.entry))) }
     ensures in_order { IfOk result (λ w. AreInOrder w.rows) }
     ensures kinds { IfOk result (λ w. are_of_kinds w.rows ≡ true) }
 {
@@ -74,20 +76,20 @@ fn welcomed(alloc: Global, id: u64, reply: &mut Value) -> Result<Welcome, Bad>
 
 // Reads the elements and the number of a reply. The number is read first, because the elements are taken out. If both
 // are bad, the fault is that of the elements.
-fn told_of(alloc: Global, reply: &mut Value) -> Result<(Rows<Global>, u64), Fault>
-    ensures exact { Gives result (told_at (view reply.old)) }
+fn told_of(alloc: Global, reply: Object<'_>) -> Result<(Rows<Global>, u64), Fault>
+    ensures exact { Gives result (told_at (object_view reply.entry)) }
     ensures in_order { IfOk result (λ told. AreInOrder told.0) }
 {
     let told = object_at(reply, Field::Ok)?;
-    let seq = count_of(told);
+    let seq = count_of(&told);
     let rows = map_of(alloc, told)?;
     Ok((rows, seq?))
 }
 
 // Reads the elements of a map.
 #[tactic(auto, using(crate::proofs::RowsInOrder::rising_is_in_order))]
-fn map_of(alloc: Global, told: &mut Value) -> Result<Rows<Global>, Fault>
-    ensures exact { Gives result (map_at (view told.old)) }
+fn map_of(alloc: Global, told: Value) -> Result<Rows<Global>, Fault>
+    ensures exact { Gives result (map_at (view told)) }
     ensures in_order { IfOk result (λ rows. AreInOrder rows) }
 {
     let rows = rows_of::<Row<Global>>(alloc, Field::Map, told)?;

@@ -1,4 +1,4 @@
-use Rattle.std.proofs.Common.{◌≡◌, ◌+◌, ◌-◌, ◌<◌, [], ◌∷◌, length, Some, None, string_bytes, refl, sym, ap, ap₂, ◌∙◌, arith, rules}
+use Rattle.std.proofs.Common.{◌≡◌, ◌-◌, ◌<◌, ◌∷◌, length, Some, None, string_bytes, refl, sym, ap, ◌∙◌, arith, rules}
 use Rattle.json.proofs.Grammar.{read_key-shorter, value_is}
 use Rattle.json.specs.Json.{after_end_array, items, members, parse_map, read_key, value}
 use Rattle.json.specs.Reads.{token_of}
@@ -96,82 +96,82 @@ pub value_of-returns-in_err-token-clause-not_json : goal.value_of-returns-in_err
 value_of-returns-in_err-token-clause-not_json t c refused =
     nothing c.args.depth c.args.reader.now (grind arith)
 
-pub value_of-returns-in_err-depth-in-BeginArray-clause-not_json : goal.value_of-returns-in_err-depth-in-BeginArray-clause-not_json
-value_of-returns-in_err-depth-in-BeginArray-clause-not_json t c refused =
-    let first : c.args.reader.now ≡ token_of c.in_ok-token.token ∷ c.next.new.self = grind arith in
-    let is : c.args.reader.now ≡ Token.begin_array ∷ c.next.new.self = grind (arith, first) in
-    ap (λ d. converted of_json (value d c.args.reader.now)) c.in_err-depth-in-BeginArray.ensures.1 ∙ no_array c.args.reader.now c.next.new.self is
+pub value_from-returns-in_err-depth-in-BeginArray-clause-not_json : goal.value_from-returns-in_err-depth-in-BeginArray-clause-not_json
+value_from-returns-in_err-depth-in-BeginArray-clause-not_json t c refused =
+    let ts = token_of c.args.token ∷ c.args.reader.now in
+    let is : ts ≡ Token.begin_array ∷ c.args.reader.now = grind arith in
+    ap (λ d. converted of_json (value d ts)) c.in_err-depth-in-BeginArray.ensures.1 ∙ no_array ts c.args.reader.now is
 
-pub value_of-returns-in_err-items_of-in-BeginArray-clause-not_json : goal.value_of-returns-in_err-items_of-in-BeginArray-clause-not_json
-value_of-returns-in_err-items_of-in-BeginArray-clause-not_json t c refused =
-    let first : c.args.reader.now ≡ token_of c.in_ok-token.token ∷ c.next.new.self = grind arith in
-    let is : c.args.reader.now ≡ Token.begin_array ∷ c.next.new.self = grind (arith, first) in
-    ap (λ d. converted of_json (value d c.args.reader.now)) c.in_ok-depth-in-BeginArray.ensures ∙ an_array c.in_ok-depth-in-BeginArray.depth c.args.reader.now c.next.new.self is ∙ ap (parse_map array) (c.items_of.ensures.not_json (grind arith))
+pub value_from-returns-in_err-items_of-in-BeginArray-clause-not_json : goal.value_from-returns-in_err-items_of-in-BeginArray-clause-not_json
+value_from-returns-in_err-items_of-in-BeginArray-clause-not_json t c refused =
+    let ts = token_of c.args.token ∷ c.args.reader.now in
+    let is : ts ≡ Token.begin_array ∷ c.args.reader.now = grind arith in
+    ap (λ d. converted of_json (value d ts)) c.in_ok-depth-in-BeginArray.ensures ∙ an_array c.in_ok-depth-in-BeginArray.depth ts c.args.reader.now is ∙ ap (parse_map array) (c.items_of.ensures.not_json (grind arith))
 
-pub value_of-returns-in_err-depth-in-BeginObject-clause-not_json : goal.value_of-returns-in_err-depth-in-BeginObject-clause-not_json
-value_of-returns-in_err-depth-in-BeginObject-clause-not_json t c refused =
-    let first : c.args.reader.now ≡ token_of c.in_ok-token.token ∷ c.next.new.self = grind arith in
-    let is : c.args.reader.now ≡ Token.begin_object ∷ c.next.new.self = grind (arith, first) in
-    ap (λ d. converted of_json (value d c.args.reader.now)) c.in_err-depth-in-BeginObject.ensures.1 ∙ no_object c.args.reader.now c.next.new.self is
+pub value_from-returns-in_err-depth-in-BeginObject-clause-not_json : goal.value_from-returns-in_err-depth-in-BeginObject-clause-not_json
+value_from-returns-in_err-depth-in-BeginObject-clause-not_json t c refused =
+    let ts = token_of c.args.token ∷ c.args.reader.now in
+    let is : ts ≡ Token.begin_object ∷ c.args.reader.now = grind arith in
+    ap (λ d. converted of_json (value d ts)) c.in_err-depth-in-BeginObject.ensures.1 ∙ no_object ts c.args.reader.now is
 
-pub value_of-returns-in_err-members_of-in-BeginObject-clause-not_json : goal.value_of-returns-in_err-members_of-in-BeginObject-clause-not_json
-value_of-returns-in_err-members_of-in-BeginObject-clause-not_json t c refused =
-    let first : c.args.reader.now ≡ token_of c.in_ok-token.token ∷ c.next.new.self = grind arith in
-    let is : c.args.reader.now ≡ Token.begin_object ∷ c.next.new.self = grind (arith, first) in
-    ap (λ d. converted of_json (value d c.args.reader.now)) c.in_ok-depth-in-BeginObject.ensures ∙ an_object c.in_ok-depth-in-BeginObject.depth c.args.reader.now c.next.new.self is ∙ ap (parse_map object) (c.members_of.ensures.not_json (grind arith))
+pub value_from-returns-in_err-members_of-in-BeginObject-clause-not_json : goal.value_from-returns-in_err-members_of-in-BeginObject-clause-not_json
+value_from-returns-in_err-members_of-in-BeginObject-clause-not_json t c refused =
+    let ts = token_of c.args.token ∷ c.args.reader.now in
+    let is : ts ≡ Token.begin_object ∷ c.args.reader.now = grind arith in
+    ap (λ d. converted of_json (value d ts)) c.in_ok-depth-in-BeginObject.ensures ∙ an_object c.in_ok-depth-in-BeginObject.depth ts c.args.reader.now is ∙ ap (parse_map object) (c.members_of.ensures.not_json (grind arith))
 
-pub value_of-returns-in-Null-clause-ok : goal.value_of-returns-in-Null-clause-ok
-value_of-returns-in-Null-clause-ok t c =
-    let first : c.args.reader.now ≡ token_of c.in_ok-token.token ∷ c.next.new.self = grind arith in
-    let is : c.args.reader.now ≡ Token.null ∷ c.next.new.self = grind (arith, first) in
+pub value_from-returns-in-Null-clause-ok : goal.value_from-returns-in-Null-clause-ok
+value_from-returns-in-Null-clause-ok t c =
+    let ts = token_of c.args.token ∷ c.args.reader.now in
+    let is : ts ≡ Token.null ∷ c.args.reader.now = grind arith in
     let seen : view (Null) ≡ null = search (rules, the_lemmas) in
-    ap (converted of_json) (ap (value c.args.depth) is ∙ value_is c.args.depth _) ∙ ap (λ d. Some (d, c.next.new.self)) (sym seen)
+    ap (converted of_json) (ap (value c.args.depth) is ∙ value_is c.args.depth _) ∙ ap (λ d. Some (d, c.args.reader.now)) (sym seen)
 
-pub value_of-returns-in-Bool-clause-ok : goal.value_of-returns-in-Bool-clause-ok
-value_of-returns-in-Bool-clause-ok t c =
-    let first : c.args.reader.now ≡ token_of c.in_ok-token.token ∷ c.next.new.self = grind arith in
-    let is : c.args.reader.now ≡ Token.boolean c.in-Bool.is_true ∷ c.next.new.self = grind (arith, first) in
+pub value_from-returns-in-Bool-clause-ok : goal.value_from-returns-in-Bool-clause-ok
+value_from-returns-in-Bool-clause-ok t c =
+    let ts = token_of c.args.token ∷ c.args.reader.now in
+    let is : ts ≡ Token.boolean c.in-Bool.is_true ∷ c.args.reader.now = grind arith in
     let seen : view (Bool c.in-Bool.is_true) ≡ boolean c.in-Bool.is_true = search (rules, the_lemmas) in
-    ap (converted of_json) (ap (value c.args.depth) is ∙ value_is c.args.depth _) ∙ ap (λ d. Some (d, c.next.new.self)) (sym seen)
+    ap (converted of_json) (ap (value c.args.depth) is ∙ value_is c.args.depth _) ∙ ap (λ d. Some (d, c.args.reader.now)) (sym seen)
 
-pub value_of-returns-in-Some-clause-ok : goal.value_of-returns-in-Some-clause-ok
-value_of-returns-in-Some-clause-ok t c =
-    let first : c.args.reader.now ≡ token_of c.in_ok-token.token ∷ c.next.new.self = grind arith in
-    let is : c.args.reader.now ≡ Token.number c.in-Number.text.now ∷ c.next.new.self = grind (arith, first) in
+pub value_from-returns-in-Some-clause-ok : goal.value_from-returns-in-Some-clause-ok
+value_from-returns-in-Some-clause-ok t c =
+    let ts = token_of c.args.token ∷ c.args.reader.now in
+    let is : ts ≡ Token.number c.in-Number.text.now ∷ c.args.reader.now = grind arith in
     let seen : view (Number c.in-Some.number) ≡ number (number_view c.in-Some.number) = search (rules, the_lemmas) in
     ap (converted of_json) (ap (value c.args.depth) is ∙ value_is c.args.depth _) ∙ rw (← c.in-Some.ensures, seen) refl
 
-pub value_of-returns-in-None-clause-not_json : goal.value_of-returns-in-None-clause-not_json
-value_of-returns-in-None-clause-not_json t c refused =
-    let first : c.args.reader.now ≡ token_of c.in_ok-token.token ∷ c.next.new.self = grind arith in
-    let is : c.args.reader.now ≡ Token.number c.in-Number.text.now ∷ c.next.new.self = grind (arith, first) in
+pub value_from-returns-in-None-clause-not_json : goal.value_from-returns-in-None-clause-not_json
+value_from-returns-in-None-clause-not_json t c refused =
+    let ts = token_of c.args.token ∷ c.args.reader.now in
+    let is : ts ≡ Token.number c.in-Number.text.now ∷ c.args.reader.now = grind arith in
     ap (converted of_json) (ap (value c.args.depth) is ∙ value_is c.args.depth _) ∙ rw (← c.in-None.ensures) refl
 
-pub value_of-returns-in_ok-from_str-in-String-clause-ok : goal.value_of-returns-in_ok-from_str-in-String-clause-ok
-value_of-returns-in_ok-from_str-in-String-clause-ok t c =
-    let first : c.args.reader.now ≡ token_of c.in_ok-token.token ∷ c.next.new.self = grind arith in
-    let is : c.args.reader.now ≡ Token.string c.in-String.text.now ∷ c.next.new.self = grind (arith, first) in
+pub value_from-returns-in_ok-from_str-in-String-clause-ok : goal.value_from-returns-in_ok-from_str-in-String-clause-ok
+value_from-returns-in_ok-from_str-in-String-clause-ok t c =
+    let ts = token_of c.args.token ∷ c.args.reader.now in
+    let is : ts ≡ Token.string c.in-String.text.now ∷ c.args.reader.now = grind arith in
     let seen : view (String c.in_ok-from_str-in-String.field-0) ≡ string c.in-String.text.now = search (rules, the_lemmas) in
-    ap (converted of_json) (ap (value c.args.depth) is ∙ value_is c.args.depth _) ∙ ap (λ d. Some (d, c.next.new.self)) (sym seen)
+    ap (converted of_json) (ap (value c.args.depth) is ∙ value_is c.args.depth _) ∙ ap (λ d. Some (d, c.args.reader.now)) (sym seen)
 
-pub value_of-returns-in_ok-items_of-in-BeginArray-clause-ok : goal.value_of-returns-in_ok-items_of-in-BeginArray-clause-ok
-value_of-returns-in_ok-items_of-in-BeginArray-clause-ok t c =
-    let first : c.args.reader.now ≡ token_of c.in_ok-token.token ∷ c.next.new.self = grind arith in
-    let is : c.args.reader.now ≡ Token.begin_array ∷ c.next.new.self = grind (arith, first) in
+pub value_from-returns-in_ok-items_of-in-BeginArray-clause-ok : goal.value_from-returns-in_ok-items_of-in-BeginArray-clause-ok
+value_from-returns-in_ok-items_of-in-BeginArray-clause-ok t c =
+    let ts = token_of c.args.token ∷ c.args.reader.now in
+    let is : ts ≡ Token.begin_array ∷ c.args.reader.now = grind arith in
     let found = c.in_ok-items_of-in-BeginArray in
-    ap (λ d. converted of_json (value d c.args.reader.now)) c.in_ok-depth-in-BeginArray.ensures ∙ an_array c.in_ok-depth-in-BeginArray.depth c.args.reader.now c.next.new.self is
+    ap (λ d. converted of_json (value d ts)) c.in_ok-depth-in-BeginArray.ensures ∙ an_array c.in_ok-depth-in-BeginArray.depth ts c.args.reader.now is
     ∙ ap (parse_map array) found.ensures.ok ∙ ap (λ d. Some (d, c.items_of.new.reader)) (sym (view-Array found.field-0))
 
-pub value_of-returns-in_ok-members_of-in-BeginObject-clause-ok : goal.value_of-returns-in_ok-members_of-in-BeginObject-clause-ok
-value_of-returns-in_ok-members_of-in-BeginObject-clause-ok t c =
-    let first : c.args.reader.now ≡ token_of c.in_ok-token.token ∷ c.next.new.self = grind arith in
-    let is : c.args.reader.now ≡ Token.begin_object ∷ c.next.new.self = grind (arith, first) in
+pub value_from-returns-in_ok-members_of-in-BeginObject-clause-ok : goal.value_from-returns-in_ok-members_of-in-BeginObject-clause-ok
+value_from-returns-in_ok-members_of-in-BeginObject-clause-ok t c =
+    let ts = token_of c.args.token ∷ c.args.reader.now in
+    let is : ts ≡ Token.begin_object ∷ c.args.reader.now = grind arith in
     let found = c.in_ok-members_of-in-BeginObject in
-    ap (λ d. converted of_json (value d c.args.reader.now)) c.in_ok-depth-in-BeginObject.ensures ∙ an_object c.in_ok-depth-in-BeginObject.depth c.args.reader.now c.next.new.self is
+    ap (λ d. converted of_json (value d ts)) c.in_ok-depth-in-BeginObject.ensures ∙ an_object c.in_ok-depth-in-BeginObject.depth ts c.args.reader.now is
     ∙ ap (parse_map object) found.ensures.ok ∙ ap (λ d. Some (d, c.members_of.new.reader)) (sym (view-Object found.field-0))
 
-pub value_of-returns-in-EndArray-clause-not_json : goal.value_of-returns-in-EndArray-clause-not_json
-value_of-returns-in-EndArray-clause-not_json t c refused =
-    let first : c.args.reader.now ≡ token_of c.in_ok-token.token ∷ c.next.new.self = grind arith in
-    let none : value c.args.depth c.args.reader.now ≡ None = rw (value_is c.args.depth c.args.reader.now, first) (grind arith) in
+pub value_from-returns-in-EndArray-clause-not_json : goal.value_from-returns-in-EndArray-clause-not_json
+value_from-returns-in-EndArray-clause-not_json t c refused =
+    let ts = token_of c.args.token ∷ c.args.reader.now in
+    let none : value c.args.depth ts ≡ None = rw (value_is c.args.depth ts) (grind arith) in
     ap (converted of_json) none

@@ -8,13 +8,16 @@ use Rattle.serde_json.specs.Read.{converted, of_items}
 use Rattle.serde_json.specs.View.{members_view}
 
 abbrev pub decreases-value_of : goal.decreases-value_of
-decreases-value_of l = 2 * l.depth
+decreases-value_of l = 3 * l.depth + 1
+
+abbrev pub decreases-value_from : goal.decreases-value_from
+decreases-value_from l = 3 * l.depth
 
 abbrev pub decreases-items_of : goal.decreases-items_of
-decreases-items_of l = 2 * l.depth + 1
+decreases-items_of l = 3 * l.depth + 2
 
 abbrev pub decreases-members_of : goal.decreases-members_of
-decreases-members_of l = 2 * l.depth + 1
+decreases-members_of l = 3 * l.depth + 2
 
 -- All tokens denote the items found so far, followed by the items that the remaining tokens denote.
 abbrev pub invariant-items_of-items : goal.invariant-items_of-items

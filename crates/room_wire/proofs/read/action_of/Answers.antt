@@ -6,5 +6,5 @@ use Rattle.room_wire.proofs.read.action_of.Goals as goal
 
 pub returns-in-Some : goal.returns-in-Some
 returns-in-Some c =
-    let given = subst (λ w. Gives c.action_by.result (action_by w (view c.args.object.now))) c.in-Some.ensures.known c.action_by.ensures in
+    let given = subst (λ w. Gives c.action_by.result (action_by w (view c.args.object))) c.in-Some.ensures.known c.action_by.ensures in
     search rules

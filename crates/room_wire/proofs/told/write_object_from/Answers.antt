@@ -1,4 +1,4 @@
-use Rattle.std.proofs.Common.{◌∷◌, ◌++◌, map, ◌∙◌, ap, sym, append_assoc}
+use Rattle.std.proofs.Common.{◌∷◌, map, ◌∙◌}
 use Rattle.json.specs.Token.{begin_object, end_object}
 use Rattle.room_wire.specs.Inner.Writing.{IsReadable, members_tokens}
 use Rattle.room_wire.proofs.Written.{closed, members_closed, object_is_readable, opened, put_first, then_members}

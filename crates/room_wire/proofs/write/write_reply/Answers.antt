@@ -1,4 +1,4 @@
-use Rattle.std.proofs.Common.{OnOk, ap, subst, sym}
+use Rattle.std.proofs.Common.{OnOk, subst, sym}
 use Rattle.serde_json.specs.Data.{object}
 use Rattle.room_wire.specs.Inner.Writing.{Tells}
 use Rattle.room_wire.specs.Trees.{no_tree, tree_of, with_action}
