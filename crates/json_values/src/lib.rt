@@ -1,8 +1,8 @@
 //! Reads JSON texts that are objects (RFC 8259), with working memory that the caller keeps.
 //!
-//! [`read_object`] reads the values of an object as [`serde_json::Value`]s. [`Value::from_str`](serde_json::Value::from_str)
-//! makes a [`Scratch`] of 16 KiB for each text, and a tree of owned keys. [`read_object`] borrows a `Scratch`, and the
-//! keys of the outermost object, so a program reads many short texts fast.
+//! [`read_object`] reads the values of an object as [`serde_json::Value`]s. `Value::from_str` makes a [`Scratch`] of
+//! 16 KiB and a map of owned keys for each text. [`read_object`] borrows the `Scratch` from its caller, and the keys
+//! from the text, so a program reads many short texts fast.
 #![tactic(auto)]
 
 mod fault;
