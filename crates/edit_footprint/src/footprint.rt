@@ -32,13 +32,17 @@ impl<A: Allocator> Model for Footprint<A> {
 
 impl<A: Allocator> Footprint<A> {
     /// Returns the footprint of the given cells, which can have any order and repetitions. For `n` cells it takes time
-    /// `n log n`.
-    pub fn of(mut cells: Vec<Cell, A>) -> Footprint<A>
-        ensures { result ≡ cell_set cells.items }
+    /// `n log n`. If they consist of few parts that each rise, it takes linear time.
+    ///
+    /// # Errors
+    ///
+    /// `Memory`, if an allocation fails.
+    pub fn of(mut cells: Vec<Cell, A>) -> Result<Footprint<A>, Memory>
+        ensures { IfOk result (λ f. f ≡ cell_set cells.items) }
     {
-        cells.sort_unstable();
+        cells.sort()?;
         cells.dedup();
-        Footprint { cells }
+        Ok(Footprint { cells })
     }
 
     /// Returns the cells in their order.

@@ -1,13 +1,14 @@
 //! The names that halves refer to.
-ghost use Rattle.std.specs.Prelude.{◌≡◌, map, Some, IfOk};
+ghost use Rattle.std.specs.Prelude.{◌≡◌, [], false, Some, IfOk};
 ghost use Rattle.osm_elements.specs.Maps.{name_set};
 ghost use Rattle.edit_footprint.specs.Footprints.{half_references};
 
 use osm_changes::half::Half;
 use osm_elements::Memory;
-use osm_elements::member::Member;
 use osm_elements::name::Name;
 use osm_elements::names::Names;
+use osm_refs::name_set::name_set;
+use osm_refs::refs::member_names;
 use std::alloc::Allocator;
 
 // Returns the names that a half refers to, in rising order, each once. `None` refers to nothing. A change has no whole
@@ -25,9 +26,7 @@ pub(crate) fn half_refs<A: Allocator>(alloc: A, half: &Option<Half<A>>) -> Resul
 fn refs_of<A: Allocator>(alloc: A, half: &Half<A>) -> Result<Names<A>, Memory>
     ensures { IfOk result (λ names. names ≡ name_set (half_references (Some half.now))) }
 {
-    let mut names = named(alloc, half)?;
-    names.sort_unstable();
-    names.dedup();
+    let names = name_set(named(alloc, half)?)?;
     Ok(Names::from_vec(names))
 }
 
@@ -42,13 +41,9 @@ fn named<A: Allocator>(alloc: A, half: &Half<A>) -> Result<Vec<Name, A>, Memory>
     }
 }
 
-// Returns the names of members, in their order.
-fn member_names<A: Allocator>(alloc: A, members: &[Member<A>]) -> Result<Vec<Name, A>, Memory>
-    ensures { IfOk result (λ names. names.items ≡ map (λ m. m.name) members.now) }
+// Returns whether a half is a list of nodes or of members. No other half refers to a name.
+pub(crate) fn may_refer<A: Allocator>(half: &Option<Half<A>>) -> bool
+    ensures { result ≡ false → half_references half.now ≡ [] }
 {
-    let mut names = Vec::with_capacity(alloc, members.len())?;
-    for member in members {
-        names.push(member.name)?;
-    }
-    Ok(names)
+    matches!(half, Some(Half::Nodes(_) | Half::Members(_)))
 }

@@ -9,7 +9,7 @@ ghost use Rattle.edit_footprint.specs.Footprints.{subjects, footprint_of, half_n
 ghost use Rattle.edit_footprint.specs.Inner.Touching.{begun_or_ceased_once, all_begun_or_ceased};
 
 use crate::footprint::Footprint;
-use crate::half_refs::half_refs;
+use crate::half_refs::{half_refs, may_refer};
 use edit_actions::action::Action;
 use edit_actions::each_action;
 use osm_changes::cell::Cell;
@@ -59,7 +59,7 @@ pub fn footprint<A: Allocator + Clone>(
     push_changed(&mut cells, changes.rows())?;
     push_all_begun_or_ceased(&alloc, &mut cells, changes.rows())?;
     push_unglued_from(&mut cells, action, changes.rows())?;
-    Ok(Footprint::of(cells))
+    Footprint::of(cells)
 }
 
 // Returns the subjects of an action, with capacity for `more` cells.
@@ -131,6 +131,9 @@ fn push_begun_or_ceased<A: Allocator + Clone>(
 ) -> Result<(), Memory>
     ensures { OnOk result (cells.new.items ≡ cells.old.items ++ map rest_at (begun_or_ceased_once change.now)) }
 {
+    if !may_refer(&change.before) && !may_refer(&change.after) {
+        return Ok(());
+    }
     let before = half_refs(alloc.clone()?, &change.before)?;
     let after = half_refs(alloc.clone()?, &change.after)?;
     push_but(alloc, cells, before.as_slice(), after.as_slice())?;

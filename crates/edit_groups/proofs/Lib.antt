@@ -1,4 +1,3 @@
-pub mod Covering
 pub mod ExampleProofs
 pub mod Planned
 pub mod Turns

@@ -90,12 +90,13 @@ module _ {A : Type 0} where
 
   -- after all actions: the changes and the footprint of the group
   pub group_planned : (m : Rows A) (g : List (Action A)) (draft : Rows A) (names : List Name) (cells : List Cell) → IsAfter m g draft names cells → (cs : List (Change A)) → cs ≡ differences m draft
-      → (r : Result (List (Change A) × List Cell) (EditRefusal A)) → IfOk r (λ p. p.0 ≡ cs) → IfOk r (λ p. p.1 ≡ cell_set cells) → OnOk r (nothing_changed cs ≡ None) → IfErr r (λ why. nothing_changed cs ≡ Some why)
+      → (r : Result (List (Change A) × List Cell) (EditRefusal A)) → IfOk r (λ p. p.0 ≡ cs) → IfOk r (λ p. p.1 ≡ cell_set cells) → OnOk r (nothing_changed cs ≡ None) → IfErr r (λ why. (nothing_changed cs ≡ Some why) ⊎ (why ≡ alone Memory))
       → IsEditPlan m (Group g) r
   group_planned m g draft names cells all cs is (Ok p) changes_are cells_are some none =
       ((λ i. refused_or (all.accepted i) (nothing_changed (sym (is ∙ ap (differences m) all.rows) i))) ∙ some, changes_are ∙ is ∙ ap (differences m) all.rows, cells_are ∙ ap cell_set all.touched_are)
-  group_planned m g draft names cells all cs is (Err why) changes_are cells_are some none =
+  group_planned m g draft names cells all cs is (Err why) changes_are cells_are some (inl none) =
       inl ((λ i. refused_or (all.accepted i) (nothing_changed (sym (is ∙ ap (differences m) all.rows) i))) ∙ none)
+  group_planned m g draft names cells all cs is (Err why) changes_are cells_are some (inr memory) = inr memory
 
   module _ (m : Rows A) (g : List (Action A)) (i : ℕ) (a : Action A) (l : i < length g) (is : a ≡ get_or g i a) (draft : Rows A) (names : List Name) (cells : List Cell)
       (so_far : IsAfter m (take i g) draft names cells) (made : is_made_action a ≡ true) where

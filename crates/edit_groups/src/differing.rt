@@ -1,25 +1,39 @@
 //! The changes between two maps.
 ghost use Rattle.std.specs.Prelude.{◌≡◌, false, IfOk};
-ghost use Rattle.std.specs.Option.{option_copied};
 ghost use Rattle.osm_elements.specs.Maps.{is_among};
 ghost use Rattle.osm_elements.specs.Rows.{row_at};
 ghost use Rattle.osm_refs.specs.Rising.{IsRising};
 ghost use Rattle.osm_changes.specs.Changes.{differences};
 
 use osm_changes::changes::Changes;
-use osm_changes::lookup::Lookup;
+use osm_changes::lookup::{Lookup, copy_of};
 use osm_elements::Memory;
-use osm_elements::element::Element;
 use osm_elements::name::Name;
+use osm_refs::name_set::name_set;
 use std::alloc::Allocator;
 
-/// Returns the changes from one map to another, whose rows differ at most at the given names. The names rise. For each
-/// name, it costs two look-ups and a copy of both rows.
+/// Returns the changes from one map to another, whose rows differ at most at the given names. These can have any order
+/// and repetitions. For each name, it costs two look-ups and a copy of both rows.
 ///
 /// # Errors
 ///
 /// `Memory`, if an allocation fails.
 pub fn changes_between<A: Allocator + Clone, M: Lookup<A>, N: Lookup<A>>(
+    alloc: A,
+    before: &M,
+    after: &N,
+    names: Vec<Name, A>,
+) -> Result<Changes<A>, Memory>
+    requires { (y : Name) → is_among names.items y ≡ false
+        → row_at (N.rows after.now) y ≡ row_at (M.rows before.now) y }
+    ensures { IfOk result (λ cs. cs ≡ differences (M.rows before.now) (N.rows after.now)) }
+{
+    let names = name_set(names)?;
+    changes_at(alloc, before, after, &names)
+}
+
+// Returns the changes from one map to another, whose rows differ at most at the given names. The names rise.
+fn changes_at<A: Allocator + Clone, M: Lookup<A>, N: Lookup<A>>(
     alloc: A,
     before: &M,
     after: &N,
@@ -37,13 +51,4 @@ pub fn changes_between<A: Allocator + Clone, M: Lookup<A>, N: Lookup<A>>(
         changes.push_row(*name, old, new)?;
     }
     Ok(changes)
-}
-
-fn copy_of<A: Allocator + Clone>(element: Option<&Element<A>>) -> Result<Option<Element<A>>, Memory>
-    ensures { IfOk result (λ copy. copy ≡ option_copied element.entry) }
-{
-    match element {
-        Some(element) => Ok(Some(element.copy()?)),
-        None => Ok(None),
-    }
 }

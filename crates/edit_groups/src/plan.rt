@@ -98,15 +98,8 @@ fn plan_group<A: Allocator + Copy>(
         }
         position += 1;
     }
-    names.sort_unstable();
-    names.dedup();
-    match changes_between(alloc, map, &draft, &names) {
-        Ok(changes) => accepted(changes, cells),
-        Err(_) => Err(EditRefusal {
-            action: None,
-            why: Refusal::Memory,
-        }),
-    }
+    let changes = changes_between(alloc, map, &draft, names)?;
+    accepted(changes, cells)
 }
 
 // Returns the refusal of the action at a position. `Memory` has no position.
@@ -134,7 +127,7 @@ fn accepted<A: Allocator>(
     ensures changes { IfOk result (λ p. p.0 ≡ changes) }
     ensures footprint { IfOk result (λ p. p.1 ≡ cell_set cells.items) }
     ensures some { OnOk result (nothing_changed changes ≡ None) }
-    ensures refused { IfErr result (λ r. nothing_changed changes ≡ Some r) }
+    ensures refused { IfErr result (λ r. (nothing_changed changes ≡ Some r) ⊎ (r ≡ alone OutOfMemory)) }
 {
     if changes.is_empty() {
         return Err(EditRefusal {
@@ -142,5 +135,5 @@ fn accepted<A: Allocator>(
             why: Refusal::Nothing,
         });
     }
-    Ok((changes, Footprint::of(cells)))
+    Ok((changes, Footprint::of(cells)?))
 }

@@ -1,5 +1,10 @@
 //! Refusals of edits.
+ghost use Rattle.std.specs.Prelude.{◌≡◌};
+ghost use Rattle.edit_simple.specs.declared.refusal.Refusal.TheVariants.{Memory as OutOfMemory};
+ghost use Rattle.edit_groups.specs.Groups.{alone};
+
 use edit_simple::refusal::Refusal;
+use osm_elements::Memory;
 use std::alloc::Allocator;
 
 /// The refusal of an edit.
@@ -11,4 +16,15 @@ pub struct EditRefusal<A: Allocator> {
     pub action: Option<u32>,
     /// The reason.
     pub why: Refusal<A>,
+}
+
+impl<A: Allocator> From<Memory> for EditRefusal<A> {
+    ghost from_gives = { λ _ r. r ≡ alone OutOfMemory };
+
+    fn from(_refused: Memory) -> EditRefusal<A> {
+        EditRefusal {
+            action: None,
+            why: Refusal::Memory,
+        }
+    }
 }

@@ -1,17 +1,17 @@
 -- Moves, node by node.
-use Rattle.std.proofs.Common.{◌≡◌, ◌≢◌, ◌⊎◌, ◌<◌, ◌+◌, ◌+ℤ◌, ℕ, ℤ, pos, zero, suc, Bool, true, false, not, ◌&&◌, T, List, [], ◌∷◌, ◌++◌, Option, Some, None, inl, inr, is_some, neg_ℤ, int_le, length, take, drop, get_or, refl, sym, ap, subst, ◌∙◌, cond, arith}
+use Rattle.std.proofs.Common.{◌≡◌, ◌⊎◌, ◌<◌, ◌+◌, ◌+ℤ◌, ℕ, ℤ, pos, zero, suc, Bool, true, false, not, ◌&&◌, T, List, [], ◌∷◌, ◌++◌, Option, Some, None, inl, inr, is_some, neg_ℤ, int_le, length, take, drop, get_or, refl, sym, ap, subst, ◌∙◌, cond, arith}
 use Rattle.std.proofs.lemmas.List.{take_more, take-append-drop}
 use Rattle.std.proofs.lemmas.List.Elements.{filter-append}
 use Rattle.std.specs.List.{list_all}
 use Rattle.std.specs.Option.{option_map}
-use Rattle.std.specs.Ordering.{int_eq, is_lt}
+use Rattle.std.specs.Ordering.{is_lt}
 use Rattle.std.specs.FinMap.Entries.{is_sorted, below_all}
 use Rattle.osm_coords.specs.Latitude.{latitude}
 use Rattle.osm_coords.specs.Longitude.{longitude}
 use Rattle.osm_coords.specs.Range.{value_within}
 use Rattle.osm_elements.specs.declared.name.Name.{Name}
 use Rattle.osm_elements.specs.declared.element.Element.{Element}
-use Rattle.osm_elements.specs.declared.element.Element.TheVariants.{Node, Way, Relation}
+use Rattle.osm_elements.specs.declared.element.Element.TheVariants.{Node}
 use Rattle.osm_elements.specs.NameOrder.{name_cmp}
 use Rattle.osm_elements.specs.Maps.{Rows, least, lesser}
 use Rattle.osm_elements.specs.Rows.{row_at}
@@ -26,10 +26,9 @@ use Rattle.osm_changes.specs.Changes.{row_changes, rows_changes, AreChanges}
 use Rattle.edit_simple.specs.declared.refusal.Refusal.{Refusal}
 use Rattle.edit_simple.specs.declared.refusal.Refusal.TheVariants.{OutOfRange, Memory}
 use Rattle.edit_simple.specs.Inner.Moving.{row_leaves, moved_row}
-use Rattle.edit_simple.specs.Inner.Moves.{is_node_row, MayMove, leaving}
+use Rattle.edit_simple.specs.Inner.Moves.{MayMove, leaving}
 use Rattle.edit_simple.specs.Move.{moved_by}
 use Rattle.edit_simple.specs.Facts.Lists.{drop_at}
-use Rattle.edit_simple.specs.Facts.Moving.{elsewhere}
 use Rattle.edit_simple.specs.Facts.ChangesInTurn.{one_fits}
 use Rattle.edit_simple.specs.Facts.FirstUsers.{min_below}
 use Rattle.edit_simple.specs.Facts.LeastNames.{min_assoc}
@@ -61,12 +60,6 @@ all_at p (y ∷ ys) zero x h l is = ap p is ∙ first_true (p y) (list_all p ys)
 all_at p (y ∷ ys) (suc i) x h l is = all_at p ys i x (second_true (p y) (list_all p ys) h) (omega (arith, l)) is
 
 module _ {A : Type 0} (m : Rows A) (dlat dlon : ℤ) where
-  pub moved_apart : (o : Option (Element A)) → (int_eq dlat (pos 0) && int_eq dlon (pos 0)) ≡ false → is_node_row o ≡ true → option_map (moved_by dlat dlon) o ≢ o
-  moved_apart None far h = absurd (cc)
-  moved_apart (Some (Node lat lon tags)) far h = elsewhere lat lon dlat dlon tags far
-  moved_apart (Some (Way nodes tags)) far h = absurd (cc)
-  moved_apart (Some (Relation members tags)) far h = absurd (cc)
-
   -- the changes of one more node
   module _ (xs : List Name) (i : ℕ) (x : Name) (l : i < length xs) (is : x ≡ get_or xs i x) where
     pub push_fits : (cs : List (Change A)) (o p : Option (Element A)) → MayMove m xs dlat dlon → cs ≡ rows_changes m (moved_row m dlat dlon) (take i xs) → o ≡ row_at m x → p ≡ moved_row m dlat dlon x

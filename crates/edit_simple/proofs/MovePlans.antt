@@ -22,9 +22,7 @@ use Rattle.osm_elements.specs.Facts.Tests.{first_true, second_true}
 use Rattle.osm_refs.specs.Facts.RisingNames.{same_rising, IsRising-filter, IsRising-name_set, is_among-passing}
 use Rattle.osm_changes.specs.declared.change.Change.{Change}
 use Rattle.osm_changes.specs.Changes.{rows_changes, differences}
-use Rattle.osm_changes.specs.SameRows.{is_same_row}
 use Rattle.osm_changes.specs.Sound.{is_sound}
-use Rattle.osm_changes.specs.Facts.SameElements.{same_row}
 use Rattle.osm_changes.specs.Facts.SoundRows.{sound_in_order}
 use Rattle.edit_simple.specs.declared.refusal.Refusal.{Refusal}
 use Rattle.edit_simple.specs.declared.refusal.Refusal.TheVariants.{Absent, WrongKind, OutOfRange, Nothing}
@@ -35,13 +33,12 @@ use Rattle.edit_simple.specs.Kinds.{is_relation}
 use Rattle.edit_simple.specs.Move.{is_moved, moved_by, is_out_of_range, left_range, move_checks, after_move, moves}
 use Rattle.edit_simple.specs.Contents.{nodes_of}
 use Rattle.edit_simple.specs.Plans.{IsPlan}
-use Rattle.edit_simple.specs.Facts.Differences.{rows_differing, apart_rows}
+use Rattle.osm_changes.specs.Facts.DifferingRows.{rows_covering}
 use Rattle.edit_simple.specs.Facts.EachRow.{row_at-each_row}
 use Rattle.edit_simple.specs.Facts.Kinds.{sound_kind, node_there}
 use Rattle.edit_simple.specs.Facts.Lists.{is_among_own, all_listed, all_from}
 use Rattle.edit_simple.specs.Facts.Relisting.{all_present}
 use Rattle.edit_simple.specs.Facts.Rewriting.{fine}
-use Rattle.edit_simple.proofs.MoveLoops.{moved_apart}
 use Rattle.osm_changes.specs.Facts.PassingRows.{passes_at, among_rows, rising_names}
 
 apart : (a s t u v : Bool) → (a && ((s || u) || (t || v))) ≡ ((a && (s || t)) || (a && (u || v)))
@@ -162,19 +159,10 @@ module _ {A : Type 0} (m : Rows A) (sound : is_sound m ≡ true) where
       kept None = refl
       kept (Some v) = refl
 
-      set_differs : (y : Name) → is_among (name_set (all_moved m list)) y ≡ not (is_same_row (row_at m y) (row_at (after_move m list dlat dlon) y))
-      set_differs y = among_set y ∙ by (is_moved m list y) refl
-        where
-          by : (b : Bool) → is_moved m list y ≡ b → b ≡ not (is_same_row (row_at m y) (row_at (after_move m list dlat dlon) y))
-          by true e =
-              sym (ap not (apart_rows (row_at m y) (row_at (after_move m list dlat dlon) y)
-              (λ f. moved_apart m dlat dlon (row_at m y) far (node_row y (among_set y ∙ e)) (sym (row_after y true e) ∙ f))))
-          by false e = sym (ap (λ o. not (is_same_row (row_at m y) o)) (row_after y false e ∙ kept (row_at m y)) ∙ ap not (same_row (row_at m y)))
-
       changes_are : rows_changes m (moved_row m dlat dlon) (name_set (all_moved m list)) ≡ differences m (after_move m list dlat dlon)
       changes_are =
-          rows_differing m (after_move m list dlat dlon) (moved_row m dlat dlon) (name_set (all_moved m list)) (IsRising-name_set (all_moved m list)) set_differs
-          (λ y i. sym (row_after y true (sym (among_set y) ∙ i)))
+          rows_covering m (after_move m list dlat dlon) (moved_row m dlat dlon) (name_set (all_moved m list)) (IsRising-name_set (all_moved m list))
+          (λ y out. row_after y false (sym (among_set y) ∙ out) ∙ kept (row_at m y)) (λ y i. sym (row_after y true (sym (among_set y) ∙ i)))
 
       pub move_planned : None ≡ least (filter (λ e. is_relation e.kind) list) → None ≡ least (filter (is_absent m) list) → nat_eq (length list) 0 ≡ false
           → (r : Result (List (Change A)) (Refusal A)) → IsMoved m (name_set (all_moved m list)) dlat dlon r → IsPlan m (move_checks m list dlat dlon) (after_move m list dlat dlon) r

@@ -1,5 +1,5 @@
 -- The plan of a purge: which rows change, and how.
-use Rattle.std.proofs.Common.{◌≡◌, ◌≢◌, ℕ, Bool, true, false, not, ◌&&◌, ◌||◌, List, [], ◌∷◌, Option, Some, None, Ok, is_some, length, map, nat_lt, refl, sym, ap, subst, ◌∙◌, cond}
+use Rattle.std.proofs.Common.{◌≡◌, ℕ, Bool, true, false, not, ◌&&◌, ◌||◌, List, [], ◌∷◌, Option, Some, None, Ok, length, map, nat_lt, refl, sym, ap, ◌∙◌, cond}
 use Rattle.std.specs.Bool.{then_some}
 use Rattle.std.specs.List.{filter, flat_map}
 use Rattle.std.specs.Option.{option_map}
@@ -18,32 +18,20 @@ use Rattle.osm_refs.specs.Facts.MapTables.{users_in-table_of}
 use Rattle.osm_refs.specs.Facts.RisingNames.{IsRising-name_set, is_among-passing}
 use Rattle.osm_changes.specs.declared.change.Change.{Change}
 use Rattle.osm_changes.specs.Changes.{rows_changes, differences}
-use Rattle.osm_changes.specs.SameRows.{is_same_row}
 use Rattle.osm_changes.specs.Sound.{is_sound}
-use Rattle.osm_changes.specs.Facts.SameElements.{same_row}
 use Rattle.osm_changes.specs.Facts.SoundRows.{sound_in_order}
 use Rattle.edit_simple.specs.declared.refusal.Refusal.TheVariants.{Absent}
 use Rattle.edit_simple.specs.Checks.{first_that_holds}
-use Rattle.edit_simple.specs.Inner.Purging.{all_gone, all_reached, purged_row, MayPurge}
+use Rattle.edit_simple.specs.Inner.Purging.{all_gone, all_reached, purged_row}
 use Rattle.edit_simple.specs.Contents.{nodes_of, with_nodes, with_members}
 use Rattle.edit_simple.specs.Plans.{IsPlan}
 use Rattle.edit_simple.specs.Purge.{without, falls_short, goes, what_is_left, purge_checks, after_purge}
-use Rattle.edit_simple.specs.Facts.Differences.{rows_differing, apart_rows}
-use Rattle.edit_simple.specs.Facts.Lists.{or_left, or_right, is_among_own, all_from}
-use Rattle.edit_simple.specs.Facts.Purging.{row_at-after_purge, x_goes, is_gone, purge_sound, without_none}
-use Rattle.edit_simple.specs.Facts.Rewriting.{fine}
+use Rattle.osm_changes.specs.Facts.DifferingRows.{rows_covering}
+use Rattle.edit_simple.specs.Facts.Lists.{or_left, or_right, is_among_own}
+use Rattle.edit_simple.specs.Facts.Purging.{row_at-after_purge, x_goes, without_none}
 use Rattle.osm_changes.specs.Facts.PassingRows.{passes_at, among_rows}
 
 -- ---- lists of lists
-
-from_flat_map : (f : Name → List Name) (xs : List Name) (y : Name) → is_among (flat_map f xs) y ≡ true → (u : Name) × (is_among xs u ≡ true) × (is_among (f u) y ≡ true)
-from_flat_map f [] y h = absurd (cc)
-from_flat_map f (x ∷ xs) y h = by (is_among (f x) y) refl (sym (is_among-append y (f x) (flat_map f xs)) ∙ h) (from_flat_map f xs y)
-  where
-    by : (b : Bool) → is_among (f x) y ≡ b → (b || is_among (flat_map f xs) y) ≡ true
-        → (is_among (flat_map f xs) y ≡ true → (u : Name) × (is_among xs u ≡ true) × (is_among (f u) y ≡ true)) → (u : Name) × (is_among (x ∷ xs) u ≡ true) × (is_among (f u) y ≡ true)
-    by true e g rest = (x, is_among_own x xs, e)
-    by false e g rest = let r = rest g in (r.0, or_right (is_same r.0 x) (is_among xs r.0) r.1, r.2)
 
 to_flat_map : (f : Name → List Name) (xs : List Name) (u y : Name) → is_among xs u ≡ true → is_among (f u) y ≡ true → is_among (flat_map f xs) y ≡ true
 to_flat_map f [] u y i j = absurd (cc)
@@ -67,13 +55,6 @@ module _ {A : Type 0} (m : Rows A) (x : Name) (sound : is_sound m ≡ true) wher
   among_users : (e y : Name) → is_among (users m e) y ≡ passes_at (λ r. refers_to r.1 e) y (row_at m y)
   among_users e y = among_rows (λ r. refers_to r.1 e) m (sound_in_order m sound) y
 
-  user_there : (e y : Name) → is_among (users m e) y ≡ true → is_present m y ≡ true
-  user_there e y uses = by (row_at m y) (sym (among_users e y) ∙ uses)
-    where
-      by : (o : Option (Element A)) → passes_at (λ r. refers_to r.1 e) y o ≡ true → is_some o ≡ true
-      by None h = absurd (cc)
-      by (Some v) h = refl
-
   -- a way that would be too short is a user
   short_is_user : (e : Name) → falls_short x (nodes_of (row_at m e)) ≡ true → is_among (users m x) e ≡ true
   short_is_user e short = among_users x e ∙ by (row_at m e) short
@@ -83,14 +64,6 @@ module _ {A : Type 0} (m : Rows A) (x : Name) (sound : is_sound m ≡ true) wher
       by (Some (Node lat lon tags)) h = absurd (cc)
       by (Some (Way nodes tags)) h = first_true (is_among nodes x) (nat_lt (length (without x nodes)) 2) h
       by (Some (Relation members tags)) h = absurd (cc)
-
-  -- a row that refers to a removed name changes, because the map after is sound
-  user_changes : (e y : Name) → goes m x e ≡ true → is_among (users m e) y ≡ true → row_at (after_purge m x) y ≢ row_at m y
-  user_changes e y gone uses same = by (row_at m y) refl (sym (among_users e y) ∙ uses)
-    where
-      by : (o : Option (Element A)) → row_at m y ≡ o → passes_at (λ r. refers_to r.1 e) y o ≡ true → ⊥
-      by None is h = cc
-      by (Some v) is h = cc (sym ((fine (after_purge m x) (purge_sound m x sound) y v (same ∙ is)).refs e h) ∙ ap is_some (is_gone m x e gone))
 
   -- ---- the removed names
 
@@ -140,18 +113,6 @@ module _ {A : Type 0} (m : Rows A) (x : Name) (sound : is_sound m ≡ true) wher
       by true s h = or_left (is_same y x) (is_among (flat_map met (users m x)) y) (same_either_way y x ∙ s)
       by false s h = reaches x y (x_goes m x) (short_is_user y h)
 
-  -- a reached name is the purged name or a user of a removed name
-  reached_from : (y : Name) → is_among reached y ≡ true → is_same y x ≡ false → (e : Name) × (goes m x e ≡ true) × (is_among (users m e) y ≡ true)
-  reached_from y i other =
-      let f = from_flat_map met (users m x) y (ap (λ b. b || is_among (flat_map met (users m x)) y) (sym other) ∙ i) in
-      by f.0 f.1 (is_same y f.0) refl (goes m x f.0) refl f.2
-    where
-      by : (u : Name) → is_among (users m x) u ≡ true → (s : Bool) → is_same y u ≡ s → (b : Bool) → goes m x u ≡ b → (s || is_among (cond b (users m u) []) y) ≡ true
-          → (e : Name) × (goes m x e ≡ true) × (is_among (users m e) y ≡ true)
-      by u j true s b g h = (x, x_goes m x, ap (is_among (users m x)) (same_names y u s) ∙ j)
-      by u j false s true g h = (u, g, h)
-      by u j false s false g h = absurd (cc)
-
   -- ---- all other rows stay
 
   module _ (y : Name) (out : is_among reached y ≡ false) where
@@ -185,43 +146,14 @@ module _ {A : Type 0} (m : Rows A) (x : Name) (sound : is_sound m ≡ true) wher
         by None is = refl
         by (Some v) is = ap Some (same_element v is)
 
-  -- ---- each reached row changes
+  -- ---- the plan
 
   module _ (here : is_present m x ≡ true) where
-    reached_there : (y : Name) → is_among reached y ≡ true → is_present m y ≡ true
-    reached_there y i = by (is_same y x) refl
-      where
-        by : (b : Bool) → is_same y x ≡ b → is_present m y ≡ true
-        by true s = ap (is_present m) (same_names y x s) ∙ here
-        by false s = let f = reached_from y i s in user_there f.0 y f.2
-
-    becomes_other : (y : Name) → is_among reached y ≡ true → row_at (after_purge m x) y ≢ row_at m y
-    becomes_other y i same = by (is_same y x) refl
-      where
-        by : (b : Bool) → is_same y x ≡ b → ⊥
-        by true s =
-            cc (sym here ∙ ap (is_present m) (sym (same_names y x s)) ∙ ap is_some (sym same ∙ ap (row_at (after_purge m x)) (same_names y x s) ∙ is_gone m x x (x_goes m x)))
-        by false s = let f = reached_from y i s in user_changes f.0 y f.1 f.2 same
-
-    set_differs : (y : Name) → is_among (name_set reached) y ≡ not (is_same_row (row_at m y) (row_at (after_purge m x) y))
-    set_differs y = is_among-name_set y reached ∙ by (is_among reached y) refl
-      where
-        by : (b : Bool) → is_among reached y ≡ b → b ≡ not (is_same_row (row_at m y) (row_at (after_purge m x) y))
-        by true e = sym (ap not (apart_rows (row_at m y) (row_at (after_purge m x) y) (becomes_other y e)))
-        by false e = sym (ap (λ o. not (is_same_row (row_at m y) o)) (stays y e) ∙ ap not (same_row (row_at m y)))
-
-    may_purge : MayPurge m gone x (name_set reached)
-    may_purge = record {
-      rising = IsRising-name_set reached;
-      there = all_from (is_present m) (name_set reached) (λ y i. reached_there y (sym (is_among-name_set y reached) ∙ i));
-      apart = λ y i e. becomes_other y (sym (is_among-name_set y reached) ∙ i) (sym (row_is y) ∙ e);
-    }
-
     changes_are : rows_changes m (purged_row m gone x) (name_set reached) ≡ differences m (after_purge m x)
-    changes_are = rows_differing m (after_purge m x) (purged_row m gone x) (name_set reached) (IsRising-name_set reached) set_differs (λ y i. row_is y)
+    changes_are = rows_covering m (after_purge m x) (purged_row m gone x) (name_set reached) (IsRising-name_set reached)
+        (λ y out. stays y (sym (is_among-name_set y reached) ∙ out)) (λ y i. row_is y)
 
-    -- ---- the plan, with the names that the code finds
-
+    -- with the names that the code finds
     module _ (known : Table) (known_is : known ≡ table_of m) (its keys names : List Name) (its_are : its ≡ users_in known x) (keys_are : keys ≡ name_set (all_gone m its x))
         (names_are : names ≡ name_set (all_reached known keys x)) where
       keys_gone : keys ≡ gone
@@ -229,9 +161,6 @@ module _ {A : Type 0} (m : Rows A) (x : Name) (sound : is_sound m ≡ true) wher
 
       names_reached : names ≡ name_set reached
       names_reached = names_are ∙ (λ i. name_set (all_reached (known_is i) (keys_gone i) x)) ∙ ap name_set reached_is
-
-      pub found_may : MayPurge m keys x names
-      found_may = subst (λ k. MayPurge m k x names) (sym keys_gone) (subst (λ l. MayPurge m gone x l) (sym names_reached) may_purge)
 
       pub purge_planned : (cs : List (Change A)) → cs ≡ rows_changes m (purged_row m keys x) names → IsPlan m (purge_checks m x) (after_purge m x) (Ok cs)
       purge_planned cs is =

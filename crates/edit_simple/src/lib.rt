@@ -5,7 +5,7 @@
 //! in place of a refusal that needs no memory. A plan leaves its draft unchanged. [`laws`] has the laws of the actions.
 //!
 //! A function that cannot return `Memory` allocates nothing. `Memory` is also returned if a shared value of an element
-//! has 2^63 owners. [`lookup`], [`ways`] and [`kinds`] are public because the plans of `edit_topology` use them.
+//! has 2^63 owners. [`lookup`], [`ways`], [`kinds`] and [`row_change`] are public because the plans of `edit_topology` use them.
 //! [`soundness`] finds the first row of a map that is not sound.
 #![tactic(auto)]
 
@@ -27,5 +27,6 @@ pub mod refusal;
 pub mod retag;
 mod retagging;
 mod reverse;
+pub mod row_change;
 pub mod soundness;
 pub mod ways;

@@ -20,6 +20,7 @@ use osm_drafts::draft::Draft;
 use osm_elements::Memory;
 use osm_elements::element::Element;
 use osm_elements::name::Name;
+use osm_refs::name_set::name_set;
 use std::alloc::Allocator;
 
 /// Plans to move nodes and the nodes of ways.
@@ -91,10 +92,7 @@ fn all_moved<A: Allocator>(
 ) -> Result<Vec<Name, A>, Memory>
     ensures { IfOk result (λ moved. moved.items ≡ name_set (all_moved rows.now names.now)) }
 {
-    let mut moved = listed(alloc, rows, names)?;
-    moved.sort_unstable();
-    moved.dedup();
-    Ok(moved)
+    name_set(listed(alloc, rows, names)?)
 }
 
 // Returns the listed nodes and the nodes of listed ways, in the order of the list.

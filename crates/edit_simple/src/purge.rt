@@ -1,14 +1,13 @@
 //! The plan of a purge.
-ghost use Rattle.std.specs.Prelude.{◌≡◌, ◌++◌, [], ◌∷◌, true, not, map, IfOk, OnOk, Some};
+ghost use Rattle.std.specs.Prelude.{◌≡◌, ◌++◌, [], ◌∷◌, true, not, map, IfOk, OnOk};
 ghost use Rattle.std.specs.List.{filter};
-ghost use Rattle.osm_elements.specs.Maps.{is_among, is_present, name_set};
+ghost use Rattle.osm_elements.specs.Maps.{is_among, name_set};
 ghost use Rattle.osm_elements.specs.Members.{member_pair};
 ghost use Rattle.osm_elements.specs.Nodes.{AreNodes};
 ghost use Rattle.osm_elements.specs.Rows.{row_at};
-ghost use Rattle.osm_changes.specs.Changes.{rows_changes};
 ghost use Rattle.osm_refs.specs.Tables.{users_in, table_of};
 ghost use Rattle.osm_changes.specs.Sound.{is_sound};
-ghost use Rattle.edit_simple.specs.Inner.Purging.{reached_with, all_reached, all_gone, left_of, row_left, purged_row, MayPurge};
+ghost use Rattle.edit_simple.specs.Inner.Purging.{reached_with, all_reached, all_gone, left_of, row_left};
 ghost use Rattle.edit_simple.specs.Contents.{nodes_of};
 ghost use Rattle.edit_simple.specs.Plans.{IsNamed, IsPlan};
 ghost use Rattle.edit_simple.specs.Purge.{without, falls_short, purge_checks, after_purge};
@@ -16,6 +15,7 @@ ghost use Rattle.edit_simple.specs.Purge.{without, falls_short, purge_checks, af
 use crate::cut_short::is_cut_short;
 use crate::lookup::is_present;
 use crate::refusal::Refusal;
+use crate::row_change::{RowChange, change_rows};
 use osm_changes::changes::Changes;
 use osm_drafts::draft::Draft;
 use osm_elements::Memory;
@@ -26,6 +26,7 @@ use osm_elements::name::Name;
 use osm_elements::names::{Names, is_same};
 use osm_elements::nodes::Nodes;
 use osm_elements::shared::Shared;
+use osm_refs::name_set::name_set;
 use std::alloc::Allocator;
 use std::collections::BTreeSet;
 
@@ -46,7 +47,11 @@ pub fn plan<A: Allocator + Clone>(
     let its_users = users_of(alloc.clone()?, rows, name)?;
     let gone = all_gone(alloc.clone()?, rows, its_users.as_slice(), name)?;
     let reached = all_reached(alloc.clone()?, rows, &gone, name)?;
-    Ok(change_all(alloc, rows, &gone, name, &reached)?)
+    let purge = Purge {
+        gone: &gone,
+        purged: name,
+    };
+    Ok(change_rows(alloc, rows, &reached, &purge)?)
 }
 
 // Returns the names that refer to a name.
@@ -96,10 +101,7 @@ fn all_reached<A: Allocator + Clone>(
     ensures { IfOk result
         (λ reached. reached.items ≡ name_set (all_reached (table_of rows.now) gone.now.keys purged.now)) }
 {
-    let mut reached = listed(alloc, rows, gone, purged)?;
-    reached.sort_unstable();
-    reached.dedup();
-    Ok(reached)
+    name_set(listed(alloc, rows, gone, purged)?)
 }
 
 // Returns the same names in the order in which they are found, with repetitions.
@@ -146,60 +148,29 @@ fn goes<A: Allocator>(gone: &BTreeSet<Name, A>, name: &Name) -> bool
     gone.contains(name)
 }
 
-// Returns the changes of the names whose rows change.
-fn change_all<A: Allocator + Clone>(
-    alloc: A,
-    rows: &Draft<'_, A>,
-    gone: &BTreeSet<Name, A>,
-    purged: &Name,
-    reached: &[Name],
-) -> Result<Changes<A>, Memory>
-    requires { MayPurge rows.now gone.now.keys purged.now reached.now }
-    ensures { IfOk result (λ cs.
-        cs ≡ rows_changes rows.now (purged_row rows.now gone.now.keys purged.now) reached.now) }
-{
-    let mut changes = Changes::empty(alloc.clone()?);
-    for name in reached {
-        let (before, after) = rows_of(&alloc, rows, gone, purged, name)?;
-        changes.push_row(*name, Some(before), after)?;
-    }
-    Ok(changes)
+// What a purge leaves of each row.
+#[derive(Drop)]
+struct Purge<'p, A: Allocator> {
+    gone: &'p BTreeSet<Name, A>,
+    purged: &'p Name,
 }
 
-// Returns the element of a name before the purge and after it. `None` means that the name is removed.
-fn rows_of<A: Allocator + Clone>(
-    alloc: &A,
-    rows: &Draft<'_, A>,
-    gone: &BTreeSet<Name, A>,
-    purged: &Name,
-    name: &Name,
-) -> Result<(Element<A>, Option<Element<A>>), Memory>
-    requires { is_present rows.now name.now ≡ true }
-    ensures { IfOk result (λ row. (Some row.0 ≡ row_at rows.now name.now)
-        × (row.1 ≡ purged_row rows.now gone.now.keys purged.now name.now)) }
-{
-    let Some(element) = rows.get(name) else {
-        unreachable!()
-    };
-    let before = element.copy()?;
-    let after = row_left(alloc, gone, purged, name, element)?;
-    Ok((before, after))
-}
+impl<A: Allocator + Clone> RowChange<A> for Purge<'_, A> {
+    ghost becomes = { λ p y row. row_left p.gone.now.keys p.purged.now y row };
 
-// Returns the element of a name after the purge. `None` means that the name is removed.
-fn row_left<A: Allocator + Clone>(
-    alloc: &A,
-    gone: &BTreeSet<Name, A>,
-    purged: &Name,
-    name: &Name,
-    element: &Element<A>,
-) -> Result<Option<Element<A>>, Memory>
-    ensures { IfOk result (λ after. after ≡ row_left gone.now.keys purged.now name.now (Some element.now)) }
-{
-    if goes(gone, name) {
-        return Ok(None);
+    fn after(
+        &self,
+        alloc: &A,
+        name: &Name,
+        row: Option<&Element<A>>,
+    ) -> Result<Option<Element<A>>, Memory> {
+        match row {
+            Some(element) if !goes(self.gone, name) => {
+                Ok(Some(element_left(alloc, self.gone, self.purged, element)?))
+            }
+            _ => Ok(None),
+        }
     }
-    Ok(Some(element_left(alloc, gone, purged, element)?))
 }
 
 // Returns an element that stays, without its removed references.

@@ -1,50 +1,34 @@
 -- Plans of joins: which rows change, and what they become.
-use Rattle.std.proofs.Common.{◌≡◌, ◌≢◌, ◌≤◌, ◌+◌, Bool, true, false, not, ◌||◌, List, ◌∷◌, Option, Some, None, Ok, is_some, length, drop, nat_le, refl, sym, ap, subst, ◌∙◌, cond, arith, length-append}
-use Rattle.std.proofs.lemmas.Bool.Decides.{nat_tests}
-use Rattle.std.proofs.lemmas.List.{length-drop}
+use Rattle.std.proofs.Common.{◌≡◌, Bool, true, false, ◌||◌, List, ◌∷◌, Option, Some, None, Ok, refl, sym, ap, ◌∙◌, cond}
 use Rattle.std.specs.Option.{option_map}
 use Rattle.osm_elements.specs.declared.name.Name.{Name}
 use Rattle.osm_elements.specs.declared.element.Element.{Element}
 use Rattle.osm_elements.specs.declared.element.Element.TheVariants.{Way}
-use Rattle.osm_elements.specs.Maps.{Rows, is_same, is_among, is_present, name_set}
+use Rattle.osm_elements.specs.Maps.{Rows, is_same, is_among, name_set}
 use Rattle.osm_elements.specs.Rows.{row_at}
 use Rattle.osm_elements.specs.TagRows.{Pairs}
 use Rattle.osm_elements.specs.Facts.Among.{is_among-name_set}
 use Rattle.osm_elements.specs.Facts.Dropped.{same_either_way}
 use Rattle.osm_elements.specs.Facts.Rows.{same_names, is_eq-name_cmp_itself}
-use Rattle.osm_elements.specs.Facts.Tests.{first_true}
 use Rattle.osm_refs.specs.References.{refers_to, row_references, users}
 use Rattle.osm_refs.specs.Facts.RisingNames.{IsRising-name_set}
 use Rattle.osm_changes.specs.declared.change.Change.{Change}
 use Rattle.osm_changes.specs.Changes.{rows_changes, differences}
-use Rattle.osm_changes.specs.SameRows.{is_same_row}
 use Rattle.osm_changes.specs.Sound.{is_sound}
-use Rattle.osm_changes.specs.Facts.SameElements.{same_row}
 use Rattle.osm_changes.specs.Facts.SoundRows.{sound_in_order}
 use Rattle.edit_simple.specs.Checks.{first_that_holds}
 use Rattle.edit_simple.specs.Contents.{nodes_of, row_tags, with_members}
 use Rattle.edit_simple.specs.Plans.{IsPlan}
-use Rattle.edit_simple.specs.Facts.Differences.{rows_differing, apart_rows}
+use Rattle.osm_changes.specs.Facts.DifferingRows.{rows_covering}
 use Rattle.edit_simple.specs.Facts.Kinds.{way_there}
-use Rattle.edit_simple.specs.Facts.Lists.{all_from}
 use Rattle.osm_changes.specs.Facts.PassingRows.{passes_at, among_rows}
-use Rattle.edit_simple.specs.Facts.Rewriting.{fine}
 use Rattle.edit_topology.specs.BothTags.{both_tags}
-use Rattle.edit_topology.specs.Inner.Joining.{way_of_both, row_joined, MayJoin}
+use Rattle.edit_topology.specs.Inner.Joining.{way_of_both, row_joined}
 use Rattle.edit_topology.specs.Join.{end_to_end, joined_members, join_checks, after_join, lengthened, join_row}
-use Rattle.edit_topology.specs.Facts.Changing.{join_changes}
 use Rattle.edit_topology.specs.Facts.EachBut.{row_at-each_but}
 use Rattle.edit_topology.specs.Facts.Joining.{Joins, joins}
 use Rattle.edit_topology.specs.Facts.Lists.{or_first, or_second}
 use Rattle.edit_topology.specs.Facts.Staying.{join_leaves}
-
--- a list gets longer by a list of at least two names
-longer : (one other : List Name) → nat_le 2 (length other) ≡ true → length (end_to_end one other) ≡ length one → ⊥
-longer one other two same =
-    let both : length (end_to_end one other) ≡ length one + length (drop 1 other) = length-append one (drop 1 other) in
-    let rest = length-drop 1 other in
-    let more : 2 ≤ length other = grind (arith, nat_tests) in
-    omega arith
 
 module _ {A : Type 0} (m : Rows A) (w v : Name) (sound : is_sound m ≡ true) (ok : first_that_holds (join_checks m w v) ≡ None) where
   j : Joins m w v
@@ -61,13 +45,6 @@ module _ {A : Type 0} (m : Rows A) (w v : Name) (sound : is_sound m ≡ true) (o
       by : (o : Option (Element A)) → passes_at (λ r. refers_to r.1 v) y o ≡ is_among (row_references o) v
       by None = refl
       by (Some u) = refl
-
-  user_there : (y : Name) → is_among (users m v) y ≡ true → is_present m y ≡ true
-  user_there y uses = by (row_at m y) (sym (user_refers y) ∙ uses)
-    where
-      by : (o : Option (Element A)) → is_among (row_references o) v ≡ true → is_some o ≡ true
-      by None h = absurd (cc)
-      by (Some u) h = refl
 
   -- ---- what rows become
 
@@ -89,7 +66,7 @@ module _ {A : Type 0} (m : Rows A) (w v : Name) (sound : is_sound m ≡ true) (o
   after_v : row_at n v ≡ None
   after_v = row_at-each_but m v (join_row m w v) v ∙ ap (λ b. option_map (join_row m w v v) (cond b None (row_at m v))) (is_eq-name_cmp_itself v)
 
-  row_is : (y : Name) → row_joined m w v (Some (way_of_both m w v)) y ≡ row_at n y
+  row_is : (y : Name) → row_joined m w v (way_of_both m w v) y ≡ row_at n y
   row_is y = by (is_same y w) refl (is_same y v) refl
     where
       left : (o : Option (Element A)) → is_same w y ≡ false → option_map (with_members (joined_members w v)) o ≡ option_map (join_row m w v y) o
@@ -108,57 +85,15 @@ module _ {A : Type 0} (m : Rows A) (w v : Name) (sound : is_sound m ≡ true) (o
   abbrev changing : List Name
   changing = w ∷ v ∷ users m v
 
-  which : (X : Type 0) → (y : Name) → is_among changing y ≡ true → (is_same y w ≡ true → X) → (is_same y v ≡ true → X) → (is_among (users m v) y ≡ true → X) → X
-  which X y i f g h = by (is_same y w) refl (is_same y v) refl i
-    where
-      by : (s : Bool) → is_same y w ≡ s → (t : Bool) → is_same y v ≡ t → (s || (t || is_among (users m v) y)) ≡ true → X
-      by true e t d k = f e
-      by false e true d k = g d
-      by false e false d k = h k
-
-  changing_there : (y : Name) → is_among changing y ≡ true → is_present m y ≡ true
-  changing_there y i =
-      which (is_present m y ≡ true) y i (λ e. ap (is_present m) (same_names y w e) ∙ j.here_w) (λ e. ap (is_present m) (same_names y v e) ∙ j.here_v) (user_there y)
-
   stays : (y : Name) → is_among changing y ≡ false → row_at n y ≡ row_at m y
   stays y out =
       let rest : (is_same y v || is_among (users m v) y) ≡ false = or_second (is_same y w) (is_same y v || is_among (users m v) y) out in
       join_leaves m w v y (or_first (is_same y w) (is_same y v || is_among (users m v) y) out) (or_first (is_same y v) (is_among (users m v) y) rest)
       (sym (user_refers y) ∙ or_second (is_same y v) (is_among (users m v) y) rest)
 
-  w_changes : row_at n w ≢ row_at m w
-  w_changes same =
-      longer own_row.0 j.others
-      (first_true (nat_le 2 (length j.others)) (nat_le (length j.others) 2000) (fine m sound v (Way j.others j.tags) j.row).lengthy)
-      (λ i. length (nodes i))
-    where
-      nodes : end_to_end own_row.0 j.others ≡ own_row.0
-      nodes =
-          (λ i. end_to_end (nodes_of (sym own_row.2 i)) (nodes_of (sym j.row i))) ∙ ap nodes_of (sym after_w ∙ same ∙ own_row.2)
-
-  becomes_other : (y : Name) → is_among changing y ≡ true → row_at n y ≢ row_at m y
-  becomes_other y i =
-      which (row_at n y ≢ row_at m y) y i
-      (λ e same. w_changes (ap (row_at n) (sym (same_names y w e)) ∙ same ∙ ap (row_at m) (same_names y w e)))
-      (λ e same. cc (sym j.here_v ∙ ap is_some (ap (row_at m) (sym (same_names y v e)) ∙ sym same ∙ ap (row_at n) (same_names y v e) ∙ after_v)))
-      (λ uses. join_changes m w v y sound ok (sym (user_refers y) ∙ uses))
-
-  set_differs : (y : Name) → is_among (name_set changing) y ≡ not (is_same_row (row_at m y) (row_at n y))
-  set_differs y = is_among-name_set y changing ∙ by (is_among changing y) refl
-    where
-      by : (b : Bool) → is_among changing y ≡ b → b ≡ not (is_same_row (row_at m y) (row_at n y))
-      by true e = sym (ap not (apart_rows (row_at m y) (row_at n y) (becomes_other y e)))
-      by false e = sym (ap (λ o. not (is_same_row (row_at m y) o)) (stays y e) ∙ ap not (same_row (row_at m y)))
-
-  may_join : MayJoin m w v (way_of_both m w v) (name_set changing)
-  may_join = record {
-    rising = IsRising-name_set changing;
-    there = all_from (is_present m) (name_set changing) (λ y i. changing_there y (sym (is_among-name_set y changing) ∙ i));
-    apart = λ y i e. becomes_other y (sym (is_among-name_set y changing) ∙ i) (sym (row_is y) ∙ e);
-  }
-
-  changes_are : rows_changes m (row_joined m w v (Some (way_of_both m w v))) (name_set changing) ≡ differences m n
-  changes_are = rows_differing m n (row_joined m w v (Some (way_of_both m w v))) (name_set changing) (IsRising-name_set changing) set_differs (λ y i. row_is y)
+  changes_are : rows_changes m (row_joined m w v (way_of_both m w v)) (name_set changing) ≡ differences m n
+  changes_are = rows_covering m n (row_joined m w v (way_of_both m w v)) (name_set changing) (IsRising-name_set changing)
+      (λ y out. stays y (sym (is_among-name_set y changing) ∙ out)) (λ y i. row_is y)
 
   -- ---- the plan, with the way and the names as they are found
 
@@ -166,8 +101,5 @@ module _ {A : Type 0} (m : Rows A) (w v : Name) (sound : is_sound m ≡ true) (o
     names_changing : names ≡ name_set changing
     names_changing = names_are ∙ ap (λ l. name_set (w ∷ v ∷ l)) its_are
 
-    pub found_may : MayJoin m w v joined names
-    found_may = subst (λ (u : Element A). MayJoin m w v u names) (sym is_way_of) (subst (λ l. MayJoin m w v (way_of_both m w v) l) (sym names_changing) may_join)
-
-    pub join_planned : (cs : List (Change A)) → cs ≡ rows_changes m (row_joined m w v (Some joined)) names → IsPlan m (join_checks m w v) (after_join m w v) (Ok cs)
-    join_planned cs is = (ok, is ∙ (λ i. rows_changes m (row_joined m w v (Some (is_way_of i))) (names_changing i)) ∙ changes_are)
+    pub join_planned : (cs : List (Change A)) → cs ≡ rows_changes m (row_joined m w v joined) names → IsPlan m (join_checks m w v) (after_join m w v) (Ok cs)
+    join_planned cs is = (ok, is ∙ (λ i. rows_changes m (row_joined m w v (is_way_of i)) (names_changing i)) ∙ changes_are)

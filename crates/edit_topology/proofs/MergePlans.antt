@@ -1,5 +1,5 @@
 -- Plans of merges: which check holds first, which rows change, and what they become.
-use Rattle.std.proofs.Common.{◌≡◌, ◌≢◌, ◌⊎◌, ℕ, ℤ, Bool, true, false, not, ◌&&◌, ◌||◌, T, List, [], ◌∷◌, ◌++◌, Option, Some, None, Result, Ok, Err, inl, inr, is_some, length, nat_lt, slice_get, refl, sym, ap, subst, ◌∙◌, cond, arith, take}
+use Rattle.std.proofs.Common.{◌≡◌, ◌⊎◌, ℕ, ℤ, Bool, true, false, ◌&&◌, ◌||◌, T, List, [], ◌∷◌, ◌++◌, Option, Some, None, Result, Ok, Err, inl, inr, length, nat_lt, slice_get, refl, sym, ap, subst, ◌∙◌, cond, arith, take}
 use Rattle.std.proofs.lemmas.Bool.Decides.{nat_tests}
 use Rattle.std.specs.FinMap.Entries.{is_sorted}
 use Rattle.std.specs.List.{filter, find, list_all}
@@ -9,7 +9,7 @@ use Rattle.osm_elements.specs.declared.name.Name.{Name}
 use Rattle.osm_elements.specs.declared.element.Element.{Element}
 use Rattle.osm_elements.specs.declared.element.Element.TheVariants.{Node, Way, Relation}
 use Rattle.osm_elements.specs.Elements.{tags_of}
-use Rattle.osm_elements.specs.Maps.{Rows, is_same, is_among, is_present, least, name_set}
+use Rattle.osm_elements.specs.Maps.{Rows, is_same, is_among, least, name_set}
 use Rattle.osm_elements.specs.Rows.{AreInOrder, row_at}
 use Rattle.osm_elements.specs.KeyedRows.{text_cmp}
 use Rattle.osm_elements.specs.TagRows.{Pairs}
@@ -20,9 +20,7 @@ use Rattle.osm_refs.specs.References.{refers_to, row_references, users}
 use Rattle.osm_refs.specs.Facts.RisingNames.{IsRising-filter, IsRising-name_set, is_among-passing, same_rising}
 use Rattle.osm_changes.specs.declared.change.Change.{Change}
 use Rattle.osm_changes.specs.Changes.{rows_changes, differences}
-use Rattle.osm_changes.specs.SameRows.{is_same_row}
 use Rattle.osm_changes.specs.Sound.{is_sound}
-use Rattle.osm_changes.specs.Facts.SameElements.{same_row}
 use Rattle.osm_changes.specs.Facts.SoundRows.{sound_in_order}
 use Rattle.edit_simple.specs.declared.refusal.Refusal.{Refusal}
 use Rattle.edit_simple.specs.declared.refusal.Refusal.TheVariants.{TagConflict, TooFew, Memory}
@@ -31,19 +29,17 @@ use Rattle.edit_simple.specs.Contents.{nodes_of, row_tags, with_nodes, with_memb
 use Rattle.edit_simple.specs.Plans.{IsPlan}
 use Rattle.edit_simple.specs.Facts.Checked.{rest_decides}
 use Rattle.edit_simple.specs.Facts.Checked.{nones}
-use Rattle.edit_simple.specs.Facts.Differences.{rows_differing, apart_rows}
+use Rattle.osm_changes.specs.Facts.DifferingRows.{rows_covering}
 use Rattle.edit_simple.specs.Facts.FirstUsers.{first_is_least}
 use Rattle.edit_simple.specs.Facts.Kinds.{node_there}
-use Rattle.edit_simple.specs.Facts.Lists.{all_from}
 use Rattle.osm_changes.specs.Facts.PassingRows.{passes_at, among_rows, rising_names}
 use Rattle.edit_simple.specs.Facts.Retagging.{tags_sorted}
 use Rattle.edit_topology.specs.BothTags.{both_tags, conflict}
-use Rattle.edit_topology.specs.Inner.Merging.{is_either, replaced, subjects, tag_checks, is_cut_short, merged_element, row_merged, MayMerge}
+use Rattle.edit_topology.specs.Inner.Merging.{is_either, replaced, subjects, tag_checks, is_cut_short, merged_element, row_merged}
 use Rattle.edit_topology.specs.Merge.{merged_nodes, shrunk, merge_checks, after_merge, united, merge_row}
 use Rattle.edit_topology.specs.Renaming.{renamed_members}
 use Rattle.edit_topology.specs.Facts.BothTags.{are_tags-row_tags}
-use Rattle.edit_topology.specs.Facts.Changing.{merge_changes}
-use Rattle.edit_topology.specs.Facts.EachBut.{row_at-each_but, each_but_gone}
+use Rattle.edit_topology.specs.Facts.EachBut.{row_at-each_but}
 use Rattle.edit_topology.specs.Facts.Merging.{Merges, merges}
 use Rattle.edit_topology.specs.Facts.Staying.{merge_leaves}
 use Rattle.edit_topology.proofs.MergeLists.{short_is, tags_stay}
@@ -237,22 +233,6 @@ module _ {A : Type 0} (m : Rows A) (k g : Name) (sound : is_sound m ≡ true) wh
         named : is_same y g ≡ false → is_same y k ≡ false → is_among (row_references (row_at m y)) g ≡ true → row_merged m k g both y ≡ row_at n y
         named e f h = stays e ∙ by (row_at m y) (same_either_way k y ∙ f) h ∙ sym (row_now y e)
 
-    there : (y : Name) → is_among changed y ≡ true → is_present m y ≡ true
-    there y i = each (is_present m y ≡ true) y i (λ e. ap (is_present m) (same_names y g e) ∙ s.here_g) (λ e f h. ap (is_present m) (same_names y k f) ∙ s.here_k) (λ e f h. by (row_at m y) h)
-      where
-        by : (o : Option (Element A)) → is_among (row_references o) g ≡ true → is_some o ≡ true
-        by None h = absurd (cc)
-        by (Some v) h = refl
-
-    becomes_other : (y : Name) → is_among changed y ≡ true → row_at n y ≢ row_at m y
-    becomes_other y i same =
-        each ⊥ y i
-        (λ e. cc (sym (each_but_gone m g (merge_row m k g)) ∙ ap (is_present n) (sym (same_names y g e)) ∙ ap is_some same ∙ ap (is_present m) (same_names y g e) ∙ s.here_g))
-        (λ e f h. at_k (sym (ap row_tags (node_now y e f)) ∙ ap row_tags same ∙ ap row_tags (row_k y f)) h) (λ e f h. merge_changes m k g y sound ok h same)
-      where
-        at_k : both_tags tags others ≡ kept.2 → gains ≡ true → ⊥
-        at_k e h = cc (sym h ∙ gains_is ∙ ap (λ t. nat_lt (length tags) (length t)) (both_are ∙ e ∙ sym own_are) ∙ none_more (length tags))
-
     stays : (y : Name) → is_among changed y ≡ false → row_at n y ≡ row_at m y
     stays y out = by (is_same y g) refl (is_same y k) refl gains refl
       where
@@ -288,34 +268,16 @@ module _ {A : Type 0} (m : Rows A) (k g : Name) (sound : is_sound m ≡ true) wh
         by false e true f false h = node_now y e f ∙ ap (λ t. Some (Node kept.0 kept.1 t)) (same_tags h ∙ own_are) ∙ sym (row_k y f)
         by false e false f d h = merge_leaves m k g y f e not_named
 
-    set_differs : (y : Name) → is_among (name_set changed) y ≡ not (is_same_row (row_at m y) (row_at n y))
-    set_differs y = is_among-name_set y changed ∙ by (is_among changed y) refl
-      where
-        by : (b : Bool) → is_among changed y ≡ b → b ≡ not (is_same_row (row_at m y) (row_at n y))
-        by true e = sym (ap not (apart_rows (row_at m y) (row_at n y) (becomes_other y e)))
-        by false e = sym (ap (λ o. not (is_same_row (row_at m y) o)) (stays y e) ∙ ap not (same_row (row_at m y)))
-
-    may_merge : MayMerge m k g both (name_set changed)
-    may_merge = record {
-      node = s.node_k;
-      rising = IsRising-name_set changed;
-      there = all_from (is_present m) (name_set changed) (λ y i. there y (sym (is_among-name_set y changed) ∙ i));
-      apart = λ y i e. let j = sym (is_among-name_set y changed) ∙ i in becomes_other y j (sym (row_is y j) ∙ e);
-    }
-
     changes_are : rows_changes m (row_merged m k g both) (name_set changed) ≡ differences m n
     changes_are =
-        rows_differing m n (row_merged m k g both) (name_set changed) (IsRising-name_set changed) set_differs
-        (λ y i. row_is y (sym (is_among-name_set y changed) ∙ i))
+        rows_covering m n (row_merged m k g both) (name_set changed) (IsRising-name_set changed)
+        (λ y out. stays y (sym (is_among-name_set y changed) ∙ out)) (λ y i. row_is y (sym (is_among-name_set y changed) ∙ i))
 
     -- ---- the plan, with the names as they are found
 
     module _ (its names : List Name) (its_are : its ≡ users m g) (names_are : names ≡ name_set (subjects k g gains ++ its)) where
       names_changed : names ≡ name_set changed
       names_changed = names_are ∙ ap (λ l. name_set (subjects k g gains ++ l)) its_are
-
-      pub found_may : MayMerge m k g both names
-      found_may = subst (λ l. MayMerge m k g both l) (sym names_changed) may_merge
 
       pub merge_planned : (cs : List (Change A)) → cs ≡ rows_changes m (row_merged m k g both) names → IsPlan m (merge_checks m k g) (after_merge m k g) (Ok cs)
       merge_planned cs is = (ok, is ∙ ap (rows_changes m (row_merged m k g both)) names_changed ∙ changes_are)

@@ -1,5 +1,5 @@
 -- Plans of splits: which rows change, and what they become.
-use Rattle.std.proofs.Common.{◌≡◌, ◌≢◌, ◌+◌, ◌++◌, ℕ, min, Bool, true, false, not, ◌&&◌, ◌||◌, List, [], ◌∷◌, Option, Some, None, Ok, is_some, find, slice_get, length, take, nat_lt, refl, sym, ap, subst, ◌∙◌, cond, arith}
+use Rattle.std.proofs.Common.{◌≡◌, ◌+◌, ◌++◌, ℕ, min, Bool, true, false, not, ◌&&◌, ◌||◌, List, [], ◌∷◌, Option, Some, None, Ok, is_some, find, slice_get, length, take, nat_lt, refl, sym, ap, ◌∙◌, cond, arith}
 use Rattle.std.proofs.lemmas.Bool.Decides.{nat_tests}
 use Rattle.std.proofs.lemmas.List.{length-take}
 use Rattle.std.specs.Bool.{then_some}
@@ -19,9 +19,7 @@ use Rattle.osm_refs.specs.References.{refers_to, row_references, users}
 use Rattle.osm_refs.specs.Facts.RisingNames.{IsRising-name_set, IsRising-filter, is_among-passing, same_rising}
 use Rattle.osm_changes.specs.declared.change.Change.{Change}
 use Rattle.osm_changes.specs.Changes.{rows_changes, differences}
-use Rattle.osm_changes.specs.SameRows.{is_same_row}
 use Rattle.osm_changes.specs.Sound.{is_sound, most_members}
-use Rattle.osm_changes.specs.Facts.SameElements.{same_row}
 use Rattle.osm_changes.specs.Facts.SoundRows.{sound_in_order}
 use Rattle.edit_simple.specs.declared.refusal.Refusal.{Refusal}
 use Rattle.edit_simple.specs.declared.refusal.Refusal.TheVariants.{Absent, Present, WrongKind, BadPosition, TooMany}
@@ -31,15 +29,14 @@ use Rattle.edit_simple.specs.Kinds.{is_way}
 use Rattle.edit_simple.specs.Contents.{nodes_of, members_of, with_nodes, with_members}
 use Rattle.edit_simple.specs.Plans.{IsPlan}
 use Rattle.edit_simple.specs.Facts.Checked.{rest_decides}
-use Rattle.edit_simple.specs.Facts.Differences.{rows_differing, apart_rows}
+use Rattle.osm_changes.specs.Facts.DifferingRows.{rows_covering}
 use Rattle.edit_simple.specs.Facts.FirstUsers.{first_is_least}
 use Rattle.edit_simple.specs.Facts.Kinds.{told_way}
 use Rattle.edit_simple.specs.Facts.Lists.{or_left, all_listed}
 use Rattle.osm_changes.specs.Facts.PassingRows.{passes_at, rising_names, among_rows}
 use Rattle.edit_simple.specs.Facts.Rewriting.{fine}
-use Rattle.edit_topology.specs.Inner.Splitting.{split_length, is_overfull, is_way_row, split_element, row_split, row_of_split, MaySplit}
+use Rattle.edit_topology.specs.Inner.Splitting.{split_length, is_overfull, split_element, row_split, row_of_split}
 use Rattle.edit_topology.specs.Split.{is_inside, split_members, overfull, split_checks, after_split, split_row, split_off}
-use Rattle.edit_topology.specs.Facts.Changing.{split_changes}
 use Rattle.edit_topology.specs.Facts.Fitting.{way_fits}
 use Rattle.edit_topology.specs.Facts.Lists.{or_first, or_second}
 use Rattle.edit_topology.specs.Facts.Refusing.{overfull_are_users}
@@ -201,17 +198,7 @@ module _ {A : Type 0} where
         by false e true f g = kept y (Way s.nodes s.tags) (way_at y f) e (or_left (is_same w y) (is_among s.nodes w) (same_either_way w y ∙ f))
         by false e false f g = user_kept y (row_at m y) refl e (sym (named y) ∙ g)
 
-    -- ---- each row becomes another, and no other
-
-    becomes_other : (y : Name) → is_among changing y ≡ true → row_at (after_split m w i v) y ≢ row_at m y
-    becomes_other y t same = by (is_same y v) refl (is_same y w) refl t
-      where
-        by : (b : Bool) → is_same y v ≡ b → (c : Bool) → is_same y w ≡ c → (c || (b || is_among (users m w) y)) ≡ true → ⊥
-        by true e c f g = cc (ap is_some (sym (changing_row y t) ∙ same ∙ ap (row_at m) (same_names y v e) ∙ fresh))
-        by false e true f g =
-            cut_short i s.nodes s.inside
-            (ap (λ o. length (nodes_of o)) (ap (λ o. Some (row_split m w i v o)) (sym (way_at y f)) ∙ sym (changing_row y t) ∙ same ∙ way_at y f))
-        by false e false f g = split_changes m w i v y sound ok (sym (named y) ∙ g) same
+    -- ---- no other row changes
 
     stays : (y : Name) → is_among changing y ≡ false → row_at (after_split m w i v) y ≡ row_at m y
     stays y out =
@@ -222,33 +209,16 @@ module _ {A : Type 0} where
     in_changing : (y : Name) → is_among (name_set changing) y ≡ true → is_among changing y ≡ true
     in_changing y j = sym (is_among-name_set y changing) ∙ j
 
-    set_differs : (y : Name) → is_among (name_set changing) y ≡ not (is_same_row (row_at m y) (row_at (after_split m w i v) y))
-    set_differs y = is_among-name_set y changing ∙ by (is_among changing y) refl
-      where
-        by : (b : Bool) → is_among changing y ≡ b → b ≡ not (is_same_row (row_at m y) (row_at (after_split m w i v) y))
-        by true e = sym (ap not (apart_rows (row_at m y) (row_at (after_split m w i v) y) (becomes_other y e)))
-        by false e = sym (ap (λ o. not (is_same_row (row_at m y) o)) (stays y e) ∙ ap not (same_row (row_at m y)))
-
-    may_split : MaySplit m w i v (name_set changing)
-    may_split = record {
-      way = ap is_way_row s.row;
-      rising = IsRising-name_set changing;
-      apart = λ y j e. becomes_other y (in_changing y j) (changing_row y (in_changing y j) ∙ e);
-    }
-
     changes_are : rows_changes m (row_of_split m w i v) (name_set changing) ≡ differences m (after_split m w i v)
     changes_are =
-        rows_differing m (after_split m w i v) (row_of_split m w i v) (name_set changing) (IsRising-name_set changing) set_differs
-        (λ y j. sym (changing_row y (in_changing y j)))
+        rows_covering m (after_split m w i v) (row_of_split m w i v) (name_set changing) (IsRising-name_set changing)
+        (λ y out. stays y (sym (is_among-name_set y changing) ∙ out)) (λ y j. sym (changing_row y (in_changing y j)))
 
     -- ---- the plan, with the names as they are found
 
     module _ (subjects its names : List Name) (subjects_are : subjects ≡ w ∷ v ∷ []) (its_are : its ≡ users m w) (names_are : names ≡ name_set (subjects ++ its)) where
       names_changing : names ≡ name_set changing
       names_changing = names_are ∙ (λ j. name_set (subjects_are j ++ its_are j))
-
-      pub found_may : MaySplit m w i v names
-      found_may = subst (λ l. MaySplit m w i v l) (sym names_changing) may_split
 
       pub split_planned : (cs : List (Change A)) → cs ≡ rows_changes m (row_of_split m w i v) names → IsPlan m (split_checks m w i v) (after_split m w i v) (Ok cs)
       split_planned cs is = (ok, is ∙ ap (rows_changes m (row_of_split m w i v)) names_changing ∙ changes_are)

@@ -11,28 +11,25 @@ use Rattle.osm_elements.specs.declared.name.Kind.TheVariants as kinds
 use Rattle.osm_elements.specs.declared.element.Element.{Element}
 use Rattle.osm_elements.specs.declared.element.Element.TheVariants.{Node, Way, Relation}
 use Rattle.osm_elements.specs.Made.{is_node}
-use Rattle.osm_elements.specs.Maps.{Rows, is_same, is_among}
+use Rattle.osm_elements.specs.Maps.{Rows, is_same}
 use Rattle.osm_elements.specs.NameOrder.{name_cmp}
 use Rattle.osm_elements.specs.Names.{kind_rank}
 use Rattle.osm_elements.specs.Rows.{row_at}
-use Rattle.osm_elements.specs.Facts.Rows.{same_names}
 use Rattle.osm_refs.specs.Rising.{IsRising}
 use Rattle.osm_changes.specs.declared.change.Change.{Change}
 use Rattle.osm_changes.specs.Changes.{row_changes, differences, AreChanges}
-use Rattle.osm_changes.specs.SameRows.{is_same_row}
 use Rattle.osm_changes.specs.Sound.{is_sound}
-use Rattle.osm_changes.specs.Facts.SameElements.{same_row}
 use Rattle.osm_changes.specs.Facts.RowChanges.{AreChanges-row_changes, AreChanges-two_rows}
 use Rattle.edit_simple.specs.declared.refusal.Refusal.TheVariants.{BadPosition}
 use Rattle.edit_simple.specs.Checks.{first_that_holds}
 use Rattle.edit_simple.specs.Contents.{nodes_of, with_nodes}
 use Rattle.edit_simple.specs.Plans.{IsPlan}
 use Rattle.edit_simple.specs.Facts.Checked.{rest_decides}
-use Rattle.edit_simple.specs.Facts.Differences.{rows_differing, apart_rows}
+use Rattle.osm_changes.specs.Facts.DifferingRows.{covering}
 use Rattle.edit_simple.specs.Facts.Kinds.{told_node, told_way}
 use Rattle.edit_topology.specs.Inner.Ungluing.{name_checks, node_standing}
 use Rattle.edit_topology.specs.Unglue.{unglue_checks, after_unglue}
-use Rattle.edit_topology.specs.Facts.Changing.{unglue_changes}
+use Rattle.edit_topology.specs.Facts.Lists.{or_first, or_second}
 use Rattle.edit_topology.specs.Facts.Staying.{unglue_leaves}
 use Rattle.edit_topology.specs.Facts.Ungluing.{Unglues, unglues, standing, not_new, new_row, way_after}
 
@@ -117,20 +114,12 @@ module _ {A : Type 0} where
       way_becomes : row_at n w ≡ Some (with_nodes (λ list. set list i v) way)
       way_becomes = way_after m w i v (not_new m w i v s) way row
 
-      -- the rows of v and w differ, and no others do
-      these_differ : (y : Name) → is_among (v ∷ w ∷ []) y ≡ not (is_same_row (row_at m y) (row_at n y))
-      these_differ y = by (is_same y v) refl (is_same y w) refl
-        where
-          by : (b : Bool) → is_same y v ≡ b → (c : Bool) → is_same y w ≡ c → (b || (c || false)) ≡ not (is_same_row (row_at m y) (row_at n y))
-          by true e c f = sym (ap (λ z. not (is_same_row (row_at m z) (row_at n z))) (same_names y v e) ∙ ap not (apart_rows (row_at m v) (row_at n v) (λ j. cc (sym new_node ∙ j ∙ fresh))))
-          by false e true f = sym (ap (λ z. not (is_same_row (row_at m z) (row_at n z))) (same_names y w f) ∙ ap not (apart_rows (row_at m w) (row_at n w) (unglue_changes m w i v sound accepted)))
-          by false e false f = sym (ap (λ o. not (is_same_row (row_at m y) o)) (unglue_leaves m w i v y f e) ∙ ap not (same_row (row_at m y)))
-
       changes_are : row_changes v None (Some node) ++ row_changes w (Some way) (Some (with_nodes (λ list. set list i v) way)) ≡ differences m n
       changes_are =
           (λ j. row_changes v (sym fresh j) (sym new_node j) ++ row_changes w (sym row j) (sym way_becomes j))
           ∙ ap (λ cs. row_changes v (row_at m v) (row_at n v) ++ cs) (sym (append-nil (row_changes w (row_at m w) (row_at n w))))
-          ∙ rows_differing m n (row_at n) (v ∷ w ∷ []) rising these_differ (λ y i. refl)
+          ∙ covering m n (v ∷ w ∷ []) rising
+          (λ y out. unglue_leaves m w i v y (or_first (is_same y w) false (or_second (is_same y v) (is_same y w || false) out)) (or_first (is_same y v) (is_same y w || false) out))
         where
           rising : IsRising (v ∷ w ∷ [])
           rising = subst (λ b. T ((b && true) && true)) (sym in_order) tt

@@ -1,11 +1,10 @@
 //! Plans of joins.
-ghost use Rattle.std.specs.Prelude.{◌≡◌, ◌⊎◌, ◌≤◌, true, map, length, take, None, Some, MatchResult, IfOk, if◌then◌else◌, OnOk};
+ghost use Rattle.std.specs.Prelude.{◌≡◌, ◌⊎◌, ◌≤◌, true, map, length, take, None, Some, MatchResult, IfOk};
 ghost use Rattle.std.specs.Option.{option_copied, option_map};
 ghost use Rattle.osm_elements.specs.Maps.{is_present, is_same};
 ghost use Rattle.osm_elements.specs.Members.{member_pair};
 ghost use Rattle.osm_elements.specs.Rows.{row_at};
 ghost use Rattle.osm_elements.specs.declared.element.Element.TheVariants.{Way};
-ghost use Rattle.osm_changes.specs.Changes.{rows_changes};
 ghost use Rattle.osm_changes.specs.Sound.{is_sound, most_nodes};
 ghost use Rattle.edit_simple.specs.declared.refusal.Refusal.TheVariants.{TagConflict, Memory as OutOfMemory};
 ghost use Rattle.edit_simple.specs.Checks.{first_that_holds};
@@ -13,7 +12,7 @@ ghost use Rattle.edit_simple.specs.Passing.{passed};
 ghost use Rattle.edit_simple.specs.Contents.{with_members};
 ghost use Rattle.edit_simple.specs.Plans.{IsNamed, IsPlan};
 ghost use Rattle.edit_topology.specs.BothTags.{conflict};
-ghost use Rattle.edit_topology.specs.Inner.Joining.{name_checks, list_checks, way_of_both, row_joined, MayJoin};
+ghost use Rattle.edit_topology.specs.Inner.Joining.{name_checks, list_checks, way_of_both, joined_row};
 ghost use Rattle.edit_topology.specs.Join.{meet_end_to_end, end_to_end, goes_on, joined_members, join_checks, after_join};
 ghost use Rattle.edit_topology.specs.Renaming.{renamed};
 
@@ -22,6 +21,7 @@ use crate::subjects::subjects_and_users;
 use edit_simple::kinds::is_way;
 use edit_simple::limits::MOST_NODES;
 use edit_simple::refusal::Refusal;
+use edit_simple::row_change::{RowChange, change_rows};
 use edit_simple::ways::way_at;
 use osm_changes::changes::Changes;
 use osm_drafts::draft::Draft;
@@ -53,11 +53,16 @@ pub fn plan<A: Allocator + Clone>(
     let joined = way_of_both(&alloc, rows, name, other)?;
     let its_users = rows.users_of(alloc.clone()?, other)?;
     let names = subjects_and_users(alloc.clone()?, &[*name, *other], its_users.as_slice())?;
-    Ok(change_all(alloc, rows, name, other, joined, &names)?)
+    let join = Join {
+        name,
+        other,
+        joined,
+    };
+    Ok(change_rows(alloc, rows, &names, &join)?)
 }
 
 // Returns the joined way, or the refusal of two ways that cannot be joined. The checks run in their order, and the
-// whole way is made before any change. It is later moved into the changes, never copied.
+// whole way is made before any change.
 #[tactic(auto, using(edit_simple::specs::Facts::Checked::named_if_none))]
 fn way_of_both<A: Allocator + Clone>(
     alloc: &A,
@@ -166,55 +171,33 @@ fn end_to_end<A: Allocator + Clone>(nodes: &Nodes<A>, others: &Nodes<A>) -> Resu
     Ok(Nodes::from_vec(names))
 }
 
-// Returns the changes of the rows of `names`. The way becomes the joined way.
-fn change_all<A: Allocator + Clone>(
-    alloc: A,
-    rows: &Draft<'_, A>,
-    name: &Name,
-    other: &Name,
+// What a join makes of each row: the way becomes the joined way, and the other way is removed.
+#[derive(Drop)]
+struct Join<'j, A: Allocator> {
+    name: &'j Name,
+    other: &'j Name,
     joined: Element<A>,
-    names: &[Name],
-) -> Result<Changes<A>, Memory>
-    requires { MayJoin rows.now name.now other.now joined names.now }
-    ensures { IfOk result (λ cs.
-        cs ≡ rows_changes rows.now (row_joined rows.now name.now other.now (Some joined)) names.now) }
-{
-    let mut joined = Some(joined);
-    let mut changes = Changes::empty(alloc.clone()?);
-    for changing in names {
-        let (before, after) = rows_of(&alloc, rows, name, other, &mut joined, changing)?;
-        changes.push_row(*changing, Some(before), after)?;
-    }
-    Ok(changes)
 }
 
-// Returns a name's element before and after the join: the way becomes the joined way, which is moved out of `joined`.
-// The other way has no element afterwards.
-fn rows_of<A: Allocator + Clone>(
-    alloc: &A,
-    rows: &Draft<'_, A>,
-    name: &Name,
-    other: &Name,
-    joined: &mut Option<Element<A>>,
-    changing: &Name,
-) -> Result<(Element<A>, Option<Element<A>>), Memory>
-    requires { is_present rows.now changing.now ≡ true }
-    ensures row { IfOk result (λ row. (Some row.0 ≡ row_at rows.now changing.now)
-        × (row.1 ≡ row_joined rows.now name.now other.now joined.old changing.now)) }
-    ensures joined { OnOk result (joined.new ≡ (if is_same changing.now name.now then None else joined.old)) }
-{
-    let Some(element) = rows.get(changing) else {
-        unreachable!()
-    };
-    let before = element.copy()?;
-    let after = if is_same(changing, name) {
-        joined.take()
-    } else if is_same(changing, other) {
-        None
-    } else {
-        Some(renamed(alloc, name, other, element)?)
-    };
-    Ok((before, after))
+impl<A: Allocator + Clone> RowChange<A> for Join<'_, A> {
+    ghost becomes = { λ j y row. joined_row j.name.now j.other.now j.joined y row };
+
+    fn after(
+        &self,
+        alloc: &A,
+        name: &Name,
+        row: Option<&Element<A>>,
+    ) -> Result<Option<Element<A>>, Memory> {
+        if is_same(name, self.name) {
+            return Ok(Some(self.joined.copy()?));
+        }
+        match row {
+            Some(element) if !is_same(name, self.other) => {
+                Ok(Some(renamed(alloc, self.name, self.other, element)?))
+            }
+            _ => Ok(None),
+        }
+    }
 }
 
 // Returns an element whose members name the way in place of the other way.

@@ -4,13 +4,12 @@ ghost use Rattle.std.specs.List.{find, list_all};
 ghost use Rattle.osm_elements.specs.Made.{is_node};
 ghost use Rattle.osm_elements.specs.Maps.{is_present, is_same, name_set};
 ghost use Rattle.osm_elements.specs.Rows.{row_at};
-ghost use Rattle.osm_changes.specs.Changes.{rows_changes};
 ghost use Rattle.osm_changes.specs.Sound.{is_sound};
 ghost use Rattle.edit_simple.specs.declared.refusal.Refusal.TheVariants.{Memory as OutOfMemory};
 ghost use Rattle.edit_simple.specs.Checks.{first_that_holds};
 ghost use Rattle.edit_simple.specs.Plans.{IsNamed, IsPlan};
 ghost use Rattle.edit_topology.specs.BothTags.{both_tags};
-ghost use Rattle.edit_topology.specs.Inner.Merging.{is_either, subjects, tag_checks, is_cut_short, merged_element, merged_row, row_merged, MayMerge};
+ghost use Rattle.edit_topology.specs.Inner.Merging.{is_either, subjects, tag_checks, is_cut_short, merged_element, merged_row};
 ghost use Rattle.edit_topology.specs.Merge.{merge_checks, after_merge};
 
 use crate::both_tags::{both_tags, conflict};
@@ -18,6 +17,7 @@ use crate::renaming::{renamed_members, replaced};
 use crate::subjects::subjects_and_users;
 use edit_simple::kinds::is_node;
 use edit_simple::refusal::Refusal;
+use edit_simple::row_change::{RowChange, change_rows};
 use osm_changes::changes::Changes;
 use osm_drafts::draft::Draft;
 use osm_elements::Memory;
@@ -50,7 +50,12 @@ pub fn plan<A: Allocator + Clone>(
     // If there is no conflict, the node's tags change exactly if both nodes together have more tags than the node.
     let gains = tags.len() > kept.tags().len();
     let changed = all_changed(alloc.clone()?, its_users.as_slice(), name, other, gains)?;
-    Ok(change_all(alloc, rows, name, other, &tags, &changed)?)
+    let merge = Merge {
+        name,
+        other,
+        both: &tags,
+    };
+    Ok(change_rows(alloc, rows, &changed, &merge)?)
 }
 
 // Returns the elements of both nodes. Refuses names that are not nodes' or are the same, and absent nodes.
@@ -154,65 +159,32 @@ fn all_changed<A: Allocator>(
     }
 }
 
-// Returns the changes of the rows of `changed`.
-fn change_all<A: Allocator + Clone>(
-    alloc: A,
-    rows: &Draft<'_, A>,
-    name: &Name,
-    other: &Name,
-    both: &SharedTags<A>,
-    changed: &[Name],
-) -> Result<Changes<A>, Memory>
-    requires { MayMerge rows.now name.now other.now both.now changed.now }
-    ensures { IfOk result (λ cs.
-        cs ≡ rows_changes rows.now (row_merged rows.now name.now other.now both.now) changed.now) }
-{
-    let mut changes = Changes::empty(alloc.clone()?);
-    for changing in changed {
-        let (before, after) = rows_of(&alloc, rows, name, other, both, changing)?;
-        changes.push_row(*changing, Some(before), after)?;
-    }
-    Ok(changes)
+// What a merge makes of each row. The other node is removed.
+#[derive(Drop)]
+struct Merge<'m, A: Allocator> {
+    name: &'m Name,
+    other: &'m Name,
+    both: &'m SharedTags<A>,
+    ghost node: { is_node name.now.kind ≡ true },
 }
 
-// Returns a name's element before and after the merge. The other node has no element afterwards.
-fn rows_of<A: Allocator + Clone>(
-    alloc: &A,
-    rows: &Draft<'_, A>,
-    name: &Name,
-    other: &Name,
-    both: &SharedTags<A>,
-    changing: &Name,
-) -> Result<(Element<A>, Option<Element<A>>), Memory>
-    requires node { is_node name.now.kind ≡ true }
-    requires there { is_present rows.now changing.now ≡ true }
-    ensures { IfOk result (λ row. (Some row.0 ≡ row_at rows.now changing.now)
-        × (row.1 ≡ row_merged rows.now name.now other.now both.now changing.now)) }
-{
-    let Some(element) = rows.get(changing) else {
-        unreachable!()
-    };
-    let before = element.copy()?;
-    let after = merged_row(alloc, name, other, both, changing, element)?;
-    Ok((before, after))
-}
+impl<A: Allocator + Clone> RowChange<A> for Merge<'_, A> {
+    ghost becomes = { λ g y row. merged_row g.name.now g.other.now g.both.now y row };
 
-// Returns a name's element after the merge, or `None` for the other node.
-fn merged_row<A: Allocator + Clone>(
-    alloc: &A,
-    name: &Name,
-    other: &Name,
-    both: &SharedTags<A>,
-    changing: &Name,
-    element: &Element<A>,
-) -> Result<Option<Element<A>>, Memory>
-    requires { is_node name.now.kind ≡ true }
-    ensures { IfOk result (λ after. after ≡ merged_row name.now other.now both.now changing.now (Some element.now)) }
-{
-    if is_same(other, changing) {
-        return Ok(None);
+    fn after(
+        &self,
+        alloc: &A,
+        name: &Name,
+        row: Option<&Element<A>>,
+    ) -> Result<Option<Element<A>>, Memory> {
+        match row {
+            Some(element) if !is_same(self.other, name) => {
+                let merged = merged_element(alloc, self.name, self.other, self.both, element)?;
+                Ok(Some(merged))
+            }
+            _ => Ok(None),
+        }
     }
-    Ok(Some(merged_element(alloc, name, other, both, element)?))
 }
 
 // Returns an element after the merge: the node has the tags of both, and users of the other node name the node.

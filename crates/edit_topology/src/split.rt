@@ -3,12 +3,11 @@ ghost use Rattle.std.specs.Prelude.{◌≡◌, ◌+◌, ◌++◌, true, Some, ma
 ghost use Rattle.osm_elements.specs.Maps.{is_same};
 ghost use Rattle.osm_elements.specs.Members.{member_pair};
 ghost use Rattle.osm_elements.specs.Rows.{row_at};
-ghost use Rattle.osm_changes.specs.Changes.{rows_changes};
 ghost use Rattle.osm_changes.specs.Sound.{is_sound};
 ghost use Rattle.edit_simple.specs.Checks.{first_that_holds};
 ghost use Rattle.edit_simple.specs.Passing.{passed};
 ghost use Rattle.edit_simple.specs.Plans.{IsNamed, IsPlan};
-ghost use Rattle.edit_topology.specs.Inner.Splitting.{split_length, is_overfull, is_way_row, split_member, split_element, new_way, row_of_split, MaySplit};
+ghost use Rattle.edit_topology.specs.Inner.Splitting.{split_length, is_overfull, is_way_row, split_member, split_element, new_way, row_split};
 ghost use Rattle.edit_topology.specs.Split.{is_inside, split_members, split_checks, after_split};
 
 use crate::subjects::subjects_and_users;
@@ -16,6 +15,7 @@ use edit_simple::kinds::is_way;
 use edit_simple::limits::MOST_MEMBERS;
 use edit_simple::lookup::is_present;
 use edit_simple::refusal::Refusal;
+use edit_simple::row_change::{RowChange, change_rows};
 use edit_simple::ways::way_at;
 use osm_changes::changes::Changes;
 use osm_drafts::draft::Draft;
@@ -49,7 +49,13 @@ pub fn plan<A: Allocator + Clone>(
         return Err(Refusal::TooMany(relation));
     }
     let names = subjects_and_users(alloc.clone()?, &[*name, *into], its_users.as_slice())?;
-    Ok(change_all(alloc, rows, &names, name, place, into)?)
+    let split = Split {
+        rows,
+        way: name,
+        place,
+        into,
+    };
+    Ok(change_rows(alloc, rows, &names, &split)?)
 }
 
 // Returns the first check of a split that holds, if any, except the last check, which needs the users of the way.
@@ -127,47 +133,31 @@ fn count_named<A: Allocator>(members: &[Member<A>], way: &Name) -> usize
         .count()
 }
 
-// Returns the changes of the rows of `names`.
-fn change_all<A: Allocator + Clone>(
-    alloc: A,
-    rows: &Draft<'_, A>,
-    names: &[Name],
-    way: &Name,
+// What a split makes of each row. If there is no row, it is the new way's.
+#[derive(Drop)]
+struct Split<'s, 'd, A: Allocator> {
+    rows: &'s Draft<'d, A>,
+    way: &'s Name,
     place: u32,
-    into: &Name,
-) -> Result<Changes<A>, Memory>
-    requires { MaySplit rows.now way.now place into.now names.now }
-    ensures { IfOk result (λ cs. cs ≡ rows_changes rows.now (row_of_split rows.now way.now place into.now) names.now) }
-{
-    let mut changes = Changes::empty(alloc.clone()?);
-    for name in names {
-        let (before, after) = rows_of(&alloc, rows, name, way, place, into)?;
-        changes.push_row(*name, before, Some(after))?;
-    }
-    Ok(changes)
+    into: &'s Name,
+    ghost there: { is_way_row (row_at rows.now way.now) ≡ true },
 }
 
-// Returns a name's element before and after the split. If there is no element before, the name is the new way's.
-fn rows_of<A: Allocator + Clone>(
-    alloc: &A,
-    rows: &Draft<'_, A>,
-    name: &Name,
-    way: &Name,
-    place: u32,
-    into: &Name,
-) -> Result<(Option<Element<A>>, Element<A>), Memory>
-    requires { is_way_row (row_at rows.now way.now) ≡ true }
-    ensures { IfOk result (λ row. (row.0 ≡ row_at rows.now name.now)
-        × (Some row.1 ≡ row_of_split rows.now way.now place into.now name.now)) }
-{
-    let (before, after) = match rows.get(name) {
-        Some(element) => (
-            Some(element.copy()?),
-            split_element(alloc, element, way, place, into)?,
-        ),
-        None => (None, new_way(alloc, rows, way, place)?),
-    };
-    Ok((before, after))
+impl<A: Allocator + Clone> RowChange<A> for Split<'_, '_, A> {
+    ghost becomes = { λ s y row. Some (row_split s.rows.now s.way.now s.place s.into.now row) };
+
+    fn after(
+        &self,
+        alloc: &A,
+        _name: &Name,
+        row: Option<&Element<A>>,
+    ) -> Result<Option<Element<A>>, Memory> {
+        let after = match row {
+            Some(element) => split_element(alloc, element, self.way, self.place, self.into)?,
+            None => new_way(alloc, self.rows, self.way, self.place)?,
+        };
+        Ok(Some(after))
+    }
 }
 
 // Returns the new way: the way's nodes from a position on, and its tags.

@@ -4,6 +4,7 @@ ghost use Rattle.osm_elements.specs.Maps.{name_set};
 
 use osm_elements::Memory;
 use osm_elements::name::Name;
+use osm_refs::name_set::name_set;
 use std::alloc::Allocator;
 
 /// Returns the subjects of an action and the users of one of them, in rising order, each once.
@@ -17,7 +18,5 @@ pub fn subjects_and_users<A: Allocator>(
     let mut names = Vec::new(alloc);
     names.extend_from_slice(subjects)?;
     names.extend_from_slice(users)?;
-    names.sort_unstable();
-    names.dedup();
-    Ok(names)
+    name_set(names)
 }

@@ -1,5 +1,5 @@
 -- A store after the rows of its changes are put and noted.
-use Rattle.std.proofs.Common.{◌≡◌, not, T, List, [], map, sym, ap, subst, ◌∙◌}
+use Rattle.std.proofs.Common.{◌≡◌, not, T, List, map, sym, ap, subst, ◌∙◌}
 use Rattle.std.specs.List.{filter, fold}
 use Rattle.osm_elements.specs.Maps.{Rows}
 use Rattle.osm_elements.specs.Rows.{AreInOrder}
@@ -7,8 +7,8 @@ use Rattle.osm_refs.specs.Tables.{Table, table_of}
 use Rattle.osm_refs.specs.Facts.RisingNames.{IsRising-name_set}
 use Rattle.osm_changes.specs.declared.change.Change.{Change}
 use Rattle.osm_changes.specs.declared.row_after.RowAfter.{RowAfter}
-use Rattle.osm_changes.specs.Changes.{are_rising, changed, changed_names, rows_after}
-use Rattle.osm_changes.specs.Inner.Applying.{is_new, with_told, NoneIsNew}
+use Rattle.osm_changes.specs.Changes.{are_rising, changed, changed_names}
+use Rattle.osm_changes.specs.Inner.Applying.{is_new, rows_after, with_told, NoneIsNew}
 use Rattle.osm_changes.specs.Inner.References.{gained, lost, reference_change_of}
 use Rattle.osm_changes.specs.Facts.Changing.{with_rows_after}
 use Rattle.osm_changes.proofs.Applying.{leads_to_changed, none_is_new}

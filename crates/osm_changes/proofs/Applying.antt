@@ -13,8 +13,8 @@ use Rattle.osm_elements.specs.Facts.Rows.{same_names, same_rows, without_row_is_
 use Rattle.osm_elements.specs.Maps.{Rows, is_same, is_among, rows_but}
 use Rattle.osm_changes.specs.declared.change.Change.{Change}
 use Rattle.osm_changes.specs.declared.row_after.RowAfter.{RowAfter}
-use Rattle.osm_changes.specs.Changes.{changed, changed_names, are_rising, row_in, rows_after}
-use Rattle.osm_changes.specs.Inner.Applying.{is_new, with_told, AreNew, NoneIsNew}
+use Rattle.osm_changes.specs.Changes.{changed, changed_names, are_rising}
+use Rattle.osm_changes.specs.Inner.Applying.{is_new, row_in, rows_after, with_told, AreNew, NoneIsNew}
 use Rattle.osm_changes.specs.Facts.Changing.{AreInOrder-changed, kept}
 use Rattle.osm_changes.proofs.RowsTold.{AreOf, names_told, names-rows_in, AreOf-rows_in, AreOf-filter, AreInOrder-told, row_at-told, row_at-untold, earlier}
 

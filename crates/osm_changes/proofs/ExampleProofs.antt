@@ -5,11 +5,11 @@ use Rattle.osm_changes.specs.Examples.{retagged, come_and_gone, moved, both_part
 
 pub retagged_lem : retagged
 unfolding retagged name_cmp
-retagged_lem = (refl, refl, refl)
+retagged_lem = (refl, refl, refl, refl)
 
 pub come_and_gone_lem : come_and_gone
 unfolding come_and_gone name_cmp
-come_and_gone_lem = (refl, refl, refl, refl)
+come_and_gone_lem = (refl, refl, refl, refl, refl)
 
 pub moved_lem : moved
 unfolding moved name_cmp

@@ -1,11 +1,14 @@
 pub mod Applied
 pub mod Applying
+pub mod ChangedRows
 pub mod ExampleProofs
 pub mod ReferencesEntered
+pub mod Likely
 pub mod Parting
 pub mod Pushing
 pub mod Restoring
 pub mod RowsNoted
+pub mod RowsOfChanges
 pub mod RowsTold
 pub mod Told
 pub mod Turning

@@ -14,8 +14,8 @@ use Rattle.osm_elements.specs.Maps.{Rows, is_same, is_among}
 use Rattle.rising_lists.specs.Rising.{bare_rows}
 use Rattle.rising_lists.specs.Facts.Sorted.{both, first, second}
 use Rattle.osm_changes.specs.declared.row_after.RowAfter.{RowAfter}
-use Rattle.osm_changes.specs.Changes.{are_rising, row_in}
-use Rattle.osm_changes.specs.Inner.Applying.{with_told}
+use Rattle.osm_changes.specs.Changes.{are_rising}
+use Rattle.osm_changes.specs.Inner.Applying.{row_in, with_told}
 use Rattle.osm_changes.specs.Facts.Changing.{row_at-with_row, AreInOrder-with_row}
 
 pub or_false : (a b : Bool) → (a || b) ≡ false → (a ≡ false) × (b ≡ false)

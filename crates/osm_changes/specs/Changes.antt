@@ -13,7 +13,7 @@ use Rattle.osm_changes.specs.declared.change.Change.{Change}
 use Rattle.osm_changes.specs.declared.half.Half.{Half}
 use Rattle.osm_changes.specs.declared.part.Part.{Part}
 use Rattle.osm_changes.specs.declared.part.Part.TheVariants.{Tags, Rest}
-use Rattle.osm_changes.specs.declared.row_after.RowAfter.{RowAfter}
+use Rattle.osm_changes.specs.declared.changed_row.ChangedRow.{ChangedRow}
 use Rattle.osm_changes.specs.Cells.{tags_at, rest_at, cells_of, is_same_cell, IsRising, half_at}
 use Rattle.osm_changes.specs.Halves.{half, row_of, are_same_halves}
 
@@ -85,13 +85,17 @@ module _ {A : Type 0} where
   abbrev pub changed : Rows A → List (Change A) → Rows A
   changed m cs = fold (λ n x. with_row n x (row_after cs x (row_at m x))) m (changed_names cs)
 
-  -- a name with its row in a map, if any
-  abbrev pub row_in : Rows A → Name → RowAfter A
-  row_in m x = record { name = x; element = row_at m x }
+  -- a name with its rows in two maps, if any
+  abbrev pub changed_row : Rows A → Rows A → Name → ChangedRow A
+  changed_row m n x = record { name = x; before = row_at m x; after = row_at n x }
 
-  -- the changed names, each with its row in the map after the changes
-  abbrev pub rows_after : Rows A → List (Change A) → List (RowAfter A)
-  rows_after m cs = map (row_in (changed m cs)) (changed_names cs)
+  -- the changed names, each with its row in the map before and after the changes
+  abbrev pub changed_rows : Rows A → List (Change A) → List (ChangedRow A)
+  changed_rows m cs = map (changed_row m (changed m cs)) (changed_names cs)
+
+  -- the changes of the halves of changed rows
+  abbrev pub changes_of : List (ChangedRow A) → List (Change A)
+  changes_of rows = flat_map (λ (r : ChangedRow A). row_changes r.name r.before r.after) rows
 
   -- the cells rise, and the halves of each change differ
   pub record AreChanges (cs : List (Change A)) : Type 0 where

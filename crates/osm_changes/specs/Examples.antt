@@ -8,7 +8,7 @@ use Rattle.osm_elements.specs.TagRows.{Pairs}
 use Rattle.osm_changes.specs.declared.change.Change.{Change}
 use Rattle.osm_changes.specs.declared.half.Half.TheVariants.{Tags, Place, Nodes}
 use Rattle.osm_changes.specs.declared.part.Part.TheVariants as parts
-use Rattle.osm_changes.specs.Changes.{differences, changed, changed_names, inverse, rows_after}
+use Rattle.osm_changes.specs.Changes.{differences, changed, changed_names, changed_rows, changes_of, inverse}
 
 abbrev node : Pairs → Element Any
 node tags = Node (pos 1) (pos 2) tags
@@ -28,7 +28,8 @@ unfoldable pub retagged : Type 0
 retagged =
     (differences start ((n-2, node []) ∷ (n-1, node two_tags) ∷ (w5, way (path ∷ [])) ∷ []) ≡ retag)
     × (changed_names retag ≡ w5 ∷ [])
-    × (rows_after start retag ≡ record { name = w5; element = Some (way (path ∷ [])) } ∷ [])
+    × (changed_rows start retag ≡ record { name = w5; before = Some (way []); after = Some (way (path ∷ [])) } ∷ [])
+    × (changes_of (changed_rows start retag) ≡ retag)
 
 -- an element that is removed or added changes both of its cells
 abbrev pub go : List (Change Any)
@@ -40,7 +41,8 @@ come_and_gone =
     (differences start ((n-2, node []) ∷ (n-1, node two_tags) ∷ []) ≡ go)
     × (differences ((n-2, node []) ∷ (n-1, node two_tags) ∷ []) start ≡ inverse go)
     × (changed_names go ≡ w5 ∷ [])
-    × (rows_after start go ≡ record { name = w5; element = None } ∷ [])
+    × (changed_rows start go ≡ record { name = w5; before = Some (way []); after = None } ∷ [])
+    × (changes_of (changed_rows start go) ≡ go)
 
 -- a new position changes one cell, and the tags stay
 abbrev pub move : List (Change Any)

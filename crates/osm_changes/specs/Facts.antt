@@ -2,9 +2,9 @@
 pub mod Cells
 pub mod Changing
 pub mod Differing
+pub mod DifferingRows
 pub mod Halves
 pub mod PassingRows
 pub mod RowChanges
-pub mod RowsDiffer
 pub mod SameElements
 pub mod SoundRows

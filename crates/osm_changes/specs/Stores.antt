@@ -1,5 +1,5 @@
 -- Stores, which contracts model as a map and a count. (The count is this project's.)
-use Rattle.std.specs.Prelude.{◌+◌, ◌^◌, ◌-◌, ℕ, List, [], length, min}
+use Rattle.std.specs.Prelude.{◌+◌, ◌^◌, ◌-◌, ℕ, List, length, min}
 use Rattle.osm_elements.specs.Maps.{Rows}
 use Rattle.osm_changes.specs.declared.change.Change.{Change}
 use Rattle.osm_changes.specs.Changes.{changed}

@@ -1,21 +1,20 @@
 //! What changed rows mean for a map: which rows are new, and which references begin and cease.
-ghost use Rattle.std.specs.Prelude.{◌≡◌, ◌&&◌, not, IfOk, map, is_none, is_some};
+ghost use Rattle.std.specs.Prelude.{◌≡◌, not, IfOk, map};
 ghost use Rattle.std.specs.List.{filter};
-ghost use Rattle.std.specs.Option.{option_copied};
-ghost use Rattle.osm_changes.specs.Inner.Applying.{is_new};
-ghost use Rattle.osm_changes.specs.Inner.References.{reference_change_of};
+ghost use Rattle.osm_changes.specs.Inner.Applying.{after_of, begins};
+ghost use Rattle.osm_changes.specs.Inner.References.{row_reference_change};
 
+use crate::changed_row::ChangedRow;
 use crate::row_after::RowAfter;
 use osm_elements::Memory;
-use osm_elements::element::Element;
-use osm_elements::map::OsmMap;
 use osm_refs::change::ReferenceChange;
 use std::alloc::Allocator;
 
-/// Copies of changed rows in two lists, each in order, and the references that change with each row.
+/// Copies of changed rows as they are after the changes, in two lists, each in order, and the references that change
+/// with each row.
 #[derive(Drop)]
 pub struct Division<A: Allocator> {
-    /// The rows that are there, under names that the map does not have.
+    /// The rows that are there only after the changes.
     pub new: Vec<RowAfter<A>, A>,
     /// All other rows.
     pub others: Vec<RowAfter<A>, A>,
@@ -23,27 +22,25 @@ pub struct Division<A: Allocator> {
     pub changes: Vec<ReferenceChange<A>, A>,
 }
 
-/// Divides changed rows, or returns `Memory`. It looks up each row once.
+/// Divides changed rows, or returns `Memory`.
 pub fn divide<A: Allocator + Clone>(
     alloc: &A,
-    rows: &OsmMap<A>,
-    told: &[RowAfter<A>],
+    rows: &[ChangedRow<A>],
 ) -> Result<Division<A>, Memory>
-    ensures new { IfOk result (λ d. d.new.items ≡ filter (is_new rows.now) told.now) }
-    ensures others { IfOk result (λ d. d.others.items ≡ filter (λ r. not (is_new rows.now r)) told.now) }
-    ensures changes { IfOk result (λ d. d.changes.items ≡ map (reference_change_of rows.now) told.now) }
+    ensures new { IfOk result (λ d. d.new.items ≡ map after_of (filter begins rows.now)) }
+    ensures others { IfOk result (λ d. d.others.items ≡ map after_of (filter (λ r. not (begins r)) rows.now)) }
+    ensures changes { IfOk result (λ d. d.changes.items ≡ map row_reference_change rows.now) }
 {
     let mut new = Vec::new(alloc.clone()?);
     let mut others = Vec::new(alloc.clone()?);
-    let mut changes = Vec::with_capacity(alloc.clone()?, told.len())?;
-    for row in told {
-        let before = rows.get(&row.name);
-        let change = ReferenceChange::of(alloc, row.name, before, row.element.as_ref())?;
+    let mut changes = Vec::with_capacity(alloc.clone()?, rows.len())?;
+    for row in rows {
+        let change = ReferenceChange::of(alloc, row.name, row.before.as_ref(), row.after.as_ref())?;
         changes.push(change)?;
-        if begins(before, row) {
-            new.push(row.copy()?)?;
+        if begins(row) {
+            new.push(RowAfter::of(row)?)?;
         } else {
-            others.push(row.copy()?)?;
+            others.push(RowAfter::of(row)?)?;
         }
     }
     Ok(Division {
@@ -53,9 +50,9 @@ pub fn divide<A: Allocator + Clone>(
     })
 }
 
-// Returns whether a row is there, and the map did not have an element of its name.
-fn begins<A: Allocator>(before: Option<&Element<A>>, row: &RowAfter<A>) -> bool
-    ensures { result ≡ (is_none (option_copied before.entry) && is_some row.now.element) }
+// Returns whether a row is there only after the changes.
+fn begins<A: Allocator>(row: &ChangedRow<A>) -> bool
+    ensures { result ≡ begins row.now }
 {
-    before.is_none() && row.element.is_some()
+    row.before.is_none() && row.after.is_some()
 }

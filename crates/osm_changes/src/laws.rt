@@ -4,7 +4,7 @@ ghost use Rattle.osm_elements.specs.Maps.{Rows};
 ghost use Rattle.osm_elements.specs.declared.name.Name.{Name};
 ghost use Rattle.osm_elements.specs.Rows.{AreInOrder, row_at};
 ghost use Rattle.osm_changes.specs.declared.change.Change.{Change};
-ghost use Rattle.osm_changes.specs.Changes.{changed, differences, inverse, row_after, AreChanges, AreFrom};
+ghost use Rattle.osm_changes.specs.Changes.{changed, changed_rows, changes_of, differences, inverse, row_after, AreChanges, AreFrom};
 ghost use Rattle.osm_changes.specs.Examples.{retagged, come_and_gone, moved, both_parts};
 
 use std::alloc::Allocator;
@@ -13,6 +13,11 @@ use std::alloc::Allocator;
 pub fn changes_lead_there_and_back<A: Allocator>()
     ensures there { (m n : Rows A) → AreInOrder m → AreInOrder n → changed m (differences m n) ≡ n }
     ensures back { (m n : Rows A) → AreInOrder m → AreInOrder n → changed n (inverse (differences m n)) ≡ m }
+{}
+
+/// Changes from a map are those of the rows that they change.
+pub fn changes_are_those_of_rows<A: Allocator>()
+    ensures { (m : Rows A) (cs : List (Change A)) → AreChanges cs → AreFrom m cs → changes_of (changed_rows m cs) ≡ cs }
 {}
 
 /// The changes between two maps are changes from the first map. Their cells rise, and their halves before and after

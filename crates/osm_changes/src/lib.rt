@@ -12,6 +12,7 @@
 mod apply;
 pub mod cell;
 pub mod change;
+pub mod changed_row;
 pub mod changes;
 mod division;
 mod entering;
@@ -20,7 +21,7 @@ mod halving;
 pub mod laws;
 pub mod lookup;
 pub mod part;
-pub mod row_after;
+mod row_after;
 pub mod rows;
 pub mod same;
 pub mod store;

@@ -3,19 +3,20 @@ ghost use Rattle.std.specs.Prelude.{◌≡◌, [], T, true, not, map, IfOk, OnOk
 ghost use Rattle.std.specs.List.{fold, filter};
 ghost use Rattle.osm_elements.specs.Rows.{AreInOrder};
 ghost use Rattle.osm_refs.specs.Tables.{table_of};
-ghost use Rattle.osm_changes.specs.Changes.{changed, are_rising, rows_after, AreFrom};
+ghost use Rattle.osm_changes.specs.Changes.{changed, changed_rows, are_rising, AreFrom};
 ghost use Rattle.osm_changes.specs.Sound.{is_sound};
 ghost use Rattle.osm_changes.specs.Stores.{applied_to};
 ghost use Rattle.osm_changes.specs.declared.row_after.RowAfter.{RowAfter as Row};
-ghost use Rattle.osm_changes.specs.Inner.Applying.{is_new, with_told};
+ghost use Rattle.osm_changes.specs.Inner.Applying.{after_of, is_new, with_told, AreBefore};
 ghost use Rattle.osm_changes.specs.Inner.References.{gained, reference_change_of};
 
 use crate::apply::{put_new, replace};
+use crate::changed_row::{ChangedRow, ChangedRows};
 use crate::changes::Changes;
 use crate::division::{Division, divide};
 use crate::entering::{gain, give_back, lose, users_of};
-use crate::row_after::{RowAfter, RowsAfter};
-use crate::rows::rows_after;
+use crate::row_after::RowAfter;
+use crate::rows::changed_rows;
 use osm_elements::Memory;
 use osm_elements::map::OsmMap;
 use osm_refs::change::ReferenceChange;
@@ -105,19 +106,19 @@ impl<A: Allocator> Store<A> {
         self.applied
     }
 
-    /// Returns the changed names in order, each with its row in the map after the changes. The store is unchanged. It
-    /// copies these rows. For each row it takes a look-up in the map and two look-ups in the changes.
+    /// Returns the changed names in order, each with its row in the map before and after the changes. The store is
+    /// unchanged. It copies these rows, and looks up each row in the map.
     ///
     /// # Errors
     ///
     /// `Memory`, if an allocation fails.
-    pub fn rows_after(&self, alloc: A, changes: &Changes<A>) -> Result<RowsAfter<A>, Memory>
+    pub fn changed_rows(&self, alloc: A, changes: &Changes<A>) -> Result<ChangedRows<A>, Memory>
     where
         A: Clone,
-        ensures { IfOk result (λ rows. rows ≡ rows_after self.now.rows changes.now) }
+        ensures { IfOk result (λ rows. rows ≡ changed_rows self.now.rows changes.now) }
     {
-        let rows = rows_after(alloc, &self.map, changes.rows())?;
-        Ok(RowsAfter::from_vec(rows))
+        let rows = changed_rows(alloc, &self.map, changes.rows())?;
+        Ok(ChangedRows::from_vec(rows))
     }
 
     /// Applies changes and adds their number to the count. They must be from the store's map: each half before is the
@@ -138,31 +139,31 @@ impl<A: Allocator> Store<A> {
         ensures ok { OnOk result (self.new ≡ applied_to self.old changes.now) }
         ensures err { OnErr result (self.new ≡ self.old) }
     {
-        let rows = self.rows_after(alloc.clone()?, changes)?;
-        self.apply_told(alloc, changes, &rows)
+        let rows = self.changed_rows(alloc.clone()?, changes)?;
+        self.apply_rows(alloc, changes, &rows)
     }
 
-    /// Applies changes as [`apply`](Store::apply) does, given the result of [`rows_after`](Store::rows_after) for them.
+    /// Applies changes as [`apply`](Store::apply) does, given the result of [`changed_rows`](Store::changed_rows) for
+    /// them.
     ///
     /// # Errors
     ///
     /// `Memory`, if an allocation fails. The store is then unchanged.
-    pub fn apply_told(
+    pub fn apply_rows(
         &mut self,
         alloc: A,
         changes: &Changes<A>,
-        rows: &RowsAfter<A>,
+        rows: &ChangedRows<A>,
     ) -> Result<(), Memory>
     where
         A: Clone,
         requires from { AreFrom self.old.rows changes.now }
         requires sound { is_sound (changed self.old.rows changes.now) ≡ true }
-        requires rows { rows.now ≡ rows_after self.old.rows changes.now }
+        requires rows { rows.now ≡ changed_rows self.old.rows changes.now }
         ensures ok { OnOk result (self.new ≡ applied_to self.old changes.now) }
         ensures err { OnErr result (self.new ≡ self.old) }
     {
-        let told = rows.as_slice();
-        let prepared = prepare(alloc, &mut self.map, &mut self.users, told)?;
+        let prepared = prepare(alloc, &mut self.map, &mut self.users, rows.as_slice())?;
         replace(&mut self.map, prepared.others);
         lose(&mut self.users, &prepared.changes);
         self.applied = self.applied.saturating_add(changes.len() as u128);
@@ -207,22 +208,25 @@ fn prepare<A: Allocator + Clone>(
     alloc: A,
     rows: &mut OsmMap<A>,
     users: &mut Users<A>,
-    told: &[RowAfter<A>],
+    told: &[ChangedRow<A>],
 ) -> Result<Prepared<A>, Memory>
     requires order { AreInOrder rows.old }
-    requires rising { T (are_rising (map (λ (r : Row A). r.name) told.now)) }
+    requires before { AreBefore rows.old told.now }
+    requires rising { T (are_rising (map (λ (r : Row A). r.name) (map after_of told.now))) }
     requires users { users.old ≡ table_of rows.old }
-    ensures ok { IfOk result (λ p. (p.others.items ≡ filter (λ r. not (is_new rows.old r)) told.now)
-        × (p.changes.items ≡ map (reference_change_of rows.old) told.now)
-        × (rows.new ≡ fold with_told rows.old (filter (is_new rows.old) told.now))
-        × (users.new ≡ fold gained (table_of rows.old) (map (reference_change_of rows.old) told.now))) }
+    ensures ok { IfOk result
+        (λ p. (p.others.items ≡ filter (λ r. not (is_new rows.old r)) (map after_of told.now))
+        × (p.changes.items ≡ map (reference_change_of rows.old) (map after_of told.now))
+        × (rows.new ≡ fold with_told rows.old (filter (is_new rows.old) (map after_of told.now)))
+        × (users.new ≡ fold gained (table_of rows.old)
+        (map (reference_change_of rows.old) (map after_of told.now)))) }
     ensures err { OnErr result ((rows.new ≡ rows.old) × (users.new ≡ users.old)) }
 {
     let Division {
         new,
         others,
         changes,
-    } = divide(&alloc, rows, told)?;
+    } = divide(&alloc, told)?;
     gain(&alloc, users, &changes)?;
     if let Err(memory) = put_new(rows, new) {
         give_back(users, &changes);

@@ -8,10 +8,10 @@ ghost use Rattle.osm_refs.specs.References.{users};
 ghost use Rattle.osm_changes.specs.Changes.{changed, with_row};
 ghost use Rattle.osm_drafts.specs.Drafts.{unwritten};
 
+use osm_changes::changed_row::ChangedRow;
 use osm_changes::changes::Changes;
 use osm_changes::lookup::Lookup;
-use osm_changes::row_after::RowAfter;
-use osm_changes::rows::rows_after;
+use osm_changes::rows::changed_rows;
 use osm_changes::store::Store;
 use osm_elements::Memory;
 use osm_elements::element::Element;
@@ -19,6 +19,7 @@ use osm_elements::map::OsmMap;
 use osm_elements::name::Name;
 use osm_elements::names::Names;
 use osm_refs::change::ReferenceChange;
+use osm_refs::name_set::name_set;
 use osm_refs::users::Users;
 use std::alloc::Allocator;
 use std::collections::BTreeSet;
@@ -91,8 +92,7 @@ impl<'s, A: Allocator> Draft<'s, A> {
         let mut names = Vec::new(alloc);
         push_all_unwritten(&mut names, its_users, &self.written)?;
         names.extend_from_slice(self.users.of(name))?;
-        names.sort_unstable();
-        names.dedup();
+        let names = name_set(names)?;
         Ok(Names::from_vec(names))
     }
 
@@ -153,7 +153,7 @@ impl<'s, A: Allocator + Clone> Draft<'s, A> {
     pub fn with_changes(self, alloc: A, changes: &Changes<A>) -> Result<Draft<'s, A>, Memory>
         ensures { IfOk result (λ d. d ≡ changed self.entry changes.now) }
     {
-        let rows = rows_after(alloc, &self, changes.rows())?;
+        let rows = changed_rows(alloc, &self, changes.rows())?;
         Ok(with_rows(self, rows)?)
     }
 }
@@ -173,13 +173,13 @@ impl<'s, A: Allocator> Lookup<A> for Draft<'s, A> {
 // Writes these rows to a draft, in their order.
 fn with_rows<'s, A: Allocator + Clone>(
     draft: Draft<'s, A>,
-    rows: Vec<RowAfter<A>, A>,
+    rows: Vec<ChangedRow<A>, A>,
 ) -> Result<Draft<'s, A>, Memory>
-    ensures { IfOk result (λ d. d ≡ fold (λ n r. with_row n r.name r.element) draft.entry rows.items) }
+    ensures { IfOk result (λ d. d ≡ fold (λ n r. with_row n r.name r.after) draft.entry rows.items) }
 {
     let mut draft = draft;
     for row in rows {
-        draft = draft.with(row.name, row.element)?;
+        draft = draft.with(row.name, row.after)?;
     }
     Ok(draft)
 }

@@ -11,5 +11,6 @@
 pub mod but;
 pub mod change;
 pub mod laws;
+pub mod name_set;
 pub mod refs;
 pub mod users;

@@ -5,6 +5,7 @@ ghost use Rattle.osm_elements.specs.Elements.{kind_of};
 ghost use Rattle.osm_elements.specs.Maps.{name_set};
 ghost use Rattle.osm_refs.specs.References.{references};
 
+use crate::name_set::name_set;
 use osm_elements::Memory;
 use osm_elements::element::Element;
 use osm_elements::member::Member;
@@ -13,7 +14,7 @@ use osm_elements::names::Names;
 use std::alloc::Allocator;
 
 /// Returns the names that an element refers to, rising, each once: the nodes of a way or the members of a relation
-/// (OpenStreetMap wiki, "Elements"). It sorts them, which takes time `n log n` for n names.
+/// (OpenStreetMap wiki, "Elements"). It costs what [`name_set`] costs.
 ///
 /// # Errors
 ///
@@ -22,9 +23,7 @@ pub fn refs_of<A: Allocator>(alloc: A, element: &Element<A>) -> Result<Names<A>,
     ensures set { IfOk result (λ names. names ≡ name_set (references element.now)) }
     ensures node { kind_of element.now ≡ Node → IsOk result }
 {
-    let mut names = named(alloc, element)?;
-    names.sort_unstable();
-    names.dedup();
+    let names = name_set(named(alloc, element)?)?;
     Ok(Names::from_vec(names))
 }
 
@@ -40,8 +39,8 @@ fn named<A: Allocator>(alloc: A, element: &Element<A>) -> Result<Vec<Name, A>, M
     }
 }
 
-// Returns the names of members, in their order.
-fn member_names<A: Allocator>(alloc: A, members: &[Member<A>]) -> Result<Vec<Name, A>, Memory>
+/// Returns the names of members, in their order, or `Memory`.
+pub fn member_names<A: Allocator>(alloc: A, members: &[Member<A>]) -> Result<Vec<Name, A>, Memory>
     ensures { IfOk result (λ names. names.items ≡ map (λ m. m.name) members.now) }
 {
     let mut names = Vec::with_capacity(alloc, members.len())?;

@@ -4,19 +4,19 @@ use Rattle.std.specs.Bool.{then_some}
 use Rattle.osm_elements.specs.Maps.{Rows}
 use Rattle.osm_changes.specs.declared.cell.Cell.{Cell}
 use Rattle.osm_changes.specs.declared.change.Change.{Change}
-use Rattle.osm_changes.specs.Changes.{rows_after}
+use Rattle.osm_changes.specs.Changes.{changed_rows}
 use Rattle.room_history.specs.declared.kept.Effect.{Effect}
 use Rattle.room_history.specs.Inner.Telling.{is_group, group_cells, single_effect, effect_of}
 use Rattle.room_history.specs.Replays.{Recorded, taken_back}
 
 module _ {A : Type 0} (m : Rows A) (cs : List (Change A)) (effect kept : Effect A) (group : Option (List Cell)) (effect_is : effect ≡ single_effect m cs) (kept_is : kept ≡ record effect { group = group }) where
-  effect_with : kept ≡ record { changes = cs; rows = rows_after m cs; group = group }
+  effect_with : kept ≡ record { changes = cs; rows = changed_rows m cs; group = group }
   effect_with = kept_is ∙ (λ i. record (effect_is i) { group = group })
 
   -- of an action or a group
   pub worked_effect : (r : Recorded A) (cells : List Cell) → cs ≡ r.changes → cells ≡ r.footprint → group ≡ then_some (is_group r.action) cells → kept ≡ effect_of m r
   worked_effect r cells changes_are cells_are group_is =
-      effect_with ∙ (λ i. record { changes = changes_are i; rows = rows_after m (changes_are i); group = (group_is ∙ ap (then_some (is_group r.action)) cells_are) i })
+      effect_with ∙ (λ i. record { changes = changes_are i; rows = changed_rows m (changes_are i); group = (group_is ∙ ap (then_some (is_group r.action)) cells_are) i })
 
   none_back : (o : Option (Recorded A)) → group_cells (taken_back o).action (taken_back o).footprint ≡ None
   none_back None = refl
@@ -24,4 +24,4 @@ module _ {A : Type 0} (m : Rows A) (cs : List (Change A)) (effect kept : Effect 
 
   -- of an undo
   pub undone_effect : (o : Option (Recorded A)) → cs ≡ (taken_back o).changes → group ≡ None → kept ≡ effect_of m (taken_back o)
-  undone_effect o changes_are none = effect_with ∙ (λ i. record { changes = changes_are i; rows = rows_after m (changes_are i); group = (none ∙ sym (none_back o)) i })
+  undone_effect o changes_are none = effect_with ∙ (λ i. record { changes = changes_are i; rows = changed_rows m (changes_are i); group = (none ∙ sym (none_back o)) i })

@@ -29,7 +29,6 @@ pub mod Redoable
 pub mod Redoing
 pub mod RestLeft
 pub mod RisingNumbers
-pub mod SoleRows
 pub mod Stacking
 pub mod Stepping
 pub mod TakingBack

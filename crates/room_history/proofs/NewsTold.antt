@@ -5,7 +5,7 @@ use Rattle.std.proofs.lemmas.List.{map-append}
 use Rattle.osm_elements.specs.declared.name.Name.{Name}
 use Rattle.osm_elements.specs.Maps.{Rows}
 use Rattle.osm_changes.specs.declared.change.Change.{Change}
-use Rattle.osm_changes.specs.Changes.{changed, changed_names, row_in}
+use Rattle.osm_changes.specs.Changes.{changed, changed_names, changed_row}
 use Rattle.room_history.specs.declared.entry.Entry.{Entry}
 use Rattle.room_history.specs.declared.news.News.{News}
 use Rattle.room_history.specs.News.{news, news_behind, news_of, news_row}
@@ -30,9 +30,9 @@ module _ {A : Type 0} where
       ∙ append_assoc p.entries (recorded_next p e.kind ∷ []) (recorded_behind (past_after p e.kind) j)
 
   -- rows of a map in the form of news
-  rows_told : (m : Rows A) (names : List Name) → map told_row (map (row_in m) names) ≡ map (news_row m) names
-  rows_told m [] = refl
-  rows_told m (x ∷ xs) = ap (λ rows. news_row m x ∷ rows) (rows_told m xs)
+  rows_told : (m n : Rows A) (names : List Name) → map told_row (map (changed_row m n) names) ≡ map (news_row n) names
+  rows_told m n [] = refl
+  rows_told m n (x ∷ xs) = ap (λ rows. news_row n x ∷ rows) (rows_told m n xs)
 
   -- the news after more entries
   drop_behind : (base : Rows A) (from : ℕ) (i k : List (Entry A)) → drop from (news_behind base i k) ≡ news_behind base (i ++ take from k) (drop from k)
@@ -49,7 +49,7 @@ module _ {A : Type 0} where
       let later : past_after p e.kind ≡ past base (i ++ e ∷ []) = sym (past-append base i e) in
       let new : News A = news_of base i e in
       ap (λ rows. record { seq = length i + 1; author = e.author; rows = rows } ∷ told_from ((length i + 1) + 1) k (kept_from (changed p.map cs) (recorded_behind (past_after p e.kind) k)))
-      (rows_told (changed p.map cs) (changed_names cs) ∙ ap (λ m. map (news_row m) (changed_names cs)) (sym (mapof-append base i e)))
+      (rows_told p.map (changed p.map cs) (changed_names cs) ∙ ap (λ m. map (news_row m) (changed_names cs)) (sym (mapof-append base i e)))
       ∙ (λ n. new ∷ told_from (longer n + 1) k (kept_from (later n).map (recorded_behind (later n) k)))
       ∙ ap (λ ns. new ∷ ns) (told_behind base (i ++ e ∷ []) k)
 

@@ -1,6 +1,6 @@
 //! Changes of a room's parts for an entry.
 ghost use Rattle.std.specs.Prelude.{◌≡◌, ◌<◌, [], ◌∷◌, ◌++◌, Some, None, true, OnOk, OnErr, vec_len, vec_capacity};
-ghost use Rattle.osm_changes.specs.Changes.{changed, rows_after, AreFrom};
+ghost use Rattle.osm_changes.specs.Changes.{changed, changed_rows, AreFrom};
 ghost use Rattle.osm_changes.specs.Sound.{is_sound};
 ghost use Rattle.osm_changes.specs.Stores.{applied_to};
 ghost use Rattle.osm_changes.specs.Cells.{IsRising};
@@ -108,13 +108,13 @@ pub(crate) fn stand<A: Allocator + Copy>(
     requires next { IsNext holders.old seq }
     requires from { AreFrom store.old.rows effect.now.changes }
     requires sound { is_sound (changed store.old.rows effect.now.changes) ≡ true }
-    requires rows { effect.now.rows ≡ rows_after store.old.rows effect.now.changes }
+    requires rows { effect.now.rows ≡ changed_rows store.old.rows effect.now.changes }
     ensures ok { OnOk result ((store.new ≡ applied_to store.old effect.now.changes)
         × (holders.new ≡ standing holders.old footprint.now seq)) }
     ensures err { OnErr result ((store.new ≡ store.old) × (holders.new ≡ holders.old)) }
 {
     holders.stand(footprint, seq)?;
-    if let Err(refused) = store.apply_told(alloc, &effect.changes, &effect.rows) {
+    if let Err(refused) = store.apply_rows(alloc, &effect.changes, &effect.rows) {
         holders.fall(footprint, seq);
         return Err(refused);
     }

@@ -1,46 +1,35 @@
 //! What a room keeps of the changes of an entry.
-ghost use Rattle.std.specs.Prelude.{◌≡◌, ◌∷◌, [], Some, None, IfOk, IfSome, map};
+ghost use Rattle.std.specs.Prelude.{◌≡◌, Some, IfOk, map};
 ghost use Rattle.std.specs.Option.{is_some, option_copied};
-ghost use Rattle.osm_elements.specs.Rows.{row_at};
-ghost use Rattle.osm_changes.specs.Changes.{AreFrom, row_changes, rows_after};
-ghost use Rattle.room_history.specs.Inner.Kept.{effect_of_row};
+ghost use Rattle.osm_changes.specs.Changes.{changes_of, AreFrom};
 ghost use Rattle.room_history.specs.Inner.Telling.{footprint_by, is_group, single_effect, told_row};
 
-use crate::news::{NewsRow, NewsRows, copy_of, told_rows};
+use crate::news::{NewsRows, told_rows};
 use edit_footprint::footprint::Footprint;
 use edit_footprint::touching::footprint;
 use edit_groups::edit::Edit;
+use osm_changes::changed_row::{ChangedRow, ChangedRows};
 use osm_changes::changes::Changes;
-use osm_changes::row_after::RowsAfter;
+use osm_changes::laws::changes_are_those_of_rows;
 use osm_changes::store::Store;
 use osm_elements::Memory;
-use osm_elements::element::Element;
-use osm_elements::name::Name;
 use std::alloc::Allocator;
+use std::array;
 use std::marker::Model;
 
-// The effect of an entry: its changes, and the rows of their names after it, which the news have. The changes do not
-// determine these rows, because they lack the unchanged part of a row. For a group, it also has the footprint, which
-// does not follow from the group's actions and changes.
+// The effect of an entry: its changes, and the rows of their names before and after it. The changes do not determine these
+// rows, because they lack the unchanged part of a row. For a group, it also has the footprint, which does not follow from
+// the group's actions and changes.
 #[derive(Drop)]
 #[derive_where(Debug)]
 pub(crate) struct Effect<A: Allocator> {
     pub(crate) changes: Changes<A>,
-    pub(crate) rows: RowsAfter<A>,
+    pub(crate) rows: ChangedRows<A>,
     pub(crate) group: Option<Footprint<A>>,
 }
 
-// A changed row: a name, with its element before and after, if any.
-#[derive(Drop)]
-#[derive_where(Debug)]
-pub(crate) struct ChangedRow<A: Allocator> {
-    pub(crate) name: Name,
-    pub(crate) before: Option<Element<A>>,
-    pub(crate) after: Option<Element<A>>,
-}
-
-// An effect as a room keeps it. Most entries change one row. For such an entry, only the row is kept, which needs no
-// memory of its own and determines the changes.
+// An effect as a room keeps it. Its rows determine its changes. Most entries change one row, which needs no memory of its
+// own.
 #[derive(Drop)]
 #[derive_where(Debug)]
 pub(crate) struct Kept<A: Allocator> {
@@ -51,10 +40,15 @@ pub(crate) struct Kept<A: Allocator> {
 #[derive(Drop)]
 #[derive_where(Debug)]
 enum Form<A: Allocator> {
-    /// Its only row.
+    /// The only row of an action.
     Row(ChangedRow<A>),
-    /// The whole effect.
-    Whole(Effect<A>),
+    /// The rows of an action.
+    Rows(ChangedRows<A>),
+    /// The rows of a group, and its footprint.
+    Group {
+        rows: ChangedRows<A>,
+        footprint: Footprint<A>,
+    },
 }
 
 // The model of a kept effect is the effect.
@@ -67,60 +61,25 @@ impl<A: Allocator> Model for Kept<A> {
     ghost view = { λ k. kept_effect k.form };
 }
 
-// Returns the effect of changes that are not a group's, with the rows of a store after them, before they are applied.
+// Returns the effect of changes that are not a group's, with the rows of a store before and after them, before they are
+// applied. The rows determine the changes.
 pub(crate) fn effect_of<A: Allocator + Clone>(
     alloc: A,
     store: &Store<A>,
     changes: Changes<A>,
 ) -> Result<Effect<A>, Memory>
-    ensures { IfOk result (λ e. e ≡ single_effect store.now.rows changes) }
+    requires { AreFrom store.now.rows changes }
+    ensures effect { IfOk result (λ e. e ≡ single_effect store.now.rows changes) }
+    ensures changes { IfOk result (λ e. changes_of e.rows ≡ e.changes) }
 {
-    let rows = store.rows_after(alloc, &changes)?;
+    changes_are_those_of_rows::<A>();
+    let _ = changes.rows();
+    let rows = store.changed_rows(alloc, &changes)?;
     Ok(Effect {
         changes,
         rows,
         group: None,
     })
-}
-
-// Returns the row of an effect on one row, with copies of both elements, before the effect is applied. Returns `None`
-// for an effect on several rows.
-pub(crate) fn sole_row<A: Allocator + Clone>(
-    store: &Store<A>,
-    effect: &Effect<A>,
-) -> Result<Option<ChangedRow<A>>, Memory>
-    requires from { AreFrom store.now.rows effect.now.changes }
-    requires rows { effect.now.rows ≡ rows_after store.now.rows effect.now.changes }
-    requires single { effect.now.group ≡ None }
-    ensures { IfOk result (λ sole. IfSome sole (λ row. effect_of_row row ≡ effect.now)) }
-{
-    // A row has two cells.
-    let cells = effect.changes.rows().len();
-    let rows = effect.rows.as_slice();
-    if cells > 2 || rows.len() != 1 {
-        return Ok(None);
-    }
-    let row = &rows[0];
-    let before = element_at(store, &row.name)?;
-    let after = copy_of(&row.element)?;
-    Ok(Some(ChangedRow {
-        name: row.name,
-        before,
-        after,
-    }))
-}
-
-// Returns a copy of the element of a name in a store, if it has one.
-fn element_at<A: Allocator + Clone>(
-    store: &Store<A>,
-    name: &Name,
-) -> Result<Option<Element<A>>, Memory>
-    ensures { IfOk result (λ copy. copy ≡ row_at store.now.rows name.now) }
-{
-    match store.map().get(name) {
-        Some(element) => Ok(Some(element.copy()?)),
-        None => Ok(None),
-    }
 }
 
 pub(crate) fn is_group<A: Allocator>(edit: &Edit<A>) -> bool
@@ -150,24 +109,18 @@ pub(crate) fn footprint_by<A: Allocator + Clone>(
 }
 
 impl<A: Allocator> Kept<A> {
-    // Keeps an effect: by its only row if this is known, and for a group with its footprint.
-    pub(crate) fn of(
-        effect: Effect<A>,
-        sole: Option<ChangedRow<A>>,
-        group: Option<Footprint<A>>,
-    ) -> Kept<A>
-        requires sole { IfSome sole (λ row. effect_of_row row ≡ effect) }
-        requires single { effect.group ≡ None }
+    // Keeps an effect, and for a group its footprint.
+    pub(crate) fn of(effect: Effect<A>, group: Option<Footprint<A>>) -> Kept<A>
+        requires changes { changes_of effect.rows ≡ effect.changes }
         ensures { result ≡ record effect { group = group } }
     {
-        let Effect { changes, rows, .. } = effect;
-        let form = match (group, sole) {
-            (None, Some(row)) => Form::Row(row),
-            (group, _) => Form::Whole(Effect {
-                changes,
-                rows,
-                group,
-            }),
+        let Effect { rows, .. } = effect;
+        let form = match group {
+            Some(footprint) => Form::Group { rows, footprint },
+            None => match rows.into_sole() {
+                Ok(row) => Form::Row(row),
+                Err(rows) => Form::Rows(rows),
+            },
         };
         Kept { form }
     }
@@ -177,12 +130,12 @@ impl<A: Allocator> Kept<A> {
         ensures { option_copied result ≡ self.now.group }
     {
         match &self.form {
-            Form::Row(_) => None,
-            Form::Whole(effect) => effect.group.as_ref(),
+            Form::Row(_) | Form::Rows(_) => None,
+            Form::Group { footprint, .. } => Some(footprint),
         }
     }
 
-    // Returns the changes. Kept changes are copied, because the news of the entry may still be needed.
+    // Returns the changes.
     pub(crate) fn changes(&self, alloc: A) -> Result<Changes<A>, Memory>
     where
         A: Clone,
@@ -190,7 +143,7 @@ impl<A: Allocator> Kept<A> {
     {
         match &self.form {
             Form::Row(row) => row.changes(alloc),
-            Form::Whole(effect) => effect.changes.copy(),
+            Form::Rows(rows) | Form::Group { rows, .. } => rows.changes(alloc),
         }
     }
 
@@ -200,39 +153,16 @@ impl<A: Allocator> Kept<A> {
         A: Copy,
         ensures { IfOk result (λ rows. rows ≡ map told_row self.now.rows) }
     {
+        told_rows(alloc, self.rows())
+    }
+
+    // Returns the rows.
+    fn rows(&self) -> &[ChangedRow<A>]
+        ensures { result.now ≡ self.now.rows }
+    {
         match &self.form {
-            Form::Row(row) => row.told(alloc),
-            Form::Whole(effect) => told_rows(alloc, effect.rows.as_slice()),
+            Form::Row(row) => array::from_ref(row),
+            Form::Rows(rows) | Form::Group { rows, .. } => rows.as_slice(),
         }
-    }
-}
-
-impl<A: Allocator> ChangedRow<A> {
-    // Returns the changes of the row's halves.
-    fn changes(&self, alloc: A) -> Result<Changes<A>, Memory>
-    where
-        A: Clone,
-        ensures { IfOk result (λ cs. cs ≡ row_changes self.now.name self.now.before self.now.after) }
-    {
-        let before = copy_of(&self.before)?;
-        let after = copy_of(&self.after)?;
-        let mut changes = Changes::empty(alloc);
-        changes.push_row(self.name, before, after)?;
-        Ok(changes)
-    }
-
-    // Returns the row in the form of news.
-    fn told(&self, alloc: A) -> Result<NewsRows<A>, Memory>
-    where
-        A: Copy,
-        ensures { IfOk result (λ rows. rows ≡ record { name = self.now.name; element = self.now.after } ∷ []) }
-    {
-        let element = copy_of(&self.after)?;
-        let mut rows = Vec::with_capacity(alloc, 1)?;
-        rows.push(NewsRow {
-            name: self.name,
-            element,
-        })?;
-        Ok(NewsRows::from_vec(rows))
     }
 }

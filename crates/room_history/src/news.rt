@@ -4,7 +4,8 @@ ghost use Rattle.room_history.specs.Inner.Telling.{told_row, told_of, told_from}
 
 use crate::entry::Entry;
 use crate::kept::Kept;
-use osm_changes::row_after::RowAfter;
+use osm_changes::changed_row::ChangedRow;
+use osm_changes::lookup::copy_of;
 use osm_elements::Memory;
 use osm_elements::element::Element;
 use osm_elements::name::Name;
@@ -41,7 +42,7 @@ impl<A: Allocator + Clone> Clone for NewsRow<A> {
     ghost is_clone = { λ a b. b ≡ a };
 
     fn clone(&self) -> Result<NewsRow<A>, AllocError> {
-        let element = copy_of(&self.element)?;
+        let element = copy_of(self.element.as_ref())?;
         Ok(NewsRow {
             name: self.name,
             element,
@@ -205,28 +206,17 @@ fn news_of<A: Allocator + Copy>(
 // Returns the changed names, each with a copy of its row after the changes.
 pub(crate) fn told_rows<A: Allocator + Copy>(
     alloc: A,
-    rows_after: &[RowAfter<A>],
+    changed: &[ChangedRow<A>],
 ) -> Result<NewsRows<A>, Memory>
-    ensures { IfOk result (λ rows. rows ≡ map told_row rows_after.now) }
+    ensures { IfOk result (λ rows. rows ≡ map told_row changed.now) }
 {
-    let mut rows = Vec::with_capacity(alloc, rows_after.len())?;
-    for row in rows_after {
-        let element = copy_of(&row.element)?;
+    let mut rows = Vec::with_capacity(alloc, changed.len())?;
+    for row in changed {
+        let element = copy_of(row.after.as_ref())?;
         rows.push(NewsRow {
             name: row.name,
             element,
         })?;
     }
     Ok(NewsRows { rows })
-}
-
-pub(crate) fn copy_of<A: Allocator + Clone>(
-    element: &Option<Element<A>>,
-) -> Result<Option<Element<A>>, Memory>
-    ensures { IfOk result (λ copy. copy ≡ element.now) }
-{
-    match element {
-        Some(element) => Ok(Some(element.copy()?)),
-        None => Ok(None),
-    }
 }

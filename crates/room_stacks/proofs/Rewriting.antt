@@ -1,8 +1,6 @@
 -- The stacks after those of one author are replaced.
 use Rattle.std.proofs.Common.{◌≡◌, Bool, true, false, cond, ℕ, List, Option, Some, refl, sym, ap, ◌∙◌}
-use Rattle.std.specs.BTreeMap.{is_at}
-use Rattle.std.specs.Cmp.Lexicographic.{slice_cmp, texts_ties, nat_list_eq_equiv}
-use Rattle.std.specs.Ordering.{nat_cmp}
+use Rattle.std.specs.Cmp.Lexicographic.{nat_list_eq_equiv}
 use Rattle.room_stacks.specs.declared.author.Author.{Author}
 use Rattle.room_stacks.specs.SameAuthors.{is_same_author}
 use Rattle.room_stacks.specs.Facts.SameAuthors.{one_author}
@@ -11,12 +9,9 @@ use Rattle.room_stacks.specs.Inner.Lists.{Usable, Lists, usable_at, standing_of,
 turned : (q author : Author) → is_same_author author q ≡ is_same_author q author
 turned q author = nat_list_eq_equiv.symm author q
 
-pub same_author_is_at : (q author : Author) → is_at (slice_cmp nat_cmp author) q ≡ is_same_author q author
-same_author_is_at q author = sym (texts_ties author q) ∙ turned q author
-
-module _ (before after : Lists) (author : Author) (w : Usable) (at : (q : Author) → usable_at after q ≡ cond (is_at (slice_cmp nat_cmp author) q) (Some w) (usable_at before q)) where
+module _ (before after : Lists) (author : Author) (w : Usable) (at : (q : Author) → usable_at after q ≡ cond (is_same_author author q) (Some w) (usable_at before q)) where
   now : (q : Author) → usable_at after q ≡ cond (is_same_author q author) (Some w) (usable_at before q)
-  now q = at q ∙ ap (λ b. cond b (Some w) (usable_at before q)) (same_author_is_at q author)
+  now q = at q ∙ ap (λ b. cond b (Some w) (usable_at before q)) (turned q author)
 
   -- the value of f at each author's stacks
   module _ {X : Type 0} (f : Option Usable → X) where

@@ -5,17 +5,18 @@ ghost use Rattle.room_stacks.specs.Inner.Lists.{standing_at, redo_at, has_room_a
 
 use crate::author::Author;
 use crate::author_stacks::AuthorStacks;
+use indexmap::IndexMap;
 use osm_elements::Memory;
 use std::alloc::Allocator;
-use std::collections::BTreeMap;
+use std::hash::{BuildHasherDefault, FoldHasher};
 use std::marker::Model;
 
-/// The stacks of each author that has any, or whose next deed has reserved memory. A look-up takes time logarithmic in
-/// the number of authors.
+/// The stacks of each author that has any, or whose next deed has reserved memory. A look-up is that of a hash table,
+/// whose hash has a fixed seed.
 #[derive(Drop)]
 #[derive_where(Debug)]
 pub struct AuthorLists<A: Allocator> {
-    by_author: BTreeMap<Author, AuthorStacks<A>, A>,
+    by_author: IndexMap<Author, AuthorStacks<A>, BuildHasherDefault<FoldHasher>, A>,
 }
 
 impl<A: Allocator> Model for AuthorLists<A> {
@@ -29,10 +30,12 @@ impl<A: Allocator> Model for AuthorLists<A> {
 impl<A: Allocator> AuthorLists<A> {
     /// Returns empty lists.
     pub fn new(alloc: A) -> AuthorLists<A>
+    where
+        A: Copy,
         ensures { result ≡ [] }
     {
         AuthorLists {
-            by_author: BTreeMap::new(alloc),
+            by_author: IndexMap::new(alloc),
         }
     }
 

@@ -58,8 +58,7 @@ impl<A: Allocator> Stacks<A> {
         self.ids.spent(author, id)
     }
 
-    /// Returns the numbers of an author's active entries, in rising order, in time logarithmic in the number of
-    /// authors.
+    /// Returns the numbers of an author's active entries, in rising order. It takes a hash look-up of the author.
     pub fn standing(&self, author: &Author) -> &[u64]
         ensures numbers { result.now ≡ standing self.now.deeds author.now }
         ensures rising { IsStrictlyIncreasing result.now }
@@ -68,16 +67,16 @@ impl<A: Allocator> Stacks<A> {
     }
 
     /// Returns the numbers of the entries that an author undid since its last new action and did not redo, in the order
-    /// of their undos. It takes time logarithmic in the number of authors.
+    /// of their undos. It takes a hash look-up of the author.
     pub fn redo(&self, author: &Author) -> &[u64]
         ensures { result.now ≡ redo self.now.deeds author.now }
     {
         self.lists.redo(author)
     }
 
-    /// Reserves the memory for the next deed of an author, who then replaces the author who was ready. It takes a
-    /// look-up of the author as in [`Stacks::spent`], and time logarithmic in the number of authors. This is an average
-    /// over many deeds: a call may move all spent ids, all authors or all numbers of the author.
+    /// Reserves the memory for the next deed of an author, who then replaces the author who was ready. It takes two hash
+    /// look-ups of the author. This is an average over many deeds: a call may move all spent ids, all authors or all
+    /// numbers of the author.
     ///
     /// # Errors
     ///
@@ -96,7 +95,7 @@ impl<A: Allocator> Stacks<A> {
     }
 
     /// Records that the ready author did an action under the id `id`, in the entry `seq`. It takes the look-ups of
-    /// [`Stacks::spent`], and time logarithmic in the number of authors.
+    /// [`Stacks::spent`], and one more of the author.
     pub fn did(&mut self, author: Author, id: u64, seq: u64)
         requires ready { self.old.ready ≡ Some author }
         requires unspent { spent self.old.deeds author id ≡ None }

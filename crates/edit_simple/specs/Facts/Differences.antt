@@ -1,52 +1,21 @@
 -- Changes that are the differences of two maps.
-use Rattle.std.proofs.Common.{◌≡◌, ◌≢◌, Bool, true, false, not, ◌&&◌, ◌||◌, List, [], ◌∷◌, ◌++◌, append-nil, Option, Some, None, is_some, refl, sym, ap, ◌∙◌, cond}
+use Rattle.std.proofs.Common.{◌≡◌, ◌≢◌, Bool, true, false, not, ◌||◌, [], ◌∷◌, append-nil, Option, Some, None, refl, sym, ap, ◌∙◌, cond}
 use Rattle.std.specs.Option.{option_map}
 use Rattle.osm_elements.specs.declared.name.Name.{Name}
 use Rattle.osm_elements.specs.declared.element.Element.{Element}
-use Rattle.osm_elements.specs.Maps.{Rows, is_same, is_among, is_present, name_set, names_of}
+use Rattle.osm_elements.specs.Maps.{Rows, is_same}
 use Rattle.osm_elements.specs.Rows.{row_at}
-use Rattle.osm_elements.specs.Facts.Among.{is_among-name_set, is_among-append, is_among-names_of}
 use Rattle.osm_elements.specs.Facts.Rows.{same_names, is_eq-name_cmp_itself}
 use Rattle.osm_elements.specs.Facts.Dropped.{same_either_way}
-use Rattle.osm_refs.specs.Facts.RisingNames.{is_among-passing, same_rising, IsRising-filter, IsRising-name_set}
-use Rattle.osm_refs.specs.Rising.{IsRising}
 use Rattle.osm_changes.specs.SameRows.{is_same_row}
 use Rattle.osm_changes.specs.Changes.{row_changes, rows_changes, differences}
-use Rattle.osm_changes.specs.Facts.RowChanges.{differing_names, differences-rows, same-rows_changes}
+use Rattle.osm_changes.specs.Facts.DifferingRows.{differing_are}
+use Rattle.osm_changes.specs.Facts.RowChanges.{differences-rows}
 use Rattle.osm_changes.specs.Facts.SameElements.{same_row, told_same_row}
 use Rattle.edit_simple.specs.Contents.{each_row, at_name}
 use Rattle.edit_simple.specs.Facts.EachRow.{row_at-each_row}
 
 module _ {A : Type 0} where
-  pub is_among-differing_names : (m n : Rows A) (x : Name) → is_among (differing_names m n) x ≡ not (is_same_row (row_at m x) (row_at n x))
-  is_among-differing_names m n x = is_among-passing (λ y. not (is_same_row (row_at m y) (row_at n y))) (name_set (names_of m ++ names_of n)) x ∙ by (is_same_row (row_at m x) (row_at n x)) refl
-    where
-      there : is_among (name_set (names_of m ++ names_of n)) x ≡ (is_present m x || is_present n x)
-      there = is_among-name_set x (names_of m ++ names_of n) ∙ is_among-append x (names_of m) (names_of n)
-          ∙ ap (λ b. b || is_among (names_of n) x) (is_among-names_of m x) ∙ ap (λ b. is_present m x || b) (is_among-names_of n x)
-
-      one : (o p : Option (Element A)) → is_same_row o p ≡ false → (is_some o || is_some p) ≡ true
-      one None None e = absurd (cc)
-      one None (Some w) e = refl
-      one (Some v) p e = refl
-
-      by : (b : Bool) → is_same_row (row_at m x) (row_at n x) ≡ b → (not b && is_among (name_set (names_of m ++ names_of n)) x) ≡ not b
-      by true e = refl
-      by false e = there ∙ one (row_at m x) (row_at n x) e
-
-  -- the names at which two maps differ, as a rising list
-  pub differing_are : (m n : Rows A) (names : List Name) → IsRising names → ((y : Name) → is_among names y ≡ not (is_same_row (row_at m y) (row_at n y))) → names ≡ differing_names m n
-  differing_are m n names rising are =
-      same_rising names (differing_names m n) rising (IsRising-filter (λ y. not (is_same_row (row_at m y) (row_at n y))) (name_set (names_of m ++ names_of n)) (IsRising-name_set (names_of m ++ names_of n)))
-      (λ y. are y ∙ sym (is_among-differing_names m n y))
-
-  -- changes of exactly the names at which two maps differ are their differences
-  pub rows_differing : (m n : Rows A) (after : Name → Option (Element A)) (names : List Name) → IsRising names → ((y : Name) → is_among names y ≡ not (is_same_row (row_at m y) (row_at n y)))
-      → ((y : Name) → is_among names y ≡ true → after y ≡ row_at n y) → rows_changes m after names ≡ differences m n
-  rows_differing m n after names rising are becomes =
-      same-rows_changes m m after (row_at n) names (λ y i. (refl, becomes y i)) ∙ ap (rows_changes m (row_at n)) (differing_are m n names rising are)
-      ∙ sym (differences-rows m n)
-
   -- two maps that differ at only one name
   pub one_difference : (m n : Rows A) (x : Name) → is_same_row (row_at m x) (row_at n x) ≡ false → ((y : Name) → is_same y x ≡ false → row_at n y ≡ row_at m y)
       → row_changes x (row_at m x) (row_at n x) ≡ differences m n

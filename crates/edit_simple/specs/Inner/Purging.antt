@@ -1,12 +1,11 @@
 -- Purges, name by name.
-use Rattle.std.specs.Prelude.{◌≡◌, ◌≢◌, true, not, List, [], ◌∷◌, Option, None, if◌then◌else◌}
-use Rattle.std.specs.List.{filter, flat_map, list_all}
+use Rattle.std.specs.Prelude.{not, List, [], ◌∷◌, Option, None, if◌then◌else◌}
+use Rattle.std.specs.List.{filter, flat_map}
 use Rattle.std.specs.Option.{option_map}
 use Rattle.osm_elements.specs.declared.name.Name.{Name}
 use Rattle.osm_elements.specs.declared.element.Element.{Element}
-use Rattle.osm_elements.specs.Maps.{Rows, is_among, is_present}
+use Rattle.osm_elements.specs.Maps.{Rows, is_among}
 use Rattle.osm_elements.specs.Rows.{row_at}
-use Rattle.osm_refs.specs.Rising.{IsRising}
 use Rattle.osm_refs.specs.Tables.{Table, users_in}
 use Rattle.edit_simple.specs.Contents.{nodes_of, with_nodes, with_members}
 use Rattle.edit_simple.specs.Purge.{without, falls_short}
@@ -35,9 +34,3 @@ module _ {A : Type 0} where
   -- the row of a name after the purge
   abbrev pub purged_row : Rows A → List Name → Name → Name → Option (Element A)
   purged_row m gone x y = row_left gone x y (row_at m y)
-
-  -- the names rise, the map has them, and the row of each changes
-  pub record MayPurge (m : Rows A) (gone : List Name) (x : Name) (names : List Name) : Type 0 where
-    pub rising : IsRising names
-    pub there : list_all (is_present m) names ≡ true
-    pub apart : (y : Name) → is_among names y ≡ true → purged_row m gone x y ≢ row_at m y

@@ -1,14 +1,12 @@
 -- A join, check by check and row by row.
-use Rattle.std.specs.Prelude.{◌≡◌, ◌≢◌, true, not, List, [], ◌∷◌, Option, Some, None, length, nat_lt, if◌then◌else◌}
+use Rattle.std.specs.Prelude.{not, List, [], ◌∷◌, Option, Some, None, length, nat_lt, if◌then◌else◌}
 use Rattle.std.specs.Bool.{then_some}
-use Rattle.std.specs.List.{list_all}
 use Rattle.std.specs.Option.{option_map}
 use Rattle.osm_elements.specs.declared.name.Name.{Name}
 use Rattle.osm_elements.specs.declared.element.Element.{Element}
 use Rattle.osm_elements.specs.declared.element.Element.TheVariants.{Way}
-use Rattle.osm_elements.specs.Maps.{Rows, is_same, is_among, is_present}
+use Rattle.osm_elements.specs.Maps.{Rows, is_same}
 use Rattle.osm_elements.specs.Rows.{row_at}
-use Rattle.osm_refs.specs.Rising.{IsRising}
 use Rattle.osm_changes.specs.Sound.{most_nodes}
 use Rattle.edit_simple.specs.declared.refusal.Refusal.{Refusal}
 use Rattle.edit_simple.specs.declared.refusal.Refusal.TheVariants.{WrongKind, Same, NotEndToEnd, TooMany}
@@ -36,14 +34,12 @@ module _ {A : Type 0} where
       Way (end_to_end (nodes_of (row_at m w)) (nodes_of (row_at m v)))
       (both_tags (row_tags (row_at m w)) (row_tags (row_at m v)))
 
-  -- the row of y after the join, if w gets the row `joined`
-  abbrev pub row_joined : Rows A → Name → Name → Option (Element A) → Name → Option (Element A)
-  row_joined m w v joined y =
-      if is_same y w then joined
-      else (if is_same y v then None else option_map (with_members (joined_members w v)) (row_at m y))
+  -- the row o of y after the join, if w becomes `joined`
+  abbrev pub joined_row : Name → Name → Element A → Name → Option (Element A) → Option (Element A)
+  joined_row w v joined y o =
+      if is_same y w then Some joined
+      else (if is_same y v then None else option_map (with_members (joined_members w v)) o)
 
-  -- the names rise, are present, and all have different rows after the join
-  pub record MayJoin (m : Rows A) (w v : Name) (joined : Element A) (names : List Name) : Type 0 where
-    pub rising : IsRising names
-    pub there : list_all (is_present m) names ≡ true
-    pub apart : (y : Name) → is_among names y ≡ true → row_joined m w v (Some joined) y ≢ row_at m y
+  -- the row of y after the join
+  abbrev pub row_joined : Rows A → Name → Name → Element A → Name → Option (Element A)
+  row_joined m w v joined y = joined_row w v joined y (row_at m y)

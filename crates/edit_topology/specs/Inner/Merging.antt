@@ -1,16 +1,14 @@
 -- A merge, check by check and row by row.
-use Rattle.std.specs.Prelude.{◌≡◌, ◌≢◌, ◌||◌, Bool, true, false, List, [], ◌∷◌, Option, Some, None, length, map, nat_lt, if◌then◌else◌}
+use Rattle.std.specs.Prelude.{◌||◌, Bool, false, List, [], ◌∷◌, Option, Some, None, length, map, nat_lt, if◌then◌else◌}
 use Rattle.std.specs.Bool.{then_some}
 use Rattle.std.specs.List.{list_all}
 use Rattle.std.specs.Option.{option_map}
 use Rattle.osm_elements.specs.declared.name.Name.{Name}
 use Rattle.osm_elements.specs.declared.element.Element.{Element}
 use Rattle.osm_elements.specs.declared.element.Element.TheVariants.{Node, Way, Relation}
-use Rattle.osm_elements.specs.Made.{is_node}
-use Rattle.osm_elements.specs.Maps.{Rows, is_same, is_among, is_present}
+use Rattle.osm_elements.specs.Maps.{Rows, is_same}
 use Rattle.osm_elements.specs.Rows.{row_at}
 use Rattle.osm_elements.specs.TagRows.{Pairs}
-use Rattle.osm_refs.specs.Rising.{IsRising}
 use Rattle.edit_simple.specs.declared.refusal.Refusal.{Refusal}
 use Rattle.edit_simple.specs.declared.refusal.Refusal.TheVariants.{TagConflict, TooMany}
 use Rattle.edit_simple.specs.Tagging.{most_tags}
@@ -57,10 +55,3 @@ module _ {A : Type 0} where
   -- the row of y after the merge
   abbrev pub row_merged : Rows A → Name → Name → Pairs → Name → Option (Element A)
   row_merged m k g both y = merged_row k g both y (row_at m y)
-
-  -- k is a node's name, and the names rise, are present, and all have different rows after the merge
-  pub record MayMerge (m : Rows A) (k g : Name) (both : Pairs) (names : List Name) : Type 0 where
-    pub node : is_node k.kind ≡ true
-    pub rising : IsRising names
-    pub there : list_all (is_present m) names ≡ true
-    pub apart : (y : Name) → is_among names y ≡ true → row_merged m k g both y ≢ row_at m y

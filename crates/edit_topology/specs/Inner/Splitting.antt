@@ -1,11 +1,10 @@
 -- A split, row by row.
-use Rattle.std.specs.Prelude.{◌≡◌, ◌≢◌, ◌+◌, ℕ, Bool, true, false, List, [], ◌∷◌, Option, Some, None, length, take, drop, count_by, nat_lt, if◌then◌else◌}
+use Rattle.std.specs.Prelude.{◌+◌, ℕ, Bool, true, false, List, [], ◌∷◌, Option, Some, None, length, take, drop, count_by, nat_lt, if◌then◌else◌}
 use Rattle.osm_elements.specs.declared.name.Name.{Name}
 use Rattle.osm_elements.specs.declared.element.Element.{Element}
 use Rattle.osm_elements.specs.declared.element.Element.TheVariants.{Node, Way, Relation}
-use Rattle.osm_elements.specs.Maps.{Rows, is_same, is_among}
+use Rattle.osm_elements.specs.Maps.{Rows, is_same}
 use Rattle.osm_elements.specs.Rows.{row_at}
-use Rattle.osm_refs.specs.Rising.{IsRising}
 use Rattle.osm_changes.specs.Sound.{most_members}
 use Rattle.edit_simple.specs.Contents.{nodes_of, members_of, row_tags, with_nodes, with_members}
 use Rattle.edit_topology.specs.Split.{split_members}
@@ -49,9 +48,3 @@ module _ {A : Type 0} where
   -- the row of y after the split
   abbrev pub row_of_split : Rows A → Name → ℕ → Name → Name → Option (Element A)
   row_of_split m w i v y = Some (row_split m w i v (row_at m y))
-
-  -- the way is present, and the names rise and all have different rows after the split
-  pub record MaySplit (m : Rows A) (w : Name) (i : ℕ) (v : Name) (names : List Name) : Type 0 where
-    pub way : is_way_row (row_at m w) ≡ true
-    pub rising : IsRising names
-    pub apart : (y : Name) → is_among names y ≡ true → row_of_split m w i v y ≢ row_at m y

@@ -1,6 +1,7 @@
 -- Cells at which two maps differ, halves and rows after changes, and that the changes between two maps lead there and
 -- back.
 use Rattle.std.proofs.Common.{◌≡◌, ◌||◌, ◌&&◌, Bool, true, false, not, List, [], ◌∷◌, ◌++◌, Option, Some, None, is_some, map, refl, sym, ap, ◌∙◌, cond}
+use Rattle.std.proofs.lemmas.List.Folds.{fold-map}
 use Rattle.std.specs.List.{fold}
 use Rattle.osm_elements.specs.declared.name.Name.{Name}
 use Rattle.osm_elements.specs.declared.element.Element.{Element}
@@ -15,9 +16,11 @@ use Rattle.osm_changes.specs.declared.change.Change.{Change}
 use Rattle.osm_changes.specs.declared.half.Half.{Half}
 use Rattle.osm_changes.specs.declared.part.Part.{Part}
 use Rattle.osm_changes.specs.declared.part.Part.TheVariants.{Tags, Rest}
+use Rattle.osm_changes.specs.declared.changed_row.ChangedRow.{ChangedRow}
 use Rattle.osm_changes.specs.declared.row_after.RowAfter.{RowAfter}
 use Rattle.osm_changes.specs.Cells.{tags_at, rest_at, cells_of, is_same_cell, has, IsRising, half_at}
-use Rattle.osm_changes.specs.Changes.{differing, change_at, differences, cell_of, changed_cells, changed_names, inverse, half_after, row_after, with_row, changed, row_in, rows_after}
+use Rattle.osm_changes.specs.Changes.{differing, change_at, differences, cell_of, changed_cells, changed_names, inverse, half_after, row_after, with_row, changed, changed_row, changed_rows}
+use Rattle.osm_changes.specs.Inner.Applying.{row_in, rows_after}
 use Rattle.osm_changes.specs.Halves.{half, row_of, are_same_halves}
 use Rattle.osm_changes.specs.Facts.Cells.{same_cells, other_cell, has-cells_of, has-passing, IsRising-filter, IsRising-cells_of}
 use Rattle.osm_changes.specs.Facts.Halves.{row_of-halves, told_same_halves}
@@ -170,18 +173,30 @@ module _ {A : Type 0} where
       ∙ ap (λ b. cond b (row_after cs x (row_at m x)) (row_at m x)) e
 
   -- a map that gets the rows after changes becomes the map after them
-  pub with_rows_after : (m : Rows A) (cs : List (Change A))
-      → fold (λ n (r : RowAfter A). with_row n r.name r.element) m (rows_after m cs) ≡ changed m cs
-  with_rows_after m cs = over (changed_names cs) m
+  with_names_after : (m : Rows A) (cs : List (Change A))
+      → fold (λ n x. with_row n x (row_at (changed m cs) x)) m (changed_names cs) ≡ changed m cs
+  with_names_after m cs = over (changed_names cs) m
     where
       over : (xs : List Name) (n : Rows A)
-          → fold (λ n (r : RowAfter A). with_row n r.name r.element) n (map (row_in (changed m cs)) xs)
+          → fold (λ n x. with_row n x (row_at (changed m cs) x)) n xs
           ≡ fold (λ n x. with_row n x (row_after cs x (row_at m x))) n xs
       over [] n = refl
       over (x ∷ xs) n =
           over xs (with_row n x (row_at (changed m cs) x))
           ∙ ap (λ o. fold (λ n y. with_row n y (row_after cs y (row_at m y))) (with_row n x o) xs)
           (row_at-changed m cs x)
+
+  pub with_rows_after : (m : Rows A) (cs : List (Change A))
+      → fold (λ n (r : RowAfter A). with_row n r.name r.element) m (rows_after m cs) ≡ changed m cs
+  with_rows_after m cs =
+      fold-map (λ n (r : RowAfter A). with_row n r.name r.element) (row_in (changed m cs)) m (changed_names cs)
+      ∙ with_names_after m cs
+
+  pub with_changed_rows : (m : Rows A) (cs : List (Change A))
+      → fold (λ n (r : ChangedRow A). with_row n r.name r.after) m (changed_rows m cs) ≡ changed m cs
+  with_changed_rows m cs =
+      fold-map (λ n (r : ChangedRow A). with_row n r.name r.after) (changed_row m (changed m cs)) m (changed_names cs)
+      ∙ with_names_after m cs
 
   -- ---- there and back
 

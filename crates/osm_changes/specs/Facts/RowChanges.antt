@@ -1,10 +1,10 @@
 -- The changes of one row, of several rows, and between two maps, row by row.
-use Rattle.std.proofs.Common.{◌≡◌, ◌≢◌, ◌<◌, ◌+◌, ◌||◌, ℕ, Bool, true, false, not, cond, T, All, List, [], ◌∷◌, ◌++◌, Option, length, map, take, get_or, refl, sym, ap, subst, ◌∙◌}
+use Rattle.std.proofs.Common.{◌≡◌, ◌≢◌, ◌<◌, ◌+◌, ◌||◌, ℕ, zero, suc, Bool, true, false, not, cond, T, All, List, [], ◌∷◌, ◌++◌, Option, length, map, take, get_or, refl, sym, ap, subst, ◌∙◌}
 use Rattle.std.proofs.lemmas.Grind.{flat_map-append}
-use Rattle.std.proofs.lemmas.List.{take_more, append-nil}
+use Rattle.std.proofs.lemmas.List.{take_more, append-nil, map-id}
 use Rattle.std.proofs.lemmas.List.Elements.{All-nil, All-cons}
 use Rattle.std.specs.FinMap.Entries.{below_all}
-use Rattle.std.specs.List.{filter}
+use Rattle.std.specs.List.{filter, flat_map}
 use Rattle.std.specs.Ordering.{is_lt}
 use Rattle.osm_elements.specs.declared.name.Name.{Name}
 use Rattle.osm_elements.specs.declared.element.Element.{Element}
@@ -112,24 +112,65 @@ module _ {A : Type 0} where
 
   -- ---- the changes of several rows
 
-  below_rows : (m : Rows A) (after : Name → Option (Element A)) (x : Name) (p : Part) (names : List Name)
-      → T (below_all name_cmp x (bare_rows names)) → IsBelow x p (rows_changes m after names)
-  below_rows m after x p [] h = tt
-  below_rows m after x p (y ∷ ys) h = below_row x y p (row_at m y) (after y) (rows_changes m after ys) (first _ _ h)
-      (below_rows m after x p ys (second _ _ h))
+  -- items that have a name and a row before and after
+  module _ {X : Type 0} (name : X → Name) (before after : X → Option (Element A)) where
+    abbrev pub all_changes : List X → List (Change A)
+    all_changes xs = flat_map (λ x. row_changes (name x) (before x) (after x)) xs
 
-  -- the changes of rows whose names rise are a list of changes
+    below_rows : (y : Name) (p : Part) (xs : List X) → T (below_all name_cmp y (bare_rows (map name xs)))
+        → IsBelow y p (all_changes xs)
+    below_rows y p [] h = tt
+    below_rows y p (x ∷ xs) h = below_row y (name x) p (before x) (after x) (all_changes xs) (first _ _ h)
+        (below_rows y p xs (second _ _ h))
+
+    -- the changes of rows whose names rise are a list of changes
+    pub AreChanges-all : (xs : List X) → T (are_rising (map name xs)) → AreChanges (all_changes xs)
+    AreChanges-all [] rising = record { rising = tt; differ = All-nil (λ (c : Change A). c.after ≢ c.before) }
+    AreChanges-all (x ∷ xs) rising =
+        let later = AreChanges-all xs (second _ _ rising) in
+        record {
+          rising = rising_row (name x) (before x) (after x) (all_changes xs)
+              (λ p. below_rows (name x) p xs (first _ _ rising)) later.rising;
+          differ = differ_row (name x) (before x) (after x) (all_changes xs) later.differ;
+        }
+
+    -- the changes of the next item follow those of the earlier items
+    pub more-all : (xs : List X) (k : ℕ) (x : X) → k < length xs → x ≡ get_or xs k x
+        → all_changes (take k xs) ++ row_changes (name x) (before x) (after x) ≡ all_changes (take (k + 1) xs)
+    more-all xs k x l is =
+        ap (λ ds. all_changes (take k xs) ++ ds) (sym (append-nil (row_changes (name x) (before x) (after x))))
+        ∙ sym (flat_map-append (λ y. row_changes (name y) (before y) (after y)) (take k xs) (x ∷ []))
+        ∙ ap (λ y. all_changes (take k xs ++ y ∷ [])) is
+        ∙ ap all_changes (sym (take_more xs k x l))
+
+    below-take : (y : Name) (xs : List X) (i : ℕ) → T (below_all name_cmp y (bare_rows (map name xs)))
+        → T (below_all name_cmp y (bare_rows (map name (take i xs))))
+    below-take y xs zero h = tt
+    below-take y [] (suc i) h = tt
+    below-take y (x ∷ xs) (suc i) h = both _ _ (first _ _ h) (below-take y xs i (second _ _ h))
+
+    rising-take : (xs : List X) (i : ℕ) → T (are_rising (map name xs)) → T (are_rising (map name (take i xs)))
+    rising-take xs zero h = tt
+    rising-take [] (suc i) h = tt
+    rising-take (x ∷ xs) (suc i) h = both _ _ (below-take (name x) xs i (first _ _ h)) (rising-take xs i (second _ _ h))
+
+    -- they are a list of changes together
+    pub next_fits : (xs : List X) (k : ℕ) (x : X) → k < length xs → x ≡ get_or xs k x → T (are_rising (map name xs))
+        → AreChanges (all_changes (take k xs) ++ row_changes (name x) (before x) (after x))
+    next_fits xs k x l is rising = subst AreChanges (sym (more-all xs k x l is))
+        (AreChanges-all (take (k + 1) xs) (rising-take xs (k + 1) rising))
+
+  -- the same of names
   pub AreChanges-rows_changes : (m : Rows A) (after : Name → Option (Element A)) (names : List Name)
       → T (are_rising names) → AreChanges (rows_changes m after names)
-  AreChanges-rows_changes m after [] rising =
-      record { rising = tt; differ = All-nil (λ (c : Change A). c.after ≢ c.before) }
-  AreChanges-rows_changes m after (x ∷ xs) rising =
-      let later = AreChanges-rows_changes m after xs (second _ _ rising) in
-      record {
-        rising = rising_row x (row_at m x) (after x) (rows_changes m after xs)
-            (λ p. below_rows m after x p xs (first _ _ rising)) later.rising;
-        differ = differ_row x (row_at m x) (after x) (rows_changes m after xs) later.differ;
-      }
+  AreChanges-rows_changes m after names rising = AreChanges-all (λ x. x) (row_at m) after names
+      (subst (λ xs. T (are_rising xs)) (sym (map-id names)) rising)
+
+  pub next_name_fits : (m : Rows A) (after : Name → Option (Element A)) (names : List Name) (k : ℕ) (x : Name)
+      → k < length names → x ≡ get_or names k x → T (are_rising names)
+      → AreChanges (rows_changes m after (take k names) ++ row_changes x (row_at m x) (after x))
+  next_name_fits m after names k x l is rising = next_fits (λ y. y) (row_at m) after names k x l is
+      (subst (λ xs. T (are_rising xs)) (sym (map-id names)) rising)
 
   -- the same rows before and after have the same changes
   pub same-rows_changes : (m n : Rows A) (after other : Name → Option (Element A)) (names : List Name)
@@ -140,19 +181,6 @@ module _ {A : Type 0} where
       let first = same x (own x xs) in
       let rest = same-rows_changes m n after other xs (λ y i. same y (among_more (is_same y x) (is_among xs y) i)) in
       λ i. row_changes x (first.0 i) (first.1 i) ++ rest i
-
-  -- the changes of the next name follow those of the earlier names
-  pub more-rows_changes : (m : Rows A) (after : Name → Option (Element A)) (names : List Name) (k : ℕ) (x : Name)
-      → k < length names → x ≡ get_or names k x
-      → (cs : List (Change A)) (o p : Option (Element A)) → cs ≡ rows_changes m after (take k names) → o ≡ row_at m x
-      → p ≡ after x
-      → cs ++ row_changes x o p ≡ rows_changes m after (take (k + 1) names)
-  more-rows_changes m after names k x l is cs o p before from target =
-      (λ i. before i ++ row_changes x (from i) (target i))
-      ∙ ap (λ ds. rows_changes m after (take k names) ++ ds) (sym (append-nil (row_changes x (row_at m x) (after x))))
-      ∙ sym (flat_map-append (λ y. row_changes y (row_at m y) (after y)) (take k names) (x ∷ []))
-      ∙ ap (λ y. rows_changes m after (take k names ++ y ∷ [])) is
-      ∙ ap (rows_changes m after) (sym (take_more names k x l))
 
   -- ---- the changes between two maps
 

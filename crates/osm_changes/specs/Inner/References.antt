@@ -1,6 +1,7 @@
 -- The references of changed rows, entered in the users of a map.
 use Rattle.std.specs.Prelude.{◌≡◌, ◌++◌, T, List, map}
 use Rattle.osm_changes.specs.Changes.{are_rising}
+use Rattle.osm_changes.specs.declared.changed_row.ChangedRow.{ChangedRow}
 use Rattle.osm_changes.specs.declared.row_after.RowAfter.{RowAfter}
 use Rattle.osm_elements.specs.Maps.{Rows, name_set}
 use Rattle.osm_elements.specs.Rows.{AreInOrder, row_at}
@@ -11,6 +12,10 @@ use Rattle.osm_refs.specs.Tables.{Note, Table, references_at, referring, table_o
 use Rattle.osm_refs.specs.declared.change.ReferenceChange.{ReferenceChange}
 
 module _ {A : Type 0} where
+  -- the references that begin and cease with a changed row
+  abbrev pub row_reference_change : ChangedRow A → ReferenceChange A
+  row_reference_change r = reference_change r.name (name_set (row_references r.before)) (name_set (row_references r.after))
+
   -- the references of a name that begin and cease with its row after changes
   abbrev pub reference_change_of : Rows A → RowAfter A → ReferenceChange A
   reference_change_of m r = reference_change r.name (name_set (row_references (row_at m r.name))) (name_set (row_references r.element))

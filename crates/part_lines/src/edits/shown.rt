@@ -1,7 +1,7 @@
 //! Writing elements, changes and stores as texts.
 use edit_footprint::footprint::Footprint;
+use osm_changes::changed_row::ChangedRow;
 use osm_changes::changes::Changes;
-use osm_changes::row_after::RowAfter;
 use osm_changes::store::Store;
 use osm_elements::element::Element;
 use osm_elements::map::{Row, Rows};
@@ -92,14 +92,13 @@ fn put_side(
 fn put_change(
     alloc: Global,
     text: &mut String,
-    before: Option<&Element<Global>>,
-    row: &RowAfter<Global>,
+    row: &ChangedRow<Global>,
 ) -> Result<(), AllocError> {
     put_name(alloc, text, &row.name)?;
     text.push(':')?;
-    put_side(alloc, text, before)?;
+    put_side(alloc, text, row.before.as_ref())?;
     text.push_str(" ->")?;
-    put_side(alloc, text, row.element.as_ref())?;
+    put_side(alloc, text, row.after.as_ref())?;
     text.push(';')
 }
 
@@ -150,10 +149,10 @@ pub fn changes_shown(
     store: &Store<Global>,
     changes: &Changes<Global>,
 ) -> Result<String, AllocError> {
-    let rows = store.rows_after(alloc, &changes.copy()?)?;
+    let rows = store.changed_rows(alloc, &changes.copy()?)?;
     let mut text = String::new(alloc);
     for row in rows.as_slice() {
-        put_change(alloc, &mut text, store.map().get(&row.name), row)?;
+        put_change(alloc, &mut text, row)?;
     }
     Ok(text)
 }

@@ -4,8 +4,8 @@ use Rattle.std.specs.Bool.{then_some}
 use Rattle.osm_elements.specs.Maps.{Rows}
 use Rattle.osm_changes.specs.declared.cell.Cell.{Cell}
 use Rattle.osm_changes.specs.declared.change.Change.{Change}
-use Rattle.osm_changes.specs.declared.row_after.RowAfter.{RowAfter}
-use Rattle.osm_changes.specs.Changes.{changed, rows_after}
+use Rattle.osm_changes.specs.declared.changed_row.ChangedRow.{ChangedRow}
+use Rattle.osm_changes.specs.Changes.{changed, changed_rows}
 use Rattle.edit_footprint.specs.Footprints.{footprint_of}
 use Rattle.edit_groups.specs.declared.edit.Edit.{Edit}
 use Rattle.edit_groups.specs.declared.edit.Edit.TheVariants.{One, Group}
@@ -31,13 +31,13 @@ module _ {A : Type 0} where
   footprint_by (Group g) None cs = []
   footprint_by (Group g) (Some cells) cs = cells
 
-  -- the effect of changes that are not a group's, with the rows after them
+  -- the effect of changes that are not a group's, with the rows before and after them
   abbrev pub single_effect : Rows A → List (Change A) → Effect A
-  single_effect m cs = record { changes = cs; rows = rows_after m cs; group = None }
+  single_effect m cs = record { changes = cs; rows = changed_rows m cs; group = None }
 
-  -- the effect of an entry, with the rows after it
+  -- the effect of an entry, with the rows before and after it
   abbrev pub effect_of : Rows A → Recorded A → Effect A
-  effect_of m r = record { changes = r.changes; rows = rows_after m r.changes; group = group_cells r.action r.footprint }
+  effect_of m r = record { changes = r.changes; rows = changed_rows m r.changes; group = group_cells r.action r.footprint }
 
   -- the effects of entries in order
   abbrev pub kept_from : Rows A → List (Recorded A) → List (Effect A)
@@ -49,8 +49,8 @@ module _ {A : Type 0} where
   kept base j = kept_from base (past base j).entries
 
   -- a row in the form of news
-  abbrev pub told_row : RowAfter A → NewsRow A
-  told_row r = record { name = r.name; element = r.element }
+  abbrev pub told_row : ChangedRow A → NewsRow A
+  told_row r = record { name = r.name; element = r.after }
 
   -- the news of the entry with the number n
   abbrev pub told_of : ℕ → Entry A → Effect A → News A

@@ -9,7 +9,7 @@ ghost use Rattle.osm_changes.specs.Sound.{is_sound};
 use crate::effects::{enter, note, reserve, stand};
 use crate::entry::{Entry, EntryKind};
 use crate::journal::{action_of, origin_next};
-use crate::kept::{Kept, effect_of, is_group, sole_row};
+use crate::kept::{Kept, effect_of, is_group};
 use crate::room::Room;
 use crate::undo::Undoable;
 use edit_footprint::footprint::Footprint;
@@ -29,7 +29,7 @@ impl<A: Allocator + Copy> Room<A> {
 
     // Appends the entry of an accepted edit, done or redone, with its changes and its footprint on the current map, and
     // returns its number. All allocations come before the first change of the store: those for the lists, the stacks,
-    // the kept effect and the holders, and those of `Store::apply_told`.
+    // the kept effect and the holders, and those of `Store::apply_rows`.
     pub(super) fn append_work(
         &mut self,
         author: Author,
@@ -59,7 +59,6 @@ impl<A: Allocator + Copy> Room<A> {
             &author,
         )?;
         let effect = effect_of(alloc, &self.store, changes)?;
-        let sole = sole_row(&self.store, &effect)?;
         let seq = self.entries.len() as u64 + 1;
         let origin = origin_next(&self.origins, &kind);
         stand(
@@ -76,7 +75,7 @@ impl<A: Allocator + Copy> Room<A> {
             &mut self.recorded,
             &mut self.origins,
             Entry { author, id, kind },
-            Kept::of(effect, sole, is_group.then_some(footprint)),
+            Kept::of(effect, is_group.then_some(footprint)),
             origin,
         );
         Ok(seq)
@@ -128,8 +127,7 @@ impl<A: Allocator + Copy> Room<A> {
             &author,
         )?;
         let effect = effect_of(alloc, &self.store, changes.inverse())?;
-        let sole = sole_row(&self.store, &effect)?;
-        self.store.apply_told(alloc, &effect.changes, &effect.rows)?;
+        self.store.apply_rows(alloc, &effect.changes, &effect.rows)?;
         let seq = self.entries.len() as u64 + 1;
         let undo = EntryKind::Undo(of);
         note(&mut self.stacks, author, id, &undo, seq);
@@ -142,7 +140,7 @@ impl<A: Allocator + Copy> Room<A> {
                 id,
                 kind: undo,
             },
-            Kept::of(effect, sole, None),
+            Kept::of(effect, None),
             seq,
         );
         self.holders.fall(&footprint, of);

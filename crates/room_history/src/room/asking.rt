@@ -4,10 +4,9 @@ ghost use Rattle.std.specs.Prelude.{◌≡◌, length, IfOk};
 use crate::ask::{RoomCall, RoomReply, Undoable};
 use crate::numbers::Numbers;
 use crate::room::Room;
+use osm_changes::lookup::copy_of;
 use osm_elements::Memory;
-use osm_elements::element::Element;
 use osm_elements::map::Rows;
-use osm_elements::name::Name;
 use room_stacks::author::Author;
 use std::alloc::Allocator;
 
@@ -28,20 +27,10 @@ impl<A: Allocator + Copy> Room<A> {
     {
         match call {
             RoomCall::Take(call) => RoomReply::Take(self.take(call)),
-            RoomCall::Get(name) => RoomReply::Get(self.copy_of(&name)),
+            RoomCall::Get(name) => RoomReply::Get(copy_of(self.get(&name))),
             RoomCall::Rows => RoomReply::Rows(self.front_and_rows()),
             RoomCall::Undos(author) => RoomReply::Undos(self.undoable_by(&author)),
             RoomCall::News(from) => RoomReply::News(self.news(from)),
-        }
-    }
-
-    // Returns a copy of the element of a name, or `None`.
-    fn copy_of(&self, name: &Name) -> Result<Option<Element<A>>, Memory>
-        ensures { IfOk result (λ found. found ≡ row_at (mapof self.now.base self.now.journal) name.now) }
-    {
-        match self.get(name) {
-            Some(element) => Ok(Some(element.copy()?)),
-            None => Ok(None),
         }
     }
 

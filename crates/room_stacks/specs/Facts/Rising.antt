@@ -119,8 +119,3 @@ module _ (p r : Deed → Bool) (never : (d : Deed) → p d ≡ true → r d ≡ 
       by false true e f m more =
           All-cons P (number d) (map number (filter r ds)) (less_differs (number d) s (above_among (number d) s (map number (filter p ds)) (All-passing (λ k. number d < k) p ds h.0) m)) (more m)
       by false false e f m more = more m
-
--- after a deed with a number, the next number is above all
-pub IsAboveAll-push : (ds : List Deed) (d : Deed) → IsAboveAll (number d) ds → IsAboveAll (number d + 1) (ds ++ d ∷ [])
-IsAboveAll-push ds d h =
-    All-push (λ e. number e < number d + 1) ds d (All-weaker (λ e. number e < number d) (λ e. number e < number d + 1) (λ e low. omega (arith, low)) ds h) (omega arith)

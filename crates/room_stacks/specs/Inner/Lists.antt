@@ -2,9 +2,6 @@
 use Rattle.std.specs.Prelude.{◌≡◌, ◌<◌, ℕ, Bool, true, false, not, cond, List, [], ◌∷◌, Option, Some, None, nat_eq, ⊤}
 use Rattle.std.specs.List.{All, filter}
 use Rattle.std.specs.Map.{lookup}
-use Rattle.std.specs.BTreeMap.{is_at}
-use Rattle.std.specs.Ordering.{nat_cmp}
-use Rattle.std.specs.Cmp.Lexicographic.{slice_cmp}
 use Rattle.room_stacks.specs.declared.author.Author.{Author}
 use Rattle.room_stacks.specs.SameAuthors.{is_same_author}
 
@@ -27,7 +24,7 @@ abbrev pub without : ℕ → List ℕ → List ℕ
 without s ns = filter (λ n. not (nat_eq n s)) ns
 
 abbrev pub usable_at : Lists → Author → Option Usable
-usable_at lists q = lookup (is_at (slice_cmp nat_cmp q)) lists
+usable_at lists q = lookup (is_same_author q) lists
 
 abbrev pub standing_of : Option Usable → List ℕ
 standing_of None = []

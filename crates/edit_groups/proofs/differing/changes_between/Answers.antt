@@ -1,18 +1,14 @@
-use Rattle.std.proofs.Common.{ap, ◌∙◌, arith}
-use Rattle.std.proofs.lemmas.List.{take_all}
-use Rattle.osm_elements.specs.Rows.{row_at}
-use Rattle.osm_changes.specs.Changes.{rows_changes}
-use Rattle.edit_simple.specs.Facts.ChangesInTurn.{one_fits}
-use Rattle.edit_groups.proofs.Covering.{covering}
+use Rattle.std.proofs.Common.{sym, ap, subst, ◌∙◌}
+use Rattle.osm_elements.specs.Maps.{is_among}
+use Rattle.osm_elements.specs.Facts.Among.{is_among-name_set}
+use Rattle.osm_refs.specs.Rising.{IsRising}
+use Rattle.osm_refs.specs.Facts.RisingNames.{IsRising-name_set}
 use Rattle.edit_groups.proofs.differing.changes_between.Goals as goal
 
-pub push_row-requires : goal.push_row-requires
-push_row-requires g c =
-    one_fits (g.M.Lookup.rows c.args.before.now) (row_at (g.N.Lookup.rows c.args.after.now)) c.args.names.now c.loop-name.name-index c.name-item.result c.loop-name-test.true c.name-item.is
-    c.requires.rising c.loop-name.changes c.in_ok-old.old c.in_ok-new.new c.loop-name.invariant (c.in_ok-old.ensures ∙ c.element.ensures) (c.in_ok-new.ensures ∙ c.element-in-loop-name.ensures)
+pub changes_at-requires-clause-rising : goal.changes_at-requires-clause-rising
+changes_at-requires-clause-rising g c =
+    subst IsRising (sym (c.deref.ensures.value ∙ c.in_ok-names.ensures.set)) (IsRising-name_set c.args.names.items)
 
-pub returns : goal.returns
-returns g c =
-    c.loop-name.invariant
-    ∙ ap (rows_changes (g.M.Lookup.rows c.args.before.now) (row_at (g.N.Lookup.rows c.args.after.now))) (take_all c.loop-name.name-index c.args.names.now (let end = c.loop-name-test.false in omega (arith, end)))
-    ∙ covering (g.M.Lookup.rows c.args.before.now) (g.N.Lookup.rows c.args.after.now) c.args.names.now c.requires.rising c.requires.rest
+pub changes_at-requires-clause-rest : goal.changes_at-requires-clause-rest
+changes_at-requires-clause-rest g c =
+    λ y out. c.requires y (sym (is_among-name_set y c.args.names.items) ∙ sym (ap (λ names. is_among names y) (c.deref.ensures.value ∙ c.in_ok-names.ensures.set)) ∙ out)

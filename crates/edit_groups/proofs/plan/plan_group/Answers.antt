@@ -43,22 +43,16 @@ loop-action-preserved g c =
       at = ap (λ n. n + 1) i.at;
     }
 
-pub changes_between-requires-clause-rising : goal.changes_between-requires-clause-rising
-changes_between-requires-clause-rising g c =
-    let sorted = c.deref.ensures.value ∙ sorted_is_name_set _ name_eq_is _ name_cmp_is _ _ _ c.sort_unstable.ensures.permutation c.sort_unstable.ensures.sorted c.dedup.ensures.filtered in
-    subst IsRising (sym sorted) (IsRising-name_set c.loop-action.names.items)
+pub changes_between-requires : goal.changes_between-requires
+changes_between-requires g c =
+    λ y out. c.loop-action.invariant.after.rest y out ∙ ap (λ m. row_at m y) (sym c.map-map.ensures.map)
 
-pub changes_between-requires-clause-rest : goal.changes_between-requires-clause-rest
-changes_between-requires-clause-rest g c =
-    let sorted = c.deref.ensures.value ∙ sorted_is_name_set _ name_eq_is _ name_cmp_is _ _ _ c.sort_unstable.ensures.permutation c.sort_unstable.ensures.sorted c.dedup.ensures.filtered in
-    λ y out. c.loop-action.invariant.after.rest y (sym (is_among-name_set y c.loop-action.names.items) ∙ sym (ap (λ names. is_among names y) sorted) ∙ out) ∙ ap (λ m. row_at m y) (sym c.map-map.ensures.map)
-
-pub returns-in-Ok-changes_between : goal.returns-in-Ok-changes_between
-returns-in-Ok-changes_between g c =
+pub returns : goal.returns
+returns g c =
     let m = c.args.store.now.rows in
     let group = c.args.group.now in
     let whole = take_all c.loop-action.action-index group (let end = c.loop-action-test.false in let count = ap length c.as_slice-action-items.ensures.actions in omega (arith, end, count)) in
     group_planned m group c.loop-action.draft c.loop-action.names.items c.loop-action.cells.items
     (subst (λ done. IsAfter m done c.loop-action.draft c.loop-action.names.items c.loop-action.cells.items) whole c.loop-action.invariant.after)
-    c.in-Ok-changes_between.changes (c.in-Ok-changes_between.ensures ∙ ap (λ n. differences n c.loop-action.draft) c.map-map.ensures.map)
+    c.in_ok-changes.changes (c.in_ok-changes.ensures ∙ ap (λ n. differences n c.loop-action.draft) c.map-map.ensures.map)
     c.accepted.result c.accepted.ensures.changes c.accepted.ensures.footprint c.accepted.ensures.some c.accepted.ensures.refused

@@ -1,11 +1,6 @@
-use Rattle.std.proofs.Common.{ap, ◌∙◌}
+use Rattle.std.proofs.Common.{◌≡◌, IfOk, subst}
 use Rattle.osm_elements.specs.Maps.{name_set}
-use Rattle.osm_elements.specs.Facts.NameOrder.{name_cmp_is}
-use Rattle.osm_elements.specs.Facts.SameNames.{name_eq_is}
-use Rattle.osm_refs.specs.Facts.NameSets.{sorted_is_name_set}
 use Rattle.edit_simple.proofs.purge.all_reached.Goals as goal
 
 pub returns : goal.returns
-returns g c =
-    sorted_is_name_set _ name_eq_is _ name_cmp_is _ _ _ c.sort_unstable.ensures.permutation c.sort_unstable.ensures.sorted c.dedup.ensures.filtered
-    ∙ ap name_set c.in_ok-reached.ensures
+returns g c = subst (λ names. IfOk c.name_set.result (λ set. set.items ≡ name_set names)) c.in_ok-listed.ensures c.name_set.ensures.set

@@ -1,11 +1,9 @@
-use Rattle.std.proofs.Common.{◌++◌, ap, ◌∙◌}
+use Rattle.std.proofs.Common.{◌≡◌, ◌++◌, IfOk, ap, subst, ◌∙◌}
 use Rattle.osm_elements.specs.Maps.{name_set}
-use Rattle.osm_elements.specs.Facts.NameOrder.{name_cmp_is}
-use Rattle.osm_elements.specs.Facts.SameNames.{name_eq_is}
-use Rattle.osm_refs.specs.Facts.NameSets.{sorted_is_name_set}
 use Rattle.edit_topology.proofs.subjects.subjects_and_users.Goals as goal
 
 pub returns : goal.returns
 returns g c =
-    sorted_is_name_set _ name_eq_is _ name_cmp_is _ _ _ c.sort_unstable.ensures.permutation c.sort_unstable.ensures.sorted c.dedup.ensures.filtered
-    ∙ ap name_set (c.in_ok-extend_from_slice-2.ensures.items ∙ ap (λ l. l ++ c.args.users.now) (c.in_ok-extend_from_slice.ensures.items ∙ ap (λ l. l ++ c.args.subjects.now) c.new-names.ensures.items))
+    subst (λ names. IfOk c.name_set.result (λ set. set.items ≡ name_set names))
+    (c.in_ok-extend_from_slice-2.ensures.items ∙ ap (λ l. l ++ c.args.users.now) (c.in_ok-extend_from_slice.ensures.items ∙ ap (λ l. l ++ c.args.subjects.now) c.new-names.ensures.items))
+    c.name_set.ensures.set

@@ -1,5 +1,4 @@
-use Rattle.std.proofs.Common.{◌≡◌, subst, sym, rules}
-use Rattle.std.proofs.lemmas.Fn.{always_returns_same}
+use Rattle.std.proofs.Common.{◌≡◌, subst, sym}
 use Rattle.std.specs.List.{HoldsAt}
 use Rattle.std.specs.List.Sorted.{IsBinarySearchResult}
 use Rattle.std.specs.Option.{option_copied}
@@ -17,8 +16,7 @@ returns-in-Ok g c =
     let cs = c.args.changes.now in
     let place = c.in-Ok.place in
     let cell : Cell = c.args.cell in
-    let here : HoldsAt (λ d. cell_cmp (cell_of d) cell ≡ Equal) cs place =
-    c.in-Ok.ensures.position (λ d. cell_cmp (cell_of d) cell) (always_returns_same _ _ _ (λ x r f' called. search rules)) in
+    let here : HoldsAt (λ d. cell_cmp (cell_of d) cell ≡ Equal) cs place = c.in-Ok.ensures.position in
     subst (λ v. IfOk c.copy_of.result (λ h. h ≡ v))
     (sym (found_at cs cell place c.index-changes-place.result (half cell.part (option_copied c.args.row)) c.requires c.in-Ok.ensures.bound here))
     c.copy_of.ensures
@@ -26,10 +24,9 @@ returns-in-Ok g c =
 pub returns-in-Err : goal.returns-in-Err
 returns-in-Err g c =
     let cs = c.args.changes.now in
-    let place = c.in-Err.field-0 in
+    let place = c.in-Err.place in
     let cell : Cell = c.args.cell in
-    let gap : IsBinarySearchResult (λ d. cell_cmp (cell_of d) cell) cs (gap_at place) =
-    c.in-Err.ensures.position (λ d. cell_cmp (cell_of d) cell) (always_returns_same _ _ _ (λ x r f' called. search rules)) in
+    let gap : IsBinarySearchResult (λ d. cell_cmp (cell_of d) cell) cs (gap_at place) = c.in-Err.ensures.position in
     subst (λ v. IfOk c.half_of.result (λ h. h ≡ v))
     (sym (not_found cs cell place (half cell.part (option_copied c.args.row)) c.requires c.in-Err.ensures.bound gap))
     (subst (λ p. IfOk c.half_of.result (λ h. h ≡ half p (option_copied c.args.row))) c.part.ensures c.half_of.ensures)

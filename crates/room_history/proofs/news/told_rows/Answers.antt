@@ -7,6 +7,6 @@ pub loop-row-preserved : goal.loop-row-preserved
 loop-row-preserved g c =
     let row = c.row-item.result in
     c.in_ok-push.ensures.items
-    ∙ ap (λ e. c.loop-row.rows.items ++ record { name = row.name; element = e } ∷ []) c.in_ok-element.ensures
+    ∙ ap (λ e. c.loop-row.rows.items ++ record { name = row.name; element = e } ∷ []) (c.in_ok-element.ensures ∙ c.as_ref.ensures.value)
     ∙ (λ i. c.loop-row.invariant i ++ told_row (c.row-item.is i) ∷ [])
-    ∙ sym (map_more told_row c.args.rows_after.now c.loop-row.row-index row c.loop-row-test.true)
+    ∙ sym (map_more told_row c.args.changed.now c.loop-row.row-index row c.loop-row-test.true)

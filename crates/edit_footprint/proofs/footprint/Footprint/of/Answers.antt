@@ -6,8 +6,8 @@ use Rattle.edit_footprint.proofs.footprint.Footprint.of.Goals as goal
 
 pub invariant_of-result : goal.invariant_of-result
 invariant_of-result g c =
-    subst IsRising (sym (sorted_is_cell_set _ _ _ c.sort_unstable.ensures.permutation c.sort_unstable.ensures.sorted c.dedup.ensures.filtered))
+    subst IsRising (sym (sorted_is_cell_set _ _ _ c.in_ok-sort.ensures.permutation c.in_ok-sort.ensures.sorted c.dedup.ensures.filtered))
     (IsRising-cell_set c.args.cells.items)
 
 pub returns : goal.returns
-returns g c = sorted_is_cell_set _ _ _ c.sort_unstable.ensures.permutation c.sort_unstable.ensures.sorted c.dedup.ensures.filtered
+returns g c = sorted_is_cell_set _ _ _ c.in_ok-sort.ensures.permutation c.in_ok-sort.ensures.sorted c.dedup.ensures.filtered

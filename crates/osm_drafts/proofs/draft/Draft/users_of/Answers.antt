@@ -1,12 +1,9 @@
 use Rattle.std.proofs.Common.{◌++◌, ap, ◌∙◌}
 use Rattle.std.specs.List.{flat_map}
 use Rattle.osm_elements.specs.Maps.{name_set}
-use Rattle.osm_elements.specs.Facts.NameOrder.{name_cmp_is}
-use Rattle.osm_elements.specs.Facts.SameNames.{name_eq_is}
 use Rattle.osm_refs.specs.References.{users}
 use Rattle.osm_refs.specs.Tables.{Table, users_in}
 use Rattle.osm_refs.specs.Facts.MapTables.{users_in-table_of}
-use Rattle.osm_refs.specs.Facts.NameSets.{sorted_is_name_set}
 use Rattle.osm_changes.specs.Facts.SoundRows.{sound_in_order}
 use Rattle.osm_drafts.specs.Drafts.{unwritten}
 use Rattle.osm_drafts.specs.Facts.Drafting.{users-drafted}
@@ -22,7 +19,7 @@ returns g c =
     let own = c.of.ensures.users ∙ ap (λ (t : Table). users_in t e) c.self.invariant.users_are ∙ users_in-table_of here e in
     let pushed = c.in_ok-push_all_unwritten.ensures ∙ (λ i. c.new-names.ensures.items i ++ flat_map (unwritten w) (its i)) in
     c.from_vec.ensures
-    ∙ sorted_is_name_set _ name_eq_is _ name_cmp_is _ _ _ c.sort_unstable.ensures.permutation c.sort_unstable.ensures.sorted c.dedup.ensures.filtered
+    ∙ c.in_ok-names.ensures.set
     ∙ ap name_set (c.in_ok-extend_from_slice.ensures.items ∙ (λ i. pushed i ++ own i))
     ∙ users-drafted m w here e (sound_in_order m c.map.ensures.sound) c.self.invariant.order c.self.invariant.inside
     ∙ ap (λ k. users k e) c.self.view_is

@@ -1,5 +1,5 @@
 use Rattle.std.proofs.Common.{◌≡◌, ◌+◌, ◌++◌, ◌∷◌, [], None, refl, length, sym, ap, subst, ◌∙◌, rules}
-use Rattle.osm_changes.specs.Changes.{changed, AreFrom, rows_after}
+use Rattle.osm_changes.specs.Changes.{changed, AreFrom, changed_rows}
 use Rattle.osm_changes.specs.Sound.{is_sound}
 use Rattle.osm_changes.specs.Stores.{applied_to}
 use Rattle.edit_footprint.specs.Holding.{HoldsOnly}
@@ -15,51 +15,42 @@ use Rattle.room_history.proofs.KeptEffects.{undone_effect}
 use Rattle.room_history.proofs.Stepping.{IsRoom-undo, holds_just, unspent_deed, above_deeds, stands_there, undo_from, undo_sound, on_err}
 use Rattle.room_history.proofs.room.Room.append_undo.Goals as goal
 
-pub sole_row-requires-clause-from : goal.sole_row-requires-clause-from
-sole_row-requires-clause-from g c =
+pub effect_of-requires : goal.effect_of-requires
+effect_of-requires g c =
     let room = c.self.inside in
     let may = subst (λ s. MayAppend s.limit s.journal c.args.author c.args.id) (sym c.self.view_is) c.requires.may in
     let ok = ap (λ s. undo_refusal (past s.base s.journal) s.journal c.args.author c.args.undoable.of) c.self.view_is ∙ c.requires.accepted in
     let next = c.inverse.ensures ∙ c.requires.changes ∙ sym (ap (λ s. (recorded_next (past s.base s.journal) (Undo c.args.undoable.of)).changes) c.self.view_is) in
-    subst (λ (e : Effect _). AreFrom room.store.rows e.changes) (sym c.in_ok-effect.ensures) (subst (λ cs. AreFrom room.store.rows cs) (sym next) (undo_from room.store room.recorded.items room.origins.items room.holders room.stacks.deeds room.base.value room.limit room.entries.items c.self.invariant c.args.author c.args.id may c.args.undoable.of ok c.leads_back.ensures.differ c.leads_back.ensures.from c.leads_back.ensures.back))
+    subst (λ cs. AreFrom room.store.rows cs) (sym next) (undo_from room.store room.recorded.items room.origins.items room.holders room.stacks.deeds room.base.value room.limit room.entries.items c.self.invariant c.args.author c.args.id may c.args.undoable.of ok c.leads_back.ensures.differ c.leads_back.ensures.from c.leads_back.ensures.back)
 
-pub sole_row-requires-clause-rows : goal.sole_row-requires-clause-rows
-sole_row-requires-clause-rows g c =
-    let is = c.in_ok-effect.ensures in
-    ap (λ (e : Effect _). e.rows) is ∙ ap (rows_after c.self.inside.store.rows) (sym (ap (λ (e : Effect _). e.changes) is))
-
-pub apply_told-requires-clause-from : goal.apply_told-requires-clause-from
-apply_told-requires-clause-from g c =
+pub apply_rows-requires-clause-from : goal.apply_rows-requires-clause-from
+apply_rows-requires-clause-from g c =
     let room = c.self.inside in
     let may = subst (λ s. MayAppend s.limit s.journal c.args.author c.args.id) (sym c.self.view_is) c.requires.may in
     let ok = ap (λ s. undo_refusal (past s.base s.journal) s.journal c.args.author c.args.undoable.of) c.self.view_is ∙ c.requires.accepted in
     let next = c.inverse.ensures ∙ c.requires.changes ∙ sym (ap (λ s. (recorded_next (past s.base s.journal) (Undo c.args.undoable.of)).changes) c.self.view_is) in
-    subst (λ (e : Effect _). AreFrom room.store.rows e.changes) (sym c.in_ok-effect.ensures) (subst (λ cs. AreFrom room.store.rows cs) (sym next) (undo_from room.store room.recorded.items room.origins.items room.holders room.stacks.deeds room.base.value room.limit room.entries.items c.self.invariant c.args.author c.args.id may c.args.undoable.of ok c.leads_back.ensures.differ c.leads_back.ensures.from c.leads_back.ensures.back))
+    subst (λ (e : Effect _). AreFrom room.store.rows e.changes) (sym c.in_ok-effect.ensures.effect) (subst (λ cs. AreFrom room.store.rows cs) (sym next) (undo_from room.store room.recorded.items room.origins.items room.holders room.stacks.deeds room.base.value room.limit room.entries.items c.self.invariant c.args.author c.args.id may c.args.undoable.of ok c.leads_back.ensures.differ c.leads_back.ensures.from c.leads_back.ensures.back))
 
-pub apply_told-requires-clause-sound : goal.apply_told-requires-clause-sound
-apply_told-requires-clause-sound g c =
+pub apply_rows-requires-clause-sound : goal.apply_rows-requires-clause-sound
+apply_rows-requires-clause-sound g c =
     let room = c.self.inside in
     let may = subst (λ s. MayAppend s.limit s.journal c.args.author c.args.id) (sym c.self.view_is) c.requires.may in
     let ok = ap (λ s. undo_refusal (past s.base s.journal) s.journal c.args.author c.args.undoable.of) c.self.view_is ∙ c.requires.accepted in
     let next = c.inverse.ensures ∙ c.requires.changes ∙ sym (ap (λ s. (recorded_next (past s.base s.journal) (Undo c.args.undoable.of)).changes) c.self.view_is) in
-    ap (λ (e : Effect _). is_sound (changed room.store.rows e.changes)) c.in_ok-effect.ensures ∙ ap (λ cs. is_sound (changed room.store.rows cs)) next ∙ undo_sound room.store room.recorded.items room.origins.items room.holders room.stacks.deeds room.base.value room.limit room.entries.items c.self.invariant c.args.author c.args.id may c.args.undoable.of ok
+    ap (λ (e : Effect _). is_sound (changed room.store.rows e.changes)) c.in_ok-effect.ensures.effect ∙ ap (λ cs. is_sound (changed room.store.rows cs)) next ∙ undo_sound room.store room.recorded.items room.origins.items room.holders room.stacks.deeds room.base.value room.limit room.entries.items c.self.invariant c.args.author c.args.id may c.args.undoable.of ok
 
-pub apply_told-requires-clause-rows : goal.apply_told-requires-clause-rows
-apply_told-requires-clause-rows g c =
-    let is = c.in_ok-effect.ensures in
-    ap (λ (e : Effect _). e.rows) is ∙ ap (rows_after c.self.inside.store.rows) (sym (ap (λ (e : Effect _). e.changes) is))
+pub apply_rows-requires-clause-rows : goal.apply_rows-requires-clause-rows
+apply_rows-requires-clause-rows g c =
+    let is = c.in_ok-effect.ensures.effect in
+    ap (λ (e : Effect _). e.rows) is ∙ ap (changed_rows c.self.inside.store.rows) (sym (ap (λ (e : Effect _). e.changes) is))
 
-pub invariant_of-self-in_err-apply_told : goal.invariant_of-self-in_err-apply_told
-invariant_of-self-in_err-apply_told g c =
-    rw (c.in_err-apply_told.ensures.err, c.reserve.ensures.recorded, c.reserve.ensures.origins, c.reserve.ensures.deeds, c.reserve.ensures.entries) c.self.invariant
+pub invariant_of-self-in_err-apply_rows : goal.invariant_of-self-in_err-apply_rows
+invariant_of-self-in_err-apply_rows g c =
+    rw (c.in_err-apply_rows.ensures.err, c.reserve.ensures.recorded, c.reserve.ensures.origins, c.reserve.ensures.deeds, c.reserve.ensures.entries) c.self.invariant
 
-pub returns-in_err-apply_told-clause-err : goal.returns-in_err-apply_told-clause-err
-returns-in_err-apply_told-clause-err g c =
-    on_err c.from_residual-in_err-apply_told.result _ (ap (λ es. record { base = c.self.inside.base.value; limit = c.self.inside.limit; journal = es }) c.reserve.ensures.entries ∙ c.self.view_is)
-
-pub returns-in_err-sole-clause-err : goal.returns-in_err-sole-clause-err
-returns-in_err-sole-clause-err g c =
-    on_err c.from_residual-in_err-sole.result _ (ap (λ es. record { base = c.self.inside.base.value; limit = c.self.inside.limit; journal = es }) c.reserve.ensures.entries ∙ c.self.view_is)
+pub returns-in_err-apply_rows-clause-err : goal.returns-in_err-apply_rows-clause-err
+returns-in_err-apply_rows-clause-err g c =
+    on_err c.from_residual-in_err-apply_rows.result _ (ap (λ es. record { base = c.self.inside.base.value; limit = c.self.inside.limit; journal = es }) c.reserve.ensures.entries ∙ c.self.view_is)
 
 pub fall-requires : goal.fall-requires
 fall-requires g c =
@@ -96,10 +87,10 @@ invariant_of-self-2 g c =
     let ok = ap (λ s. undo_refusal (past s.base s.journal) s.journal c.args.author c.args.undoable.of) c.self.view_is ∙ c.requires.accepted in
     let next = c.inverse.ensures ∙ c.requires.changes ∙ sym (ap (λ s. (recorded_next (past s.base s.journal) (Undo c.args.undoable.of)).changes) c.self.view_is) in
     let count : c.len.result ≡ length room.entries.items = search rules in
-    IsRoom-undo room.store room.recorded.items room.origins.items room.holders room.stacks.deeds room.base.value room.limit room.entries.items c.self.invariant c.args.author c.args.id may c.args.undoable.of ok c.enter.new.entries.items c.apply_told.new.self c.enter.new.recorded.items c.enter.new.origins.items c.fall.new.self c.note.new.stacks.deeds c.inverse.result c.of.result
+    IsRoom-undo room.store room.recorded.items room.origins.items room.holders room.stacks.deeds room.base.value room.limit room.entries.items c.self.invariant c.args.author c.args.id may c.args.undoable.of ok c.enter.new.entries.items c.apply_rows.new.self c.enter.new.recorded.items c.enter.new.origins.items c.fall.new.self c.note.new.stacks.deeds c.inverse.result c.of.result
     next
-    (c.in_ok-apply_told.ensures.ok ∙ ap (λ (e : Effect _). applied_to room.store e.changes) c.in_ok-effect.ensures)
-    (undone_effect room.store.rows c.inverse.result c.in_ok-effect.effect c.of.result None c.in_ok-effect.ensures c.of.ensures (numbered (past room.base.value room.entries.items).entries c.args.undoable.of) next refl)
+    (c.in_ok-apply_rows.ensures.ok ∙ ap (λ (e : Effect _). applied_to room.store e.changes) c.in_ok-effect.ensures.effect)
+    (undone_effect room.store.rows c.inverse.result c.in_ok-effect.effect c.of.result None c.in_ok-effect.ensures.effect c.of.ensures (numbered (past room.base.value room.entries.items).entries c.args.undoable.of) next refl)
     (c.enter.ensures.recorded ∙ ap (λ ks. ks ++ c.of.result ∷ []) c.reserve.ensures.recorded)
     (c.enter.ensures.origins ∙ ap (λ os. os ++ (c.len.result + 1) ∷ []) c.reserve.ensures.origins ∙ ap (λ n. room.origins.items ++ (n + 1) ∷ []) count)
     c.fall.ensures

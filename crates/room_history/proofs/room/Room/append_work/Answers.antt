@@ -1,6 +1,6 @@
 use Rattle.std.proofs.Common.{◌≡◌, ◌+◌, ◌++◌, ◌∷◌, [], length, sym, ap, subst, ◌∙◌, rules}
 use Rattle.std.specs.Bool.{then_some}
-use Rattle.osm_changes.specs.Changes.{changed, AreFrom, rows_after}
+use Rattle.osm_changes.specs.Changes.{changed, AreFrom, changed_rows}
 use Rattle.osm_changes.specs.Sound.{is_sound}
 use Rattle.osm_changes.specs.Stores.{applied_to}
 use Rattle.edit_footprint.specs.Holding.{standing}
@@ -34,24 +34,17 @@ pub stand-requires-clause-from : goal.stand-requires-clause-from
 stand-requires-clause-from g c =
     let room = c.self.inside in
     let here = sym (ap (λ s. mapof s.base s.journal) c.self.view_is) ∙ sym c.self.invariant.rows_are in
-    subst (λ (k : Effect _). AreFrom room.store.rows k.changes) (sym c.in_ok-effect.ensures) (subst (λ m. AreFrom m c.args.changes) here c.requires.from)
+    subst (λ (k : Effect _). AreFrom room.store.rows k.changes) (sym c.in_ok-effect.ensures.effect) (subst (λ m. AreFrom m c.args.changes) here c.requires.from)
 
 pub stand-requires-clause-sound : goal.stand-requires-clause-sound
 stand-requires-clause-sound g c =
     let room = c.self.inside in
-    ap (λ (k : Effect _). is_sound (changed room.store.rows k.changes)) c.in_ok-effect.ensures ∙ ap (λ m. is_sound (changed m c.args.changes)) c.self.invariant.rows_are
+    ap (λ (k : Effect _). is_sound (changed room.store.rows k.changes)) c.in_ok-effect.ensures.effect ∙ ap (λ m. is_sound (changed m c.args.changes)) c.self.invariant.rows_are
     ∙ ap (λ s. is_sound (changed (mapof s.base s.journal) c.args.changes)) c.self.view_is ∙ c.requires.sound
 
 pub returns-in_err-effect-clause-err : goal.returns-in_err-effect-clause-err
 returns-in_err-effect-clause-err g c =
     on_err c.from_residual-in_err-effect.result _ (ap (λ es. record { base = c.self.inside.base.value; limit = c.self.inside.limit; journal = es }) c.reserve.ensures.entries ∙ c.self.view_is)
-
-pub returns-in_err-sole-clause-ok : goal.returns-in_err-sole-clause-ok
-returns-in_err-sole-clause-ok g c = on_ok c.from_residual-in_err-sole.result _ c.from_residual-in_err-sole.ensures.0
-
-pub returns-in_err-sole-clause-err : goal.returns-in_err-sole-clause-err
-returns-in_err-sole-clause-err g c =
-    on_err c.from_residual-in_err-sole.result _ (ap (λ es. record { base = c.self.inside.base.value; limit = c.self.inside.limit; journal = es }) c.reserve.ensures.entries ∙ c.self.view_is)
 
 pub returns-in_err-stand-clause-ok : goal.returns-in_err-stand-clause-ok
 returns-in_err-stand-clause-ok g c = on_ok c.from_residual-in_err-stand.result _ c.from_residual-in_err-stand.ensures.0
@@ -91,8 +84,8 @@ invariant_of-self-2 g c =
     c.enter.new.entries.items c.stand.new.store c.enter.new.recorded.items c.enter.new.origins.items c.stand.new.holders c.note.new.stacks.deeds c.args.changes c.args.footprint c.of.result
     (c.requires.changes ∙ sym (ap (λ s. (recorded_next (past s.base s.journal) c.args.kind).changes) c.self.view_is))
     (c.requires.footprint ∙ sym (ap (λ s. (recorded_next (past s.base s.journal) c.args.kind).footprint) c.self.view_is))
-    (c.in_ok-stand.ensures.ok.0 ∙ ap (λ (k : Effect _). applied_to room.store k.changes) c.in_ok-effect.ensures)
-    (worked_effect room.store.rows c.args.changes c.in_ok-effect.effect c.of.result c.then_some.result c.in_ok-effect.ensures c.of.ensures
+    (c.in_ok-stand.ensures.ok.0 ∙ ap (λ (k : Effect _). applied_to room.store k.changes) c.in_ok-effect.ensures.effect)
+    (worked_effect room.store.rows c.args.changes c.in_ok-effect.effect c.of.result c.then_some.result c.in_ok-effect.ensures.effect c.of.ensures
     (recorded_next (past room.base.value room.entries.items) c.args.kind) c.args.footprint
     (c.requires.changes ∙ sym (ap (λ s. (recorded_next (past s.base s.journal) c.args.kind).changes) c.self.view_is))
     (c.requires.footprint ∙ sym (ap (λ s. (recorded_next (past s.base s.journal) c.args.kind).footprint) c.self.view_is))
@@ -111,18 +104,11 @@ pub invariant_of-self-in_err-stand : goal.invariant_of-self-in_err-stand
 invariant_of-self-in_err-stand g c =
     rw (c.in_err-stand.ensures.err.0, c.in_err-stand.ensures.err.1, c.reserve.ensures.recorded, c.reserve.ensures.origins, c.reserve.ensures.deeds, c.reserve.ensures.entries) c.self.invariant
 
-pub sole_row-requires-clause-from : goal.sole_row-requires-clause-from
-sole_row-requires-clause-from g c =
-    let room = c.self.inside in
-    let here = sym (ap (λ s. mapof s.base s.journal) c.self.view_is) ∙ sym c.self.invariant.rows_are in
-    subst (λ (k : Effect _). AreFrom room.store.rows k.changes) (sym c.in_ok-effect.ensures) (subst (λ m. AreFrom m c.args.changes) here c.requires.from)
-
-pub sole_row-requires-clause-rows : goal.sole_row-requires-clause-rows
-sole_row-requires-clause-rows g c =
-    let e = c.in_ok-effect.ensures in
-    ap (λ (k : Effect _). k.rows) e ∙ ap (rows_after c.self.inside.store.rows) (sym (ap (λ (k : Effect _). k.changes) e))
+pub effect_of-requires : goal.effect_of-requires
+effect_of-requires g c =
+    subst (λ m. AreFrom m c.args.changes) (sym (ap (λ s. mapof s.base s.journal) c.self.view_is) ∙ sym c.self.invariant.rows_are) c.requires.from
 
 pub stand-requires-clause-rows : goal.stand-requires-clause-rows
 stand-requires-clause-rows g c =
-    let e = c.in_ok-effect.ensures in
-    ap (λ (k : Effect _). k.rows) e ∙ ap (rows_after c.self.inside.store.rows) (sym (ap (λ (k : Effect _). k.changes) e))
+    let e = c.in_ok-effect.ensures.effect in
+    ap (λ (k : Effect _). k.rows) e ∙ ap (changed_rows c.self.inside.store.rows) (sym (ap (λ (k : Effect _). k.changes) e))

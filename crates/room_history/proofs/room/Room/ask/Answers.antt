@@ -1,3 +1,4 @@
+use Rattle.std.proofs.Common.{◌≡◌, IfOk, subst}
 use Rattle.room_history.proofs.Asking.{took, got, listed, gave, told}
 use Rattle.room_history.proofs.room.Room.ask.Goals as goal
 
@@ -9,7 +10,8 @@ returns-in-Take-clause-answer g c =
 pub returns-in-Get-clause-answer : goal.returns-in-Get-clause-answer
 returns-in-Get-clause-answer g c =
     let state = c.args.self.now in
-    rw c.in-Get.is (got state.base state.limit state.journal c.in-Get.name c.copy_of.result c.copy_of.ensures)
+    rw c.in-Get.is (got state.base state.limit state.journal c.in-Get.name c.copy_of.result
+    (subst (λ row. IfOk c.copy_of.result (λ found. found ≡ row)) c.get.ensures c.copy_of.ensures))
 
 pub returns-in-Rows-clause-answer : goal.returns-in-Rows-clause-answer
 returns-in-Rows-clause-answer g c =

@@ -1,0 +1,7 @@
+use Rattle.std.proofs.Common.{◌≡◌, take}
+use Rattle.osm_elements.specs.Rows.{row_at}
+use Rattle.osm_changes.specs.Changes.{rows_changes}
+use Rattle.edit_groups.proofs.differing.changes_at.Given as goal
+
+abbrev pub invariant-loop-name : goal.invariant-loop-name
+invariant-loop-name g l = l.changes ≡ rows_changes (g.M.Lookup.rows l.before) (row_at (g.N.Lookup.rows l.after)) (take l.name-index l.names)
