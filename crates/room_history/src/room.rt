@@ -38,8 +38,8 @@ mod asking;
 /// A room: one map, and the journal of what its authors did to it.
 ///
 /// Contracts model a room as its base map, which is sound, its limit and its journal. Next to each entry, the room
-/// keeps the entry's changes, the changed rows after it, and the number of the entry that stores its action. The
-/// footprint of an action follows from the action and its changes, and an undo computes it.
+/// keeps the changed rows before and after it, which determine its changes, and the number of the entry that stores its
+/// action. The footprint of an action follows from the action and its changes, and an undo computes it.
 #[derive(Drop)]
 #[derive_where(Debug)]
 pub struct Room<A: Allocator> {
@@ -342,16 +342,16 @@ impl<A: Allocator + Copy> Room<A> {
         }
     }
 
-    /// Returns the numbers of an author's active entries, in rising order, in time logarithmic in the number of
-    /// authors. The author can undo those that no later entry blocks.
+    /// Returns the numbers of an author's active entries, in rising order, by a hash look-up of the author. The author
+    /// can undo those that no later entry blocks.
     pub fn undos(&self, author: &Author) -> &[u64]
         ensures { result.now ≡ undos self.now.journal author.now }
     {
         self.stacks.standing(author)
     }
 
-    /// Returns the numbers of the entries that an author can redo, the next one last, in time logarithmic in the number
-    /// of authors. They are the entries that it undid since its last new action and has not redone.
+    /// Returns the numbers of the entries that an author can redo, the next one last, by a hash look-up of the author.
+    /// They are the entries that it undid since its last new action and has not redone.
     pub fn redos(&self, author: &Author) -> &[u64]
         ensures { result.now ≡ redos self.now.journal author.now }
     {

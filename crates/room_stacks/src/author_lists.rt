@@ -1,7 +1,9 @@
 //! The entries that each author can undo and redo.
-ghost use Rattle.std.specs.Prelude.{◌≡◌, ◌++◌, [], ◌∷◌, true, OnOk};
+ghost use Rattle.std.specs.Prelude.{◌≡◌, ◌<◌, ◌++◌, [], ◌∷◌, true, IfOk, OnOk, length, position};
+ghost use Rattle.std.specs.List.{IsDistinct};
+ghost use Rattle.room_stacks.specs.SameAuthors.{is_same_author};
 ghost use Rattle.room_stacks.specs.Stacks.{below_top};
-ghost use Rattle.room_stacks.specs.Inner.Lists.{standing_at, redo_at, has_room_at, without, IsRising, SameStacks, KeepsRooms, IsRewritten};
+ghost use Rattle.room_stacks.specs.Inner.Lists.{author_at, authors_of, standing_at, redo_at, has_room_at, without, IsRising, KeepsNumbers, SameStacks, KeepsRooms, IsRewritten};
 
 use crate::author::Author;
 use crate::author_stacks::AuthorStacks;
@@ -11,8 +13,9 @@ use std::alloc::Allocator;
 use std::hash::{BuildHasherDefault, FoldHasher};
 use std::marker::Model;
 
-/// The stacks of each author that has any, or whose next deed has reserved memory. A look-up is that of a hash table,
-/// whose hash has a fixed seed.
+/// The known authors, each with its stacks: an author becomes known when memory is first reserved for its next deed.
+/// Authors are numbered from 0, in the order in which they became known. A look-up is that of a hash table, whose hash
+/// has a fixed seed.
 #[derive(Drop)]
 #[derive_where(Debug)]
 pub struct AuthorLists<A: Allocator> {
@@ -59,57 +62,94 @@ impl<A: Allocator> AuthorLists<A> {
         }
     }
 
-    /// Reserves the memory for an author's next number. If it returns `Memory`, all stacks and earlier reservations are
-    /// unchanged.
-    pub fn reserve(&mut self, alloc: &A, author: &Author) -> Result<(), Memory>
+    /// Returns the number of an author, or `None` if the author is not known. It takes a look-up.
+    pub fn number(&self, author: &Author) -> Option<usize>
+        ensures { result ≡ position (is_same_author author.now) (authors_of self.now) }
+    {
+        self.by_author.get_index_of(author)
+    }
+
+    /// Reserves the memory for an author's next number, and returns the author's number. The author is known
+    /// afterwards. It takes a look-up, and another one for a new author. If it returns `Memory`, all stacks and earlier
+    /// reservations are unchanged.
+    pub fn reserve(&mut self, alloc: &A, author: &Author) -> Result<usize, Memory>
     where
         A: Clone,
+        ensures numbers { KeepsNumbers (authors_of self.old) (authors_of self.new) }
+        ensures distinct { IsDistinct is_same_author (authors_of self.new) }
         ensures same { SameStacks self.old self.new }
         ensures kept { KeepsRooms self.old self.new }
-        ensures ok { OnOk result (has_room_at self.new author.now ≡ true) }
+        ensures number { IfOk result (λ n. (n < length self.new) × (author_at (authors_of self.new) n ≡ author.now)) }
+        ensures room { OnOk result (has_room_at self.new author.now ≡ true) }
     {
-        match self.by_author.get_mut(author) {
-            Some(stacks) => stacks.reserve(),
+        match self.by_author.get_index_of(author) {
+            Some(number) => {
+                self.reserve_at(number)?;
+                Ok(number)
+            }
             None => {
                 let mut stacks = AuthorStacks::new(alloc)?;
                 stacks.reserve()?;
-                self.by_author.insert(*author, stacks)?;
-                Ok(())
+                let (number, _) = self.by_author.insert_full(*author, stacks)?;
+                Ok(number)
             }
         }
     }
 
-    /// Adds the number of an author's action to its active entries, and empties its redo stack.
-    pub fn did(&mut self, author: &Author, seq: u64)
-        requires { has_room_at self.old author.now ≡ true }
-        ensures { IsRewritten self.old self.new author.now (standing_at self.old author.now ++ seq ∷ []) [] }
+    // Reserves the memory for the next number of the author with this number.
+    fn reserve_at(&mut self, author: usize) -> Result<(), Memory>
+        requires { author < length self.old }
+        ensures authors { authors_of self.new ≡ authors_of self.old }
+        ensures same { SameStacks self.old self.new }
+        ensures kept { KeepsRooms self.old self.new }
+        ensures ok { OnOk result (has_room_at self.new (author_at (authors_of self.old) author) ≡ true) }
     {
-        match self.by_author.get_mut(author) {
+        match self.by_author.get_index_mut(author) {
+            Some(stacks) => stacks.reserve(),
+            None => unreachable!(),
+        }
+    }
+
+    /// Adds the number of an action to the active entries of the author with this number, and empties its redo stack.
+    pub fn did(&mut self, author: usize, seq: u64)
+        requires known { author < length self.old }
+        requires room { has_room_at self.old (author_at (authors_of self.old) author) ≡ true }
+        ensures authors { authors_of self.new ≡ authors_of self.old }
+        ensures stacks { IsRewritten self.old self.new (author_at (authors_of self.old) author)
+            (standing_at self.old (author_at (authors_of self.old) author) ++ seq ∷ []) [] }
+    {
+        match self.by_author.get_index_mut(author) {
             Some(stacks) => stacks.did(seq),
             None => unreachable!(),
         }
     }
 
-    /// Moves the number of an author's active entry to its redo stack.
-    pub fn undid(&mut self, author: &Author, of: u64)
-        requires room { has_room_at self.old author.now ≡ true }
-        requires rising { IsRising (standing_at self.old author.now) }
-        ensures { IsRewritten self.old self.new author.now
-            (without of (standing_at self.old author.now)) (redo_at self.old author.now ++ of ∷ []) }
+    /// Moves the number of an active entry of the author with this number to its redo stack.
+    pub fn undid(&mut self, author: usize, of: u64)
+        requires known { author < length self.old }
+        requires room { has_room_at self.old (author_at (authors_of self.old) author) ≡ true }
+        requires rising { IsRising (standing_at self.old (author_at (authors_of self.old) author)) }
+        ensures authors { authors_of self.new ≡ authors_of self.old }
+        ensures stacks { IsRewritten self.old self.new (author_at (authors_of self.old) author)
+            (without of (standing_at self.old (author_at (authors_of self.old) author)))
+            (redo_at self.old (author_at (authors_of self.old) author) ++ of ∷ []) }
     {
-        match self.by_author.get_mut(author) {
+        match self.by_author.get_index_mut(author) {
             Some(stacks) => stacks.undid(of),
             None => unreachable!(),
         }
     }
 
-    /// Adds the number of an author's redo to its active entries, and pops its redo stack.
-    pub fn redid(&mut self, author: &Author, seq: u64)
-        requires { has_room_at self.old author.now ≡ true }
-        ensures { IsRewritten self.old self.new author.now
-            (standing_at self.old author.now ++ seq ∷ []) (below_top (redo_at self.old author.now)) }
+    /// Adds the number of a redo to the active entries of the author with this number, and pops its redo stack.
+    pub fn redid(&mut self, author: usize, seq: u64)
+        requires known { author < length self.old }
+        requires room { has_room_at self.old (author_at (authors_of self.old) author) ≡ true }
+        ensures authors { authors_of self.new ≡ authors_of self.old }
+        ensures stacks { IsRewritten self.old self.new (author_at (authors_of self.old) author)
+            (standing_at self.old (author_at (authors_of self.old) author) ++ seq ∷ [])
+            (below_top (redo_at self.old (author_at (authors_of self.old) author))) }
     {
-        match self.by_author.get_mut(author) {
+        match self.by_author.get_index_mut(author) {
             Some(stacks) => stacks.redid(seq),
             None => unreachable!(),
         }

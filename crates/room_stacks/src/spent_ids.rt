@@ -1,10 +1,10 @@
 //! The ids that authors spent.
-ghost use Rattle.std.specs.Prelude.{◌≡◌, ◌<◌, ◌≤◌, ◌++◌, [], ◌∷◌, true, None, OnOk};
-ghost use Rattle.room_stacks.specs.Stacks.{spent};
-ghost use Rattle.room_stacks.specs.Inner.SpentIds.{deed_of, is_met, StayMet};
+ghost use Rattle.std.specs.Prelude.{◌≡◌, ◌<◌, ◌≤◌, ◌++◌, [], ◌∷◌, None, OnOk};
+ghost use Rattle.std.specs.Map.{lookup};
+ghost use Rattle.std.specs.Option.{option_map};
+ghost use Rattle.room_stacks.specs.Inner.SpentIds.{is_key, work_number};
 
-use crate::author::Author;
-use indexmap::{IndexMap, IndexSet};
+use indexmap::IndexMap;
 use osm_elements::Memory;
 use std::alloc::Allocator;
 use std::hash::{BuildHasherDefault, FoldHasher};
@@ -41,32 +41,24 @@ impl Work {
     }
 }
 
-/// The spent ids in the order of their entries, each with its work.
+/// The spent ids in the order of their entries, each with its work. An author is given by its number, so a spent id
+/// needs no name.
 #[derive(Drop)]
 #[derive_where(Debug)]
 pub struct SpentIds<A: Allocator> {
-    // The known authors, each once. An author's number is its index here, so a spent id needs a number and no name.
-    authors: IndexSet<Author, BuildHasherDefault<FoldHasher>, A>,
     // An `IndexMap` keeps its entries in the order of insertion, so that they list the deeds. Its hash has a fixed
     // seed.
     works: IndexMap<Spending, Work, BuildHasherDefault<FoldHasher>, A>,
 }
 
-// The model has the deeds, the capacity for more deeds, and the known authors.
+// The model has the works, and the capacity for more.
 impl<A: Allocator> Model for SpentIds<A> {
-    ghost use Rattle.std.specs.Prelude.{map};
     ghost use Rattle.indexmap.specs.IndexMap.{spare};
-    ghost use Rattle.room_stacks.specs.Inner.SpentIds.{Spent, deed_at, AreNumbered};
+    ghost use Rattle.room_stacks.specs.Inner.SpentIds.{Spent};
 
     ghost Value = { Spent };
 
-    ghost view = { λ s. record {
-      deeds = map (deed_at s.authors.keys) s.works.entries;
-      room = spare s.works;
-      authors = s.authors.keys;
-    } };
-
-    ghost invariant = { λ s. AreNumbered s.authors.keys s.works.entries };
+    ghost view = { λ s. record { works = s.works.entries; room = spare s.works } };
 }
 
 impl<A: Allocator> SpentIds<A> {
@@ -74,10 +66,9 @@ impl<A: Allocator> SpentIds<A> {
     pub fn new(alloc: A) -> SpentIds<A>
     where
         A: Copy,
-        ensures { result.deeds ≡ [] }
+        ensures { result.works ≡ [] }
     {
         SpentIds {
-            authors: IndexSet::new(alloc),
             works: IndexMap::new(alloc),
         }
     }
@@ -87,44 +78,32 @@ impl<A: Allocator> SpentIds<A> {
         self.works.allocator()
     }
 
-    /// Returns the number of the entry for which an author spent an id, or `None`. It takes a look-up of the author and
-    /// a look-up of the id.
-    pub fn spent(&self, author: &Author, id: u64) -> Option<u64>
-        ensures { result ≡ spent self.now.deeds author.now id }
+    /// Returns the number of the entry for which an author spent an id, or `None`. It takes a look-up of the id.
+    pub fn spent(&self, author: usize, id: u64) -> Option<u64>
+        ensures { result ≡ option_map work_number (lookup (is_key author id) self.now.works) }
     {
-        let Some(author) = self.authors.get_index_of(author) else {
-            return None;
-        };
         match self.works.get(&Spending { id, author }) {
             Some(work) => Some(work.seq()),
             None => None,
         }
     }
 
-    /// Reserves the memory for one more id of an author, who is known afterwards. If it returns `Memory`, the author
-    /// may still have become known.
-    pub fn reserve(&mut self, author: &Author) -> Result<(), Memory>
-        ensures deeds { self.new.deeds ≡ self.old.deeds }
-        ensures met { OnOk result (is_met self.new.authors author.now ≡ true) }
+    /// Reserves the memory for one more id.
+    pub fn reserve(&mut self) -> Result<(), Memory>
+        ensures works { self.new.works ≡ self.old.works }
         ensures ok { OnOk result (0 < self.new.room) }
-        ensures stay { StayMet self.old.authors self.new.authors }
         ensures room { self.old.room ≤ self.new.room }
     {
-        self.authors.insert(*author)?;
         self.works.reserve(1)?;
         Ok(())
     }
 
-    /// Spends an id of a known author. There must be capacity. It takes the look-ups of [`SpentIds::spent`].
-    pub fn spend(&mut self, author: &Author, id: u64, work: Work)
-        requires unspent { spent self.old.deeds author.now id ≡ None }
-        requires met { is_met self.old.authors author.now ≡ true }
+    /// Spends an id. There must be capacity. It takes a look-up of the id.
+    pub fn spend(&mut self, author: usize, id: u64, work: Work)
+        requires unspent { lookup (is_key author id) self.old.works ≡ None }
         requires room { 0 < self.old.room }
-        ensures { self.new.deeds ≡ self.old.deeds ++ deed_of author.now id work ∷ [] }
+        ensures { self.new.works ≡ self.old.works ++ (record { id = id; author = author }, work) ∷ [] }
     {
-        let Some(author) = self.authors.get_index_of(author) else {
-            unreachable!()
-        };
         match self.works.insert(Spending { id, author }, work) {
             Ok(_) => {}
             Err(_) => unreachable!(),

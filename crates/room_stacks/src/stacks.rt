@@ -16,9 +16,10 @@ use std::marker::Model;
 #[derive(Drop)]
 #[derive_where(Debug)]
 pub struct Stacks<A: Allocator> {
-    ids: SpentIds<A>,
     lists: AuthorLists<A>,
-    ready: Option<Author>,
+    ids: SpentIds<A>,
+    // The number of the author who is ready.
+    ready: Option<usize>,
 }
 
 // The model has the deeds of the authors, and the author who is ready for the next deed.
@@ -27,9 +28,15 @@ impl<A: Allocator> Model for Stacks<A> {
 
     ghost Value = { StacksState };
 
+    ghost use Rattle.std.specs.Option.{option_map};
     ghost use Rattle.room_stacks.specs.Inner.Kept.{IsKept};
+    ghost use Rattle.room_stacks.specs.Inner.Lists.{author_at, authors_of};
+    ghost use Rattle.room_stacks.specs.Inner.SpentIds.{deeds_of};
 
-    ghost view = { λ s. record { deeds = s.ids.deeds; ready = s.ready } };
+    ghost view = { λ s. record {
+      deeds = deeds_of (authors_of s.lists) s.ids.works;
+      ready = option_map (author_at (authors_of s.lists)) s.ready;
+    } };
 
     ghost invariant = { λ s. IsKept s.ready s.ids s.lists };
 }
@@ -43,8 +50,8 @@ impl<A: Allocator> Stacks<A> {
         ensures { result ≡ record { deeds = []; ready = None } }
     {
         Stacks {
-            ids: SpentIds::new(alloc),
             lists: AuthorLists::new(alloc),
+            ids: SpentIds::new(alloc),
             ready: None,
         }
     }
@@ -55,6 +62,9 @@ impl<A: Allocator> Stacks<A> {
     pub fn spent(&self, author: &Author, id: u64) -> Option<u64>
         ensures { result ≡ spent self.now.deeds author.now id }
     {
+        let Some(author) = self.lists.number(author) else {
+            return None;
+        };
         self.ids.spent(author, id)
     }
 
@@ -74,8 +84,8 @@ impl<A: Allocator> Stacks<A> {
         self.lists.redo(author)
     }
 
-    /// Reserves the memory for the next deed of an author, who then replaces the author who was ready. It takes two hash
-    /// look-ups of the author. This is an average over many deeds: a call may move all spent ids, all authors or all
+    /// Reserves the memory for the next deed of an author, who then replaces the author who was ready. It takes a hash
+    /// look-up of the author. This is an average over many deeds: a call may move all spent ids, all authors or all
     /// numbers of the author.
     ///
     /// # Errors
@@ -88,22 +98,24 @@ impl<A: Allocator> Stacks<A> {
         ensures err { OnErr result (self.new ≡ self.old) }
     {
         let alloc = self.ids.allocator().clone()?;
-        self.ids.reserve(author)?;
-        self.lists.reserve(&alloc, author)?;
-        self.ready = Some(*author);
+        self.ids.reserve()?;
+        self.ready = Some(self.lists.reserve(&alloc, author)?);
         Ok(())
     }
 
-    /// Records that the ready author did an action under the id `id`, in the entry `seq`. It takes the look-ups of
-    /// [`Stacks::spent`], and one more of the author.
+    /// Records that the ready author did an action under the id `id`, in the entry `seq`. It takes a hash look-up of
+    /// the id.
     pub fn did(&mut self, author: Author, id: u64, seq: u64)
         requires ready { self.old.ready ≡ Some author }
         requires unspent { spent self.old.deeds author id ≡ None }
         requires last { IsAboveAll seq self.old.deeds }
         ensures { self.new ≡ record { deeds = self.old.deeds ++ Did author id seq ∷ []; ready = None } }
     {
-        self.ids.spend(&author, id, Work::Did { seq });
-        self.lists.did(&author, seq);
+        let Some(ready) = self.ready else {
+            unreachable!()
+        };
+        self.ids.spend(ready, id, Work::Did { seq });
+        self.lists.did(ready, seq);
         self.ready = None;
     }
 
@@ -117,8 +129,11 @@ impl<A: Allocator> Stacks<A> {
         requires last { IsAboveAll seq self.old.deeds }
         ensures { self.new ≡ record { deeds = self.old.deeds ++ Undid author id of seq ∷ []; ready = None } }
     {
-        self.ids.spend(&author, id, Work::Undid { of, seq });
-        self.lists.undid(&author, of);
+        let Some(ready) = self.ready else {
+            unreachable!()
+        };
+        self.ids.spend(ready, id, Work::Undid { of, seq });
+        self.lists.undid(ready, of);
         self.ready = None;
     }
 
@@ -133,8 +148,11 @@ impl<A: Allocator> Stacks<A> {
         requires last { IsAboveAll seq self.old.deeds }
         ensures { self.new ≡ record { deeds = self.old.deeds ++ Redid author id of seq ∷ []; ready = None } }
     {
-        self.ids.spend(&author, id, Work::Redid { of, seq });
-        self.lists.redid(&author, seq);
+        let Some(ready) = self.ready else {
+            unreachable!()
+        };
+        self.ids.spend(ready, id, Work::Redid { of, seq });
+        self.lists.redid(ready, seq);
         self.ready = None;
     }
 }

@@ -1,5 +1,5 @@
 -- The entries that authors can undo and redo, as the code keeps them.
-use Rattle.std.specs.Prelude.{◌≡◌, ◌<◌, ℕ, Bool, true, false, not, cond, List, [], ◌∷◌, Option, Some, None, nat_eq, ⊤}
+use Rattle.std.specs.Prelude.{◌≡◌, ◌<◌, ◌≤◌, ℕ, Bool, true, false, not, cond, List, [], ◌∷◌, length, map, Option, Some, None, nat_eq, slice_index_or, ⊤}
 use Rattle.std.specs.List.{All, filter}
 use Rattle.std.specs.Map.{lookup}
 use Rattle.room_stacks.specs.declared.author.Author.{Author}
@@ -11,8 +11,21 @@ pub record Usable : Type 0 where
   pub redo : List ℕ
   pub has_room : Bool
 
+-- the known authors, each with its stacks; an author's number is its place
 abbrev pub Lists : Type 0
 Lists = List (Author × Usable)
+
+abbrev pub authors_of : Lists → List Author
+authors_of lists = map (λ e. e.0) lists
+
+-- the author with the number n
+abbrev pub author_at : List Author → ℕ → Author
+author_at authors n = slice_index_or authors n []
+
+-- the authors before keep their numbers
+pub record KeepsNumbers (before after : List Author) : Type 0 where
+  pub fits : length before ≤ length after
+  pub same : (n : ℕ) → n < length before → author_at after n ≡ author_at before n
 
 -- the numbers rise, each once
 abbrev pub IsRising : List ℕ → Type 0

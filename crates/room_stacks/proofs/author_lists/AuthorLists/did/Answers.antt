@@ -1,13 +1,18 @@
-use Rattle.std.proofs.Common.{◌≡◌, ◌++◌, [], ◌∷◌, Some, is_some, sym, ap, ◌∙◌}
-use Rattle.room_stacks.specs.Inner.Lists.{usable_at, standing_of}
-use Rattle.room_stacks.proofs.Rewriting.{rewritten}
+use Rattle.std.proofs.Common.{◌++◌, [], ◌∷◌, ap, ◌∙◌}
+use Rattle.indexmap.proofs.CallerLemmas.{keys-with_value_at}
+use Rattle.room_stacks.specs.Inner.Lists.{Lists, author_at, authors_of, has_room_at}
+use Rattle.room_stacks.proofs.Rewriting.{had_room, rewritten_at}
 use Rattle.room_stacks.proofs.author_lists.AuthorLists.did.Goals as goal
 
-pub returns : goal.returns
-returns g c =
-    let lists = c.self.inside.by_author.entries in
-    let author = c.args.author.now in
-    let w = c.did.new.self in
-    let found : usable_at lists author ≡ Some c.in-Some.stacks.now = sym c.in-Some.ensures.value in
-    let at = ((c.get_mut.follows.holds w).3 (ap is_some found)).0 in
-    rw (← c.self.view_is) (rewritten lists (c.get_mut.follows.lender w).entries author w at _ _ (c.did.ensures.standing ∙ ap (λ (o : _). standing_of o ++ c.args.seq ∷ []) (sym found)) c.did.ensures.redo)
+pub did-requires : goal.did-requires
+did-requires g c =
+    had_room c.self.inside.by_author c.in-Some.ensures.unique c.args.author c.in-Some.stacks.now c.in-Some.stacks.now c.in-Some.ensures.value
+    (ap (λ (l : Lists). has_room_at l (author_at (authors_of l) c.args.author)) c.self.view_is ∙ c.requires.room)
+
+pub returns-clause-authors : goal.returns-clause-authors
+returns-clause-authors g c = keys-with_value_at c.self.inside.by_author c.args.author c.did.new.self ∙ ap authors_of c.self.view_is
+
+pub returns-clause-stacks : goal.returns-clause-stacks
+returns-clause-stacks g c =
+    rw (← c.self.view_is) (rewritten_at c.self.inside.by_author c.in-Some.ensures.unique c.args.author c.in-Some.stacks.now c.did.new.self c.in-Some.ensures.value
+    (λ ns. ns ++ c.args.seq ∷ []) (λ ns. []) c.did.ensures.standing c.did.ensures.redo)

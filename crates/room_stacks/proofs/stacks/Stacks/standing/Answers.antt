@@ -6,6 +6,5 @@ use Rattle.room_stacks.proofs.stacks.Stacks.standing.Goals as goal
 
 pub returns-clause-rising : goal.returns-clause-rising
 returns-clause-rising g c =
-    let ids = c.self.inside.ids in
-    subst IsStrictlyIncreasing (sym (c.standing.ensures ∙ c.self.invariant.standing_kept c.args.author.now))
-    (increasing _ (standing_rises ids.deeds c.args.author.now c.self.invariant.rising))
+    let kept = c.self.invariant.kept in
+    subst IsStrictlyIncreasing (sym (c.standing.ensures ∙ kept.standing_kept c.args.author.now)) (increasing _ (standing_rises _ c.args.author.now kept.rising))
