@@ -13,7 +13,6 @@ use Rattle.room_wire.specs.declared.bad.Fault.TheVariants.{NotJson}
 use Rattle.room_wire.specs.declared.incoming.Incoming.{Incoming}
 use Rattle.room_wire.specs.declared.answer.Answer.TheVariants as answers
 use Rattle.room_wire.specs.Reading.{id_told, GivesMessage}
-use Rattle.room_wire.specs.Answers.{fault_answer}
 use Rattle.room_wire.specs.declared.bad.Bad.{Bad}
 use Rattle.osm_elements.specs.Maps.{Rows}
 use Rattle.room_history.specs.Rooms.{RoomState}
@@ -91,9 +90,9 @@ answered-reply room line message author text after s (inr (inr t, a)) =
 
 -- a message that was not read
 pub reply-bad : (room : RoomState Global) (author : Author) (bad : Bad) (read : Result Incoming Bad) (text : List ℕ) → GivesMessage (Err bad) read →
-    text ≡ answer_text bad.id (fault_answer bad.fault) → IsReply (message_answer room author read) (id_told read) room text room
-reply-bad room author bad read text (inl (m, inl i)) t = inr (inr (t ∙ (ap (λ f. answer_text bad.id (fault_answer f)) m ∙ ap (λ i. answer_text i answers.Memory) i)), refl)
-reply-bad room author bad read text (inl (m, inr i)) t = inr (inl (t ∙ (ap (λ f. answer_text bad.id (fault_answer f)) m ∙ ap (λ i. answer_text i answers.Memory) i)), refl)
+    text ≡ answer_text bad.id (answers.Fault bad.fault) → IsReply (message_answer room author read) (id_told read) room text room
+reply-bad room author bad read text (inl (m, inl i)) t = inr (inr (t ∙ (ap (λ f. answer_text bad.id (answers.Fault f)) m ∙ ap (λ i. answer_text i answers.Memory) i)), refl)
+reply-bad room author bad read text (inl (m, inr i)) t = inr (inl (t ∙ (ap (λ f. answer_text bad.id (answers.Fault f)) m ∙ ap (λ i. answer_text i answers.Memory) i)), refl)
 reply-bad room author bad read text (inr e) t = inl (ap (message_answer room author) e ∙ ap (λ (t : List ℕ). (t, room)) (sym t))
 
 -- what a message asks for was answered

@@ -14,7 +14,6 @@ use Rattle.room_wire.specs.declared.bad.Bad.{Bad}
 use Rattle.room_wire.specs.declared.bad.Fault.TheVariants.{NotJson}
 use Rattle.room_wire.specs.declared.incoming.Incoming.{Incoming}
 use Rattle.room_wire.specs.declared.incoming.Body.{Body}
-use Rattle.room_wire.specs.Answers.{fault_answer}
 use Rattle.room_wire.specs.Asked.{answer_to, asked, answer_text}
 use Rattle.room_wire.specs.Reading.{id_told}
 use Rattle.room_wire.specs.Spelling.{spells}
@@ -51,7 +50,7 @@ body_answer room author id body = asked_answer room id (asked author id body)
 
 abbrev pub message_answer : RoomState Global → Author → Result Incoming Bad → List ℕ × RoomState Global
 message_answer room author (Ok message) = body_answer room author message.id message.body
-message_answer room author (Err bad) = (answer_text bad.id (fault_answer bad.fault), room)
+message_answer room author (Err bad) = (answer_text bad.id (answers.Fault bad.fault), room)
 
 abbrev pub line_answer : RoomState Global → Option (Author × List ℕ) → List ℕ × RoomState Global
 line_answer room None = (answer_text 0 answers.BadLine, room)

@@ -6,8 +6,7 @@ ghost use Rattle.room_stacks.specs.Authors.{author_of};
 ghost use Rattle.room_history.specs.Journals.{undos, redos};
 ghost use Rattle.room_history.specs.Replays.{mapof};
 ghost use Rattle.room_wire.specs.declared.answer.Answer.TheVariants as answers;
-ghost use Rattle.room_wire.specs.Answers.{to_value};
-ghost use Rattle.room_wire.specs.Asked.{found_answer, answer_text};
+ghost use Rattle.room_wire.specs.Asked.{found_answer, answer_text, to_value};
 ghost use Rattle.room_wire.specs.Reading.{GivesMessage, id_told};
 ghost use Rattle.room_program.specs.LineAnswers.{said, spelled, body_answer, message_answer, answered};
 ghost use Rattle.room_program.specs.LineReplies.{IsReply};
@@ -94,7 +93,7 @@ fn answer_message(
 {
     match read_message(alloc, message, scratch) {
         Ok(Incoming { id, body }) => answer_body(alloc, room, author, id, body),
-        Err(bad) => reply_text(alloc, bad.id, &Answer::from(bad.fault)),
+        Err(bad) => reply_text(alloc, bad.id, &Answer::Fault(bad.fault)),
     }
 }
 
@@ -133,7 +132,7 @@ fn answer_change(
         id,
         request,
     });
-    reply_text(alloc, id, &Answer::from(&reply))
+    reply_text(alloc, id, &Answer::Reply(&reply))
 }
 
 fn answer_get(alloc: Global, room: &Room<Global>, id: u64, name: Name) -> Result<Json, Memory>

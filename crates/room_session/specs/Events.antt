@@ -15,7 +15,6 @@ use Rattle.room_wire.specs.declared.bad.Bad.{Bad}
 use Rattle.room_wire.specs.declared.incoming.Body.{Body}
 use Rattle.room_wire.specs.declared.incoming.Body.TheVariants.{Hello, Change, Get, Map, Undos}
 use Rattle.room_wire.specs.declared.incoming.Incoming.{Incoming}
-use Rattle.room_wire.specs.Answers.{fault_answer}
 use Rattle.room_wire.specs.Asked.{answer_to, asked, answer_text}
 use Rattle.room_wire.specs.Reading.{GivesMessage}
 use Rattle.room_wire.specs.Spelling.{spells}
@@ -76,7 +75,7 @@ module _ (before : Known) (sent : Sent) (state : State) (after : Known) where
 
   abbrev pub Begins : Result Incoming Bad → Type 0
   Begins (Ok message) = BeginsBy message.id message.body
-  Begins (Err bad) = RefusesAlone (answer_text bad.id (fault_answer bad.fault))
+  Begins (Err bad) = RefusesAlone (answer_text bad.id (answers.Fault bad.fault))
 
 -- a text came before a hello, but an allocation for its outcome failed
 abbrev pub EndsFirst : Known → Known → Result Incoming Bad → Type 0
@@ -96,7 +95,7 @@ abbrev pub Replies : Known → ℕ → Author → Result Incoming Bad → List �
 Replies before room author (Ok message) text after =
     RepliesTo before room message.id (asked author message.id message.body) text after
 Replies before room author (Err bad) text after =
-    (text ≡ answer_text bad.id (fault_answer bad.fault)) × (after ≡ before)
+    (text ≡ answer_text bad.id (answers.Fault bad.fault)) × (after ≡ before)
 
 -- a look at the room found no entries after `told`
 abbrev pub FindsNoNews : Known → ℕ → ℕ → Known → Type 0

@@ -44,7 +44,7 @@ pub(crate) fn greet<R: Rooms, W: Wait>(
 {
     match read_request(alloc, text, scratch) {
         Ok(message) => begin(alloc, rt, rooms, message),
-        Err(bad) => refuse(alloc, bad.id, &Answer::from(bad.fault)),
+        Err(bad) => refuse(alloc, bad.id, &Answer::Fault(bad.fault)),
     }
 }
 

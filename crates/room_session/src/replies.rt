@@ -67,7 +67,7 @@ fn reply<R: Rooms, W: Wait>(
 {
     match read_request(alloc, text, scratch) {
         Ok(Incoming { id, body }) => reply_to(alloc, rt, rooms, room, author, id, body),
-        Err(bad) => reply_text(alloc, bad.id, &Answer::from(bad.fault)),
+        Err(bad) => reply_text(alloc, bad.id, &Answer::Fault(bad.fault)),
     }
 }
 

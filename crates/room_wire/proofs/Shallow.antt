@@ -1,6 +1,7 @@
 -- The trees of replies and of news nest at most six levels deep.
 use Rattle.std.proofs.Common.{◌≤◌, ℕ, List, [], ◌∷◌, Option, Some, None, map, arith}
 use Rattle.std.proofs.Math.Nat.{max-le}
+use Rattle.std.specs.declared.alloc.Global.{Global}
 use Rattle.serde_json.specs.Data.{Data, depth, items_depth, members_depth}
 use Rattle.serde_json.specs.View.{items_of}
 use Rattle.osm_elements.specs.declared.name.Name.{Name}
@@ -9,11 +10,16 @@ use Rattle.osm_elements.specs.declared.element.Element.TheVariants as elements
 use Rattle.osm_elements.specs.TagRows.{Pairs}
 use Rattle.room_history.specs.declared.news.News.{News}
 use Rattle.room_history.specs.declared.news.NewsRow.{NewsRow}
+use Rattle.edit_simple.specs.declared.refusal.Refusal.{Refusal}
+use Rattle.edit_simple.specs.declared.refusal.Refusal.TheVariants as refusals
+use Rattle.room_history.specs.declared.reply.Reply.{Reply}
+use Rattle.room_history.specs.declared.reply.Reply.TheVariants as replies
 use Rattle.room_wire.specs.declared.answer.Answer.{Answer}
-use Rattle.room_wire.specs.declared.answer.Answer.TheVariants.{Done, Undid, Redid, Is, Map, Undos, Absent, Present, WrongKind, Same, OutOfRange, TooFew, TooMany, InUse, TagConflict, BadPosition, NotEndToEnd, Nothing, Refused, Repeat, Conflict, BadField, BadActionField, Memory, Full, NothingToUndo, NothingToRedo, NoSuch, NotYours, NotStanding, NotJson, NotObject, BadId, UnknownDo, UnknownAction, BadLine, NoHello, NoRoom, HelloTwice}
+use Rattle.room_wire.specs.declared.answer.Answer.TheVariants as answers
+use Rattle.room_wire.specs.declared.bad.Fault.{Fault}
+use Rattle.room_wire.specs.declared.bad.Fault.TheVariants as faults
 use Rattle.room_wire.specs.News.{news_rows_tree, news_tree, row_tree}
-use Rattle.room_wire.specs.Answers.{refusal_answer}
-use Rattle.room_wire.specs.Trees.{id_tree, member_tree, tag_members, element_tree, rows_tree, whole, map_tree, tree_of, why_members}
+use Rattle.room_wire.specs.Trees.{id_tree, member_tree, tag_members, element_tree, rows_tree, whole, map_tree, refusal_members, with_position, outcome_tree, fault_tree, tree_of}
 
 items_are_shallow : {X : Type 0} (k : ℕ) (f : X → Data) → ((x : X) → depth (f x) ≤ k) → (xs : List X) → items_depth (items_of (map f xs)) ≤ k
 items_are_shallow k f h [] = omega arith
@@ -45,87 +51,62 @@ pub map_is_shallow : {A : Type 0} (id : ℕ) (rows : List (Name × Element A)) (
 map_is_shallow id rows front = let r = rows_are_shallow rows in omega arith
 
 -- the members of a refusal have no array and no object
-why_is_flat : (answer : Answer) → members_depth (why_members answer) ≤ 0
-why_is_flat (Done seq) = omega arith
-why_is_flat (Undid seq of) = omega arith
-why_is_flat (Redid seq of) = omega arith
-why_is_flat (Is name element) = omega arith
-why_is_flat (Map rows front) = omega arith
-why_is_flat (Undos undos redos) = omega arith
-why_is_flat (Absent name) = omega arith
-why_is_flat (Present name) = omega arith
-why_is_flat (WrongKind name) = omega arith
-why_is_flat (Same name) = omega arith
-why_is_flat (OutOfRange name) = omega arith
-why_is_flat (TooFew name) = omega arith
-why_is_flat (TooMany name) = omega arith
-why_is_flat (InUse name user) = omega arith
-why_is_flat (TagConflict key) = omega arith
-why_is_flat (Repeat seq) = omega arith
-why_is_flat (Conflict blocker shared) = omega arith
-why_is_flat (BadField field) = omega arith
-why_is_flat BadPosition = omega arith
-why_is_flat NotEndToEnd = omega arith
-why_is_flat Nothing = omega arith
-why_is_flat Memory = omega arith
-why_is_flat Full = omega arith
-why_is_flat NothingToUndo = omega arith
-why_is_flat NothingToRedo = omega arith
-why_is_flat NoSuch = omega arith
-why_is_flat NotYours = omega arith
-why_is_flat NotStanding = omega arith
-why_is_flat NotJson = omega arith
-why_is_flat NotObject = omega arith
-why_is_flat BadId = omega arith
-why_is_flat UnknownDo = omega arith
-why_is_flat BadLine = omega arith
-why_is_flat NoHello = omega arith
-why_is_flat NoRoom = omega arith
-why_is_flat HelloTwice = omega arith
-why_is_flat (Refused k why) = omega arith
-why_is_flat (BadActionField k field) = omega arith
-why_is_flat (UnknownAction k) = omega arith
+refusal_is_flat : (why : Refusal Global) → members_depth (refusal_members why) ≤ 0
+refusal_is_flat (refusals.Absent name) = omega arith
+refusal_is_flat (refusals.Present name) = omega arith
+refusal_is_flat (refusals.WrongKind name) = omega arith
+refusal_is_flat (refusals.Same name) = omega arith
+refusal_is_flat refusals.BadPosition = omega arith
+refusal_is_flat refusals.NotEndToEnd = omega arith
+refusal_is_flat (refusals.OutOfRange name) = omega arith
+refusal_is_flat (refusals.TooFew name) = omega arith
+refusal_is_flat (refusals.TooMany name) = omega arith
+refusal_is_flat (refusals.InUse name user) = omega arith
+refusal_is_flat (refusals.TagConflict key) = omega arith
+refusal_is_flat refusals.Nothing = omega arith
+refusal_is_flat refusals.Memory = omega arith
+
+positioned_is_flat : (position : Option ℕ) (why : Refusal Global) → members_depth (with_position position (refusal_members why)) ≤ 0
+positioned_is_flat None why = refusal_is_flat why
+positioned_is_flat (Some k) why = let w = refusal_is_flat why in omega arith
+
+outcome_is_shallow : (id : ℕ) (reply : Reply Global) → depth (outcome_tree id reply) ≤ 127
+outcome_is_shallow id (replies.Done seq) = omega arith
+outcome_is_shallow id (replies.Undid seq of) = omega arith
+outcome_is_shallow id (replies.Redid seq of) = omega arith
+outcome_is_shallow id (replies.Repeat seq) = omega arith
+outcome_is_shallow id replies.Full = omega arith
+outcome_is_shallow id replies.NothingToUndo = omega arith
+outcome_is_shallow id replies.NoSuch = omega arith
+outcome_is_shallow id replies.NotYours = omega arith
+outcome_is_shallow id replies.NotStanding = omega arith
+outcome_is_shallow id (replies.Conflict blocker shared) = omega arith
+outcome_is_shallow id replies.NothingToRedo = omega arith
+outcome_is_shallow id (replies.Refused refusal) = let p = positioned_is_flat refusal.action refusal.why in omega arith
+outcome_is_shallow id replies.Memory = omega arith
+
+fault_is_shallow : (id : ℕ) (fault : Fault) → depth (fault_tree id fault) ≤ 127
+fault_is_shallow id faults.NotJson = omega arith
+fault_is_shallow id faults.NotObject = omega arith
+fault_is_shallow id faults.BadId = omega arith
+fault_is_shallow id faults.UnknownDo = omega arith
+fault_is_shallow id (faults.BadField field) = omega arith
+fault_is_shallow id (faults.UnknownAction k) = omega arith
+fault_is_shallow id (faults.BadActionField k field) = omega arith
+fault_is_shallow id faults.Memory = omega arith
 
 pub tree_is_shallow : (id : ℕ) (answer : Answer) → depth (tree_of id answer) ≤ 127
-tree_is_shallow id (Done seq) = omega arith
-tree_is_shallow id (Undid seq of) = omega arith
-tree_is_shallow id (Redid seq of) = omega arith
-tree_is_shallow id (Is name element) = let e = element_is_shallow name element.now in omega arith
-tree_is_shallow id (Map rows front) = map_is_shallow id rows.now front
-tree_is_shallow id (Undos undos redos) = let u = numbers_are_flat undos.now in let r = numbers_are_flat redos.now in omega arith
-tree_is_shallow id (Absent name) = omega arith
-tree_is_shallow id (Present name) = omega arith
-tree_is_shallow id (WrongKind name) = omega arith
-tree_is_shallow id (Same name) = omega arith
-tree_is_shallow id (OutOfRange name) = omega arith
-tree_is_shallow id (TooFew name) = omega arith
-tree_is_shallow id (TooMany name) = omega arith
-tree_is_shallow id (InUse name user) = omega arith
-tree_is_shallow id (TagConflict key) = omega arith
-tree_is_shallow id (Repeat seq) = omega arith
-tree_is_shallow id (Conflict blocker shared) = omega arith
-tree_is_shallow id (BadField field) = omega arith
-tree_is_shallow id BadPosition = omega arith
-tree_is_shallow id NotEndToEnd = omega arith
-tree_is_shallow id Nothing = omega arith
-tree_is_shallow id Memory = omega arith
-tree_is_shallow id Full = omega arith
-tree_is_shallow id NothingToUndo = omega arith
-tree_is_shallow id NothingToRedo = omega arith
-tree_is_shallow id NoSuch = omega arith
-tree_is_shallow id NotYours = omega arith
-tree_is_shallow id NotStanding = omega arith
-tree_is_shallow id NotJson = omega arith
-tree_is_shallow id NotObject = omega arith
-tree_is_shallow id BadId = omega arith
-tree_is_shallow id UnknownDo = omega arith
-tree_is_shallow id BadLine = omega arith
-tree_is_shallow id NoHello = omega arith
-tree_is_shallow id NoRoom = omega arith
-tree_is_shallow id HelloTwice = omega arith
-tree_is_shallow id (Refused k why) = let w = why_is_flat (refusal_answer why.now) in omega arith
-tree_is_shallow id (BadActionField k field) = omega arith
-tree_is_shallow id (UnknownAction k) = omega arith
+tree_is_shallow id (answers.Reply reply) = outcome_is_shallow id reply.now
+tree_is_shallow id (answers.Is name element) = let e = element_is_shallow name element.now in omega arith
+tree_is_shallow id (answers.Absent name) = omega arith
+tree_is_shallow id (answers.Map rows front) = map_is_shallow id rows.now front
+tree_is_shallow id (answers.Undos undos redos) = let u = numbers_are_flat undos.now in let r = numbers_are_flat redos.now in omega arith
+tree_is_shallow id answers.Memory = omega arith
+tree_is_shallow id (answers.Fault fault) = fault_is_shallow id fault
+tree_is_shallow id answers.BadLine = omega arith
+tree_is_shallow id answers.NoHello = omega arith
+tree_is_shallow id answers.NoRoom = omega arith
+tree_is_shallow id answers.HelloTwice = omega arith
 
 -- news
 row_is_shallow : {A : Type 0} (name : Name) (element : Option (Element A)) → depth (row_tree name element) ≤ 3

@@ -1,4 +1,5 @@
 -- What a message asks of its room, and the answer to it. The messages are this project's.
+use denote.Bor.{Bor}
 use Rattle.std.specs.Prelude.{ℕ, List, Option, Some, None, Ok}
 use Rattle.std.specs.declared.alloc.Global.{Global}
 use Rattle.serde_json.specs.Written.{compact_text}
@@ -13,7 +14,6 @@ use Rattle.room_wire.specs.declared.answer.Answer.{Answer}
 use Rattle.room_wire.specs.declared.answer.Answer.TheVariants as answers
 use Rattle.room_wire.specs.declared.incoming.Body.{Body}
 use Rattle.room_wire.specs.declared.incoming.Body.TheVariants.{Hello, Change, Get, Map, Undos}
-use Rattle.room_wire.specs.Answers.{reply_answer, to_value}
 use Rattle.room_wire.specs.Trees.{tree_of}
 
 -- the call that an author's message under this id makes to the room; a hello makes none
@@ -24,6 +24,10 @@ asked author id (Get name) = Some (calls.Get name)
 asked author id Map = Some calls.Rows
 asked author id Undos = Some (calls.Undos author)
 
+-- a reference to a value, at any address
+abbrev pub to_value : {X : Type 0} → X → Bor X
+to_value x = record { ref_ptr = (0, 0); now = x }
+
 -- the answer with the element of a name, or that there is no such element
 abbrev pub found_answer : Name → Option (Element Global) → Answer
 found_answer name None = answers.Absent name
@@ -32,7 +36,7 @@ found_answer name (Some element) = answers.Is name (to_value element)
 -- The answer to a call, from the room's reply: the outcome of a change, an element, the rows with the entry count, or
 -- both lists. For any other reply it is `Memory`.
 abbrev pub answer_to : RoomCall Global → RoomReply Global → Answer
-answer_to call (replies.Take reply) = reply_answer reply
+answer_to call (replies.Take reply) = answers.Reply (to_value reply)
 answer_to (calls.Get name) (replies.Get (Ok found)) = found_answer name found
 answer_to call (replies.Rows (Ok rows)) = answers.Map (to_value rows.1) rows.0
 answer_to call (replies.Undos (Ok lists)) = answers.Undos (to_value lists.undos) (to_value lists.redos)

@@ -1,5 +1,5 @@
 -- Worked examples for the definitions of messages, replies and elements.
-use Rattle.std.specs.Prelude.{◌≡◌, ℕ, pos, negsuc, [], ◌∷◌, Some, None, Result, Ok, Err, codes}
+use Rattle.std.specs.Prelude.{◌≡◌, ℕ, pos, negsuc, [], ◌∷◌, Option, Some, None, Result, Ok, Err, codes}
 use Rattle.std.specs.declared.alloc.Global.{Global}
 use Rattle.osm_elements.specs.declared.name.Name.{Name}
 use Rattle.osm_elements.specs.declared.name.Kind.TheVariants as kinds
@@ -12,6 +12,8 @@ use Rattle.edit_simple.specs.declared.refusal.Refusal.{Refusal}
 use Rattle.edit_simple.specs.declared.refusal.Refusal.TheVariants as refusals
 use Rattle.edit_actions.specs.declared.action.Action.TheVariants.{Create, Delete}
 use Rattle.room_history.specs.declared.call.Request.TheVariants.{Do, Undo, Redo}
+use Rattle.room_history.specs.declared.reply.Reply.{Reply}
+use Rattle.room_history.specs.declared.reply.Reply.TheVariants as replies
 use Rattle.room_wire.specs.declared.field.Field.TheVariants.{El, Els, Lat, Nodes, Members, Tags, Dlat, Dlon, At, Into, With, Actions, Seq}
 use Rattle.room_wire.specs.declared.field.Field.TheVariants as fields
 use Rattle.room_wire.specs.declared.bad.Bad.{Bad}
@@ -21,8 +23,9 @@ use Rattle.room_wire.specs.declared.incoming.Incoming.{Incoming}
 use Rattle.room_wire.specs.declared.incoming.Body.{Body}
 use Rattle.room_wire.specs.declared.incoming.Body.TheVariants.{Hello, Change, Get, Map, Undos}
 use Rattle.room_wire.specs.declared.answer.Answer.TheVariants as answers
+use Rattle.serde_json.specs.Data.{Data}
 use Rattle.serde_json.specs.Written.{compact_text}
-use Rattle.room_wire.specs.Answers.{to_value}
+use Rattle.room_wire.specs.Asked.{to_value}
 use Rattle.room_wire.specs.Spelling.{spells}
 use Rattle.room_wire.specs.Trees.{tree_of, element_tree, rows_tree}
 
@@ -144,30 +147,35 @@ tells_an_id =
     × (spells (codes "{\"id\":1,\"do\":\"group\",\"actions\":[{\"do\":\"undo\"}]}") ≡ fails 1 (UnknownAction 0))
     × (spells (codes "{\"id\":1,\"do\":\"group\",\"actions\":[{\"do\":\"delete\",\"el\":\"w1\"},{\"do\":\"nodes\",\"el\":\"w1\"},{}]}") ≡ fails 1 (BadActionField 1 Nodes))
 
+-- the replies to a call and to a refused edit
+abbrev pub outcome_of : ℕ → Reply Global → Data
+outcome_of id reply = tree_of id (answers.Reply (to_value reply))
+
+abbrev pub refusal_of : ℕ → Option ℕ → Refusal Global → Data
+refusal_of id position why = outcome_of id (replies.Refused (record { action = position; why = why }))
+
 -- the texts of some replies
 unfoldable pub writes_replies : Type 0
 writes_replies =
-    (compact_text (tree_of 1 (answers.Done 1)) ≡ codes "{\"id\":1,\"ok\":{\"seq\":1}}")
-    × (compact_text (tree_of 2 (answers.Undid 3 2)) ≡ codes "{\"id\":2,\"ok\":{\"seq\":3,\"undid\":2}}")
-    × (compact_text (tree_of 2 (answers.Redid 4 1)) ≡ codes "{\"id\":2,\"ok\":{\"redid\":1,\"seq\":4}}")
+    (compact_text (outcome_of 1 (replies.Done 1)) ≡ codes "{\"id\":1,\"ok\":{\"seq\":1}}")
+    × (compact_text (outcome_of 2 (replies.Undid 3 2)) ≡ codes "{\"id\":2,\"ok\":{\"seq\":3,\"undid\":2}}")
+    × (compact_text (outcome_of 2 (replies.Redid 4 1)) ≡ codes "{\"id\":2,\"ok\":{\"redid\":1,\"seq\":4}}")
     × (compact_text (tree_of 3 (answers.Undos (to_value (2 ∷ 5 ∷ [])) (to_value (4 ∷ [])))) ≡ codes "{\"id\":3,\"ok\":{\"redo\":[4],\"undos\":[2,5]}}")
     × (compact_text (tree_of 3 (answers.Undos (to_value []) (to_value []))) ≡ codes "{\"id\":3,\"ok\":{\"redo\":[],\"undos\":[]}}")
-    × (compact_text (tree_of 1 (answers.InUse n-1 w1)) ≡ codes "{\"id\":1,\"no\":{\"by\":\"w1\",\"el\":\"n-1\",\"why\":\"in_use\"}}")
-    × (let why : Refusal Global = refusals.InUse n-1 w1 in
-    compact_text (tree_of 7 (answers.Refused 1 (to_value why))) ≡ codes "{\"id\":7,\"no\":{\"action\":1,\"by\":\"w1\",\"el\":\"n-1\",\"why\":\"in_use\"}}")
-    × (let why : Refusal Global = refusals.Nothing in
-    compact_text (tree_of 7 (answers.Refused 0 (to_value why))) ≡ codes "{\"id\":7,\"no\":{\"action\":0,\"why\":\"nothing\"}}")
-    × (compact_text (tree_of 7 (answers.BadActionField 1 Nodes)) ≡ codes "{\"id\":7,\"no\":{\"action\":1,\"field\":\"nodes\",\"why\":\"bad_field\"}}")
-    × (compact_text (tree_of 7 (answers.UnknownAction 1)) ≡ codes "{\"id\":7,\"no\":{\"action\":1,\"why\":\"unknown_do\"}}")
-    × (compact_text (tree_of 1 (answers.Same n-1)) ≡ codes "{\"id\":1,\"no\":{\"el\":\"n-1\",\"why\":\"same\"}}")
-    × (compact_text (tree_of 1 (answers.OutOfRange n-1)) ≡ codes "{\"id\":1,\"no\":{\"el\":\"n-1\",\"why\":\"out_of_range\"}}")
-    × (compact_text (tree_of 1 answers.BadPosition) ≡ codes "{\"id\":1,\"no\":{\"why\":\"bad_position\"}}")
-    × (compact_text (tree_of 1 answers.NotEndToEnd) ≡ codes "{\"id\":1,\"no\":{\"why\":\"not_end_to_end\"}}")
-    × (compact_text (tree_of 1 answers.Nothing) ≡ codes "{\"id\":1,\"no\":{\"why\":\"nothing\"}}")
-    × (compact_text (tree_of 1 (answers.Repeat 1)) ≡ codes "{\"id\":1,\"no\":{\"seq\":1,\"why\":\"repeat\"}}")
-    × (compact_text (tree_of 2 (answers.Conflict 2 n-1)) ≡ codes "{\"id\":2,\"no\":{\"at\":\"n-1\",\"why\":\"conflict\",\"with\":2}}")
-    × (compact_text (tree_of 2 answers.NothingToRedo) ≡ codes "{\"id\":2,\"no\":{\"why\":\"nothing_to_redo\"}}")
-    × (compact_text (tree_of 3 (answers.BadField El)) ≡ codes "{\"id\":3,\"no\":{\"field\":\"el\",\"why\":\"bad_field\"}}")
+    × (compact_text (refusal_of 1 None (refusals.InUse n-1 w1)) ≡ codes "{\"id\":1,\"no\":{\"by\":\"w1\",\"el\":\"n-1\",\"why\":\"in_use\"}}")
+    × (compact_text (refusal_of 7 (Some 1) (refusals.InUse n-1 w1)) ≡ codes "{\"id\":7,\"no\":{\"action\":1,\"by\":\"w1\",\"el\":\"n-1\",\"why\":\"in_use\"}}")
+    × (compact_text (refusal_of 7 (Some 0) refusals.Nothing) ≡ codes "{\"id\":7,\"no\":{\"action\":0,\"why\":\"nothing\"}}")
+    × (compact_text (tree_of 7 (answers.Fault (BadActionField 1 Nodes))) ≡ codes "{\"id\":7,\"no\":{\"action\":1,\"field\":\"nodes\",\"why\":\"bad_field\"}}")
+    × (compact_text (tree_of 7 (answers.Fault (UnknownAction 1))) ≡ codes "{\"id\":7,\"no\":{\"action\":1,\"why\":\"unknown_do\"}}")
+    × (compact_text (refusal_of 1 None (refusals.Same n-1)) ≡ codes "{\"id\":1,\"no\":{\"el\":\"n-1\",\"why\":\"same\"}}")
+    × (compact_text (refusal_of 1 None (refusals.OutOfRange n-1)) ≡ codes "{\"id\":1,\"no\":{\"el\":\"n-1\",\"why\":\"out_of_range\"}}")
+    × (compact_text (refusal_of 1 None refusals.BadPosition) ≡ codes "{\"id\":1,\"no\":{\"why\":\"bad_position\"}}")
+    × (compact_text (refusal_of 1 None refusals.NotEndToEnd) ≡ codes "{\"id\":1,\"no\":{\"why\":\"not_end_to_end\"}}")
+    × (compact_text (refusal_of 1 None refusals.Nothing) ≡ codes "{\"id\":1,\"no\":{\"why\":\"nothing\"}}")
+    × (compact_text (outcome_of 1 (replies.Repeat 1)) ≡ codes "{\"id\":1,\"no\":{\"seq\":1,\"why\":\"repeat\"}}")
+    × (compact_text (outcome_of 2 (replies.Conflict 2 n-1)) ≡ codes "{\"id\":2,\"no\":{\"at\":\"n-1\",\"why\":\"conflict\",\"with\":2}}")
+    × (compact_text (outcome_of 2 replies.NothingToRedo) ≡ codes "{\"id\":2,\"no\":{\"why\":\"nothing_to_redo\"}}")
+    × (compact_text (tree_of 3 (answers.Fault (BadField El))) ≡ codes "{\"id\":3,\"no\":{\"field\":\"el\",\"why\":\"bad_field\"}}")
     × (compact_text (tree_of 0 answers.BadLine) ≡ codes "{\"id\":0,\"no\":{\"why\":\"bad_line\"}}")
     × (compact_text (tree_of 7 answers.NoHello) ≡ codes "{\"id\":7,\"no\":{\"why\":\"no_hello\"}}")
     × (compact_text (tree_of 7 answers.NoRoom) ≡ codes "{\"id\":7,\"no\":{\"why\":\"no_room\"}}")

@@ -9,9 +9,15 @@ use Rattle.osm_elements.specs.declared.element.Element.{Element}
 use Rattle.osm_elements.specs.declared.element.Element.TheVariants as elements
 use Rattle.osm_elements.specs.NameTexts.{name_text}
 use Rattle.osm_elements.specs.TagRows.{Pairs}
+use Rattle.edit_simple.specs.declared.refusal.Refusal.{Refusal}
+use Rattle.edit_simple.specs.declared.refusal.Refusal.TheVariants as refusals
+use Rattle.room_history.specs.declared.reply.Reply.{Reply}
+use Rattle.room_history.specs.declared.reply.Reply.TheVariants as replies
 use Rattle.room_wire.specs.declared.answer.Answer.{Answer}
-use Rattle.room_wire.specs.declared.answer.Answer.TheVariants.{Done, Undid, Redid, Is, Map, Undos, Absent, Present, WrongKind, Same, OutOfRange, TooFew, TooMany, InUse, TagConflict, BadPosition, NotEndToEnd, Nothing, Refused, Repeat, Conflict, BadField, BadActionField, Memory, Full, NothingToUndo, NothingToRedo, NoSuch, NotYours, NotStanding, NotJson, NotObject, BadId, UnknownDo, UnknownAction, BadLine, NoHello, NoRoom, HelloTwice}
-use Rattle.room_wire.specs.Answers.{refusal_answer}
+use Rattle.room_wire.specs.declared.answer.Answer.TheVariants as answers
+use Rattle.room_wire.specs.declared.bad.Fault.{Fault}
+use Rattle.room_wire.specs.declared.bad.Fault.TheVariants as faults
+use Rattle.room_wire.specs.declared.field.Field.{Field}
 use Rattle.room_wire.specs.Fields.{field_text}
 
 abbrev pub whole : ℕ → Data
@@ -65,59 +71,21 @@ abbrev pub numbers_tree : List ℕ → Data
 numbers_tree numbers = array (items_of (map whole numbers))
 
 -- the reply to a message that was accepted, and to a message that was refused
-abbrev pub ok_tree : ℕ → Data → Data
-ok_tree id d = object (member (codes "id") (whole id) (member (codes "ok") d no_members))
+abbrev pub ok_tree : ℕ → Members → Data
+ok_tree id members = object (member (codes "id") (whole id) (member (codes "ok") (object members) no_members))
 
-abbrev pub no_tree : ℕ → Data → Data
-no_tree id d = object (member (codes "id") (whole id) (member (codes "no") d no_members))
+abbrev pub no_tree : ℕ → Members → Data
+no_tree id members = object (member (codes "id") (whole id) (member (codes "no") (object members) no_members))
 
--- the members of a refusal: its reason, and the name that it is about
+-- the members of a refusal: its reason, and the name or the field that it is about
 abbrev pub bare : List ℕ → Members
 bare why = member (codes "why") (string why) no_members
 
 abbrev pub about : Name → List ℕ → Members
 about name why = member (codes "el") (name_tree name) (bare why)
 
--- a whole map, after `front` entries
-abbrev pub map_tree : {A : Type 0} → ℕ → List (Name × Element A) → ℕ → Data
-map_tree id rows front =
-    ok_tree id (object (member (codes "map") (rows_tree rows) (member (codes "seq") (whole front) no_members)))
-
--- the members of a refusal's answer; other answers have none
-abbrev pub why_members : Answer → Members
-why_members (Absent name) = about name (codes "absent")
-why_members (Present name) = about name (codes "present")
-why_members (WrongKind name) = about name (codes "wrong_kind")
-why_members (Same name) = about name (codes "same")
-why_members (OutOfRange name) = about name (codes "out_of_range")
-why_members (TooFew name) = about name (codes "too_few")
-why_members (TooMany name) = about name (codes "too_many")
-why_members (InUse name user) = member (codes "by") (name_tree user) (about name (codes "in_use"))
-why_members (TagConflict key) = member (codes "key") (string key.now) (bare (codes "tag_conflict"))
-why_members (Repeat seq) = member (codes "seq") (whole seq) (bare (codes "repeat"))
-why_members (Conflict blocker shared) =
-    member (codes "at") (name_tree shared)
-    (member (codes "why") (string (codes "conflict")) (member (codes "with") (whole blocker) no_members))
-why_members (BadField field) = member (codes "field") (string (field_text field)) (bare (codes "bad_field"))
-why_members BadPosition = bare (codes "bad_position")
-why_members NotEndToEnd = bare (codes "not_end_to_end")
-why_members Nothing = bare (codes "nothing")
-why_members Memory = bare (codes "memory")
-why_members Full = bare (codes "full")
-why_members NothingToUndo = bare (codes "nothing_to_undo")
-why_members NothingToRedo = bare (codes "nothing_to_redo")
-why_members NoSuch = bare (codes "no_such")
-why_members NotYours = bare (codes "not_yours")
-why_members NotStanding = bare (codes "not_standing")
-why_members NotJson = bare (codes "not_json")
-why_members NotObject = bare (codes "not_object")
-why_members BadId = bare (codes "bad_id")
-why_members UnknownDo = bare (codes "unknown_do")
-why_members BadLine = bare (codes "bad_line")
-why_members NoHello = bare (codes "no_hello")
-why_members NoRoom = bare (codes "no_room")
-why_members HelloTwice = bare (codes "hello_twice")
-why_members other = no_members
+abbrev pub bad_field : Field → Members
+bad_field field = member (codes "field") (string (field_text field)) (bare (codes "bad_field"))
 
 -- a refusal of an action of a group also has the action's position
 abbrev pub with_action : ℕ → Members → Members
@@ -127,22 +95,71 @@ abbrev pub with_position : Option ℕ → Members → Members
 with_position None members = members
 with_position (Some k) members = with_action k members
 
+abbrev pub refusal_members : {A : Type 0} → Refusal A → Members
+refusal_members (refusals.Absent name) = about name (codes "absent")
+refusal_members (refusals.Present name) = about name (codes "present")
+refusal_members (refusals.WrongKind name) = about name (codes "wrong_kind")
+refusal_members (refusals.Same name) = about name (codes "same")
+refusal_members refusals.BadPosition = bare (codes "bad_position")
+refusal_members refusals.NotEndToEnd = bare (codes "not_end_to_end")
+refusal_members (refusals.OutOfRange name) = about name (codes "out_of_range")
+refusal_members (refusals.TooFew name) = about name (codes "too_few")
+refusal_members (refusals.TooMany name) = about name (codes "too_many")
+refusal_members (refusals.InUse name user) = member (codes "by") (name_tree user) (about name (codes "in_use"))
+refusal_members (refusals.TagConflict key) = member (codes "key") (string key) (bare (codes "tag_conflict"))
+refusal_members refusals.Nothing = bare (codes "nothing")
+refusal_members refusals.Memory = bare (codes "memory")
+
+-- a room's reply to a change, an undo or a redo
+abbrev pub outcome_tree : {A : Type 0} → ℕ → Reply A → Data
+outcome_tree id (replies.Done seq) = ok_tree id (member (codes "seq") (whole seq) no_members)
+outcome_tree id (replies.Undid seq of) =
+    ok_tree id (member (codes "seq") (whole seq) (member (codes "undid") (whole of) no_members))
+outcome_tree id (replies.Redid seq of) =
+    ok_tree id (member (codes "redid") (whole of) (member (codes "seq") (whole seq) no_members))
+outcome_tree id (replies.Repeat seq) = no_tree id (member (codes "seq") (whole seq) (bare (codes "repeat")))
+outcome_tree id replies.Full = no_tree id (bare (codes "full"))
+outcome_tree id replies.NothingToUndo = no_tree id (bare (codes "nothing_to_undo"))
+outcome_tree id replies.NoSuch = no_tree id (bare (codes "no_such"))
+outcome_tree id replies.NotYours = no_tree id (bare (codes "not_yours"))
+outcome_tree id replies.NotStanding = no_tree id (bare (codes "not_standing"))
+outcome_tree id (replies.Conflict blocker shared) =
+    no_tree id (member (codes "at") (name_tree shared)
+    (member (codes "why") (string (codes "conflict")) (member (codes "with") (whole blocker) no_members)))
+outcome_tree id replies.NothingToRedo = no_tree id (bare (codes "nothing_to_redo"))
+outcome_tree id (replies.Refused refusal) = no_tree id (with_position refusal.action (refusal_members refusal.why))
+outcome_tree id replies.Memory = no_tree id (bare (codes "memory"))
+
+abbrev pub fault_tree : ℕ → Fault → Data
+fault_tree id faults.NotJson = no_tree id (bare (codes "not_json"))
+fault_tree id faults.NotObject = no_tree id (bare (codes "not_object"))
+fault_tree id faults.BadId = no_tree id (bare (codes "bad_id"))
+fault_tree id faults.UnknownDo = no_tree id (bare (codes "unknown_do"))
+fault_tree id (faults.BadField field) = no_tree id (bad_field field)
+fault_tree id (faults.UnknownAction k) = no_tree id (with_action k (bare (codes "unknown_do")))
+fault_tree id (faults.BadActionField k field) = no_tree id (with_action k (bad_field field))
+fault_tree id faults.Memory = no_tree id (bare (codes "memory"))
+
+-- a whole map, after `front` entries
+abbrev pub map_tree : {A : Type 0} → ℕ → List (Name × Element A) → ℕ → Data
+map_tree id rows front =
+    ok_tree id (member (codes "map") (rows_tree rows) (member (codes "seq") (whole front) no_members))
+
 -- the tree of the reply to the message with this id
 abbrev pub tree_of : ℕ → Answer → Data
-tree_of id (Done seq) = ok_tree id (object (member (codes "seq") (whole seq) no_members))
-tree_of id (Undid seq of) =
-    ok_tree id (object (member (codes "seq") (whole seq) (member (codes "undid") (whole of) no_members)))
-tree_of id (Redid seq of) =
-    ok_tree id (object (member (codes "redid") (whole of) (member (codes "seq") (whole seq) no_members)))
-tree_of id (Is name element) = ok_tree id (object (member (codes "is") (element_tree name element.now) no_members))
-tree_of id (Map rows front) = map_tree id rows.now front
-tree_of id (Undos undos redos) =
-    ok_tree id (object (member (codes "redo") (numbers_tree redos.now)
-    (member (codes "undos") (numbers_tree undos.now) no_members)))
-tree_of id (Refused k why) = no_tree id (object (with_action k (why_members (refusal_answer why.now))))
-tree_of id (BadActionField k field) = no_tree id (object (with_action k (why_members (BadField field))))
-tree_of id (UnknownAction k) = no_tree id (object (with_action k (why_members UnknownDo)))
-tree_of id refusal = no_tree id (object (why_members refusal))
+tree_of id (answers.Reply reply) = outcome_tree id reply.now
+tree_of id (answers.Is name element) = ok_tree id (member (codes "is") (element_tree name element.now) no_members)
+tree_of id (answers.Absent name) = no_tree id (about name (codes "absent"))
+tree_of id (answers.Map rows front) = map_tree id rows.now front
+tree_of id (answers.Undos undos redos) =
+    ok_tree id (member (codes "redo") (numbers_tree redos.now)
+    (member (codes "undos") (numbers_tree undos.now) no_members))
+tree_of id answers.Memory = no_tree id (bare (codes "memory"))
+tree_of id (answers.Fault fault) = fault_tree id fault
+tree_of id answers.BadLine = no_tree id (bare (codes "bad_line"))
+tree_of id answers.NoHello = no_tree id (bare (codes "no_hello"))
+tree_of id answers.NoRoom = no_tree id (bare (codes "no_room"))
+tree_of id answers.HelloTwice = no_tree id (bare (codes "hello_twice"))
 
 -- the two answers have the same replies
 abbrev pub AreToldAlike : Answer → Answer → Type 0

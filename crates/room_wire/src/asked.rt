@@ -63,7 +63,7 @@ impl<'a> Answer<'a> {
         ensures { (call : RoomCall Global) → name_asked call ≡ name → AreToldAlike result (answer_to call reply.now) }
     {
         match reply {
-            RoomReply::Take(reply) => Answer::from(reply),
+            RoomReply::Take(reply) => Answer::Reply(reply),
             RoomReply::Get(Ok(found)) => match name {
                 Some(name) => Answer::found(name, found.as_ref()),
                 None => Answer::Memory,

@@ -1,23 +1,27 @@
 //! Writing replies.
 ghost use Rattle.std.specs.Prelude.{◌≡◌, ◌∷◌, T, Some, codes, map, IfOk, OnOk};
 ghost use Rattle.std.specs.Ordering.{is_lt};
+ghost use Rattle.std.specs.declared.alloc.Global.{Global};
 ghost use Rattle.std.specs.FinMap.Entries.{is_sorted};
-ghost use Rattle.serde_json.specs.Data.{object};
+ghost use Rattle.serde_json.specs.Data.{object, string, member};
 ghost use Rattle.serde_json.specs.Read.{read};
 ghost use Rattle.serde_json.specs.Written.{compact_text};
 ghost use Rattle.osm_elements.specs.KeyedRows.{text_cmp};
 ghost use Rattle.room_wire.specs.Inner.Writing.{Tells, members_of, shown_tree, under_tree};
-ghost use Rattle.room_wire.specs.Trees.{tree_of, ok_tree, no_tree, bare, about, whole, why_members, with_action, with_position};
+ghost use Rattle.room_wire.specs.Trees.{tree_of, outcome_tree, fault_tree, refusal_members, ok_tree, no_tree, bare, about, bad_field, whole, with_action, with_position};
 
 use crate::answer::Answer;
+use crate::bad::Fault;
 use crate::field::Field;
 use crate::json_text::Json;
 use crate::shown::Shown;
 use crate::told::{write_object, write_object_from};
+use edit_simple::refusal::Refusal;
 use json::Writer;
 use osm_elements::Memory;
 use osm_elements::name::Name;
 use osm_elements::text::Text;
+use room_history::reply::Reply;
 use std::alloc::Global;
 
 /// Returns the text of the reply to the message with this id: `{"id":ID,"ok":O}` if the message was accepted, and
@@ -26,7 +30,7 @@ use std::alloc::Global;
 /// It is the compact text of a JSON tree (RFC 8259): without spaces, the keys of each object in the order of their
 /// bytes, whole numbers in decimal, and strings with `serde_json`'s escapes.
 ///
-/// | Answer | O |
+/// | Answer or reply | O |
 /// |---|---|
 /// | `Done` | `{"seq":SEQ}` |
 /// | `Undid` | `{"seq":SEQ,"undid":OF}` |
@@ -35,7 +39,7 @@ use std::alloc::Global;
 /// | `Map` | `{"map":[ELEMENT,..],"seq":FRONT}`, in the order of the rows |
 /// | `Undos` | `{"redo":[REDO,..],"undos":[UNDO,..]}`, each in its order |
 ///
-/// | Answer | N |
+/// | Answer, reply, refusal or fault | N |
 /// |---|---|
 /// | `Absent`, `Present`, `WrongKind`, `Same`, `OutOfRange`, `TooFew`, `TooMany` | `{"el":NAME,"why":WHY}` |
 /// | `InUse` | `{"by":USER,"el":NAME,"why":"in_use"}` |
@@ -44,9 +48,9 @@ use std::alloc::Global;
 /// | `Conflict` | `{"at":SHARED,"why":"conflict","with":BLOCKER}` |
 /// | `BadField` | `{"field":FIELD,"why":"bad_field"}` |
 /// | every other | `{"why":WHY}` |
-/// | `Refused`, `BadActionField`, `UnknownAction` | as without a group, with `"action":POSITION` as the first member |
+/// | one of an action of a group | as without a group, with `"action":POSITION` as the first member |
 ///
-/// WHY is the answer's name in snake case, for example `wrong_kind`. A node is
+/// WHY is the name in snake case, for example `wrong_kind`. A node is
 /// `{"el":NAME,"lat":TEXT,"lon":TEXT,"tags":{..}}`, a way is `{"el":NAME,"nodes":[ID,..],"tags":{..}}`, and a relation
 /// is `{"el":NAME,"members":[[NAME,ROLE],..],"tags":{..}}` (OpenStreetMap wiki, "Elements").
 ///
@@ -70,18 +74,9 @@ fn write_reply(out: &mut Writer, id: u64, answer: &Answer<'_>) -> Result<(), Mem
     ensures { OnOk result (Tells out.old out.new (tree_of id answer.now)) }
 {
     match *answer {
-        Answer::Done { seq } => answered(out, id, &[("seq", Shown::Number(seq))]),
-        Answer::Undid { seq, of } => answered(
-            out,
-            id,
-            &[("seq", Shown::Number(seq)), ("undid", Shown::Number(of))],
-        ),
-        Answer::Redid { seq, of } => answered(
-            out,
-            id,
-            &[("redid", Shown::Number(of)), ("seq", Shown::Number(seq))],
-        ),
+        Answer::Reply(reply) => write_outcome(out, id, reply),
         Answer::Is { name, element } => answered(out, id, &[("is", Shown::Element(name, element))]),
+        Answer::Absent(name) => about(out, id, None, name, "absent"),
         Answer::Map { rows, front } => answered(
             out,
             id,
@@ -95,12 +90,113 @@ fn write_reply(out: &mut Writer, id: u64, answer: &Answer<'_>) -> Result<(), Mem
                 ("undos", Shown::Numbers(undos)),
             ],
         ),
-        Answer::Refused { action, why } => refused(out, id, Some(action), &Answer::from(why)),
-        Answer::UnknownAction { action } => refused(out, id, Some(action), &Answer::UnknownDo),
-        Answer::BadActionField { action, field } => {
-            refused(out, id, Some(action), &Answer::BadField(field))
-        }
-        _ => refused(out, id, None, answer),
+        Answer::Memory => bare(out, id, None, "memory"),
+        Answer::Fault(fault) => write_fault(out, id, fault),
+        Answer::BadLine => bare(out, id, None, "bad_line"),
+        Answer::NoHello => bare(out, id, None, "no_hello"),
+        Answer::NoRoom => bare(out, id, None, "no_room"),
+        Answer::HelloTwice => bare(out, id, None, "hello_twice"),
+    }
+}
+
+// Writes a room's reply to a change, an undo or a redo.
+fn write_outcome(out: &mut Writer, id: u64, reply: &Reply<Global>) -> Result<(), Memory>
+    ensures { OnOk result (Tells out.old out.new (outcome_tree id reply.now)) }
+{
+    match reply {
+        Reply::Done { seq } => answered(out, id, &[("seq", Shown::Number(*seq))]),
+        Reply::Undid { seq, of } => answered(
+            out,
+            id,
+            &[("seq", Shown::Number(*seq)), ("undid", Shown::Number(*of))],
+        ),
+        Reply::Redid { seq, of } => answered(
+            out,
+            id,
+            &[("redid", Shown::Number(*of)), ("seq", Shown::Number(*seq))],
+        ),
+        Reply::Repeat { seq } => why(
+            out,
+            id,
+            None,
+            &[("seq", Shown::Number(*seq)), ("why", Shown::Text("repeat"))],
+        ),
+        Reply::Full => bare(out, id, None, "full"),
+        Reply::NothingToUndo => bare(out, id, None, "nothing_to_undo"),
+        Reply::NoSuch => bare(out, id, None, "no_such"),
+        Reply::NotYours => bare(out, id, None, "not_yours"),
+        Reply::NotStanding => bare(out, id, None, "not_standing"),
+        Reply::Conflict { blocker, shared } => conflict(out, id, *blocker, *shared),
+        Reply::NothingToRedo => bare(out, id, None, "nothing_to_redo"),
+        Reply::Refused(refusal) => write_refusal(out, id, refusal.action, &refusal.why),
+        Reply::Memory => bare(out, id, None, "memory"),
+    }
+}
+
+// Writes that a later entry blocks an undo.
+fn conflict(out: &mut Writer, id: u64, blocker: u64, shared: Name) -> Result<(), Memory>
+    ensures { OnOk result (Tells out.old out.new (outcome_tree {A = Global} id (Reply.Conflict blocker shared))) }
+{
+    why(
+        out,
+        id,
+        None,
+        &[
+            ("at", Shown::Name(shared)),
+            ("why", Shown::Text("conflict")),
+            ("with", Shown::Number(blocker)),
+        ],
+    )
+}
+
+// Writes the refusal of an edit, with the position of the action in its group, if any.
+fn write_refusal(
+    out: &mut Writer,
+    id: u64,
+    action: Option<u32>,
+    refusal: &Refusal<Global>,
+) -> Result<(), Memory>
+    ensures { OnOk result (Tells out.old out.new (no_tree id (with_position action (refusal_members refusal.now)))) }
+{
+    match refusal {
+        Refusal::Absent(name) => about(out, id, action, *name, "absent"),
+        Refusal::Present(name) => about(out, id, action, *name, "present"),
+        Refusal::WrongKind(name) => about(out, id, action, *name, "wrong_kind"),
+        Refusal::Same(name) => about(out, id, action, *name, "same"),
+        Refusal::BadPosition => bare(out, id, action, "bad_position"),
+        Refusal::NotEndToEnd => bare(out, id, action, "not_end_to_end"),
+        Refusal::OutOfRange(name) => about(out, id, action, *name, "out_of_range"),
+        Refusal::TooFew(name) => about(out, id, action, *name, "too_few"),
+        Refusal::TooMany(name) => about(out, id, action, *name, "too_many"),
+        Refusal::InUse(name, user) => why(
+            out,
+            id,
+            action,
+            &[
+                ("by", Shown::Name(*user)),
+                ("el", Shown::Name(*name)),
+                ("why", Shown::Text("in_use")),
+            ],
+        ),
+        Refusal::TagConflict(key) => tag_conflict(out, id, action, key),
+        Refusal::Nothing => bare(out, id, action, "nothing"),
+        Refusal::Memory => bare(out, id, action, "memory"),
+    }
+}
+
+// Writes the fault of a message.
+fn write_fault(out: &mut Writer, id: u64, fault: Fault) -> Result<(), Memory>
+    ensures { OnOk result (Tells out.old out.new (fault_tree id fault)) }
+{
+    match fault {
+        Fault::NotJson => bare(out, id, None, "not_json"),
+        Fault::NotObject => bare(out, id, None, "not_object"),
+        Fault::BadId => bare(out, id, None, "bad_id"),
+        Fault::UnknownDo => bare(out, id, None, "unknown_do"),
+        Fault::BadField(field) => bad_field(out, id, None, field),
+        Fault::UnknownAction { action } => bare(out, id, Some(action), "unknown_do"),
+        Fault::BadActionField { action, field } => bad_field(out, id, Some(action), field),
+        Fault::Memory => bare(out, id, None, "memory"),
     }
 }
 
@@ -108,79 +204,12 @@ fn write_reply(out: &mut Writer, id: u64, answer: &Answer<'_>) -> Result<(), Mem
 pub fn answered(out: &mut Writer, id: u64, members: &[(&str, Shown<'_>)]) -> Result<(), Memory>
     requires { T (is_sorted text_cmp (map (λ m. (m.0.now, shown_tree m.1)) members.now)) }
     ensures { OnOk result
-        (Tells out.old out.new (ok_tree id (object (members_of (map (λ m. (m.0.now, shown_tree m.1)) members.now))))) }
+        (Tells out.old out.new (ok_tree id (members_of (map (λ m. (m.0.now, shown_tree m.1)) members.now)))) }
 {
     under(out, id, "ok", members)
 }
 
-// Writes the reply to a message that was refused, with the position of the action in its group, if any.
-fn refused(
-    out: &mut Writer,
-    id: u64,
-    action: Option<u32>,
-    answer: &Answer<'_>,
-) -> Result<(), Memory>
-    ensures { OnOk result
-        (Tells out.old out.new (no_tree id (object (with_position action (why_members answer.now))))) }
-{
-    match *answer {
-        Answer::Absent(name) => about(out, id, action, name, "absent"),
-        Answer::Present(name) => about(out, id, action, name, "present"),
-        Answer::WrongKind(name) => about(out, id, action, name, "wrong_kind"),
-        Answer::Same(name) => about(out, id, action, name, "same"),
-        Answer::OutOfRange(name) => about(out, id, action, name, "out_of_range"),
-        Answer::TooFew(name) => about(out, id, action, name, "too_few"),
-        Answer::TooMany(name) => about(out, id, action, name, "too_many"),
-        Answer::InUse { name, user } => in_use(out, id, action, name, user),
-        Answer::TagConflict(key) => tag_conflict(out, id, action, key),
-        Answer::Repeat { seq } => repeat(out, id, action, seq),
-        Answer::Conflict { blocker, shared } => conflict(out, id, action, blocker, shared),
-        Answer::BadField(field) => bad_field(out, id, action, field),
-        Answer::BadPosition => bare(out, id, action, "bad_position"),
-        Answer::NotEndToEnd => bare(out, id, action, "not_end_to_end"),
-        Answer::Nothing => bare(out, id, action, "nothing"),
-        Answer::Memory => bare(out, id, action, "memory"),
-        Answer::Full => bare(out, id, action, "full"),
-        Answer::NothingToUndo => bare(out, id, action, "nothing_to_undo"),
-        Answer::NothingToRedo => bare(out, id, action, "nothing_to_redo"),
-        Answer::NoSuch => bare(out, id, action, "no_such"),
-        Answer::NotYours => bare(out, id, action, "not_yours"),
-        Answer::NotStanding => bare(out, id, action, "not_standing"),
-        Answer::NotJson => bare(out, id, action, "not_json"),
-        Answer::NotObject => bare(out, id, action, "not_object"),
-        Answer::BadId => bare(out, id, action, "bad_id"),
-        Answer::UnknownDo => bare(out, id, action, "unknown_do"),
-        Answer::BadLine => bare(out, id, action, "bad_line"),
-        Answer::NoHello => bare(out, id, action, "no_hello"),
-        Answer::NoRoom => bare(out, id, action, "no_room"),
-        Answer::HelloTwice => bare(out, id, action, "hello_twice"),
-        // The other answers are not refusals.
-        _ => why(out, id, action, &[]),
-    }
-}
-
-fn in_use(
-    out: &mut Writer,
-    id: u64,
-    action: Option<u32>,
-    name: Name,
-    user: Name,
-) -> Result<(), Memory>
-    ensures { OnOk result (Tells out.old out.new
-        (no_tree id (object (with_position action (why_members (Answer.InUse name user)))))) }
-{
-    why(
-        out,
-        id,
-        action,
-        &[
-            ("by", Shown::Name(user)),
-            ("el", Shown::Name(name)),
-            ("why", Shown::Text("in_use")),
-        ],
-    )
-}
-
+// Writes a refusal that names a key of tags.
 fn tag_conflict(
     out: &mut Writer,
     id: u64,
@@ -188,7 +217,7 @@ fn tag_conflict(
     key: &Text<Global>,
 ) -> Result<(), Memory>
     ensures { OnOk result (Tells out.old out.new
-        (no_tree id (object (with_position action (why_members (Answer.TagConflict key.entry)))))) }
+        (no_tree id (with_position action (member (codes "key") (string key.now) (bare (codes "tag_conflict")))))) }
 {
     why(
         out,
@@ -201,43 +230,9 @@ fn tag_conflict(
     )
 }
 
-fn repeat(out: &mut Writer, id: u64, action: Option<u32>, seq: u64) -> Result<(), Memory>
-    ensures { OnOk result (Tells out.old out.new
-        (no_tree id (object (with_position action (why_members (Answer.Repeat seq)))))) }
-{
-    why(
-        out,
-        id,
-        action,
-        &[("seq", Shown::Number(seq)), ("why", Shown::Text("repeat"))],
-    )
-}
-
-fn conflict(
-    out: &mut Writer,
-    id: u64,
-    action: Option<u32>,
-    blocker: u64,
-    shared: Name,
-) -> Result<(), Memory>
-    ensures { OnOk result (Tells out.old out.new
-        (no_tree id (object (with_position action (why_members (Answer.Conflict blocker shared)))))) }
-{
-    why(
-        out,
-        id,
-        action,
-        &[
-            ("at", Shown::Name(shared)),
-            ("why", Shown::Text("conflict")),
-            ("with", Shown::Number(blocker)),
-        ],
-    )
-}
-
+// Writes a refusal that names a field.
 fn bad_field(out: &mut Writer, id: u64, action: Option<u32>, field: Field) -> Result<(), Memory>
-    ensures { OnOk result (Tells out.old out.new
-        (no_tree id (object (with_position action (why_members (Answer.BadField field)))))) }
+    ensures { OnOk result (Tells out.old out.new (no_tree id (with_position action (bad_field field)))) }
 {
     why(
         out,
@@ -252,7 +247,7 @@ fn bad_field(out: &mut Writer, id: u64, action: Option<u32>, field: Field) -> Re
 
 // Writes a refusal that shows only its reason.
 fn bare(out: &mut Writer, id: u64, action: Option<u32>, reason: &str) -> Result<(), Memory>
-    ensures { OnOk result (Tells out.old out.new (no_tree id (object (with_position action (bare reason.now))))) }
+    ensures { OnOk result (Tells out.old out.new (no_tree id (with_position action (bare reason.now)))) }
 {
     why(out, id, action, &[("why", Shown::Text(reason))])
 }
@@ -265,7 +260,7 @@ fn about(
     name: Name,
     reason: &str,
 ) -> Result<(), Memory>
-    ensures { OnOk result (Tells out.old out.new (no_tree id (object (with_position action (about name reason.now))))) }
+    ensures { OnOk result (Tells out.old out.new (no_tree id (with_position action (about name reason.now)))) }
 {
     why(
         out,
@@ -284,7 +279,7 @@ fn why(
 ) -> Result<(), Memory>
     requires { T (is_sorted text_cmp ((codes "action", whole 0) ∷ map (λ m. (m.0.now, shown_tree m.1)) members.now)) }
     ensures { OnOk result (Tells out.old out.new
-        (no_tree id (object (with_position action (members_of (map (λ m. (m.0.now, shown_tree m.1)) members.now)))))) }
+        (no_tree id (with_position action (members_of (map (λ m. (m.0.now, shown_tree m.1)) members.now))))) }
 {
     match action {
         None => under(out, id, "no", members),
@@ -300,8 +295,8 @@ fn at_action(
     members: &[(&str, Shown<'_>)],
 ) -> Result<(), Memory>
     requires { T (is_sorted text_cmp ((codes "action", whole 0) ∷ map (λ m. (m.0.now, shown_tree m.1)) members.now)) }
-    ensures { OnOk result (Tells out.old out.new (no_tree id (object
-        (with_action position (members_of (map (λ m. (m.0.now, shown_tree m.1)) members.now)))))) }
+    ensures { OnOk result (Tells out.old out.new
+        (no_tree id (with_action position (members_of (map (λ m. (m.0.now, shown_tree m.1)) members.now))))) }
 {
     out.begin_object()?;
     out.key("id")?;

@@ -1,8 +1,5 @@
 -- The answer to what a message asks for, or to its fault.
-use Rattle.std.proofs.Common.{ap, ◌∙◌}
 use Rattle.std.proofs.lemmas.Result.{IfOk-weaker}
-use Rattle.room_wire.specs.Asked.{answer_text}
-use Rattle.room_wire.specs.declared.answer.Answer.{Answer}
 use Rattle.room_program.proofs.LineAnswerLemmas.{reply-bad, reply-read}
 use Rattle.room_program.proofs.line.answer_message.Goals as goal
 
@@ -15,5 +12,5 @@ returns-in-Ok c =
 pub returns-in-Err : goal.returns-in-Err
 returns-in-Err c =
     IfOk-weaker c.reply_text.result _ _
-    (λ text h. reply-bad c.args.room.now c.args.author c.in-Err.bad _ text c.in-Err.ensures (h ∙ ap (λ (a : Answer). answer_text c.in-Err.bad.id a) c.from.ensures))
+    (λ text h. reply-bad c.args.room.now c.args.author c.in-Err.bad _ text c.in-Err.ensures h)
     c.reply_text.ensures.text
