@@ -1,5 +1,5 @@
 //! Changed rows, each with its element before and after the changes.
-ghost use Rattle.std.specs.Prelude.{◌≡◌, ◌++◌, [], ◌∷◌, IfOk, IfErr, OnOk, T, map};
+ghost use Rattle.std.specs.Prelude.{◌≡◌, ◌≢◌, ◌++◌, [], ◌∷◌, IfOk, IfErr, OnOk, T, length, map};
 ghost use Rattle.osm_changes.specs.Changes.{are_rising, changes_of, row_changes, AreChanges};
 ghost use Rattle.osm_changes.specs.declared.changed_row.ChangedRow.{ChangedRow as Row};
 
@@ -85,7 +85,7 @@ impl<A: Allocator> ChangedRows<A> {
     /// Returns the row if there is just one, and otherwise all rows.
     pub fn into_sole(self) -> Result<ChangedRow<A>, ChangedRows<A>>
         ensures sole { IfOk result (λ row. self ≡ row ∷ []) }
-        ensures all { IfErr result (λ rows. rows ≡ self) }
+        ensures all { IfErr result (λ rows. (rows ≡ self) × (length self ≢ 1)) }
     {
         if self.rows.len() != 1 {
             return Err(self);
