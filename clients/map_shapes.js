@@ -179,6 +179,7 @@ class Shapes {
 
   // Takes changes. Returns the boxes of what changed, before and after.
   change(rows) {
+    if (!this.users) this.indexUsers(); // in the middle, the list would have the nodes of the old ways for good
     const [old, now] = [emptyBox(), emptyBox()];
     for (const { el, before, after } of rows) {
       stretchBy(old, this.boxOf(el));

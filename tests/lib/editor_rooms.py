@@ -92,10 +92,33 @@ class Way(Proxy):
 
     def drop_all(self):
         """Breaks all connections."""
-        for connection in self.connections:
+        for connection in list(self.connections):
             with contextlib.suppress(OSError):
                 connection.shutdown(socket.SHUT_RDWR)
         self.connections.clear()
+
+    def drop_one(self, chance):
+        """Breaks a random connection, if there is one."""
+        connections = list(self.connections)
+        for connection in chance.sample(connections, min(1, len(connections))):
+            with contextlib.suppress(OSError):
+                connection.shutdown(socket.SHUT_RDWR)
+
+    def lose_answers(self, count=1, then=lambda: None):
+        """Breaks the connections that have the replies to the next accepted changes, after calling `then`."""
+        left = [None] * count
+
+        def is_lost(data):
+            if b'"ok":{"seq":' not in data:
+                return False
+            try:
+                left.pop()
+            except IndexError:
+                return False
+            then()
+            return True
+
+        self.is_lost = is_lost
 
     def pass_on(self, one, other, hold):
         """Passes on what comes from one to the other."""
@@ -110,6 +133,8 @@ class Way(Proxy):
                 data = b""
             data = hold(data)
             waiting.put((time.monotonic() + self.seconds, data))
+        with contextlib.suppress(ValueError):  # all were broken
+            self.connections.remove(other)
 
     @staticmethod
     def send_late(waiting, one, other):
@@ -164,16 +189,7 @@ class Place:
 
     def lose_answers(self, count=1, then=lambda: None):
         """Breaks the connections that have the replies to the next accepted changes, after calling `then`."""
-        left = [None] * count
-
-        def is_lost(data):
-            if not left or b'"ok":{"seq":' not in data:
-                return False
-            left.pop()
-            then()
-            return True
-
-        self.way.is_lost = is_lost
+        self.way.lose_answers(count, then)
 
     def restart(self, rows=None):
         """Ends the server, and starts another one on the same map or on another map."""

@@ -4,6 +4,7 @@ Its folder has these files. Numbers have eight digits, and rise by one.
 
 - `snapshot-NUMBER.map`: a whole map. Its first line is a base for `maproom serve --base`.
 - `journal-NUMBER.jsonl`: the changes since the snapshot with this number, one line of JSON for each.
+- `restored`: the run and the entry of the map that `clients/keep --restore` printed last.
 - `lock`: held by the keeper while it runs, so that two keepers never write to one folder.
 - `session`: held by the keeper while it is connected, or has news that it has not saved.
 """

@@ -10,11 +10,14 @@ from dataclasses import dataclass, replace
 from typing import Callable, Deque, Dict, List, Optional, Tuple
 
 from ..core import Element
-from .files import remove, sync_folder
+from .files import remove, replace_durably, sync_folder
 from .journal import Damaged, Entry, Journal, Position, Torn, entries_in
 from .snapshots import Snapshot, read_snapshot, write_snapshot
 
 SNAPSHOT, JOURNAL = re.compile(r"snapshot-([0-9]{8})\.map"), re.compile(r"journal-([0-9]{8})\.jsonl")
+
+# The file with the position of the map that --restore printed last.
+RESTORED = "restored"
 
 # How many of the last entries are kept in memory, and of how many elements for each.
 RECENT, RECENT_ROWS = 200, 50
@@ -68,6 +71,25 @@ def snapshot_path(path: str, number: int) -> str:
 def journal_path(path: str, number: int) -> str:
     """The file of a journal."""
     return os.path.join(path, f"journal-{number:08}.jsonl")
+
+
+def note_restored(path: str, position: Position) -> None:
+    """Notes that --restore prints the map at a position, since a server may begin with it. Raises OSError."""
+    replace_durably(os.path.join(path, RESTORED), [restored_text(position)])
+
+
+def is_restored(path: str, position: Position) -> bool:
+    """Whether the map that --restore printed last is the one at a position."""
+    try:
+        with open(os.path.join(path, RESTORED), "rb") as file:
+            return file.read() == restored_text(position)
+    except OSError:
+        return False
+
+
+def restored_text(position: Position) -> bytes:
+    """What the file says of a position."""
+    return f"{position.run} {position.seq}\n".encode()
 
 
 def numbers_in(path: str, pattern: re.Pattern[str]) -> List[int]:

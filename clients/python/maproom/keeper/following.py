@@ -12,7 +12,7 @@ from typing import Any, Dict, List, Optional, Set
 from .. import ConnectionFailed, Error, connect
 from ..core import Change, Element, Event, Reset, differences
 from ..room import Changes, Room
-from .folder import RECENT, Folder, NothingSaved, Saved, Tell, load
+from .folder import RECENT, Folder, NothingSaved, Saved, Tell, is_restored, load
 from .journal import Damaged, Entry, Position, encoded
 from .lineage import Lineage, lineage
 from .snapshots import Snapshot
@@ -207,7 +207,7 @@ class Keeper:
         assert self._saved is not None
         saved = self._saved
         is_worthless = not saved.elements and saved.position == Position(1, 0)
-        found = lineage(saved, event.rows, event.seq, event.restarted)
+        found = lineage(saved, event.rows, event.seq, event.restarted, is_restored(self.folder.path, saved.position))
         if found is Lineage.OTHER_MAP and not is_worthless:
             raise OtherMap(f"the room is at entry {event.seq}, and does not go on with the map that was saved at "
                            f"{saved.position}: {len(event.rows)} elements differ. Nothing more is saved. "

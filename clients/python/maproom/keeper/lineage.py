@@ -1,11 +1,13 @@
 """Whether a room goes on with the map that was saved, after entries were missed or the server was started anew.
 
-A room does not say on which map it began. So the keeper compares the map that it saved with the room's map.
+A room does not say on which map it began. So the keeper compares the map that it saved with the room's map. If the
+room has not the last saved entries, it began on an older map, or mappers who were quicker than the keeper took them
+back. The map that --restore printed last tells the two apart.
 """
 from __future__ import annotations
 
 import enum
-from typing import Dict, Iterable, List, Optional, Set
+from typing import Dict, Iterable, List, Optional, Set, Tuple
 
 from ..core import Element, Row
 from .folder import Saved
@@ -20,22 +22,26 @@ class Lineage(enum.Enum):
     OTHER_MAP = enum.auto()
 
 
-def lineage(saved: Saved, rows: List[Row], seq: int, restarted: Optional[bool]) -> Lineage:
+def lineage(saved: Saved, rows: List[Row], seq: int, restarted: Optional[bool], is_restored: bool = False) -> Lineage:
     """How a room at entry `seq`, whose map differs by `rows`, continues the saved map.
 
-    `restarted` is None if it is not known whether the run of the server is the same.
+    `restarted` is None if it is not known whether the run of the server is the same. `is_restored` says whether
+    --restore printed the saved map, so that the server may have begun with it.
     """
     if restarted is False:
         return Lineage.SAME_RUN
-    is_new = restarted is True or seq < saved.position.seq
-    made = seq if is_new else seq - saved.position.seq
+    is_new = restarted is True or seq < saved.position.seq or (is_restored and seq == saved.position.seq and bool(rows))
+    made = seq if is_new or is_restored else seq - saved.position.seq
     fine = Lineage.NEW_RUN if is_new else Lineage.SAME_RUN
     if not rows:
         return fine
     if made == 0 or is_mostly_gone(saved.elements, rows, made):
         return Lineage.OTHER_MAP
-    taken_back = entries_taken_back(saved.recent, {row.el: row.after for row in rows})
-    return Lineage.OTHER_MAP if taken_back > (0 if is_new else made) else fine
+    taken_back, elements = entries_taken_back(saved.recent, {row.el: row.after for row in rows})
+    if not is_new:
+        return Lineage.OTHER_MAP if taken_back > made else fine
+    needed = taken_back + (len(elements) < len(rows))  # another entry changed the other elements
+    return fine if taken_back == 0 or is_restored and needed <= made else Lineage.OTHER_MAP
 
 
 def is_mostly_gone(elements: Iterable[str], rows: List[Row], made: int) -> bool:
@@ -48,8 +54,8 @@ def is_mostly_gone(elements: Iterable[str], rows: List[Row], made: int) -> bool:
     return gone > made and 2 * gone > sum(not el.startswith("w") for el in elements)
 
 
-def entries_taken_back(recent: Iterable[Entry], now: Dict[str, Optional[Element]]) -> int:
-    """How many of the last entries the room has not, counted back to the first that it has."""
+def entries_taken_back(recent: Iterable[Entry], now: Dict[str, Optional[Element]]) -> Tuple[int, Set[str]]:
+    """How many of the last entries the room has not, counted back to the first that it has; and their elements."""
     entries = list(recent)
     earlier: Dict[str, List[Optional[Element]]] = {}
     for entry in entries:
@@ -57,11 +63,14 @@ def entries_taken_back(recent: Iterable[Entry], now: Dict[str, Optional[Element]
             if row.el in now:
                 earlier.setdefault(row.el, []).append(row.before)
     seen: Set[str] = set()
+    elements: Set[str] = set()
     count = 0
     for entry in reversed(entries):
         last = [row.el for row in entry.rows if row.el not in seen and row.before != row.after]
         if any(el not in now for el in last):
             break  # an element is as this entry made it, so the room has the entry
-        count += bool(last) and all(now[el] in earlier[el] for el in last)
+        if last and all(now[el] in earlier[el] for el in last):
+            count += 1
+            elements.update(last)
         seen.update(row.el for row in entry.rows)
-    return count
+    return count, elements

@@ -15,7 +15,7 @@ import json
 import os
 import zlib
 from collections.abc import Iterable, Iterator, Mapping
-from dataclasses import dataclass
+from dataclasses import dataclass, replace
 from datetime import datetime, timezone
 from pathlib import Path
 
@@ -216,6 +216,11 @@ class Ledger:
             self.known.update(states)
             self.least_number = min(self.least_number, *(int(name[1:]) for name in states))
             self._write([element_line(name, known) for name, known in states.items()])
+
+    def raise_first(self, name: str, now: float) -> None:
+        """Gives a higher version to an element that has the first one."""
+        version = max(FIRST_VERSION + 1, self.unseen_version(now))
+        self.set({name: replace(self.known[name], version=version)})
 
     def version(self, name: str) -> int | None:
         """Returns the version of an element, also of a deleted element; None if it was never known."""

@@ -207,14 +207,20 @@ class ServerRoom:
     async def catch_up(self) -> None:
         """Waits until all listeners know of all entries that the room had when this was called.
 
-        News follow a reply, so those of the first query are here when the second one is answered."""
+        News follow a reply, so those of the first query are here when the second one is answered. If the reader still
+        lacks an entry that was accepted before, another run answered it, in which nothing looks different."""
+        accepted = list(self._unseen)
         await asyncio.gather(self._ask_reader(), self._ask_reader())
         while self._asking_run:
             await asyncio.wait({self._asking_run})
+        self._note_seen()
+        if any(written in self._unseen for written in accepted):
+            self._begin_run()
+            self._greet()
 
     async def _ask_reader(self) -> None:
         """Asks something small."""
-        with contextlib.suppress(Absent):
+        with contextlib.suppress(Absent, OutOfMemory):
             await self._reader.ask(messages.get("n1"))
 
     # what authors write
@@ -235,7 +241,7 @@ class ServerRoom:
                      announce: Callable[[int], None] = lambda number: None) -> Answer:
         """Asks for a change in an author's session. `key` has the entry that was undone or redone, or else it is
         `other`."""
-        numbers, run = [], None
+        numbers, since, run = [], self._reader.seq, None
 
         def note_number(number: int) -> None:
             announce(number)
@@ -249,20 +255,26 @@ class ServerRoom:
         except NotSent:
             return Refusal("not_sent")
         except Unknown as unknown:
-            entry = None if unknown.restarted else await self._entry_after_loss(author, numbers[0])
-            if entry is None:
+            found = None if unknown.restarted else await self._found_after_loss(author, numbers[0])
+            if found is None:
                 return Refusal(UNKNOWN)
-            told, run = {"seq": entry}, self._run
+            told, run = {"seq": found[0]}, found[1]
         seq = int(told["seq"])
-        self._unseen.append(Written(author, numbers[0], seq))
-        self._note_seen()
+        if seq > since:  # otherwise it is of another run than the reader's, whose entry of this number is another
+            self._unseen.append(Written(author, numbers[0], seq))
+            self._note_seen()
         return Accepted(seq, told.get(key, other), run)
 
-    async def _entry_after_loss(self, author: str, message: int) -> int | None:
-        """Returns the entry of a message whose answer was lost with the connection, if this run of the server has it.
-        The pause lets the server read the rest of the broken connection."""
+    async def _found_after_loss(self, author: str, message: int) -> tuple[int, int] | None:
+        """Returns the entry of a message whose answer was lost with the connection, and the reader's run, if that run
+        of the server has it.
+
+        The pause lets the server read the rest of the broken connection. The reader catches up first: if it was still
+        in an earlier run, the entry would be taken for one of that run."""
         await asyncio.sleep(PAUSE)
-        return await self.entry_of(author, message)
+        await self.catch_up()
+        run, entry = self._run, await self.entry_of(author, message)
+        return None if entry is None else (entry, run)
 
     async def entry_of(self, author: str, message: int) -> int | None:
         """Returns the entry of this run of the server that spent a message's id, or None.
@@ -307,17 +319,11 @@ class ServerRoom:
         """Opens a session, as soon as there is a connection."""
         while True:
             room = Writer(self.url, self.room, author, timeout=None)
-            room.on_event(self._on_writers_event)
             try:
                 await room.open()
                 return room
             except ConnectionFailed:
                 await asyncio.sleep(PAUSE)
-
-    def _on_writers_event(self, event: Event) -> None:
-        """Takes it that an author's session noticed a restart of the server, perhaps before the reader did."""
-        if isinstance(event, Reset) and event.restarted:
-            self._begin_run()
 
     def _close_soon(self, author: str) -> None:
         """Closes a session that nobody uses."""

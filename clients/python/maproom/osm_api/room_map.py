@@ -12,7 +12,7 @@ from .documents import Bounds, ElementState
 from .elements import Row, Rows, is_same, references, text_units
 from .grid import Grid
 from .ids import Kind, room_name
-from .ledger import Known, Ledger
+from .ledger import FIRST_VERSION, Known, Ledger
 
 # Entries of so many elements in all are remembered, for the page and to see which may be taken back.
 MOST_RECENT = 200_000
@@ -302,13 +302,21 @@ class RoomMap:
                 await asyncio.wait_for(self.reached(self.seq + 1), left)
 
     def versions_of(self, rows: Rows) -> dict[str, int]:
-        """Returns the versions of elements for an editor that has these contents.
+        """Returns the versions of elements for an editor that has these contents."""
+        return {name: self.version_for(name, is_same(self.row(name), row)) for name, row in rows.items()}
 
-        If an element has another content now, the version is lower than the present one. So the editor cannot
-        overwrite what it did not see."""
-        versions = {name: self.version(name) or 0 for name in rows}
-        return {name: version if is_same(self.row(name), rows[name]) else version - 1
-                for name, version in versions.items()}
+    def version_for(self, name: str, is_present: bool) -> int:
+        """Returns the version of an element for an editor that has its present content, or another.
+
+        That of another content is lower than the present version. So the editor cannot overwrite what it did not see.
+        No version is lower than the first one: if it is the present one, the present one rises."""
+        version = self.version(name)
+        if version is None or is_present:
+            return version or FIRST_VERSION
+        if version == FIRST_VERSION:
+            self.ledger.raise_first(name, self.clock())
+            return FIRST_VERSION
+        return version - 1
 
 
 def rows_are(elements: RoomMap, rows: Rows) -> bool:

@@ -55,7 +55,8 @@ class TakingBack:
         Ends as well if the server was restarted since."""
         while self._map.run == run and self._map.seq < seq:
             await self._room.catch_up()
-            await self._map.reached(seq)
+            if self._map.run == run:  # another run may never have an entry of this number
+                await self._map.reached(seq)
 
     async def take_back(self, group: Group) -> Left:
         """Takes a group back, and returns what is left of it."""

@@ -389,15 +389,12 @@ class Uploads:
         return any(is_there for old, is_there in found if old < 0) or all(is_there for _, is_there in found)
 
     def _recovered_versions(self, pending: PendingUpload) -> dict[str, int]:
-        """Returns the versions for the editor of an upload that was sent by a killed bridge.
-
-        An element that has another content now gets a lower version than the present one, so that the editor cannot
-        overwrite what it did not see."""
+        """Returns the versions for the editor of an upload that was sent by a killed bridge."""
         versions = {}
         for _, _, name, state in pending.results:
             known = self._ledger.known.get(name or "")
             if name:
-                versions[name] = FIRST_VERSION if known is None else known.version - (known.digest != state)
+                versions[name] = self._map.version_for(name, known is not None and known.digest == state)
         return versions
 
     def keep(self, request: str, results: list[ResultRow]) -> None:
@@ -462,8 +459,11 @@ class Uploads:
         run = self._map.run
         answer = await self._in_time(asked, fault)
         if isinstance(answer, Accepted):
+            run = run if answer.run is None else answer.run
             self._map.note_own(answer.seq)
             await self._in_time(self._taking_back.seen(answer.seq, run), fault)
+            if self._map.run != run:  # the next run may have begun with a map that was saved before this
+                raise fault
         return answer
 
 
