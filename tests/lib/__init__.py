@@ -32,6 +32,16 @@ For clients, editors and the map page:
     josm.py                a story of JOSM's own classes
     browser.py             pages in Chromium
     page_files.py          a web server for the map page
+    map_pages.py           the map page in such a page
+    keepers.py             the keeper
+
+For authors who edit rooms at random, each with some client:
+
+    authors.py             what all of them have in common, and when they rest
+    library_authors.py     those who use the library for Python
+    editor_authors.py      those who use an editor over the OpenStreetMap API
+    page_authors.py        those who use the map page
+    journals.py            the entries of a room over several runs of its server
 
 For tests/run and the pages of the repository:
 

@@ -51,9 +51,9 @@ class Browser:
             if told.get("method") == "Runtime.exceptionThrown":
                 self.pages[told["sessionId"]].faults.append(told["params"]["exceptionDetails"])
 
-    def open(self, url, width=1280, height=800):
-        """A page of a width and a height, once it is loaded."""
-        target = self.ask("Target.createTarget", url="about:blank")["targetId"]
+    def open(self, url, width=1280, height=800, is_apart=False):
+        """A page of a width and a height, once it is loaded. In a window of its own (`is_apart`) it is always shown."""
+        target = self.ask("Target.createTarget", url="about:blank", newWindow=is_apart)["targetId"]
         session = self.ask("Target.attachToTarget", targetId=target, flatten=True)["sessionId"]
         page = self.pages[session] = Page(self, session)
         page.ask("Runtime.enable")

@@ -58,7 +58,7 @@ SCRIPTS = [
     *benchmarks("program", "group_costs --quick", "instructions"),
     *benchmarks("server", "serve --quick", "many_rooms --elements 100 --rooms 1,3"),
     *benchmarks("program", "turns --turns 1000"),
-    *scripts("server", "soak --seconds 5 --pace 20"),
+    *scripts("server", "soak --seconds 5 --pace 20", "evening --seconds 5 --rooms 2 --pace 3"),
 ]
 
 # All parts, in the order of tests/run.

@@ -131,6 +131,18 @@ class Server:
         return status, self.told(self.output), ends_of(self.told(self.errors))
 
 
+class ServerAt(Server):
+    """A server at a port of its own, so that a later one can be started there."""
+
+    def __init__(self, port, program, *rooms, **how):
+        super().__init__(program, *rooms, **how)
+        self.at = port
+
+    def words(self, addr):
+        self.port = self.at
+        return super().words(f"127.0.0.1:{self.at}")
+
+
 class PartServer(Server):
     """The same server, run by part_lines: with one room, and with a limit on the messages that a session reads. With
     `is_held` the third message of session 1 waits until the second message of session 2 is answered."""

@@ -1,0 +1,359 @@
+"""Authors who use the library clients/python/maproom, all in one thread.
+
+A script puts clients/python on its path first.
+"""
+import asyncio
+import threading
+import time
+from decimal import Decimal
+
+import maproom
+from maproom.core import QUERIES
+
+from .answers import ACTIONS, Undos
+from .authors import NAP, Author
+from .cases import given
+from .journals import differing
+from .mappers import one_of
+from .programs import PATIENCE
+from .websocket import Broken
+
+# The weight of each kind of step.
+STEPS = {"edit": 600, "group": 120, "burst": 60, "undo": 80, "undo_one": 40, "redo": 60, "get": 30, "look_at_undos": 20,
+         "look_at_map": 10, "go_away": 6}
+
+# How many of the last entries an author chooses from for an undo.
+RECENT = 20
+
+# How many seconds an author is away at most, and how long the room may still do changes of which nobody knows.
+AWAY, LATER = 3, 3
+
+# The reasons for which a redo or an undo may be refused.
+OF_REDO = {"nothing_to_redo"}.union(*ACTIONS.values())
+OF_UNDO = {"conflict", "no_such", "not_yours", "not_standing", "nothing_to_undo"}
+
+# How a change ends of which nobody knows whether it was done.
+UNKNOWN = (maproom.Unknown, maproom.NoAnswer, maproom.Closed)
+
+
+class RecordedRoom(maproom.Room):
+    """A room whose author records each change."""
+
+    def __init__(self, author, url):
+        super().__init__(url, author.room.name, author.name)
+        self.author = author
+        self.on_event(author.take_event)
+
+    async def ask(self, message, **how):
+        """Sends a message, and records the outcome of a change."""
+        if message["do"] in QUERIES:
+            return await super().ask(message, **how)
+        asked, run = time.time(), self.author.run
+        try:
+            told = await super().ask(message, **how)
+        except UNKNOWN:
+            self.author.lose(asked)
+            raise
+        self.author.accept(message, told, asked, run)
+        return told
+
+
+class LibraryAuthor(Author):
+    """An author who uses the library."""
+
+    kind = "library"
+
+    def __init__(self, stage, room, place, count):
+        super().__init__(stage, room, place, count)
+        self.client, self.run, self.fault = None, None, None
+        # What the author can undo and redo, or None after a change of which nobody knows, until a time.
+        self.undos, self.unknown_until = Undos(), 0
+        # A copy of the map that follows the changes, the task that keeps it, and the number of its last entry.
+        self.copy, self.copying, self.copied = {}, None, 0
+        self.resets = 0
+
+    # Coming, acting and leaving.
+
+    async def live(self):
+        """Acts until all is over."""
+        try:
+            await self.come()
+            while not self.stage.is_over.is_set():
+                if self.fault:
+                    raise self.fault
+                if self.stage.may_act(self) and self.is_time():
+                    await self.step()
+                else:
+                    await asyncio.sleep(NAP / 2)
+        except Exception as fault:  # whatever goes wrong fails the run
+            self.fail(fault)
+        finally:
+            self.rests = True
+
+    async def come(self):
+        """Opens the room, and tries again while its server is not there."""
+        deadline, before = time.monotonic() + PATIENCE * given.slow, self.run
+        while True:
+            self.run, client = self.room.journal.last, RecordedRoom(self, self.room.way.url)
+            try:
+                await client.open()
+                if self.run is self.room.journal.last:
+                    break
+                await client.close()
+            except maproom.ConnectionFailed:
+                if time.monotonic() > deadline:
+                    raise
+            await asyncio.sleep(NAP)
+        if self.run is not before:
+            self.undos = Undos()
+        self.client, self.copy, self.copied = client, dict(client.elements), client.seq
+        self.copying = asyncio.create_task(self.keep_copy(client.changes()))
+
+    async def leave(self):
+        """Leaves the room."""
+        await self.client.close()
+        await self.copying
+
+    async def go_away(self):
+        """Leaves, and comes back."""
+        await self.leave()
+        await asyncio.sleep(self.chance.random() * AWAY)
+        await self.come()
+
+    # What the library reports.
+
+    def accept(self, message, told, asked, run):
+        """Notes a change that was sent in a run and accepted."""
+        self.record.accept(told["seq"], asked)
+        if run is not self.run:
+            self.forget_undos()
+        if self.undos is None:
+            return
+        wanted = self.undos.outcome(message, told["seq"])
+        if wanted is None or told not in (wanted, {"seq": told["seq"]}):
+            raise Broken(f"{message} is answered {told}, and can be answered {wanted}")
+        self.undos.take(message, wanted)
+
+    def lose(self, asked):
+        """Notes a change of which nobody knows."""
+        self.record.lose(asked)
+        self.forget_undos()
+
+    def forget_undos(self):
+        """Notes that nobody knows what can be undone, until the lost messages are done."""
+        self.undos, self.unknown_until = None, time.monotonic() + LATER
+
+    def take_event(self, event):
+        """Takes an event of the library."""
+        try:
+            if isinstance(event, maproom.Change):
+                rows = {row.el: row.after for row in event.rows}
+                self.run.take(f"{self.title}, by its library,", event.seq, event.by, rows)
+                return
+            self.resets += 1
+            if event.restarted is not False and self.run is not self.room.journal.last:
+                self.run, self.undos = self.room.journal.last, Undos()
+        except Exception as fault:  # whatever goes wrong fails the run
+            self.fault = fault
+
+    async def keep_copy(self, changes):
+        """Keeps a copy of the map, as docs/CLIENT.md does it."""
+        try:
+            async for event in changes:
+                for el, before, after in event.rows:
+                    if self.copy.get(el) != before:
+                        raise Broken(f"{event} comes to {self.copy.get(el)}")
+                    self.copy.pop(el, None)
+                    if after:
+                        self.copy[el] = after
+                self.copied = event.seq
+        except Exception as fault:  # whatever goes wrong fails the run
+            self.fault = fault
+
+    # Steps.
+
+    async def step(self):
+        """Makes a random step."""
+        if self.undos is None and time.monotonic() > self.unknown_until:
+            await self.learn_undos()
+        word = one_of(self.chance, STEPS)
+        self.last = word
+        self.steps[word] += 1
+        try:
+            await getattr(self, word)()
+        except (*UNKNOWN, maproom.NotSent):
+            self.steps["unknown or not sent"] += 1
+
+    async def learn_undos(self):
+        """Asks what can be undone and redone."""
+        found = await self.client.undos()
+        self.undos = Undos()
+        self.undos.standing, self.undos.undone = dict.fromkeys(found.undos, "group"), dict.fromkeys(found.redo, "group")
+
+    async def may_refuse(self, whys, asked):
+        """Waits for a reply, which may be a refusal for some reasons."""
+        try:
+            await asked
+        except maproom.Refused as refusal:
+            self.steps["refused"] += 1
+            if refusal.why not in whys:
+                raise
+
+    async def edit(self):
+        """Makes an edit of any kind."""
+        message = self.mapper.edit(dict(self.client.elements))
+        self.last = message
+        await self.may_refuse(ACTIONS[message["do"]], self.called(message))
+
+    async def burst(self):
+        """Makes several edits at once."""
+        messages = [self.mapper.edit(dict(self.client.elements)) for _ in range(self.chance.randint(2, 5))]
+        self.last = messages
+        edits = (self.may_refuse(ACTIONS[message["do"]], self.called(message)) for message in messages)
+        outcomes = await asyncio.gather(*edits, return_exceptions=True)
+        for outcome in outcomes:
+            if isinstance(outcome, BaseException):
+                raise outcome
+
+    async def group(self):
+        """Makes several edits as one entry: a way with its nodes, or any others."""
+        if self.chance.random() < 0.5:
+            messages = [self.mapper.edit(dict(self.client.elements)) for _ in range(self.chance.randint(1, 5))]
+        else:
+            messages = self.path()
+        self.last = messages
+        whys = {"nothing"}.union(*(ACTIONS[message["do"]] for message in messages))
+        await self.may_refuse(whys, self.client.group(messages))
+
+    def path(self):
+        """Actions that draw a way with its nodes."""
+        client, make = self.client, maproom.actions
+        nodes = [client.new_name("n") for _ in range(self.chance.randint(2, 5))]
+        made = [make.create_node(name, self.mapper.degrees(90), self.mapper.degrees(180)) for name in nodes]
+        return [*made, make.create_way(client.new_name("w"), nodes, self.mapper.tags())]
+
+    async def undo(self):
+        """Undoes the last entry."""
+        await self.may_refuse(OF_UNDO, self.client.undo())
+
+    async def undo_one(self):
+        """Undoes a chosen entry, mostly an own one."""
+        own = [*self.undos.standing][-RECENT:] + [*self.undos.undone] if self.undos else []
+        seq = self.chance.choice([*own, self.chance.randint(1, self.client.seq + 1)])
+        self.last = f"undo of {seq}"
+        await self.may_refuse(OF_UNDO, self.client.undo(seq))
+
+    async def redo(self):
+        """Redoes what was undone last."""
+        await self.may_refuse(OF_REDO, self.client.redo())
+
+    async def get(self):
+        """Asks for an element. The mirror has the same, or more news come."""
+        el, seq, run = self.chance.choice([*self.client.elements, "n9000000000"]), self.client.seq, self.run
+        try:
+            found = await self.client.get(el)
+        except maproom.Absent:
+            found = None
+        deadline = time.monotonic() + PATIENCE * given.slow
+        while (seq, run) == (self.client.seq, self.run) and found != self.client.elements.get(el):
+            if time.monotonic() > deadline:
+                raise Broken(f"{el} is {found}, and the mirror has {self.client.elements.get(el)} at entry {seq}")
+            await asyncio.sleep(NAP)
+
+    async def look_at_undos(self):
+        """Asks what can be undone and redone, which has to be what the replies say."""
+        found, undos = await self.client.undos(), self.undos
+        if undos and undos.lists() != found._asdict():
+            raise Broken(f"the lists of undos are {found}, and {undos.lists()} by the replies")
+
+    async def look_at_map(self):
+        """Asks for the map."""
+        run = self.run
+        rows, seq = await self.client.map()
+        if (seq, run) == (self.client.seq, self.run) and {row["el"]: row for row in rows} != self.client.elements:
+            raise Broken(f"the map at entry {seq} is not that of the mirror")
+
+    async def called(self, message):
+        """Makes an edit by the method that the library has for it. It mostly chooses the names of new elements."""
+        client, word, rest = self.client, message["do"], {key: message[key] for key in message if key != "do"}
+        el = rest.get("el")
+        chosen = {} if self.chance.random() < 0.8 else {"el": el}
+        into = {} if self.chance.random() < 0.8 else {"into": rest.get("into")}
+        degrees = lambda key: Decimal(rest[key]).scaleb(-7)
+        create = {"n": lambda: client.create_node(rest["lat"], rest["lon"], rest["tags"], **chosen),
+                  "w": lambda: client.create_way(rest["nodes"], rest["tags"], **chosen),
+                  "r": lambda: client.create_relation(rest["members"], rest["tags"], **chosen)}
+        await {
+            "create": lambda: create[el[0]](),
+            "retag": lambda: client.retag(el, rest["tags"]),
+            "move": lambda: client.move(rest["els"], degrees("dlat"), degrees("dlon")),
+            "reverse": lambda: client.reverse(el),
+            "nodes": lambda: client.set_nodes(el, rest["nodes"]),
+            "members": lambda: client.set_members(el, rest["members"]),
+            "delete": lambda: client.delete(el),
+            "purge": lambda: client.purge(el),
+            "split": lambda: client.split(el, rest["at"], **into),
+            "join": lambda: client.join(el, rest["with"]),
+            "merge": lambda: client.merge(el, rest["with"]),
+            "unglue": lambda: client.unglue(el, rest["at"], **into),
+        }[word]()
+
+    # Looks.
+
+    async def look(self, rows, seq, undos):
+        """Checks, while all authors rest, that the library knows the room's map at an entry, and what this author can
+        undo and redo. `undos` are these lists as another session receives them."""
+        deadline = time.monotonic() + PATIENCE * given.slow
+        while not (self.client.state == "open" and self.client.seq >= seq and self.copied >= seq):
+            if time.monotonic() > deadline or self.fault:
+                break
+            await asyncio.sleep(0.01)
+        await asyncio.sleep(0)
+        if self.fault:
+            raise self.fault
+        found = self.client.state, self.client.seq, self.copied, self.client.pending
+        self.check("the library's state, last entry, that of a copy, and messages", found, ("open", seq, seq, 0))
+        self.check("the library's map, and the wanted one", differing(dict(self.client.elements), rows), {})
+        self.check("a copy by the library's events, and the wanted one", differing(self.copy, rows), {})
+        if self.undos is not None:
+            self.check("what can be undone and redone", self.undos.lists(), undos)
+
+
+class Loop:
+    """A thread in which coroutines run."""
+
+    def __init__(self):
+        self.loop = asyncio.new_event_loop()
+        self.thread = threading.Thread(target=self.loop.run_forever, daemon=True)
+        self.lives = []
+
+    def __enter__(self):
+        self.thread.start()
+        return self
+
+    def __exit__(self, *_):
+        self.loop.set_exception_handler(lambda *_: None)  # what is cancelled may leave connections open
+        self.do(self.cancel_all())
+        self.loop.call_soon_threadsafe(self.loop.stop)
+        self.thread.join()
+
+    @staticmethod
+    async def cancel_all():
+        """Cancels all coroutines."""
+        tasks = asyncio.all_tasks() - {asyncio.current_task()}
+        for task in tasks:
+            task.cancel()
+        await asyncio.gather(*tasks, return_exceptions=True)
+
+    def start(self, authors):
+        """Has authors live."""
+        self.lives = [asyncio.run_coroutine_threadsafe(author.live(), self.loop) for author in authors]
+
+    def do(self, coroutine):
+        """The result of a coroutine."""
+        return asyncio.run_coroutine_threadsafe(coroutine, self.loop).result(PATIENCE * 2 * given.slow)
+
+    def wait(self):
+        """Waits until all lives are over."""
+        for life in self.lives:
+            life.result(PATIENCE * 2 * given.slow)
