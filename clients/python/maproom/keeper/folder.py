@@ -54,7 +54,8 @@ class Saved:
             else:
                 self.elements[el] = after
         self.position, self.time = entry.position, entry.time
-        self.recent.append(replace(entry, rows=entry.rows[:RECENT_ROWS]))
+        left_out = max(0, len(entry.rows) - RECENT_ROWS)
+        self.recent.append(replace(entry, rows=entry.rows[:RECENT_ROWS], left_out=left_out))
 
     def follows(self, entry: Entry) -> bool:
         """Whether an entry is the next one for this map."""

@@ -209,14 +209,24 @@ class Keeper:
         is_worthless = not saved.elements and saved.position == Position(1, 0)
         found = lineage(saved, event.rows, event.seq, event.restarted, is_restored(self.folder.path, saved.position))
         if found is Lineage.OTHER_MAP and not is_worthless:
-            raise OtherMap(f"the room is at entry {event.seq}, and does not go on with the map that was saved at "
-                           f"{saved.position}: {len(event.rows)} elements differ. Nothing more is saved. "
-                           "Start the server on the map that keep --restore prints, or keep this room in a new folder")
+            raise OtherMap(self._refusal(event))
         if found is not Lineage.SAME_RUN:
             self.tell(f"the server was started anew: {len(event.rows)} elements differ")
             return Position(saved.position.run + 1, event.seq)
         self.tell(f"entries after {saved.position} were missed: {len(event.rows)} elements differ")
         return Position(saved.position.run, event.seq)
+
+    def _refusal(self, event: Reset) -> str:
+        """What an operator should know of a room that does not go on with what was saved."""
+        assert self._saved is not None
+        saved, path = self._saved, self.folder.path
+        words = (f"the room is at entry {event.seq}, and does not go on with the map that was saved at "
+                 f"{saved.position}: {len(event.rows)} elements differ. Nothing more is saved. "
+                 "Start the server on the map that keep --restore prints, or keep this room in a new folder")
+        if lineage(saved, event.rows, event.seq, event.restarted, True) is not Lineage.OTHER_MAP:
+            words += (". If the server did start on that map, --restore could not note it: run keep --restore again, "
+                      f"as a user who can write to {path}, and start the keeper")
+        return words
 
     async def _look(self, room: Room) -> None:
         """Holds the session's lock while the keeper is connected or has unsaved news."""

@@ -35,13 +35,14 @@ class Entry:
     """What changed, and when the keeper received it, in seconds since 1970.
 
     `by` is the author. It is None after a gap: then `rows` has each element that differs, from entries that the keeper
-    did not receive.
+    did not receive. `left_out` counts the rows that are not kept in memory.
     """
 
     time: float
     position: Position
     by: Optional[str]
     rows: List[Row]
+    left_out: int = 0
 
 
 @dataclass(frozen=True)

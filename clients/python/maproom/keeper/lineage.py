@@ -38,9 +38,12 @@ def lineage(saved: Saved, rows: List[Row], seq: int, restarted: Optional[bool], 
     if made == 0 or is_mostly_gone(saved.elements, rows, made):
         return Lineage.OTHER_MAP
     taken_back, elements = entries_taken_back(saved.recent, {row.el: row.after for row in rows})
+    is_all = len(rows) <= elements
+    # If nothing else differs, a group can have taken back all. On an older map the room's own entries would differ too.
+    needed = min(taken_back, 1) if is_all else taken_back
     if not is_new:
-        return Lineage.OTHER_MAP if taken_back > made else fine
-    needed = taken_back + (len(elements) < len(rows))  # another entry changed the other elements
+        return Lineage.OTHER_MAP if needed > made else fine
+    needed += not is_all  # another entry changed the other elements
     return fine if taken_back == 0 or is_restored and needed <= made else Lineage.OTHER_MAP
 
 
@@ -54,8 +57,9 @@ def is_mostly_gone(elements: Iterable[str], rows: List[Row], made: int) -> bool:
     return gone > made and 2 * gone > sum(not el.startswith("w") for el in elements)
 
 
-def entries_taken_back(recent: Iterable[Entry], now: Dict[str, Optional[Element]]) -> Tuple[int, Set[str]]:
-    """How many of the last entries the room has not, counted back to the first that it has; and their elements."""
+def entries_taken_back(recent: Iterable[Entry], now: Dict[str, Optional[Element]]) -> Tuple[int, int]:
+    """Counts the last entries that the room has not, back to the first that it has, and the elements that can differ
+    because of them."""
     entries = list(recent)
     earlier: Dict[str, List[Optional[Element]]] = {}
     for entry in entries:
@@ -63,14 +67,13 @@ def entries_taken_back(recent: Iterable[Entry], now: Dict[str, Optional[Element]
             if row.el in now:
                 earlier.setdefault(row.el, []).append(row.before)
     seen: Set[str] = set()
-    elements: Set[str] = set()
-    count = 0
+    count = elements = 0
     for entry in reversed(entries):
         last = [row.el for row in entry.rows if row.el not in seen and row.before != row.after]
         if any(el not in now for el in last):
             break  # an element is as this entry made it, so the room has the entry
         if last and all(now[el] in earlier[el] for el in last):
             count += 1
-            elements.update(last)
+            elements += len(last) + entry.left_out
         seen.update(row.el for row in entry.rows)
     return count, elements

@@ -53,7 +53,7 @@ class News:
 @dataclass(frozen=True)
 class Accepted:
     """The room accepted a message. `other` is the entry that an undo took back or a redo did again. `run` is the run of
-    the server that has the entry, if that may be another one than when the message was sent."""
+    the server that has the entry, if it may count as another one than when the message was sent."""
 
     seq: int
     other: int | None = None
@@ -98,7 +98,8 @@ class RoomConnection(Protocol):
     """A room. Authors are named at each call: a connection may have a session for each of them.
 
     A call waits while there is no connection, and sends a message again after a reconnection unless the room accepted
-    it. A cancelled call may still take effect."""
+    it. It sends a change only to the run of the server that the listeners know when it is called, and otherwise returns
+    the refusal `not_sent`. A cancelled call may still take effect."""
 
     @property
     def room(self) -> str:

@@ -1,8 +1,11 @@
-"""A connection to a room on a server: one session that follows the map, and one for each author who writes."""
+"""A connection to a room on a server: one session that follows the map, and one for each author who writes.
+
+A change is sent only to the run of the server whose map the reader had when the change was planned."""
 import asyncio
+import collections
 import contextlib
 import re
-from collections.abc import AsyncIterator, Callable, Mapping, Sequence
+from collections.abc import AsyncIterator, Callable, Coroutine, Mapping, Sequence
 from dataclasses import dataclass
 from types import TracebackType
 from typing import Any, cast
@@ -29,8 +32,27 @@ class NoGroups(Error):
     """The server does not know groups."""
 
 
-class WriterCore(Core):
+class PlannedCore(Core):
+    """A core for changes that were planned on the map of a run of the server. No other run gets them."""
+
+    def drop_changes(self, restarted: bool) -> None:
+        """Drops all changes. A core keeps those that it did not send, if nobody knows which run answers."""
+        super().drop_changes(restarted)
+        dropped = [asked for asked in self.queued if asked.is_change()]
+        self.queued = collections.deque(asked for asked in self.queued if not asked.is_change())
+        for asked in dropped:
+            asked.done({"no": {"why": "not_sent", "restarted": restarted}})
+
+
+class WriterCore(PlannedCore):
     """A core without a map. It keeps the numbers of entries, and drops their rows."""
+
+    sessions = 0
+
+    def begin(self) -> list[str]:
+        """Begins a session, and counts it."""
+        self.sessions += 1
+        return super().begin()
 
     def take(self, text: str) -> list[str]:
         """Takes a text of the room's. Of a welcome, which can be large, only the number at its end is read."""
@@ -43,10 +65,25 @@ class WriterCore(Core):
         return super().take_news({**news, "rows": []})
 
 
+class Reader(Room):
+    """The room that follows the map, and that also writes for the author of its name."""
+
+    core_class = PlannedCore
+
+
 class Writer(Room):
-    """A room for an author who only writes. Many authors need no more memory than one map: the reader has it."""
+    """A room for an author who only writes. Many authors need no more memory than one map: the reader has it.
+
+    `known_session` is the last session that began before the reader caught up, so that its run is no news to the
+    reader."""
 
     core_class = WriterCore
+    known_session = 0
+
+    @property
+    def session(self) -> int:
+        """The number of the present session, or of the last one."""
+        return cast(WriterCore, self._core).sessions
 
 
 class AuthorSession:
@@ -76,7 +113,7 @@ class ServerRoom:
 
     def __init__(self, url: str, room: str, reader: str, idle_seconds: float = 60) -> None:
         self.url, self.room, self.idle_seconds = url, room, idle_seconds
-        self._reader = Room(url, room, reader, timeout=None)
+        self._reader = Reader(url, room, reader, timeout=None)
         self._reader.on_event(self._on_event)
         self._listeners: list[Listener] = []
         self._sessions: dict[str, AuthorSession] = {}
@@ -168,11 +205,13 @@ class ServerRoom:
     def _on_reset(self, event: Reset) -> None:
         """Takes it that the reader missed entries.
 
-        A reader that never wrote cannot ask which run of the server answers. Then an author's session asks. If nobody
-        wrote, it counts as another run: there is nothing to undo yet."""
-        if event.restarted is None and self._last_seen:
+        A reader that never wrote cannot ask which run of the server answers. Then an author's session asks. If no
+        message was accepted yet, it counts as another run: there is nothing to undo. If the answer to a message comes
+        later, `_write` asks."""
+        last = self._unseen[-1] if self._unseen else self._last_seen
+        if event.restarted is None and last:
             if self._asking_run is None:
-                self._asking_run = asyncio.get_running_loop().create_task(self._ask_run(self._last_seen))
+                self._asking_run = asyncio.get_running_loop().create_task(self._ask_run(last))
             return
         if event.restarted is not False:
             self._begin_run()
@@ -198,11 +237,10 @@ class ServerRoom:
 
     def _note_seen(self) -> None:
         """Notes which accepted messages the reader has the news of."""
-        reader, seen = self._reader, [written for written in self._unseen if written.seq <= self._reader.seq]
-        self._unseen = [written for written in self._unseen if written.seq > reader.seq]
-        for written in seen:
-            if reader.authors.get(written.seq) == written.author:
+        for written in self._unseen:
+            if written.seq <= self._reader.seq:
                 self._last_seen = written
+        self._unseen = [written for written in self._unseen if written.seq > self._reader.seq]
 
     async def catch_up(self) -> None:
         """Waits until all listeners know of all entries that the room had when this was called.
@@ -211,12 +249,16 @@ class ServerRoom:
         lacks an entry that was accepted before, another run answered it, in which nothing looks different."""
         accepted = list(self._unseen)
         await asyncio.gather(self._ask_reader(), self._ask_reader())
-        while self._asking_run:
-            await asyncio.wait({self._asking_run})
+        await self._run_is_known()
         self._note_seen()
         if any(written in self._unseen for written in accepted):
             self._begin_run()
             self._greet()
+
+    async def _run_is_known(self) -> None:
+        """Waits while an author's session asks which run of the server the reader is in."""
+        while self._asking_run:
+            await asyncio.wait({self._asking_run})
 
     async def _ask_reader(self) -> None:
         """Asks something small."""
@@ -225,23 +267,26 @@ class ServerRoom:
 
     # what authors write
 
-    async def send_group(self, author: str, actions: Sequence[Action], announce: Callable[[int], None]) -> Answer:
+    # These take the run when they are called, since a task that awaits them may begin in a later run.
+
+    def send_group(self, author: str, actions: Sequence[Action],
+                   announce: Callable[[int], None]) -> Coroutine[Any, Any, Answer]:
         """Sends actions as one message, after it called `announce` with the message's id."""
-        return await self._write(author, messages.group(actions), announce=announce)
+        return self._write(self._run, author, messages.group(actions), announce=announce)
 
-    async def undo(self, author: str, seq: int) -> Answer:
+    def undo(self, author: str, seq: int) -> Coroutine[Any, Any, Answer]:
         """Undoes an entry of an author."""
-        return await self._write(author, messages.undo(seq), "undid", seq)
+        return self._write(self._run, author, messages.undo(seq), "undid", seq)
 
-    async def redo(self, author: str) -> Answer:
+    def redo(self, author: str) -> Coroutine[Any, Any, Answer]:
         """Does again what an author undid last."""
-        return await self._write(author, messages.redo(), "redid")
+        return self._write(self._run, author, messages.redo(), "redid")
 
-    async def _write(self, author: str, message: Action, key: str = "", other: int | None = None,
+    async def _write(self, run: int, author: str, message: Action, key: str = "", other: int | None = None,
                      announce: Callable[[int], None] = lambda number: None) -> Answer:
-        """Asks for a change in an author's session. `key` has the entry that was undone or redone, or else it is
-        `other`."""
-        numbers, since, run = [], self._reader.seq, None
+        """Asks for a change in an author's session, if that session is in the run. `key` has the entry that was undone
+        or redone, or else it is `other`."""
+        numbers, found = [], None
 
         def note_number(number: int) -> None:
             announce(number)
@@ -249,6 +294,8 @@ class ServerRoom:
 
         try:
             async with self._session(author) as room:
+                if not await self._is_in_run(room, run):
+                    return Refusal("not_sent")
                 told = await room.ask(message, announce=note_number)
         except Refused as refused:
             return Refusal(refused.why, {name: value for name, value in refused.no.items() if name != "why"})
@@ -259,22 +306,46 @@ class ServerRoom:
             if found is None:
                 return Refusal(UNKNOWN)
             told, run = {"seq": found[0]}, found[1]
+        else:
+            if self._run != run:  # perhaps it is the same one, but nothing was there to ask with
+                found = await self._found(author, numbers[0])
+                run = found[1] if found else run
         seq = int(told["seq"])
-        if seq > since:  # otherwise it is of another run than the reader's, whose entry of this number is another
+        if self._run == run:  # otherwise the reader's entry of this number is another
             self._unseen.append(Written(author, numbers[0], seq))
             self._note_seen()
-        return Accepted(seq, told.get(key, other), run)
+        return Accepted(seq, told.get(key, other), found[1] if found else None)
+
+    async def _is_in_run(self, room: Reader | Writer, run: int) -> bool:
+        """Returns whether an author's session and the reader are in a run of the server.
+
+        A new session may be in a run that the reader has not noticed yet. What the reader asks then is answered by
+        that run or a later one. So the reader catches up once for each session. If a session is asking for the reader,
+        this waits for the answer."""
+        await self._run_is_known()
+        while isinstance(room, Writer) and room.known_session != room.session:
+            session = room.session
+            await self.catch_up()
+            room.known_session = session
+        return self._run == run
 
     async def _found_after_loss(self, author: str, message: int) -> tuple[int, int] | None:
-        """Returns the entry of a message whose answer was lost with the connection, and the reader's run, if that run
-        of the server has it.
+        """Returns what `_found` returns, for a message whose answer was lost with the connection.
 
-        The pause lets the server read the rest of the broken connection. The reader catches up first: if it was still
-        in an earlier run, the entry would be taken for one of that run."""
+        The pause lets the server read the rest of the broken connection."""
         await asyncio.sleep(PAUSE)
-        await self.catch_up()
-        run, entry = self._run, await self.entry_of(author, message)
-        return None if entry is None else (entry, run)
+        return await self._found(author, message)
+
+    async def _found(self, author: str, message: int) -> tuple[int, int] | None:
+        """Returns the entry of a message, and the reader's run, if that run of the server has it.
+
+        The reader catches up first: if it was still in an earlier run, the entry would be taken for one of that run.
+        If the run counts as another one meanwhile, the room is asked again."""
+        while True:
+            await self.catch_up()
+            run, entry = self._run, await self.entry_of(author, message)
+            if entry is None or self._run == run:
+                return None if entry is None else (entry, run)
 
     async def entry_of(self, author: str, message: int) -> int | None:
         """Returns the entry of this run of the server that spent a message's id, or None.
@@ -294,7 +365,7 @@ class ServerRoom:
     # sessions
 
     @contextlib.asynccontextmanager
-    async def _session(self, author: str) -> AsyncIterator[Room]:
+    async def _session(self, author: str) -> AsyncIterator[Reader | Writer]:
         """Gives an author's session, which stays open for a while."""
         if author == self._reader.name:
             yield self._reader

@@ -250,7 +250,7 @@ class Uploads:
         rows = attempt.plan.rows
         if group.run == attempt.run:
             between = attempt.watch.between(attempt.seen, group.seq)
-        else:  # the same run, if the server was not restarted
+        else:  # the room knew the message, so it is the same run, but nobody could ask that when the map came anew
             between = [] if group.seq == attempt.seen + 1 and rows_are(self._map, rows) else None
         if between is None:
             return Outcome(Refusal(MISSED), {})
