@@ -1,5 +1,3 @@
-mod Converted
-mod Items
-mod Members
-mod Objects
-mod Values
+mod Inserted
+mod Texts
+mod Trees

@@ -1,18 +1,21 @@
--- Examples of objects, worked out by hand: the members of a text in their order, and the object that they make.
-use Rattle.std.specs.Prelude.{◌≡◌, [], ◌∷◌, Some, None, codes, true}
-use Rattle.json_values.specs.Objects.{put_all}
-use Rattle.serde_json.specs.Data.{Members, boolean, member, no_members, null, number, object, unsigned}
+-- Examples of objects, worked out by hand: an object's members in the order of a text, and the data that they make.
+use Rattle.std.specs.Prelude.{◌≡◌, Some, None, codes, false, true}
+use Rattle.json.specs.Json as json
+use Rattle.json_values.specs.Views.{data_of}
+use Rattle.serde_json.specs.Data.{Data, boolean, member, no_members, null, object}
 use Rattle.serde_json.specs.Find.{get}
 
--- {"b":1,"a":true,"b":null}
-abbrev pub twice_b : Members
-twice_b = put_all ((codes "b", number (unsigned 1)) ∷ (codes "a", boolean true) ∷ (codes "b", null) ∷ []) no_members
+-- {"b":false,"a":true,"b":null}
+abbrev pub twice_b : Data
+twice_b =
+    data_of (json.object (json.member (codes "b") (json.boolean false) (json.member (codes "a") (json.boolean true)
+    (json.member (codes "b") json.null json.no_members))))
 
 -- the last value of a key counts, and the keys are in order; other keys have none, and {} has no keys
 unfoldable pub members_put : Type 0
 members_put =
-    (put_all [] no_members ≡ no_members)
-    × (twice_b ≡ member (codes "a") (boolean true) (member (codes "b") null no_members))
-    × (get (codes "b") (object twice_b) ≡ Some null)
-    × (get (codes "a") (object twice_b) ≡ Some (boolean true))
-    × (get (codes "c") (object twice_b) ≡ None)
+    (data_of (json.object json.no_members) ≡ object no_members)
+    × (twice_b ≡ object (member (codes "a") (boolean true) (member (codes "b") null no_members)))
+    × (get (codes "b") twice_b ≡ Some null)
+    × (get (codes "a") twice_b ≡ Some (boolean true))
+    × (get (codes "c") twice_b ≡ None)

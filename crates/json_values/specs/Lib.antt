@@ -1,2 +1,2 @@
 pub mod Examples
-pub mod Objects
+pub mod Views

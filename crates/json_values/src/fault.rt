@@ -1,8 +1,9 @@
 //! Refusals of a text.
-ghost use Rattle.std.specs.Prelude.{◌≡◌};
+ghost use Rattle.std.specs.Prelude.{◌≡◌, ◌≢◌};
+ghost use Rattle.json.specs.declared.error.Error.TheVariants as errors;
 ghost use Rattle.json_values.specs.declared.fault.Fault.TheVariants as faults;
 
-use json::Invalid;
+use json::Error as JsonError;
 use std::alloc::{AllocError, AllocFailed};
 use thiserror::Error;
 
@@ -36,10 +37,14 @@ impl<T: Drop> From<AllocFailed<T>> for Fault {
     }
 }
 
-impl From<Invalid> for Fault {
-    ghost from_gives = { λ _ fault. fault ≡ faults.NotJson };
+impl From<JsonError> for Fault {
+    ghost from_gives = { λ e fault. (e ≡ errors.OutOfMemory → fault ≡ faults.Memory)
+        × (e ≢ errors.OutOfMemory → fault ≡ faults.NotJson) };
 
-    fn from(_invalid: Invalid) -> Fault {
-        Fault::NotJson
+    fn from(error: JsonError) -> Fault {
+        match error {
+            JsonError::OutOfMemory => Fault::Memory,
+            _ => Fault::NotJson,
+        }
     }
 }

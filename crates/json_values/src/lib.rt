@@ -1,16 +1,17 @@
 //! Reads JSON texts that are objects (RFC 8259), with working memory that the caller keeps.
 //!
-//! [`read_object`] reads the values of an object as [`serde_json::Value`]s. `Value::from_str` makes a [`Scratch`] of
-//! 16 KiB and a map of owned keys for each text. [`read_object`] borrows the `Scratch` from its caller, and the keys
-//! from the text, so a program reads many short texts fast.
+//! [`read_object`] reads a text as a [`json::Value`], which borrows its strings from the text. The functions of
+//! [`look`] look into such a value. Their contracts say what is found by the data that `serde_json` reads from the same
+//! text: a number has a value, and of members with the same key the last one counts.
 #![tactic(auto)]
 
 mod fault;
 pub mod laws;
+pub mod look;
 mod number;
-mod object;
-mod value;
+mod range;
+mod read;
 
 pub use fault::Fault;
-pub use json::Scratch;
-pub use object::{Object, read_object};
+pub use json::{Scratch, Value};
+pub use read::read_object;

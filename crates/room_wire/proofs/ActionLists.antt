@@ -3,8 +3,8 @@ use Rattle.std.proofs.Common.{◌≡◌, ◌+◌, ℕ, suc, List, [], ◌∷◌,
 use Rattle.std.specs.declared.alloc.Global.{Global}
 use Rattle.serde_json.specs.Data.{Data, Items, no_items, item}
 use Rattle.serde_json.specs.Events.{items_len}
-use Rattle.serde_json.specs.View.{items_view}
-use Rattle.serde_json.specs.declared.value.Value.{Value}
+use Rattle.json_values.specs.Views.{items_view}
+use Rattle.json.specs.declared.value.Value.{Value}
 use Rattle.edit_actions.specs.declared.action.Action.{Action}
 use Rattle.room_wire.specs.declared.bad.Fault.{Fault}
 use Rattle.room_wire.specs.Reading.{◌>>=◌}
@@ -30,6 +30,6 @@ pub actions_end : (front : List (Action Global)) (k : ℕ) → after_actions fro
 actions_end front k = ap Ok (append-nil front)
 
 -- there are as many objects as values
-pub items_len-view : (values : List Value) → items_len (items_view values) ≡ length values
+pub items_len-view : (values : List (Value Global)) → items_len (items_view values) ≡ length values
 items_len-view [] = refl
 items_len-view (v ∷ vs) = ap suc (items_len-view vs)

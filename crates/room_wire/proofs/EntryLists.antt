@@ -1,15 +1,15 @@
 -- Reading the entries of an object, member by member.
-use Rattle.std.proofs.Common.{◌≡◌, ◌<◌, ◌≤◌, ℕ, suc, List, [], ◌∷◌, ◌++◌, length, String, string_bytes, Global, Option, Some, None, option_map, option_and_then, Ok, Bool, cond, nat_eq, Less, Greater, nat_le, true, false, refl, sym, ap, ◌∙◌, arith, append_assoc, append-nil}
+use Rattle.std.proofs.Common.{◌≡◌, ◌<◌, ◌≤◌, ℕ, suc, List, [], ◌∷◌, ◌++◌, length, Bor, Ordering, nat_cmp, Option, Some, None, option_map, option_and_then, Ok, Bool, cond, nat_eq, Less, Greater, nat_le, true, false, refl, sym, ap, ◌∙◌, arith, append_assoc, append-nil}
 use Rattle.std.specs.Map.{keys_of}
 use Rattle.std.specs.List.Sorted.{IsStrictlySortedBy}
 use Rattle.std.specs.List.{AllByRecursion}
-use Rattle.std.specs.String.{string_cmp}
+use Rattle.std.specs.Cmp.Lexicographic.{slice_cmp}
 use Rattle.std.specs.Ordering.{ordering_reverse}
 use Rattle.std.specs.FinMap.Entries.{put}
 use Rattle.std.proofs.lemmas.Cmp.{nat_list_cmp_total}
 use Rattle.serde_json.specs.Data.{Data, Members, no_members, member}
-use Rattle.serde_json.specs.View.{members_view}
-use Rattle.serde_json.proofs.Views.{Entry, members_len-members_view}
+use Rattle.serde_json.specs.Events.{members_len}
+use Rattle.json_values.specs.Views.{Entry, members_view}
 use Rattle.osm_elements.specs.KeyedRows.{text_cmp}
 use Rattle.room_wire.specs.Spelling.{entry_of, entries_in, entries_of}
 use Rattle.std.proofs.lemmas.Bool.Decides.{nat_tests}
@@ -41,9 +41,9 @@ module _ {V : Type 0} where
   SameKeys [] [] = Unit {0}
   SameKeys [] (e ∷ es) = ⊥
   SameKeys (t ∷ ts) [] = ⊥
-  SameKeys (t ∷ ts) (e ∷ es) = (t.0 ≡ string_bytes e.0) × SameKeys ts es
+  SameKeys (t ∷ ts) (e ∷ es) = (t.0 ≡ e.0.now) × SameKeys ts es
 
-  pub same_keys_more : (tags : List (List ℕ × V)) (done : List Entry) (t : List ℕ × V) (e : Entry) → SameKeys tags done → t.0 ≡ string_bytes e.0 → SameKeys (tags ++ t ∷ []) (done ++ e ∷ [])
+  pub same_keys_more : (tags : List (List ℕ × V)) (done : List Entry) (t : List ℕ × V) (e : Entry) → SameKeys tags done → t.0 ≡ e.0.now → SameKeys (tags ++ t ∷ []) (done ++ e ∷ [])
   same_keys_more [] [] t e h is = (is, tt)
   same_keys_more [] (x ∷ done) t e h is = absurd h
   same_keys_more (s ∷ tags) [] t e h is = absurd h
@@ -55,20 +55,29 @@ module _ {V : Type 0} where
   same_keys_length (s ∷ tags) [] h = absurd h
   same_keys_length (s ∷ tags) (x ∷ done) h = ap suc (same_keys_length tags done h.1)
 
-below_middle : (k : String Global) (done : List Entry) (e : Entry) (more : List Entry) → AllByRecursion (λ y. string_cmp k y ≡ Less) (keys_of (done ++ e ∷ more)) → string_cmp k e.0 ≡ Less
+-- the order of the texts that two keys borrow
+abbrev pub key_cmp : Bor (List ℕ) → Bor (List ℕ) → Ordering
+key_cmp k l = slice_cmp nat_cmp k.now l.now
+
+below_middle : (k : Bor (List ℕ)) (done : List Entry) (e : Entry) (more : List Entry) → AllByRecursion (λ y. key_cmp k y ≡ Less) (keys_of (done ++ e ∷ more)) → key_cmp k e.0 ≡ Less
 below_middle k [] e more h = h.0
 below_middle k (x ∷ done) e more h = below_middle k done e more h.1
 
 -- a key that is above the earlier keys goes last
-pub put_last : {V : Type 0} (tags : List (List ℕ × V)) (done : List Entry) (e : Entry) (more : List Entry) (value : V) → SameKeys tags done → IsStrictlySortedBy string_cmp (keys_of (done ++ e ∷ more))
-    → put text_cmp (string_bytes e.0) value tags ≡ tags ++ (string_bytes e.0, value) ∷ []
+pub put_last : {V : Type 0} (tags : List (List ℕ × V)) (done : List Entry) (e : Entry) (more : List Entry) (value : V) → SameKeys tags done → IsStrictlySortedBy key_cmp (keys_of (done ++ e ∷ more))
+    → put text_cmp (e.0.now) value tags ≡ tags ++ (e.0.now, value) ∷ []
 unfolding IsStrictlySortedBy
 put_last [] done e more value same h = refl
 put_last (t ∷ tags) [] e more value same h = absurd same
 put_last (t ∷ tags) (x ∷ done) e more value same h =
-    let above : text_cmp (string_bytes e.0) t.0 ≡ Greater =
-    ap (text_cmp (string_bytes e.0)) same.0 ∙ nat_list_cmp_total.antisymm (string_bytes e.0) (string_bytes x.0) ∙ ap ordering_reverse (below_middle x.0 done e more h.0) in
+    let above : text_cmp (e.0.now) t.0 ≡ Greater =
+    ap (text_cmp (e.0.now)) same.0 ∙ nat_list_cmp_total.antisymm (e.0.now) (x.0.now) ∙ ap ordering_reverse (below_middle x.0 done e more h.0) in
     rw above (ap (λ ts. t ∷ ts) (put_last tags done e more value same.1 h.1))
+
+-- there are as many members as entries
+members_len-view : (es : List Entry) → members_len (members_view es) ≡ length es
+members_len-view [] = refl
+members_len-view (e ∷ es) = ap suc (members_len-view es)
 
 -- a value that was found
 pub or_fault_ok : {X : Type 0} (fault : Fault) (found : Option X) (x : X) → or_fault fault found ≡ Ok x → found ≡ Some x
@@ -95,7 +104,7 @@ module _ {V : Type 0} (reading : Data → Option V) where
   entry_of-key k d t h = by_tests (nat_eq (length k) 0) (is_long k) k (reading d) t h
 
   pub entries_of-few : (es : List Entry) → length es ≤ 1000 → entries_of reading (members_view es) ≡ entries_in reading (members_view es)
-  entries_of-few es h = rw (members_len-members_view es, few (length es) _ h refl) refl
+  entries_of-few es h = rw (members_len-view es, few (length es) _ h refl) refl
 
   pub entries_of-many : (es : List Entry) → 1000 < length es → entries_of reading (members_view es) ≡ None
-  entries_of-many es h = rw (members_len-members_view es, many (length es) _ h refl) refl
+  entries_of-many es h = rw (members_len-view es, many (length es) _ h refl) refl

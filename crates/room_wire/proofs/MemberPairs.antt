@@ -1,10 +1,11 @@
 -- A list is read as a member only if it has two items.
 use Rattle.std.proofs.Common.{◌≡◌, ◌≢◌, List, [], ◌∷◌, None, length, refl}
-use Rattle.serde_json.specs.View.{items_view}
-use Rattle.serde_json.specs.declared.value.Value.{Value}
+use Rattle.std.specs.declared.alloc.Global.{Global}
+use Rattle.json_values.specs.Views.{items_view}
+use Rattle.json.specs.declared.value.Value.{Value}
 use Rattle.room_wire.specs.Spelling.{member_in}
 
-pub not_two : (vs : List Value) → length vs ≢ 2 → member_in (items_view vs) ≡ None
+pub not_two : (vs : List (Value Global)) → length vs ≢ 2 → member_in (items_view vs) ≡ None
 not_two [] h = refl
 not_two (v ∷ []) h = refl
 not_two (v ∷ w ∷ []) h = absurd (h refl)

@@ -1,49 +1,32 @@
-//! What the fields of messages are read from.
+//! The fields of messages.
 ghost use Rattle.std.specs.Prelude.{◌≡◌};
-ghost use Rattle.std.specs.Option.{option_map};
-ghost use Rattle.json_values.specs.Objects.{object_view};
-ghost use Rattle.serde_json.specs.Find.{get};
-ghost use Rattle.serde_json.specs.View.{view};
+ghost use Rattle.std.specs.Option.{option_and_then, option_map};
+ghost use Rattle.json_values.specs.Views.{items_view, view};
+ghost use Rattle.room_wire.specs.Fields.{field_text};
+ghost use Rattle.room_wire.specs.Spelling.{text_at};
+ghost use Rattle.serde_json.specs.Find.{as_array, get};
 
-use json_values::Object;
-use serde_json::Value;
+use crate::field::Field;
+use json_values::{Value, look};
 
-// An object by its keys. A value that is no object has no keys.
-pub trait Fields: Drop {
-    ghost use Rattle.serde_json.specs.Data.{Data};
-
-    ghost tree: { Self → Data };
-
-    fn field(&self, key: &str) -> Option<&Value>
-        ensures { option_map (λ v. view v.now) result ≡ get key.now (tree self.now) };
-
-    fn into_field(self, key: &str) -> Option<Value>
-        ensures { option_map view result ≡ get key.now (tree self) };
+// Returns the value of a field. Only an object has fields.
+pub fn value_at<'v, 'a>(message: &'v Value<'a>, field: Field) -> Option<&'v Value<'a>>
+    ensures { option_map (λ v. view v.now) result ≡ get (field_text field) (view message.now) }
+{
+    look::field(message, field.as_str())
 }
 
-// A message is an object.
-impl Fields for Object<'_> {
-    ghost tree = { object_view };
-
-    fn field(&self, key: &str) -> Option<&Value> {
-        self.get(key)
-    }
-
-    fn into_field(self, key: &str) -> Option<Value> {
-        self.into_value(key)
-    }
+// Returns the text of a field, if the field is there and is a string.
+pub fn text_at<'a>(message: &Value<'a>, field: Field) -> Option<&'a str>
+    ensures { option_map (λ t. t.now) result ≡ text_at field (view message.now) }
+{
+    value_at(message, field).and_then(look::text)
 }
 
-// An action of a group is a value in a message, and so is a row of a map or of news.
-impl Fields for Value {
-    ghost tree = { view };
-
-    fn field(&self, key: &str) -> Option<&Value> {
-        self.get(key)
-    }
-
-    fn into_field(mut self, key: &str) -> Option<Value> {
-        let value = self.get_mut(key)?;
-        Some(value.take())
-    }
+// Returns the items of a field, if the field is there and is an array.
+pub fn items_at<'v, 'a>(message: &'v Value<'a>, field: Field) -> Option<&'v [Value<'a>]>
+    ensures { option_map (λ items. items_view items.now) result
+        ≡ option_and_then as_array (get (field_text field) (view message.now)) }
+{
+    value_at(message, field).and_then(look::items)
 }

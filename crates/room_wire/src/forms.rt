@@ -3,7 +3,7 @@ ghost use Rattle.std.specs.Prelude.{◌≡◌, IfSome};
 ghost use Rattle.std.specs.Option.{option_map};
 ghost use Rattle.std.specs.Result.{result_map_both};
 ghost use Rattle.room_wire.specs.News.{object_at};
-ghost use Rattle.serde_json.specs.View.{view, items_view};
+ghost use Rattle.json_values.specs.Views.{items_view, view};
 ghost use Rattle.room_wire.specs.Reading.{Gives, or_fault};
 ghost use Rattle.room_wire.specs.Spelling.{text_at, name_at, author_at, el_at, place_of, place_at, name_item, names_in, els_at, distance_at, lat_at, lon_at, node_of, nodes_in, nodes_at, member_with, member_in, member_of, members_in, members_at, text_of, seq_at, fault_in};
 ghost use Rattle.osm_elements.specs.NameTexts.{name_with};
@@ -13,8 +13,9 @@ ghost use Rattle.room_wire.specs.declared.field.Field.TheVariants as field;
 
 use crate::bad::Fault;
 use crate::field::Field;
-use crate::fields::Fields;
+use crate::fields::{items_at, text_at, value_at};
 use crate::numbers::ordinal;
+use json_values::{Value, look};
 use osm_coords::{Lat, Lon};
 use osm_elements::fault::TextFault;
 use osm_elements::member::Member;
@@ -25,26 +26,18 @@ use osm_elements::nodes::Nodes;
 use osm_elements::shared::Shared;
 use osm_elements::text::Text;
 use room_stacks::author::Author;
-use serde_json::Value;
 use std::alloc::Global;
 
-// Returns the text of a field, if the field is there and is a string.
-fn text_at<F: Fields>(message: &F, field: Field) -> Option<&str>
-    ensures { option_map (λ t. t.now) result ≡ text_at field (F.Fields.tree message.now) }
-{
-    message.field(field.as_str()).and_then(Value::as_str)
-}
-
 // Reads the name of the element that a message is about.
-pub fn el_of<F: Fields>(message: &F) -> Result<Name, Fault>
-    ensures { result ≡ el_at (F.Fields.tree message.now) }
+pub fn el_of(message: &Value<'_>) -> Result<Name, Fault>
+    ensures { result ≡ el_at (view message.now) }
 {
     name_at(message, Field::El)
 }
 
 // Reads the name of an element.
-pub fn name_at<F: Fields>(message: &F, field: Field) -> Result<Name, Fault>
-    ensures { result ≡ name_at field (F.Fields.tree message.now) }
+pub fn name_at(message: &Value<'_>, field: Field) -> Result<Name, Fault>
+    ensures { result ≡ name_at field (view message.now) }
 {
     text_at(message, field)
         .and_then(Name::read)
@@ -52,8 +45,8 @@ pub fn name_at<F: Fields>(message: &F, field: Field) -> Result<Name, Fault>
 }
 
 // Reads the name of an author or of a room, which have the same form.
-pub fn author_at<F: Fields>(message: &F, field: Field) -> Result<Author, Fault>
-    ensures { result ≡ author_at field (F.Fields.tree message.now) }
+pub fn author_at(message: &Value<'_>, field: Field) -> Result<Author, Fault>
+    ensures { result ≡ author_at field (view message.now) }
 {
     text_at(message, field)
         .and_then(Author::read)
@@ -61,20 +54,19 @@ pub fn author_at<F: Fields>(message: &F, field: Field) -> Result<Author, Fault>
 }
 
 // Reads the position at which a way is split or unglued.
-pub fn place_at<F: Fields>(message: &F) -> Result<u32, Fault>
-    ensures { result ≡ place_at (F.Fields.tree message.now) }
+pub fn place_at(message: &Value<'_>) -> Result<u32, Fault>
+    ensures { result ≡ place_at (view message.now) }
 {
-    message
-        .field(Field::At.as_str())
+    value_at(message, Field::At)
         .and_then(place_of)
         .ok_or(Fault::BadField(Field::At))
 }
 
 // Returns a whole number in `0..=4294967295`.
-fn place_of(value: &Value) -> Option<u32>
+fn place_of(value: &Value<'_>) -> Option<u32>
     ensures { result ≡ place_of (view value.now) }
 {
-    let place = value.as_u64()?;
+    let place = look::unsigned(value)?;
     if place <= u32::MAX as u64 {
         Some(place as u32)
     } else {
@@ -83,18 +75,15 @@ fn place_of(value: &Value) -> Option<u32>
 }
 
 // Reads the names of elements.
-pub fn els_of<F: Fields>(alloc: Global, message: &F) -> Result<Names<Global>, Fault>
-    ensures { Gives result (els_at (F.Fields.tree message.now)) }
+pub fn els_of(alloc: Global, message: &Value<'_>) -> Result<Names<Global>, Fault>
+    ensures { Gives result (els_at (view message.now)) }
 {
-    let items = message
-        .field(Field::Els.as_str())
-        .and_then(Value::as_array)
-        .ok_or(Fault::BadField(Field::Els))?;
+    let items = items_at(message, Field::Els).ok_or(Fault::BadField(Field::Els))?;
     names_in(alloc, items)
 }
 
 // Reads each item as a name.
-fn names_in(alloc: Global, items: &[Value]) -> Result<Names<Global>, Fault>
+fn names_in(alloc: Global, items: &[Value<'_>]) -> Result<Names<Global>, Fault>
     ensures { Gives result (or_fault (BadField field.Els) (names_in (items_view items.now))) }
 {
     let mut names = Names::with_capacity(alloc, items.len())?;
@@ -108,25 +97,24 @@ fn names_in(alloc: Global, items: &[Value]) -> Result<Names<Global>, Fault>
 }
 
 // Reads a string as a name.
-fn name_item(item: &Value) -> Option<Name>
+fn name_item(item: &Value<'_>) -> Option<Name>
     ensures { result ≡ name_item (view item.now) }
 {
-    item.as_str().and_then(Name::read)
+    look::text(item).and_then(Name::read)
 }
 
 // Reads the distance of a move to the north or to the east.
-pub fn distance_of<F: Fields>(message: &F, field: Field) -> Result<i64, Fault>
-    ensures { result ≡ distance_at field (F.Fields.tree message.now) }
+pub fn distance_of(message: &Value<'_>, field: Field) -> Result<i64, Fault>
+    ensures { result ≡ distance_at field (view message.now) }
 {
-    message
-        .field(field.as_str())
-        .and_then(Value::as_i64)
+    value_at(message, field)
+        .and_then(look::signed)
         .ok_or(Fault::BadField(field))
 }
 
 // Reads a node's latitude.
-pub fn lat_of<F: Fields>(message: &F) -> Result<Lat, Fault>
-    ensures { result ≡ lat_at (F.Fields.tree message.now) }
+pub fn lat_of(message: &Value<'_>) -> Result<Lat, Fault>
+    ensures { result ≡ lat_at (view message.now) }
 {
     text_at(message, Field::Lat)
         .and_then(Lat::read)
@@ -134,8 +122,8 @@ pub fn lat_of<F: Fields>(message: &F) -> Result<Lat, Fault>
 }
 
 // Reads a node's longitude.
-pub fn lon_of<F: Fields>(message: &F) -> Result<Lon, Fault>
-    ensures { result ≡ lon_at (F.Fields.tree message.now) }
+pub fn lon_of(message: &Value<'_>) -> Result<Lon, Fault>
+    ensures { result ≡ lon_at (view message.now) }
 {
     text_at(message, Field::Lon)
         .and_then(Lon::read)
@@ -143,21 +131,15 @@ pub fn lon_of<F: Fields>(message: &F) -> Result<Lon, Fault>
 }
 
 // Reads the nodes of a way.
-pub fn nodes_of<F: Fields>(
-    alloc: Global,
-    message: &F,
-) -> Result<Shared<Nodes<Global>, Global>, Fault>
-    ensures { Gives result (nodes_at (F.Fields.tree message.now)) }
+pub fn nodes_of(alloc: Global, message: &Value<'_>) -> Result<Shared<Nodes<Global>, Global>, Fault>
+    ensures { Gives result (nodes_at (view message.now)) }
 {
-    let items = message
-        .field(Field::Nodes.as_str())
-        .and_then(Value::as_array)
-        .ok_or(Fault::BadField(Field::Nodes))?;
+    let items = items_at(message, Field::Nodes).ok_or(Fault::BadField(Field::Nodes))?;
     Ok(Shared::new(alloc, nodes_in(alloc, items)?)?)
 }
 
 // Reads each item as the id of a node.
-fn nodes_in(alloc: Global, items: &[Value]) -> Result<Nodes<Global>, Fault>
+fn nodes_in(alloc: Global, items: &[Value<'_>]) -> Result<Nodes<Global>, Fault>
     ensures { Gives result (or_fault (BadField field.Nodes) (nodes_in (items_view items.now))) }
 {
     let mut nodes = Nodes::with_capacity(alloc, items.len())?;
@@ -171,11 +153,11 @@ fn nodes_in(alloc: Global, items: &[Value]) -> Result<Nodes<Global>, Fault>
 }
 
 // Reads a number as the id of a node.
-fn node_of(item: &Value) -> Option<Name>
+fn node_of(item: &Value<'_>) -> Option<Name>
     ensures value { result ≡ node_of (view item.now) }
     ensures kind { IfSome result (λ n. n.kind ≡ kind.Node) }
 {
-    item.as_i64().and_then(node_with)
+    look::signed(item).and_then(node_with)
 }
 
 // Returns the node with this id, unless the id is 0.
@@ -187,21 +169,18 @@ fn node_with(id: i64) -> Option<Name>
 }
 
 // Reads the members of a relation.
-pub fn members_of<F: Fields>(
+pub fn members_of(
     alloc: Global,
-    message: &F,
+    message: &Value<'_>,
 ) -> Result<Shared<Members<Global>, Global>, Fault>
-    ensures { Gives result (members_at (F.Fields.tree message.now)) }
+    ensures { Gives result (members_at (view message.now)) }
 {
-    let items = message
-        .field(Field::Members.as_str())
-        .and_then(Value::as_array)
-        .ok_or(Fault::BadField(Field::Members))?;
+    let items = items_at(message, Field::Members).ok_or(Fault::BadField(Field::Members))?;
     Ok(Shared::new(alloc, members_in(alloc, items)?)?)
 }
 
 // Reads each item as a member, which has a name and a role.
-fn members_in(alloc: Global, items: &[Value]) -> Result<Members<Global>, Fault>
+fn members_in(alloc: Global, items: &[Value<'_>]) -> Result<Members<Global>, Fault>
     ensures { Gives result (or_fault (BadField field.Members) (members_in (items_view items.now))) }
 {
     let mut members = Members::with_capacity(alloc, items.len())?;
@@ -213,15 +192,15 @@ fn members_in(alloc: Global, items: &[Value]) -> Result<Members<Global>, Fault>
 }
 
 // Reads the name and the role of a member.
-fn member_of(alloc: Global, item: &Value) -> Result<(Name, Text<Global>), Fault>
+fn member_of(alloc: Global, item: &Value<'_>) -> Result<(Name, Text<Global>), Fault>
     ensures { Gives result (or_fault (BadField field.Members) (member_of (view item.now))) }
 {
-    let items = item.as_array().ok_or(Fault::BadField(Field::Members))?;
+    let items = look::items(item).ok_or(Fault::BadField(Field::Members))?;
     member_in(alloc, items)
 }
 
 // Reads two items as a name and a role.
-fn member_in(alloc: Global, items: &[Value]) -> Result<(Name, Text<Global>), Fault>
+fn member_in(alloc: Global, items: &[Value<'_>]) -> Result<(Name, Text<Global>), Fault>
     ensures { Gives result (or_fault (BadField field.Members) (member_in (items_view items.now))) }
 {
     if items.len() != 2 {
@@ -231,20 +210,24 @@ fn member_in(alloc: Global, items: &[Value]) -> Result<(Name, Text<Global>), Fau
 }
 
 // Reads two strings as a name and a role.
-fn member_with(alloc: Global, name: &Value, role: &Value) -> Result<(Name, Text<Global>), Fault>
+fn member_with(
+    alloc: Global,
+    name: &Value<'_>,
+    role: &Value<'_>,
+) -> Result<(Name, Text<Global>), Fault>
     ensures { Gives result (or_fault (BadField field.Members) (member_with (view name.now) (view role.now))) }
 {
     let name = name_item(name).ok_or(Fault::BadField(Field::Members))?;
-    let role = role.as_str().ok_or(Fault::BadField(Field::Members))?;
+    let role = look::text(role).ok_or(Fault::BadField(Field::Members))?;
     let role = text_of(alloc, Field::Members, role)?;
     Ok((name, role))
 }
 
 // Reads the number of an entry, which may be missing.
-pub fn seq_of<F: Fields>(message: &F) -> Result<Option<u64>, Fault>
-    ensures { result ≡ seq_at (F.Fields.tree message.now) }
+pub fn seq_of(message: &Value<'_>) -> Result<Option<u64>, Fault>
+    ensures { result ≡ seq_at (view message.now) }
 {
-    match message.field(Field::Seq.as_str()) {
+    match value_at(message, Field::Seq) {
         None => Ok(None),
         Some(value) => match ordinal(value) {
             Some(seq) => Ok(Some(seq)),
@@ -273,11 +256,11 @@ pub fn fault_in(field: Field, fault: TextFault) -> Fault
 }
 
 // Returns a field that must be an object.
-pub fn object_at<F: Fields>(message: F, field: Field) -> Result<Value, Fault>
-    ensures { result_map_both view (λ f. f) result ≡ object_at field (F.Fields.tree message) }
+pub fn object_at<'v, 'a>(message: &'v Value<'a>, field: Field) -> Result<&'v Value<'a>, Fault>
+    ensures { result_map_both (λ v. view v.now) (λ f. f) result ≡ object_at field (view message.now) }
 {
-    match message.into_field(field.as_str()) {
-        Some(value) if value.is_object() => Ok(value),
+    match value_at(message, field) {
+        Some(value) if look::is_object(value) => Ok(value),
         _ => Err(Fault::BadField(field)),
     }
 }

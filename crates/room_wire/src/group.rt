@@ -2,43 +2,42 @@
 ghost use Rattle.std.specs.Prelude.{◌≡◌, ◌&&◌, true, length, IfOk};
 ghost use Rattle.std.specs.Result.{result_map_both};
 ghost use Rattle.serde_json.specs.Events.{items_len};
-ghost use Rattle.serde_json.specs.View.{view, items_view};
+ghost use Rattle.json_values.specs.Views.{items_view, view};
 ghost use Rattle.edit_groups.specs.Groups.{is_group_length};
 ghost use Rattle.room_wire.specs.Reading.{Gives};
 ghost use Rattle.room_wire.specs.Spelling.{action_at, actions_at, actions_from, are_objects, at_action, group_at, with_position};
 
 use crate::bad::Fault;
 use crate::field::Field;
-use crate::fields::Fields;
-use crate::listed::items_at;
+use crate::fields::items_at;
 use crate::read::action_of;
 use edit_actions::action::Action;
 use edit_groups::actions::{Actions, MOST_ACTIONS};
-use serde_json::Value;
+use json_values::{Value, look};
 use std::alloc::{AllocError, Global};
 
-// Reads the group that a message asks for. Its actions are taken out of the message.
-pub fn group_of<F: Fields>(alloc: Global, message: F) -> Result<Actions<Global>, Fault>
-    ensures { Gives result (actions_at (F.Fields.tree message)) }
+// Reads the group that a message asks for.
+pub fn group_of(alloc: Global, message: &Value<'_>) -> Result<Actions<Global>, Fault>
+    ensures { Gives result (actions_at (view message.now)) }
 {
     let objects = objects_of(message)?;
     let actions = actions_of(alloc, objects)?;
     Actions::from_vec(actions).ok_or(Fault::BadField(Field::Actions))
 }
 
-// Takes the objects under `actions`, one for each action, out of the message.
-fn objects_of<F: Fields>(message: F) -> Result<Vec<Value>, Fault>
-    ensures objects { result_map_both (λ v. items_view v.items) (λ f. f) result ≡ group_at (F.Fields.tree message) }
-    ensures length { IfOk result (λ v. is_group_length (length v.items) ≡ true) }
+// Returns the objects under `actions`, one for each action.
+fn objects_of<'v, 'a>(message: &'v Value<'a>) -> Result<&'v [Value<'a>], Fault>
+    ensures objects { result_map_both (λ v. items_view v.now) (λ f. f) result ≡ group_at (view message.now) }
+    ensures length { IfOk result (λ v. is_group_length (length v.now) ≡ true) }
 {
-    match items_at(Field::Actions, message) {
-        Some(items) if is_group(&items) => Ok(items),
+    match items_at(message, Field::Actions) {
+        Some(items) if is_group(items) => Ok(items),
         _ => Err(Fault::BadField(Field::Actions)),
     }
 }
 
 // Returns whether the items are objects, as many as a group may have.
-fn is_group(items: &[Value]) -> bool
+fn is_group(items: &[Value<'_>]) -> bool
     ensures group { result ≡ (is_group_length (items_len (items_view items.now)) && are_objects (items_view items.now)) }
     ensures length { result ≡ true → is_group_length (length items.now) ≡ true }
 {
@@ -53,11 +52,11 @@ fn is_group_length(count: usize) -> bool
 }
 
 // Returns whether all items are objects.
-fn all_objects(items: &[Value]) -> bool
+fn all_objects(items: &[Value<'_>]) -> bool
     ensures { result ≡ are_objects (items_view items.now) }
 {
     for item in items {
-        if !item.is_object() {
+        if !look::is_object(item) {
             return false;
         }
     }
@@ -65,10 +64,10 @@ fn all_objects(items: &[Value]) -> bool
 }
 
 // Reads each object as an action, in order.
-fn actions_of(alloc: Global, objects: Vec<Value>) -> Result<Vec<Action<Global>>, Fault>
-    requires { is_group_length (length objects.items) ≡ true }
-    ensures read { Gives (result_map_both (λ v. v.items) (λ f. f) result) (actions_from 0 (items_view objects.items)) }
-    ensures length { IfOk result (λ v. length v.items ≡ length objects.items) }
+fn actions_of(alloc: Global, objects: &[Value<'_>]) -> Result<Vec<Action<Global>>, Fault>
+    requires { is_group_length (length objects.now) ≡ true }
+    ensures read { Gives (result_map_both (λ v. v.items) (λ f. f) result) (actions_from 0 (items_view objects.now)) }
+    ensures length { IfOk result (λ v. length v.items ≡ length objects.now) }
 {
     let mut actions = Vec::new(alloc);
     let mut position = 0;
@@ -84,8 +83,8 @@ fn actions_of(alloc: Global, objects: Vec<Value>) -> Result<Vec<Action<Global>>,
 }
 
 // Reads the object at a position of a group as an action.
-fn action_in(alloc: Global, position: u32, object: Value) -> Result<Action<Global>, Fault>
-    ensures { Gives result (with_position position (action_at (view object))) }
+fn action_in(alloc: Global, position: u32, object: &Value<'_>) -> Result<Action<Global>, Fault>
+    ensures { Gives result (with_position position (action_at (view object.now))) }
 {
     match action_of(alloc, object) {
         Ok(action) => Ok(action),

@@ -3,7 +3,7 @@ ghost use Rattle.std.specs.Prelude.{◌≡◌, true, map, IfOk};
 ghost use Rattle.std.specs.Result.{result_map_both, result_ok};
 ghost use Rattle.std.specs.Option.{option_and_then, option_map};
 ghost use Rattle.serde_json.specs.Find.{as_array, get};
-ghost use Rattle.serde_json.specs.View.{view, items_view};
+ghost use Rattle.json_values.specs.Views.{items_view, view};
 ghost use Rattle.osm_changes.specs.Changes.{are_rising};
 ghost use Rattle.room_wire.specs.declared.bad.Fault.TheVariants.{BadField};
 ghost use Rattle.room_wire.specs.Fields.{field_text};
@@ -12,12 +12,12 @@ ghost use Rattle.room_wire.specs.Reading.{Gives, or_fault};
 
 use crate::bad::Fault;
 use crate::field::Field;
-use crate::fields::Fields;
+use crate::fields::items_at;
 use crate::forms::el_of;
 use crate::read::element_of;
 use crate::rising::{Named, are_rising};
+use json_values::Value;
 use osm_elements::map::Row;
-use serde_json::Value;
 use std::alloc::{AllocError, Global};
 
 // A row that is read from an item of an array.
@@ -28,28 +28,28 @@ pub trait Listed: Named + Drop {
 
     ghost reads: { Data → Result Self Fault };
 
-    fn read(alloc: Global, item: Value) -> Result<Self, Fault>
-        ensures { Gives result (reads (view item)) };
+    fn read(alloc: Global, item: &Value<'_>) -> Result<Self, Fault>
+        ensures { Gives result (reads (view item.now)) };
 }
 
 // A row of a map is an element with its name.
 impl Listed for Row<Global> {
     ghost reads = { row_at };
 
-    fn read(alloc: Global, item: Value) -> Result<Row<Global>, Fault> {
-        let name = el_of(&item)?;
+    fn read(alloc: Global, item: &Value<'_>) -> Result<Row<Global>, Fault> {
+        let name = el_of(item)?;
         let element = element_of(alloc, name.kind(), item)?;
         Ok(Row { name, element })
     }
 }
 
-// Reads a field of rows whose names rise. The rows are taken out of the message, and keep its texts.
-pub fn rows_of<T: Listed>(alloc: Global, field: Field, message: Value) -> Result<Vec<T>, Fault>
+// Reads a field of rows whose names rise.
+pub fn rows_of<T: Listed>(alloc: Global, field: Field, message: &Value<'_>) -> Result<Vec<T>, Fault>
     ensures read { Gives (result_map_both (λ v. v.items) (λ f. f) result)
-        (rows_at T.reads T.named field (view message)) }
+        (rows_at T.reads T.named field (view message.now)) }
     ensures rising { IfOk result (λ v. are_rising (map T.named v.items) ≡ true) }
 {
-    let items = items_at(field, message).ok_or(Fault::BadField(field))?;
+    let items = items_at(message, field).ok_or(Fault::BadField(field))?;
     let rows = rows_in::<T>(alloc, field, items)?;
     if are_rising(&rows) {
         Ok(rows)
@@ -58,21 +58,10 @@ pub fn rows_of<T: Listed>(alloc: Global, field: Field, message: Value) -> Result
     }
 }
 
-// Takes the items of a field that is an array out of the message.
-pub fn items_at<F: Fields>(field: Field, message: F) -> Option<Vec<Value>>
-    ensures { option_map (λ v. items_view v.items) result
-        ≡ option_and_then as_array (get (field_text field) (F.Fields.tree message)) }
-{
-    match message.into_field(field.as_str())? {
-        Value::Array(items) => Some(items),
-        _ => None,
-    }
-}
-
 // Reads each item as a row.
-fn rows_in<T: Listed>(alloc: Global, field: Field, items: Vec<Value>) -> Result<Vec<T>, Fault>
+fn rows_in<T: Listed>(alloc: Global, field: Field, items: &[Value<'_>]) -> Result<Vec<T>, Fault>
     ensures { Gives (result_map_both (λ v. v.items) (λ f. f) result)
-        (or_fault (BadField field) (rows_in T.reads T.named (items_view items.items))) }
+        (or_fault (BadField field) (rows_in T.reads T.named (items_view items.now))) }
 {
     let mut rows = Vec::new(alloc);
     for item in items {
@@ -86,8 +75,8 @@ fn rows_in<T: Listed>(alloc: Global, field: Field, items: Vec<Value>) -> Result<
 }
 
 // Reads an item as a row. A fault of the row is a fault of its list.
-fn row_in<T: Listed>(alloc: Global, field: Field, item: Value) -> Result<T, Fault>
-    ensures { Gives result (or_fault (BadField field) (result_ok (T.reads (view item)))) }
+fn row_in<T: Listed>(alloc: Global, field: Field, item: &Value<'_>) -> Result<T, Fault>
+    ensures { Gives result (or_fault (BadField field) (result_ok (T.reads (view item.now)))) }
 {
     match T::read(alloc, item) {
         Ok(row) => Ok(row),

@@ -1,21 +1,21 @@
 //! Reading news.
 ghost use Rattle.std.specs.Prelude.{◌≡◌, ◌<◌, length, IfErr};
 ghost use Rattle.serde_json.specs.Read.{read};
-ghost use Rattle.serde_json.specs.View.{view};
+ghost use Rattle.json_values.specs.Views.{view};
 ghost use Rattle.room_wire.specs.declared.bad.Fault.TheVariants.{Memory};
 ghost use Rattle.room_wire.specs.News.{is_gone, news_row_at, news_told, number_at, spells_news, told_at};
 ghost use Rattle.room_wire.specs.Reading.{Gives, GivesUnder};
 
 use crate::bad::{Bad, Fault};
 use crate::field::Field;
+use crate::fields::value_at;
 use crate::forms::{author_at, el_of, object_at};
 use crate::listed::{Listed, rows_of};
 use crate::numbers::ordinal;
 use crate::read::parse;
-use json_values::Scratch;
+use json_values::{Scratch, Value, look};
 use osm_elements::map::Row;
 use room_history::news::{News, NewsRow, NewsRows};
-use serde_json::Value;
 use std::alloc::Global;
 
 /// Reads a JSON text as news (RFC 8259), or returns its first fault, under the id 0.
@@ -53,28 +53,26 @@ fn news_in(alloc: Global, text: &str) -> Result<News<Global>, Fault>
 {
     let mut scratch = Scratch::new(alloc);
     let message = parse(alloc, text, &mut scratch)?;
-    let told = object_at(message, Field::News)?;
+    let told = object_at(&message, Field::News)?;
     told_of(alloc, told)
 }
 
-// Reads an object as the content of news. The number is read before the rows, because the rows are taken out. If both
-// are bad, the fault is that of the rows.
-fn told_of(alloc: Global, told: Value) -> Result<News<Global>, Fault>
-    ensures { Gives result (told_at (view told)) }
+// Reads an object as the content of news.
+fn told_of(alloc: Global, told: &Value<'_>) -> Result<News<Global>, Fault>
+    ensures { Gives result (told_at (view told.now)) }
 {
-    let author = author_at(&told, Field::By)?;
-    let seq = number_of(&told);
+    let author = author_at(told, Field::By)?;
     let rows = rows_of::<NewsRow<Global>>(alloc, Field::Rows, told)?;
-    let seq = seq?;
+    let seq = number_of(told)?;
     let rows = NewsRows::from_vec(rows);
     Ok(News { seq, author, rows })
 }
 
 // Reads the number of an entry.
-fn number_of(told: &Value) -> Result<u64, Fault>
+fn number_of(told: &Value<'_>) -> Result<u64, Fault>
     ensures { result ≡ number_at (view told.now) }
 {
-    told.get(Field::Seq.as_str())
+    value_at(told, Field::Seq)
         .and_then(ordinal)
         .ok_or(Fault::BadField(Field::Seq))
 }
@@ -83,9 +81,9 @@ fn number_of(told: &Value) -> Result<u64, Fault>
 impl Listed for NewsRow<Global> {
     ghost reads = { news_row_at };
 
-    fn read(alloc: Global, item: Value) -> Result<NewsRow<Global>, Fault> {
-        if is_gone(&item) {
-            let name = el_of(&item)?;
+    fn read(alloc: Global, item: &Value<'_>) -> Result<NewsRow<Global>, Fault> {
+        if is_gone(item) {
+            let name = el_of(item)?;
             let element = None;
             return Ok(NewsRow { name, element });
         }
@@ -96,8 +94,10 @@ impl Listed for NewsRow<Global> {
 }
 
 // Returns whether a row is gone.
-fn is_gone(item: &Value) -> bool
+fn is_gone(item: &Value<'_>) -> bool
     ensures { result ≡ is_gone (view item.now) }
 {
-    item.get("gone").and_then(Value::as_bool).unwrap_or(false)
+    look::field(item, "gone")
+        .and_then(look::boolean)
+        .unwrap_or(false)
 }

@@ -1,17 +1,17 @@
 //! Reading messages from their texts.
-ghost use Rattle.std.specs.Prelude.{◌≡◌, ◌⊎◌, ◌<◌, length, Some, None, Err, IfOk, OnOk, IfErr, IfSome, IfNone};
-ghost use Rattle.json_values.specs.Objects.{object_view};
+ghost use Rattle.std.specs.Prelude.{◌≡◌, ◌⊎◌, ◌<◌, length, Some, None, Err, IfOk, OnOk, IfErr, is_some, true};
+ghost use Rattle.std.specs.Result.{result_map_both};
+ghost use Rattle.json_values.specs.Views.{view};
 ghost use Rattle.serde_json.specs.Data.{Data};
 ghost use Rattle.serde_json.specs.Find.{as_object};
 ghost use Rattle.serde_json.specs.Read.{read};
-ghost use Rattle.serde_json.specs.View.{view};
-ghost use Rattle.room_wire.specs.declared.bad.Fault.TheVariants.{Memory, NotJson, NotObject, UnknownDo};
+ghost use Rattle.room_wire.specs.declared.bad.Fault.TheVariants.{Memory, NotJson, NotObject};
 ghost use Rattle.room_wire.specs.Reading.{Gives, GivesMessage, under};
-ghost use Rattle.room_wire.specs.Spelling.{spells, incoming, id_at, body_at, body_by, edit_by, hello_at, action_at, action_by, element_at};
+ghost use Rattle.room_wire.specs.Spelling.{spells, incoming, id_at, body_at, body_by, edit_by, hello_at, word_at, action_at, action_by, element_at};
 
 use crate::bad::{Bad, Fault};
 use crate::field::Field;
-use crate::fields::Fields;
+use crate::fields::value_at;
 use crate::forms::{
     author_at, distance_of, el_of, els_of, lat_of, lon_of, members_of, name_at, nodes_of, place_at,
     seq_of,
@@ -23,11 +23,10 @@ use crate::tag_forms::{given_tags_of, tags_of};
 use edit_actions::action::Action;
 use edit_actions::each_action;
 use edit_groups::edit::Edit;
-use json_values::{Object, Scratch, read_object};
+use json_values::{Scratch, Value, look, read_object};
 use osm_elements::element::Element;
 use osm_elements::name::Kind;
 use room_history::call::Request;
-use serde_json::Value;
 use std::alloc::Global;
 
 // Reads the action of a word, with the action's fields.
@@ -43,30 +42,19 @@ macro_rules! read_by {
     };
 }
 
-// Returns the word if it is one of these or the word of an action.
-macro_rules! word_among {
-    (($word:expr, $($other:literal),*) $($variant:ident $text:literal { $($field:ident: $how:ident from $source:ident $(by $name:ident)?),* } by $plan:ident about $part:ident $way:ident [$($subject:ident),*];)*) => {
-        match $word {
-            $($other => Some($other),)*
-            $($text => Some($text),)*
-            _ => None,
-        }
-    };
-}
-
 // Reads a field of an action.
 macro_rules! field {
-    (el ($alloc:expr, $message:expr)) => { el_of(&$message) };
-    (els ($alloc:expr, $message:expr)) => { els_of($alloc, &$message) };
+    (el ($alloc:expr, $message:expr)) => { el_of($message) };
+    (els ($alloc:expr, $message:expr)) => { els_of($alloc, $message) };
     (element ($alloc:expr, $message:expr) $name:ident) => { element_of($alloc, $name.kind(), $message) };
     (given_tags ($alloc:expr, $message:expr)) => { given_tags_of($alloc, $message) };
-    (nodes ($alloc:expr, $message:expr)) => { nodes_of($alloc, &$message) };
-    (members ($alloc:expr, $message:expr)) => { members_of($alloc, &$message) };
-    (dlat ($alloc:expr, $message:expr)) => { distance_of(&$message, Field::Dlat) };
-    (dlon ($alloc:expr, $message:expr)) => { distance_of(&$message, Field::Dlon) };
-    (at ($alloc:expr, $message:expr)) => { place_at(&$message) };
-    (into ($alloc:expr, $message:expr)) => { name_at(&$message, Field::Into) };
-    (with ($alloc:expr, $message:expr)) => { name_at(&$message, Field::With) };
+    (nodes ($alloc:expr, $message:expr)) => { nodes_of($alloc, $message) };
+    (members ($alloc:expr, $message:expr)) => { members_of($alloc, $message) };
+    (dlat ($alloc:expr, $message:expr)) => { distance_of($message, Field::Dlat) };
+    (dlon ($alloc:expr, $message:expr)) => { distance_of($message, Field::Dlon) };
+    (at ($alloc:expr, $message:expr)) => { place_at($message) };
+    (into ($alloc:expr, $message:expr)) => { name_at($message, Field::Into) };
+    (with ($alloc:expr, $message:expr)) => { name_at($message, Field::With) };
 }
 
 /// Reads a JSON text as a message (RFC 8259), or returns its first fault.
@@ -107,8 +95,8 @@ macro_rules! field {
 /// A whole number is written without a point and an exponent, fits 64 bits, and is not `-0`. If several members have
 /// the same key, the last one counts. `null` is a value. Members that no message has are ignored.
 ///
-/// The time is linear in the length of the text, except for the tags, whose number is limited. `scratch` is reusable
-/// memory, which grows to the length of the longest text.
+/// The time is linear in the length of the text, except that tags are sorted by their keys. `scratch` is reusable memory,
+/// which grows to the length of the longest text.
 ///
 /// # Errors
 ///
@@ -128,17 +116,14 @@ pub fn read_request(alloc: Global, text: &str, scratch: &mut Scratch) -> Result<
 {
     let message = parse(alloc, text, scratch).map_err(Bad::unread)?;
     let id = id_of(&message).map_err(Bad::unread)?;
-    incoming_of(alloc, id, message)
+    incoming_of(alloc, id, &message)
 }
 
 // Reads a text as an object.
 #[tactic(auto, using(crate::proofs::Empty::read_is_filled))]
-pub fn parse<'a>(
-    alloc: Global,
-    text: &'a str,
-    scratch: &'a mut Scratch,
-) -> Result<Object<'a>, Fault>
-    ensures ok { IfOk result (λ o. read text.now ≡ Some (object_view o)) }
+pub fn parse<'a>(alloc: Global, text: &'a str, scratch: &'a mut Scratch) -> Result<Value<'a>, Fault>
+    ensures ok { IfOk result (λ o. read text.now ≡ Some (view o)) }
+    ensures object { IfOk result (λ o. is_some (as_object (view o)) ≡ true) }
     ensures filled { OnOk result (0 < length text.now) }
     ensures err { IfErr result (λ f. (f ≡ Memory) ⊎ ((f ≡ NotJson) × (read text.now ≡ None))
         ⊎ ((f ≡ NotObject) × (d : Data) × (read text.now ≡ Some d) × (as_object d ≡ None))) }
@@ -147,16 +132,19 @@ pub fn parse<'a>(
     Ok(read_object(alloc, text, scratch)?)
 }
 
-// Reads the id of a message.
-pub fn id_of(message: &Object<'_>) -> Result<u64, Fault>
-    ensures { result ≡ id_at (object_view message.now) }
+// Reads the id of a message, which is an object.
+pub fn id_of(message: &Value<'_>) -> Result<u64, Fault>
+    requires { is_some (as_object (view message.now)) ≡ true }
+    ensures { result ≡ id_at (view message.now) }
 {
-    message.get("id").and_then(ordinal).ok_or(Fault::BadId)
+    look::field(message, "id")
+        .and_then(ordinal)
+        .ok_or(Fault::BadId)
 }
 
 // Reads what a message asks for, under its id.
-fn incoming_of(alloc: Global, id: u64, message: Object<'_>) -> Result<Incoming, Bad>
-    ensures exact { GivesMessage result (under incoming id (body_at (object_view message.entry))) }
+fn incoming_of(alloc: Global, id: u64, message: &Value<'_>) -> Result<Incoming, Bad>
+    ensures exact { GivesMessage result (under incoming id (body_at (view message.now))) }
 {
     match body_of(alloc, message) {
         Ok(body) => Ok(Incoming { id, body }),
@@ -165,47 +153,39 @@ fn incoming_of(alloc: Global, id: u64, message: Object<'_>) -> Result<Incoming, 
 }
 
 // Reads what a message asks for.
-fn body_of(alloc: Global, message: Object<'_>) -> Result<Body, Fault>
-    ensures { Gives result (body_at (object_view message.entry)) }
+fn body_of(alloc: Global, message: &Value<'_>) -> Result<Body, Fault>
+    ensures { Gives result (body_at (view message.now)) }
 {
-    let word = message
-        .get("do")
-        .and_then(Value::as_str)
-        .ok_or(Fault::UnknownDo)?;
-    match known(word) {
-        Some(word) => body_by(alloc, word, message),
-        None => Err(Fault::UnknownDo),
-    }
+    body_by(alloc, word_of(message)?, message)
 }
 
-// Returns the same word as a constant, so that the message is not borrowed, or `None` if no message has it.
-fn known(word: &str) -> Option<&'static str>
-    ensures known { IfSome result (λ w. w.now ≡ word.now) }
-    ensures unknown { IfNone result ((d : Data) → body_by word.now d ≡ Err UnknownDo) }
+// Returns the word of a message.
+fn word_of<'a>(message: &Value<'a>) -> Result<&'a str, Fault>
+    ensures { result_map_both (λ w. w.now) (λ f. f) result ≡ word_at (view message.now) }
 {
-    each_action!(word_among(
-        word, "hello", "undo", "redo", "undos", "get", "map", "group"
-    ))
+    look::field(message, "do")
+        .and_then(look::text)
+        .ok_or(Fault::UnknownDo)
 }
 
 // Reads what a message with this word asks for.
-fn body_by(alloc: Global, word: &str, message: Object<'_>) -> Result<Body, Fault>
-    ensures { Gives result (body_by word.now (object_view message.entry)) }
+fn body_by(alloc: Global, word: &str, message: &Value<'_>) -> Result<Body, Fault>
+    ensures { Gives result (body_by word.now (view message.now)) }
 {
     match word {
-        "hello" => hello_of(&message),
-        "undo" => Ok(Body::Change(Request::Undo(seq_of(&message)?))),
+        "hello" => hello_of(message),
+        "undo" => Ok(Body::Change(Request::Undo(seq_of(message)?))),
         "redo" => Ok(Body::Change(Request::Redo)),
         "undos" => Ok(Body::Undos),
-        "get" => Ok(Body::Get(el_of(&message)?)),
+        "get" => Ok(Body::Get(el_of(message)?)),
         "map" => Ok(Body::Map),
         _ => Ok(Body::Change(Request::Do(edit_by(alloc, word, message)?))),
     }
 }
 
 // Reads the edit that a message with this word asks for.
-fn edit_by(alloc: Global, word: &str, message: Object<'_>) -> Result<Edit<Global>, Fault>
-    ensures { Gives result (edit_by word.now (object_view message.entry)) }
+fn edit_by(alloc: Global, word: &str, message: &Value<'_>) -> Result<Edit<Global>, Fault>
+    ensures { Gives result (edit_by word.now (view message.now)) }
 {
     match word {
         "group" => Ok(Edit::Group(group_of(alloc, message)?)),
@@ -214,67 +194,47 @@ fn edit_by(alloc: Global, word: &str, message: Object<'_>) -> Result<Edit<Global
 }
 
 // Reads the room and the author of a hello.
-fn hello_of(message: &Object<'_>) -> Result<Body, Fault>
-    ensures { Gives result (hello_at (object_view message.now)) }
+fn hello_of(message: &Value<'_>) -> Result<Body, Fault>
+    ensures { Gives result (hello_at (view message.now)) }
 {
     let room = author_at(message, Field::Room)?;
     let name = author_at(message, Field::Name)?;
     Ok(Body::Hello { room, name })
 }
 
-// Reads the action that an object asks for. Its values are taken out of the object.
-pub fn action_of(alloc: Global, object: Value) -> Result<Action<Global>, Fault>
-    ensures { Gives result (action_at (view object)) }
+// Reads the action that an object asks for.
+pub fn action_of(alloc: Global, object: &Value<'_>) -> Result<Action<Global>, Fault>
+    ensures { Gives result (action_at (view object.now)) }
 {
-    let word = object
-        .get("do")
-        .and_then(Value::as_str)
-        .ok_or(Fault::UnknownDo)?;
-    match known_action(word) {
-        Some(word) => action_by(alloc, word, object),
-        None => Err(Fault::UnknownDo),
-    }
-}
-
-// Returns the same word as a constant, or `None` if it is not the word of an action.
-fn known_action(word: &str) -> Option<&'static str>
-    ensures known { IfSome result (λ w. w.now ≡ word.now) }
-    ensures unknown { IfNone result ((d : Data) → action_by word.now d ≡ Err UnknownDo) }
-{
-    each_action!(word_among(word,))
+    action_by(alloc, word_of(object)?, object)
 }
 
 // Reads the action that a message with this word asks for. Its fields are read in the order of the list of actions, up
 // to the first fault.
-fn action_by<F: Fields>(alloc: Global, word: &str, message: F) -> Result<Action<Global>, Fault>
-    ensures { Gives result (action_by word.now (F.Fields.tree message)) }
+fn action_by(alloc: Global, word: &str, message: &Value<'_>) -> Result<Action<Global>, Fault>
+    ensures { Gives result (action_by word.now (view message.now)) }
 {
     each_action!(read_by(alloc, word, message))
 }
 
-// Reads the element of a `create`, by the kind of its name. The tags are read last, because they are taken out of the
-// message.
-pub fn element_of<F: Fields>(
-    alloc: Global,
-    kind: Kind,
-    message: F,
-) -> Result<Element<Global>, Fault>
-    ensures { Gives result (element_at kind (F.Fields.tree message)) }
+// Reads the element of a `create`, by the kind of its name.
+pub fn element_of(alloc: Global, kind: Kind, message: &Value<'_>) -> Result<Element<Global>, Fault>
+    ensures { Gives result (element_at kind (view message.now)) }
 {
     match kind {
         Kind::Node => {
-            let lat = lat_of(&message)?;
-            let lon = lon_of(&message)?;
+            let lat = lat_of(message)?;
+            let lon = lon_of(message)?;
             let tags = tags_of(alloc, message)?;
             Ok(Element::Node { lat, lon, tags })
         }
         Kind::Way => {
-            let nodes = nodes_of(alloc, &message)?;
+            let nodes = nodes_of(alloc, message)?;
             let tags = tags_of(alloc, message)?;
             Ok(Element::Way { nodes, tags })
         }
         Kind::Relation => {
-            let members = members_of(alloc, &message)?;
+            let members = members_of(alloc, message)?;
             let tags = tags_of(alloc, message)?;
             Ok(Element::Relation { members, tags })
         }

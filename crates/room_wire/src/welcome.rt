@@ -1,7 +1,6 @@
 //! Reading welcomes.
 ghost use Rattle.std.specs.Prelude.{◌≡◌, ◌<◌, length, true, IfErr, IfOk};
-ghost use Rattle.json_values.specs.Objects.{object_view};
-ghost use Rattle.serde_json.specs.View.{view};
+ghost use Rattle.json_values.specs.Views.{view};
 ghost use Rattle.osm_elements.specs.Rows.{AreInOrder};
 ghost use Rattle.edit_simple.specs.Soundness.{are_of_kinds};
 ghost use Rattle.room_wire.specs.declared.bad.Fault.TheVariants.{Memory};
@@ -10,13 +9,13 @@ ghost use Rattle.room_wire.specs.Welcomes.{count_at, map_at, spells_welcome, tol
 
 use crate::bad::{Bad, Fault};
 use crate::field::Field;
+use crate::fields::value_at;
 use crate::forms::object_at;
 use crate::listed::rows_of;
 use crate::numbers::count_in;
 use crate::read::{id_of, parse};
-use json_values::{Object, Scratch};
+use json_values::{Scratch, Value};
 use osm_elements::map::{Row, Rows};
-use serde_json::Value;
 use std::alloc::Global;
 
 /// The reply to a hello to an existing room: the room's map, and the entry count of its journal.
@@ -59,12 +58,12 @@ pub fn read_welcome(alloc: Global, text: &str) -> Result<Welcome, Bad>
     let mut scratch = Scratch::new(alloc);
     let reply = parse(alloc, text, &mut scratch).map_err(Bad::unread)?;
     let id = id_of(&reply).map_err(Bad::unread)?;
-    welcomed(alloc, id, reply)
+    welcomed(alloc, id, &reply)
 }
 
 // Reads a reply as a welcome, under its id.
-fn welcomed(alloc: Global, id: u64, reply: Object<'_>) -> Result<Welcome, Bad>
-    ensures exact { GivesUnder (λ w. w.id) result (under welcome id (told_at (object_view reply.entry))) }
+fn welcomed(alloc: Global, id: u64, reply: &Value<'_>) -> Result<Welcome, Bad>
+    ensures exact { GivesUnder (λ w. w.id) result (under welcome id (told_at (view reply.now))) }
     ensures in_order { IfOk result (λ w. AreInOrder w.rows) }
     ensures kinds { IfOk result (λ w. are_of_kinds w.rows ≡ true) }
 {
@@ -74,22 +73,21 @@ fn welcomed(alloc: Global, id: u64, reply: Object<'_>) -> Result<Welcome, Bad>
     }
 }
 
-// Reads the elements and the number of a reply. The number is read first, because the elements are taken out. If both
-// are bad, the fault is that of the elements.
-fn told_of(alloc: Global, reply: Object<'_>) -> Result<(Rows<Global>, u64), Fault>
-    ensures exact { Gives result (told_at (object_view reply.entry)) }
+// Reads the elements and the number of a reply.
+fn told_of(alloc: Global, reply: &Value<'_>) -> Result<(Rows<Global>, u64), Fault>
+    ensures exact { Gives result (told_at (view reply.now)) }
     ensures in_order { IfOk result (λ told. AreInOrder told.0) }
 {
     let told = object_at(reply, Field::Ok)?;
-    let seq = count_of(&told);
     let rows = map_of(alloc, told)?;
-    Ok((rows, seq?))
+    let seq = count_of(told)?;
+    Ok((rows, seq))
 }
 
 // Reads the elements of a map.
 #[tactic(auto, using(crate::proofs::RowsInOrder::rising_is_in_order))]
-fn map_of(alloc: Global, told: Value) -> Result<Rows<Global>, Fault>
-    ensures exact { Gives result (map_at (view told)) }
+fn map_of(alloc: Global, told: &Value<'_>) -> Result<Rows<Global>, Fault>
+    ensures exact { Gives result (map_at (view told.now)) }
     ensures in_order { IfOk result (λ rows. AreInOrder rows) }
 {
     let rows = rows_of::<Row<Global>>(alloc, Field::Map, told)?;
@@ -97,10 +95,10 @@ fn map_of(alloc: Global, told: Value) -> Result<Rows<Global>, Fault>
 }
 
 // Reads the entry count.
-fn count_of(told: &Value) -> Result<u64, Fault>
+fn count_of(told: &Value<'_>) -> Result<u64, Fault>
     ensures { result ≡ count_at (view told.now) }
 {
-    told.get(Field::Seq.as_str())
+    value_at(told, Field::Seq)
         .and_then(count_in)
         .ok_or(Fault::BadField(Field::Seq))
 }

@@ -1,6 +1,6 @@
 use Rattle.std.proofs.Common.{◌≡◌, ◌⊎◌, ◌+◌, ◌∷◌, ◌++◌, [], Some, None, Err, inl, inr, drop, sym, ap, ap₂, ◌∙◌, arith}
 use Rattle.std.proofs.lemmas.List.{drop_more}
-use Rattle.serde_json.specs.View.{view, items_view}
+use Rattle.json_values.specs.Views.{items_view, view}
 use Rattle.room_wire.specs.Spelling.{member_of, members_in}
 use Rattle.room_wire.proofs.ItemLists.{with_front, items_in-some, items_in-none}
 use Rattle.room_wire.specs.Reading.{or_fault}

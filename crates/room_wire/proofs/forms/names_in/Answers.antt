@@ -1,6 +1,6 @@
 use Rattle.std.proofs.Common.{◌≡◌, ◌+◌, [], ◌∷◌, None, drop, inr, sym, ap, ◌∙◌, arith}
 use Rattle.std.proofs.lemmas.List.{drop_more, drop_all}
-use Rattle.serde_json.specs.View.{view, items_view}
+use Rattle.json_values.specs.Views.{items_view, view}
 use Rattle.room_wire.specs.Reading.{or_fault}
 use Rattle.room_wire.specs.Spelling.{name_item, names_in}
 use Rattle.room_wire.specs.declared.bad.Fault.TheVariants.{BadField}

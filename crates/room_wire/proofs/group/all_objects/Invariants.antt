@@ -1,5 +1,5 @@
 use Rattle.std.proofs.Common.{◌≡◌, drop}
-use Rattle.serde_json.specs.View.{items_view}
+use Rattle.json_values.specs.Views.{items_view}
 use Rattle.room_wire.specs.Spelling.{are_objects}
 use Rattle.room_wire.proofs.group.all_objects.Given as goal
 

@@ -1,5 +1,5 @@
 use Rattle.std.proofs.Common.{◌&&◌, ap, sym, ◌∙◌}
-use Rattle.serde_json.specs.View.{items_view}
+use Rattle.json_values.specs.Views.{items_view}
 use Rattle.edit_groups.specs.Groups.{is_group_length}
 use Rattle.room_wire.specs.Spelling.{are_objects}
 use Rattle.room_wire.proofs.ActionLists.{items_len-view}

@@ -1,10 +1,9 @@
-use Rattle.std.proofs.Common.{◌≡◌}
+use Rattle.std.proofs.Common.{◌≡◌, drop}
 use Rattle.std.specs.Result.{result_ok}
-use Rattle.std.specs.Vec.Iter.{into_iter_items}
-use Rattle.serde_json.specs.View.{items_view}
+use Rattle.json_values.specs.Views.{items_view}
 use Rattle.room_wire.specs.Spelling.{items_in}
 use Rattle.room_wire.proofs.ItemLists.{with_front}
 use Rattle.room_wire.proofs.listed.rows_in.Given as goal
 
 abbrev pub invariant-loop-item : goal.invariant-loop-item
-invariant-loop-item g l = with_front (λ d. result_ok (g.T.Listed.reads d)) l.rows.items (items_view (into_iter_items l.item-iterator)) ≡ items_in (λ d. result_ok (g.T.Listed.reads d)) (items_view l.fn.items.items)
+invariant-loop-item g l = with_front (λ d. result_ok (g.T.Listed.reads d)) l.rows.items (items_view (drop l.item-index l.items)) ≡ items_in (λ d. result_ok (g.T.Listed.reads d)) (items_view l.items)

@@ -1,6 +1,6 @@
 use Rattle.std.proofs.Common.{◌≡◌, ◌++◌, List}
-use Rattle.serde_json.specs.View.{members_view}
-use Rattle.serde_json.proofs.Views.{Entry}
+use Rattle.json_values.specs.Views.{members_view}
+use Rattle.json_values.specs.Views.{Entry}
 use Rattle.room_wire.specs.Spelling.{entries_in, value_of}
 use Rattle.room_wire.proofs.EntryLists.{with_front, SameKeys}
 use Rattle.room_wire.proofs.tag_forms.tags_in.Given as goal
