@@ -14,11 +14,11 @@ from lib.talk import PATIENCE, SILENCE, create, hello, leave, news, node, ok, se
 from lib.websocket import CLOSE, TEXT, Broken, Client, Gone, Late, head_of_request, make_key, text_frame
 
 # The address space that the server gets, in KiB, and what of it the C library may spread over threads.
-LIMIT = 700_000
+LIMIT = 550_000
 LIMITED = ["sh", "-c", f'ulimit -v {LIMIT}; exec env MALLOC_ARENA_MAX=2 "$@"', "sh"]
 
-# A message whose reading takes 128 times its own size, and how many bytes it has.
-PART, SIZE = '{"":0}', 8_000_000
+# A message whose reading takes 71 times its own size, and how many bytes it has.
+PART, SIZE = "[" * 100 + "]" * 100, 8_000_000
 HOSTILE = f'{{"id":1,"do":"get","el":"n1","x":[{",".join([PART] * (SIZE // (len(PART) + 1)))}]}}'
 
 # How many clients send it, and for how many seconds.
@@ -64,7 +64,8 @@ class Attacker:
             try:
                 with Client(self.server.port, self.server.patience) as client:
                     client.shake_hands().say(hello("mallory"))
-                    client.text()
+                    if client.read()[0] == CLOSE:
+                        raise Gone("it was closed")
                     while not self.ends.is_set():
                         client.send_bytes(self.frame)
                         self.take(client)
@@ -128,8 +129,8 @@ class Mapper:
 
 @case_if(can_be_limited)
 def messages_that_want_all_memory():
-    """Three clients send messages of 8 MB that would take a gigabyte each, and the server has 700 MB of addresses. It
-    answers `memory`, or ends the session, and never ends itself. Meanwhile it accepts each change of a mapper once."""
+    """Three clients send messages of 8 MB that would take 570 MB each, and the server has 560 MB of addresses. It answers
+    `memory`, or ends the session, and never ends itself. Meanwhile it accepts each change of a mapper once."""
     with StartedBy(LIMITED, workers=ATTACKERS + 1, sessions=1_000_000) as server:
         mapper, ends = Mapper(server), threading.Event()
         attackers = [Attacker(server, ends) for _ in range(ATTACKERS)]
