@@ -138,15 +138,7 @@ pub any_found : (ms : json.Members) (found other : Members) → is_some (of_memb
 any_found json.no_members found other = refl
 any_found (json.member k j ms) found other = same_found k (of_json j) ms found other (λ f g. any_found ms f g)
 
--- Items convert if the first one does and the others do.
-both_convert : (o : Option Data) (p : Option Items) → is_some (option_and_then (λ d. option_map (item d) p) o) ≡ (is_some o && is_some p)
-both_convert None p = refl
-both_convert (Some d) None = refl
-both_convert (Some d) (Some ds) = refl
-
-pub items_convert : (j : json.Json) (js : json.Items) → is_some (of_items (json.item j js)) ≡ (is_some (of_json j) && is_some (of_items js))
-items_convert j js = both_convert (of_json j) (of_items js)
-
+-- Members convert if the first one does and the others do.
 member_converts : (k : List ℕ) (o : Option Data) (ms : json.Members) → is_some (option_and_then (λ d. of_members ms (put k d no_members)) o) ≡ (is_some o && is_some (of_members ms no_members))
 member_converts k None ms = refl
 member_converts k (Some d) ms = any_found ms (put k d no_members) no_members
