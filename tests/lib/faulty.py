@@ -55,6 +55,11 @@ def failing(call, number, why=errno.ECONNRESET, piece=WHOLE, session=0, **how):
     return Faulty({"LD_PRELOAD": library("failing"), **words}, **how)
 
 
+def impatient(divisor, **how):
+    """A server in which the time limit of each write is divided by a number, and no call is made to fail."""
+    return Faulty({"LD_PRELOAD": library("failing"), "DIVISOR": divisor}, **how)
+
+
 def logged(end):
     """The lines of the log of a session with this end. None means that its connection could not be accepted."""
     return ["end fault"] if end is None else ["open", f"end {end}"]

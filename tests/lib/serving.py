@@ -44,13 +44,13 @@ def ends_of(log):
 
 
 class Server:
-    """A server of some rooms, for a number of sessions. With `base` the rooms begin with its map. The end of its block
-    closes its clients, and ends it."""
+    """A server of some rooms, for a number of sessions. With `base` the rooms begin with its map. `host` is where it
+    listens, as `--addr` has it. The end of its block closes its clients, and ends it."""
 
-    def __init__(self, program, *rooms, workers=2, sessions=1, limit=None, base=None, patience=20):
+    def __init__(self, program, *rooms, workers=2, sessions=1, limit=None, base=None, patience=20, host="127.0.0.1"):
         self.program, self.rooms = program, rooms or ("paris",)
         self.workers, self.sessions, self.limit, self.base = workers, sessions, limit, base
-        self.patience = patience
+        self.patience, self.host = patience, host
         self.port = self.process = None
         self.kept = contextlib.ExitStack()
 
@@ -88,7 +88,7 @@ class Server:
         os.lseek(self.input.fileno(), 0, os.SEEK_SET)
         self.port = free_port()
         streams = {"stdin": self.input, "stdout": self.output, "stderr": self.errors}
-        self.process = subprocess.Popen(self.words(f"127.0.0.1:{self.port}"), **streams)
+        self.process = subprocess.Popen(self.words(f"{self.host}:{self.port}"), **streams)
         deadline = time.monotonic() + self.patience
         while "listening\n" not in self.told(self.output):
             if self.process.poll() is not None:
@@ -112,7 +112,7 @@ class Server:
 
     def connect(self, **how):
         """A client that is connected and has sent nothing yet."""
-        return self.kept.enter_context(Client(self.port, **{"patience": self.patience, **how}))
+        return self.kept.enter_context(Client(self.port, **{"patience": self.patience, "host": self.host, **how}))
 
     def client(self, **how):
         """A client after its handshake."""

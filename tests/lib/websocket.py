@@ -116,18 +116,20 @@ def code_of(payload):
 class Client:
     """A connection to a server on this machine, with the bytes that came and are not read yet."""
 
-    def __init__(self, port, patience=20, buffer=None):
-        """Connects. Each wait may take `patience` seconds. `buffer` limits the unread bytes that the system keeps."""
+    def __init__(self, port, patience=20, buffer=None, host="127.0.0.1"):
+        """Connects. Each wait may take `patience` seconds. `buffer` limits the unread bytes that the system keeps.
+        `host` is a name or an address; one of IPv6 may be in brackets."""
         self.patience = patience
         self.came = bytearray()
         self.was_reset = False
-        self.socket = socket.socket(socket.AF_INET, socket.SOCK_STREAM)
+        family, kind, _, _, address = socket.getaddrinfo(host.strip("[]"), port, type=socket.SOCK_STREAM)[0]
+        self.socket = socket.socket(family, kind)
         try:
             if buffer is not None:
                 self.socket.setsockopt(socket.SOL_SOCKET, socket.SO_RCVBUF, buffer)
             self.socket.setsockopt(socket.IPPROTO_TCP, socket.TCP_NODELAY, 1)
             self.socket.settimeout(patience)
-            self.socket.connect(("127.0.0.1", port))
+            self.socket.connect(address)
         except socket.timeout as error:
             self.drop()
             raise Late("the connection was not made in time") from error

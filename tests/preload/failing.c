@@ -5,6 +5,7 @@
 //   FAILED_WHY     the error, by its number (104, a connection that was reset)
 //   SESSION        whose reads and writes are counted: those of the connection that was accepted as the first, the second, ..; all if 0
 //   PIECE          how many bytes a read or a write of a socket moves at a time
+//   DIVISOR        by what the time limit of each write of a socket is divided
 //
 // A call that fails does nothing else, and is told by a line on standard error. A read for which nothing came in time is not
 // counted. The C library is named by hand, since the kit has no headers.
@@ -19,7 +20,7 @@ void *dlsym(void *library, const char *name);
 
 // The calls of the system, by their numbers on x86-64.
 enum { WRITE_FILE = 1, SEND_TO = 44, RECEIVE_FROM = 45, BIND = 49, LISTEN = 50, SET_OPTION = 54, ACCEPT = 288 };
-enum { PEEK = 2, RESET = 104 };
+enum { PEEK = 2, RESET = 104, SECOND = 1000000 };
 
 enum kind { READ, WRITE, ACCEPTED, READ_TIME, WRITE_TIME, NO_DELAY, REUSE, BOUND, LISTENING, THREAD, OTHER };
 
@@ -32,7 +33,7 @@ static const struct {
 } options[] = {{1, 20, READ_TIME}, {1, 21, WRITE_TIME}, {6, 1, NO_DELAY}, {1, 2, REUSE}};
 
 static enum kind chosen;
-static long number, why, piece, count;
+static long number, why, piece, divisor, count;
 static long session, accepted;
 static int file_of_session = -1;
 
@@ -55,6 +56,7 @@ __attribute__((constructor)) static void read_choice(void) {
   number = number_of("FAILED_NUMBER", 0);
   why = number_of("FAILED_WHY", RESET);
   piece = number_of("PIECE", 1L << 30);
+  divisor = number_of("DIVISOR", 1);
   session = number_of("SESSION", 0);
 }
 
@@ -94,10 +96,28 @@ int accept4(int file, void *address, void *size, int flags) {
   return taken;
 }
 
+// A time limit of the system's.
+struct limit {
+  long seconds, microseconds;
+};
+
+static struct limit divided(const struct limit *limit) {
+  long microseconds = (limit->seconds * SECOND + limit->microseconds) / divisor;
+  return (struct limit){microseconds / SECOND, microseconds % SECOND};
+}
+
 int setsockopt(int file, int level, int option, const void *value, unsigned size) {
+  enum kind kind = OTHER;
   for (size_t at = 0; at < sizeof options / sizeof *options; at++)
-    if (options[at].level == level && options[at].option == option && is_failed(options[at].kind))
-      return -1;
+    if (options[at].level == level && options[at].option == option)
+      kind = options[at].kind;
+  if (kind != OTHER && is_failed(kind))
+    return -1;
+  struct limit limit;
+  if (kind == WRITE_TIME) {
+    limit = divided(value);
+    value = &limit;
+  }
   return (int)syscall(SET_OPTION, (long)file, (long)level, (long)option, value, (long)size);
 }
 

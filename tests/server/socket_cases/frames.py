@@ -1,14 +1,15 @@
 """Tests the server against RFC 6455: forbidden frames, slow and broken streams, and messages in pieces."""
+import contextlib
 import itertools
 
 from lib.cases import case, each_case, want
 from lib.talk import SILENCE, be_closed, create, finish, hear, hello, leave, news, node, ok, refused, serve_next
 from lib.talk import serving, talk, welcome
-from lib.websocket import BINARY, CLOSE, CONTINUATION, PING, PONG, TEXT
+from lib.websocket import BINARY, CLOSE, CONTINUATION, PING, PONG, TEXT, Gone
 from lib.websocket import close_payload, frame, head_of_frame, head_of_request, make_key, masked, text_frame
 
-# The most that a frame may hold.
-MOST = 16 << 20
+# The most that a frame may hold, and a message in several frames.
+MOST, MOST_OF_MESSAGE = 16 << 20, 64 << 20
 
 
 def too_long(opcode, length=MOST + 1):
@@ -96,7 +97,7 @@ def codes_that_are_none():
         want((status, printed, set(ends.values()) <= {"left", "fault"}), (0, "listening\nparis 0\n", True))
 
 
-# Heads that are none, or ask for no WebSocket.
+# Heads that are none, or ask for no WebSocket, and a client that does not wait for the answer (RFC 6455, section 4.1).
 BAD_HEADS = {
     "no request": b"hello\r\n\r\n",
     "bytes of any kind": bytes(range(256)) + b"\r\n\r\n",
@@ -109,6 +110,7 @@ BAD_HEADS = {
     "a request without a key": head_of_request("", sec_websocket_key=None),
     "a request without a version": head_of_request(make_key(), sec_websocket_version=None),
     "a request with another version": head_of_request(make_key(), sec_websocket_version="12"),
+    "a request with a frame after it": head_of_request(make_key()) + text_frame(hello("anna")),
 }
 
 
@@ -332,6 +334,32 @@ def a_ping_between_fragments():
         anna.send(CONTINUATION, b"\x00")
         be_closed(anna, 1003)
         finish(server, ["paris 0"], "binary")
+
+
+def in_frames_of_the_most(text):
+    """The bytes of a text in frames of which all but the last are the longest. The mask changes nothing."""
+    for start in range(0, len(text), MOST):
+        part, is_last = text[start : start + MOST], start + MOST >= len(text)
+        yield head_of_frame(CONTINUATION if start else TEXT, len(part), is_last, mask=bytes(4)) + part
+
+
+@case
+def a_message_over_the_most():
+    """A message of 64 MiB is read. With one more byte it ends the session as a fault."""
+    with serving(workers=1, sessions=3) as server:
+        for length in (MOST_OF_MESSAGE, MOST_OF_MESSAGE + 1):
+            anna = after_the_hello(server)
+            head, end = b'{"id":2,"do":"map","x":"', b'"}'
+            with contextlib.suppress(Gone):
+                for data in in_frames_of_the_most(head + b"x" * (length - len(head) - len(end)) + end):
+                    anna.send_bytes(data)
+            if length == MOST_OF_MESSAGE:
+                hear(anna, welcome(0, number=2))
+                leave(anna)
+            else:
+                want(anna.rest(), b"")
+        serve_next(server)
+        finish(server, ["paris 0"], "left", "fault", "left")
 
 
 @case

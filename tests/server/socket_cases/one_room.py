@@ -1,12 +1,13 @@
 """Tests the sessions of the server, text by text, and what the program prints, logs and refuses."""
 import functools
 import json
+import signal
 import socket
 import subprocess
 import time
 
 from lib import texts
-from lib.cases import TOP, case, each_case, given, want
+from lib.cases import TOP, case, case_if, each_case, given, want
 from lib.programs import run_soon
 from lib.serving import free_port
 from lib.talk import GONE, PATIENCE, SILENCE, be_closed, create, finish, hear, hello, leave, news, node, ok, refused
@@ -324,6 +325,22 @@ def end_of_the_program():
 
 
 @case
+def stopped_by_ctrl_c():
+    """An interrupt ends the program, and so does SIGTERM, also during a session."""
+    # The program inherits how the script takes an interrupt, unless the script has a handler of its own.
+    before = signal.signal(signal.SIGINT, signal.default_int_handler)
+    try:
+        for number in (signal.SIGINT, signal.SIGTERM):
+            with serving() as server:
+                anna = server.client()
+                talk(anna, hello("anna"), welcome(0))
+                server.process.send_signal(number)
+                want((server.process.wait(PATIENCE * given.slow), anna.rest()), (-number, b""))
+    finally:
+        signal.signal(signal.SIGINT, before)
+
+
+@case
 def a_full_disk():
     """If the disk is full, so that the program cannot print, it still serves its clients."""
     port, patience = free_port(), PATIENCE * given.slow
@@ -399,9 +416,51 @@ def bad_rooms():
 
 @case
 def bad_addresses():
-    """At what is no address, or has no port, nothing listens."""
+    """At what is no address, has no port or is no address of this machine (RFC 5737), nothing listens."""
     hosts = ("nowhere", "127.0.0.1", "127.0.0.1:", "127.0.0.1:65536", "127.0.0.1:port", "127.0.0.256:47316", ":", "")
+    hosts += ("192.0.2.1:0",)
     want({addr: serve("paris", addr=addr) for addr in hosts}, {addr: CANNOT_LISTEN for addr in hosts})
+
+
+@case
+def one_address_alone():
+    """The server listens at its address, and at no other address of this machine."""
+    for host, other in (("127.0.0.1", "127.0.0.2"), ("127.0.0.2", "127.0.0.1")):
+        with serving(host=host) as server:
+            with socket.socket() as probe:
+                want((host, probe.connect_ex((other, server.port)) != 0), (host, True))
+            serve_next(server)
+            finish(server, ["paris 0"], "left")
+
+
+def has_ipv6():
+    """Whether this machine has the address ::1."""
+    try:
+        with socket.socket(socket.AF_INET6) as probe:
+            probe.bind(("::1", 0))
+    except OSError:
+        return False
+    return True
+
+
+@case_if(has_ipv6)
+def an_address_of_ipv6():
+    """The server listens at an address of IPv6, which is in brackets, and at none of IPv4."""
+    with serving(host="[::1]") as server:
+        with socket.socket() as probe:
+            want(probe.connect_ex(("127.0.0.1", server.port)) != 0, True)
+        serve_next(server)
+        finish(server, ["paris 0"], "left")
+
+
+@case
+def a_host():
+    """The server listens at an address of the host that `--addr` names."""
+    with serving(host="localhost", sessions=2) as server:
+        with socket.create_connection(("localhost", server.port)) as probe:
+            server.host = probe.getpeername()[0]
+        serve_next(server)
+        finish(server, ["paris 0"], "fault", "left")
 
 
 @case

@@ -1,14 +1,17 @@
-"""Tests the server if a system call fails: each read and each write of a session, and the calls by which the program
-listens, accepts and starts its workers."""
+"""Tests the server if a system call fails: each read and write of a session, writes to a client that reads nothing,
+and the calls by which the program listens, accepts and starts its workers."""
 import collections
+import contextlib
 import errno
 import functools
 import itertools
+import time
 
 from lib.cases import case, each_case, want
-from lib.faulty import WHOLE, failing, finish
+from lib.faulty import WHOLE, failing, finish, impatient
 from lib.talk import GONE, create, hello, leave, news, node, ok, refused, serve_next, serving, talk, welcome
-from lib.websocket import BINARY, CLOSE, PING, PONG, TEXT, Gone, close_payload, frame, head_of_request, make_key, text_frame
+from lib.websocket import BINARY, CLOSE, MOST_OF_CONTROL, PING, PONG, TEXT, Gone, close_payload, frame, head_of_request
+from lib.websocket import make_key, text_frame
 
 # What a client sends, what it gets, and how many entries the room has afterwards.
 Step = collections.namedtuple("Step", "sent wanted seq")
@@ -78,10 +81,10 @@ def is_passed_over(fault, place):
 
 
 def end_of(fault, place):
-    """How a session ends if the fault comes after this number of answered steps: as usual if the close is on its
-    way."""
+    """How a session ends if the fault comes after this number of answered steps: as usual if the failed write was that
+    of the close, or the failed read that of its answer."""
     close = 1 + len(STORY)
-    is_closing = place > close or (place == close and fault.call == "write")
+    is_closing = place == close if fault.call == "write" else place > close and fault.ending == "binary"
     return fault.ending if is_closing or is_passed_over(fault, place) else "fault"
 
 
@@ -159,6 +162,30 @@ def news_that_cannot_be_sent():
         leave(bob)
         serve_next(server, "zoe", 1, node())
         finish(server, 1, "fault", "left", "left")
+
+
+# For how many seconds a client may read nothing (docs/SERVER.md), and by what a test divides them.
+MOST_SECONDS, DIVISOR = 30, 60
+
+
+def nothing_read(data):
+    """A client sends these frames again and again, and reads no answer. When a write has reached its time limit, the
+    session ends as a fault, and the same worker serves the next client."""
+    with impatient(DIVISOR, sessions=2) as server:
+        client = server.client(buffer=4096)
+        talk(client, hello("anna"), welcome(0))
+        begun = time.monotonic()
+        with contextlib.suppress(Gone):
+            while True:
+                client.send_bytes(data * 1000)
+        want(time.monotonic() - begun >= MOST_SECONDS / DIVISOR, True)
+        finish(server, serve_after(server, 0), "fault", "left")
+
+
+each_case(nothing_read, {
+    "a client that reads no replies": text_frame('{"id":2,"do":"map"}'),
+    "a client that reads no pongs": frame(PING, b"x" * MOST_OF_CONTROL),
+})
 
 
 @case
