@@ -69,6 +69,7 @@ class Page {
 
   // What was typed, drawn and selected in one room is nothing for another.
   forgetRoom() {
+    this.tools.unsaved = [];
     this.tools.use("select");
     this.selected = [];
     this.panels.typed.clear();
@@ -181,6 +182,8 @@ class Page {
     const { session } = this;
     const parts = [];
     if (session?.unsaved) parts.push(`${counted(session.unsaved, "change")} not saved`);
+    const drawings = this.tools.countUnsaved();
+    if (drawings) parts.push(`${counted(drawings, "drawing")} not saved`);
     const typed = this.panels.typedElements().length;
     if (typed) parts.push(`tags of ${typed === 1 ? "an element" : `${typed} elements`} not saved`);
     const isInside = session?.room && session.state !== "closed";

@@ -124,7 +124,7 @@ class Session extends EventTarget {
     const { run } = this;
     await new Promise((done) => this.waiting.push(done));
     if (this.isOver) throw { why: "closed" };
-    if (run !== this.run) throw { why: "not_sent" };
+    if (run !== this.run) throw { why: "not_sent", restarted: true };
   }
 
   takeError(error) {
@@ -147,8 +147,10 @@ class Session extends EventTarget {
 
   takeReset({ restarted }) {
     this.lowest = null;
-    if (restarted !== false) this.run += 1;
-    if (restarted) this.forget();
+    if (restarted) {
+      this.run += 1;
+      this.forget();
+    }
     this.setConflict(null);
     this.tell("map", { isFirst: false, restarted });
     this.askUndos(restarted === null);

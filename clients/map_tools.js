@@ -20,6 +20,7 @@ class Tools {
     Object.assign(this, { page, tool: "select", draft: null, cursor: null, dragged: null, hovered: null });
     this.relation = null; // whose members are picked
     this.sent = new Set(); // drawings that are finished and not saved yet
+    this.unsaved = []; // drawings that could not be saved, and come back after the one that is being drawn
     this.moving = new Set(); // drags that ended and are not saved yet
     this.fresh = []; // what others changed a moment ago
     this.isSnapping = true;
@@ -34,23 +35,26 @@ class Tools {
     this.dragged = null;
     const isDrawing = ["point", "line", "area"].includes(tool);
     const isWay = tool === "line" || tool === "area";
-    this.draft = isWay ? { places: about.places ?? [], isArea: tool === "area", extend: about.extend ?? null } : null;
+    const { places = [], extend = null, isUnsaved = false } = about;
+    this.draft = isWay ? { places, isArea: tool === "area", extend, isUnsaved } : null;
     for (const each of ["select", "point", "line", "area"]) $(each).setAttribute("aria-pressed", String(each === tool));
     $("drawing").hidden = !isDrawing;
     for (const each of ["finish", "back"]) $(each).hidden = !isWay;
     $("map").classList.toggle("drawing", tool !== "select");
-    if (isDrawing) this.offerPresets(tool === "point" ? "n" : "w");
+    if (isDrawing) this.offerPresets(tool === "point" ? "n" : "w", about.preset);
     if (HINTS[tool]) page.say(HINTS[tool]);
     else if (page.isHint) page.say("");
     page.isHint = Boolean(HINTS[tool]);
-    this.page.view?.paintOverSoon();
+    page.view?.paintOverSoon();
+    page.showSaved();
+    if (tool === "select" && this.unsaved.length) this.bringBack(this.unsaved.shift());
   }
 
-  offerPresets(kind) {
+  offerPresets(kind, chosen = "") {
     const fitting = PRESETS.filter(({ on }) => on.includes(kind));
     const options = [new Option("nothing yet", ""), ...fitting.map(({ label }) => new Option(label, label))];
     $("preset").replaceChildren(...options);
-    $("preset").value = "";
+    $("preset").value = chosen;
     $("preset").parentElement.hidden = Boolean(this.draft?.extend);
   }
 
@@ -223,6 +227,7 @@ class Tools {
     if (draft.places.length < least) return page.say(`That needs ${least} points at least.`, { isRefusal: true });
     const { places, extend } = draft;
     const tags = this.presetTags();
+    draft.preset = $("preset").value;
     this.use("select");
     this.sent.add(draft);
     const what = kindOf({ el: "w", tags });
@@ -235,9 +240,20 @@ class Tools {
     });
   }
 
+  // Goes on with a drawing that could not be saved, after the one that is being drawn.
   bringBack(draft) {
-    if (this.draft?.places.length) return;
-    this.use(draft.isArea ? "area" : "line", { places: draft.places, extend: draft.extend });
+    if (this.draft?.places.length) {
+      this.unsaved.push(draft);
+      this.page.showSaved();
+    } else {
+      this.use(draft.isArea ? "area" : "line", { ...draft, isUnsaved: true });
+      this.tellDraft();
+    }
+  }
+
+  // How many drawings could not be saved so far.
+  countUnsaved() {
+    return this.unsaved.length + (this.draft?.isUnsaved && this.draft.places.length ? 1 : 0);
   }
 
   // Goes on with a way at its end or its start.
