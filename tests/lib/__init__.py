@@ -3,7 +3,7 @@
 A script defines its cases, and ends with `main(__doc__)`:
 
     cases.py               the cases of a script, its options, and the report
-    programs.py            the results of commands
+    programs.py            the results of commands, and scripts as modules
     texts.py               files of runs, with the output of each input line
     messages.py            messages, replies and rows of maps as values and as lines
     failed_allocations.py  runs in which one allocation fails

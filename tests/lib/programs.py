@@ -1,4 +1,7 @@
-"""Runs commands and returns their results."""
+"""Runs commands and returns their results. Loads scripts as modules."""
+import importlib.machinery
+import importlib.util
+import os
 import subprocess
 import time
 from typing import NamedTuple
@@ -58,3 +61,11 @@ def wait_for(what, value):
         if time.monotonic() > deadline:
             raise Late(what() if callable(what) else what)
         time.sleep(0.01)
+
+
+def loaded(path):
+    """A script without an ending, as a module."""
+    loader = importlib.machinery.SourceFileLoader(os.path.basename(path), path)
+    module = importlib.util.module_from_spec(importlib.util.spec_from_loader(loader.name, loader))
+    loader.exec_module(module)
+    return module

@@ -98,12 +98,12 @@ const stories = {
     room.close();
   },
 
-  async silent(url) {
-    const room = await connect(url, { heartbeat: 1000 });
+  async silent(url, heartbeat) {
+    const room = await connect(url, heartbeat ? { heartbeat: heartbeat * 1000 } : {});
     await room.createNode(1, 2, {}, { el: "n-1" });
     const begun = Date.now();
     await sayOutcome(room.move("n-1", "0.0000001", 0));
-    say("soon", Date.now() - begun < 8000);
+    say(((Date.now() - begun) / 1000).toFixed(1));
     sayMap(room);
     room.close();
   },

@@ -118,12 +118,13 @@ async def many(url):
 
 
 async def silent(url):
-    """The server falls silent in the middle of a session."""
-    async with connect(url, heartbeat=1) as room:
+    """The server falls silent in the middle of a session, which has a heartbeat of some seconds or the default."""
+    how = {"heartbeat": int(sys.argv[3])} if len(sys.argv) > 3 else {}
+    async with connect(url, **how) as room:
         await room.create_node(1, 2, el="n-1")
         begun = time.monotonic()
         await say_outcome(room.move("n-1", "0.0000001", 0))
-        say("soon", time.monotonic() - begun < 8)
+        say(f"{time.monotonic() - begun:.1f}")
         say_map(room)
 
 

@@ -17,7 +17,7 @@ from lib.websocket import CLOSE, TEXT, Broken, Client, Gone, Late, head_of_reque
 LIMIT = 550_000
 LIMITED = ["sh", "-c", f'ulimit -v {LIMIT}; exec env MALLOC_ARENA_MAX=2 "$@"', "sh"]
 
-# A message whose reading takes 71 times its own size, and how many bytes it has.
+# A message that takes 71 times its own size to read, near the most of 75 (docs/SERVER.md), and its size in bytes.
 PART, SIZE = "[" * 100 + "]" * 100, 8_000_000
 HOSTILE = f'{{"id":1,"do":"get","el":"n1","x":[{",".join([PART] * (SIZE // (len(PART) + 1)))}]}}'
 
