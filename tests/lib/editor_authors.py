@@ -194,9 +194,11 @@ def do(rows, message):
 
 
 def move(rows, message):
-    """Moves nodes in rows, if all stay in the world."""
+    """Moves nodes in rows, if all are there and stay in the world. A way may have lost some since it was downloaded."""
     names = {f"n{number}" for el in message["els"] for number in rows[el].get("nodes", ())}
     names |= {el for el in message["els"] if el[0] == "n"}
+    if not names <= rows.keys():
+        return False
     moved = {}
     for name in names:
         lat = Decimal(rows[name]["lat"]) + Decimal(message["dlat"]).scaleb(-7)
