@@ -1,15 +1,19 @@
 #!/usr/bin/env node
-// An example of a client that keeps a mirror of a room's map, over the texts alone.
-//
-//     client.js [--follow] ROOM NAME [CHANGE..]      each CHANGE is a message without its id, such as {"do":"undo"}
-//
-// It reads what the room sends from standard input, one text a line, and an empty line where the session was closed.
-// It prints what it sends, and an empty line where it leaves a session; at the end of input, the elements of its
-// mirror. With --follow it also prints each change, with each element before and after. If a change is refused, it
-// says so on standard error, and its status is 1. maproom.js in clients/js does the work; socket_client.js uses it
-// over WebSockets.
 "use strict";
 const { Core, HelloRefused, OutOfStep, errorOf, shortWords } = require("./js/maproom.js");
+
+const USAGE = "client.js [--follow] ROOM NAME [CHANGE..]";
+const HELP = `An example of a client that keeps a mirror of a room's map, over the texts alone.
+
+It reads what the room sends from standard input: one text a line, and an empty line if the session was closed. It
+prints what it sends, and an empty line when it leaves a session. At the end of input it prints the elements of its
+mirror. If the room refuses a change, it prints the reason on standard error, and its status is 1.
+
+The library clients/js/maproom.js does the work. socket_client.js uses it over WebSockets.
+
+  CHANGE      a message without its id, such as {"do":"undo"}
+  -h, --help  print this help
+  --follow    also print each change as a line of JSON, with each element before and after`;
 
 // A message that is an argument of the command line. Throws if the argument is no message.
 function messageOf(word) {
@@ -23,13 +27,17 @@ function messageOf(word) {
   throw new SyntaxError(`no message, which is an object of JSON: ${word}`);
 }
 
-// Whether --follow is there, then so many arguments of the command line, and the messages after them. If they are
-// wrong, the program ends.
-function wordsOf(count, usage) {
+// Whether --follow is there, then `count` arguments of the command line, and the messages after them. If the arguments
+// are wrong, or ask for the help, the program ends.
+function wordsOf(count, usage, help) {
   const all = process.argv.slice(2);
+  if (all.includes("--help") || all.includes("-h")) {
+    console.log(`usage: ${usage}\n\n${help}`);
+    process.exit(0);
+  }
   const words = all.filter((word) => word !== "--follow");
   try {
-    if (words.length < count) throw new SyntaxError("too few words");
+    if (words.length < count) throw new SyntaxError("too few arguments");
     return [words.length < all.length, ...words.slice(0, count), words.slice(count).map(messageOf)];
   } catch ({ message }) {
     console.error(`usage: ${usage}\n${usage.split(" ")[0]}: error: ${message}`);
@@ -46,7 +54,7 @@ function printRefusal(error) {
 module.exports = { printRefusal, wordsOf };
 
 function main() {
-  const [isFollowing, room, name, changes] = wordsOf(2, "client.js [--follow] ROOM NAME [CHANGE..]");
+  const [isFollowing, room, name, changes] = wordsOf(2, USAGE, HELP);
   const core = new Core(room, name);
   const lines = require("node:readline").createInterface({ input: process.stdin });
   let isRefused = false;

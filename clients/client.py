@@ -1,13 +1,14 @@
 #!/usr/bin/env python3
 """An example of a client that keeps a mirror of a room's map, over the texts alone.
 
-    client.py [--follow] ROOM NAME [CHANGE..]      each CHANGE is a message without its id, such as {"do":"undo"}
+    %(prog)s [--follow] ROOM NAME [CHANGE..]      each CHANGE is a message without its id, such as {"do":"undo"}
 
-It reads what the room sends from standard input, one text a line, and an empty line if the session was closed. It
-prints what it sends, and an empty line where it leaves a session; at the end of input, the elements of its mirror.
-With --follow it also prints each change, with each element before and after. If a change is refused, it says so on
-standard error, and its status is 1. The package maproom in clients/python does the work; socket_client.py uses it over
-WebSockets.
+It reads what the room sends from standard input: one text a line, and an empty line if the session was closed. It
+prints what it sends, and an empty line when it leaves a session. At the end of input it prints the elements of its
+mirror. With --follow it also prints each change, with each element before and after. If the room refuses a change, it
+prints the reason on standard error, and its status is 1.
+
+The package maproom in clients/python does the work. socket_client.py uses it over WebSockets.
 """
 import argparse
 import json
@@ -32,7 +33,7 @@ def message_of(word):
 
 def given_words():
     """The arguments of the command line. If they are wrong, the program ends."""
-    usage, layout = "client.py [--follow] ROOM NAME [CHANGE..]", argparse.RawDescriptionHelpFormatter
+    usage, layout = "%(prog)s [--follow] ROOM NAME [CHANGE..]", argparse.RawDescriptionHelpFormatter
     words = argparse.ArgumentParser(usage=usage, description=__doc__, formatter_class=layout)
     words.add_argument("--follow", action="store_true", help="print each change as a line of JSON")
     words.add_argument("room", metavar="ROOM")

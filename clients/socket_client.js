@@ -1,22 +1,31 @@
 #!/usr/bin/env node
-// A client of a room over WebSockets, for the command line. It uses the platform's own WebSocket or, if there is none,
-// that of the package ws (Debian: node-ws).
-//
-//     socket_client.js [--follow] URL ROOM NAME [MESSAGE..]      each MESSAGE without its id
-//
-// It prints the answer to each message. With --follow it stays, and prints each change as one line of JSON, with each
-// element before and after; after a gap it prints one line with "reset", and all elements that differ. If a message is
-// refused, it says so on standard error, and its status is 1.
-//
-// maproom.js in clients/js does the work, for programs too. docs/CLIENT.md describes it.
 "use strict";
 const { printRefusal, wordsOf } = require("./client.js");
 const { NotSent, Refused, Unknown, connect } = require("./js/maproom.js");
 
+const USAGE = "socket_client.js [--follow] URL ROOM NAME [MESSAGE..]";
+const HELP = `A client of a room over WebSockets, for the command line.
+
+    socket_client.js ws://127.0.0.1:9001 village anna '{"do":"undo"}' '{"do":"undos"}'
+    socket_client.js --follow ws://127.0.0.1:9001 village anna
+
+It prints the answer to each message. With --follow it stays, and prints each change as one line of JSON, with each
+element before and after. After a gap it prints one line with "reset", and all elements that differ. If the room refuses
+a message, it prints the reason on standard error, and its status is 1.
+
+If Node has no WebSocket of its own, the client needs the package ws (Debian: node-ws). A Node that is not Debian's
+finds Debian's package with NODE_PATH=/usr/share/nodejs.
+
+The library clients/js/maproom.js does the work, and programs can use it, too. docs/CLIENT.md describes it.
+
+  MESSAGE     a message without its id
+  -h, --help  print this help
+  --follow    stay, and print each change as a line of JSON`;
+
 const isRefusal = (error) => [NotSent, Refused, Unknown].some((kind) => error instanceof kind);
 
 async function main() {
-  const [isFollowing, url, room, name, messages] = wordsOf(3, "socket_client.js [--follow] URL ROOM NAME [MESSAGE..]");
+  const [isFollowing, url, room, name, messages] = wordsOf(3, USAGE, HELP);
   try {
     const joined = await connect(url, { room, name });
     if (isFollowing) {

@@ -1,16 +1,16 @@
 #!/usr/bin/env python3
 """A client of a room over WebSockets, for the command line. It needs the package aiohttp (Debian: python3-aiohttp).
 
-    socket_client.py ws://127.0.0.1:9001 village anna '{"do":"create","el":"n-1","lat":"47.6","lon":"8.2"}'
-    socket_client.py ws://127.0.0.1:9001 village anna '{"do":"undo"}' '{"do":"undos"}'
-    socket_client.py --map ws://127.0.0.1:9001 village keeper >village.map
-    socket_client.py --follow ws://127.0.0.1:9001 village anna
+    %(prog)s ws://127.0.0.1:9001 village anna '{"do":"create","el":"n-1","lat":"47.6","lon":"8.2"}'
+    %(prog)s ws://127.0.0.1:9001 village anna '{"do":"undo"}' '{"do":"undos"}'
+    %(prog)s --map ws://127.0.0.1:9001 village keeper >village.map
+    %(prog)s --follow ws://127.0.0.1:9001 village anna
 
 It prints the answer to each message. With --follow it stays, and prints each change as one line of JSON, with each
-element before and after; after a gap it prints one line with "reset", and all elements that differ. If a message is
-refused, it says so on standard error, and its status is 1.
+element before and after. After a gap it prints one line with "reset", and all elements that differ. If the room refuses
+a message, it prints the reason on standard error, and its status is 1.
 
-The package maproom in clients/python does the work, for programs too. docs/CLIENT.md describes it.
+The package maproom in clients/python does the work, and programs can use it, too. docs/CLIENT.md describes it.
 """
 import argparse
 import asyncio
@@ -48,10 +48,10 @@ async def talk(given):
 
 
 def main():
-    usage = "socket_client.py [--map] [--follow] URL ROOM NAME [MESSAGE..]"
+    usage = "%(prog)s [--map] [--follow] URL ROOM NAME [MESSAGE..]"
     layout = argparse.RawDescriptionHelpFormatter
     words = argparse.ArgumentParser(usage=usage, description=__doc__, formatter_class=layout)
-    words.add_argument("--map", action="store_true", help="print the map at last, as map_to_osm and --base read it")
+    words.add_argument("--map", action="store_true", help="print the map at the end, as map_to_osm and --base read it")
     words.add_argument("--follow", action="store_true", help="stay, and print each change as a line of JSON")
     for word in ("url", "room", "name"):
         words.add_argument(word, metavar=word.upper())

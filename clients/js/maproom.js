@@ -503,7 +503,8 @@
     try {
       Package = require("ws");
     } catch {
-      throw new Error("it needs the package ws (in Debian node-ws)");
+      const places = "Debian: node-ws, and for another Node also NODE_PATH=/usr/share/nodejs";
+      throw new Error(`it needs the package ws (${places})`);
     }
     return new Package(url, [], { maxPayload: 0, perMessageDeflate: false });
   }

@@ -326,7 +326,7 @@ def end_of_the_program():
 
 @case
 def stopped_by_ctrl_c():
-    """An interrupt ends the program, and so does SIGTERM, also during a session."""
+    """An interrupt ends the program, and so does SIGTERM, also during a session, without the lines of the rooms."""
     # The program inherits how the script takes an interrupt, unless the script has a handler of its own.
     before = signal.signal(signal.SIGINT, signal.default_int_handler)
     try:
@@ -336,6 +336,7 @@ def stopped_by_ctrl_c():
                 talk(anna, hello("anna"), welcome(0))
                 server.process.send_signal(number)
                 want((server.process.wait(PATIENCE * given.slow), anna.rest()), (-number, b""))
+                want(server.told(server.output), "listening\n")
     finally:
         signal.signal(signal.SIGINT, before)
 
