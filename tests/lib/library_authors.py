@@ -302,9 +302,10 @@ class LibraryAuthor(Author):
 
     async def look(self, rows, seq, undos):
         """Checks, while all authors rest, that the library knows the room's map at an entry, and what this author can
-        undo and redo. `undos` are these lists as another session receives them."""
+        undo and redo. `undos` are these lists as another session receives them. The library may just be asking
+        whether the server is there."""
         deadline = time.monotonic() + PATIENCE * given.slow
-        while not (self.client.state == "open" and self.client.seq >= seq and self.copied >= seq):
+        while self.client.state != "open" or min(self.client.seq, self.copied) < seq or self.client.pending:
             if time.monotonic() > deadline or self.fault:
                 break
             await asyncio.sleep(0.01)
