@@ -26,7 +26,7 @@ pub enum RoomCall<A: Allocator> {
     News(u64),
 }
 
-/// The reply of a room, with the same variant as its call or query. It shares nothing with the room. A query's only
+/// The reply of a room, with the same variant as its call or query. It borrows nothing from the room. A query's only
 /// refusal is `Memory`, if an allocation fails.
 #[derive(Drop)]
 #[derive_where(Debug)]

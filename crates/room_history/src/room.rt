@@ -39,7 +39,8 @@ mod asking;
 ///
 /// Contracts model a room as its base map, which is sound, its limit and its journal. Next to each entry, the room
 /// keeps the changed rows before and after it, which determine its changes, and the number of the entry that stores its
-/// action. The footprint of an action follows from the action and its changes, and an undo computes it.
+/// action. The footprint of an action follows from the action and its changes, and an undo computes it. The room keeps
+/// that of a group.
 #[derive(Drop)]
 #[derive_where(Debug)]
 pub struct Room<A: Allocator> {
@@ -143,11 +144,10 @@ impl<A: Allocator + Copy> Room<A> {
     /// Runs a call and returns its reply.
     ///
     /// It costs what the action's plan costs, and the changes. An undo costs the changes that it takes back. For each
-    /// cell of its entry's footprint, it also searches the later entries that touched the cell. All this is times a
-    /// logarithm. The cost does not depend on the size of the map or the journal otherwise.
+    /// cell of its entry's footprint, it also searches the later entries that touched the cell. Each look-up takes time
+    /// logarithmic in the size of the map or of the journal. Otherwise the cost does not depend on these.
     ///
-    /// The first refusal in the order of [`Reply`] is returned. After a refusal the room is unchanged, and the call's
-    /// id is unspent.
+    /// The first refusal in the order of [`Reply`] is returned. A refusal changes nothing, and spends no id.
     pub fn take(&mut self, call: Call<A>) -> Reply<A>
         ensures step { IsStep self.old.base self.old.limit self.old.journal call result self.new.journal }
         ensures base { self.new.base ≡ self.old.base }
