@@ -27,9 +27,14 @@ function whenIdle(work) {
   else setTimeout(work, 200);
 }
 
+// So many refusals at most are said together.
+const MOST_REFUSALS = 4;
+
 class Page {
   constructor() {
     Object.assign(this, { session: null, selected: [], isHint: false, isByKeys: false });
+    Object.assign(this, { inputs: 0, refusal: null }); // how often a mapper pressed something, and what is refused
+    this.isTouch = matchMedia("(pointer: coarse)").matches; // whether a finger was at work last
     this.timings = { map: 0, news: 0, find: 0 }; // milliseconds of script
     this.shapes = new Shapes();
     this.tools = new Tools(this);
@@ -40,11 +45,17 @@ class Page {
     return this.session?.elements ?? new Map();
   }
 
+  // Whether what is done here is sent: now, or once a lost connection is back.
+  get isInside() {
+    return Boolean(this.session?.room) && !this.session.isOver;
+  }
+
   // Makes the map, once Leaflet is there.
   makeMap() {
     this.view = new View($("map"), this.shapes, {
       paintOver: (context, frame) => this.tools.paintOver(context, frame),
-      labels: (box, zoom) => labelsIn(this, box, zoom),
+      labels: (box, zoom, widthOf) => labelsIn(this, box, zoom, widthOf),
+      obstacles: (box, zoom) => obstaclesIn(this.shapes, box, zoom),
     });
     this.view.hear(this.tools);
   }
@@ -53,7 +64,7 @@ class Page {
 
   connect(url, roomName, name) {
     const session = new Session(url, roomName, name);
-    if (this.session && (this.session.url !== url || this.session.roomName !== roomName)) this.forgetRoom();
+    if (this.isElsewhere(url, roomName)) this.forgetRoom();
     this.session = session;
     const hear = (type, work) => session.addEventListener(type, (event) => session === this.session && work(event));
     hear("state", () => this.showState());
@@ -65,6 +76,11 @@ class Page {
     session.open();
     memory.set("maproom last", { url, room: roomName, name });
     return session;
+  }
+
+  // Whether a room is another one than that of the last session.
+  isElsewhere(url, roomName) {
+    return Boolean(this.session) && (this.session.url !== url || this.session.roomName !== roomName);
   }
 
   // What was typed, drawn and selected in one room is nothing for another.
@@ -81,7 +97,8 @@ class Page {
   }
 
   mayLeave() {
-    return !this.session?.unsaved && !this.tools.draft?.places.length && this.panels.typedElements().length === 0;
+    const isDrawn = this.tools.draft?.places.length || this.tools.unsaved.length;
+    return !this.session?.unsaved && !isDrawn && this.panels.typedElements().length === 0;
   }
 
   // Takes the whole map.
@@ -95,7 +112,8 @@ class Page {
     if (isFirst) this.fit();
     if (!this.view.painted) this.view.paint();
     this.timings.map = performance.now() - began;
-    if (restarted) this.say("The server was started anew. This is the map that it has now.");
+    if (isFirst) this.tools.goOnDrawing();
+    if (restarted) this.sayWrong("The server was started anew. This is the map that it has now.");
     setTimeout(() => this.panels.showAll(), 50); // after the map is seen
     whenIdle(() => this.prepare());
   }
@@ -155,15 +173,17 @@ class Page {
     const { conflict } = this.session;
     this.panels.showUndos();
     this.panels.showChanges();
-    if (!conflict && this.isConflictSaid) this.say("What was in the way is gone.");
-    this.isConflictSaid = Boolean(conflict);
+    if (!conflict && this.refusal?.isConflict) this.say("What was in the way is gone.");
     this.view.paintOverSoon();
   }
 
   showState() {
-    const { state, text, isBad, name, roomName } = this.session;
-    const isInside = Boolean(this.session.room) && state !== "closed";
+    const { session, isInside } = this;
+    const { state, text, isBad, name, roomName } = session;
     document.body.classList.toggle("inside", isInside);
+    document.body.classList.toggle("mapped", Boolean(session.room));
+    $("select").disabled = !session.room;
+    for (const id of ["point", "line", "area"]) $(id).disabled = !isInside;
     $("hello").hidden = isInside;
     $("here").hidden = !isInside;
     $("who").textContent = `${name} in ${roomName}`;
@@ -171,11 +191,18 @@ class Page {
     const shown = state === "closed" ? usual.closed : text || usual[state];
     Object.assign($("state"), { textContent: shown, className: isBad ? "bad" : "" });
     $("connect").textContent = state === "closed" || isInside ? "Connect" : "Stop";
-    if (state === "closed") {
-      if (text) this.say(text, { isRefusal: true });
-      this.tools.use("select");
-    }
+    if (state === "closed") this.showEnd(text);
     this.showSaved();
+  }
+
+  // Shows that the session has ended, perhaps for a reason.
+  showEnd(why) {
+    const isKept = this.tools.putAside();
+    if (why) this.sayWrong(why);
+    if (isKept) this.sayWrong("What you drew is kept: connect to the same room to go on with it.");
+    this.panels.showUndos();
+    this.panels.showChanges();
+    this.panels.showPeople();
   }
 
   showSaved() {
@@ -186,16 +213,16 @@ class Page {
     if (drawings) parts.push(`${counted(drawings, "drawing")} not saved`);
     const typed = this.panels.typedElements().length;
     if (typed) parts.push(`tags of ${typed === 1 ? "an element" : `${typed} elements`} not saved`);
-    const isInside = session?.room && session.state !== "closed";
-    $("saved").textContent = parts.join(", ") || (isInside ? "All saved" : "");
+    $("saved").textContent = parts.join(", ") || (this.isInside ? "All saved" : "");
     $("saved").className = parts.length ? "not" : "";
   }
 
   // ---- What is said
 
-  // Says something below the map. A refusal stays until it is closed or something else is said.
-  say(text, { isRefusal = false, show = null } = {}) {
+  // Says something above the map, in the place of what is there.
+  say(text, { isRefusal = false, isConflict = false, show = null } = {}) {
     this.isHint = false;
+    this.refusal = isRefusal ? { texts: [text], inputs: this.inputs, isConflict } : null;
     $("said").textContent = text;
     $("said").setAttribute("role", isRefusal ? "alert" : "status");
     $("message").className = isRefusal ? "refused" : text ? "" : "empty";
@@ -204,8 +231,21 @@ class Page {
     $("show").hidden = !this.elements.has(show);
   }
 
-  sayWrong(text) {
-    this.say(text, { isRefusal: true });
+  // Says a refusal or a warning. It stays until it is closed or the mapper does something else. If several come before
+  // that, they are said together.
+  sayWrong(text, about = {}) {
+    const isOther = this.refusal?.inputs === this.inputs;
+    const before = isOther ? this.refusal.texts.filter((each) => each !== text).slice(1 - MOST_REFUSALS) : [];
+    const texts = [...before, text];
+    this.say(texts.join(" "), { ...about, isRefusal: true });
+    Object.assign(this.refusal, { texts, isConflict: Boolean(about.isConflict) && texts.length === 1 });
+  }
+
+  // A function that says how something ended that begins now, unless there is a refusal that the mapper cannot have
+  // seen when it began.
+  reporter() {
+    const { inputs } = this;
+    return (text) => (this.refusal?.inputs >= inputs ? undefined : this.say(text));
   }
 
   // Tells a screen reader what others do, a few times a second at most.
@@ -218,19 +258,20 @@ class Page {
   refused(error) {
     const no = error.no ?? {};
     if (no.why === "conflict") return this.sayConflict(no);
-    this.say(sentenceOf(error), { isRefusal: true, show: no.by ?? no.el ?? null });
+    this.sayWrong(sentenceOf(error), { show: no.by ?? no.el ?? null });
   }
 
   sayConflict(no) {
     const { session } = this;
     const by = session.authorOf(no.with);
-    const whose = by === session.name ? "your" : by ? `${by}'s` : "an earlier";
+    const isOwn = by === session.name;
+    const whose = isOwn ? "your" : by ? `${by}'s` : "an earlier";
     const row = this.elements.get(no.at);
     const deed = session.entries.has(no.with) ? ` (${session.textOf(no.with)})` : "";
     const what = row ? titleOf(row) : no.at;
-    const text = `Not taken back: ${whose} entry ${no.with}${deed} also touched ${what}.`;
-    this.say(`${text} It has to be taken back first.`, { isRefusal: true, show: no.at });
-    this.isConflictSaid = true;
+    const first = isOwn ? "Undo that entry first." : `${by ?? "Its author"} has to undo that entry first.`;
+    this.sayWrong(`Not undone: ${whose} entry ${no.with}${deed} also touched ${what}. ${first} You can also change the `
+      + "element by hand.", { isConflict: true, show: no.at });
   }
 
   tellWhere(point) {
@@ -272,31 +313,34 @@ class Page {
   // Does a gesture and says so, or says what refused it.
   async perform(text, build, done = () => {}, failed = () => {}) {
     const { session } = this;
-    if (!session?.room || session.isOver) return this.sayWrong("Connect first.");
+    if (!this.isInside) return this.sayWrong("Connect first.");
+    const report = this.reporter();
     try {
       const names = await session.perform(text, build);
       if (session !== this.session) return undefined;
-      this.say(`Saved: ${text}.`);
-      return done(names);
+      report(`Saved: ${text}.`);
+      return done(names, report);
     } catch (error) {
       if (!error.why) console.error(error);
+      const { refusal } = this;
       failed(error);
+      this.refusal ??= refusal; // the hint of a drawing that comes back does not end it
       this.refused(error);
     }
     return undefined;
   }
 
   async undo(seqs) {
-    await this.tryThat(async () => this.say(`Taken back: ${await this.session.undo(seqs)}.`));
+    await this.tryThat(async (report) => report(`Undone: ${await this.session.undo(seqs)}.`));
   }
 
   async redo() {
-    await this.tryThat(async () => this.say(`Done again: ${await this.session.redo()}.`));
+    await this.tryThat(async (report) => report(`Redone: ${await this.session.redo()}.`));
   }
 
   async tryThat(work) {
     try {
-      if (this.session?.room) await work();
+      if (this.isInside) await work(this.reporter());
     } catch (error) {
       this.refused(error);
     }
@@ -311,7 +355,7 @@ class Page {
       const rest = parents.length > 1 ? ` and ${parents.length - 1} more` : "";
       const what = `${titleOf(this.elements.get(parent))}${rest}`;
       const text = `${what} uses this. “Delete everywhere” takes it out there too.`;
-      return this.say(text, { isRefusal: true, show: parent });
+      return this.sayWrong(text, { show: parent });
     }
     const actions = Edits.delete(els, this.elements, this.shapes, isEverywhere);
     const gone = actions.filter(({ do: word }) => word !== "nodes").length;
@@ -337,9 +381,9 @@ class Page {
 
   unglue(node, el, at) {
     const build = (newName) => [{ do: "unglue", el, at, into: newName("n") }];
-    this.perform(`unglued ${el} from ${node}`, build, ([into]) => {
+    this.perform(`unglued ${el} from ${node}`, build, ([into], report) => {
       this.select(into);
-      this.say(`${el} has ${into} now, where it had ${node}: drag it away.`);
+      report(`${el} has ${into} now, where it had ${node}: drag it away.`);
     });
   }
 
@@ -440,8 +484,24 @@ function degreesOf(text, most) {
 // The name of an element on the map: a number of a house only where there is room for it.
 const labelOf = (row, zoom) => row.tags.name ?? row.tags.ref ?? (zoom >= 17.75 ? row.tags["addr:housenumber"] : null);
 
-// The names in a box, the most important first.
-function* labelsIn(page, box, zoom) {
+// Where the label of a node may be, in pixels from it: above, below, right, left.
+const placesAround = ({ x, y }, half) => [[0, -14], [0, 14], [half + 9, 0], [-half - 9, 0]]
+  .map(([dx, dy]) => ({ x, y, dx, dy }));
+
+// What names should not hide in a box: nodes with tags, buildings, and the ends of lines.
+function* obstaclesIn(shapes, box, zoom) {
+  if (zoom < 16) return;
+  const boxAt = (slot) => pointBox(shapes.xs[slot], shapes.ys[slot]);
+  for (const slot of shapes.slotsIn(box, 15)) yield { box: boxAt(slot), margin: 5, kind: TAKEN };
+  for (const way of shapes.ways.values()) {
+    if (!doMeet(way, box) || way.slots.length === 0) continue;
+    if (way.style === STYLE_AT.building) yield { box: shapes.boxOfWay(way), margin: 1, kind: BUILDING };
+    else if (!way.isClosed) for (const at of [0, -1]) yield { box: boxAt(way.slots.at(at)), margin: 3, kind: END };
+  }
+}
+
+// The names in a box, the most important first, each with the places where it may be. `widthOf` measures a text.
+function* labelsIn(page, box, zoom, widthOf = (text) => text.length * 7) {
   const { shapes, elements } = page;
   let count = 0;
   const inWindow = (x, y) => x > box.west && x < box.east && y > box.north && y < box.south;
@@ -449,7 +509,7 @@ function* labelsIn(page, box, zoom) {
     const row = elements.get(shapes.names[slot]);
     const name = row && labelOf(row, zoom);
     if (!name || (zoom < 16 && !row.tags.place)) continue;
-    yield { text: name, x: shapes.xs[slot], y: shapes.ys[slot], lift: -12 };
+    yield { text: name, places: placesAround({ x: shapes.xs[slot], y: shapes.ys[slot] }, widthOf(name) / 2) };
     if ((count += 1) > 150) return;
   }
   if (zoom < 15.5) return;
@@ -458,25 +518,54 @@ function* labelsIn(page, box, zoom) {
     const row = elements.get(way.el);
     const name = row && labelOf(row, zoom);
     if (!name) continue;
-    const centre = { x: (way.west + way.east) / 2, y: (way.north + way.south) / 2 };
-    const label = way.isClosed ? centre : middleOf(shapes, way);
-    if (!inWindow(label.x, label.y)) continue;
-    yield { text: name, ...label };
+    const half = widthOf(name) / 2 / page.view.scaleAt(zoom);
+    const isNumber = name === row.tags["addr:housenumber"];
+    const all = way.isClosed ? placesOfArea(way, isNumber ? 0 : half) : placesOfLine(shapes, way, half);
+    const places = all.filter(({ x, y }) => inWindow(x, y));
+    if (places.length === 0) continue;
+    yield { text: name, places };
     if ((count += 1) > 400) return;
   }
 }
 
-// The middle of a way's longest segment, and its direction.
-function middleOf({ xs, ys }, { slots }) {
-  let [best, longest] = [0, -1];
-  for (let index = 1; index < slots.length; index++) {
-    const length = Math.hypot(xs[slots[index]] - xs[slots[index - 1]], ys[slots[index]] - ys[slots[index - 1]]);
-    if (length > longest) [best, longest] = [index, length];
+// Where the name of an area may be: in its middle if it is not longer than the area, or else below or above it.
+function placesOfArea({ west, east, north, south }, half) {
+  const x = (west + east) / 2;
+  const middle = { x, y: (north + south) / 2, isOver: true };
+  return 2 * half <= east - west ? [middle] : [{ x, y: south, dy: 11 }, { x, y: north, dy: -11 }];
+}
+
+// Where the name of a line may be: on it, near its middle, and away from its ends.
+function placesOfLine(shapes, { slots }, half) {
+  const path = new Path(slots.map((slot) => ({ x: shapes.xs[slot], y: shapes.ys[slot] })));
+  const from = (part) => part * path.length;
+  const isInside = (at) => at - half * 1.15 >= 0 && at + half * 1.15 <= path.length;
+  return [0.5, 0.38, 0.62, 0.26, 0.74, 0.14, 0.86].map(from).filter(isInside).map((at) => {
+    const [one, other] = [path.at(at - half), path.at(at + half)];
+    const angle = Math.atan2(other.y - one.y, other.x - one.x);
+    return { ...path.at(at), angle: Math.abs(angle) > Math.PI / 2 ? angle + Math.PI : angle, isOnLine: true };
+  });
+}
+
+// A line through places, and how far along it each of them is.
+class Path {
+  constructor(places) {
+    Object.assign(this, { places, ends: [0], length: 0 });
+    for (let index = 1; index < places.length; index++) {
+      const [one, other] = [places[index - 1], places[index]];
+      this.length += Math.hypot(other.x - one.x, other.y - one.y);
+      this.ends.push(this.length);
+    }
   }
-  const [one, other] = [slots[Math.max(0, best - 1)], slots[best]];
-  const angle = Math.atan2(ys[other] - ys[one], xs[other] - xs[one]);
-  const upright = Math.abs(angle) > Math.PI / 2 ? angle + Math.PI : angle;
-  return { x: (xs[one] + xs[other]) / 2, y: (ys[one] + ys[other]) / 2, angle: upright };
+
+  // The place at a distance from the start.
+  at(distance) {
+    const { places, ends } = this;
+    const index = Math.max(1, ends.findIndex((end) => end >= distance));
+    const [one, other] = [places[index - 1], places[index] ?? places[index - 1]];
+    const part = (distance - ends[index - 1]) / (ends[index] - ends[index - 1] || 1);
+    return { x: one.x + part * (other.x - one.x), y: one.y + part * (other.y - one.y) };
+  }
 }
 
 // ---- The background
@@ -515,7 +604,7 @@ class Background {
   useOwn() {
     const own = { url: $("tiles-url").value.trim(), credit: $("tiles-credit").value.trim() };
     if (!/^https?:\/\/.*\{z\}/.test(own.url) || !own.url.includes("{x}") || !/\{-?y\}/.test(own.url)) {
-      return this.page.say("The address of tiles has {z}, {x} and {y} in it.", { isRefusal: true });
+      return this.page.sayWrong("The address of tiles has {z}, {x} and {y} in it.");
     }
     memory.set("maproom tiles", own);
     this.page.tiles = own;
@@ -550,13 +639,17 @@ function listen(page) {
   $("hello").onsubmit = (event) => {
     event.preventDefault();
     if (page.session && !page.session.isOver) return page.session.end();
-    page.connect($("address").value.trim(), $("room").value, $("name").value);
+    const [url, roomName] = [$("address").value.trim(), $("room").value];
+    const question = "What you drew or typed in the last room is not saved. Connect to another room and drop it?";
+    if (page.isElsewhere(url, roomName) && !page.mayLeave() && !confirm(question)) return undefined;
+    return page.connect(url, roomName, $("name").value);
   };
   const clicks = {
     leave: () => page.leave(), share: () => page.share(), undo: () => page.undo(), redo: () => page.redo(),
     closer: () => page.view.zoomBy(1), farther: () => page.view.zoomBy(-1), fit: () => page.fit(),
     finish: () => tools.finish(), back: () => tools.removeLast(), cancel: () => tools.escape(),
     show: () => page.show(page.shown), hush: () => page.say(""), sheet: () => openSheet(),
+    "open-sheet": () => openSheet(true), "close-sheet": () => openSheet(false),
   };
   for (const id of ["select", "point", "line", "area"]) clicks[id] = () => tools.use(id);
   for (const [id, work] of Object.entries(clicks)) $(id).onclick = work;
@@ -564,14 +657,30 @@ function listen(page) {
     panels.mostFound = MOST_SHOWN;
     panels.showFound();
   };
+  listenToInputs(page);
   listenToKeys(page);
   addEventListener("beforeunload", (event) => page.mayLeave() || event.preventDefault());
   document.addEventListener("pointerdown", (event) => event.target.closest("#menu") || page.closeMenu(), true);
 }
 
+// On a small screen: opens or closes the sheet of details. What is selected stays in sight.
 function openSheet(isOpen = !document.body.classList.contains("open")) {
   document.body.classList.toggle("open", isOpen);
   $("sheet").setAttribute("aria-expanded", String(isOpen));
+  if (isOpen) $("side").scrollTop = 0;
+  const box = emptyBox();
+  for (const el of isOpen ? page.selected : []) stretchBy(box, page.shapes.boxOf(el));
+  page.view.lift(box, $("frame").getBoundingClientRect().bottom - (innerHeight - $("side").offsetHeight));
+}
+
+// Counts what a mapper presses. A click without a pointer comes from a key or from a screen reader.
+function listenToInputs(page) {
+  const count = ({ pointerType }) => {
+    page.inputs += 1;
+    if (pointerType) page.isTouch = pointerType !== "mouse";
+  };
+  for (const kind of ["pointerdown", "keydown"]) document.addEventListener(kind, count, true);
+  document.addEventListener("click", (event) => event.detail || count({}), true);
 }
 
 function listenToKeys(page) {

@@ -3,6 +3,9 @@
 
 const $ = (id) => document.getElementById(id);
 const MOST_SHOWN = 50;
+const CHOOSE = "Choose something on the map, or from a list below.";
+const NONE_CAME = "No change came while you were connected.";
+const CONNECT = "Connect to a room to see its map, and to draw on it.";
 
 function make(tag, properties = {}, ...children) {
   const made = Object.assign(document.createElement(tag), properties);
@@ -100,10 +103,11 @@ class Panels {
     const { page } = this;
     const { session } = page;
     if (!session?.room) return $("figures").replaceChildren();
-    const drawn = page.view.drawn ?? { ways: 0, nodes: 0 };
-    $("figures").textContent = `${session.elements.size.toLocaleString("en")} elements, entry ${session.room.seq}; `
-      + `${drawn.ways} ways and ${drawn.nodes} nodes drawn in ${page.view.lastPaint.toFixed(0)} ms; the last news took `
-      + `${page.timings.news.toFixed(1)} ms`;
+    const { ways, nodes } = page.view.drawn ?? { ways: 0, nodes: 0 };
+    $("figures").textContent = `${session.elements.size.toLocaleString("en")} elements, entry ${session.room.seq}`;
+    $("figures").title = `${ways} ways and ${nodes} nodes drawn in ${page.view.lastPaint.toFixed(0)} ms; the last news `
+      + `took ${page.timings.news.toFixed(1)} ms`;
+    return undefined;
   }
 
   // ---- What is selected
@@ -118,14 +122,16 @@ class Panels {
     const { selected, elements } = this.page;
     const rows = selected.map((el) => elements.get(el)).filter(Boolean);
     const [row] = rows;
-    const title = row ? titleOf(row) : "Nothing selected";
-    $("selected-title").textContent = rows.length > 1 ? `${rows.length} selected` : title;
+    const nothing = this.page.session?.room ? "Nothing selected" : "No map yet";
+    const title = rows.length > 1 ? `${rows.length} selected` : row ? titleOf(row) : nothing;
+    $("selected-title").textContent = $("chosen-title").textContent = title;
+    $("chosen").hidden = rows.length === 0;
     const key = selected.join(" ");
     const box = $("selected");
     const focus = !isAnew && this.formOf === key ? this.focusIn(box) : null;
     const values = focus ? this.unsavedFields(box) : [];
     this.formOf = key;
-    if (rows.length === 0) box.replaceChildren(soft("p", "Choose something on the map, or from a list below."));
+    if (rows.length === 0) box.replaceChildren(soft("p", this.page.session?.room ? CHOOSE : CONNECT));
     else if (rows.length > 1) box.replaceChildren(...this.severalPart(rows));
     else box.replaceChildren(this.tagsPart(row), ...this.partsOf(row));
     if (focus) this.restoreFocus(box, focus, values);
@@ -186,7 +192,8 @@ class Panels {
 
   tagLine(draft, each) {
     const field = (about, value, list, set) => make("input", {
-      value, ariaLabel: about, maxLength: 255, autocomplete: "off", autocapitalize: "off", spellcheck: false,
+      value, ariaLabel: about, placeholder: list === "keys" ? "key" : "value", maxLength: 255, autocomplete: "off",
+      autocapitalize: "off", spellcheck: false,
       oninput: (event) => {
         set(event.target.value);
         this.markLine(made, draft, each);
@@ -424,33 +431,57 @@ class Panels {
 
   showUndos() {
     const { session } = this.page;
-    const { undos = [], redos = [] } = session ?? {};
-    const undoItem = (seqs) => this.undoItem(session, seqs);
-    const redoItem = (seqs, index) => {
-      const first = index ? [] : [button("Redo", () => this.page.redo(), { ariaLabel: `Do entry ${seqs[0]} again` })];
-      const text = `${seqs[0]}, taken back: ${session.textOf(seqs[0])}`;
-      return make("li", { className: "soft" }, make("span", { textContent: text }), ...first);
-    };
-    const items = [...undos.slice(-100).reverse().map(undoItem), ...redos.slice(-20).reverse().map(redoItem)];
+    const { undos = [], redos = [] } = this.page.isInside ? session : {};
+    const lines = (gestures, most) => this.runsOf(gestures).slice(-most).reverse();
+    const items = [...lines(undos, 100).map((run) => this.undoItem(run)),
+      ...lines(redos, 20).map((run, index) => this.redoItem(run, index === 0))];
     $("undos").replaceChildren(...items);
     if (!undos.length && !redos.length) $("undos").append(soft("li", "Nothing yet."));
     const [last, taken] = [undos[undos.length - 1], redos[redos.length - 1]];
     const title = (seqs, what, keys) => (seqs ? `${what}: ${session.textOf(seqs[0])} (${keys})` : "");
-    Object.assign($("undo"), { disabled: !last, title: title(last, "Take back", "Ctrl+Z") });
-    Object.assign($("redo"), { disabled: !taken, title: title(taken, "Do again", "Ctrl+Y") });
+    Object.assign($("undo"), { disabled: !last, title: title(last, "Undo", "Ctrl+Z") });
+    Object.assign($("redo"), { disabled: !taken, title: title(taken, "Redo", "Ctrl+Y") });
   }
 
-  undoItem(session, seqs) {
-    const isBlocked = seqs.includes(session.conflict?.seq);
-    const text = `${seqs[0]}: ${session.textOf(seqs[0])}`;
+  // Gestures in lists: each of its own, but those together of which nothing is known.
+  runsOf(gestures) {
+    const { session } = this.page;
+    const runs = [];
+    let isUnknown = false;
+    for (const seqs of gestures) {
+      if (isUnknown && !session.isKnown(seqs[0])) runs[runs.length - 1].push(seqs);
+      else runs.push([seqs]);
+      isUnknown = !session.isKnown(seqs[0]);
+    }
+    return runs;
+  }
+
+  // A line for gestures of which the last can be undone.
+  undoItem(run) {
+    const { session } = this.page;
+    const last = run[run.length - 1];
+    const isBlocked = last.includes(session.conflict?.seq);
+    const many = `${run.length} earlier entries, made before you came`;
+    const text = run.length > 1 ? many : `${last[0]}: ${session.textOf(last[0])}`;
+    const what = run.length > 1 ? `Undo the last of them, entry ${last[0]}` : `Undo entry ${text}`;
+    const word = run.length > 1 ? `Undo ${last[0]}` : "Undo";
     return make("li", { className: isBlocked ? "blocks" : "" }, make("span", { textContent: text }),
-      button("Undo", () => this.page.undo(seqs), { ariaLabel: `Take back entry ${text}` }));
+      button(word, () => this.page.undo(last), { ariaLabel: what, title: what }));
+  }
+
+  // A line for undone gestures, of which the last of all can be redone.
+  redoItem(run, isLast) {
+    const [seq] = run[run.length - 1];
+    const many = `${run.length} undone entries, made before you came`;
+    const text = run.length > 1 ? many : `${seq}, undone: ${this.page.session.textOf(seq)}`;
+    const redo = isLast ? [button("Redo", () => this.page.redo(), { ariaLabel: `Redo entry ${seq}` })] : [];
+    return make("li", { className: "soft" }, make("span", { textContent: text }), ...redo);
   }
 
   changeItem(entry) {
     const { page } = this;
     const { session } = page;
-    const author = make("b", { textContent: entry.by });
+    const author = make("b", { textContent: session.subjectOf(entry) });
     const text = make("span", {}, `${entry.seq} `, author, ` ${session.deed(entry)} `, timeOf(entry.at));
     const go = button("Go", () => page.showEntry(entry), { ariaLabel: `Go to entry ${entry.seq} on the map` });
     const item = make("li", {}, dotOf(entry.by), text, go);
@@ -469,7 +500,7 @@ class Panels {
   showChanges() {
     const entries = [...(this.page.session?.entries.values() ?? [])].slice(-MOST_SHOWN).reverse();
     $("changes").replaceChildren(...entries.map((entry) => this.changeItem(entry)));
-    if (!entries.length) $("changes").append(soft("li", "Nothing since you came."));
+    if (!entries.length) $("changes").append(soft("li", this.page.isInside ? "Changes appear here." : NONE_CAME));
   }
 
   showPeople() {
@@ -481,14 +512,16 @@ class Panels {
     }
     const entries = [...latest.values()].reverse().slice(0, 64);
     $("people").replaceChildren(...entries.map((entry) => this.personItem(entry)));
-    if (!latest.size) $("people").append(soft("li", "Nobody has changed anything since you came."));
+    const none = this.page.isInside ? "Whoever changes something appears here." : NONE_CAME;
+    if (!latest.size) $("people").append(soft("li", none));
   }
 
   personItem(entry) {
     const { session } = this.page;
-    const author = make("b", { textContent: entry.by });
+    const author = make("b", { textContent: session.subjectOf(entry) });
     const text = make("span", {}, author, ` ${session.deed(entry)} `, timeOf(entry.at));
-    const go = button("Go", () => this.page.showEntry(entry), { ariaLabel: `Go to where ${entry.by} was last` });
+    const who = entry.by === session.name ? "you were" : `${entry.by} was`;
+    const go = button("Go", () => this.page.showEntry(entry), { ariaLabel: `Go to where ${who} last` });
     return make("li", {}, dotOf(entry.by), text, go);
   }
 

@@ -1,5 +1,5 @@
 // A mapper's session in a room, over the library maproom.js: gestures, of which each is one group of actions, what is
-// not saved, what entries did, and what can be taken back. It knows no page but the storage of the browser.
+// not saved, what entries did, and what can be undone. It knows no page but the storage of the browser.
 "use strict";
 
 // After so many milliseconds without a word a connection is given up. A large map may need as long on its way.
@@ -12,7 +12,8 @@ const MOST_TRIES = 20; // of names for new elements
 const MOST_ACTIONS = 10_000; // of a group
 const LEAST_ID = -(2 ** 52);
 
-// Why a WebSocket cannot be opened, which the browser does not tell: asked over HTTP at the same address.
+// Why a WebSocket cannot be opened, which the browser does not tell: asked over HTTP at the same address. The browser
+// hides the status of another site, and even whether it answers, for example if nobody vouches for its certificate.
 const STATUSES = {
   401: "wants a name and a password, and those of your browser are missing or wrong. Load this page again.",
   403: "refuses this page. Open the page that it hands out itself.",
@@ -25,6 +26,7 @@ const STATUSES = {
 
 async function whyUnreachable(url) {
   const { host, origin, href } = new URL(url.replace(/^ws/, "http"));
+  const isSecure = origin.startsWith("https");
   const how = { cache: "no-store", signal: AbortSignal.timeout(5000) };
   try {
     if (origin !== location.origin) await fetch(href, { ...how, mode: "no-cors" });
@@ -33,9 +35,11 @@ async function whyUnreachable(url) {
       return STATUSES[status] ? `${host} ${STATUSES[status]}` : `What answers at ${host} is no maproom server.`;
     }
   } catch {
-    return `No server answers at ${host}.`;
+    if (origin === location.origin) return `No server answers at ${host}.`;
+    const page = isSecure ? ` Perhaps ${origin}/ is that page.` : "";
+    return `No room answers at ${host}: there is no server, or it lets in only its own page.${page}`;
   }
-  const page = origin.startsWith("https") ? ` Open ${origin}/ instead.` : "";
+  const page = isSecure ? ` Open ${origin}/ instead.` : "";
   const why = location.protocol === "file:" ? "since the page was opened as a file" : "since it is from another site";
   return `${host} answers, but does not let this page in, perhaps ${why}.${page}`;
 }
@@ -163,7 +167,7 @@ class Session extends EventTarget {
   }
 
   takeChange({ seq, by, rows }) {
-    const entry = { seq, by, rows, at: new Date(), text: "", isTakenBack: false, undoes: null, redoes: null };
+    const entry = { seq, by, rows, at: new Date(), text: "", isUndone: false, undoes: null, redoes: null };
     this.recognize(entry);
     this.entries.set(seq, entry);
     if (this.entries.size > MOST_ENTRIES) this.entries.delete(this.entries.keys().next().value);
@@ -173,16 +177,16 @@ class Session extends EventTarget {
     if (by === this.name && this.unsaved === 0) this.askUndos();
   }
 
-  // News do not say that an entry was taken back or done again: that is seen by what they put back.
+  // News do not say that an entry was undone or redone: that is seen by what they put back.
   recognize(entry) {
     const { by, rows } = entry;
     if (by === this.name) return;
     const older = [...this.entries.values()].filter((other) => other.by === by && other.rows.length === rows.length
       && other.rows[0]?.el === rows[0]?.el && other.undoes === null).reverse();
-    const undone = older.find((other) => !other.isTakenBack && puts(rows, other.rows, "before"));
-    const redone = older.find((other) => other.isTakenBack && puts(rows, other.rows, "after"));
+    const undone = older.find((other) => !other.isUndone && puts(rows, other.rows, "before"));
+    const redone = older.find((other) => other.isUndone && puts(rows, other.rows, "after"));
     if (undone) {
-      undone.isTakenBack = true;
+      undone.isUndone = true;
       entry.undoes = undone.seq;
     } else if (redone) {
       entry.redoes = redone.seq;
@@ -192,10 +196,19 @@ class Session extends EventTarget {
   // What an entry did, in words.
   deed(entry) {
     const about = (seq) => `entry ${seq}: ${this.textOf(seq)}`;
-    const whose = `${entry.by === this.name ? "your" : "their"} `;
-    if (entry.undoes) return `took back ${whose}${about(entry.undoes)}`;
-    if (entry.redoes) return `did ${about(entry.redoes)} again`;
+    if (entry.undoes) return `undid ${about(entry.undoes)}`;
+    if (entry.redoes) return `redid ${about(entry.redoes)}`;
     return this.texts.get(entry.seq) ?? (entry.text ||= deedsOf(entry.rows));
+  }
+
+  // Who made an entry, for the start of a sentence.
+  subjectOf({ by }) {
+    return by === this.name ? "You" : by;
+  }
+
+  // Whether it is known what an entry did.
+  isKnown(seq) {
+    return this.texts.has(seq) || this.entries.has(seq);
   }
 
   // What an entry did, also one from before a reload.
@@ -218,8 +231,8 @@ class Session extends EventTarget {
     const { conflict } = this;
     if (!conflict) return;
     const blocking = this.entries.get(conflict.with);
-    const isGone = blocking ? blocking.isTakenBack : rows.some(({ el }) => el === conflict.at);
-    if (isGone || this.entries.get(conflict.seq)?.isTakenBack) this.setConflict(null);
+    const isGone = blocking ? blocking.isUndone : rows.some(({ el }) => el === conflict.at);
+    if (isGone || this.entries.get(conflict.seq)?.isUndone) this.setConflict(null);
   }
 
   // ---- Names of new elements
@@ -327,7 +340,7 @@ class Session extends EventTarget {
     return this.sendEach(actions);
   }
 
-  // Does one action after another. If one is refused, those before it are taken back.
+  // Does one action after another. If one is refused, those before it are undone.
   async sendEach(actions) {
     const seqs = [];
     try {
@@ -348,7 +361,7 @@ class Session extends EventTarget {
     this.tell("history");
   }
 
-  // ---- What can be taken back
+  // ---- What can be undone
 
   async askUndos(isRestored = false) {
     try {
@@ -372,7 +385,7 @@ class Session extends EventTarget {
     return items;
   }
 
-  // Takes back the entries of a gesture, or those of the last.
+  // Undoes the entries of a gesture, or those of the last.
   async undo(seqs = this.undos[this.undos.length - 1]) {
     if (!seqs) throw { why: "nothing_to_undo" };
     return this.count(async () => {
@@ -392,14 +405,17 @@ class Session extends EventTarget {
     });
   }
 
-  // Notes that an entry of the mapper's own took back another.
+  // Notes that an entry of the mapper's own undid another. It shows what an entry did that came before the mapper.
   noteUndo(seq, by) {
     const [entry, undo] = [this.entries.get(seq), this.entries.get(by)];
-    if (entry) entry.isTakenBack = true;
-    if (undo) undo.undoes = seq;
+    if (entry) entry.isUndone = true;
+    if (!undo) return;
+    undo.undoes = seq;
+    const turned = undo.rows.map(({ el, before, after }) => ({ el, before: after, after: before }));
+    if (!this.isKnown(seq)) this.texts.set(seq, deedsOf(turned));
   }
 
-  // Does again what was taken back last.
+  // Redoes what was undone last.
   async redo() {
     const seqs = this.redos[this.redos.length - 1];
     if (!seqs) throw { why: "nothing_to_redo" };

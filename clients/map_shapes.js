@@ -77,6 +77,9 @@ const hasTags = (tags) => {
 // A box that has nothing in it yet.
 const emptyBox = () => ({ west: Infinity, north: Infinity, east: -Infinity, south: -Infinity });
 
+// The box of a place.
+const pointBox = (x, y) => ({ west: x, north: y, east: x, south: y });
+
 function stretch(box, x, y) {
   if (x < box.west) box.west = x;
   if (x > box.east) box.east = x;

@@ -8,11 +8,20 @@ const TOOL_KEYS = { v: "select", p: "point", l: "line", a: "area", m: "move" };
 const FRESH_FOR = 4000; // milliseconds for which what others changed is marked
 
 const HINTS = {
-  point: "Click where the node is to be. On a line it becomes a part of the line.",
-  line: "Click where the line goes. A double click or Enter finishes it, Backspace removes its last point.",
-  area: "Click the corners. A double click, Enter or a click on the first corner finishes.",
-  move: "Drag what is selected, or move it with the arrow keys. Escape ends that.",
-  members: "Click what is to be a member, or to be none any more. Escape ends that.",
+  mouse: {
+    point: "Click where the node is to be. On a line it becomes a part of the line.",
+    line: "Click where the line goes. A double click or Enter finishes it, Backspace removes its last point.",
+    area: "Click the corners. A double click, Enter or a click on the first corner finishes.",
+    move: "Drag what is selected, or move it with the arrow keys. Escape ends that.",
+    members: "Click what is to be a member, or to be none any more. Escape ends that.",
+  },
+  touch: {
+    point: "Tap where the node is to be. On a line it becomes a part of the line.",
+    line: "Tap where the line goes. “Finish” finishes it, “Remove last” removes its last point.",
+    area: "Tap the corners. “Finish” or a tap on the first corner finishes.",
+    move: "Drag what is selected. “Select” ends that.",
+    members: "Tap what is to be a member, or to be none any more. “Select” ends that.",
+  },
 };
 
 class Tools {
@@ -30,24 +39,31 @@ class Tools {
 
   use(tool, about = {}) {
     const { page } = this;
+    if (tool !== "select" && !page.isInside) return page.sayWrong("Connect first.");
     this.tool = tool;
     this.relation = about.relation ?? null;
     this.dragged = null;
     const isDrawing = ["point", "line", "area"].includes(tool);
     const isWay = tool === "line" || tool === "area";
-    const { places = [], extend = null, isUnsaved = false } = about;
-    this.draft = isWay ? { places, isArea: tool === "area", extend, isUnsaved } : null;
+    const { places = [], extend = null, isUnsaved = false, error = null } = about;
+    this.draft = isWay ? { places, isArea: tool === "area", extend, isUnsaved, error } : null;
     for (const each of ["select", "point", "line", "area"]) $(each).setAttribute("aria-pressed", String(each === tool));
     $("drawing").hidden = !isDrawing;
     for (const each of ["finish", "back"]) $(each).hidden = !isWay;
     $("map").classList.toggle("drawing", tool !== "select");
     if (isDrawing) this.offerPresets(tool === "point" ? "n" : "w", about.preset);
-    if (HINTS[tool]) page.say(HINTS[tool]);
+    const hint = this.hintOf(tool);
+    if (hint) page.say(hint);
     else if (page.isHint) page.say("");
-    page.isHint = Boolean(HINTS[tool]);
+    page.isHint = Boolean(hint);
     page.view?.paintOverSoon();
     page.showSaved();
-    if (tool === "select" && this.unsaved.length) this.bringBack(this.unsaved.shift());
+    if (tool === "select") this.goOnDrawing();
+    return undefined;
+  }
+
+  hintOf(tool) {
+    return HINTS[this.page.isTouch ? "touch" : "mouse"][tool];
   }
 
   offerPresets(kind, chosen = "") {
@@ -65,7 +81,9 @@ class Tools {
   // Gives up what is being done, or what is selected.
   escape() {
     if (this.dragged) return this.letGo();
-    if (this.draft?.places.length) this.page.say("The drawing is given up. Nothing of it was sent.");
+    const { draft } = this;
+    const sent = draft?.isUnsaved ? "" : " Nothing of it was sent.";
+    if (draft?.places.length) this.page.say(`The drawing is given up.${sent}`);
     if (this.tool !== "select") return this.use("select");
     return this.page.select();
   }
@@ -157,7 +175,6 @@ class Tools {
     const el = this.find(point, isTouch);
     if (this.tool === "members") return el && page.toggleMember(this.relation, el);
     if (this.tool === "move") return this.use("select");
-    if (isTouch && el) page.say(titleOf(page.elements.get(el)));
     if (!isMore) return page.select(...(el ? [el] : []));
     const others = page.selected.filter((each) => each !== el);
     if (el) page.select(...others, ...(others.length < page.selected.length ? [] : [el]));
@@ -173,7 +190,7 @@ class Tools {
   makePoint(place) {
     const { page } = this;
     if (place.el) {
-      page.say("There is a node at this place already.", { isRefusal: true });
+      page.sayWrong("There is a node at this place already.");
       return page.select(place.el);
     }
     const tags = this.presetTags();
@@ -206,7 +223,7 @@ class Tools {
   tellDraft() {
     const { places, isArea, extend } = this.draft;
     const text = `${counted(places.length, "point")}${extend ? `, going on with ${extend.el}` : ""}.`;
-    this.page.say(`${text} ${HINTS[isArea ? "area" : "line"]}`);
+    this.page.say(`${text} ${this.hintOf(isArea ? "area" : "line")}`);
     this.page.isHint = true;
     $("finish").disabled = places.length < (isArea ? 3 : 2);
     this.page.view.paintOverSoon();
@@ -224,7 +241,7 @@ class Tools {
     const { page, draft } = this;
     if (!draft) return;
     const least = isClosed ? 3 : 2;
-    if (draft.places.length < least) return page.say(`That needs ${least} points at least.`, { isRefusal: true });
+    if (draft.places.length < least) return page.sayWrong(`That needs ${least} points at least.`);
     const { places, extend } = draft;
     const tags = this.presetTags();
     draft.preset = $("preset").value;
@@ -234,7 +251,7 @@ class Tools {
     const text = extend ? `made ${extend.el} longer` : `drew a ${what} with ${counted(places.length, "point")}`;
     const build = (newName) => Edits.way(places, { isClosed, tags, extend }, page.elements, newName);
     const done = (names) => page.select(extend?.el ?? names[names.length - 1]);
-    page.perform(text, build, done, () => this.bringBack(draft)).finally(() => {
+    page.perform(text, build, done, (error) => this.bringBack({ ...draft, error })).finally(() => {
       this.sent.delete(draft);
       page.view.paintOverSoon();
     });
@@ -242,13 +259,30 @@ class Tools {
 
   // Goes on with a drawing that could not be saved, after the one that is being drawn.
   bringBack(draft) {
-    if (this.draft?.places.length) {
+    if (this.draft?.places.length || !this.page.isInside) {
       this.unsaved.push(draft);
       this.page.showSaved();
+      this.page.view.paintOverSoon();
     } else {
       this.use(draft.isArea ? "area" : "line", { ...draft, isUnsaved: true });
+      this.refreshDraft();
       this.tellDraft();
     }
+  }
+
+  // Goes on with the first drawing that waits, and says again why it was not saved.
+  goOnDrawing() {
+    if (this.unsaved.length === 0 || !this.page.isInside) return;
+    const draft = this.unsaved.shift();
+    this.bringBack(draft);
+    if (draft.error) this.page.refused(draft.error);
+  }
+
+  // Puts the drawing aside, since the session has ended. Returns whether drawings wait.
+  putAside() {
+    if (this.draft?.places.length) this.unsaved.unshift({ ...this.draft, preset: $("preset").value });
+    this.use("select");
+    return this.unsaved.length > 0;
   }
 
   // How many drawings could not be saved so far.
@@ -464,7 +498,7 @@ class Tools {
     for (const dragged of this.dragged ? [...this.moving, this.dragged] : this.moving) {
       this.paintDragged(context, frame, dragged);
     }
-    for (const draft of this.sent) this.paintDraft(context, frame, draft, null);
+    for (const draft of [...this.sent, ...this.unsaved]) this.paintDraft(context, frame, draft, null);
     const isDrawing = this.draft || this.tool === "point";
     const next = isDrawing && this.cursor ? this.snap(this.cursor) : null;
     if (this.draft) this.paintDraft(context, frame, this.draft, next);

@@ -44,10 +44,10 @@ const escaped = (text) => text.replace(/[&<>"]/g, (sign) => `&#${sign.charCodeAt
 
 class View {
   // `shapes` is drawn; `paintOver` draws what changes often, such as the selection, on a canvas of its own; `labels`
-  // gives the texts of a box.
-  constructor(container, shapes, { paintOver, labels }) {
-    Object.assign(this, { container, shapes, paintOver, labels, painted: null, timers: {}, stale: [] });
-    Object.assign(this, { lastPaint: 0, lastRepaint: 0 });
+  // gives the texts of a box, each with the places where it may be, and `obstacles` what texts should not hide.
+  constructor(container, shapes, { paintOver, labels, obstacles }) {
+    Object.assign(this, { container, shapes, paintOver, labels, obstacles, painted: null, timers: {}, stale: [] });
+    Object.assign(this, { lastPaint: 0, lastRepaint: 0, written: [] });
     this.map = L.map(container, {
       zoomControl: false, attributionControl: false, doubleClickZoom: false, boxZoom: false, tap: false, zoomSnap: 0.25,
       wheelPxPerZoomLevel: 100, minZoom: 1, maxZoom: 22, keyboard: false,
@@ -81,7 +81,11 @@ class View {
   }
 
   get scale() {
-    return TILE * 2 ** this.zoom;
+    return this.scaleAt(this.zoom);
+  }
+
+  scaleAt(zoom) {
+    return TILE * 2 ** zoom;
   }
 
   // Where the world lies in the window.
@@ -136,6 +140,14 @@ class View {
     if (isIn && (box.east - box.west) * this.scale + (box.south - box.north) * this.scale > 3) return;
     if (isIn && this.zoom >= 16) return;
     this.fit(box, Math.max(18, this.zoom));
+  }
+
+  // Moves the window so that a box is not under what covers so many pixels at the bottom.
+  lift(box, covered) {
+    if (isEmptyBox(box)) return;
+    const free = this.size().y - covered;
+    const { y } = this.pointOf({ x: box.west, y: (box.north + box.south) / 2 });
+    if (y > free - 20) this.pan(0, y - free / 2);
   }
 
   pan(x, y) {
@@ -257,10 +269,10 @@ class View {
     context.clearRect(0, 0, w, h);
   }
 
-  // Draws the names, none over another.
+  // Draws the names, none over another or over what it should not hide.
   paintTexts() {
     if (!this.painted) return;
-    const { frame, width, height } = this.painted;
+    const { frame, width, height, box, zoom } = this.painted;
     this.fitCanvas(this.texts, width, height);
     this.texts.hidden = false;
     const context = this.contextOf(this.texts);
@@ -269,18 +281,33 @@ class View {
     context.textBaseline = "middle";
     context.lineWidth = 3;
     context.lineJoin = "round";
-    const taken = [];
-    for (const label of this.labels(this.painted.box, this.painted.zoom)) this.paintText(context, frame, label, taken);
+    const space = new Space(width, height);
+    for (const { kind, margin, box: of } of this.obstacles(box, zoom)) space.take(pixelsOf(of, frame, margin), kind);
+    const widthOf = (text) => context.measureText(text).width;
+    this.written = [];
+    for (const { text, places } of this.labels(box, zoom, widthOf)) {
+      const label = this.labelFor(text, widthOf(text), places, frame, space);
+      if (!label) continue;
+      for (const part of label.parts) space.take(part, TAKEN);
+      this.written.push(label);
+      this.paintText(context, label);
+    }
   }
 
-  paintText(context, frame, { text, x, y, angle = 0, lift = 0 }, taken) {
-    const at = { x: x * frame.scale - frame.left, y: y * frame.scale - frame.top + lift };
-    const half = text.length * 3.6 + 6;
-    const [across, down] = [Math.abs(Math.cos(angle)), Math.abs(Math.sin(angle))];
-    const [width, height] = [half * across + 9 * down, half * down + 9 * across];
-    const box = { west: at.x - width, east: at.x + width, north: at.y - height, south: at.y + height };
-    if (taken.some((other) => doMeet(box, other))) return;
-    taken.push(box);
+  // A text at the first of its places that is free, with the boxes that it takes, or null. The name of a line hides the
+  // end of another line if it has no other place, because a long street has many side streets.
+  labelFor(text, width, places, frame, space) {
+    const labels = places.map(({ x, y, dx = 0, dy = 0, angle = 0, isOver = false, isOnLine = false }) => {
+      const at = { x: x * frame.scale - frame.left + dx, y: y * frame.scale - frame.top + dy };
+      const parts = partsOfText(at, width / 2, angle);
+      const isFree = (kinds) => parts.every((part) => space.isFree(part, isOver ? kinds & ~BUILDING : kinds));
+      return { text, at, angle, parts, isOnLine, isFree };
+    });
+    const best = labels.find(({ isFree }) => isFree(TAKEN | BUILDING | END));
+    return best ?? labels.find(({ isOnLine, isFree }) => isOnLine && isFree(TAKEN | BUILDING)) ?? null;
+  }
+
+  paintText(context, { text, at, angle }) {
     context.save();
     context.translate(at.x, at.y);
     if (angle) context.rotate(angle);
@@ -333,6 +360,61 @@ class View {
   hear(handlers) {
     this.pointers = new Pointers(this, handlers);
   }
+}
+
+// What is in a square of a Space.
+const TAKEN = 1;
+const BUILDING = 2;
+const END = 4; // of a line
+const SQUARE = 2; // pixels
+
+// What lies where on a canvas, in squares.
+class Space {
+  constructor(width, height) {
+    this.columns = Math.ceil(width / SQUARE) + 1;
+    this.rows = Math.ceil(height / SQUARE) + 1;
+    this.squares = new Uint8Array(this.columns * this.rows);
+  }
+
+  // The first and the last column, and the first and the last row of a box.
+  rangeOf({ west, east, north, south }) {
+    const within = (pixels, most) => Math.max(0, Math.min(most - 1, Math.floor(pixels / SQUARE)));
+    const { columns, rows } = this;
+    return [within(west, columns), within(east, columns), within(north, rows), within(south, rows)];
+  }
+
+  isFree(box, kinds) {
+    const [west, east, north, south] = this.rangeOf(box);
+    for (let row = north; row <= south; row++) {
+      for (let at = row * this.columns + west; at <= row * this.columns + east; at++) {
+        if (this.squares[at] & kinds) return false;
+      }
+    }
+    return true;
+  }
+
+  take(box, kind) {
+    const [west, east, north, south] = this.rangeOf(box);
+    for (let row = north; row <= south; row++) {
+      for (let at = row * this.columns + west; at <= row * this.columns + east; at++) this.squares[at] |= kind;
+    }
+  }
+}
+
+// A box of the plane in pixels, larger by a margin.
+const pixelsOf = ({ west, east, north, south }, { scale, left, top }, margin) => ({
+  west: west * scale - left - margin, east: east * scale - left + margin,
+  north: north * scale - top - margin, south: south * scale - top + margin,
+});
+
+// The boxes that a text takes: small ones along it if it is turned.
+function partsOfText({ x, y }, half, angle) {
+  const around = (at, across) => ({ west: at.x - across, east: at.x + across, north: at.y - 7, south: at.y + 7 });
+  if (!angle) return [around({ x, y }, half)];
+  const steps = Math.ceil(half / 7);
+  const [across, down] = [(Math.cos(angle) * half) / steps, (Math.sin(angle) * half) / steps];
+  const along = (step) => ({ x: x + across * step, y: y + down * step });
+  return Array.from({ length: 2 * steps + 1 }, (_, index) => around(along(index - steps), 7));
 }
 
 const LONG_PRESS = 550; // milliseconds

@@ -72,7 +72,7 @@ const REFUSALS = {
   nothing_to_redo: () => "You have nothing to redo.",
   no_such: () => "There is no such entry.",
   not_yours: () => "This entry is another mapper's.",
-  not_standing: () => "This entry was taken back already.",
+  not_standing: () => "This entry is undone already.",
   wrong_kind: (no) => `${no.el} is of the wrong kind for this.`,
   present: (no) => `${no.el} is there already.`,
   same: (no) => `${no.el} cannot be used twice.`,
@@ -90,8 +90,8 @@ const REFUSALS = {
   bad_field: (no) => `The server does not accept this: “${no.field}” is missing, or is not of its form.`,
   unknown_do: () => "This server does not know that action.",
   unknown: () => "The connection ended before the answer came. Look at the map: the change may be there or not.",
-  not_sent: ({ restarted }) => `The ${restarted ? "server was started anew" : "connection broke"} before this was sent. It `
-    + "was not done.",
+  not_sent: ({ restarted }) => `The ${restarted ? "server was started anew" : "connection broke"} before this was sent. `
+    + "It was not done.",
   no_answer: () => "No answer came. Look at the map: the change may be there or not.",
   gone: () => "What this is about is not there any more.",
   closed: () => "You left the room before the answer came.",
