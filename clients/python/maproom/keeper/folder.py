@@ -228,8 +228,8 @@ class Folder:
 
     def begin_journal(self) -> int:
         """Begins a new journal, and returns its number. Raises OSError, and then the old journal stays."""
-        self._number += 1
-        journal = Journal(journal_path(self.path, self._number))
+        journal = Journal(journal_path(self.path, self._number + 1))
+        self._number += 1  # only now, because `load` needs the journal of each number
         if self.journal:
             self.journal.close()
         self.journal = journal

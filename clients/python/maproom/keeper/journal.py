@@ -8,7 +8,7 @@ from dataclasses import dataclass
 from typing import Any, Dict, Iterator, List, Optional, Union
 
 from ..core import Row, compact
-from .files import sync_folder, write_all
+from .files import remove, sync_folder, write_all
 
 # How a line begins. The checksum covers what comes after this head.
 HEAD = b'{"sum":"%08x",'
@@ -93,13 +93,14 @@ class Journal:
     """A journal file that is written. Each call of `append` is durable when it returns."""
 
     def __init__(self, path: str) -> None:
-        """Creates the file. Raises OSError if that fails."""
+        """Creates the file. Raises OSError if that fails, and then the file is not there."""
         self.path, self.length, self.is_unclear = path, 0, False
         self._file = os.open(path, os.O_WRONLY | os.O_CREAT | os.O_EXCL | os.O_APPEND | os.O_CLOEXEC, 0o644)
         try:
             sync_folder(os.path.dirname(path))
         except BaseException:
             self.close()
+            remove(path)
             raise
 
     def append(self, lines: bytes) -> None:
