@@ -250,7 +250,7 @@ class Core:
         no = told.get("no", {})
         if told["id"] not in (0, self.accepted[0]) or no.get("why") == "memory":
             raise OutOfStep("the server did not say which run it is")
-        return self.go_on(no != {"why": "repeat", "seq": self.accepted[1]})
+        return self.go_on((no.get("why"), no.get("seq")) != ("repeat", self.accepted[1]))
 
     def go_on(self, restarted: Optional[bool]) -> List[str]:
         """Goes on in the same run of the server, in another one, or in one that may be another (None)."""

@@ -3,8 +3,7 @@ import enum
 import re
 
 # An element with a negative id gets an id from here on: n-7 is node 1000000000000007. An editor takes a negative id
-# for an element that was never uploaded. OpenStreetMap has no ids this large, and JavaScript holds them exactly. A
-# positive id of a room that is greater than this has no id in the API of its own.
+# for an element that was never uploaded. OpenStreetMap has no ids this large, and JavaScript holds them exactly.
 FIRST_NEW_ID: int = 10**15
 
 # The ids that a room can hold.
@@ -54,6 +53,12 @@ def api_id(name: str) -> int:
     """Returns the id under which the API shows the element with a name."""
     number = int(name[1:])
     return number if number > 0 else FIRST_NEW_ID - number
+
+
+def has_api_id(name: str) -> bool:
+    """Returns whether an element has an id in the API that is its own. A greater number is the id of an element with a
+    negative number, and the id of a lower number does not fit into 64 bits, as editors read it."""
+    return FIRST_NEW_ID - GREATEST_ID <= int(name[1:]) <= FIRST_NEW_ID
 
 
 def room_name(kind: Kind, number: int) -> str:

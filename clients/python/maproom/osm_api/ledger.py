@@ -19,6 +19,7 @@ from dataclasses import dataclass, replace
 from datetime import datetime, timezone
 from pathlib import Path
 
+from ..core import LEAST_ID
 from .elements import GONE_DIGEST, Row, Rows, compact, digest
 
 EPOCH = int(datetime(2020, 1, 1, tzinfo=timezone.utc).timestamp())
@@ -213,9 +214,15 @@ class Ledger:
     def set(self, states: Mapping[str, Known]) -> None:
         """Notes elements, in one write."""
         if states:
-            self.known.update(states)
-            self.least_number = min(self.least_number, *(int(name[1:]) for name in states))
+            for name, known in states.items():
+                self._note(name, known)
             self._write([element_line(name, known) for name, known in states.items()])
+
+    def _note(self, name: str, known: Known) -> None:
+        """Notes an element. `least_number` passes over very low numbers, since a mapper may take the lowest of all."""
+        if (number := int(name[1:])) > LEAST_ID:
+            self.least_number = min(self.least_number, number)
+        self.known[name] = known
 
     def raise_first(self, name: str, now: float) -> None:
         """Gives a higher version to an element that has the first one."""
@@ -258,9 +265,7 @@ class Ledger:
         word, _, rest = payload.partition(" ")
         with contextlib.suppress(ValueError):
             if word == ELEMENT:
-                name, known = element_in(rest)
-                self.known[name] = known
-                self.least_number = min(self.least_number, int(name[1:]))
+                self._note(*element_in(rest))
             elif word == UPLOAD:
                 upload = upload_in(rest)
                 self.pending[upload.request] = upload

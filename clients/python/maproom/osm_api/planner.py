@@ -28,7 +28,7 @@ class MapView(Protocol):
 
     @property
     def first_new_number(self) -> int:
-        """A number such that it and all lower numbers were never in a name."""
+        """A number such that it and all lower numbers above -2^52 were never in a name."""
 
     def row(self, name: str) -> Row | None:
         """Returns an element, or None if it is not there."""
@@ -127,8 +127,11 @@ class Planner:
 
     def _new_name(self, kind: Kind) -> str:
         """Returns a name that no element had."""
-        self._next_number -= 1
-        return f"{kind.letter}{self._next_number + 1}"
+        while True:
+            name = f"{kind.letter}{self._next_number}"
+            self._next_number -= 1
+            if self._version(name) is None:
+                return name
 
     def _name_of(self, member: GivenMember, within: str) -> str:
         """Returns the room's name of a reference in the document."""

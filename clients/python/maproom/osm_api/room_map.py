@@ -11,7 +11,7 @@ from .connection import News, Welcome
 from .documents import Bounds, ElementState
 from .elements import Row, Rows, is_same, references, text_units
 from .grid import Grid
-from .ids import Kind, room_name
+from .ids import Kind, has_api_id, room_name
 from .ledger import FIRST_VERSION, Known, Ledger
 
 # Entries of so many elements in all are remembered, for the page and to see which may be taken back.
@@ -89,7 +89,7 @@ class Watch:
 
 
 class RoomMap:
-    """Listens to a room."""
+    """Listens to a room, and has its map as the API shows it (see `shown`)."""
 
     def __init__(self, ledger: Ledger, clock: Callable[[], float] = time.time) -> None:
         self.ledger, self.clock = ledger, clock
@@ -119,7 +119,7 @@ class RoomMap:
             if self._watch:
                 self._watch.begin_again(welcome.seq)
         self.elements, self._users, self.grid = {}, {}, Grid()
-        for name, row in welcome.elements.items():
+        for name, row in shown(welcome.elements).items():
             self._put(name, row)
         self.ledger.welcome(self.elements, self.clock(), self._created)
         self.seq, self.run = welcome.seq, welcome.run
@@ -127,13 +127,14 @@ class RoomMap:
 
     def on_news(self, news: News) -> None:
         """Takes what an entry changed."""
-        watched = {name: row for name, row in news.rows.items() if self._watch and name in self._watch.names}
+        rows = shown(news.rows)
+        watched = {name: row for name, row in rows.items() if self._watch and name in self._watch.names}
         before = {name: self.row(name) for name in watched}
-        for name, row in news.rows.items():
+        for name, row in rows.items():
             self._put(name, row)
         now = self.clock()
-        self.ledger.news(news.rows, news.seq, news.author, now, self._created)
-        versions = {name: self.ledger.known[name].version for name in news.rows}
+        self.ledger.news(rows, news.seq, news.author, now, self._created)
+        versions = {name: self.ledger.known[name].version for name in rows}
         entry = Entry(news.seq, news.author, versions, now, time.monotonic())
         self._remember(entry)
         if self._watch:
@@ -207,7 +208,7 @@ class RoomMap:
 
     @property
     def first_new_number(self) -> int:
-        """A number such that it and all lower numbers were never in a name."""
+        """A number such that it and all lower numbers above -2^52 were never in a name."""
         return min(self.ledger.least_number, self._least_avoided) - 1
 
     def states_before(self, names: Iterable[str]) -> dict[str, Known]:
@@ -317,6 +318,24 @@ class RoomMap:
             self.ledger.raise_first(name, self.clock())
             return FIRST_VERSION
         return version - 1
+
+
+def shown(rows: Rows) -> dict[str, Row | None]:
+    """Returns elements as the API shows them: without those that have no id there, and without references to these. In
+    the room such a reference stays, unless an editor changes the list that has it."""
+    return {name: shown_row(row) for name, row in rows.items() if has_api_id(name)}
+
+
+def shown_row(row: Row | None) -> Row | None:
+    """Returns an element without the references that the API cannot show."""
+    if row is None or all(map(has_api_id, references(row))):
+        return row
+    row = row.copy()
+    if "nodes" in row:
+        row["nodes"] = [number for number in row["nodes"] if has_api_id(f"n{number}")]
+    else:
+        row["members"] = [member for member in row["members"] if has_api_id(member[0])]
+    return row
 
 
 def rows_are(elements: RoomMap, rows: Rows) -> bool:
