@@ -26,8 +26,11 @@ const isRefusal = (error) => [NotSent, Refused, Unknown].some((kind) => error in
 
 async function main() {
   const [isFollowing, url, room, name, messages] = wordsOf(3, USAGE, HELP);
+  let joined = null;
   try {
-    const joined = await connect(url, { room, name });
+    joined = await connect(url, { room, name });
+    const ended = new Promise((_, fail) => joined.addEventListener("error", ({ error }) => fail(error)));
+    ended.catch(() => {}); // without --follow, a message that waits reports it
     if (isFollowing) {
       joined.addEventListener("change", ({ seq, by, rows }) => console.log(JSON.stringify({ seq, by, rows })));
       joined.addEventListener("reset", ({ seq, restarted, rows }) => {
@@ -42,11 +45,13 @@ async function main() {
         printRefusal(error);
       }
     }
-    if (!isFollowing) joined.close();
+    if (isFollowing) await ended;
   } catch (error) {
     process.exitCode = 1;
     if (error instanceof Refused) printRefusal(error);
     else console.error(`socket_client: ${error.message}\nsocket_client: no session at ${url}`);
+  } finally {
+    joined?.close();
   }
 }
 
