@@ -34,6 +34,7 @@ class Page {
   constructor() {
     Object.assign(this, { session: null, selected: [], isHint: false, isByKeys: false });
     Object.assign(this, { inputs: 0, refusal: null }); // how often a mapper pressed something, and what is refused
+    this.choices = 0; // how often a mapper selected something
     this.isTouch = matchMedia("(pointer: coarse)").matches; // whether a finger was at work last
     this.timings = { map: 0, news: 0, find: 0 }; // milliseconds of script
     this.shapes = new Shapes();
@@ -142,11 +143,13 @@ class Page {
   }
 
   refreshSelected(rows) {
-    const changed = new Set(rows.map(({ el }) => el));
+    if (this.selected.length === 0) return;
+    const nodesOf = (row) => (row?.nodes ?? []).map(nodeOf);
+    const changed = new Set(rows.flatMap(({ el, before, after }) => [el, ...nodesOf(before), ...nodesOf(after)]));
     const there = this.selected.filter((el) => this.elements.has(el));
     const isGone = there.length < this.selected.length;
     this.selected = there;
-    const isChanged = (el) => changed.has(el) || this.elements.get(el).nodes?.some((id) => changed.has(nodeOf(id)));
+    const isChanged = (el) => changed.has(el) || nodesOf(this.elements.get(el)).some((name) => changed.has(name));
     if (isGone || there.some(isChanged)) this.panels.showSelected();
   }
 
@@ -310,16 +313,19 @@ class Page {
 
   // ---- What is done
 
-  // Does a gesture and says so, or says what refused it.
+  // Does a gesture and says so, or says what refused it. `done` may return an element, which is selected then, unless
+  // the mapper has selected something else meanwhile or is typing.
   async perform(text, build, done = () => {}, failed = () => {}) {
-    const { session } = this;
+    const { session, choices } = this;
     if (!this.isInside) return this.sayWrong("Connect first.");
     const report = this.reporter();
     try {
       const names = await session.perform(text, build);
       if (session !== this.session) return undefined;
       report(`Saved: ${text}.`);
-      return done(names, report);
+      const made = done(names, report);
+      const isTyping = document.activeElement?.matches("#selected :is(input, textarea, select)");
+      if (made && choices === this.choices && !isTyping) this.choose(made);
     } catch (error) {
       if (!error.why) console.error(error);
       const { refusal } = this;
@@ -328,6 +334,11 @@ class Page {
       this.refused(error);
     }
     return undefined;
+  }
+
+  // Whether a key is held down, and what it did first is not answered yet.
+  isHeld({ repeat }) {
+    return repeat && this.session?.unsaved > 0;
   }
 
   async undo(seqs) {
@@ -366,24 +377,32 @@ class Page {
 
   join(one, other) {
     const build = () => Edits.join(one, other, this.elements) ?? [];
-    this.perform(`joined ${one} and ${other}`, build, () => this.select(this.elements.has(one) ? one : other));
+    this.perform(`joined ${one} and ${other}`, build, () => (this.elements.has(one) ? one : other));
   }
 
   merge(one, other) {
     const build = () => [{ do: "merge", el: one, with: other }];
-    this.perform(`merged ${other} into ${one}`, build, () => this.select(one));
+    this.perform(`merged ${other} into ${one}`, build, () => one);
   }
 
-  split(el, at) {
-    this.perform(`split ${this.titles([el])}`, (newName) => [{ do: "split", el, at, into: newName("w") }],
-      ([into]) => this.select(into));
+  // Splits a way at a node, wherever in its list that is by then.
+  split(el, node) {
+    const build = (newName) => {
+      const at = this.elements.get(el).nodes.indexOf(idOf(node), 1);
+      if (at < 0) throw { why: "bad_position" };
+      return [{ do: "split", el, at, into: newName("w") }];
+    };
+    this.perform(`split ${this.titles([el])}`, build, ([into]) => into);
   }
 
-  unglue(node, el, at) {
-    const build = (newName) => [{ do: "unglue", el, at, into: newName("n") }];
+  unglue(node, el, was) {
+    const build = (newName) => {
+      const at = placeIn(this.elements.get(el).nodes, idOf(node), was);
+      return [{ do: "unglue", el, at, into: newName("n") }];
+    };
     this.perform(`unglued ${el} from ${node}`, build, ([into], report) => {
-      this.select(into);
       report(`${el} has ${into} now, where it had ${node}: drag it away.`);
+      return into;
     });
   }
 
@@ -391,8 +410,11 @@ class Page {
     const [north, east] = [degreesOf(lat, 90), degreesOf(lon, 180)];
     if (north === null) return this.sayWrong("The latitude is a number from -90 to 90, such as 47.1234567.");
     if (east === null) return this.sayWrong("The longitude is a number from -180 to 180, such as 9.5212345.");
-    const [dlat, dlon] = [Math.round((north - row.lat) * 1e7), Math.round((east - row.lon) * 1e7)];
-    this.perform(`moved ${titleOf(row)}`, () => [{ do: "move", els: [row.el], dlat, dlon }]);
+    const steps = (degrees) => Math.round(degrees * 1e7);
+    this.perform(`moved ${titleOf(row)}`, () => {
+      const now = this.elements.get(row.el);
+      return [{ do: "move", els: [row.el], dlat: steps(north - now.lat), dlon: steps(east - now.lon) }];
+    });
   }
 
   saveNodes(el, text) {
@@ -405,21 +427,32 @@ class Page {
   makeRelation(els) {
     const members = els.map((el) => [el, ""]);
     const build = (newName) => [{ do: "create", el: newName("r"), members, tags: {} }];
-    this.perform(`made a relation of ${this.titles(els)}`, build, ([el]) => this.select(el));
+    this.perform(`made a relation of ${this.titles(els)}`, build, ([el]) => el);
   }
 
   toggleMember(relation, el) {
     const row = this.elements.get(relation);
     if (!row) return this.tools.use("select");
-    const isMember = row.members.some(([name]) => name === el);
-    const members = isMember ? row.members.filter(([name]) => name !== el) : [...row.members, [el, ""]];
-    const what = isMember ? `removed ${el} from` : `added ${el} to`;
-    this.perform(`${what} ${titleOf(row)}`, () => [{ do: "members", el: relation, members }]);
+    const wasMember = row.members.some(([name]) => name === el);
+    const what = wasMember ? `removed ${el} from` : `added ${el} to`;
+    this.perform(`${what} ${titleOf(row)}`, () => {
+      const { members } = this.elements.get(relation);
+      const others = members.filter(([name]) => name !== el);
+      const isMember = others.length < members.length;
+      if (isMember !== wasMember) return []; // so it is already
+      return [{ do: "members", el: relation, members: isMember ? others : [...members, [el, ""]] }];
+    });
   }
 
   // ---- Selecting and showing
 
+  // Selects for the mapper, and not after a gesture.
   select(...els) {
+    this.choices += 1;
+    this.choose(...els);
+  }
+
+  choose(...els) {
     this.selected = els.filter((el) => this.elements.has(el));
     this.panels.showSelected(true);
     this.panels.showTyped();
@@ -703,8 +736,8 @@ function listenToKeys(page) {
 function undoKeys(page, event) {
   const key = event.key.toLowerCase();
   if (key === "z" && page.tools.draft?.places.length) page.tools.removeLast();
-  else if (key === "z" && !event.shiftKey) page.undo();
-  else if (key === "y" || key === "z") page.redo();
+  else if (key === "z" && !event.shiftKey) page.isHeld(event) || page.undo();
+  else if (key === "y" || key === "z") page.isHeld(event) || page.redo();
   else return;
   event.preventDefault();
 }

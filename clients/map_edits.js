@@ -9,6 +9,14 @@ const coordinatesOf = ({ x, y }) => ({ lat: Mercator.lat(y).toFixed(7), lon: Mer
 // JavaScript reads numbers beyond 2^53 rounded, so they must not be written back.
 const areSafe = (nodes) => nodes.every(Number.isSafeInteger);
 
+// Where something is in a list: at its old place, or else at its only one.
+function placeIn(list, what, at) {
+  if (list[at] === what) return at;
+  const place = list.indexOf(what);
+  if (place < 0 || place !== list.lastIndexOf(what)) throw { why: "gone" };
+  return place;
+}
+
 // A node may lie so far from a segment into which it is inserted, on the plane: two metres at the equator.
 const MOST_APART = 5e-8;
 
@@ -94,7 +102,7 @@ const Edits = {
     return [{ do: "create", el, ...coordinatesOf(place), tags }, ...inserts.actions()];
   },
 
-  // Makes a way through places, or makes the way `extend.el` longer at its end or its start.
+  // Makes a way through places, or makes the way `extend` longer at the end where the first of them is.
   way(places, { isClosed = false, tags = {}, extend = null }, elements, newName) {
     const inserts = new Inserts(elements);
     const made = [];
@@ -107,14 +115,22 @@ const Edits = {
     });
     if (isClosed) ids.push(ids[0]);
     const nodes = ids.filter((id, at) => at === 0 || id !== ids[at - 1]);
-    const last = extend ? Edits.longer(extend, nodes, elements) : { do: "create", el: newName("w"), nodes, tags };
+    const last = extend ? Edits.longer(extend, nodes, inserts) : { do: "create", el: newName("w"), nodes, tags };
     return [...made, ...inserts.actions(), last];
   },
 
-  // Puts nodes behind the end of a way, or before its start. The first of them is that end.
-  longer({ el, atStart }, nodes, elements) {
-    const had = elements.get(el).nodes;
-    return { do: "nodes", el, nodes: atStart ? [...nodes.slice(1).reverse(), ...had] : [...had, ...nodes.slice(1)] };
+  // Whether an open way begins or ends at a node.
+  endsAt(el, id, elements) {
+    const nodes = elements.get(el)?.nodes ?? [];
+    const [start, end] = [nodes[0], nodes.at(-1)];
+    return areSafe(nodes) && start !== end && (start === id || end === id);
+  },
+
+  // Puts nodes at the end of a way that is the first of them. Others may have turned or split the way meanwhile.
+  longer(el, [end, ...nodes], inserts) {
+    if (!Edits.endsAt(el, end, inserts.elements)) throw { why: "not_its_end", el };
+    const had = inserts.nodesOf(el);
+    return { do: "nodes", el, nodes: had[0] === end ? [...nodes.reverse(), ...had] : [...had, ...nodes] };
   },
 
   // Takes elements away, with the nodes of ways that nothing else needs and that have no tags. `isEverywhere` takes
@@ -136,6 +152,10 @@ const Edits = {
     const id = idOf(el);
     for (const way of shapes.usersOf(el)) {
       const had = lists.get(way) ?? elements.get(way).nodes;
+      if (!areSafe(had)) {
+        lists.set(way, had); // the session refuses a list with a rounded id
+        continue;
+      }
       const isClosed = had.length > 3 && had[0] === had[had.length - 1];
       const rest = had.filter((other) => other !== id);
       if (isClosed && rest[0] !== rest[rest.length - 1]) rest.push(rest[0]);
@@ -149,7 +169,7 @@ const Edits = {
   leftover(ways, others, elements, shapes) {
     const found = new Set();
     for (const el of ways) {
-      for (const id of elements.get(el).nodes) {
+      for (const id of elements.get(el).nodes.filter(Number.isSafeInteger)) {
         const node = nodeOf(id);
         const isFree = elements.has(node) && !hasTags(elements.get(node).tags) && !others.has(node)
           && shapes.parentsOf(node).length === 0 && shapes.usersOf(id).every((user) => ways.has(user));

@@ -27,7 +27,8 @@ function dotOf(author) {
   return dot;
 }
 
-// The tags of an element in fields, of which those that were typed stay until they are saved, whatever comes.
+// The tags of an element in fields, of which those that were typed stay until they are saved, whatever comes. The last
+// line is empty, for a new tag.
 class TagDraft {
   constructor(row) {
     this.el = row.el;
@@ -37,12 +38,24 @@ class TagDraft {
 
   // Takes the element as it is now: lines that nobody typed in follow it.
   take(row) {
+    const empty = this.lines.find((each) => !each.was && !this.isTyped(each));
     this.lines = this.lines.filter((each) => this.isTyped(each) || (each.was && each.was.key in row.tags));
     for (const [key, value] of Object.entries(row.tags)) {
       const had = this.lines.find(({ was }) => was?.key === key);
       if (!had) this.lines.push({ key, value, was: { key, value }, isRemoved: false });
       else if (!this.isTyped(had)) Object.assign(had, { value, was: { key, value } });
       else had.was = { key, value };
+    }
+    this.lines.push(empty ?? { key: "", value: "", was: null, isRemoved: false });
+  }
+
+  // Takes lines as saved, each with what it was when it was sent. What was typed in it since then stays.
+  settle(sent) {
+    for (const [each, { key, value, isRemoved }] of sent) {
+      each.was = isRemoved ? null : { key: key.trim(), value };
+      if (each.key === key) each.key = key.trim();
+      const isOther = ({ was }) => !was || was.key !== each.was?.key;
+      this.lines = this.lines.filter((other) => (other === each ? each.was || !each.isRemoved : isOther(other)));
     }
   }
 
@@ -88,7 +101,7 @@ class Panels {
   }
 
   showAll() {
-    this.showSelected(true);
+    this.showSelected();
     this.showRelations();
     this.texts = null;
     this.showFound();
@@ -117,7 +130,7 @@ class Panels {
     return button(row ? titleOf(row) : el, () => this.page.show(el), { className: "item" });
   }
 
-  // Shows what is selected. Fields in which somebody types are left alone, unless `isAnew`.
+  // Shows what is selected. Fields in which somebody types keep their text and the focus, unless `isAnew`.
   showSelected(isAnew = false) {
     const { selected, elements } = this.page;
     const rows = selected.map((el) => elements.get(el)).filter(Boolean);
@@ -142,11 +155,16 @@ class Panels {
     return [this.actionsPart([row]), ...makers[row.el[0]](), ...this.usersPart(row)];
   }
 
+  // What can have the focus: in a line of tags or, without one, elsewhere.
+  fieldsIn(box, tag) {
+    return [...box.querySelectorAll("input, textarea, select, button, summary")].filter((each) => each.tag === tag);
+  }
+
   focusIn(box) {
     const active = document.activeElement;
     if (!box.contains(active)) return {};
-    const fields = [...box.querySelectorAll("input, textarea, select, button")];
-    return { at: fields.indexOf(active), start: active.selectionStart, end: active.selectionEnd };
+    const { tag, localName, selectionStart: start, selectionEnd: end } = active;
+    return { tag, at: this.fieldsIn(box, tag).indexOf(active), localName, start, end };
   }
 
   // What was typed into fields other than tags.
@@ -155,12 +173,15 @@ class Panels {
       .map((each) => [each.dataset.field, each.value]);
   }
 
-  restoreFocus(box, { at, start, end }, values) {
+  // Puts back what was typed, and the focus. If its field is gone, the line for a new tag gets it, since keys would
+  // otherwise do something to the map.
+  restoreFocus(box, { tag, at, localName, start, end }, values) {
     for (const [name, value] of values) {
       const field = box.querySelector(`[data-field="${CSS.escape(name)}"]`);
       if (field) field.value = value;
     }
-    const field = at === undefined ? null : box.querySelectorAll("input, textarea, select, button")[at];
+    if (at === undefined) return;
+    const field = this.fieldsIn(box, tag)[at] ?? box.querySelector(`.tag:last-child ${localName}`);
     field?.focus({ preventScroll: true });
     if (field && typeof start === "number" && field.setSelectionRange) field.setSelectionRange(start, end);
   }
@@ -174,8 +195,6 @@ class Panels {
   tagsPart(row) {
     const draft = this.draftOf(row);
     this.typed.set(row.el, draft);
-    const hasEmpty = draft.lines.some(({ key, was }) => !was && !key);
-    if (!hasEmpty) draft.lines.push({ key: "", value: "", was: null, isRemoved: false });
     const lines = make("div", { className: "list" }, ...draft.lines.map((each) => this.tagLine(draft, each)));
     const submit = (event) => {
       event.preventDefault();
@@ -192,8 +211,8 @@ class Panels {
 
   tagLine(draft, each) {
     const field = (about, value, list, set) => make("input", {
-      value, ariaLabel: about, placeholder: list === "keys" ? "key" : "value", maxLength: 255, autocomplete: "off",
-      autocapitalize: "off", spellcheck: false,
+      tag: each, value, ariaLabel: about, placeholder: list === "keys" ? "key" : "value", maxLength: 255,
+      autocomplete: "off", autocapitalize: "off", spellcheck: false,
       oninput: (event) => {
         set(event.target.value);
         this.markLine(made, draft, each);
@@ -205,9 +224,9 @@ class Panels {
     const remove = button("×", () => {
       each.isRemoved = !each.isRemoved;
       if (!each.was) draft.lines = draft.lines.filter((other) => other !== each);
-      this.showSelected(true);
+      this.showSelected();
       this.showTyped();
-    }, { ariaLabel: `${each.isRemoved ? "Keep" : "Remove"} ${each.key || "this tag"}` });
+    }, { tag: each, ariaLabel: `${each.isRemoved ? "Keep" : "Remove"} ${each.key || "this tag"}` });
     const made = make("div", { className: "tag" }, key, value, remove);
     this.markLine(made, draft, each);
     return made;
@@ -238,8 +257,7 @@ class Panels {
     if (!preset) return;
     for (const [key, value] of Object.entries(preset.tags)) draft.set(key, value);
     for (const key of preset.asks) if (!draft.lines.some((each) => each.key === key)) draft.set(key, "");
-    draft.lines.sort((one, other) => (one.key === "") - (other.key === ""));
-    this.showSelected(true);
+    this.showSelected();
     this.showTyped();
     const [asked] = preset.asks;
     const at = draft.lines.findIndex(({ key }) => key === asked);
@@ -257,16 +275,17 @@ class Panels {
     if (real.length === 0) return this.page.say("There is no tag to save.");
     const tags = Object.fromEntries(real);
     const words = real.slice(0, 2).map(([key, value]) => (value === null ? `no ${key}` : `${key}=${value}`)).join(", ");
+    const sent = draft.typed().map((each) => [each, { ...each }]);
     this.page.perform(`tagged ${titleOf(row)} with ${words}`, () => [{ do: "retag", el, tags }], () => {
-      this.typed.delete(el);
-      this.showSelected(true);
+      draft.settle(sent);
+      this.showSelected();
       this.showTyped();
     });
   }
 
   discard(el) {
     this.typed.delete(el);
-    this.showSelected(true);
+    this.showSelected();
     this.showTyped();
   }
 
@@ -350,9 +369,8 @@ class Panels {
 
   splitButtons(row, ways) {
     const id = idOf(row.el);
-    const inner = ways.map(({ el, nodes }) => [el, nodes.indexOf(id, 1), nodes.length - 1]);
-    return inner.filter(([, at, last]) => at > 0 && at < last)
-      .map(([el, at]) => button(`Split ${el} here`, () => this.page.split(el, at)));
+    const inner = ways.filter(({ nodes }) => nodes.slice(1, -1).includes(id));
+    return inner.map(({ el }) => button(`Split ${el} here`, () => this.page.split(el, row.el)));
   }
 
   // Where ways are held by a node that is used elsewhere too.
@@ -378,7 +396,7 @@ class Panels {
   wayPart(row) {
     const { page } = this;
     const { nodes } = row;
-    if (!areSafe(nodes)) return [soft("p", "The id of a node is too large: the line cannot be changed here.")];
+    if (!areSafe(nodes)) return [soft("p", REFUSALS.unsafe())];
     const isClosed = nodes[0] === nodes[nodes.length - 1];
     const reverse = () => page.perform(`reversed ${titleOf(row)}`, () => [{ do: "reverse", el: row.el }]);
     const buttons = [button("Reverse", reverse)];
@@ -409,8 +427,11 @@ class Panels {
 
   memberLine(row, el, role, at) {
     const { page } = this;
-    const change = (what, ...members) => page.perform(`${what} in ${titleOf(row)}`,
-      () => [{ do: "members", el: row.el, members: row.members.toSpliced(at, 1, ...members) }]);
+    const change = (what, ...changed) => page.perform(`${what} in ${titleOf(row)}`, () => {
+      const { members } = page.elements.get(row.el);
+      const place = placeIn(members.map(([name]) => name), el, at);
+      return [{ do: "members", el: row.el, members: members.toSpliced(place, 1, ...changed) }];
+    });
     const about = { ariaLabel: `Role of ${el}`, placeholder: "role", maxLength: 255 };
     const field = make("input", { defaultValue: role, ...about });
     field.dataset.field = `role ${at}`;

@@ -2,8 +2,10 @@
 // not saved, what entries did, and what can be undone. It knows no page but the storage of the browser.
 "use strict";
 
-// After so many milliseconds without a word a connection is given up. A large map may need as long on its way.
+// After so many milliseconds without a word a connection is given up. If a map needs longer on its way, each attempt
+// waits twice as long as the last, up to a limit.
 const HEARTBEAT = 30_000;
+const LONGEST_HEARTBEAT = 240_000;
 const SLOW = 4000; // after so many milliseconds without an answer it is said that none came
 const FIRST_PAUSE = 500;
 const LONGEST_PAUSE = 10_000;
@@ -46,6 +48,12 @@ async function whyUnreachable(url) {
 
 const pauseOf = (milliseconds) => new Promise((done) => setTimeout(done, milliseconds));
 
+// The gestures of a list without those of some entries.
+function without(gestures, seqs) {
+  const all = new Set(seqs);
+  return gestures.filter(([seq]) => !all.has(seq));
+}
+
 // Events: `state`, `unsaved`, `map` (the whole map came), `change` (with `entry`, `rows`), `history`, `conflict`.
 class Session extends EventTarget {
   static heartbeat = HEARTBEAT;
@@ -55,7 +63,8 @@ class Session extends EventTarget {
     Object.assign(this, { url, roomName, name, room: null, state: "connecting", text: "", isOver: false });
     Object.assign(this, { unsaved: 0, entries: new Map(), conflict: null, hasGroups: null });
     Object.assign(this, { texts: new Map(), gestures: new Map(), undos: [], redos: [] });
-    Object.assign(this, { run: 0, waiting: [] }); // how often the server was started anew, and who waits for it
+    Object.assign(this, { run: 0, doubts: 0 }); // how often the server was started anew, and how often perhaps
+    Object.assign(this, { turn: Promise.resolve(true), waiting: [] }); // if the last change was done, and who waits
     this.lowest = null;
     this.leaving = new AbortController();
     this.key = `maproom ${url} ${roomName} ${name}`;
@@ -77,14 +86,16 @@ class Session extends EventTarget {
   // Connects, and tries again until it is there or is refused for good. Returns whether it is there.
   async open() {
     let pause = FIRST_PAUSE;
+    let { heartbeat } = Session;
     if (!/^wss?:\/\/[^/]/.test(this.url)) return this.end("The address has to begin with ws:// or wss://.");
+    if (!URL.canParse(this.url)) return this.end("The address is invalid. Look at its host and its port.");
     while (!this.isOver) {
       if (this.state === "connecting") this.become("connecting", "Connecting ..");
-      const wait = () => this.become("waiting", "Waiting: perhaps all places of the server are taken");
-      const late = setTimeout(wait, 3000);
+      const text = "Waiting: perhaps the map is large, or all places of the server are taken";
+      const late = setTimeout(() => this.become("waiting", text), 3000);
       try {
         const { name, roomName: room, leaving: { signal } } = this;
-        const times = { openTimeout: null, timeout: null, heartbeat: Session.heartbeat };
+        const times = { openTimeout: null, timeout: null, heartbeat };
         this.room = await maproom.connect(this.url, { room, name, signal, ...times });
         clearTimeout(late);
         return await this.begin();
@@ -92,7 +103,12 @@ class Session extends EventTarget {
         if (this.isOver) return false;
         if (error.why !== "connection_failed") return this.end(sentenceOf(error));
         clearTimeout(late);
-        this.become("lost", `${await whyUnreachable(this.url)} Trying again ..`, true);
+        const isSilent = error.cause?.message === "the server is silent"; // on an open connection
+        const time = counted(heartbeat / 1000, "second");
+        const why = isSilent ? `The map did not come within ${time}.` : await whyUnreachable(this.url);
+        if (this.isOver) return false;
+        this.become("lost", `${why} Trying again ..`, true);
+        if (isSilent) heartbeat = Math.min(2 * heartbeat, LONGEST_HEARTBEAT);
         await pauseOf(pause);
         pause = Math.min(2 * pause, LONGEST_PAUSE);
       } finally {
@@ -124,11 +140,8 @@ class Session extends EventTarget {
 
   // Waits while there is no connection, so that a gesture is made for the map that comes then.
   async whenOpen() {
-    if (this.room.state !== "connecting") return;
-    const { run } = this;
-    await new Promise((done) => this.waiting.push(done));
+    if (this.room.state === "connecting") await new Promise((done) => this.waiting.push(done));
     if (this.isOver) throw { why: "closed" };
-    if (run !== this.run) throw { why: "not_sent", restarted: true };
   }
 
   takeError(error) {
@@ -151,6 +164,10 @@ class Session extends EventTarget {
 
   takeReset({ restarted }) {
     this.lowest = null;
+    if (restarted !== false) {
+      this.doubts += 1;
+      this.putLists([], []);
+    }
     if (restarted) {
       this.run += 1;
       this.forget();
@@ -261,8 +278,7 @@ class Session extends EventTarget {
   // given, or throws what refused it.
   async perform(text, build) {
     if (!this.room) throw new Error("Connect first.");
-    return this.count(async () => {
-      await this.whenOpen();
+    return this.inTurn(async () => {
       for (let tries = 1; ; tries += 1) {
         const names = [];
         const actions = this.build(build, names);
@@ -275,6 +291,21 @@ class Session extends EventTarget {
         }
       }
     });
+  }
+
+  // Does a change when those before it are answered and there is a connection, so that it fits a map that has them.
+  // `work` gets whether the change before it was done, or true if none was under way when this one was wanted. A change
+  // is not done if the server was started anew since then; one about entries is not done if that is only possible.
+  inTurn(work, isOfEntries = false) {
+    const { run, doubts, unsaved } = this;
+    const done = this.turn.then(async (wasDone) => {
+      await this.whenOpen();
+      const restarted = run !== this.run;
+      if (restarted || (isOfEntries && doubts !== this.doubts)) throw { why: "not_sent", restarted };
+      return work(wasDone || unsaved === 0);
+    });
+    this.turn = done.then(() => true, () => false);
+    return this.count(() => done);
   }
 
   // The actions of a gesture for the map as it is now, and the names that it gives.
@@ -292,6 +323,7 @@ class Session extends EventTarget {
       throw error;
     }
     if (actions.length === 0) throw { why: "nothing" };
+    if (!actions.every(({ nodes = [] }) => areSafe(nodes))) throw { why: "unsafe" };
     return actions;
   }
 
@@ -352,13 +384,14 @@ class Session extends EventTarget {
     }
   }
 
-  remember(seqs, text) {
+  // Notes the entries of a gesture, which is the next to be undone. Nothing can be redone after it but what is given.
+  remember(seqs, text, redos = []) {
     for (const seq of seqs) {
       this.texts.set(seq, text);
       this.gestures.set(seq, seqs);
     }
     this.store();
-    this.tell("history");
+    this.putLists([...without(this.undos, seqs), seqs], redos);
   }
 
   // ---- What can be undone
@@ -367,11 +400,15 @@ class Session extends EventTarget {
     try {
       const { undos, redo } = await this.room.undos();
       if (isRestored) this.restore(undos);
-      Object.assign(this, { undos: this.inGestures(undos), redos: this.inGestures(redo) });
-      this.tell("history");
+      this.putLists(this.inGestures(undos), this.inGestures(redo));
     } catch (error) {
       if (error.why !== "closed") console.error(error);
     }
+  }
+
+  putLists(undos, redos) {
+    Object.assign(this, { undos, redos });
+    this.tell("history");
   }
 
   // The numbers of entries, those of one gesture together.
@@ -385,10 +422,13 @@ class Session extends EventTarget {
     return items;
   }
 
-  // Undoes the entries of a gesture, or those of the last.
-  async undo(seqs = this.undos[this.undos.length - 1]) {
-    if (!seqs) throw { why: "nothing_to_undo" };
-    return this.count(async () => {
+  // Undoes the entries of a gesture or, if none is given, those of the last. If that was under way and was not done, an
+  // earlier one is not meant.
+  undo(given = null) {
+    return this.inTurn(async (isLastDone) => {
+      const seqs = given ?? this.undos.at(-1);
+      if (!seqs) throw { why: "nothing_to_undo" };
+      if (!given && !isLastDone) throw { why: "not_meant" };
       const done = [];
       try {
         for (const seq of [...seqs].reverse()) {
@@ -400,9 +440,10 @@ class Session extends EventTarget {
         if (error.no) for (const _ of done) await this.room.redo();
         throw error;
       }
+      this.putLists(without(this.undos, seqs), [...without(this.redos, seqs), seqs]);
       this.setConflict(null);
       return this.textOf(seqs[0]);
-    });
+    }, true);
   }
 
   // Notes that an entry of the mapper's own undid another. It shows what an entry did that came before the mapper.
@@ -416,20 +457,22 @@ class Session extends EventTarget {
   }
 
   // Redoes what was undone last.
-  async redo() {
-    const seqs = this.redos[this.redos.length - 1];
-    if (!seqs) throw { why: "nothing_to_redo" };
-    return this.count(async () => {
-      const text = this.textOf(seqs[0]);
+  redo() {
+    return this.inTurn(async (isLastDone) => {
+      const seqs = this.redos.at(-1);
+      if (!seqs) throw { why: "nothing_to_redo" };
+      if (!isLastDone) throw { why: "not_meant" };
       const made = [];
-      for (const _ of seqs) {
-        const { seq, redid } = await this.room.redo();
+      let text = null;
+      for (const each of seqs) {
+        const { seq, redid = each } = await this.room.redo();
         made.push(seq);
-        if (this.entries.has(seq)) this.entries.get(seq).redoes = redid ?? null;
+        text ??= this.textOf(redid);
+        if (this.entries.has(seq)) this.entries.get(seq).redoes = redid;
       }
-      this.remember(made, text);
+      this.remember(made, text, without(this.redos, seqs));
       return text;
-    });
+    }, true);
   }
 
   // ---- What outlives a reload: what the mapper's own entries did

@@ -46,7 +46,7 @@ class Tools {
     const isDrawing = ["point", "line", "area"].includes(tool);
     const isWay = tool === "line" || tool === "area";
     const { places = [], extend = null, isUnsaved = false, error = null } = about;
-    this.draft = isWay ? { places, isArea: tool === "area", extend, isUnsaved, error } : null;
+    this.draft = isWay ? { places, isArea: tool === "area", extend, isUnsaved, error } : null; // `extend`: a way
     for (const each of ["select", "point", "line", "area"]) $(each).setAttribute("aria-pressed", String(each === tool));
     $("drawing").hidden = !isDrawing;
     for (const each of ["finish", "back"]) $(each).hidden = !isWay;
@@ -196,7 +196,7 @@ class Tools {
     const tags = this.presetTags();
     this.use("select");
     page.perform(`made a ${kindOf({ el: "n", tags })}`, (newName) => Edits.point(place, tags, page.elements, newName),
-      ([el]) => page.select(el));
+      ([el]) => el);
   }
 
   addPlace(place) {
@@ -211,20 +211,18 @@ class Tools {
     this.tellDraft();
   }
 
-  // Whether a drawing that begins at a node goes on with the way that is selected: {el, atStart}, or null.
+  // The selected way if it begins or ends at a node, or null. A drawing that begins there goes on with it.
   endOfSelected(node) {
     const { selected, elements } = this.page;
-    const nodes = selected.length === 1 ? elements.get(selected[0])?.nodes : null;
-    if (!nodes || !areSafe(nodes) || nodes[0] === nodes[nodes.length - 1]) return null;
-    const at = nodes.indexOf(idOf(node));
-    return at === 0 || at === nodes.length - 1 ? { el: selected[0], atStart: at === 0 } : null;
+    return selected.length === 1 && Edits.endsAt(selected[0], idOf(node), elements) ? selected[0] : null;
   }
 
   tellDraft() {
     const { places, isArea, extend } = this.draft;
-    const text = `${counted(places.length, "point")}${extend ? `, going on with ${extend.el}` : ""}.`;
+    const text = `${counted(places.length, "point")}${extend ? `, going on with ${extend}` : ""}.`;
     this.page.say(`${text} ${this.hintOf(isArea ? "area" : "line")}`);
     this.page.isHint = true;
+    $("preset").parentElement.hidden = Boolean(extend);
     $("finish").disabled = places.length < (isArea ? 3 : 2);
     this.page.view.paintOverSoon();
   }
@@ -232,7 +230,7 @@ class Tools {
   removeLast() {
     if (!this.draft?.places.length) return;
     this.draft.places.pop();
-    if (this.draft.places.length === 0 && this.draft.extend) this.draft.extend = null;
+    if (this.draft.places.length === 0) this.draft.extend = null;
     this.tellDraft();
   }
 
@@ -248,9 +246,9 @@ class Tools {
     this.use("select");
     this.sent.add(draft);
     const what = kindOf({ el: "w", tags });
-    const text = extend ? `made ${extend.el} longer` : `drew a ${what} with ${counted(places.length, "point")}`;
+    const text = extend ? `made ${extend} longer` : `drew a ${what} with ${counted(places.length, "point")}`;
     const build = (newName) => Edits.way(places, { isClosed, tags, extend }, page.elements, newName);
-    const done = (names) => page.select(extend?.el ?? names[names.length - 1]);
+    const done = (names) => extend ?? names.at(-1);
     page.perform(text, build, done, (error) => this.bringBack({ ...draft, error })).finally(() => {
       this.sent.delete(draft);
       page.view.paintOverSoon();
@@ -295,18 +293,22 @@ class Tools {
     const { nodes } = this.page.elements.get(el);
     const node = nodeOf(atStart ? nodes[0] : nodes[nodes.length - 1]);
     const place = { ...this.page.shapes.positionOf(node), el: node };
-    this.use("line", { places: [place], extend: { el, atStart } });
+    this.use("line", { places: [place], extend: el });
     this.page.view.show(this.page.shapes.boxOf(node));
   }
 
-  // The elements may have gone to which a drawing was joined: it keeps the places.
+  // The elements may have gone to which a drawing was joined: it keeps the places. It goes on with a way only as long
+  // as the way begins or ends at its first place.
   refreshDraft() {
     const { elements } = this.page;
-    for (const place of this.draft?.places ?? []) {
+    const { places = [], extend } = this.draft ?? {};
+    for (const place of places) {
       if (place.el && !elements.has(place.el)) delete place.el;
       if (place.segments) place.segments = place.segments.filter(({ el }) => elements.has(el));
     }
-    if (this.draft?.extend && !elements.has(this.draft.extend.el)) this.draft.extend = null;
+    if (!extend || (places[0].el && Edits.endsAt(extend, idOf(places[0].el), elements))) return;
+    this.draft.extend = null;
+    this.tellDraft();
   }
 
   // ---- Drags
@@ -391,7 +393,7 @@ class Tools {
   async saveDrag({ single, onto, els, dx, dy }) {
     if (!onto) return this.moveBy(els, dx, dy);
     const build = () => [{ do: "merge", el: onto, with: single }];
-    return this.page.perform(`joined ${single} to ${onto}`, build, () => this.page.select(onto));
+    return this.page.perform(`joined ${single} to ${onto}`, build, () => onto);
   }
 
   // Moves elements by a distance on the plane.
@@ -466,9 +468,9 @@ class Tools {
     const tool = TOOL_KEYS[key];
     if (key === "Escape") this.escape();
     else if (key === "Backspace" && this.draft) this.removeLast();
-    else if (key === "Delete" || key === "Backspace") this.draft || page.deleteSelected();
+    else if (key === "Delete" || key === "Backspace") this.draft || page.isHeld(event) || page.deleteSelected();
     else if (key === "Enter" && this.draft && !event.target.closest("button, a")) this.finish();
-    else if (steps) this.nudge(steps, event.shiftKey ? 10 : 1);
+    else if (steps) page.isHeld(event) || this.nudge(steps, event.shiftKey ? 10 : 1);
     else if (tool === "move") page.selected.length && this.use("move");
     else if (tool) this.use(tool);
     else if (isOnMap && MOVE_KEYS[key]) page.view.pan(...MOVE_KEYS[key].map((step) => step * 60));
@@ -604,7 +606,7 @@ class Tools {
     for (const place of places) {
       this.paintDot(context, this.place(place, frame), place.el || place.segments ? 5 : 3.5, "#d6006c");
     }
-    if (extend) this.paintElement(context, frame, extend.el, "rgba(214, 0, 108, .4)", 4);
+    if (extend) this.paintElement(context, frame, extend, "rgba(214, 0, 108, .4)", 4);
   }
 
   // A ring where a click joins a node, a square where it joins a line.

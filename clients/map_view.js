@@ -54,9 +54,9 @@ class View {
     });
     this.credit = L.control.attribution({ prefix: false }).addAttribution(CREDIT).addTo(this.map);
     L.control.scale({ imperial: false }).addTo(this.map);
-    this.base = this.addCanvas(this.map.getPane("overlayPane"), "base leaflet-zoom-animated");
-    this.texts = this.addCanvas(this.map.getPane("overlayPane"), "texts leaflet-zoom-animated");
-    this.over = this.addCanvas(container, "over");
+    this.base = this.addCanvas("base leaflet-zoom-animated");
+    this.over = this.addCanvas("over");
+    this.texts = this.addCanvas("texts leaflet-zoom-animated"); // above the selection
     this.map.setView([0, 0], 2);
     this.map.on("moveend viewreset resize zoomend", () => this.settle());
     this.map.on("move", () => this.follow());
@@ -66,11 +66,12 @@ class View {
     this.settle();
   }
 
-  addCanvas(parent, className) {
+  // A canvas above those that were added before it.
+  addCanvas(className) {
     const canvas = document.createElement("canvas");
     canvas.className = className;
     canvas.setAttribute("aria-hidden", "true");
-    parent.append(canvas);
+    this.map.getPane("overlayPane").append(canvas);
     return canvas;
   }
 
@@ -321,6 +322,7 @@ class View {
   paintOverSoon() {
     this.soon("over", () => {
       const { x, y } = this.size();
+      L.DomUtil.setPosition(this.over, this.map.containerPointToLayerPoint([0, 0]));
       this.fitCanvas(this.over, x, y);
       this.paintOver(this.contextOf(this.over), this.frame());
     });

@@ -241,7 +241,9 @@ class PageAuthor(Author):
 
     def look(self, rows, seq, undos):
         """Checks, while all authors rest, that the page knows the room's map at an entry, and what this author can undo
-        and redo. `undos` are these lists as another session receives them."""
+        and redo. `undos` are these lists as another session receives them. A drawing that the page gave back is dropped
+        before."""
+        self.page.get("page.tools.use('select'), 0")
         lists = "{ undos: page.session.undos.flat(), redo: page.session.redos.flat() }"
         is_ready = f"page.session.state === 'open' && page.session.room.seq >= {seq} && page.session.unsaved === 0"
         self.page.wait(f"{is_ready} && page.session.room.pending === 0")
