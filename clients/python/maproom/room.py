@@ -113,9 +113,11 @@ class Room:
 
     async def close(self) -> None:
         """Leaves the room. Each message that has no answer raises Closed."""
+        is_first = self.state != "closed"
         self._end(None)
         if self._talking and not self._talking.done():
-            self._talking.cancel()
+            if is_first:  # a second cancellation would end the task before its connection is closed
+                self._talking.cancel()
             await asyncio.wait({self._talking})
 
     async def wait_closed(self) -> None:
@@ -143,12 +145,15 @@ class Room:
         """Holds one session after another, until an error ends the room for good."""
         pause = SOON
         try:
-            while True:
+            # Until Python 3.12, `asyncio.wait_for` loses a cancellation that comes when its result does. So the end
+            # of the room shows in its state, too.
+            while self.state != "closed":
                 if await self._hold_session():
                     pause = SOON
-                self.state = "connecting"
-                await asyncio.sleep(pause)
-                pause = min(2 * pause, LATE)
+                if self.state != "closed":
+                    self.state = "connecting"
+                    await asyncio.sleep(pause)
+                    pause = min(2 * pause, LATE)
         except asyncio.CancelledError:
             raise
         except BaseException as error:  # pylint: disable=broad-except
@@ -164,6 +169,9 @@ class Room:
         except (ValueError, *sockets.FAULTS) as fault:
             if not self._is_there.done():
                 raise ConnectionFailed(f"no connection to {self.url}: {str(fault) or type(fault).__name__}") from fault
+            return False
+        if self.state == "closed":
+            await socket.close()
             return False
         self._heard, self._texts = time.monotonic(), 0
         self._outbox.clear()
@@ -196,7 +204,7 @@ class Room:
             self._texts += 1
             self._send(self._core.take(text))
             self._report()
-            if self.state != "open" and self._core.is_here():
+            if self.state == "connecting" and self._core.is_here():
                 self.state = "open"
                 if self._is_there and not self._is_there.done():
                     self._is_there.set_result(None)
