@@ -652,6 +652,7 @@
         return;
       }
       this.#become("connecting");
+      if (this.#state === "closed") return; // by a listener
       this.#pause = this.#texts > 2 ? SOON : this.#pause;
       this.#timers.again = setTimeout(() => this.#begin(), this.#pause);
       this.#pause = Math.min(2 * this.#pause, LATE);

@@ -69,6 +69,14 @@ const stories = {
     room.close();
   },
 
+  async leaving(url) {
+    const room = await connect(url);
+    room.addEventListener("state", ({ state }) => state === "connecting" && room.close());
+    await sayOutcome(room.move("n1", 0.000001, 0));
+    await sleep(500);
+    say(room.state);
+  },
+
   async opening(url) {
     const begun = Date.now();
     await connect(url, { openTimeout: 500 }).then(() => say("opened"), (error) => {

@@ -68,6 +68,18 @@ async def events(url):
         say_map(room)
 
 
+async def leaving(url):
+    """Leaves when the connection breaks."""
+    async with connect(url) as room:
+        moving = asyncio.ensure_future(say_outcome(room.move("n1", 0.000001, 0)))
+        while room.state == "open":
+            await asyncio.sleep(0.001)
+        await room.close()
+        await moving
+        await asyncio.sleep(0.5)
+        say(room.state)
+
+
 async def listener(url):
     """One reader fails; another one, and the room, go on."""
     async with connect(url) as room:
