@@ -417,11 +417,15 @@ class Page {
     });
   }
 
-  saveNodes(el, text) {
+  // Saves a list that was typed in place of another, unless others changed that meanwhile.
+  saveNodes(el, text, before) {
     const nodes = text.split(/[\s,]+/).filter(Boolean).map((word) => Number(word.replace(/^n/, "")));
     const wrong = nodes.findIndex((id) => !Number.isSafeInteger(id) || id === 0);
     if (wrong >= 0) return this.sayWrong("The nodes of a way are their numbers, with spaces between them.");
-    this.perform(`changed the line of ${this.titles([el])}`, () => [{ do: "nodes", el, nodes }]);
+    this.perform(`changed the line of ${this.titles([el])}`, () => {
+      if (this.elements.get(el).nodes.join(" ") !== before) throw { why: "other_nodes", el };
+      return [{ do: "nodes", el, nodes }];
+    });
   }
 
   makeRelation(els) {

@@ -167,18 +167,23 @@ class Panels {
     return { tag, at: this.fieldsIn(box, tag).indexOf(active), localName, start, end };
   }
 
-  // What was typed into fields other than tags.
+  // What was typed into fields other than tags, and in place of what.
   unsavedFields(box) {
     return [...box.querySelectorAll("[data-field]")].filter((each) => each.value !== each.defaultValue)
-      .map((each) => [each.dataset.field, each.value]);
+      .map((each) => [each.dataset.field, each.value, this.before(each)]);
+  }
+
+  // What a field had before somebody typed in it.
+  before(field) {
+    return field.dataset.before ?? field.defaultValue;
   }
 
   // Puts back what was typed, and the focus. If its field is gone, the line for a new tag gets it, since keys would
   // otherwise do something to the map.
   restoreFocus(box, { tag, at, localName, start, end }, values) {
-    for (const [name, value] of values) {
+    for (const [name, value, before] of values) {
       const field = box.querySelector(`[data-field="${CSS.escape(name)}"]`);
-      if (field) field.value = value;
+      if (field) Object.assign(field, { value }).dataset.before = before;
     }
     if (at === undefined) return;
     const field = this.fieldsIn(box, tag)[at] ?? box.querySelector(`.tag:last-child ${localName}`);
@@ -409,7 +414,7 @@ class Panels {
     }
     const list = make("textarea", { defaultValue: nodes.join(" "), rows: 2 });
     list.dataset.field = "Nodes";
-    const save = button("Save nodes", () => page.saveNodes(row.el, list.value));
+    const save = button("Save nodes", () => page.saveNodes(row.el, list.value, this.before(list)));
     const details = make("details", {}, make("summary", { textContent: counted(nodes.length, "node") }),
       make("label", {}, "Their numbers in order", list), save);
     details.open = this.isListOpen;

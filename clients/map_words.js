@@ -95,6 +95,7 @@ const REFUSALS = {
   no_answer: () => "No answer came. Look at the map: the change may be there or not.",
   gone: () => "What this is about is not there any more.",
   not_its_end: ({ el }) => `${el} does not end there any more. You can save the drawing as a way of its own.`,
+  other_nodes: ({ el }) => `Somebody changed the nodes of ${el} meanwhile. Select it again, and change its list.`,
   not_meant: () => "Nothing was undone or redone, because the change before was not saved.",
   unsafe: () => "The id of a node is too large: the line cannot be changed here.",
   closed: () => "You left the room before the answer came.",

@@ -304,16 +304,13 @@ class LibraryAuthor(Author):
         """Checks, while all authors rest, that the library knows the room's map at an entry, and what this author can
         undo and redo. `undos` are these lists as another session receives them. The library may just be asking
         whether the server is there."""
-        deadline = time.monotonic() + PATIENCE * given.slow
-        while self.client.state != "open" or min(self.client.seq, self.copied) < seq or self.client.pending:
-            if time.monotonic() > deadline or self.fault:
-                break
+        deadline, wanted = time.monotonic() + PATIENCE * given.slow, ("open", seq, seq, 0)
+        found = lambda: (self.client.state, self.client.seq, self.copied, self.client.pending)
+        while found() != wanted and not self.fault and time.monotonic() < deadline:
             await asyncio.sleep(0.01)
-        await asyncio.sleep(0)
         if self.fault:
             raise self.fault
-        found = self.client.state, self.client.seq, self.copied, self.client.pending
-        self.check("the library's state, last entry, that of a copy, and messages", found, ("open", seq, seq, 0))
+        self.check("the library's state, last entry, that of a copy, and messages", found(), wanted)
         self.check("the library's map, and the wanted one", differing(dict(self.client.elements), rows), {})
         self.check("a copy by the library's events, and the wanted one", differing(self.copy, rows), {})
         if self.undos is not None:
