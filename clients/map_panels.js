@@ -144,10 +144,12 @@ class Panels {
     const focus = !isAnew && this.formOf === key ? this.focusIn(box) : null;
     const values = focus ? this.unsavedFields(box) : [];
     this.formOf = key;
+    this.isShowing = true;
     if (rows.length === 0) box.replaceChildren(soft("p", this.page.session?.room ? CHOOSE : CONNECT));
     else if (rows.length > 1) box.replaceChildren(...this.severalPart(rows));
     else box.replaceChildren(this.tagsPart(row), ...this.partsOf(row));
     if (focus) this.restoreFocus(box, focus, values);
+    this.isShowing = false;
   }
 
   partsOf(row) {
@@ -164,7 +166,7 @@ class Panels {
     const active = document.activeElement;
     if (!box.contains(active)) return {};
     const { tag, localName, selectionStart: start, selectionEnd: end } = active;
-    return { tag, at: this.fieldsIn(box, tag).indexOf(active), localName, start, end };
+    return { tag, name: active.dataset.field, at: this.fieldsIn(box, tag).indexOf(active), localName, start, end };
   }
 
   // What was typed into fields other than tags, and in place of what.
@@ -180,13 +182,15 @@ class Panels {
 
   // Puts back what was typed, and the focus. If its field is gone, the line for a new tag gets it, since keys would
   // otherwise do something to the map.
-  restoreFocus(box, { tag, at, localName, start, end }, values) {
-    for (const [name, value, before] of values) {
-      const field = box.querySelector(`[data-field="${CSS.escape(name)}"]`);
+  restoreFocus(box, { tag, name, at, localName, start, end }, values) {
+    const fieldOf = (its) => box.querySelector(`[data-field="${CSS.escape(its)}"]`);
+    for (const [its, value, before] of values) {
+      const field = fieldOf(its);
       if (field) Object.assign(field, { value }).dataset.before = before;
     }
     if (at === undefined) return;
-    const field = this.fieldsIn(box, tag)[at] ?? box.querySelector(`.tag:last-child ${localName}`);
+    const same = name ? fieldOf(name) : this.fieldsIn(box, tag)[at];
+    const field = same ?? box.querySelector(`.tag:last-child ${localName}`);
     field?.focus({ preventScroll: true });
     if (field && typeof start === "number" && field.setSelectionRange) field.setSelectionRange(start, end);
   }
@@ -424,13 +428,17 @@ class Panels {
 
   relationPart(row) {
     const { page } = this;
-    const members = row.members.map(([el, role], at) => this.memberLine(row, el, role, at));
+    const times = new Map(); // how often each member is there
+    const members = row.members.slice(0, 300).map(([el, role], at) => {
+      times.set(el, (times.get(el) ?? 0) + 1);
+      return this.memberLine(row, el, role, at, times.get(el));
+    });
     const pick = button("Pick members on the map", () => page.tools.use("members", { relation: row.el }));
-    const list = make("div", { className: "list" }, ...members.slice(0, 300));
+    const list = make("div", { className: "list" }, ...members);
     return [soft("p", counted(row.members.length, "member")), list, line(pick)];
   }
 
-  memberLine(row, el, role, at) {
+  memberLine(row, el, role, at, time) {
     const { page } = this;
     const change = (what, ...changed) => page.perform(`${what} in ${titleOf(row)}`, () => {
       const { members } = page.elements.get(row.el);
@@ -439,8 +447,15 @@ class Panels {
     });
     const about = { ariaLabel: `Role of ${el}`, placeholder: "role", maxLength: 255 };
     const field = make("input", { defaultValue: role, ...about });
-    field.dataset.field = `role ${at}`;
-    field.onchange = () => change("set a role", [el, field.value]);
+    field.dataset.field = `role ${el} ${time}`;
+    let saved = role;
+    const save = () => {
+      if (this.isShowing || field.value === saved) return;
+      saved = field.value;
+      change("set a role", [el, saved]);
+    };
+    // A field in which the text was put back does not change when it loses the focus.
+    field.onchange = field.onblur = save;
     const remove = button("×", () => change(`removed ${el}`), { ariaLabel: `Remove ${el}` });
     return make("div", { className: "member" }, this.elementButton(el), field, remove);
   }
