@@ -8,6 +8,7 @@ import time
 
 from lib import texts
 from lib.cases import TOP, case, case_if, each_case, given, want
+from lib.messages import GREATEST_NUMBER
 from lib.programs import run_soon
 from lib.serving import free_port
 from lib.talk import GONE, PATIENCE, SILENCE, be_closed, create, finish, hear, hello, leave, news, node, ok, refused
@@ -188,6 +189,31 @@ def sent_again_unanswered():
         want((last.seq, len(last.rows)), (count, count))
         last.leave()
         finish(server, [f"paris {count}"], *["fault", "left"] * count, "left")
+
+
+@case
+def late_in_a_lost_session():
+    """A change that the next session was refused can still come late in a lost session. Its id shows that it was done,
+    and no session does it twice."""
+    question = '{"id":5,"do":"undo","seq":%d}' % GREATEST_NUMBER
+    retag, tagged = '{"id":5,"do":"retag","el":"n-1","tags":{"ref":"7"}}', node(tags='{"ref":"7"}')
+    with serving(workers=3, sessions=3) as server:
+        lost, anna, bob = clients = server.client(), server.client(), server.client()
+        for client, name in zip(clients, ("anna", "anna", "bob")):
+            talk(client, hello(name), welcome(0))
+        talk(anna, question, refused(5, '"why":"no_such"'))
+        talk(anna, retag, refused(5, '"el":"n-1","why":"absent"'))
+        talk(bob, create(2), ok(2, '"seq":1'), news("bob", 1, node()))
+        for client in (lost, anna):
+            hear(client, news("bob", 1, node()))
+        talk(lost, retag, ok(5, '"seq":2'), news("anna", 2, tagged))
+        hear(anna, news("anna", 2, tagged))
+        for message in (question, retag):
+            talk(anna, message, refused(5, '"seq":2,"why":"repeat"'))
+        hear(bob, news("anna", 2, tagged))
+        for client in clients:
+            leave(client)
+        finish(server, ["paris 2"], "left", "left", "left")
 
 
 @case
