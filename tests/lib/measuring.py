@@ -81,11 +81,11 @@ def measure(program, script, replies, *words):
     return taken, max(peaks)
 
 
-def memory_of(process):
-    """The memory of a process and its peak, in MiB."""
+def memory_of(process, words=("VmRSS", "VmHWM")):
+    """What the kernel says of a process by these words, in MiB: its memory and the peak of it, if none are given."""
     with open(f"/proc/{process}/status", encoding="utf-8") as lines:
         found = dict(line.split(":", 1) for line in lines)
-    return tuple(int(found[word].split()[0]) / 1024 for word in ("VmRSS", "VmHWM"))
+    return tuple(int(found[word].split()[0]) / 1024 for word in words)
 
 
 def held(script, *words):

@@ -57,6 +57,7 @@ SCRIPTS = [
     *benchmarks("program", "lines --sizes 50,100 --rounds 1", "held --elements 100 --entries 100"),
     *benchmarks("program", "group_costs --quick", "instructions"),
     *benchmarks("server", "serve --quick", "many_rooms --elements 100 --rooms 1,3"),
+    *benchmarks("server", "joins --elements 100 --clients 1,3"),
     *benchmarks("program", "turns --turns 1000"),
     *scripts("server", "soak --seconds 5 --pace 20", "evening --seconds 5 --rooms 2 --pace 3"),
 ]
