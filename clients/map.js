@@ -35,6 +35,7 @@ class Page {
     Object.assign(this, { session: null, selected: [], isHint: false, isByKeys: false });
     Object.assign(this, { inputs: 0, refusal: null }); // how often a mapper pressed something, and what is refused
     this.choices = 0; // how often a mapper selected something
+    this.notDone = []; // changes that were dropped, until the mapper closes their list
     this.isTouch = matchMedia("(pointer: coarse)").matches; // whether a finger was at work last
     this.timings = { map: 0, news: 0, find: 0 }; // milliseconds of script
     this.shapes = new Shapes();
@@ -114,7 +115,7 @@ class Page {
     if (!this.view.painted) this.view.paint();
     this.timings.map = performance.now() - began;
     if (isFirst) this.tools.goOnDrawing();
-    if (restarted) this.sayWrong("The server was started anew. This is the map that it has now.");
+    if (restarted) this.sayWrong("The server was restarted. This is the map that it has now.");
     setTimeout(() => this.panels.showAll(), 50); // after the map is seen
     whenIdle(() => this.prepare());
   }
@@ -216,6 +217,7 @@ class Page {
     if (drawings) parts.push(`${counted(drawings, "drawing")} not saved`);
     const typed = this.panels.typedElements().length;
     if (typed) parts.push(`tags of ${typed === 1 ? "an element" : `${typed} elements`} not saved`);
+    if (this.notDone.length) parts.push(this.countNotDone());
     $("saved").textContent = parts.join(", ") || (this.isInside ? "All saved" : "");
     $("saved").className = parts.length ? "not" : "";
   }
@@ -258,13 +260,19 @@ class Page {
     while (log.children.length > 5) log.firstChild.remove();
   }
 
-  refused(error) {
+  // Says why something was refused, perhaps between other sentences.
+  refused(error, before = "", after = "") {
     const no = error.no ?? {};
-    if (no.why === "conflict") return this.sayConflict(no);
-    this.sayWrong(sentenceOf(error), { show: no.by ?? no.el ?? null });
+    const isConflict = no.why === "conflict";
+    const show = (isConflict ? no.at : no.by ?? no.el) ?? null;
+    this.sayWrong([before, this.reasonOf(error), after].filter(Boolean).join(" "), { isConflict, show });
   }
 
-  sayConflict(no) {
+  reasonOf(error) {
+    return error.why === "conflict" ? this.conflictText(error.no) : sentenceOf(error);
+  }
+
+  conflictText(no) {
     const { session } = this;
     const by = session.authorOf(no.with);
     const isOwn = by === session.name;
@@ -273,8 +281,43 @@ class Page {
     const deed = session.entries.has(no.with) ? ` (${session.textOf(no.with)})` : "";
     const what = row ? titleOf(row) : no.at;
     const first = isOwn ? "Undo that entry first." : `${by ?? "Its author"} has to undo that entry first.`;
-    this.sayWrong(`Not undone: ${whose} entry ${no.with}${deed} also touched ${what}. ${first} You can also change the `
-      + "element by hand.", { isConflict: true, show: no.at });
+    return `Not undone: ${whose} entry ${no.with}${deed} also touched ${what}. ${first} You can also change the `
+      + "element by hand.";
+  }
+
+  // Does something of which the hints do not end a refusal, and returns its value.
+  keepRefusal(work) {
+    const { refusal } = this;
+    const value = work();
+    this.refusal ??= refusal;
+    return value;
+  }
+
+  // ---- What was not done
+
+  // Tells that a change was refused. One that was dropped is listed, unless the mapper has it back.
+  changeRefused(error, isBack = false) {
+    if (!error.isDropped || isBack) return this.refused(error);
+    this.notDone.push({ text: error.text, reason: this.reasonOf(error), isUnsure: isUnsure(error) });
+    return this.showNotDone();
+  }
+
+  // How many changes were not done, and of how many nobody knows that.
+  countNotDone() {
+    const unsure = this.notDone.filter((each) => each.isUnsure).length;
+    const sure = this.notDone.length - unsure;
+    if (sure === 0) return `${counted(unsure, "change")} perhaps not done`;
+    return `${counted(sure, "change")} not done${unsure ? `, ${unsure} perhaps` : ""}`;
+  }
+
+  showNotDone() {
+    this.panels.showNotDone();
+    this.showSaved();
+  }
+
+  closeNotDone() {
+    this.notDone = [];
+    this.showNotDone();
   }
 
   tellWhere(point) {
@@ -314,26 +357,28 @@ class Page {
   // ---- What is done
 
   // Does a gesture and says so, or says what refused it. `done` may return an element, which is selected then, unless
-  // the mapper has selected something else meanwhile or is typing.
-  async perform(text, build, done = () => {}, failed = () => {}) {
+  // the mapper has selected something else meanwhile or is typing. `failed` returns whether the mapper has back what
+  // was not saved. Returns whether it was saved.
+  async perform(text, build, done = () => {}, failed = () => false) {
     const { session, choices } = this;
-    if (!this.isInside) return this.sayWrong("Connect first.");
+    if (!this.isInside) {
+      this.sayWrong("Connect first.");
+      return false;
+    }
     const report = this.reporter();
     try {
       const names = await session.perform(text, build);
-      if (session !== this.session) return undefined;
+      if (session !== this.session) return true;
       report(`Saved: ${text}.`);
       const made = done(names, report);
       const isTyping = document.activeElement?.matches("#selected :is(input, textarea, select)");
       if (made && choices === this.choices && !isTyping) this.choose(made);
+      return true;
     } catch (error) {
       if (!error.why) console.error(error);
-      const { refusal } = this;
-      failed(error);
-      this.refusal ??= refusal; // the hint of a drawing that comes back does not end it
-      this.refused(error);
+      this.changeRefused(error, this.keepRefusal(() => failed(error)));
+      return false;
     }
-    return undefined;
   }
 
   // Whether a key is held down, and what it did first is not answered yet.
@@ -353,7 +398,7 @@ class Page {
     try {
       if (this.isInside) await work(this.reporter());
     } catch (error) {
-      this.refused(error);
+      this.changeRefused(error);
     }
   }
 
@@ -500,13 +545,29 @@ class Page {
 
   async share() {
     const link = this.link();
+    const reasons = whyOnlyHere(this.session.url);
+    const use = reasons.length ? `It works only on this computer, because ${reasons.join(" and ")}.`
+      : "It fills in the address and the room; everybody gives a name of their own.";
     try {
       await navigator.clipboard.writeText(link);
-      this.say("The link is copied. It fills in the address and the room; everybody gives a name of their own.");
+      this.say(`The link is copied. ${use}`);
     } catch {
-      prompt("Copy this link:", link);
+      prompt(`Copy this link. ${use}`, link);
     }
   }
+}
+
+// Whether a host is this computer, for whoever asks.
+const isThisComputer = (hostname) => /^(localhost|127(\.\d+){3}|\[::1\])$/.test(hostname);
+
+// Why a link to this page and to the address of a server works for nobody else: perhaps for several reasons or none.
+function whyOnlyHere(address) {
+  const reasons = [];
+  if (location.protocol === "file:") reasons.push("you opened the page as a file");
+  else if (isThisComputer(location.hostname)) reasons.push(`the page comes from ${location.host}`);
+  const { hostname, host } = new URL(address);
+  if (isThisComputer(hostname)) reasons.push(`the server's address is ${host}`);
+  return reasons;
 }
 
 // A number of degrees that somebody typed, or null.
@@ -654,7 +715,7 @@ class Background {
 // The address of the server that is filled in: behind a proxy a room has a path of its own.
 function usualAddress(room) {
   if (location.protocol === "https:") return `wss://${location.host}/${room}`;
-  const isHere = location.protocol === "file:" || ["127.0.0.1", "localhost", "[::1]"].includes(location.hostname);
+  const isHere = location.protocol === "file:" || isThisComputer(location.hostname);
   return isHere ? "ws://127.0.0.1:9001" : `ws://${location.host}/${room}`;
 }
 
@@ -686,6 +747,7 @@ function listen(page) {
     closer: () => page.view.zoomBy(1), farther: () => page.view.zoomBy(-1), fit: () => page.fit(),
     finish: () => tools.finish(), back: () => tools.removeLast(), cancel: () => tools.escape(),
     show: () => page.show(page.shown), hush: () => page.say(""), sheet: () => openSheet(),
+    "close-not-done": () => page.closeNotDone(),
     "open-sheet": () => openSheet(true), "close-sheet": () => openSheet(false),
   };
   for (const id of ["select", "point", "line", "area"]) clicks[id] = () => tools.use(id);

@@ -285,11 +285,13 @@ class Panels {
     const tags = Object.fromEntries(real);
     const words = real.slice(0, 2).map(([key, value]) => (value === null ? `no ${key}` : `${key}=${value}`)).join(", ");
     const sent = draft.typed().map((each) => [each, { ...each }]);
-    this.page.perform(`tagged ${titleOf(row)} with ${words}`, () => [{ do: "retag", el, tags }], () => {
+    const done = () => {
       draft.settle(sent);
       this.showSelected();
       this.showTyped();
-    });
+    };
+    const isStillTyped = () => this.typedElements().includes(draft);
+    this.page.perform(`tagged ${titleOf(row)} with ${words}`, () => [{ do: "retag", el, tags }], done, isStillTyped);
   }
 
   discard(el) {
@@ -517,6 +519,19 @@ class Panels {
     const text = run.length > 1 ? many : `${seq}, undone: ${this.page.session.textOf(seq)}`;
     const redo = isLast ? [button("Redo", () => this.page.redo(), { ariaLabel: `Redo entry ${seq}` })] : [];
     return make("li", { className: "soft" }, make("span", { textContent: text }), ...redo);
+  }
+
+  // Lists the changes that were not done, those together that have the same reason.
+  showNotDone() {
+    const { page } = this;
+    const byReason = Map.groupBy(page.notDone, ({ reason }) => reason);
+    const parts = [...byReason].flatMap(([reason, changes]) => [
+      make("p", { textContent: reason }),
+      make("ul", {}, ...changes.map(({ text }) => make("li", { textContent: text }))),
+    ]);
+    $("not-done").hidden = page.notDone.length === 0;
+    $("not-done-title").textContent = page.countNotDone();
+    $("not-done-changes").replaceChildren(...parts);
   }
 
   changeItem(entry) {

@@ -14,6 +14,9 @@ const MOST_TRIES = 20; // of names for new elements
 const MOST_ACTIONS = 10_000; // of a group
 const LEAST_ID = -(2 ** 52);
 
+// A change that ends for one of these reasons is dropped, whether or not it had to wait for a connection.
+const DROPS = new Set(["not_sent", "unknown", "no_answer", "not_meant", "gone", "other_nodes"]);
+
 // Why a WebSocket cannot be opened, which the browser does not tell: asked over HTTP at the same address. The browser
 // hides the status of another site, and even whether it answers, for example if nobody vouches for its certificate.
 const STATUSES = {
@@ -63,7 +66,8 @@ class Session extends EventTarget {
     Object.assign(this, { url, roomName, name, room: null, state: "connecting", text: "", isOver: false });
     Object.assign(this, { unsaved: 0, entries: new Map(), conflict: null, hasGroups: null });
     Object.assign(this, { texts: new Map(), gestures: new Map(), undos: [], redos: [] });
-    Object.assign(this, { run: 0, doubts: 0 }); // how often the server was started anew, and how often perhaps
+    Object.assign(this, { run: 0, doubts: 0 }); // how often the server was restarted, and how often perhaps
+    Object.assign(this, { switches: 0, hasLeft: false }); // how often the connection went or came; if the mapper left
     Object.assign(this, { turn: Promise.resolve(true), waiting: [] }); // if the last change was done, and who waits
     this.lowest = null;
     this.leaving = new AbortController();
@@ -132,6 +136,7 @@ class Session extends EventTarget {
 
   takeState() {
     const { state } = this.room;
+    this.switches += 1;
     if (state === "connecting") this.become("lost", "Connection lost, trying again ..", true);
     if (state !== "open") return;
     this.become("open", "");
@@ -152,7 +157,7 @@ class Session extends EventTarget {
   // Leaves the room, perhaps for a reason.
   end(why = "") {
     if (this.isOver) return false;
-    this.isOver = true;
+    Object.assign(this, { isOver: true, hasLeft: !why });
     for (const done of this.waiting.splice(0)) done();
     this.leaving.abort(new Error("left"));
     this.room?.close();
@@ -212,10 +217,19 @@ class Session extends EventTarget {
 
   // What an entry did, in words.
   deed(entry) {
-    const about = (seq) => `entry ${seq}: ${this.textOf(seq)}`;
-    if (entry.undoes) return `undid ${about(entry.undoes)}`;
-    if (entry.redoes) return `redid ${about(entry.redoes)}`;
+    if (entry.undoes) return `undid ${this.about(entry.undoes)}`;
+    if (entry.redoes) return `redid ${this.about(entry.redoes)}`;
     return this.texts.get(entry.seq) ?? (entry.text ||= deedsOf(entry.rows));
+  }
+
+  about(seq) {
+    return `entry ${seq}: ${this.textOf(seq)}`;
+  }
+
+  // What an undo or a redo is about, in words. Nobody knows which entry is the last while a change is under way.
+  aboutLast(gestures) {
+    const last = this.unsaved === 0 ? gestures.at(-1) : null;
+    return last ? this.about(last[0]) : "the last change";
   }
 
   // Who made an entry, for the start of a sentence.
@@ -278,7 +292,7 @@ class Session extends EventTarget {
   // given, or throws what refused it.
   async perform(text, build) {
     if (!this.room) throw new Error("Connect first.");
-    return this.inTurn(async () => {
+    return this.inTurn(text, async () => {
       for (let tries = 1; ; tries += 1) {
         const names = [];
         const actions = this.build(build, names);
@@ -295,8 +309,8 @@ class Session extends EventTarget {
 
   // Does a change when those before it are answered and there is a connection, so that it fits a map that has them.
   // `work` gets whether the change before it was done, or true if none was under way when this one was wanted. A change
-  // is not done if the server was started anew since then; one about entries is not done if that is only possible.
-  inTurn(work, isOfEntries = false) {
+  // is not done if the server was restarted since then; one about entries is not done if that is only possible.
+  inTurn(text, work, isOfEntries = false) {
     const { run, doubts, unsaved } = this;
     const done = this.turn.then(async (wasDone) => {
       await this.whenOpen();
@@ -305,7 +319,7 @@ class Session extends EventTarget {
       return work(wasDone || unsaved === 0);
     });
     this.turn = done.then(() => true, () => false);
-    return this.count(() => done);
+    return this.count(text, () => done);
   }
 
   // The actions of a gesture for the map as it is now, and the names that it gives.
@@ -327,8 +341,10 @@ class Session extends EventTarget {
     return actions;
   }
 
-  // Counts a change as not saved while it is under way.
-  async count(work) {
+  // Counts a change as not saved while it is under way. An error gets the text of the change, and whether the change
+  // was dropped.
+  async count(text, work) {
+    const { switches } = this;
     this.unsaved += 1;
     this.tell("unsaved");
     this.watchAnswers();
@@ -336,13 +352,20 @@ class Session extends EventTarget {
       return await work();
     } catch (error) {
       if (error.why === "conflict") this.setConflict({ seq: this.asked, with: error.no.with, at: error.no.at });
-      throw error;
+      throw Object.assign(error, { text, isDropped: this.isDropped(error, switches) });
     } finally {
       this.unsaved -= 1;
       this.tell("unsaved");
       this.watchAnswers();
       if (this.unsaved === 0) this.askUndos();
     }
+  }
+
+  // Whether a change that was refused was dropped, so that the mapper may have missed it. Whoever leaves agrees to
+  // that, and if nothing would change, the map is as the mapper wanted it.
+  isDropped({ why }, switches) {
+    const hasWaited = switches !== this.switches && !this.hasLeft;
+    return DROPS.has(why) || (hasWaited && why !== "nothing");
   }
 
   // Says that the server does not answer, if an answer is awaited for long.
@@ -425,7 +448,8 @@ class Session extends EventTarget {
   // Undoes the entries of a gesture or, if none is given, those of the last. If that was under way and was not done, an
   // earlier one is not meant.
   undo(given = null) {
-    return this.inTurn(async (isLastDone) => {
+    const text = `undid ${given ? this.about(given[0]) : this.aboutLast(this.undos)}`;
+    return this.inTurn(text, async (isLastDone) => {
       const seqs = given ?? this.undos.at(-1);
       if (!seqs) throw { why: "nothing_to_undo" };
       if (!given && !isLastDone) throw { why: "not_meant" };
@@ -458,7 +482,7 @@ class Session extends EventTarget {
 
   // Redoes what was undone last.
   redo() {
-    return this.inTurn(async (isLastDone) => {
+    return this.inTurn(`redid ${this.aboutLast(this.redos)}`, async (isLastDone) => {
       const seqs = this.redos.at(-1);
       if (!seqs) throw { why: "nothing_to_redo" };
       if (!isLastDone) throw { why: "not_meant" };

@@ -14,6 +14,7 @@ const HINTS = {
     area: "Click the corners. A double click, Enter or a click on the first corner finishes.",
     move: "Drag what is selected, or move it with the arrow keys. Escape ends that.",
     members: "Click what is to be a member, or to be none any more. Escape ends that.",
+    again: "Press Enter to save it, or Escape to drop it.",
   },
   touch: {
     point: "Tap where the node is to be. On a line it becomes a part of the line.",
@@ -21,6 +22,7 @@ const HINTS = {
     area: "Tap the corners. “Finish” or a tap on the first corner finishes.",
     move: "Drag what is selected. “Select” ends that.",
     members: "Tap what is to be a member, or to be none any more. “Select” ends that.",
+    again: "“Finish” saves it, “Cancel” drops it.",
   },
 };
 
@@ -58,7 +60,7 @@ class Tools {
     page.isHint = Boolean(hint);
     page.view?.paintOverSoon();
     page.showSaved();
-    if (tool === "select") this.goOnDrawing();
+    if (tool === "select") this.goOnDrawing("");
     return undefined;
   }
 
@@ -234,7 +236,8 @@ class Tools {
     this.tellDraft();
   }
 
-  // Sends the drawing as one gesture. It is kept until it is saved, and comes back if it is refused.
+  // Sends the drawing as one gesture. It is kept until it is saved, and comes back if it is refused. The next one that
+  // came back waits for the answer, so that what is said of it does not hide what became of this one.
   finish(isClosed = this.draft?.isArea) {
     const { page, draft } = this;
     if (!draft) return;
@@ -243,19 +246,21 @@ class Tools {
     const { places, extend } = draft;
     const tags = this.presetTags();
     draft.preset = $("preset").value;
-    this.use("select");
     this.sent.add(draft);
+    this.use("select");
     const what = kindOf({ el: "w", tags });
     const text = extend ? `made ${extend} longer` : `drew a ${what} with ${counted(places.length, "point")}`;
     const build = (newName) => Edits.way(places, { isClosed, tags, extend }, page.elements, newName);
     const done = (names) => extend ?? names.at(-1);
-    page.perform(text, build, done, (error) => this.bringBack({ ...draft, error })).finally(() => {
+    page.perform(text, build, done, (error) => this.bringBack({ ...draft, error })).then((isSaved) => {
       this.sent.delete(draft);
       page.view.paintOverSoon();
+      this.goOnDrawing(isSaved ? `Saved: ${text}.` : "");
     });
   }
 
-  // Goes on with a drawing that could not be saved, after the one that is being drawn.
+  // Goes on with a drawing that could not be saved, after the one that is being drawn. Returns true, since the mapper
+  // has it back.
   bringBack(draft) {
     if (this.draft?.places.length || !this.page.isInside) {
       this.unsaved.push(draft);
@@ -266,14 +271,18 @@ class Tools {
       this.refreshDraft();
       this.tellDraft();
     }
+    return true;
   }
 
-  // Goes on with the first drawing that waits, and says again why it was not saved.
-  goOnDrawing() {
-    if (this.unsaved.length === 0 || !this.page.isInside) return;
+  // Goes on with the first drawing that waits, unless the mapper does something else or another one is under way. Says
+  // again why it was not saved, after what became of the drawing before it. `before` is null if there was none.
+  goOnDrawing(before = null) {
+    const isBusy = this.tool !== "select" || this.sent.size > 0;
+    if (this.unsaved.length === 0 || !this.page.isInside || isBusy) return;
     const draft = this.unsaved.shift();
-    this.bringBack(draft);
-    if (draft.error) this.page.refused(draft.error);
+    this.page.keepRefusal(() => this.bringBack(draft));
+    const next = [`${before} The next drawing was not saved either.`.trim(), this.hintOf("again")];
+    if (draft.error) this.page.refused(draft.error, ...(before === null ? [] : next));
   }
 
   // Puts the drawing aside, since the session has ended. Returns whether drawings wait.

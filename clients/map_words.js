@@ -90,7 +90,7 @@ const REFUSALS = {
   bad_field: (no) => `The server does not accept this: “${no.field}” is missing, or is not of its form.`,
   unknown_do: () => "This server does not know that action.",
   unknown: () => "The connection ended before the answer came. Look at the map: the change may be there or not.",
-  not_sent: ({ restarted }) => `The ${restarted ? "server was started anew" : "connection broke"} before this was sent. `
+  not_sent: ({ restarted }) => `The ${restarted ? "server was restarted" : "connection broke"} before this was sent. `
     + "It was not done.",
   no_answer: () => "No answer came. Look at the map: the change may be there or not.",
   gone: () => "What this is about is not there any more.",
@@ -98,7 +98,10 @@ const REFUSALS = {
   other_nodes: ({ el }) => `Somebody changed the nodes of ${el} meanwhile. Select it again, and change its list.`,
   not_meant: () => "Nothing was undone or redone, because the change before was not saved.",
   unsafe: () => "The id of a node is too large: the line cannot be changed here.",
-  closed: () => "You left the room before the answer came.",
+  closed: ({ isDropped, isSent }) => {
+    if (!isDropped) return "You left the room before the answer came.";
+    return isSent ? REFUSALS.unknown() : "The session ended before this was sent. It was not done.";
+  },
 };
 
 // A refusal, or another error of a call, as a sentence.
@@ -106,6 +109,9 @@ function sentenceOf(error) {
   const no = error.no ?? error;
   return REFUSALS[no.why]?.(no) ?? error.message ?? `The server refused: ${no.why}.`;
 }
+
+// Whether nobody knows if a change was done.
+const isUnsure = ({ why, isSent }) => ["unknown", "no_answer"].includes(why) || (why === "closed" && isSent);
 
 // A colour for each author: the same in every browser.
 function colourOf(author) {
