@@ -107,6 +107,14 @@ class PageAuthor(Author):
         getattr(self, word)()
         settled(self.page)
         self.note_outcomes()
+        self.close_list()
+
+    def close_list(self):
+        """Closes the list of changes that were not done, and counts them."""
+        count = self.page.get("page.notDone.length")
+        if count:
+            self.steps["not done"] += count
+            self.page.click("#close-not-done", "×")
 
     def names(self, kinds="nwr"):
         """The names of all elements of some kinds."""
@@ -241,8 +249,8 @@ class PageAuthor(Author):
 
     def look(self, rows, seq, undos):
         """Checks, while all authors rest, that the page knows the room's map at an entry, and what this author can undo
-        and redo. `undos` are these lists as another session receives them. A drawing that the page gave back is dropped
-        before."""
+        and redo. `undos` are these lists as another session receives them. Before, a drawing that the page gave back
+        is dropped, and the list of changes that were not done is closed."""
         self.page.get("page.tools.use('select'), 0")
         lists = "{ undos: page.session.undos.flat(), redo: page.session.redos.flat() }"
         is_ready = f"page.session.state === 'open' && page.session.room.seq >= {seq} && page.session.unsaved === 0"
@@ -251,6 +259,7 @@ class PageAuthor(Author):
         while self.page.get(f"({lists})") != undos and time.monotonic() < deadline:
             time.sleep(NAP)
         self.note_outcomes()
+        self.close_list()
         self.check("the last entry of the page", self.page.get("page.session.room.seq"), seq)
         self.check("the page's map, and the wanted one",
                    differing(self.page.get("Object.fromEntries(page.elements)"), rows), {})
