@@ -52,7 +52,7 @@ SCRIPTS = [
     *scripts("clients", "editors", "editors_rooms", "keeper"),
     *scripts("packages", "debian", "rooms"),
     *scripts("documents", "running"),
-    *scripts("web", "map_page"),
+    *scripts("web", "map_page", "firefox"),
     *scripts("server", "sockets", "faults", "foreign"),
     *benchmarks("program", "lines --sizes 50,100 --rounds 1", "held --elements 100 --entries 100"),
     *benchmarks("program", "group_costs --quick", "instructions"),
