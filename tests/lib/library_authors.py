@@ -68,6 +68,8 @@ class LibraryAuthor(Author):
         self.client, self.run, self.fault = None, None, None
         # What the author can undo and redo, or None after a change of which nobody knows, until a time.
         self.undos, self.unknown_until = Undos(), 0
+        # The run of the server that accepted the last changes, and the greatest number of their entries.
+        self.last_reported = None, 0
         # A copy of the map that follows the changes, the task that keeps it, and the number of its last entry.
         self.copy, self.copying, self.copied = {}, None, 0
         self.resets = 0
@@ -125,7 +127,7 @@ class LibraryAuthor(Author):
     def accept(self, message, told, asked, run):
         """Notes a change that was sent in a run and accepted."""
         self.record.accept(told["seq"], asked)
-        if run is not self.run:
+        if run is not self.run or self.is_late(told["seq"], run):
             self.forget_undos()
         if self.undos is None:
             return
@@ -133,6 +135,13 @@ class LibraryAuthor(Author):
         if wanted is None or told not in (wanted, {"seq": told["seq"]}):
             raise Broken(f"{message} is answered {told}, and can be answered {wanted}")
         self.undos.take(message, wanted)
+
+    def is_late(self, seq, run):
+        """Whether a later entry of the same run was reported before this one. If the replies to two changes are lost,
+        and the first was refused, it may be accepted when it is sent again, after the second."""
+        last, greatest = self.last_reported
+        self.last_reported = run, max(seq, greatest if run is last else 0)
+        return run is last and seq < greatest
 
     def lose(self, asked):
         """Notes a change of which nobody knows."""
