@@ -65,7 +65,7 @@ def id_of(text):
 
 
 def name_of(element):
-    """What an element of an extract is called: its name, or where its id is none, what stands there."""
+    """How messages name an element of an extract: by its name or, if its id is invalid, by the text of the id."""
     number = element.get("id")
     return f"{LETTERS[element.tag]}{number}" if id_of(number) else f"{element.tag} with the id {number!r}"
 
@@ -125,8 +125,8 @@ def shortened(text):
 
 
 def row_of(element, note=lambda *_: None):
-    """The row that a room can hold of an element of an extract, as far as the element by itself tells. What is cut or
-    rounded is noted, by `note(how, what)`; raises LeftOut where a room can hold nothing of it."""
+    """The row that a room can hold of an element of an extract, without a look at other elements. It calls
+    `note(how, what)` for what is cut or rounded, and raises LeftOut if a room can hold nothing of the element."""
     if is_deleted(element):
         raise LeftOut("it is deleted")
     if id_of(element.get("id")) is None:
@@ -164,7 +164,7 @@ class Rows:
         return len(self.ids)
 
     def add(self, number, text):
-        """Adds a row behind all others. Rows are found by `text` where their ids rise."""
+        """Adds a row after all others. `text` finds rows if their ids rise."""
         self.ids.append(number)
         self.texts += text if isinstance(text, bytes) else text.encode()
         self.ends.append(len(self.texts))
@@ -221,7 +221,7 @@ class Base:
         self.cut_relations()
 
     def read(self, file):
-        """Reads the rows, as far as each element by itself tells them."""
+        """Reads the rows, each without a look at other elements."""
         for element in top_elements(file):
             if element.tag not in LETTERS:
                 continue

@@ -27,7 +27,7 @@ function whenIdle(work) {
   else setTimeout(work, 200);
 }
 
-// So many refusals at most are said together.
+// How many refusals a message has at most.
 const MOST_REFUSALS = 4;
 
 class Page {
@@ -253,7 +253,7 @@ class Page {
     return (text) => (this.refusal?.inputs >= inputs ? undefined : this.say(text));
   }
 
-  // Tells a screen reader what others do, a few times a second at most.
+  // Reports to a screen reader what others do, a few times a second at most.
   announce(text) {
     const log = $("news");
     log.append(make("p", { textContent: text }));
@@ -295,7 +295,7 @@ class Page {
 
   // ---- What was not done
 
-  // Tells that a change was refused. One that was dropped is listed, unless the mapper has it back.
+  // Reports that a change was refused. The list has a dropped change, unless the mapper has it back.
   changeRefused(error, isBack = false) {
     if (!error.isDropped || isBack) return this.refused(error);
     this.notDone.push({ text: error.text, reason: this.reasonOf(error), isUnsure: isUnsure(error) });
@@ -712,7 +712,7 @@ class Background {
 
 // ---- Start
 
-// The address of the server that is filled in: behind a proxy a room has a path of its own.
+// The address that the form begins with. Behind a proxy, each room has its own path.
 function usualAddress(room) {
   if (location.protocol === "https:") return `wss://${location.host}/${room}`;
   const isHere = location.protocol === "file:" || isThisComputer(location.hostname);

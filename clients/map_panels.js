@@ -1,4 +1,4 @@
-// The lists and fields beside the map. Whatever others wrote is put in as text.
+// The lists and fields next to the map. They show what others wrote as text, never as markup.
 "use strict";
 
 const $ = (id) => document.getElementById(id);
@@ -27,7 +27,7 @@ function dotOf(author) {
   return dot;
 }
 
-// The tags of an element in fields, of which those that were typed stay until they are saved, whatever comes. The last
+// The tags of an element in fields. Typed fields stay until they are saved, even if others change the tags. The last
 // line is empty, for a new tag.
 class TagDraft {
   constructor(row) {

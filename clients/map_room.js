@@ -2,11 +2,11 @@
 // not saved, what entries did, and what can be undone. It knows no page but the storage of the browser.
 "use strict";
 
-// After so many milliseconds without a word a connection is given up. If a map needs longer on its way, each attempt
-// waits twice as long as the last, up to a limit.
+// After how many milliseconds without a byte a connection is given up. If a map needs longer, each attempt waits twice
+// as long as the last, up to a limit.
 const HEARTBEAT = 30_000;
 const LONGEST_HEARTBEAT = 240_000;
-const SLOW = 4000; // after so many milliseconds without an answer it is said that none came
+const SLOW = 4000; // milliseconds after which the page says that no answer came
 const FIRST_PAUSE = 500;
 const LONGEST_PAUSE = 10_000;
 const MOST_ENTRIES = 1000; // that are remembered
@@ -17,8 +17,8 @@ const LEAST_ID = -(2 ** 52);
 // A change that ends for one of these reasons is dropped, whether or not it had to wait for a connection.
 const DROPS = new Set(["not_sent", "unknown", "no_answer", "not_meant", "gone", "other_nodes"]);
 
-// Why a WebSocket cannot be opened, which the browser does not tell: asked over HTTP at the same address. The browser
-// hides the status of another site, and even whether it answers, for example if nobody vouches for its certificate.
+// Why a WebSocket cannot be opened. The browser does not say, so the page asks over HTTP at the same address. The
+// browser hides the status of another site, and even whether it answers, for example if its certificate is not trusted.
 const STATUSES = {
   401: "wants a name and a password, and those of your browser are missing or wrong. Load this page again.",
   403: "refuses this page. Open the page that it hands out itself.",
@@ -377,8 +377,8 @@ class Session extends EventTarget {
     if (this.unsaved > 0) this.slowTimer = setTimeout(tell, SLOW);
   }
 
-  // Sends the actions of a gesture as one group or, if the server knows none, one after another. Returns the numbers
-  // of the entries.
+  // Sends the actions of a gesture as one group or, if the server knows no groups, one by one. Returns the numbers of
+  // the entries.
   async send(actions) {
     if (actions.length > MOST_ACTIONS) throw new Error("That is more than can be done at once. Do it in parts.");
     if (actions.length === 1) return [(await this.room.ask(actions[0])).seq];

@@ -142,7 +142,7 @@ class WayShape {
   }
 }
 
-// Of so many nodes in a window all are drawn, and of more only those with tags, or only places.
+// Up to how many nodes in a window all are drawn. Of more, only those with tags are drawn, or only places.
 const MOST_NODES = 1500;
 
 // The shapes of all elements. Positions of nodes stand in lists of numbers, by the slot of the node.

@@ -1,9 +1,9 @@
-// What touches Leaflet: the map in its window, the canvases on it, the tiles behind it, and pointers. A point is a
-// place in the window in pixels, {x, y}; a position is a place on the plane of map_shapes.js.
+// All that uses Leaflet: the map in its window, the canvases on it, the tiles under it, and pointers. A point is a
+// place in the window in pixels, {x, y}. A position is a place on the plane of map_shapes.js.
 "use strict";
 
-// Where Leaflet is: beside the page, as Debian's libjs-leaflet has it, or else in a public place, where the browser
-// takes the files only if they have these checksums.
+// Where Leaflet is: near the page, where Debian's libjs-leaflet puts it, or otherwise at a public site. The browser
+// takes that site's files only if they have these checksums.
 const LEAFLET_NEAR = location.protocol === "file:" ? "/usr/share/javascript/leaflet/" : "/javascript/leaflet/";
 const LEAFLET_FAR = "https://unpkg.com/leaflet@1.9.4/dist/";
 const LEAFLET_SUMS = {
@@ -143,7 +143,7 @@ class View {
     this.fit(box, Math.max(18, this.zoom));
   }
 
-  // Moves the window so that a box is not under what covers so many pixels at the bottom.
+  // Moves the window so that a box is not under the `covered` pixels at the bottom.
   lift(box, covered) {
     if (isEmptyBox(box)) return;
     const free = this.size().y - covered;
@@ -342,7 +342,7 @@ class View {
 
   // ---- Tiles
 
-  // Shows tiles behind the map: the address has {z}, {x} and {y}. An empty one shows none.
+  // Shows tiles under the map. The address has {z}, {x} and {y}; an empty address shows none.
   setTiles(url, credit) {
     this.tiles?.remove();
     this.tiles = null;

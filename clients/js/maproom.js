@@ -283,7 +283,7 @@
 
   // ---- The errors.
 
-  // The reasons of docs/PROTOCOL.md in words. What stands in braces is a member of the refusal.
+  // The reasons of docs/PROTOCOL.md in words. A name in braces is that of a member of the refusal.
   const WORDS = {
     not_json: "the room could not read the message",
     not_object: "the room could not read the message",
@@ -460,7 +460,7 @@
   // How often in the time of a heartbeat it is looked whether something came.
   const TICKS = 15;
 
-  // What has gone out and not left the browser may have so many bytes, before more goes out.
+  // How many bytes may wait in the browser before the library gives it more.
   const MOST_BUFFERED = 1 << 20;
 
   // The entry `seq` of the journal: who made it (`by`), and the elements that it changed (`rows`).
@@ -814,7 +814,7 @@
       return this.#change(actions.retag(el, tags), options);
     }
 
-    // Moves by so many degrees to the north and to the east.
+    // Moves nodes, and the nodes of ways, by `dlat` degrees to the north and `dlon` to the east.
     move(els, dlat, dlon, options) {
       return this.#change(actions.move(els, dlat, dlon), options);
     }

@@ -70,7 +70,8 @@ def wrapped(lines):
     words = WORD.findall(" ".join([lines[0][len(first) :], *lines[1:]]))
     made, line = [], ""
     for word in words:
-        if line and len(rest) + len(line) + 1 + len(word) > WIDTH and not MARKS.fullmatch(word) and not word.startswith("#"):
+        is_mark = MARKS.fullmatch(word) or word.startswith("#")
+        if line and len(rest) + len(line) + 1 + len(word) > WIDTH and not is_mark:
             made.append(line)
             line = word
         else:
@@ -81,7 +82,8 @@ def wrapped(lines):
 
 def wrap(text):
     """A page with its prose wrapped."""
-    return "\n".join(line for block in blocks_of(text) for line in (wrapped(block.lines) if block.kind == "prose" else block.lines))
+    blocks = (wrapped(block.lines) if block.kind == "prose" else block.lines for block in blocks_of(text))
+    return "\n".join(line for lines in blocks for line in lines)
 
 
 def spans_of(block):

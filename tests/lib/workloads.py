@@ -3,8 +3,8 @@
 A message is the text of a line of `maproom replay` without the author and the id, or a pair of an author and such a
 text. `measuring.write_script` completes the lines.
 """
-# In the map of a small country, nine of ten elements are nodes, of which one in fourteen has a tag; a way has ten nodes and
-# two tags.
+# In the map of a small country, nine of ten elements are nodes, of which one in fourteen has a tag. A way has ten nodes
+# and two tags.
 NODES_OF_A_WAY = 10
 NODES_WITH_A_TAG = 14
 
@@ -141,7 +141,8 @@ def window(number, turn):
 
 def relists(size):
     """Other members of relations."""
-    return over(size // 100 + 1, lambda number, turn: f'"do":"members","el":"r{number}","members":{members(2 + turn % 7)}')
+    relist = lambda number, turn: f'"do":"members","el":"r{number}","members":{members(2 + turn % 7)}'
+    return over(size // 100 + 1, relist)
 
 
 def comings_and_goings(size):
@@ -190,12 +191,14 @@ def splits_and_joins(size):
 
 def merges(size):
     """Merges of nodes with the next node."""
-    return undone(over(nodes_of(size) - 1, lambda number, turn: f'"do":"merge","el":"n{number}","with":"n{number + 1}"'))
+    merge = lambda number, turn: f'"do":"merge","el":"n{number}","with":"n{number + 1}"'
+    return undone(over(nodes_of(size) - 1, merge))
 
 
 def unglues(size):
     """Unglues of ways from the node in their middle."""
-    return undone(ways_over(size, lambda number, turn: f'"do":"unglue","el":"w{number}","at":{NODES_OF_A_WAY // 2},"into":"n{2 * size}"'))
+    place = f'"at":{NODES_OF_A_WAY // 2},"into":"n{2 * size}"'
+    return undone(ways_over(size, lambda number, turn: f'"do":"unglue","el":"w{number}",{place}'))
 
 
 def mixed(size):
@@ -203,9 +206,10 @@ def mixed(size):
     made = []
     for turn in range(EDITS // 8):
         node, new = 1 + turn % nodes_of(size), size + 1 + turn
-        made += [create_node(new, '{"note":"new"}'), f'"do":"move","els":["n{node}"],"dlat":0,"dlon":1', '"do":"undo"', '"do":"redo"']
-        made += [f'"do":"retag","el":"n{node}","tags":{{"note":"{turn}"}}', f'"do":"get","el":"n{node}"', f'"do":"delete","el":"n{new}"']
-        made += ['"do":"undo"']
+        move, get = f'"do":"move","els":["n{node}"],"dlat":0,"dlon":1', f'"do":"get","el":"n{node}"'
+        retag = f'"do":"retag","el":"n{node}","tags":{{"note":"{turn}"}}'
+        made += [create_node(new, '{"note":"new"}'), move, '"do":"undo"', '"do":"redo"']
+        made += [retag, get, f'"do":"delete","el":"n{new}"', '"do":"undo"']
     return made
 
 
@@ -228,8 +232,10 @@ def edits_of_big_ways(size):
     made = []
     for turn in range(EDITS // EDITS_OF_A_BIG_EDIT // 6):
         way = 2 * size + turn % BIG_WAYS
-        for edit in ('"do":"reverse","el":"w%d"', f'"do":"retag","el":"w%d","tags":{{"note":"{turn}"}}', f'"do":"nodes","el":"w%d","nodes":{big_list(size, turn + 1)}'):
-            made += [edit % way, '"do":"undo"']
+        reverse, retag = f'"do":"reverse","el":"w{way}"', f'"do":"retag","el":"w{way}","tags":{{"note":"{turn}"}}'
+        relist = f'"do":"nodes","el":"w{way}","nodes":{big_list(size, turn + 1)}'
+        for edit in (reverse, retag, relist):
+            made += [edit, '"do":"undo"']
     return made
 
 
@@ -240,8 +246,10 @@ def moves_of_big_ways(size):
         way, other = 2 * size + turn % BIG_WAYS, 2 * size + BIG_WAYS + turn
         half = NODES_OF_A_BIG_WAY // 4 + turn * 7 % (NODES_OF_A_BIG_WAY // 2)
         made += [f'"do":"move","els":["w{way}"],"dlat":1,"dlon":1', '"do":"undo"', '"do":"redo"']
-        made += [f'"do":"split","el":"w{way}","at":{half},"into":"w{other}"', f'"do":"move","els":["w{other}"],"dlat":1,"dlon":0']
-        made += [f'"do":"join","el":"w{way}","with":"w{other}"', f'"do":"reverse","el":"w{way}"', f'"do":"get","el":"w{way}"']
+        split = f'"do":"split","el":"w{way}","at":{half},"into":"w{other}"'
+        join = f'"do":"join","el":"w{way}","with":"w{other}"'
+        made += [split, f'"do":"move","els":["w{other}"],"dlat":1,"dlon":0']
+        made += [join, f'"do":"reverse","el":"w{way}"', f'"do":"get","el":"w{way}"']
     return made
 
 
@@ -268,7 +276,8 @@ def party(size):
 
 def undos_and_redos(size):
     """Each of the few authors undoes their last work, and then each redoes it, over and over."""
-    return [(f"party_{it}", f'"do":"{word}"') for _ in range(EDITS // (2 * PARTY)) for word in ("undo", "redo") for it in range(PARTY)]
+    all_do = {word: [(f"party_{it}", f'"do":"{word}"') for it in range(PARTY)] for word in ("undo", "redo")}
+    return [*all_do["undo"], *all_do["redo"]] * (EDITS // (2 * PARTY))
 
 
 def gets(size):
@@ -297,8 +306,11 @@ WORKLOADS = {
     "unglue": ("unglues of ways of a map from a node, each undone right after", mapped, unglues),
     "undo": ("edits of a map, each undone right after, in a journal as long as the map", mapped, edits_and_undos),
     "mixed": ("creates, moves, new tags, gets, a delete, undos and redos, mixed", mapped, mixed),
-    "big_ways": ("reverses, new tags and other nodes of ways of 2,000 nodes, each undone right after", big_ways, edits_of_big_ways),
-    "redo": ("undos and redos of eight authors of a map's nodes, all undoing and then all redoing", party, undos_and_redos),
+    "big_ways": (
+        "reverses, new tags and other nodes of ways of 2,000 nodes, each undone right after",
+        big_ways, edits_of_big_ways),
+    "redo": (
+        "undos and redos of eight authors of a map's nodes, all undoing and then all redoing", party, undos_and_redos),
     "old_undo": (
         "undos of the oldest work of many authors, with as many later entries of another author as the size",
         old_work,

@@ -1,14 +1,14 @@
-// Lets one call of the program that it is loaded into fail, as the environment says:
+// Makes one system call of the program fail that is started with this library. The environment chooses the call:
 //
-//   FAILED_CALL    which kind of call, by a name of the list `names` below
-//   FAILED_NUMBER  which call of that kind, counted from 1 in all threads together; none where it is 0
-//   FAILED_WHY     the error, by its number (104, a connection that was reset)
-//   SESSION        whose reads and writes are counted: those of the connection that was accepted as the first, the second, ..; all if 0
-//   PIECE          how many bytes a read or a write of a socket moves at a time
+//   FAILED_CALL    the kind of the call, by a name of the list `names` below
+//   FAILED_NUMBER  the number of the call among those of its kind in all threads, from 1; with 0, none fails
+//   FAILED_WHY     the number of the error (without it 104, a connection that was reset)
+//   SESSION        the connection whose reads and writes count, by its number among those accepted, from 1; with 0, all
+//   PIECE          how many bytes a read or a write of a socket moves at most
 //   DIVISOR        by what the time limit of each write of a socket is divided
 //
-// A call that fails does nothing else, and is told by a line on standard error. A read for which nothing came in time is not
-// counted. The C library is named by hand, since the kit has no headers.
+// The failed call does nothing else, and prints a line on standard error. A read whose time is up does not count. The
+// declarations of the C library stand here, because the kit has no headers.
 
 typedef __SIZE_TYPE__ size_t;
 
@@ -24,9 +24,10 @@ enum { PEEK = 2, RESET = 104, SECOND = 1000000 };
 
 enum kind { READ, WRITE, ACCEPTED, READ_TIME, WRITE_TIME, NO_DELAY, REUSE, BOUND, LISTENING, THREAD, OTHER };
 
-static const char *const names[] = {"read", "write", "accept", "read_time", "write_time", "no_delay", "reuse", "bind", "listen", "thread"};
+static const char *const names[] = {"read",     "write", "accept", "read_time", "write_time",
+                                    "no_delay", "reuse", "bind",   "listen",    "thread"};
 
-// The options of sockets that are told apart, each by its level and its number.
+// The options of sockets that are kinds of their own, each by its level and its number.
 static const struct {
   int level, option;
   enum kind kind;
@@ -71,11 +72,13 @@ static int is_failed(enum kind kind) {
 }
 
 // The same of a read or a write.
-static int is_failed_in(int file, enum kind kind) { return (session == 0 || file == file_of_session) && is_failed(kind); }
+static int is_failed_in(int file, enum kind kind) {
+  return (session == 0 || file == file_of_session) && is_failed(kind);
+}
 
 static size_t at_a_time(size_t size) { return size < (size_t)piece ? size : (size_t)piece; }
 
-// A read waits until there is something, and then fails or takes it.
+// Waits until there is something to read, and then fails or takes it.
 long recv(int file, void *bytes, size_t size, int flags) {
   char first;
   if (syscall(RECEIVE_FROM, (long)file, &first, 1L, (long)(flags | PEEK), 0L, 0L) < 0)
@@ -96,7 +99,7 @@ int accept4(int file, void *address, void *size, int flags) {
   return taken;
 }
 
-// A time limit of the system's.
+// A time limit, as the kernel reads it.
 struct limit {
   long seconds, microseconds;
 };
@@ -125,9 +128,11 @@ int bind(int file, const void *address, unsigned size) {
   return is_failed(BOUND) ? -1 : (int)syscall(BIND, (long)file, address, (long)size);
 }
 
-int listen(int file, int backlog) { return is_failed(LISTENING) ? -1 : (int)syscall(LISTEN, (long)file, (long)backlog); }
+int listen(int file, int backlog) {
+  return is_failed(LISTENING) ? -1 : (int)syscall(LISTEN, (long)file, (long)backlog);
+}
 
-// The next definition of a function, which is the C library's.
+// Calls the C library's function, which is the next definition of this name.
 int pthread_create(void *thread, const void *how, void *(*body)(void *), void *argument) {
   int (*next)(void *, const void *, void *(*)(void *), void *) = dlsym((void *)-1L, "pthread_create");
   return is_failed(THREAD) ? (int)why : next(thread, how, body, argument);

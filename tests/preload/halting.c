@@ -1,13 +1,14 @@
-// Lets the standard streams of the program that it is loaded into halt: reads of standard input and writes of standard output
-// are interrupted, give or take few bytes, give or take none, or fail. The environment says how, by READ_ or WRITE_ and
+// Makes the standard streams of the program halt that is started with this library: reads of standard input and writes
+// of standard output are interrupted, move few bytes or none, or fail. The environment has the numbers, each as READ_
+// or WRITE_ and
 //
-//   PIECE          how many bytes are given or taken at a time
-//   INTERRUPTIONS  how many calls in a row are interrupted before each that is answered
-//   NOTHING_AT     which call that is answered gives or takes nothing, counted from 0
-//   FAILS_AFTER    behind how many bytes each call fails
+//   PIECE          how many bytes a call moves at most
+//   INTERRUPTIONS  how many calls in a row are interrupted before each other call
+//   NOTHING_AT     which of the other calls moves no byte, counted from 0
+//   FAILS_AFTER    after how many bytes each call fails
 //
-// A read after one that gave nothing, and a call after one that failed, are told on standard error. The C library is named by hand,
-// since the kit has no headers.
+// A read after one that moved nothing, and a call after one that failed, print a line on standard error. The
+// declarations of the C library stand here, because the kit has no headers.
 
 typedef __SIZE_TYPE__ size_t;
 
@@ -31,8 +32,10 @@ static long number_of(const char *name, long other) {
 }
 
 __attribute__((constructor)) static void read_habits(void) {
-  static const char *const names[2][4] = {{"READ_PIECE", "READ_INTERRUPTIONS", "READ_NOTHING_AT", "READ_FAILS_AFTER"},
-                                          {"WRITE_PIECE", "WRITE_INTERRUPTIONS", "WRITE_NOTHING_AT", "WRITE_FAILS_AFTER"}};
+  static const char *const names[2][4] = {
+      {"READ_PIECE", "READ_INTERRUPTIONS", "READ_NOTHING_AT", "READ_FAILS_AFTER"},
+      {"WRITE_PIECE", "WRITE_INTERRUPTIONS", "WRITE_NOTHING_AT", "WRITE_FAILS_AFTER"},
+  };
   for (int call = READ; call <= WRITE; call++) {
     habits[call].piece = number_of(names[call][0], 1L << 30);
     habits[call].interruptions = number_of(names[call][1], 0);
@@ -46,7 +49,7 @@ static long failed(int why) {
   return -1;
 }
 
-// A call of the system by its number, read or write, which are also the numbers of the streams that halt.
+// Answers a read or a write. Its number is that of the system call, and also that of the stream.
 static long answer(int call, void *bytes, size_t count) {
   static const char late[] = "a read after the end\n", again[] = "a call after a failure\n";
   struct habit *habit = &habits[call];
@@ -73,7 +76,9 @@ static long answer(int call, void *bytes, size_t count) {
   return given;
 }
 
-long read(int file, void *bytes, size_t count) { return file == 0 ? answer(READ, bytes, count) : syscall(READ, file, bytes, count); }
+long read(int file, void *bytes, size_t count) {
+  return file == 0 ? answer(READ, bytes, count) : syscall(READ, file, bytes, count);
+}
 
 long write(int file, const void *bytes, size_t count) {
   return file == 1 ? answer(WRITE, (void *)bytes, count) : syscall(WRITE, file, bytes, count);

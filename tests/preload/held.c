@@ -1,6 +1,6 @@
-// Counts the bytes that the program which it is loaded into holds, and how often it asked for memory, and tells both on standard error where a read of its standard
-// input gives the end. Counted is what the allocator sets aside for each block. The C library is named by hand, since the kit has
-// no headers.
+// Counts the bytes that the program holds that is started with this library, and how often it asked for memory. When a
+// read of standard input finds the end, it prints both on standard error. The bytes of a block are what the allocator
+// reserves for it. The declarations of the C library stand here, because the kit has no headers.
 
 typedef __SIZE_TYPE__ size_t;
 
@@ -11,7 +11,7 @@ size_t malloc_usable_size(void *block);
 long __read(int file, void *bytes, size_t count);
 int dprintf(int file, const char *form, ...);
 
-// What the allocator keeps beside each block.
+// What the allocator keeps in front of each block, in bytes.
 enum { HEAD = sizeof(size_t) };
 
 static long held, asked;

@@ -1,6 +1,6 @@
-// Refuses one growth of the program that it is loaded into: of all calls of malloc and realloc the one whose number
-// REFUSED_GROWTH gives, counted from 1. A line on standard error tells that it was refused. The C library is named by
-// hand, since the kit has no headers.
+// Refuses one allocation of the program that is started with this library: of all calls of malloc and realloc the one
+// whose number is in REFUSED_GROWTH, counted from 1. Then it prints a line on standard error. The declarations of the C
+// library stand here, because the kit has no headers.
 
 typedef __SIZE_TYPE__ size_t;
 
@@ -10,7 +10,8 @@ char *getenv(const char *name);
 long atol(const char *text);
 long write(int file, const void *bytes, size_t count);
 
-// The number of the growth that is refused, counted from the next one; past it and where none is refused 0.
+// The number of the refused allocation, counted from the next one. It is 0 after this allocation, and if none is to be
+// refused.
 static long number;
 
 __attribute__((constructor)) static void read_number(void) {

@@ -1,12 +1,13 @@
-// A library that is loaded before part_lines by bench/turns --yields N: of the yields of a thread that waits for its turn only
-// the first N are made, and the others are as many looks at whose turn it is. With SPINS=M each of these is followed by M pauses
-// of the processor. A wait begins where the last yield is long ago, or 64 were asked for.
+// Limits the yields of a thread that waits for its turn, for bench/turns --yields N, which starts part_lines with this
+// library. Only the first N yields of a wait reach the system. After each other yield the thread looks at once whose
+// turn it is, and with SPINS=M after M pauses of the processor. A new wait begins if the last yield is long ago, or the
+// wait had 64 yields.
 
 extern char *getenv(const char *name);
 extern int atoi(const char *text);
 extern long syscall(long number, ...);
 
-// sched_yield's number, and after how many ticks of the processor's clock a wait is another one.
+// The number of sched_yield, the yields of a wait, and after how many ticks of the processor's clock a new wait begins.
 enum { SCHED_YIELD = 24, ALL = 64, PAUSE = 3000 };
 
 static int made = ALL, spins;

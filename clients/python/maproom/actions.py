@@ -60,7 +60,7 @@ def retag(el: str, tags: Mapping[str, Optional[str]]) -> Dict[str, Any]:
 
 
 def move(els: Union[str, Iterable[str]], dlat: Degrees, dlon: Degrees) -> Dict[str, Any]:
-    """Moves nodes, and the nodes of ways, by so many degrees to the north and to the east."""
+    """Moves nodes, and the nodes of ways, by `dlat` degrees to the north and `dlon` to the east."""
     names = [els] if isinstance(els, str) else list(els)
     return {"do": "move", "els": names, "dlat": distance(dlat), "dlon": distance(dlon)}
 

@@ -37,7 +37,7 @@ class HelloRefused(Exception):
 
 
 class Row(NamedTuple):
-    """An element that differs: as it was `before`, and as it is `after`. None means that it is not in the map."""
+    """An element that differs: its content `before` and `after`. None means that it is not in the map."""
 
     el: str
     before: Optional[Element]

@@ -364,7 +364,7 @@ class Room:
         return await self._change(actions.retag(el, tags))
 
     async def move(self, els: Union[str, Iterable[str]], dlat: Degrees, dlon: Degrees) -> int:
-        """Moves nodes, and the nodes of ways, by so many degrees to the north and to the east."""
+        """Moves nodes, and the nodes of ways, by `dlat` degrees to the north and `dlon` to the east."""
         return await self._change(actions.move(els, dlat, dlon))
 
     async def reverse(self, el: str) -> int:

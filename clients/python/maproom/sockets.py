@@ -53,7 +53,7 @@ class Socket:
         return int.from_bytes(info[LAST_DATA], sys.byteorder) / 1000 if len(info) == LAST_DATA.stop else None
 
     async def close(self, seconds: float = 1) -> None:
-        """Closes, and waits for the answer for so many seconds."""
+        """Closes, and waits up to `seconds` for the answer."""
         try:
             await asyncio.wait_for(self.stream.close(), seconds)
         except FAULTS:

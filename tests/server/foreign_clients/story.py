@@ -1,4 +1,4 @@
-"""Tells a story over the package websockets.
+"""Plays a story over the package websockets.
 
 Usage: story.py URL STORY, where STORY is a JSON list of steps, each a list of a word, the connection that it is about,
 and perhaps a text. It prints what comes on each connection where the story waits for it.

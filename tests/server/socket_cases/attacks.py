@@ -129,8 +129,8 @@ class Mapper:
 
 @case_if(can_be_limited)
 def messages_that_want_all_memory():
-    """Three clients send messages of 8 MB that would take 570 MB each, and the server has 560 MB of addresses. It answers
-    `memory`, or ends the session, and never ends itself. Meanwhile it accepts each change of a mapper once."""
+    """Three clients send messages of 8 MB that would take 570 MB each, and the server has 560 MB of addresses. It
+    answers `memory`, or ends the session, and never ends itself. Meanwhile it accepts each change of a mapper once."""
     with StartedBy(LIMITED, workers=ATTACKERS + 1, sessions=1_000_000) as server:
         mapper, ends = Mapper(server), threading.Event()
         attackers = [Attacker(server, ends) for _ in range(ATTACKERS)]

@@ -99,7 +99,8 @@ def a_full_room_on_a_base():
 def what_stands_behind_a_base():
     """The server does not read text after the base as messages. A base may lack its line feed, and its map may be
     empty."""
-    for base in (BASE + f"anna {create(1)}\n" + BASE, BASE + "x" * 200_000, BASE.removesuffix("\n"), BASE.replace("\n", "\r\n")):
+    for base in (BASE + f"anna {create(1)}\n" + BASE, BASE + "x" * 200_000, BASE.removesuffix("\n"),
+                 BASE.replace("\n", "\r\n")):
         with serving(base=base) as server:
             serve_next(server, "zoe", 0, N1, N2, W1)
             finish(server, ["paris 0"], "left")
@@ -225,7 +226,8 @@ def an_input_that_cannot_be_read():
     words = [given.program, "serve", "--addr", "nowhere", "--workers", "1", "--sessions", "1"]
 
     def run_on(stdin, *more, shell=()):
-        ran = subprocess.run([*shell, *words, *more], stdin=stdin, capture_output=True, timeout=PATIENCE * given.slow, check=False)
+        how = {"capture_output": True, "timeout": PATIENCE * given.slow}
+        ran = subprocess.run([*shell, *words, *more], stdin=stdin, check=False, **how)
         return ran.returncode, ran.stdout.decode(), ran.stderr.decode()
 
     folder = os.open(tempfile.gettempdir(), os.O_RDONLY)
@@ -241,8 +243,10 @@ def an_input_that_cannot_be_read():
 @case
 def many_rooms_on_a_large_base():
     """Each of sixteen rooms begins with five hundred elements, the first as the last."""
-    rows = [f'{{"el":"n{number}","lat":"51.5000000","lon":"-0.1000000","tags":{{"name":"Café {number}"}}}}' for number in range(1, 451)]
-    rows += [f'{{"el":"w{number}","nodes":[{number},{number + 1},{number + 2}],"tags":{{"highway":"path"}}}}' for number in range(1, 51)]
+    cafe = lambda number: f'"lat":"51.5000000","lon":"-0.1000000","tags":{{"name":"Café {number}"}}'
+    path = lambda number: f'"nodes":[{number},{number + 1},{number + 2}],"tags":{{"highway":"path"}}'
+    rows = [f'{{"el":"n{number}",{cafe(number)}}}' for number in range(1, 451)]
+    rows += [f'{{"el":"w{number}",{path(number)}}}' for number in range(1, 51)]
     rooms = [f"room_{number}" for number in range(16)]
     with serving(*rooms, sessions=16, workers=2, base=welcome(5, *rows) + "\n") as server:
         for room in rooms:
@@ -254,14 +258,16 @@ def many_rooms_on_a_large_base():
 
 # A map of some of the elements that random edits are about.
 MIRRORED = [
-    *({"el": f"n{number}", "lat": "1.0000000", "lon": "2.0000000", "tags": {"name": "Café"}} for number in (-3, -2, -1, 1, 2)),
+    *({"el": f"n{number}", "lat": "1.0000000", "lon": "2.0000000", "tags": {"name": "Café"}}
+      for number in (-3, -2, -1, 1, 2)),
     *({"el": f"w{number}", "nodes": [-3, 1, number], "tags": {"a": "v"}} for number in (1, 2)),
     {"el": "r1", "members": [["r1", ""], ["w1", "outer"], ["n-1", ""]], "tags": {}},
 ]
 
 
 def mirrors_on_a_base(seed):
-    """Four edit at random at the same time, from different moments on. From their welcomes on all follow the room's map."""
+    """Four edit at random at the same time, from different moments on. From their welcomes on all follow the room's
+    map."""
     base = json.dumps({"id": 1, "ok": {"map": MIRRORED, "seq": 3}}) + "\n"
     with serving(workers=4, sessions=5, base=base) as server:
         first = server.session("zoe")

@@ -324,7 +324,7 @@ def fragments():
 
 @case
 def a_ping_between_fragments():
-    """It is answered beside the text; and a binary message may come in fragments too."""
+    """The server answers the ping as well as the text. A binary message may come in fragments, too."""
     with serving() as server:
         anna = after_the_hello(server)
         anna.send_bytes(begun(b'{"id":3,"do"') + frame(PING, b"between") + frame(CONTINUATION, b':"map"}'))

@@ -60,7 +60,8 @@ each_case(as_many_messages_as_may_be, {"a_hello_alone": 1, "as_many_messages_as_
 
 @case_if(has_parts)
 def as_many_waits_as_may_be():
-    """A silent client is closed with 1000 after so many waits, and one that never shakes hands gets nothing."""
+    """The server closes a silent client with 1000 after as many waits as it may read messages. A client that never
+    shakes hands gets nothing."""
     with serving_parts(FEW, workers=1, sessions=3) as server:
         anna = server.client()
         be_closed(anna, 1000)

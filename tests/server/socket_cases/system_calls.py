@@ -264,6 +264,7 @@ def workers_that_do_not_start():
 @case
 def addresses_that_are_refused():
     """A program that cannot listen reports it, before it prints anything."""
-    for call, why in (("bind", errno.EACCES), ("bind", errno.EADDRINUSE), ("listen", errno.EADDRINUSE), ("reuse", errno.ENOMEM)):
+    for call, why in (("bind", errno.EACCES), ("bind", errno.EADDRINUSE), ("listen", errno.EADDRINUSE),
+                      ("reuse", errno.ENOMEM)):
         with failing(call, 1, why) as server:
             want(server.end(), (1, "", {}, ["maproom: cannot listen\n"]))

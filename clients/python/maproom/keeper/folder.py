@@ -236,7 +236,7 @@ class Folder:
         return self._number
 
     def save(self, number: int, snapshot: Snapshot, count: int) -> None:
-        """Saves the snapshot before a journal, and keeps so many snapshots in all. Raises OSError."""
+        """Saves the snapshot that a journal begins with, and keeps the latest `count` snapshots. Raises OSError."""
         write_snapshot(snapshot_path(self.path, number), snapshot)
         for old in numbers_in(self.path, SNAPSHOT)[:-count]:
             remove(snapshot_path(self.path, old))

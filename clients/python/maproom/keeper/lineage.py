@@ -1,8 +1,8 @@
 """Whether a room goes on with the map that was saved, after entries were missed or the server was started anew.
 
 A room does not say on which map it began. So the keeper compares the map that it saved with the room's map. If the
-room has not the last saved entries, it began on an older map, or mappers who were quicker than the keeper took them
-back. The map that --restore printed last tells the two apart.
+room lacks the last saved entries, it began on an older map, or mappers who were quicker than the keeper took them back.
+The map that --restore printed last decides which of the two is so.
 """
 from __future__ import annotations
 

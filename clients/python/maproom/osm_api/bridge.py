@@ -15,7 +15,7 @@ from .http import Settings, application, loopback_hosts
 from .ledger import Ledger
 from .room_map import RoomMap
 
-# So many seconds the bridge waits for requests that are under way when it ends.
+# How many seconds the bridge waits for requests that are under way when it ends.
 SHUTDOWN_SECONDS = 10.0
 
 

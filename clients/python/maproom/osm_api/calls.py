@@ -22,10 +22,10 @@ from .uploads import Upload, Uploads
 XML, JSON, TEXT, HTML = "application/xml", "application/json", "text/plain", "text/html"
 PREFIX = "/api"
 
-# A list of changesets has so many at most, the latest ones.
+# How many changesets a list has at most, the latest.
 MOST_LISTED = 100
 
-# A new connection to the room usually takes less than so many seconds.
+# How many seconds a new connection to the room usually takes at most.
 RECONNECTION_SECONDS = 3
 
 UNREACHABLE = "The room cannot be reached at the moment. Nothing was done."

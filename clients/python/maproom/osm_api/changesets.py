@@ -5,7 +5,7 @@ from .documents import Changeset, instant
 from .errors import ApiError, changeset_closed, changeset_missing, changeset_not_owned
 from .ledger import EPOCH
 
-# So many changesets are remembered; the oldest are forgotten first.
+# How many changesets the bridge remembers. It forgets the oldest first.
 MOST_CHANGESETS = 10_000
 
 

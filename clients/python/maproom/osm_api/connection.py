@@ -85,7 +85,7 @@ Answer = Accepted | Refusal
 
 
 class Listener(Protocol):
-    """Who is told what happens in a room."""
+    """An object that gets what happens in a room."""
 
     def on_welcome(self, welcome: Welcome) -> None:
         """A session began: the map may be any other."""
@@ -122,7 +122,7 @@ class RoomConnection(Protocol):
         """The authors of the entries of this run that the connection has seen."""
 
     def subscribe(self, listener: Listener) -> None:
-        """Tells a listener of all that comes, beginning with a welcome if there was one."""
+        """Passes all that comes to a listener, beginning with a welcome if there was one."""
 
     async def catch_up(self) -> None:
         """Waits until all listeners know of all entries that the room had when this was called."""

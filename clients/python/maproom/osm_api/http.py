@@ -25,9 +25,9 @@ CLOSING = frozenset((400, 403, 408, 413, 500))
 
 @dataclass(frozen=True)
 class Settings:
-    """How the application is reached. `hosts` are the values of the header Host that are accepted. `fixed_name` is the
-    author of all requests; without it each request names its author by HTTP Basic, and whoever stands in front of the
-    application has checked the password. `public_url` is the root as clients know it."""
+    """How clients reach the application. `hosts` are the accepted values of the header Host. `fixed_name` is the author
+    of all requests. Without it, each request names its author by HTTP Basic, and a proxy in front of the application
+    has checked the password. `public_url` is the root as clients know it."""
 
     hosts: frozenset[str]
     fixed_name: str | None = None
@@ -65,7 +65,7 @@ class Front:
         return response
 
     async def _answer(self, request: web.Request) -> web.Response:
-        """Answers a request, whatever happens."""
+        """Answers a request, also if a call raises an exception."""
         try:
             self._guard(request)
             asked = await self._read(request)
@@ -98,7 +98,7 @@ class Front:
                        self._author(request), wants_json(accepted), HTML in accepted, self._base(request))
 
     def _base(self, request: web.Request) -> str:
-        """Returns the URL of the root as the client knows it. Behind a proxy it is only known if it was given."""
+        """Returns the URL of the root as the client knows it. Behind a proxy, only an option can give it."""
         if request.host.rpartition(":")[0] in LOOPBACK:
             return self._settings.public_url or f"http://{request.host}"
         return self._settings.public_url

@@ -25,7 +25,7 @@ from .elements import GONE_DIGEST, Row, Rows, compact, digest
 EPOCH = int(datetime(2020, 1, 1, tzinfo=timezone.utc).timestamp())
 FIRST_VERSION = 1
 
-# A file of more lines than twice the known elements and so many is written anew.
+# A file is written anew if it has this number of lines more than twice the known elements.
 SPARE_LINES = 10_000
 
 ELEMENT, UPLOAD, SETTLED = "e", "u", "s"
@@ -131,7 +131,7 @@ class LedgerFile:
         return descriptor
 
     def append(self, data: bytes) -> bool:
-        """Appends lines, and returns whether all of it was written. If not, the file is as it was before."""
+        """Appends lines, and returns whether all of it was written. If not, the file is unchanged."""
         try:
             written = 0
             while written < len(data):

@@ -75,7 +75,7 @@ class MemoryRoom:
     # the connection
 
     def subscribe(self, listener: Listener) -> None:
-        """Tells a listener the map, and then the news."""
+        """Passes the map to a listener, and then the news."""
         self._listeners.append(listener)
         listener.on_welcome(Welcome(dict(self.elements), self.seq, self._run))
 
@@ -198,7 +198,7 @@ class MemoryRoom:
         return row
 
     def _enter(self, author: str, after: Rows, is_active: bool) -> int:
-        """Makes an entry, and tells it."""
+        """Makes an entry, and passes its news to all listeners."""
         after = {name: row for name, row in after.items() if not is_same(row, self.elements.get(name))}
         before = {name: self.elements.get(name) for name in after}
         self.journal.append(JournalEntry(self.seq + 1, author, before, dict(after), is_active))
@@ -216,7 +216,7 @@ class MemoryRoom:
         return self.seq
 
     def _tell(self, news: News) -> None:
-        """Tells all listeners."""
+        """Passes news to all listeners."""
         for listener in self._listeners:
             listener.on_news(news)
 

@@ -13,10 +13,10 @@ from .elements import (LEAST_NODES, MOST_CHARACTERS, MOST_MEMBERS, MOST_NODES, M
                        coordinate_text, is_in_world, references, sayable, text_units, units_of)
 from .ids import Kind, api_id, api_order, kind_of, room_name
 
-# A group holds so many actions at most.
+# How many actions a group holds at most.
 MOST_ACTIONS = 10_000
 
-# An element takes two actions at most, such as a retag and a move. So uploads of so many elements always fit.
+# Up to how many elements an upload always fits: an element takes two actions at most, such as a retag and a move.
 MOST_CHANGES = MOST_ACTIONS // 2
 
 # A message to the room holds 64 MiB at most.
@@ -268,7 +268,7 @@ class Planner:
 
     def _plan_changes(self, name: str, before: Row, row: Row) -> bool:
         """Plans the actions from one content of an element to another, and returns whether it takes any. What XML
-        cannot hold stays, if the editor returns it as it was shown."""
+        cannot hold stays, if the editor returns what it got."""
         count = len(self.plan.actions)
         tags = changed_tags(before["tags"], row["tags"])
         row["tags"] = with_tags(before["tags"], tags)

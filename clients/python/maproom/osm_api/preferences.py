@@ -3,8 +3,8 @@ from collections.abc import Mapping
 
 from .errors import ApiError, bad_request
 
-# A mapper has so many preferences at most, each with a key and a value of so many characters, as in the API; and so
-# many mappers have some.
+# How many preferences a mapper has at most, and how many characters a key or a value, as in OpenStreetMap's API. The
+# last number is that of mappers who have preferences.
 MOST_KEYS, MOST_CHARACTERS, MOST_AUTHORS = 150, 255, 1_000
 
 

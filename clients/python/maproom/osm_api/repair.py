@@ -1,8 +1,8 @@
 """Plans what takes a group back where the room refuses to undo it.
 
-A detail of an element is one of its tags, its position, its list of nodes or members, or that it is there at all. A
-repair writes each detail back that the group changed, as it was right before the group, if it still is as the group
-left it. What others changed after the group stays theirs."""
+A detail of an element is one of its tags, its position, its list of nodes or members, or whether it is there at all. A
+repair gives each detail that the group changed the value from right before the group, if it still has the group's
+value. What others changed after the group stays."""
 from collections.abc import Collection, Iterable
 from dataclasses import dataclass, field
 
@@ -84,7 +84,7 @@ class RepairPlanner:
 
     def _users(self, name: str) -> set[str]:
         """Returns the other elements that refer to a created element as the repair leaves it. A repair makes no new
-        references to it, as it was not there before."""
+        references to it, because it was not there before."""
         return {user for user in self._view.users(name) if user != name and name in references(self._row(user))}
 
     def _lacks(self, name: str, row: Row) -> bool:

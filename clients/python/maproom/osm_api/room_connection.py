@@ -21,10 +21,10 @@ from .elements import Row
 # The end of the answer to a hello.
 WELCOME_END = re.compile(r'\],"seq":([0-9]+)\}\}$')
 
-# So many seconds pass before the server is asked again, if it could not be reached or did not know.
+# After how many seconds the bridge asks the server again, if it could not be reached or did not know.
 PAUSE = 0.5
 
-# For so many seconds it is asked which run of the server answers. Then it counts as another run.
+# For how many seconds the bridge asks which run of the server answers. After that it counts as another run.
 RUN_SECONDS = 20
 
 

@@ -14,16 +14,16 @@ from .grid import Grid
 from .ids import Kind, has_api_id, room_name
 from .ledger import FIRST_VERSION, Known, Ledger
 
-# Entries of so many elements in all are remembered, for the page and to see which may be taken back.
+# Up to how many elements in all entries are remembered, for the page and to see which may be taken back.
 MOST_RECENT = 200_000
 
-# A watch keeps so many rows. An upload has at most half as many, and the rows of others come on top.
+# How many rows a watch keeps. An upload has at most half of this number, and others add their rows.
 MOST_WATCHED = 20_000
 
-# A bridge takes an upload back within so many seconds, if it has to.
+# Within how many seconds a bridge takes an upload back, if it has to.
 SETTLING_SECONDS = 2.0
 
-# So many entries that the bridge made itself are known, which is more than it makes in that time.
+# How many of its own entries the bridge knows, more than it makes in that time.
 MOST_OWN = 1_000
 
 # A name that an editor asks for and that nothing has is not given to a new element, unless its number is absurd.

@@ -16,10 +16,10 @@ from .planner import MOST_ACTIONS, MOST_BYTES
 from .repair import Repair, details, meet, plan_repair
 from .room_map import RoomMap, Step, Watch, last_of
 
-# An undo that is refused is tried again for so many seconds in all, and for so many without any news.
+# For how many seconds a refused undo is tried again: in all, and without any news.
 UNDO_SECONDS, QUIET_SECONDS = 1.0, 0.3
 
-# So many repairs of a group are sent, with those of repairs that were overtaken themselves.
+# How many repairs of a group are sent, counting those of repairs that were overtaken themselves.
 MOST_REPAIRS = 6
 
 
@@ -63,7 +63,7 @@ class TakingBack:
         return await self._taken_back(group, MOST_REPAIRS)
 
     async def _taken_back(self, group: Group, tries: int) -> Left:
-        """Takes a group back with so many repairs at most."""
+        """Takes a group back with at most `tries` repairs."""
         step = group.watch.step(group.seq)
         refusal = await self._undone(group)
         if refusal is None:

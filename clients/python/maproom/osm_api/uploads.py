@@ -21,14 +21,14 @@ from .taking_back import Group, Left, TakingBack
 
 MOST_TRIES = 4
 
-# So many answers are kept for a request that is repeated since its answer was lost, and so many uploads of an author
-# to be undone.
+# How many answers are kept for requests that are repeated because an answer was lost, and how many uploads of an author
+# for undos.
 MOST_KEPT, MOST_DONE = 100, 1_000
 
-# After so many seconds an editor has the answer to its upload.
+# After how many seconds an editor has the answer to its upload.
 ANSWERED_SECONDS = 10
 
-# An error names so many elements at most.
+# How many elements an error names at most.
 MOST_NAMED = 20
 
 BROKEN = "The connection to the room broke. Nothing of this upload stays in the room: if the room accepted it, it " \
