@@ -611,6 +611,13 @@ function* labelsIn(page, box, zoom, widthOf = (text) => text.length * 7) {
     if ((count += 1) > 150) return;
   }
   if (zoom < 15.5) return;
+  for (const area of shapes.areas.values()) {
+    const name = doMeet(area, box) && elements.get(area.el)?.tags.name;
+    if (!name || [...area.ways].some((el) => elements.get(el)?.tags.name === name)) continue; // a way has this label
+    const half = widthOf(name) / 2 / page.view.scaleAt(zoom);
+    const places = placesOfArea(area, half).filter(({ x, y }) => inWindow(x, y));
+    if (places.length > 0) yield { text: name, places };
+  }
   for (const way of shapes.ways.values()) {
     if (!doMeet(way, box) || way.slots.length === 0) continue;
     const row = elements.get(way.el);

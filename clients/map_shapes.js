@@ -142,6 +142,38 @@ class WayShape {
   }
 }
 
+// The area that a relation of type multipolygon makes of ways: its style, its box, and its rings, which are found when
+// they are drawn. A ring in a ring is a hole (OpenStreetMap's wiki, Relation:multipolygon).
+class AreaShape {
+  constructor(el, ways, style) {
+    this.el = el;
+    this.ways = ways;
+    this.style = style;
+    this.rings = null;
+    Object.assign(this, emptyBox());
+  }
+}
+
+// The closed lines that lines make, each a list of slots, joined at their ends. Lines that close none are left out.
+function ringsOf(lines) {
+  const byEnd = new Map(lines.flatMap((line) => [[line[0], []], [line.at(-1), []]]));
+  for (const line of lines) for (const end of [line[0], line.at(-1)]) byEnd.get(end).push(line);
+  const [rings, used] = [[], new Set()];
+  const nextAt = (end) => byEnd.get(end).find((line) => !used.has(line));
+  for (const first of lines) {
+    const ring = [];
+    for (let line = used.has(first) ? null : first; line; line = nextAt(ring.at(-1))) {
+      used.add(line);
+      const isForward = ring.length === 0 || line[0] === ring.at(-1);
+      const slots = isForward ? line : [...line].reverse();
+      for (const slot of ring.length === 0 ? slots : slots.slice(1)) ring.push(slot);
+      if (ring[0] === ring.at(-1)) break;
+    }
+    if (ring.length > 3 && ring[0] === ring.at(-1)) rings.push(ring);
+  }
+  return rings;
+}
+
 // Up to how many nodes in a window all are drawn. Of more, only those with tags are drawn, or only places.
 const MOST_NODES = 1500;
 
@@ -164,6 +196,7 @@ class Shapes {
     this.ways = new Map();
     this.layers = STYLES.map(() => new Set());
     this.relations = new Set();
+    this.areas = new Map(); // by the name of the relation
   }
 
   // Takes a whole map.
@@ -178,12 +211,15 @@ class Shapes {
       if (row.nodes) this.putWay(row);
       else this.putRelation(row);
     }
+    for (const area of this.areas.values()) this.measureArea(area); // the map may have relations in front of their ways
   }
 
   // Takes changes. Returns the boxes of what changed, before and after.
   change(rows) {
     if (!this.users) this.indexUsers(); // in the middle, the list would have the nodes of the old ways for good
     const [old, now] = [emptyBox(), emptyBox()];
+    const areas = this.areasOf(rows);
+    for (const el of areas) stretchBy(old, this.areas.get(el));
     for (const { el, before, after } of rows) {
       stretchBy(old, this.boxOf(el));
       if (before?.nodes) this.removeUsers(before);
@@ -198,7 +234,24 @@ class Shapes {
     }
     for (const [el, slots] of moved) this.moveWay(this.ways.get(el), slots, old, now);
     for (const { el } of rows) stretchBy(now, this.boxOf(el));
+    for (const el of new Set([...areas, ...this.areasOf(rows)])) {
+      const area = this.areas.get(el);
+      if (!area) continue;
+      this.measureArea(area);
+      stretchBy(now, area);
+    }
     return [old, now];
+  }
+
+  // The relations that make an area of these elements, or of ways that have them.
+  areasOf(rows) {
+    const found = new Set();
+    for (const { el } of this.areas.size > 0 ? rows : []) {
+      for (const way of el[0] === "n" ? this.usersOf(el) : [el]) {
+        for (const relation of [way, ...this.parentsOf(way)]) if (this.areas.has(relation)) found.add(relation);
+      }
+    }
+    return found;
   }
 
   // Puts a node, and adds the ways that it moves, each with the slots of its nodes that moved.
@@ -306,6 +359,30 @@ class Shapes {
       if (parents) parents.add(row.el);
       else this.parents.set(name, new Set([row.el]));
     }
+    this.putArea(row);
+  }
+
+  putArea({ el, members, tags }) {
+    const style = styleOf(tags, true);
+    this.areas.delete(el);
+    if (tags.type !== "multipolygon" || !STYLES[style].fill) return;
+    const ways = new Set(members.map(([name]) => name).filter((name) => name[0] === "w"));
+    const area = new AreaShape(el, ways, style);
+    this.areas.set(el, area);
+    this.measureArea(area);
+  }
+
+  // Measures an area whose ways changed.
+  measureArea(area) {
+    Object.assign(area, emptyBox());
+    area.rings = null;
+    for (const name of area.ways) if (this.ways.has(name)) stretchBy(area, this.ways.get(name));
+  }
+
+  // Whether an area is drawn in the place of a way, because it has the same style.
+  isOfArea(way) {
+    if (this.areas.size === 0) return false;
+    return this.parentsOf(way.el).some((el) => this.areas.get(el)?.style === way.style);
   }
 
   remove(el) {
@@ -313,6 +390,7 @@ class Shapes {
     if (way) this.layers[way.style].delete(way);
     this.ways.delete(el);
     this.relations.delete(el);
+    this.areas.delete(el);
     if (el[0] !== "n") return;
     const id = idOf(el);
     const slot = this.slots.get(id);
@@ -481,7 +559,9 @@ class Shapes {
     const isThin = zoom < 15; // nobody sees how thin lines end, and round ends take longer
     context.lineJoin = isThin ? "bevel" : "round";
     context.lineCap = isThin ? "butt" : "round";
+    const areas = [...this.areas.values()].filter((area) => doMeet(area, box));
     for (const [at, style] of STYLES.entries()) {
+      for (const area of areas) if (area.style === at) this.paintArea(context, frame, area);
       if (this.layers[at].size > 0) ways += this.paintLayer(context, frame, box, style, this.layers[at], zoom);
     }
     context.setLineDash([]);
@@ -495,11 +575,16 @@ class Shapes {
     context.setLineDash(isThin || !style.dash ? [] : style.dash);
     context.fillStyle = style.fill ?? "transparent";
     const isEach = Boolean(style.fill) && !style.isApart;
+    const lines = []; // of areas
     let count = 0;
     context.beginPath();
     for (const way of layer) {
       if (!doMeet(way, box)) continue;
       count += 1;
+      if (style.fill && this.isOfArea(way)) {
+        lines.push(way);
+        continue;
+      }
       if (isEach) context.beginPath();
       this.trace(context, frame, way);
       if (isEach) {
@@ -507,10 +592,33 @@ class Shapes {
         context.stroke();
       }
     }
-    if (isEach) return count;
-    if (style.fill) context.fill();
+    if (!isEach) {
+      if (style.fill) context.fill();
+      context.stroke();
+    }
+    context.beginPath();
+    for (const way of lines) this.trace(context, frame, way);
     context.stroke();
     return count;
+  }
+
+  // Fills an area without its holes. Its ways draw its lines.
+  paintArea(context, frame, area) {
+    area.rings ??= ringsOf(this.linesOf(area)).map((slots) => this.ringShape(area, slots));
+    context.fillStyle = STYLES[area.style].fill;
+    context.beginPath();
+    for (const ring of area.rings) this.trace(context, frame, ring);
+    context.fill("evenodd");
+  }
+
+  linesOf(area) {
+    return [...area.ways].map((name) => this.ways.get(name)?.slots ?? []).filter((slots) => slots.length > 1);
+  }
+
+  ringShape({ el, style }, slots) {
+    const ring = new WayShape(el, slots, style, true);
+    this.measure(ring);
+    return ring;
   }
 
   // Adds a way to the path of a canvas, without the nodes that lie within a pixel of the last. A way that is smaller

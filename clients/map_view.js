@@ -227,12 +227,14 @@ class View {
     this.lastRepaint = performance.now() - began;
   }
 
+  // Draws what is in a box anew, as far as it is on the canvas.
   paintBox(box) {
-    const { frame } = this.painted;
+    const { frame, box: all } = this.painted;
     const margin = 8 / frame.scale;
-    const part = { ...emptyBox() };
-    stretch(part, box.west - margin, box.north - margin);
-    stretch(part, box.east + margin, box.south + margin);
+    const part = {
+      west: Math.max(box.west - margin, all.west), east: Math.min(box.east + margin, all.east),
+      north: Math.max(box.north - margin, all.north), south: Math.min(box.south + margin, all.south),
+    };
     const context = this.contextOf(this.base);
     const [left, top] = [part.west * frame.scale - frame.left, part.north * frame.scale - frame.top];
     const [width, height] = [(part.east - part.west) * frame.scale, (part.south - part.north) * frame.scale];

@@ -53,11 +53,13 @@ NODE = """((el) => {
 SHAPES = """(() => {
     const fresh = new Shapes();
     fresh.reset(page.elements);
+    const boxOf = (area) => area && [area.style, area.west, area.north, area.east, area.south];
     const about = (shapes, el) => JSON.stringify({
         at: el[0] === 'n' ? shapes.positionOf(el) : null,
         users: el[0] === 'n' ? shapes.usersOf(el).toSorted() : null,
         nodes: el[0] === 'w' ? Array.from(shapes.ways.get(el)?.slots ?? [], (slot) => shapes.names[slot]) : null,
-        parents: shapes.parentsOf(el).toSorted(), isRelation: shapes.relations.has(el) });
+        parents: shapes.parentsOf(el).toSorted(), isRelation: shapes.relations.has(el),
+        area: boxOf(shapes.areas.get(el)) });
     const both = [...page.elements.keys()].map((el) => [el, about(page.shapes, el), about(fresh, el)]);
     return both.filter(([, drawn, wanted]) => drawn !== wanted).slice(0, 5);
 })()"""
