@@ -65,7 +65,7 @@ def id_of(text):
 
 
 def name_of(element):
-    """How messages name an element of an extract: by its name or, if its id is invalid, by the text of the id."""
+    """How messages name an element of an extract: by its name or, if its id is invalid, by its kind and that id."""
     number = element.get("id")
     return f"{LETTERS[element.tag]}{number}" if id_of(number) else f"{element.tag} with the id {number!r}"
 

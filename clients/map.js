@@ -613,7 +613,8 @@ function* labelsIn(page, box, zoom, widthOf = (text) => text.length * 7) {
   if (zoom < 15.5) return;
   for (const area of shapes.areas.values()) {
     const name = doMeet(area, box) && elements.get(area.el)?.tags.name;
-    if (!name || [...area.ways].some((el) => elements.get(el)?.tags.name === name)) continue; // a way has this label
+    const isOfWay = (el) => elements.get(el)?.tags.name === name;
+    if (!name || [...area.ways.keys()].some(isOfWay)) continue;
     const half = widthOf(name) / 2 / page.view.scaleAt(zoom);
     const places = placesOfArea(area, half).filter(({ x, y }) => inWindow(x, y));
     if (places.length > 0) yield { text: name, places };

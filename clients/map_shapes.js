@@ -142,8 +142,9 @@ class WayShape {
   }
 }
 
-// The area that a relation of type multipolygon makes of ways: its style, its box, and its rings, which are found when
-// they are drawn. A ring in a ring is a hole (OpenStreetMap's wiki, Relation:multipolygon).
+// The area that a relation of type multipolygon makes of ways: their names with their roles, its style, its box, and
+// its rings, which are found when they are drawn. A ring in a ring is a hole (OpenStreetMap's wiki,
+// Relation:multipolygon).
 class AreaShape {
   constructor(el, ways, style) {
     this.el = el;
@@ -366,7 +367,7 @@ class Shapes {
     const style = styleOf(tags, true);
     this.areas.delete(el);
     if (tags.type !== "multipolygon" || !STYLES[style].fill) return;
-    const ways = new Set(members.map(([name]) => name).filter((name) => name[0] === "w"));
+    const ways = new Map(members.filter(([name]) => name[0] === "w"));
     const area = new AreaShape(el, ways, style);
     this.areas.set(el, area);
     this.measureArea(area);
@@ -376,13 +377,15 @@ class Shapes {
   measureArea(area) {
     Object.assign(area, emptyBox());
     area.rings = null;
-    for (const name of area.ways) if (this.ways.has(name)) stretchBy(area, this.ways.get(name));
+    for (const name of area.ways.keys()) if (this.ways.has(name)) stretchBy(area, this.ways.get(name));
   }
 
-  // Whether an area is drawn in the place of a way, because it has the same style.
+  // Whether an area is drawn in the place of a way, because it has the same style. A way in a hole is drawn itself: in
+  // a wood, this can be a meadow.
   isOfArea(way) {
     if (this.areas.size === 0) return false;
-    return this.parentsOf(way.el).some((el) => this.areas.get(el)?.style === way.style);
+    const areas = this.parentsOf(way.el).map((el) => this.areas.get(el)).filter(Boolean);
+    return areas.some(({ style, ways }) => style === way.style && ways.get(way.el) !== "inner");
   }
 
   remove(el) {
@@ -612,7 +615,7 @@ class Shapes {
   }
 
   linesOf(area) {
-    return [...area.ways].map((name) => this.ways.get(name)?.slots ?? []).filter((slots) => slots.length > 1);
+    return [...area.ways.keys()].map((name) => this.ways.get(name)?.slots ?? []).filter((slots) => slots.length > 1);
   }
 
   ringShape({ el, style }, slots) {
