@@ -1,5 +1,8 @@
 #!/usr/bin/env node
 "use strict";
+
+/** @typedef {import("./js/maproom.js").Message} Message */
+
 const { Core, HelloRefused, OutOfStep, errorOf, shortWords } = require("./js/maproom.js");
 
 const USAGE = "client.js [--follow] ROOM NAME [CHANGE..]";
@@ -15,7 +18,11 @@ The library clients/js/maproom.js does the work. socket_client.js uses it over W
   -h, --help  print this help
   --follow    also print each change as a line of JSON, with each element before and after`;
 
-// A message that is an argument of the command line. Throws if the argument is no message.
+/**
+ * A message that is an argument of the command line. Throws if the argument is no message.
+ * @param {string} word
+ * @returns {Message}
+ */
 function messageOf(word) {
   let message = null;
   try {
@@ -27,8 +34,14 @@ function messageOf(word) {
   throw new SyntaxError(`no message, which is an object of JSON: ${word}`);
 }
 
-// Whether --follow is there, then `count` arguments of the command line, and the messages after them. If the arguments
-// are wrong, or ask for the help, the program ends.
+/**
+ * Whether --follow is there, then `count` arguments of the command line, and the messages after them. If the arguments
+ * are wrong, or ask for the help, the program ends.
+ * @param {number} count
+ * @param {string} usage
+ * @param {string} help
+ * @returns {{ isFollowing: boolean, words: string[], messages: Message[] }}
+ */
 function wordsOf(count, usage, help) {
   const all = process.argv.slice(2);
   if (all.includes("--help") || all.includes("-h")) {
@@ -38,14 +51,18 @@ function wordsOf(count, usage, help) {
   const words = all.filter((word) => word !== "--follow");
   try {
     if (words.length < count) throw new SyntaxError("too few arguments");
-    return [words.length < all.length, ...words.slice(0, count), words.slice(count).map(messageOf)];
-  } catch ({ message }) {
-    console.error(`usage: ${usage}\n${usage.split(" ")[0]}: error: ${message}`);
-    process.exit(2);
+    const messages = words.slice(count).map(messageOf);
+    return { isFollowing: words.length < all.length, words: words.slice(0, count), messages };
+  } catch (error) {
+    console.error(`usage: ${usage}\n${usage.split(" ")[0]}: error: ${/** @type {Error} */ (error).message}`);
+    return process.exit(2);
   }
 }
 
-// Reports a refusal. The program will have failed.
+/**
+ * Reports a refusal. The program will have failed.
+ * @param {Error} error
+ */
 function printRefusal(error) {
   process.exitCode = 1;
   console.error(`refused: ${shortWords(error)}`);
@@ -54,11 +71,16 @@ function printRefusal(error) {
 module.exports = { printRefusal, wordsOf };
 
 function main() {
-  const [isFollowing, room, name, changes] = wordsOf(2, USAGE, HELP);
+  const { isFollowing, words: [room, name], messages } = wordsOf(2, USAGE, HELP);
   const core = new Core(room, name);
   const lines = require("node:readline").createInterface({ input: process.stdin });
   let isRefused = false;
+  /** @param {string[]} texts */
   const print = (texts) => texts.forEach((text) => console.log(text));
+  /**
+   * @param {string} text
+   * @returns {string[]}
+   */
   const take = (text) => {
     try {
       return text === "" ? core.begin() : core.take(text);
@@ -71,13 +93,14 @@ function main() {
       return [];
     }
   };
+  /** @param {string} line */
   const onLine = (line) => {
     const texts = take(line.trim());
     const events = core.events.splice(0).map((event) => JSON.stringify(event));
     print(isFollowing ? [...events, ...texts] : texts);
   };
-  for (const change of changes) {
-    core.ask(change, ({ no }) => no && printRefusal(errorOf(no, core.authors.get(no.with))));
+  for (const message of messages) {
+    core.ask(message, ({ no }) => no && printRefusal(errorOf(no, core.authors.get(no.with))));
   }
   print(core.begin());
   lines

@@ -22,34 +22,37 @@ The library clients/js/maproom.js does the work, and programs can use it, too. d
   -h, --help  print this help
   --follow    stay, and print each change as a line of JSON`;
 
+/** @param {unknown} error */
 const isRefusal = (error) => [NotSent, Refused, Unknown].some((kind) => error instanceof kind);
 
 async function main() {
-  const [isFollowing, url, room, name, messages] = wordsOf(3, USAGE, HELP);
+  const { isFollowing, words: [url, room, name], messages } = wordsOf(3, USAGE, HELP);
+  /** @type {import("./js/maproom.js").Room | null} */
   let joined = null;
   try {
-    joined = await connect(url, { room, name });
-    const ended = new Promise((_, fail) => joined.addEventListener("error", ({ error }) => fail(error)));
+    const session = await connect(url, { room, name });
+    joined = session;
+    const ended = new Promise((_, fail) => session.addEventListener("error", ({ error }) => fail(error)));
     ended.catch(() => {}); // without --follow, a message that waits reports it
     if (isFollowing) {
-      joined.addEventListener("change", ({ seq, by, rows }) => console.log(JSON.stringify({ seq, by, rows })));
-      joined.addEventListener("reset", ({ seq, restarted, rows }) => {
+      session.addEventListener("change", ({ seq, by, rows }) => console.log(JSON.stringify({ seq, by, rows })));
+      session.addEventListener("reset", ({ seq, restarted, rows }) => {
         console.log(JSON.stringify({ seq, reset: true, restarted, rows }));
       });
     }
     for (const message of messages) {
       try {
-        console.log(JSON.stringify(await joined.ask(message)));
+        console.log(JSON.stringify(await session.ask(message)));
       } catch (error) {
         if (!isRefusal(error)) throw error;
-        printRefusal(error);
+        printRefusal(/** @type {Error} */(error));
       }
     }
     if (isFollowing) await ended;
   } catch (error) {
     process.exitCode = 1;
     if (error instanceof Refused) printRefusal(error);
-    else console.error(`socket_client: ${error.message}\nsocket_client: no session at ${url}`);
+    else console.error(`socket_client: ${/** @type {Error} */ (error).message}\nsocket_client: no session at ${url}`);
   } finally {
     joined?.close();
   }

@@ -2,14 +2,33 @@
 
 export as namespace maproom;
 
-export interface Element {
+interface Tagged {
   el: string;
-  tags: Record<string, string>;
-  lat?: string;
-  lon?: string;
-  nodes?: number[];
-  members?: [string, string][];
+  tags: Tags;
 }
+
+export interface NodeElement extends Tagged {
+  lat: string;
+  lon: string;
+  nodes?: undefined;
+  members?: undefined;
+}
+
+export interface WayElement extends Tagged {
+  nodes: number[];
+  lat?: undefined;
+  lon?: undefined;
+  members?: undefined;
+}
+
+export interface RelationElement extends Tagged {
+  members: [string, string][];
+  lat?: undefined;
+  lon?: undefined;
+  nodes?: undefined;
+}
+
+export type Element = NodeElement | WayElement | RelationElement;
 
 export interface Row {
   el: string;
@@ -35,6 +54,8 @@ export interface ConnectOptions {
   heartbeat?: number;
   signal?: AbortSignal;
 }
+
+export type Refusal = { why: string } & Record<string, any>;
 
 export type State = "connecting" | "open" | "closed";
 
@@ -68,7 +89,7 @@ export interface RoomEvents {
 export function connect(url: string, options: ConnectOptions): Promise<Room>;
 
 export class Room extends EventTarget {
-  private constructor();
+  private constructor(url: string, options: ConnectOptions);
   static connect(url: string, options: ConnectOptions): Promise<Room>;
   readonly url: string;
   readonly room: string;
@@ -124,27 +145,36 @@ export class Room extends EventTarget {
 }
 
 export class MaproomError extends Error {
+  constructor(why: string, message: string, options?: { cause?: unknown });
   readonly why: string;
 }
 
-export class ConnectionFailed extends MaproomError {}
+export class ConnectionFailed extends MaproomError {
+  constructor(message: string, options?: { cause?: unknown });
+}
 
 export class Closed extends MaproomError {
+  constructor(isSent?: boolean);
   readonly isSent: boolean;
 }
 
 export class Unknown extends MaproomError {
+  constructor(restarted?: boolean);
   readonly restarted: boolean;
 }
 
 export class NotSent extends MaproomError {
+  constructor(restarted?: boolean);
   readonly restarted: boolean;
 }
 
-export class NoAnswer extends MaproomError {}
+export class NoAnswer extends MaproomError {
+  constructor(milliseconds: number);
+}
 
 export class Refused extends MaproomError {
-  readonly no: { why: string } & Record<string, unknown>;
+  constructor(no: Refusal, author?: string | null);
+  readonly no: Refusal;
   readonly author: string | null;
   readonly action: number | null;
   readonly element: string | null;
@@ -178,10 +208,11 @@ export const actions: {
 export class OutOfStep extends Error {}
 
 export class HelloRefused extends Error {
-  readonly no: { why: string } & Record<string, unknown>;
+  constructor(no: Refusal);
+  readonly no: Refusal;
 }
 
-export type Answer = { ok: Record<string, any> } | { no: { why: string } & Record<string, any> };
+export type Answer = { ok: Record<string, any>; no?: undefined } | { no: Refusal; ok?: undefined };
 export type CoreEvent =
   | { seq: number; by: string; rows: Row[] }
   | { seq: number; reset: true; restarted: boolean | null; rows: Row[] };
@@ -200,7 +231,7 @@ export class Core {
   isHere(): boolean;
   begin(): string[];
   end(): void;
-  close(no: { why: string }): void;
+  close(no: Refusal): void;
   pending(): number;
   add(message: Message, done?: (answer: Answer) => void): Asked;
   ask(message: Message, done?: (answer: Answer) => void): string[];
@@ -211,5 +242,5 @@ export class Core {
   take(text: string): string[];
 }
 
-export function errorOf(no: { why: string } & Record<string, unknown>, author?: string): MaproomError;
+export function errorOf(no: Refusal, author?: string): MaproomError;
 export function shortWords(error: Error): string;

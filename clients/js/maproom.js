@@ -8,6 +8,39 @@
 // it uses the global WebSocket or, if there is none, the package ws. docs/CLIENT.md of the repository describes it.
 "use strict";
 (() => {
+  /**
+   * @typedef {typeof import("./maproom")} Library
+   * @typedef {import("./maproom").Room} Api
+   * @typedef {import("./maproom").Element} Element
+   * @typedef {import("./maproom").Row} Row
+   * @typedef {import("./maproom").Message} Message
+   * @typedef {import("./maproom").Answer} Answer
+   * @typedef {import("./maproom").Refusal} Refusal
+   * @typedef {import("./maproom").CoreEvent} CoreEvent
+   * @typedef {import("./maproom").Degrees} Degrees
+   * @typedef {import("./maproom").Members} Members
+   * @typedef {import("./maproom").State} State
+   * @typedef {import("./maproom").AskOptions} AskOptions
+   * @typedef {"n" | "w" | "r"} Kind
+   *
+   * What the room sends: an answer under the id of its message, or the news of an entry.
+   * @typedef {{ id: number, ok?: any, no?: Refusal }} Reply
+   * @typedef {{ seq: number, by: string, rows: (Element | { el: string, gone: true })[] }} News
+   *
+   * A message that waits for its answer.
+   * @typedef {{ id: number, message: Message, text: string, done: (answer: Answer) => void, timesSent: number,
+   *   isGivenUp: boolean }} Asked
+   *
+   * The options of a room, with their defaults.
+   * @typedef {{ room: string, name: string, openTimeout: number | null, timeout: number | null, heartbeat: number
+   *   }} Options
+   *
+   * @typedef {EventListenerOrEventListenerObject} Listener
+   *
+   * A WebSocket of the platform or of the package ws, which has more.
+   * @typedef {WebSocket & { terminate?: () => void, _socket?: { bytesRead: number } }} Socket
+   */
+
   // ---- The core: the texts that go out, and the events, for the texts that come in. It knows no sockets and no
   // clock. The Python package has the same core, and tests/texts/clients fixes both; docs/CLIENT.md has the rules.
 
@@ -19,28 +52,40 @@
   // New elements get ids below all others, but none of these, which would be rounded.
   const LEAST_ID = -(2 ** 52);
 
-  // The room sent a text that cannot come next: a gap in the news, for example. Only a new session helps.
+  /** The room sent a text that cannot come next: a gap in the news, for example. Only a new session helps. */
   class OutOfStep extends Error {}
 
-  // The room refused the hello. `no` has the reason.
+  /** The room refused the hello. `no` has the reason. */
   class HelloRefused extends Error {
+    /** @param {Refusal} no */
     constructor(no) {
       super(JSON.stringify(no));
       this.no = no;
     }
   }
 
-  // Whether two rows of an element, which may be missing, are the same.
+  /**
+   * Whether two rows of an element, which may be missing, are the same.
+   * @param {unknown} one
+   * @param {unknown} other
+   * @returns {boolean}
+   */
   function isSame(one, other) {
     if (one === other) return true;
     if (typeof one !== "object" || typeof other !== "object" || !one || !other) return false;
-    const keys = Object.keys(one);
-    if (keys.length !== Object.keys(other).length) return false;
-    return keys.every((key) => key in other && isSame(one[key], other[key]));
+    const [first, second] = /** @type {Record<string, unknown>[]} */ ([one, other]);
+    const keys = Object.keys(first);
+    if (keys.length !== Object.keys(second).length) return false;
+    return keys.every((key) => key in second && isSame(first[key], second[key]));
   }
 
-  // The elements in which two maps differ: {el, before, after}, where null means that it is not in the map.
+  /**
+   * The elements in which two maps differ: {el, before, after}, where null means that it is not in the map.
+   * @param {ReadonlyMap<string, Element>} before
+   * @param {ReadonlyMap<string, Element>} after
+   */
   function differences(before, after) {
+    /** @type {Row[]} */
     const rows = [];
     for (const [el, element] of before) {
       if (!isSame(element, after.get(el))) rows.push({ el, before: element, after: after.get(el) ?? null });
@@ -49,43 +94,71 @@
     return rows;
   }
 
+  /** @param {{ message: Message }} asked */
   const isChange = ({ message }) => !QUERIES.has(message.do);
 
-  // A client's knowledge of a room: the mirror `elements` by name, the number `seq` of its last entry (null before
-  // the first welcome), and `authors`, by the number of the entry. Each method returns the texts to send. `events`
-  // collects what happened, and the caller empties it. At most `window` messages are on their way at once.
+  /**
+   * A client's knowledge of a room: the mirror `elements` by name, the number `seq` of its last entry (null before
+   * the first welcome), and `authors`, by the number of the entry. Each method returns the texts to send. `events`
+   * collects what happened, and the caller empties it. At most `window` messages are on their way at once.
+   */
   class Core {
+    /**
+     * @param {string} room
+     * @param {string} name
+     */
     constructor(room, name, firstId = 2, window = 1) {
-      Object.assign(this, { room, name, nextId: firstId, window });
-      Object.assign(this, { elements: new Map(), seq: null, authors: new Map(), events: [], takeNext: null });
+      this.room = room;
+      this.name = name;
+      this.nextId = firstId;
+      this.window = window;
+      /** @type {Map<string, Element>} */
+      this.elements = new Map();
+      /** @type {number | null} */
+      this.seq = null;
+      /** @type {Map<number, string>} */
+      this.authors = new Map();
+      /** @type {CoreEvent[]} */
+      this.events = [];
+      /** @type {((reply: Reply) => string[]) | null} */
+      this.takeNext = null;
+      /** @type {{ id: number, seq: number } | null} */
       this.accepted = null; // the id and the entry of the last accepted change of this run of the server
+      /** @type {Set<Asked>} */
       this.sent = new Set(); // sent in this session, and not answered
+      /** @type {Set<Asked>} */
       this.queued = new Set(); // not sent in this session
+      /** @type {{ seq: number, asked: Asked, answer: Answer }[]} */
       this.settling = []; // accepted changes whose entries are not in the mirror yet
+      /** @type {{ elements: Map<string, Element>, seq: number, authors: Map<number, string> } | null} */
       this.gap = null; // the state before a new session, until it is known which run of the server answers
+      /** @type {Record<Kind, number>} */
       this.lowest = { n: 0, w: 0, r: 0 };
     }
 
-    // Whether the session has begun, so that a message goes out at once.
+    /** Whether the session has begun, so that a message goes out at once. */
     isHere() {
       return this.takeNext === this.takeAnswer;
     }
 
-    // Begins a session.
+    /** Begins a session. */
     begin() {
       this.end();
       this.takeNext = this.takeWelcome;
       return [JSON.stringify({ id: 1, do: "hello", room: this.room, name: this.name })];
     }
 
-    // Ends the session: the connection is gone.
+    /** Ends the session: the connection is gone. */
     end() {
       this.takeNext = null;
       this.queued = new Set([...this.sent, ...this.queued].filter((asked) => !asked.isGivenUp));
       this.sent.clear();
     }
 
-    // Ends everything. What has no answer is answered with `no`.
+    /**
+     * Ends everything. What has no answer is answered with `no`.
+     * @param {Refusal} no
+     */
     close(no) {
       this.end();
       this.settle();
@@ -94,13 +167,17 @@
       for (const asked of waiting) asked.done({ no: { ...no, sent: asked.timesSent > 0 && isChange(asked) } });
     }
 
-    // How many messages have no answer yet.
+    /** How many messages have no answer yet. */
     pending() {
       return this.sent.size + this.queued.size + this.settling.length;
     }
 
-    // Adds a message that `sendMore` sends. `done` gets {"ok": ..} or {"no": ..}; an accepted change is in the mirror
-    // by then. The core gives each message an id of its own, because an accepted change spends it.
+    /**
+     * Adds a message that `sendMore` sends. `done` gets {"ok": ..} or {"no": ..}; an accepted change is in the mirror
+     * by then. The core gives each message an id of its own, because an accepted change spends it.
+     * @param {Message} message
+     * @param {(answer: Answer) => void} [done]
+     */
     add(message, done = () => {}) {
       const id = this.nextId++;
       const text = JSON.stringify(Object.assign({ id }, message, { id }));
@@ -109,25 +186,33 @@
       return asked;
     }
 
-    // Adds a message, and returns the texts to send.
+    /**
+     * Adds a message, and returns the texts to send.
+     * @param {Message} message
+     * @param {(answer: Answer) => void} [done]
+     */
     ask(message, done) {
       this.add(message, done);
       return this.sendMore();
     }
 
-    // Forgets a message: it is not sent if it was not sent yet, and never sent again.
+    /**
+     * Forgets a message: it is not sent if it was not sent yet, and never sent again.
+     * @param {Asked} asked
+     */
     giveUp(asked) {
       asked.isGivenUp = true;
       asked.done = () => {};
     }
 
-    // A small question whose answer shows that the session is alive, if no other message is on its way.
+    /** A small question whose answer shows that the session is alive, if no other message is on its way. */
     probe() {
       return this.isHere() && this.sent.size === 0 ? this.ask({ do: "get", el: "n1" }) : [];
     }
 
-    // The messages that may go out now.
+    /** The messages that may go out now. */
     sendMore() {
+      /** @type {string[]} */
       const texts = [];
       if (!this.isHere()) return texts;
       for (const asked of this.queued) {
@@ -141,30 +226,42 @@
       return texts;
     }
 
-    // A name for a new element of a kind, `n`, `w` or `r`, that the mirror does not have.
+    /**
+     * A name for a new element of a kind, `n`, `w` or `r`, that the mirror does not have.
+     * @param {Kind} kind
+     */
     newName(kind) {
       do this.lowest[kind] -= 1;
       while (this.elements.has(`${kind}${this.lowest[kind]}`));
       return `${kind}${this.lowest[kind]}`;
     }
 
-    // Takes a text of the room's. Throws OutOfStep if a new session has to begin, and HelloRefused if the hello was
-    // refused.
+    /**
+     * Takes a text of the room's. Throws OutOfStep if a new session has to begin, and HelloRefused if the hello was
+     * refused.
+     * @param {string} text
+     * @returns {string[]}
+     */
     take(text) {
       try {
-        const told = JSON.parse(text);
-        if ("news" in told) return this.takeNews(told.news);
-        return this.takeNext ? this.takeNext(told) : [];
+        /** @type {Reply & { news: News }} */
+        const received = JSON.parse(text);
+        if ("news" in received) return this.takeNews(received.news);
+        return this.takeNext ? this.takeNext(received) : [];
       } catch (error) {
         if (!(error instanceof TypeError || error instanceof SyntaxError)) throw error;
         throw new OutOfStep(`the room sent ${String(text).slice(0, 200)}`, { cause: error });
       }
     }
 
-    // Takes the answer to the hello, and asks which run of the server it is from.
-    takeWelcome(told) {
-      if ("no" in told) throw new HelloRefused(told.no);
-      const { map, seq } = told.ok;
+    /**
+     * Takes the answer to the hello, and asks which run of the server it is from.
+     * @param {Reply} reply
+     * @returns {string[]}
+     */
+    takeWelcome({ ok, no }) {
+      if (no) throw new HelloRefused(no);
+      const { map, seq } = ok;
       const { seq: last, authors } = this;
       if (last !== null && !this.gap) this.gap = { elements: new Map(this.elements), seq: last, authors };
       this.seq = seq;
@@ -181,22 +278,32 @@
       return [JSON.stringify({ id: this.accepted.id, do: "undo", seq: NO_ENTRY })];
     }
 
-    // Takes the answer to the restart question: the same run repeats the entry that spent the id.
-    takeRun({ id, no = {} }) {
-      if ((id !== 0 && id !== this.accepted.id) || no.why === "memory") {
+    /**
+     * Takes the answer to the restart question: the same run repeats the entry that spent the id.
+     * @param {Reply} reply
+     * @returns {string[]}
+     */
+    takeRun({ id, no }) {
+      if ((id !== 0 && id !== this.accepted?.id) || no?.why === "memory") {
         throw new OutOfStep("the server did not say which run it is");
       }
-      return this.goOn(no.why !== "repeat" || no.seq !== this.accepted.seq);
+      return this.goOn(no?.why !== "repeat" || no.seq !== this.accepted?.seq);
     }
 
-    // Goes on in the same run of the server, in another one (true), or in one that may be another (null).
+    /**
+     * Goes on in the same run of the server, in another one (true), or in one that may be another (null).
+     * @param {boolean | null} restarted
+     * @returns {string[]}
+     */
     goOn(restarted) {
       const { gap } = this;
+      if (!gap) throw new OutOfStep("no session was interrupted");
       this.gap = null;
       this.takeNext = this.takeAnswer;
       if (restarted === false) this.authors = new Map([...gap.authors, ...this.authors]);
       else if (restarted) this.authors = new Map();
-      const [rows, { seq }] = [differences(gap.elements, this.elements), this];
+      const rows = differences(gap.elements, this.elements);
+      const seq = this.seq ?? 0;
       if (rows.length > 0 || restarted || seq !== gap.seq) this.events.push({ seq, reset: true, restarted, rows });
       this.settle();
       if (restarted !== false) {
@@ -206,9 +313,13 @@
       return this.sendMore();
     }
 
-    // Drops the messages that were meant for another journal, or may have been.
+    /**
+     * Drops the messages that were meant for another journal, or may have been.
+     * @param {boolean} restarted
+     */
     dropChanges(restarted) {
       const waiting = this.queued;
+      /** @type {[asked: Asked, no: Refusal][]} */
       const dropped = [];
       this.queued = new Set();
       for (const asked of waiting) {
@@ -223,19 +334,24 @@
       for (const [asked, no] of dropped) asked.done({ no });
     }
 
-    // Takes an answer, which is to the message that was sent first. The room may not have read its id.
-    takeAnswer(told) {
+    /**
+     * Takes an answer, which is to the message that was sent first. The room may not have read its id.
+     * @param {Reply} reply
+     * @returns {string[]}
+     */
+    takeAnswer({ id, ok, no }) {
       const [asked] = this.sent;
-      if (!asked || (told.id !== 0 && told.id !== asked.id)) {
+      if (!asked || (id !== 0 && id !== asked.id)) {
         throw new OutOfStep("the room answered a message that was not sent");
       }
       this.sent.delete(asked);
       // A repeat of a message that was sent before is its lost answer.
-      const isLost = asked.timesSent > 1 && told.no?.why === "repeat";
-      const answer = isLost ? { ok: { seq: told.no.seq } } : "no" in told ? { no: told.no } : { ok: told.ok };
+      const isLost = asked.timesSent > 1 && no?.why === "repeat";
+      /** @type {Answer} */
+      const answer = isLost ? { ok: { seq: no.seq } } : no ? { no } : { ok };
       if (answer.ok && isChange(asked)) {
         this.accepted = { id: asked.id, seq: answer.ok.seq };
-        if (answer.ok.seq > this.seq) {
+        if (answer.ok.seq > (this.seq ?? 0)) {
           this.settling.push({ seq: answer.ok.seq, asked, answer });
           return this.sendMore();
         }
@@ -244,15 +360,19 @@
       return this.sendMore();
     }
 
-    // Takes what an entry changed.
+    /**
+     * Takes what an entry changed.
+     * @param {News} news
+     * @returns {string[]}
+     */
     takeNews({ seq, by, rows }) {
-      if (!this.takeNext || this.takeNext === this.takeWelcome || seq !== this.seq + 1) {
+      if (!this.takeNext || this.takeNext === this.takeWelcome || seq !== (this.seq ?? 0) + 1) {
         throw new OutOfStep(`the news of entry ${seq} came after ${this.seq}`);
       }
       this.seq = seq;
       this.authors.set(seq, by);
       const changed = rows.map((row) => {
-        const [before, after] = [this.elements.get(row.el) ?? null, row.gone ? null : row];
+        const [before, after] = [this.elements.get(row.el) ?? null, "gone" in row ? null : row];
         if (after) this.put(after);
         else this.elements.delete(row.el);
         return { el: row.el, before, after };
@@ -264,26 +384,32 @@
       return [];
     }
 
-    // Reports the accepted changes up to an entry, or all.
+    /** Reports the accepted changes up to an entry, or all. */
     settle(seq = Infinity) {
       while (this.settling.length > 0 && this.settling[0].seq <= seq) {
-        const { asked, answer } = this.settling.shift();
+        const [{ asked, answer }] = this.settling.splice(0, 1);
         asked.done(answer);
       }
     }
 
-    // Puts an element into the mirror, and keeps new names below all that it has.
+    /**
+     * Puts an element into the mirror, and keeps new names below all that it has.
+     * @param {Element} element
+     */
     put(element) {
       this.elements.set(element.el, element);
       if (element.el[1] !== "-") return;
-      const number = Number(element.el.slice(1));
-      if (LEAST_ID < number && number < this.lowest[element.el[0]]) this.lowest[element.el[0]] = number;
+      const [number, kind] = [Number(element.el.slice(1)), /** @type {Kind} */ (element.el[0])];
+      if (LEAST_ID < number && number < this.lowest[kind]) this.lowest[kind] = number;
     }
   }
 
   // ---- The errors.
 
-  // The reasons of docs/PROTOCOL.md in words. A name in braces is that of a member of the refusal.
+  /**
+   * The reasons of docs/PROTOCOL.md in words. A name in braces is that of a member of the refusal.
+   * @type {Record<string, string>}
+   */
   const WORDS = {
     not_json: "the room could not read the message",
     not_object: "the room could not read the message",
@@ -316,17 +442,28 @@
     memory: "the server is out of memory",
   };
 
-  // The members of a refusal as the command-line clients print them.
+  /**
+   * The members of a refusal as the command-line clients print them.
+   * @param {Refusal} no
+   */
   function membersOf(no) {
     const others = Object.keys(no).filter((key) => key !== "why" && key !== "action");
     return ["why", ...others.sort()].map((key) => no[key]).join(" ");
   }
 
-  // The words in front of the reason, if an action of a group was refused.
+  /**
+   * The words in front of the reason, if an action of a group was refused.
+   * @param {Refusal} no
+   */
   const placeOf = ({ action }) => (action === undefined ? "" : `action ${action}: `);
 
-  // Anything that this file throws on purpose. `why` is a word for the reason.
+  /** Anything that this file throws on purpose. `why` is a word for the reason. */
   class MaproomError extends Error {
+    /**
+     * @param {string} why
+     * @param {string} message
+     * @param {ErrorOptions} [options]
+     */
     constructor(why, message, options) {
       super(message, options);
       this.name = this.constructor.name;
@@ -334,14 +471,18 @@
     }
   }
 
-  // The first session did not begin. `cause` has the fault.
+  /** The first session did not begin. `cause` has the fault. */
   class ConnectionFailed extends MaproomError {
+    /**
+     * @param {string} message
+     * @param {ErrorOptions} [options]
+     */
     constructor(message, options) {
       super("connection_failed", message, options);
     }
   }
 
-  // The room was closed before the answer came. `isSent` says whether a change was sent, and so may be done.
+  /** The room was closed before the answer came. `isSent` says whether a change was sent, and so may be done. */
   class Closed extends MaproomError {
     constructor(isSent = false) {
       super("closed", `the room was closed${isSent ? ": look at the map whether it was done" : ""}`);
@@ -349,7 +490,9 @@
     }
   }
 
-  // A change was sent and not answered, and nobody can say whether it was done. It is not sent again: look at the map.
+  /**
+   * A change was sent and not answered, and nobody can say whether it was done. It is not sent again: look at the map.
+   */
   class Unknown extends MaproomError {
     constructor(restarted = false) {
       const first = restarted ? "the server was started anew" : "the connection broke";
@@ -358,7 +501,7 @@
     }
   }
 
-  // The server was started anew, perhaps with another map, before a change was sent. It was not done.
+  /** The server was started anew, perhaps with another map, before a change was sent. It was not done. */
   class NotSent extends MaproomError {
     constructor(restarted = false) {
       const first = restarted ? "the server was started anew" : "the server may have been started anew";
@@ -367,22 +510,40 @@
     }
   }
 
-  // No answer came in time. A change may be done: look at the map.
+  /** No answer came in time. A change may be done: look at the map. */
   class NoAnswer extends MaproomError {
+    /** @param {number} milliseconds */
     constructor(milliseconds) {
       super("no_answer", `no answer came within ${milliseconds / 1000} seconds: look at the map`);
     }
   }
 
-  // The room refused a message. `why` is its word for the reason, and `no` has all that it said. `action` is the
-  // position of the refused action in a group, from 0, and null if there is none.
+  /**
+   * The room refused a message. `why` is its word for the reason, and `no` has all that it said. `action` is the
+   * position of the refused action in a group, from 0, and null if there is none.
+   */
   class Refused extends MaproomError {
+    /**
+     * @param {Refusal} no
+     * @param {string | null} [author]
+     */
     constructor(no, author = null) {
       super(no.why, placeOf(no) + Refused.inWords(no, author));
       const { action = null } = no;
-      Object.assign(this, { no, author, action, element: no.el ?? no.at ?? null, entry: no.with ?? no.seq ?? null });
+      this.no = no;
+      this.author = author;
+      /** @type {number | null} */
+      this.action = action;
+      /** @type {string | null} */
+      this.element = no.el ?? no.at ?? null;
+      /** @type {number | null} */
+      this.entry = no.with ?? no.seq ?? null;
     }
 
+    /**
+     * @param {Refusal} no
+     * @param {string | null} author
+     */
     static inWords(no, author) {
       const words = WORDS[no.why];
       if (!words) return membersOf(no);
@@ -391,14 +552,21 @@
     }
   }
 
-  // The error for a refusal, or for a reason of the core: `unknown`, `not_sent`, `closed`.
+  /**
+   * The error for a refusal, or for a reason of the core: `unknown`, `not_sent`, `closed`.
+   * @param {Refusal} no
+   * @param {string} [author]
+   */
   function errorOf(no, author) {
     if (no.why === "unknown") return new Unknown(no.restarted);
     if (no.why === "not_sent") return new NotSent(no.restarted);
     return no.why === "closed" ? new Closed(no.sent) : new Refused(no, author);
   }
 
-  // A refusal as the command-line clients print it: its word, with what it is about.
+  /**
+   * A refusal as the command-line clients print it: its word, with what it is about.
+   * @param {Error} error
+   */
   function shortWords(error) {
     if (!(error instanceof Refused) || error.why === "conflict" || error.why === "in_use") return error.message;
     return placeOf(error.no) + membersOf(error.no);
@@ -406,7 +574,10 @@
 
   // ---- The messages without their ids, one function for each action and each query of docs/PROTOCOL.md.
 
-  // A number or a text of degrees as the text of a whole number of ten-millionths.
+  /**
+   * A number or a text of degrees as the text of a whole number of ten-millionths.
+   * @param {Degrees} value
+   */
   function units(value) {
     const text = typeof value === "number" ? value.toFixed(7) : String(value).trim();
     const parts = /^(-?)(\d+)(?:\.(\d{1,7}))?$/.exec(text);
@@ -414,16 +585,25 @@
     return Number(`${parts[1]}${parts[2]}${(parts[3] ?? "").padEnd(7, "0")}`) + 0;
   }
 
-  // A coordinate, which is a number or a text of degrees, as the room reads it.
+  /**
+   * A coordinate, which is a number or a text of degrees, as the room reads it.
+   * @param {Degrees} value
+   */
   function degrees(value) {
     if (typeof value !== "number") return String(value);
     if (!Number.isFinite(value)) throw new RangeError(`${value} is no coordinate`);
     return value.toFixed(7);
   }
 
+  /** @param {Iterable<number | string>} nodes */
   const nodeIds = (nodes) => Array.from(nodes, (node) => (typeof node === "string" ? Number(node.slice(1)) : node));
+  /**
+   * @param {Members} members
+   * @returns {[string, string][]}
+   */
   const pairs = (members) => Array.from(members, ([name, role]) => [name, role]);
 
+  /** @type {Library["actions"]} */
   const actions = {
     createNode: (el, lat, lon, tags = {}) => ({ do: "create", el, lat: degrees(lat), lon: degrees(lon), tags }),
     createWay: (el, nodes, tags = {}) => ({ do: "create", el, nodes: nodeIds(nodes), tags }),
@@ -463,40 +643,55 @@
   // How many bytes may wait in the browser before the library gives it more.
   const MOST_BUFFERED = 1 << 20;
 
-  // The entry `seq` of the journal: who made it (`by`), and the elements that it changed (`rows`).
+  /** The entry `seq` of the journal: who made it (`by`), and the elements that it changed (`rows`). */
   class ChangeEvent extends Event {
+    /** @param {{ seq: number, by: string, rows: Row[] }} entry */
     constructor({ seq, by, rows }) {
       super("change");
-      Object.assign(this, { seq, by, rows });
+      this.seq = seq;
+      this.by = by;
+      this.rows = rows;
     }
   }
 
-  // Entries were missed, and the mirror was read anew as of entry `seq`. `rows` has each element that differs.
-  // `restarted` is true if another run of the server answered, false if the same run did, null if it is not known.
+  /**
+   * Entries were missed, and the mirror was read anew as of entry `seq`. `rows` has each element that differs.
+   * `restarted` is true if another run of the server answered, false if the same run did, null if it is not known.
+   */
   class ResetEvent extends Event {
+    /** @param {{ seq: number, restarted: boolean | null, rows: Row[] }} reset */
     constructor({ seq, restarted, rows }) {
       super("reset");
-      Object.assign(this, { seq, restarted, rows });
+      this.seq = seq;
+      this.restarted = restarted;
+      this.rows = rows;
     }
   }
 
-  // The connection became "open", "connecting" or "closed".
+  /** The connection became "open", "connecting" or "closed". */
   class StateEvent extends Event {
+    /** @param {State} state */
     constructor(state) {
       super("state");
       this.state = state;
     }
   }
 
-  // `error`: what ended the room for good, or what one of your listeners threw.
+  /** `error`: what ended the room for good, or what one of your listeners threw. */
   class RoomErrorEvent extends Event {
+    /** @param {unknown} error */
     constructor(error) {
       super("error");
-      Object.assign(this, { error, isHeard: false });
+      this.error = error;
+      this.isHeard = false;
     }
   }
 
-  // A WebSocket of the platform, or else of the package ws, which would refuse large maps by itself.
+  /**
+   * A WebSocket of the platform, or else of the package ws, which would refuse large maps by itself.
+   * @param {string} url
+   * @returns {Socket}
+   */
   function socketTo(url) {
     if (globalThis.WebSocket) return new globalThis.WebSocket(url);
     let Package;
@@ -510,22 +705,52 @@
   }
 
   class Room extends EventTarget {
+    /** @type {Core} */
     #core;
+
+    /** @type {Options} */
     #options;
+
+    /** @type {Socket | null} */
     #socket = null;
+
+    /** @type {State} */
     #state = "connecting";
-    #opened;
+
+    /**
+     * What waits for the first session.
+     * @type {{ done(room: Room): void, fail(error: unknown): void } | null}
+     */
+    #opened = null;
+
     #isThere = false;
+
     #pause = SOON;
+
     #silentTicks = 0;
+
+    /** @type {number | undefined} */
     #bytes = 0;
+
     #texts = 0;
+
+    /** @type {string[]} */
     #outbox = [];
+
+    /** @type {Partial<Record<"open" | "watch" | "again" | "flush", ReturnType<typeof setTimeout>>>} */
     #timers = {};
+
+    /** @type {unknown} */
     #error = null;
+
+    /** @type {WeakMap<Listener, (event: Event) => void>} */
     #listeners = new WeakMap();
 
-    // Use `connect`.
+    /**
+     * Use `connect`.
+     * @param {string} url
+     * @param {Options} options
+     */
     constructor(url, options) {
       super();
       this.url = url;
@@ -535,10 +760,14 @@
       this.#core = new Core(options.room, options.name, firstId, WINDOW);
     }
 
-    // Connects, and gives the room when the welcome has come, within `openTimeout` milliseconds. Each message then
-    // waits for its answer for `timeout` milliseconds at most. null means no limit. A connection on which nothing came
-    // for `heartbeat` milliseconds is given up, and made anew. An aborted `signal` closes the room.
-    static connect(url, { room, name, openTimeout = 10_000, timeout = 60_000, heartbeat = 15_000, signal } = {}) {
+    /**
+     * Connects, and gives the room when the welcome has come, within `openTimeout` milliseconds. Each message then
+     * waits for its answer for `timeout` milliseconds at most. null means no limit. A connection on which nothing came
+     * for `heartbeat` milliseconds is given up, and made anew. An aborted `signal` closes the room.
+     * @type {Library["connect"]}
+     */
+    static connect(url, options) {
+      const { room, name, openTimeout = 10_000, timeout = 60_000, heartbeat = 15_000, signal } = options ?? {};
       return new Promise((done, fail) => {
         signal?.throwIfAborted();
         const made = new Room(url, { room, name, openTimeout, timeout, heartbeat });
@@ -547,33 +776,33 @@
           const words = `${url} did not answer within ${openTimeout / 1000} seconds`;
           made.#timers.open = setTimeout(() => made.#end(new ConnectionFailed(words)), openTimeout);
         }
-        const abort = () => made.#end(made.#isThere ? null : signal.reason);
+        const abort = () => made.#end(made.#isThere ? null : signal?.reason);
         signal?.addEventListener("abort", abort, { once: true });
         made.#begin();
       });
     }
 
-    // The map as of now, by the elements' names. Do not change it.
+    /** The map as of now, by the elements' names. Do not change it. */
     get elements() {
       return this.#core.elements;
     }
 
-    // The number of the last entry in the mirror.
+    /** The number of the last entry in the mirror. */
     get seq() {
       return this.#core.seq ?? 0;
     }
 
-    // Who made an entry, by its number, for the entries whose news came.
+    /** Who made an entry, by its number, for the entries whose news came. */
     get authors() {
       return this.#core.authors;
     }
 
-    // How many messages have no answer yet.
+    /** How many messages have no answer yet. */
     get pending() {
       return this.#core.pending();
     }
 
-    // "connecting", "open" or "closed".
+    /** "connecting", "open" or "closed". */
     get state() {
       return this.#state;
     }
@@ -586,44 +815,66 @@
       return this.#options.name;
     }
 
-    // Adds a listener. What it throws becomes an event `error` and does not end the program.
+    /**
+     * Adds a listener. What it throws becomes an event `error` and does not end the program.
+     * @param {string} type
+     * @param {Listener | null} listener
+     * @param {boolean | AddEventListenerOptions} [options]
+     */
     addEventListener(type, listener, options) {
       if (!listener) return;
-      const key = this.#listeners.get(listener) ?? this.#guarded(listener);
-      this.#listeners.set(listener, key);
-      super.addEventListener(type, key, options);
+      const guarded = this.#listeners.get(listener) ?? this.#guarded(listener);
+      this.#listeners.set(listener, guarded);
+      super.addEventListener(type, guarded, options);
     }
 
+    /**
+     * @param {string} type
+     * @param {Listener | null} listener
+     * @param {boolean | EventListenerOptions} [options]
+     */
     removeEventListener(type, listener, options) {
-      super.removeEventListener(type, this.#listeners.get(listener) ?? listener, options);
+      if (listener) super.removeEventListener(type, this.#listeners.get(listener) ?? listener, options);
     }
 
+    /**
+     * @param {Listener} listener
+     * @returns {(event: Event) => void}
+     */
     #guarded(listener) {
       return (event) => {
+        /** @param {unknown} error */
         const failed = (error) => (event.type === "error" ? console.error(error) : this.#fail(error));
-        if (event.type === "error") event.isHeard = true;
+        if (event instanceof RoomErrorEvent) event.isHeard = true;
         try {
+          /** @type {unknown} */
           const result = typeof listener === "function" ? listener.call(this, event) : listener.handleEvent(event);
-          if (typeof result?.then === "function") result.then(undefined, failed);
+          const promise = /** @type {PromiseLike<unknown> | null | undefined} */ (result);
+          if (typeof promise?.then === "function") promise.then(undefined, failed);
         } catch (error) {
           failed(error);
         }
       };
     }
 
-    // Reports an error: to the listeners of `error` or, if there are none, to the console.
+    /**
+     * Reports an error: to the listeners of `error` or, if there are none, to the console.
+     * @param {unknown} error
+     */
     #fail(error) {
       const event = new RoomErrorEvent(error);
       this.dispatchEvent(event);
       if (!event.isHeard) console.error(error);
     }
 
-    // Begins a session, and another one when it ends.
+    /** Begins a session, and another one when it ends. */
     #begin() {
+      /** @type {Socket} */
       let socket;
       try {
         socket = socketTo(this.url);
-      } catch (error) {
+      } catch (thrown) {
+        const error = /** @type {Error} */ (thrown);
         this.#end(new ConnectionFailed(`no connection to ${this.url}: ${error.message}`, { cause: error }));
         return;
       }
@@ -631,19 +882,25 @@
       this.#silentTicks = 0;
       this.#texts = 0;
       this.#outbox = [];
+      /** @type {Error | null} */
       let fault = null;
       const isOld = () => this.#socket !== socket;
       socket.onopen = () => isOld() || this.#send(this.#core.begin());
       socket.onmessage = ({ data }) => isOld() || this.#take(data);
       socket.onerror = (event) => {
-        fault = event.error ?? new Error(event.message || "the connection failed");
+        // The package ws reports what failed, and a browser does not.
+        const { error, message } = /** @type {Partial<ErrorEvent>} */ (event);
+        fault = error ?? new Error(message || "the connection failed");
       };
       socket.onclose = () => isOld() || this.#again(fault);
       const { heartbeat } = this.#options;
       this.#timers.watch = setInterval(() => this.#watch(), heartbeat / TICKS);
     }
 
-    // Ends a session, and begins another one after a pause. The first one has to begin.
+    /**
+     * Ends a session, and begins another one after a pause. The first one has to begin.
+     * @param {Error | null} [fault]
+     */
     #again(fault = null) {
       this.#leave();
       if (!this.#isThere) {
@@ -658,7 +915,7 @@
       this.#pause = Math.min(2 * this.#pause, LATE);
     }
 
-    // Drops the connection.
+    /** Drops the connection. */
     #leave() {
       clearInterval(this.#timers.watch);
       clearTimeout(this.#timers.again);
@@ -671,10 +928,17 @@
       socket.onerror = () => {};
       socket.close();
       // A package's socket would keep the program alive until a dead server answers the close.
-      if (socket.terminate) setTimeout(() => socket.terminate(), 1000).unref?.();
+      if (!socket.terminate) return;
+      /** @type {{ unref?: () => void }} */
+      const timer = /** @type {any} */ (setTimeout(() => socket.terminate?.(), 1000)); // a number in a browser
+      timer.unref?.();
     }
 
-    // Takes what the room sends.
+    /**
+     * Takes what the room sends.
+     * @param {string} text
+     * @returns {void}
+     */
     #take(text) {
       this.#silentTicks = 0;
       this.#texts += 1;
@@ -682,35 +946,46 @@
         this.#send(this.#core.take(text));
       } catch (error) {
         if (error instanceof HelloRefused) {
-          if (!this.#isThere || error.no.why !== "memory") return this.#end(errorOf(error.no));
+          if (!this.#isThere || error.no.why !== "memory") {
+            this.#end(errorOf(error.no));
+            return;
+          }
         } else if (!(error instanceof OutOfStep)) {
           throw error;
         }
-        return this.#again(error);
+        this.#again(error);
+        return;
       }
       const events = this.#core.events.splice(0);
       if (this.#core.isHere() && this.#state !== "open") {
         this.#isThere = true;
         clearTimeout(this.#timers.open);
         this.#become("open");
-        this.#opened.done(this);
+        this.#opened?.done(this);
       }
-      for (const event of events) this.dispatchEvent(event.reset ? new ResetEvent(event) : new ChangeEvent(event));
+      for (const event of events) {
+        this.dispatchEvent("reset" in event ? new ResetEvent(event) : new ChangeEvent(event));
+      }
     }
 
-    // Sends some texts, as fast as the other side reads.
+    /**
+     * Sends some texts, as fast as the other side reads.
+     * @param {string[]} texts
+     */
     #send(texts) {
       this.#outbox.push(...texts);
       clearTimeout(this.#timers.flush);
       let sent = 0;
       const isReady = () => this.#socket?.readyState === 1 && this.#socket.bufferedAmount < MOST_BUFFERED;
-      while (sent < this.#outbox.length && isReady()) this.#socket.send(this.#outbox[sent++]);
+      while (sent < this.#outbox.length && isReady()) this.#socket?.send(this.#outbox[sent++]);
       this.#outbox.splice(0, sent);
       if (this.#outbox.length > 0) this.#timers.flush = setTimeout(() => this.#send([]), 10);
     }
 
-    // Asks something small when nothing came for a while, and begins anew when nothing comes for long. It counts its
-    // calls and not the time, because a browser calls it less often in a page that is not seen.
+    /**
+     * Asks something small when nothing came for a while, and begins anew when nothing comes for long. It counts its
+     * calls and not the time, because a browser calls it less often in a page that is not seen.
+     */
     #watch() {
       const bytes = this.#socket?._socket?.bytesRead; // of the package ws: a long text is no silence while it comes
       this.#silentTicks = bytes === this.#bytes ? this.#silentTicks + 1 : 0;
@@ -722,13 +997,17 @@
       }
     }
 
+    /** @param {State} state */
     #become(state) {
       if (this.#state === state) return;
       this.#state = state;
       this.dispatchEvent(new StateEvent(state));
     }
 
-    // Ends everything, perhaps for an error that ends the room for good.
+    /**
+     * Ends everything, perhaps for an error that ends the room for good.
+     * @param {unknown} [error]
+     */
     #end(error = null) {
       if (this.#state === "closed") return;
       this.#error = error;
@@ -736,52 +1015,68 @@
       this.#leave();
       this.#core.close({ why: "closed" });
       this.#become("closed");
-      if (!this.#isThere) this.#opened.fail(error ?? new Closed());
+      if (!this.#isThere) this.#opened?.fail(error ?? new Closed());
       else if (error) this.#fail(error);
     }
 
-    // Leaves the room. Each message that has no answer fails with Closed.
+    /** Leaves the room. Each message that has no answer fails with Closed. */
     close() {
       this.#end();
     }
 
-    // Sends a message without its id, and gives what the answer has under `ok`. When the answer to a change is given,
-    // `elements` has the change. If you abort it, the message is not sent any more; if it was sent, it may be done.
-    ask(message, { signal, timeout = this.#options.timeout } = {}) {
+    /**
+     * Sends a message without its id, and gives what the answer has under `ok`. When the answer to a change is given,
+     * `elements` has the change. If you abort it, the message is not sent any more; if it was sent, it may be done.
+     * @type {Api["ask"]}
+     */
+    ask(message, { signal = undefined, timeout = this.#options.timeout } = {}) {
       return new Promise((done, fail) => {
         signal?.throwIfAborted();
         if (this.#state === "closed") throw this.#error ?? new Closed();
-        let timer = null;
+        /** @type {ReturnType<typeof setTimeout> | undefined} */
+        let timer;
         const stop = () => {
           clearTimeout(timer);
           signal?.removeEventListener("abort", abort);
         };
-        const asked = this.#core.add(message, (told) => {
+        const asked = this.#core.add(message, (answer) => {
           stop();
-          if (told.no) fail(this.#errorOf(told.no));
-          else done(told.ok);
+          if (answer.no) fail(this.#errorOf(answer.no));
+          else done(answer.ok);
         });
-        const giveUp = (error) => {
+        const giveUp = (/** @type {unknown} */ error) => {
           stop();
           this.#core.giveUp(asked);
           fail(error);
         };
-        const abort = () => giveUp(signal.reason);
+        const abort = () => giveUp(signal?.reason);
         signal?.addEventListener("abort", abort);
         if (timeout !== null) timer = setTimeout(() => giveUp(new NoAnswer(timeout)), timeout);
         this.#send(this.#core.sendMore());
       });
     }
 
+    /** @param {Refusal} no */
     #errorOf(no) {
       return no.why === "closed" && this.#error ? this.#error : errorOf(no, this.#core.authors.get(no.with));
     }
 
+    /**
+     * @param {Message} message
+     * @param {AskOptions} [options]
+     * @returns {Promise<number>}
+     */
     async #change(message, options) {
-      return (await this.ask(message, options)).seq;
+      return /** @type {number} */ ((await this.ask(message, options)).seq);
     }
 
-    // Asks for a change that makes an element, under a name that is free.
+    /**
+     * Asks for a change that makes an element, under a name that is free.
+     * @param {Kind} kind
+     * @param {string | undefined} el
+     * @param {(name: string) => Message} make
+     * @param {AskOptions} [options]
+     */
     async #create(kind, el, make, options) {
       for (let tries = 0; tries < TRIES; tries += 1) {
         const name = el ?? this.#core.newName(kind);
@@ -789,7 +1084,8 @@
           await this.ask(make(name), options);
           return name;
         } catch (error) {
-          if (el || error.why !== "present" || error.element !== name) throw error;
+          const isTaken = error instanceof Refused && error.why === "present" && error.element === name;
+          if (el || !isTaken) throw error;
         }
       }
       throw new MaproomError("names", `the names of ${TRIES} new elements were taken`);
@@ -798,113 +1094,152 @@
     // Each action gives the number of its entry; those that make an element give its name, which is a new one unless
     // you give it. `options` has `signal` and `timeout`.
 
-    createNode(lat, lon, tags = {}, { el, ...options } = {}) {
+    /** @type {Api["createNode"]} */
+    createNode(lat, lon, tags = {}, { el = undefined, ...options } = {}) {
       return this.#create("n", el, (name) => actions.createNode(name, lat, lon, tags), options);
     }
 
-    createWay(nodes, tags = {}, { el, ...options } = {}) {
+    /** @type {Api["createWay"]} */
+    createWay(nodes, tags = {}, { el = undefined, ...options } = {}) {
       return this.#create("w", el, (name) => actions.createWay(name, nodes, tags), options);
     }
 
-    createRelation(members, tags = {}, { el, ...options } = {}) {
+    /** @type {Api["createRelation"]} */
+    createRelation(members, tags = {}, { el = undefined, ...options } = {}) {
       return this.#create("r", el, (name) => actions.createRelation(name, members, tags), options);
     }
 
+    /** @type {Api["retag"]} */
     retag(el, tags, options) {
       return this.#change(actions.retag(el, tags), options);
     }
 
-    // Moves nodes, and the nodes of ways, by `dlat` degrees to the north and `dlon` to the east.
+    /**
+     * Moves nodes, and the nodes of ways, by `dlat` degrees to the north and `dlon` to the east.
+     * @type {Api["move"]}
+     */
     move(els, dlat, dlon, options) {
       return this.#change(actions.move(els, dlat, dlon), options);
     }
 
+    /** @type {Api["reverse"]} */
     reverse(el, options) {
       return this.#change(actions.reverse(el), options);
     }
 
+    /** @type {Api["setNodes"]} */
     setNodes(el, nodes, options) {
       return this.#change(actions.setNodes(el, nodes), options);
     }
 
+    /** @type {Api["setMembers"]} */
     setMembers(el, members, options) {
       return this.#change(actions.setMembers(el, members), options);
     }
 
+    /** @type {Api["delete"]} */
     delete(el, options) {
       return this.#change(actions.delete(el), options);
     }
 
+    /** @type {Api["purge"]} */
     purge(el, options) {
       return this.#change(actions.purge(el), options);
     }
 
-    split(el, at, { into, ...options } = {}) {
+    /** @type {Api["split"]} */
+    split(el, at, { into = undefined, ...options } = {}) {
       return this.#create("w", into, (name) => actions.split(el, at, name), options);
     }
 
+    /** @type {Api["join"]} */
     join(el, other, options) {
       return this.#change(actions.join(el, other), options);
     }
 
+    /** @type {Api["merge"]} */
     merge(el, other, options) {
       return this.#change(actions.merge(el, other), options);
     }
 
-    unglue(el, at, { into, ...options } = {}) {
+    /** @type {Api["unglue"]} */
+    unglue(el, at, { into = undefined, ...options } = {}) {
       return this.#create("n", into, (name) => actions.unglue(el, at, name), options);
     }
 
-    // Does several actions as one entry, or none of them, and gives the entry's number. `maproom.actions` has a
-    // function for each action. If the room refuses an action, it fails with a Refused that has the position `action`,
-    // and nothing was done. An undo takes all of them back. A server before version 1.1.0 refuses it as `unknown_do`.
+    /**
+     * Does several actions as one entry, or none of them, and gives the entry's number. `maproom.actions` has a
+     * function for each action. If the room refuses an action, it fails with a Refused that has the position `action`,
+     * and nothing was done. An undo takes all of them back. A server before version 1.1.0 refuses it as `unknown_do`.
+     * @type {Api["group"]}
+     */
     group(steps, options) {
       return this.#change(actions.group(steps), options);
     }
 
-    // Gives a name for a new element of a kind, "n", "w" or "r". The room gives it out once, and `elements` does not
-    // have it. If somebody else is quicker, the room refuses it as `present`.
+    /**
+     * Gives a name for a new element of a kind, "n", "w" or "r". The room gives it out once, and `elements` does not
+     * have it. If somebody else is quicker, the room refuses it as `present`.
+     * @type {Api["newName"]}
+     */
     newName(kind) {
       if (!["n", "w", "r"].includes(kind)) throw new RangeError(`${kind} is no kind of element`);
       return this.#core.newName(kind);
     }
 
-    // Gives {seq, undid}; `undid` is missing if the answer was lost on its way.
+    /**
+     * Gives {seq, undid}; `undid` is missing if the answer was lost on its way.
+     * @type {Api["undo"]}
+     */
     undo(seq, options) {
-      return this.ask(actions.undo(seq), options);
+      return /** @type {ReturnType<Api["undo"]>} */ (this.ask(actions.undo(seq), options));
     }
 
-    // Gives {seq, redid}; `redid` is missing if the answer was lost on its way.
+    /**
+     * Gives {seq, redid}; `redid` is missing if the answer was lost on its way.
+     * @type {Api["redo"]}
+     */
     redo(options) {
-      return this.ask(actions.redo(), options);
+      return /** @type {ReturnType<Api["redo"]>} */ (this.ask(actions.redo(), options));
     }
 
+    /** @type {Api["get"]} */
     async get(el, options) {
-      return (await this.ask(actions.get(el), options)).is;
+      return /** @type {Element} */ ((await this.ask(actions.get(el), options)).is);
     }
 
-    // Gives {map, seq}.
+    /**
+     * Gives {map, seq}.
+     * @type {Api["map"]}
+     */
     map(options) {
-      return this.ask(actions.map(), options);
+      return /** @type {ReturnType<Api["map"]>} */ (this.ask(actions.map(), options));
     }
 
-    // Gives {undos, redo}.
+    /**
+     * Gives {undos, redo}.
+     * @type {Api["undos"]}
+     */
     undos(options) {
-      return this.ask(actions.undos(), options);
+      return /** @type {ReturnType<Api["undos"]>} */ (this.ask(actions.undos(), options));
     }
   }
 
   const { connect } = Room;
 
+  /** @type {Library} */
+  const library = {
+    connect, Room, Core, OutOfStep, HelloRefused, MaproomError, ConnectionFailed, Closed, Unknown, NotSent, NoAnswer,
+    Refused, actions, errorOf, shortWords,
+  };
+
   if (typeof module === "object" && module.exports) {
+    // Node finds the names for an import in this literal.
     module.exports = {
       connect, Room, Core, OutOfStep, HelloRefused, MaproomError, ConnectionFailed, Closed, Unknown, NotSent, NoAnswer,
       Refused, actions, errorOf, shortWords,
     };
   } else {
-    globalThis.maproom = {
-      connect, Room, Core, OutOfStep, HelloRefused, MaproomError, ConnectionFailed, Closed, Unknown, NotSent, NoAnswer,
-      Refused, actions, errorOf, shortWords,
-    };
+    Object.assign(globalThis, { maproom: library });
   }
 })();

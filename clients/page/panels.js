@@ -1,93 +1,31 @@
 // The lists and fields next to the map. They show what others wrote as text, never as markup.
 "use strict";
 
-const $ = (id) => document.getElementById(id);
+/**
+ * A field of the form with its line of tags.
+ * @typedef {(HTMLInputElement | HTMLTextAreaElement) & { tag?: TagLine }} TaggedField
+ *
+ * Where the focus is: the line of tags, the name or the index of the field there, and what is selected in it.
+ * @typedef {{ tag?: TagLine, name?: string, at?: number, localName?: string, start?: number | null,
+ *   end?: number | null }} Focus
+ *
+ * What Find looks through of an element: its tags and its name in small letters, and what kind of place it is.
+ * @typedef {{ text: string, name: string, place: string | undefined }} SearchText
+ */
+
 const MOST_SHOWN = 50;
 const CHOOSE = "Choose something on the map, or from a list below.";
 const NONE_CAME = "No change came while you were connected.";
 const CONNECT = "Connect to a room to see its map, and to draw on it.";
 
-function make(tag, properties = {}, ...children) {
-  const made = Object.assign(document.createElement(tag), properties);
-  made.append(...children);
-  return made;
-}
-
-function button(text, onclick, properties = {}) {
-  return make("button", { type: "button", textContent: text, onclick, ...properties });
-}
-
-const soft = (tag, text) => make(tag, { className: "soft", textContent: text });
-const line = (...children) => make("div", { className: "row" }, ...children);
-const timeOf = (date) => soft("time", date.toTimeString().slice(0, 5));
-
-function dotOf(author) {
-  const dot = make("span", { className: "dot" });
-  dot.style.background = colourOf(author);
-  return dot;
-}
-
-// The tags of an element in fields. Typed fields stay until they are saved, even if others change the tags. The last
-// line is empty, for a new tag.
-class TagDraft {
-  constructor(row) {
-    this.el = row.el;
-    this.lines = [];
-    this.take(row);
-  }
-
-  // Takes the element as it is now: lines that nobody typed in follow it.
-  take(row) {
-    const empty = this.lines.find((each) => !each.was && !this.isTyped(each));
-    this.lines = this.lines.filter((each) => this.isTyped(each) || (each.was && each.was.key in row.tags));
-    for (const [key, value] of Object.entries(row.tags)) {
-      const had = this.lines.find(({ was }) => was?.key === key);
-      if (!had) this.lines.push({ key, value, was: { key, value }, isRemoved: false });
-      else if (!this.isTyped(had)) Object.assign(had, { value, was: { key, value } });
-      else had.was = { key, value };
-    }
-    this.lines.push(empty ?? { key: "", value: "", was: null, isRemoved: false });
-  }
-
-  // Takes lines as saved, each with what it was when it was sent. What was typed in it since then stays.
-  settle(sent) {
-    for (const [each, { key, value, isRemoved }] of sent) {
-      each.was = isRemoved ? null : { key: key.trim(), value };
-      if (each.key === key) each.key = key.trim();
-      const isOther = ({ was }) => !was || was.key !== each.was?.key;
-      this.lines = this.lines.filter((other) => (other === each ? each.was || !each.isRemoved : isOther(other)));
-    }
-  }
-
-  isTyped({ key, value, was, isRemoved }) {
-    return was ? isRemoved || key !== was.key || value !== was.value : key !== "" || value !== "";
-  }
-
-  typed() {
-    return this.lines.filter((each) => this.isTyped(each));
-  }
-
-  set(key, value) {
-    const had = this.lines.find((each) => each.key === key && !each.isRemoved);
-    if (had) had.value = value;
-    else this.lines.push({ key, value, was: null, isRemoved: false });
-  }
-
-  // What a retag has to say: the tags that differ, and null for those that go.
-  changes() {
-    const changes = {};
-    const typed = this.typed();
-    for (const { key, was, isRemoved } of typed) {
-      if (was && (isRemoved || key.trim() !== was.key)) changes[was.key] = null;
-    }
-    for (const { key, value, isRemoved } of typed) if (key.trim() && !isRemoved) changes[key.trim()] = value;
-    return changes;
-  }
-}
-
 const TOWNS = ["city", "town", "village"];
 
-// How early an element is found by a word: towns, then other places, then names, then other tags.
+/**
+ * How early an element is found by a word: towns, then other places, then names, then other tags.
+ * @param {string} word
+ * @param {string} name
+ * @param {string | undefined} place
+ */
 function rankOf(word, name, place) {
   if (!name.includes(word)) return 5;
   if (place) return TOWNS.includes(place) ? 0 : 1;
@@ -96,8 +34,18 @@ function rankOf(word, name, place) {
 }
 
 class Panels {
+  /** @param {Page} page */
   constructor(page) {
-    Object.assign(this, { page, typed: new Map(), formOf: null, places: null, mostFound: MOST_SHOWN });
+    this.page = page;
+    /** @type {Map<string, TagDraft>} */
+    this.typed = new Map(); // by the names of their elements
+    /** @type {string | null} */
+    this.formOf = null; // the names of what is shown
+    this.isShowing = false;
+    this.isListOpen = false;
+    this.mostFound = MOST_SHOWN;
+    /** @type {Map<string, SearchText> | null} */
+    this.texts = null; // what is looked through, by the names of the elements
   }
 
   showAll() {
@@ -125,15 +73,16 @@ class Panels {
 
   // ---- What is selected
 
+  /** @param {string} el */
   elementButton(el) {
     const row = this.page.elements.get(el);
     return button(row ? titleOf(row) : el, () => this.page.show(el), { className: "item" });
   }
 
-  // Shows what is selected. Fields in which somebody types keep their text and the focus, unless `isAnew`.
+  /** Shows what is selected. Fields in which somebody types keep their text and the focus, unless `isAnew`. */
   showSelected(isAnew = false) {
-    const { selected, elements } = this.page;
-    const rows = selected.map((el) => elements.get(el)).filter(Boolean);
+    const { selected } = this.page;
+    const rows = this.page.rowsOf(selected);
     const [row] = rows;
     const nothing = this.page.session?.room ? "Nothing selected" : "No map yet";
     const title = rows.length > 1 ? `${rows.length} selected` : row ? titleOf(row) : nothing;
@@ -152,37 +101,70 @@ class Panels {
     this.isShowing = false;
   }
 
+  /**
+   * @param {MapElement} row
+   * @returns {HTMLElement[]}
+   */
   partsOf(row) {
-    const makers = { n: () => this.nodePart(row), w: () => this.wayPart(row), r: () => this.relationPart(row) };
-    return [this.actionsPart([row]), ...makers[row.el[0]](), ...this.usersPart(row)];
+    const own = row.nodes ? this.wayPart(row) : row.members ? this.relationPart(row) : this.nodePart(row);
+    return [this.actionsPart([row]), ...own, ...this.usersPart(row)];
   }
 
-  // What can have the focus: in a line of tags or, without one, elsewhere.
+  /**
+   * What can have the focus: in a line of tags or, without one, elsewhere.
+   * @param {HTMLElement} box
+   * @param {TagLine | undefined} tag
+   * @returns {TaggedField[]}
+   */
   fieldsIn(box, tag) {
-    return [...box.querySelectorAll("input, textarea, select, button, summary")].filter((each) => each.tag === tag);
+    /** @type {NodeListOf<TaggedField>} */
+    const fields = box.querySelectorAll("input, textarea, select, button, summary");
+    return [...fields].filter((each) => each.tag === tag);
   }
 
+  /**
+   * @param {HTMLElement} box
+   * @returns {Focus}
+   */
   focusIn(box) {
-    const active = document.activeElement;
-    if (!box.contains(active)) return {};
+    const active = /** @type {TaggedField | null} */ (document.activeElement);
+    if (!active || !box.contains(active)) return {};
     const { tag, localName, selectionStart: start, selectionEnd: end } = active;
     return { tag, name: active.dataset.field, at: this.fieldsIn(box, tag).indexOf(active), localName, start, end };
   }
 
-  // What was typed into fields other than tags, and in place of what.
+  /**
+   * What was typed into fields other than tags, and in place of what.
+   * @param {HTMLElement} box
+   * @returns {[name: string, value: string, before: string][]}
+   */
   unsavedFields(box) {
-    return [...box.querySelectorAll("[data-field]")].filter((each) => each.value !== each.defaultValue)
-      .map((each) => [each.dataset.field, each.value, this.before(each)]);
+    /** @type {NodeListOf<TaggedField>} */
+    const fields = box.querySelectorAll("[data-field]");
+    return [...fields].filter((each) => each.value !== each.defaultValue)
+      .map((each) => [each.dataset.field ?? "", each.value, this.before(each)]);
   }
 
-  // What a field had before somebody typed in it.
+  /**
+   * What a field had before somebody typed in it.
+   * @param {HTMLInputElement | HTMLTextAreaElement} field
+   */
   before(field) {
     return field.dataset.before ?? field.defaultValue;
   }
 
-  // Puts back what was typed, and the focus. If its field is gone, the line for a new tag gets it, since keys would
-  // otherwise do something to the map.
+  /**
+   * Puts back what was typed, and the focus. If its field is gone, the line for a new tag gets it, since keys would
+   * otherwise do something to the map.
+   * @param {HTMLElement} box
+   * @param {Focus} focus
+   * @param {[name: string, value: string, before: string][]} values
+   */
   restoreFocus(box, { tag, name, at, localName, start, end }, values) {
+    /**
+     * @param {string} its
+     * @returns {TaggedField | null}
+     */
     const fieldOf = (its) => box.querySelector(`[data-field="${CSS.escape(its)}"]`);
     for (const [its, value, before] of values) {
       const field = fieldOf(its);
@@ -190,44 +172,62 @@ class Panels {
     }
     if (at === undefined) return;
     const same = name ? fieldOf(name) : this.fieldsIn(box, tag)[at];
+    /** @type {TaggedField | null} */
     const field = same ?? box.querySelector(`.tag:last-child ${localName}`);
     field?.focus({ preventScroll: true });
-    if (field && typeof start === "number" && field.setSelectionRange) field.setSelectionRange(start, end);
+    const isText = field instanceof HTMLInputElement || field instanceof HTMLTextAreaElement;
+    if (isText && typeof start === "number") field.setSelectionRange(start, end ?? start);
   }
 
+  /** @param {MapElement} row */
   draftOf(row) {
     const draft = this.typed.get(row.el) ?? new TagDraft(row);
     draft.take(row);
     return draft;
   }
 
+  /** @param {MapElement} row */
   tagsPart(row) {
     const draft = this.draftOf(row);
     this.typed.set(row.el, draft);
     const lines = make("div", { className: "list" }, ...draft.lines.map((each) => this.tagLine(draft, each)));
+    /** @param {Event} event */
     const submit = (event) => {
       event.preventDefault();
       this.saveTags(row.el);
     };
     const presets = PRESETS.filter(({ on }) => on.includes(row.el[0]));
-    const choice = make("select", { ariaLabel: "Set the tags of a usual thing" }, new Option("Presets ..", ""),
+    const choice = make("select", { label: "Set the tags of a usual thing" }, new Option("Presets ..", ""),
       ...presets.map(({ label }) => new Option(label, label)));
     choice.onchange = () => this.usePreset(draft, presets.find(({ label }) => label === choice.value));
     const discard = button("Discard", () => this.discard(row.el), { hidden: draft.typed().length === 0 });
-    return make("form", { onsubmit: submit, ariaLabel: "Tags" }, lines,
+    return make("form", { onsubmit: submit, label: "Tags" }, lines,
       line(choice, make("button", { textContent: "Save tags", className: "main" }), discard));
   }
 
+  /**
+   * @param {TagDraft} draft
+   * @param {TagLine} each
+   */
   tagLine(draft, each) {
-    const field = (about, value, list, set) => make("input", {
-      tag: each, value, ariaLabel: about, placeholder: list === "keys" ? "key" : "value", maxLength: 255,
-      autocomplete: "off", autocapitalize: "off", spellcheck: false,
-      oninput: (event) => {
-        set(event.target.value);
+    /**
+     * @param {string} about
+     * @param {string} value
+     * @param {"keys" | "values"} list
+     * @param {(text: string) => void} set
+     */
+    const field = (about, value, list, set) => {
+      const input = make("input", {
+        tag: each, value, label: about, placeholder: list === "keys" ? "key" : "value", maxLength: 255,
+        autocomplete: "off", autocapitalize: "off", spellcheck: false,
+      });
+      input.oninput = () => {
+        set(input.value);
         this.markLine(made, draft, each);
-      },
-      onfocus: (event) => this.complete(event.target, list, each),
-    });
+      };
+      input.onfocus = () => this.complete(input, list, each);
+      return input;
+    };
     const key = field("Key", each.key, "keys", (text) => (each.key = text));
     const value = field(`Value of ${each.key || "the new key"}`, each.value, "values", (text) => (each.value = text));
     const remove = button("×", () => {
@@ -235,20 +235,31 @@ class Panels {
       if (!each.was) draft.lines = draft.lines.filter((other) => other !== each);
       this.showSelected();
       this.showTyped();
-    }, { tag: each, ariaLabel: `${each.isRemoved ? "Keep" : "Remove"} ${each.key || "this tag"}` });
+    }, { tag: each, label: `${each.isRemoved ? "Keep" : "Remove"} ${each.key || "this tag"}` });
     const made = make("div", { className: "tag" }, key, value, remove);
     this.markLine(made, draft, each);
     return made;
   }
 
+  /**
+   * @param {HTMLElement} made
+   * @param {TagDraft} draft
+   * @param {TagLine} each
+   */
   markLine(made, draft, each) {
     made.classList.toggle("typed", draft.isTyped(each));
     made.classList.toggle("removed", each.isRemoved);
     this.showTyped();
   }
 
-  // Offers keys and values that the map has.
+  /**
+   * Offers keys and values that the map has.
+   * @param {HTMLInputElement} field
+   * @param {"keys" | "values"} list
+   * @param {{ key: string }} about
+   */
   complete(field, list, { key }) {
+    /** @type {Map<string, number>} */
     const counts = new Map();
     for (const { tags } of this.page.elements.values()) {
       if (list === "values") {
@@ -262,6 +273,10 @@ class Panels {
     field.setAttribute("list", list);
   }
 
+  /**
+   * @param {TagDraft} draft
+   * @param {Preset | undefined} preset
+   */
   usePreset(draft, preset) {
     if (!preset) return;
     for (const [key, value] of Object.entries(preset.tags)) draft.set(key, value);
@@ -273,17 +288,26 @@ class Panels {
     if (at >= 0) $("selected").querySelectorAll(".tag")[at].querySelectorAll("input")[1].focus();
   }
 
+  /** @param {string} el */
   saveTags(el) {
     const draft = this.typed.get(el);
     const row = this.page.elements.get(el);
+    if (!draft || !row) return;
     const nameless = draft.typed().find(({ key, value, isRemoved }) => !key.trim() && value && !isRemoved);
-    if (nameless) return this.page.sayWrong(`A tag needs a key: “${nameless.value}” has none.`);
+    if (nameless) {
+      this.page.sayWrong(`A tag needs a key: “${nameless.value}” has none.`);
+      return;
+    }
     const changes = draft.changes();
     for (const [key, value] of Object.entries(changes)) if (value === "" && !(key in row.tags)) delete changes[key];
     const real = Object.entries(changes).filter(([key, value]) => (row.tags[key] ?? null) !== value);
-    if (real.length === 0) return this.page.say("There is no tag to save.");
+    if (real.length === 0) {
+      this.page.say("There is no tag to save.");
+      return;
+    }
     const tags = Object.fromEntries(real);
     const words = real.slice(0, 2).map(([key, value]) => (value === null ? `no ${key}` : `${key}=${value}`)).join(", ");
+    /** @type {[each: TagLine, sent: TagLine][]} */
     const sent = draft.typed().map((each) => [each, { ...each }]);
     const done = () => {
       draft.settle(sent);
@@ -294,13 +318,14 @@ class Panels {
     this.page.perform(`tagged ${titleOf(row)} with ${words}`, () => [{ do: "retag", el, tags }], done, isStillTyped);
   }
 
+  /** @param {string} el */
   discard(el) {
     this.typed.delete(el);
     this.showSelected();
     this.showTyped();
   }
 
-  // The elements whose tags were typed and not saved.
+  /** The elements whose tags were typed and not saved. */
   typedElements() {
     return [...this.typed.values()].filter((draft) => draft.typed().length > 0 && this.page.elements.has(draft.el));
   }
@@ -312,35 +337,40 @@ class Panels {
     for (const [el, draft] of this.typed) {
       if (draft.typed().length === 0 && el !== page.selected[0]) this.typed.delete(el);
     }
+    /** @type {HTMLButtonElement | null} */
     const discard = $("selected").querySelector("form > .row > button:last-child");
     if (discard) discard.hidden = drafts.length === hidden.length;
     $("unsaved-tags").hidden = hidden.length === 0;
     $("typed").replaceChildren(...hidden.map(({ el }) => make("li", {}, this.elementButton(el),
-      button("Save", () => this.saveTags(el), { ariaLabel: `Save the tags of ${el}` }),
-      button("Discard", () => this.discard(el), { ariaLabel: `Discard the tags of ${el}` }))));
+      button("Save", () => this.saveTags(el), { label: `Save the tags of ${el}` }),
+      button("Discard", () => this.discard(el), { label: `Discard the tags of ${el}` }))));
     page.showSaved();
   }
 
+  /** @param {MapElement[]} rows */
   actionsPart(rows) {
     const { page } = this;
     const els = rows.map(({ el }) => el);
     const isUsed = els.some((el) => page.shapes.parentsOf(el).length > 0);
     const isMovable = els.some((el) => el[0] !== "r");
-    const offers = [
-      ["Delete", () => page.deleteSelected(), "Also nodes that nothing else needs (Delete)", true],
-      ["Delete everywhere", () => page.deleteSelected(true), "Also out of relations", isUsed],
-      ["Move", () => page.tools.use("move"), "Drag it, or use the arrow keys (M)", isMovable],
-      ["New relation", () => page.makeRelation(els), "A relation with this as its member", true],
-    ];
-    return line(...offers.filter(([, , , isOffered]) => isOffered)
-      .map(([text, work, title]) => button(text, work, { title })));
+    const everywhere = button("Delete everywhere", () => page.deleteSelected(true), { title: "Also out of relations" });
+    const move = button("Move", () => page.tools.use("move"), { title: "Drag it, or use the arrow keys (M)" });
+    return line(
+      button("Delete", () => page.deleteSelected(), { title: "Also nodes that nothing else needs (Delete)" }),
+      ...(isUsed ? [everywhere] : []),
+      ...(isMovable ? [move] : []),
+      button("New relation", () => page.makeRelation(els), { title: "A relation with this as its member" }),
+    );
   }
 
-  // Several elements: what can be done to all of them.
+  /**
+   * Several elements: what can be done to all of them.
+   * @param {MapElement[]} rows
+   */
   severalPart(rows) {
     const { page } = this;
-    const ways = rows.filter(({ nodes }) => nodes);
-    const nodes = rows.filter(({ lat }) => lat !== undefined);
+    const ways = rows.flatMap((row) => (row.nodes ? [row] : []));
+    const nodes = rows.flatMap((row) => (row.lat !== undefined ? [row] : []));
     const buttons = [];
     if (rows.length === 2 && ways.length === 2) {
       buttons.push(button("Join", () => page.join(ways[0].el, ways[1].el), { title: "Make one way of the two" }));
@@ -354,6 +384,7 @@ class Panels {
     return [make("ul", { className: "list" }, ...items), this.actionsPart(rows), line(...buttons)];
   }
 
+  /** @param {MapElement} row */
   usersPart(row) {
     const { page } = this;
     const users = [...(row.lat !== undefined ? page.shapes.usersOf(row.el) : []), ...page.shapes.parentsOf(row.el)];
@@ -361,60 +392,85 @@ class Panels {
     return users.length ? [soft("p", "Used by"), make("ul", { className: "list" }, ...items)] : [];
   }
 
+  /**
+   * @param {string} label
+   * @param {string} value
+   * @param {Partial<HTMLInputElement>} [properties]
+   * @returns {[HTMLInputElement, HTMLLabelElement]}
+   */
   field(label, value, properties = {}) {
     const input = make("input", { defaultValue: value, size: 13, ...properties });
     input.dataset.field = label;
     return [input, make("label", {}, label, input)];
   }
 
+  /** @param {MapNode} row */
   nodePart(row) {
     const { page } = this;
     const [lat, latLabel] = this.field("Latitude", row.lat, { inputMode: "decimal" });
     const [lon, lonLabel] = this.field("Longitude", row.lon, { inputMode: "decimal" });
-    const ways = page.shapes.usersOf(row.el).map((el) => page.elements.get(el)).filter(Boolean);
+    const ways = page.rowsOf(page.shapes.usersOf(row.el)).flatMap((way) => (way.nodes ? [way] : []));
     return [
       line(latLabel, lonLabel, button("Move to", () => page.moveTo(row, lat.value, lon.value))),
       line(...this.splitButtons(row, ways), ...this.unglueButtons(row, ways), ...this.mergeButtons(row)),
     ];
   }
 
+  /**
+   * @param {MapElement} row
+   * @param {MapWay[]} ways
+   */
   splitButtons(row, ways) {
     const id = idOf(row.el);
     const inner = ways.filter(({ nodes }) => nodes.slice(1, -1).includes(id));
     return inner.map(({ el }) => button(`Split ${el} here`, () => this.page.split(el, row.el)));
   }
 
-  // Where ways are held by a node that is used elsewhere too.
+  /**
+   * Where ways are held by a node that is used elsewhere too.
+   * @param {MapElement} row
+   * @param {MapWay[]} ways
+   */
   unglueButtons(row, ways) {
     const id = idOf(row.el);
-    const places = ways.flatMap(({ el, nodes }) => nodes.flatMap((node, at) => (node === id ? [[el, at]] : [])));
+    const places = ways.flatMap(({ el, nodes }) => nodes.flatMap((node, at) => (node === id ? { el, at } : [])));
     const isShared = places.length > 1 || this.page.shapes.parentsOf(row.el).length > 0;
-    const areMany = (way) => places.filter(([el]) => el === way).length > 1;
+    /** @param {string} way */
+    const areMany = (way) => places.filter(({ el }) => el === way).length > 1;
     const title = "The way gets a node of its own here, so that each can be moved alone";
+    /**
+     * @param {string} el
+     * @param {number} at
+     */
     const text = (el, at) => `Unglue ${el}${areMany(el) ? ` at ${at}` : ""}`;
     return (isShared ? places : []).slice(0, 20)
-      .map(([el, at]) => button(text(el, at), () => this.page.unglue(row.el, el, at), { title }));
+      .map(({ el, at }) => button(text(el, at), () => this.page.unglue(row.el, el, at), { title }));
   }
 
-  // Nodes so near that they may be meant to be the same.
+  /**
+   * Nodes so near that they may be meant to be the same.
+   * @param {MapElement} row
+   */
   mergeButtons(row) {
     const { page } = this;
     const at = page.shapes.positionOf(row.el);
+    if (!at) return [];
     const near = page.shapes.nodesAt(at, 15 / page.view.scale).filter(({ el }) => el !== row.el).slice(0, 2);
     return near.map(({ el }) => button(`Merge with ${el}`, () => page.merge(row.el, el)));
   }
 
+  /** @param {MapWay} row */
   wayPart(row) {
     const { page } = this;
     const { nodes } = row;
-    if (!areSafe(nodes)) return [soft("p", REFUSALS.unsafe())];
-    const isClosed = nodes[0] === nodes[nodes.length - 1];
+    if (!areSafe(nodes)) return [soft("p", REFUSALS.unsafe({}))];
+    const isClosed = nodes[0] === lastOf(nodes);
     const reverse = () => page.perform(`reversed ${titleOf(row)}`, () => [{ do: "reverse", el: row.el }]);
     const buttons = [button("Reverse", reverse)];
     if (!isClosed) {
       buttons.push(button("Continue", () => page.tools.goOn(row.el, false), { title: "Draw on from its last node" }),
         button("Continue at the start", () => page.tools.goOn(row.el, true), { title: "Draw on from its first node" }));
-      const next = [nodes[0], nodes[nodes.length - 1]].flatMap((id) => page.shapes.usersOf(id));
+      const next = [nodes[0], lastOf(nodes)].flatMap((id) => page.shapes.usersOf(id));
       const joined = [...new Set(next)].filter((el) => el !== row.el && Edits.join(row.el, el, page.elements));
       buttons.push(...joined.slice(0, 4).map((el) => button(`Join ${el}`, () => page.join(row.el, el))));
     }
@@ -428,8 +484,10 @@ class Panels {
     return [line(...buttons), details];
   }
 
+  /** @param {MapRelation} row */
   relationPart(row) {
     const { page } = this;
+    /** @type {Map<string, number>} */
     const times = new Map(); // how often each member is there
     const members = row.members.slice(0, 300).map(([el, role], at) => {
       times.set(el, (times.get(el) ?? 0) + 1);
@@ -440,14 +498,26 @@ class Panels {
     return [soft("p", counted(row.members.length, "member")), list, line(pick)];
   }
 
+  /**
+   * @param {MapRelation} row
+   * @param {string} el
+   * @param {string} role
+   * @param {number} at
+   * @param {number | undefined} time
+   */
   memberLine(row, el, role, at, time) {
     const { page } = this;
+    /**
+     * @param {string} what
+     * @param {...Member} changed
+     */
     const change = (what, ...changed) => page.perform(`${what} in ${titleOf(row)}`, () => {
-      const { members } = page.elements.get(row.el);
+      const { members } = relationOf(row.el, page.elements);
       const place = placeIn(members.map(([name]) => name), el, at);
-      return [{ do: "members", el: row.el, members: members.toSpliced(place, 1, ...changed) }];
+      const others = [...members.slice(0, place), ...changed, ...members.slice(place + 1)];
+      return [{ do: "members", el: row.el, members: others }];
     });
-    const about = { ariaLabel: `Role of ${el}`, placeholder: "role", maxLength: 255 };
+    const about = { label: `Role of ${el}`, placeholder: "role", maxLength: 255 };
     const field = make("input", { defaultValue: role, ...about });
     field.dataset.field = `role ${el} ${time}`;
     let saved = role;
@@ -458,7 +528,7 @@ class Panels {
     };
     // A field in which the text was put back does not change when it loses the focus.
     field.onchange = field.onblur = save;
-    const remove = button("×", () => change(`removed ${el}`), { ariaLabel: `Remove ${el}` });
+    const remove = button("×", () => change(`removed ${el}`), { label: `Remove ${el}` });
     return make("div", { className: "member" }, this.elementButton(el), field, remove);
   }
 
@@ -474,83 +544,110 @@ class Panels {
 
   showUndos() {
     const { session } = this.page;
-    const { undos = [], redos = [] } = this.page.isInside ? session : {};
+    const { undos, redos } = session && this.page.isInside ? session : { undos: [], redos: [] };
+    /**
+     * @param {Gesture[]} gestures
+     * @param {number} most
+     */
     const lines = (gestures, most) => this.runsOf(gestures).slice(-most).reverse();
     const items = [...lines(undos, 100).map((run) => this.undoItem(run)),
-      ...lines(redos, 20).map((run, index) => this.redoItem(run, index === 0))];
+    ...lines(redos, 20).map((run, index) => this.redoItem(run, index === 0))];
     $("undos").replaceChildren(...items);
     if (!undos.length && !redos.length) $("undos").append(soft("li", "Nothing yet."));
-    const [last, taken] = [undos[undos.length - 1], redos[redos.length - 1]];
-    const title = (seqs, what, keys) => (seqs ? `${what}: ${session.textOf(seqs[0])} (${keys})` : "");
+    const [last, taken] = [undos.at(-1), redos.at(-1)];
+    /**
+     * @param {Gesture | undefined} seqs
+     * @param {string} what
+     * @param {string} keys
+     */
+    const title = (seqs, what, keys) => (seqs ? `${what}: ${session?.textOf(seqs[0])} (${keys})` : "");
     Object.assign($("undo"), { disabled: !last, title: title(last, "Undo", "Ctrl+Z") });
     Object.assign($("redo"), { disabled: !taken, title: title(taken, "Redo", "Ctrl+Y") });
   }
 
-  // Gestures in lists: each of its own, but those together of which nothing is known.
+  /**
+   * Gestures in lists: each of its own, but those together of which nothing is known.
+   * @param {Gesture[]} gestures
+   */
   runsOf(gestures) {
-    const { session } = this.page;
+    /** @type {Gesture[][]} */
     const runs = [];
-    let isUnknown = false;
+    let wasUnknown = false;
     for (const seqs of gestures) {
-      if (isUnknown && !session.isKnown(seqs[0])) runs[runs.length - 1].push(seqs);
+      const isUnknown = !this.page.joinedSession.isKnown(seqs[0]);
+      if (wasUnknown && isUnknown) lastOf(runs).push(seqs);
       else runs.push([seqs]);
-      isUnknown = !session.isKnown(seqs[0]);
+      wasUnknown = isUnknown;
     }
     return runs;
   }
 
-  // A line for gestures of which the last can be undone.
+  /**
+   * A line for gestures of which the last can be undone.
+   * @param {Gesture[]} run
+   */
   undoItem(run) {
-    const { session } = this.page;
-    const last = run[run.length - 1];
-    const isBlocked = last.includes(session.conflict?.seq);
+    const session = this.page.joinedSession;
+    const last = lastOf(run);
+    const isBlocked = session.conflict !== null && last.includes(session.conflict.seq);
     const many = `${run.length} earlier entries, made before you came`;
     const text = run.length > 1 ? many : `${last[0]}: ${session.textOf(last[0])}`;
     const what = run.length > 1 ? `Undo the last of them, entry ${last[0]}` : `Undo entry ${text}`;
     const word = run.length > 1 ? `Undo ${last[0]}` : "Undo";
     return make("li", { className: isBlocked ? "blocks" : "" }, make("span", { textContent: text }),
-      button(word, () => this.page.undo(last), { ariaLabel: what, title: what }));
+      button(word, () => this.page.undo(last), { label: what, title: what }));
   }
 
-  // A line for undone gestures, of which the last of all can be redone.
+  /**
+   * A line for undone gestures, of which the last of all can be redone.
+   * @param {Gesture[]} run
+   * @param {boolean} isLast
+   */
   redoItem(run, isLast) {
-    const [seq] = run[run.length - 1];
+    const [seq] = lastOf(run);
     const many = `${run.length} undone entries, made before you came`;
-    const text = run.length > 1 ? many : `${seq}, undone: ${this.page.session.textOf(seq)}`;
-    const redo = isLast ? [button("Redo", () => this.page.redo(), { ariaLabel: `Redo entry ${seq}` })] : [];
+    const text = run.length > 1 ? many : `${seq}, undone: ${this.page.joinedSession.textOf(seq)}`;
+    const redo = isLast ? [button("Redo", () => this.page.redo(), { label: `Redo entry ${seq}` })] : [];
     return make("li", { className: "soft" }, make("span", { textContent: text }), ...redo);
   }
 
-  // Lists the changes that were not done, those together that have the same reason.
+  /** Lists the changes that were not done, those together that have the same reason. */
   showNotDone() {
     const { page } = this;
-    const byReason = Map.groupBy(page.notDone, ({ reason }) => reason);
-    const parts = [...byReason].flatMap(([reason, changes]) => [
+    /** @type {Lists<string, string>} */
+    const byReason = new Lists();
+    for (const { reason, text } of page.notDone) byReason.add(reason, text);
+    const parts = [...byReason].flatMap(([reason, texts]) => [
       make("p", { textContent: reason }),
-      make("ul", {}, ...changes.map(({ text }) => make("li", { textContent: text }))),
+      make("ul", {}, ...texts.map((text) => make("li", { textContent: text }))),
     ]);
     $("not-done").hidden = page.notDone.length === 0;
     $("not-done-title").textContent = page.countNotDone();
     $("not-done-changes").replaceChildren(...parts);
   }
 
+  /** @param {Entry} entry */
   changeItem(entry) {
     const { page } = this;
-    const { session } = page;
+    const session = page.joinedSession;
     const author = make("b", { textContent: session.subjectOf(entry) });
     const text = make("span", {}, `${entry.seq} `, author, ` ${session.deed(entry)} `, timeOf(entry.at));
-    const go = button("Go", () => page.showEntry(entry), { ariaLabel: `Go to entry ${entry.seq} on the map` });
+    const go = button("Go", () => page.showEntry(entry), { label: `Go to entry ${entry.seq} on the map` });
     const item = make("li", {}, dotOf(entry.by), text, go);
     item.classList.toggle("blocks", entry.seq === session.conflict?.with);
-    item.dataset.seq = entry.seq;
+    item.dataset.seq = String(entry.seq);
     return item;
   }
 
+  /** @param {Entry} entry */
   showChange(entry) {
     const list = $("changes");
-    if (!this.page.session.entries.has(entry.seq - 1)) return this.showChanges();
+    if (!this.page.joinedSession.entries.has(entry.seq - 1)) {
+      this.showChanges();
+      return;
+    }
     list.prepend(this.changeItem(entry));
-    while (list.children.length > MOST_SHOWN) list.lastChild.remove();
+    while (list.children.length > MOST_SHOWN) list.lastElementChild?.remove();
   }
 
   showChanges() {
@@ -560,6 +657,7 @@ class Panels {
   }
 
   showPeople() {
+    /** @type {Map<string, Entry>} */
     const latest = new Map();
     const { session } = this.page;
     for (const entry of session?.entries.values() ?? []) {
@@ -572,44 +670,56 @@ class Panels {
     if (!latest.size) $("people").append(soft("li", none));
   }
 
+  /** @param {Entry} entry */
   personItem(entry) {
-    const { session } = this.page;
+    const session = this.page.joinedSession;
     const author = make("b", { textContent: session.subjectOf(entry) });
     const text = make("span", {}, author, ` ${session.deed(entry)} `, timeOf(entry.at));
     const who = entry.by === session.name ? "you were" : `${entry.by} was`;
-    const go = button("Go", () => this.page.showEntry(entry), { ariaLabel: `Go to where ${who} last` });
+    const go = button("Go", () => this.page.showEntry(entry), { label: `Go to where ${who} last` });
     return make("li", {}, dotOf(entry.by), text, go);
   }
 
   // ---- Find
 
-  // The texts that are looked through, by name: made once, and then as news come.
+  /** The texts that are looked through, by name: made once, and then as news come. */
   searchTexts() {
     if (this.texts) return this.texts;
-    this.texts = new Map();
+    /** @type {Map<string, SearchText>} */
+    const texts = new Map();
+    this.texts = texts;
     for (const row of this.page.elements.values()) this.learnText(row.el, row);
-    return this.texts;
+    return texts;
   }
 
+  /**
+   * @param {string} el
+   * @param {MapElement | null} row
+   */
   learnText(el, row) {
     if (!this.texts) return;
     this.texts.delete(el);
     let text = "";
     if (row) for (const key in row.tags) text += `\n${key}=${row.tags[key]}`;
-    if (!text) return;
+    if (!row || !text) return;
     const { name = "", place } = row.tags;
     this.texts.set(el, { text: text.toLowerCase(), name: name.toLowerCase(), place });
   }
 
-  // The names of what fits, towns first, then other names, then other tags.
+  /**
+   * The names of what fits, towns first, then other names, then other tags.
+   * @param {string} word
+   */
   foundFor(word) {
     const { elements } = this.page;
+    /** @type {string[][]} */
     const groups = Array.from({ length: 6 }, () => []);
     for (const [el, { text, name, place }] of this.searchTexts()) {
       if (!text.includes(word)) continue;
       groups[rankOf(word, name, place)].push(el);
     }
-    const size = (el) => TOWNS.indexOf(elements.get(el)?.tags.place);
+    /** @param {string} el */
+    const size = (el) => TOWNS.indexOf(elements.get(el)?.tags.place ?? "");
     groups[0].sort((one, other) => size(one) - size(other));
     return [...(elements.has(word) ? [word] : []), ...groups.flat()];
   }
@@ -627,7 +737,7 @@ class Panels {
     this.page.timings.find = performance.now() - began;
   }
 
-  // Searches again after news, unless somebody uses the list at the moment.
+  /** Searches again after news, unless somebody uses the list at the moment. */
   refreshFound() {
     if ($("find").value.trim() && !$("found").contains(document.activeElement)) this.showFound();
   }

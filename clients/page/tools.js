@@ -2,11 +2,35 @@
 // map. A drawing is the page's alone until it is finished.
 "use strict";
 
+/**
+ * @typedef {ToolId | "move" | "members"} Tool
+ *
+ * What a tool begins with: the relation whose members are picked, or a drawing.
+ * @typedef {Partial<Draft> & { relation?: string }} ToolOptions
+ *
+ * A drawing: its places, the way that it makes longer, whether it came back unsaved and for which error, its preset.
+ * @typedef {{ places: Place[], isArea: boolean, extend: string | null, isUnsaved: boolean, error: Failure | null,
+ *   preset?: string }} Draft
+ *
+ * Elements that are dragged: which, their nodes, from where, how far, and the one node with the node that it meets.
+ * @typedef {{ els: string[], nodes: Set<number>, from: Position, dx: number, dy: number, single: string | null,
+ *   onto?: string | null, box?: undefined }} Dragged
+ *
+ * A box that is drawn by a drag, between two points.
+ * @typedef {{ box: Point, to: Point }} BoxDrag
+ *
+ * A segment with its two nodes and their positions.
+ * @typedef {NearSegment & { one: number, other: number, ends: [Position, Position] }} EndedSegment
+ */
+
 const REACH = { mouse: 10, touch: 20 }; // how many pixels away something is hit
+/** @type {Record<string, [right: number, down: number]>} */
 const MOVE_KEYS = { ArrowLeft: [-1, 0], ArrowRight: [1, 0], ArrowUp: [0, -1], ArrowDown: [0, 1] };
+/** @type {Record<string, Tool>} */
 const TOOL_KEYS = { v: "select", p: "point", l: "line", a: "area", m: "move" };
 const FRESH_FOR = 4000; // milliseconds for which what others changed is marked
 
+/** @type {Record<"mouse" | "touch", Partial<Record<Tool | "again", string>>>} */
 const HINTS = {
   mouse: {
     point: "Click where the node is to be. On a line it becomes a part of the line.",
@@ -26,22 +50,50 @@ const HINTS = {
   },
 };
 
+/** @type {ToolId[]} */
+const TOOL_IDS = ["select", "point", "line", "area"];
+
 class Tools {
+  /** @param {Page} page */
   constructor(page) {
-    Object.assign(this, { page, tool: "select", draft: null, cursor: null, dragged: null, hovered: null });
+    this.page = page;
+    /** @type {Tool} */
+    this.tool = "select";
+    /** @type {Tool} */
+    this.clickedWith = "select"; // the tool at the last click
+    /** @type {Draft | null} */
+    this.draft = null;
+    /** @type {Point | null} */
+    this.cursor = null;
+    /** @type {Dragged | BoxDrag | null} */
+    this.dragged = null;
+    /** @type {string | null} */
+    this.hovered = null;
+    /** @type {string | null} */
     this.relation = null; // whose members are picked
+    /** @type {Set<Draft>} */
     this.sent = new Set(); // drawings that are finished and not saved yet
+    /** @type {Draft[]} */
     this.unsaved = []; // drawings that could not be saved, and come back after the one that is being drawn
+    /** @type {Set<Dragged>} */
     this.moving = new Set(); // drags that ended and are not saved yet
+    /** @type {{ els: string[], by: string, until: number }[]} */
     this.fresh = []; // what others changed a moment ago
     this.isSnapping = true;
   }
 
   // ---- The tool
 
+  /**
+   * @param {Tool} tool
+   * @param {ToolOptions} [about]
+   */
   use(tool, about = {}) {
     const { page } = this;
-    if (tool !== "select" && !page.isInside) return page.sayWrong("Connect first.");
+    if (tool !== "select" && !page.isInside) {
+      page.sayWrong("Connect first.");
+      return;
+    }
     this.tool = tool;
     this.relation = about.relation ?? null;
     this.dragged = null;
@@ -49,9 +101,9 @@ class Tools {
     const isWay = tool === "line" || tool === "area";
     const { places = [], extend = null, isUnsaved = false, error = null } = about;
     this.draft = isWay ? { places, isArea: tool === "area", extend, isUnsaved, error } : null; // `extend`: a way
-    for (const each of ["select", "point", "line", "area"]) $(each).setAttribute("aria-pressed", String(each === tool));
+    for (const each of TOOL_IDS) $(each).setAttribute("aria-pressed", String(each === tool));
     $("drawing").hidden = !isDrawing;
-    for (const each of ["finish", "back"]) $(each).hidden = !isWay;
+    $("finish").hidden = $("back").hidden = !isWay;
     $("map").classList.toggle("drawing", tool !== "select");
     if (isDrawing) this.offerPresets(tool === "point" ? "n" : "w", about.preset);
     const hint = this.hintOf(tool);
@@ -61,57 +113,82 @@ class Tools {
     page.view?.paintOverSoon();
     page.showSaved();
     if (tool === "select") this.goOnDrawing("");
-    return undefined;
   }
 
+  /**
+   * @param {Tool | "again"} tool
+   * @returns {string | undefined}
+   */
   hintOf(tool) {
     return HINTS[this.page.isTouch ? "touch" : "mouse"][tool];
   }
 
+  /** @param {"n" | "w"} kind */
   offerPresets(kind, chosen = "") {
     const fitting = PRESETS.filter(({ on }) => on.includes(kind));
     const options = [new Option("nothing yet", ""), ...fitting.map(({ label }) => new Option(label, label))];
     $("preset").replaceChildren(...options);
     $("preset").value = chosen;
-    $("preset").parentElement.hidden = Boolean(this.draft?.extend);
+    this.showPreset();
   }
 
+  /** A drawing that goes on with a way has no preset, because the way has its tags. */
+  showPreset() {
+    const label = $("preset").parentElement;
+    if (label) label.hidden = Boolean(this.draft?.extend);
+  }
+
+  /** @returns {Tags} */
   presetTags() {
     return { ...PRESETS.find(({ label }) => label === $("preset").value)?.tags };
   }
 
-  // Gives up what is being done, or what is selected.
+  /** Gives up what is being done, or what is selected. */
   escape() {
-    if (this.dragged) return this.letGo();
+    if (this.dragged) {
+      this.letGo();
+      return;
+    }
     const { draft } = this;
     const sent = draft?.isUnsaved ? "" : " Nothing of it was sent.";
     if (draft?.places.length) this.page.say(`The drawing is given up.${sent}`);
-    if (this.tool !== "select") return this.use("select");
-    return this.page.select();
+    if (this.tool !== "select") this.use("select");
+    else this.page.select();
   }
 
   // ---- What is at a point
 
+  /** @param {boolean} isTouch */
   reach(isTouch) {
     return REACH[isTouch ? "touch" : "mouse"] / this.page.view.scale;
   }
 
-  // What a click means: the node, way or building there, or null. What is selected comes first.
+  /**
+   * What a click means: the node, way or building there, or null. What is selected comes first.
+   * @param {Point} point
+   */
   find(point, isTouch = false) {
     const { page } = this;
     const at = page.view.positionAt(point);
     const reach = this.reach(isTouch);
+    /** @param {string} el */
     const isOfSelected = (el) => page.selected.includes(el)
       || page.shapes.usersOf(el).some((way) => page.selected.includes(way));
     const nodes = page.shapes.nodesAt(at, reach, (el) => page.selected.includes(el));
-    const isSeen = (el) => page.view.zoom >= 17 || hasTags(page.elements.get(el).tags) || isOfSelected(el)
+    /** @param {string} el */
+    const isSeen = (el) => page.view.zoom >= 17 || hasTags(page.elements.get(el)?.tags ?? {}) || isOfSelected(el)
       || page.shapes.usersOf(el).length === 0;
     const node = nodes.find(({ el }) => page.elements.has(el) && isSeen(el));
     if (node) return node.el;
     return page.shapes.segmentsAt(at, reach)[0]?.el ?? page.shapes.buildingAt(at);
   }
 
-  // The place that a click means while something is drawn: at a node, on segments, or free.
+  /**
+   * The place that a click means while something is drawn: at a node, on segments, or free.
+   * @param {Point} point
+   * @param {boolean} [isTouch]
+   * @returns {Place}
+   */
   snap(point, isTouch = false) {
     const { page } = this;
     const at = page.view.positionAt(point);
@@ -124,16 +201,26 @@ class Tools {
     return this.snapToSegments(at, reach) ?? at;
   }
 
-  // A place of the drawing itself that is near.
+  /**
+   * A place of the drawing itself that is near.
+   * @param {Position} at
+   * @param {number} reach
+   */
   ownPlace(at, reach) {
     const places = this.draft?.places ?? [];
     return places.find((place) => Math.hypot(place.x - at.x, place.y - at.y) <= reach) ?? null;
   }
 
+  /**
+   * @param {Position} at
+   * @param {number} reach
+   * @returns {Place | null}
+   */
   snapToSegments(at, reach) {
     const { page } = this;
-    const isUsable = ({ el }) => page.elements.has(el) && areSafe(page.elements.get(el).nodes);
-    const near = page.shapes.segmentsAt(at, reach).filter(isUsable).map((segment) => this.withEnds(segment));
+    /** @param {NearSegment} segment */
+    const isUsable = ({ el }) => areSafe(page.elements.get(el)?.nodes ?? [NaN]);
+    const near = page.shapes.segmentsAt(at, reach).filter(isUsable).flatMap((segment) => this.withEnds(segment) ?? []);
     if (near.length === 0) return null;
     const [first] = near;
     const crossing = this.crossingOf(near, at, reach);
@@ -144,18 +231,32 @@ class Tools {
     return { x: place.x, y: place.y, segments };
   }
 
+  /**
+   * @param {NearSegment} segment
+   * @returns {EndedSegment | null}
+   */
   withEnds(segment) {
-    const { nodes } = this.page.elements.get(segment.el);
+    const { nodes } = wayOf(segment.el, this.page.elements);
     const [one, other] = [nodes[segment.index - 1], nodes[segment.index]];
-    const ends = [this.page.shapes.positionOf(one), this.page.shapes.positionOf(other)];
-    return { ...segment, one, other, ends };
+    const [start, end] = [this.page.shapes.positionOf(one), this.page.shapes.positionOf(other)];
+    return start && end ? { ...segment, one, other, ends: [start, end] } : null;
   }
 
+  /**
+   * @param {EndedSegment} one
+   * @param {EndedSegment} other
+   */
   isSameSegment(one, other) {
     return (one.one === other.one && one.other === other.other) || (one.one === other.other && one.other === other.one);
   }
 
-  // Where the nearest segment crosses another one that is near, if that place is near too.
+  /**
+   * Where the nearest segment crosses another one that is near, if that place is near too.
+   * @param {EndedSegment[]} segments
+   * @param {Position} at
+   * @param {number} reach
+   * @returns {(Position & { with: EndedSegment }) | null}
+   */
   crossingOf([first, ...others], at, reach) {
     for (const other of others) {
       if ([other.one, other.other].some((id) => id === first.one || id === first.other)) continue;
@@ -167,28 +268,59 @@ class Tools {
 
   // ---- Clicks
 
+  /**
+   * @param {Point} point
+   * @param {{ isTouch?: boolean, isMore?: boolean }} how
+   * @returns {void}
+   */
   click(point, { isTouch = false, isMore = false } = {}) {
     const { page } = this;
     page.closeMenu();
     this.clickedWith = this.tool;
     if (!page.session?.room) return;
-    if (this.tool === "point") return this.makePoint(this.snap(point, isTouch));
-    if (this.draft) return this.addPlace(this.snap(point, isTouch));
-    const el = this.find(point, isTouch);
-    if (this.tool === "members") return el && page.toggleMember(this.relation, el);
-    if (this.tool === "move") return this.use("select");
-    if (!isMore) return page.select(...(el ? [el] : []));
-    const others = page.selected.filter((each) => each !== el);
-    if (el) page.select(...others, ...(others.length < page.selected.length ? [] : [el]));
+    if (this.tool === "point") {
+      this.makePoint(this.snap(point, isTouch));
+    } else if (this.draft) {
+      this.addPlace(this.snap(point, isTouch));
+    } else {
+      this.clickElement(this.find(point, isTouch), isMore);
+    }
   }
 
+  /**
+   * @param {string | null} el
+   * @param {boolean} isMore
+   */
+  clickElement(el, isMore) {
+    const { page, relation } = this;
+    if (this.tool === "members") {
+      if (el && relation) page.toggleMember(relation, el);
+    } else if (this.tool === "move") {
+      this.use("select");
+    } else if (!isMore) {
+      page.select(...(el ? [el] : []));
+    } else if (el) {
+      const others = page.selected.filter((each) => each !== el);
+      page.select(...others, ...(others.length < page.selected.length ? [] : [el]));
+    }
+  }
+
+  /**
+   * @param {Point} point
+   * @param {PointerEvent} event
+   * @returns {void}
+   */
   doubleClick(point, event) {
     // The first of the two clicks has made the last point.
-    if (this.draft) return this.finish();
-    if (this.tool !== "select") return this.click(point, event);
-    if (this.clickedWith === "select") this.page.view.zoomBy(event.shiftKey ? -1 : 1, point);
+    if (this.draft) this.finish();
+    else if (this.tool !== "select") this.click(point);
+    else if (this.clickedWith === "select") this.page.view.zoomBy(event.shiftKey ? -1 : 1, point);
   }
 
+  /**
+   * @param {Place} place
+   * @returns {void}
+   */
   makePoint(place) {
     const { page } = this;
     if (place.el) {
@@ -201,43 +333,61 @@ class Tools {
       ([el]) => el);
   }
 
+  /**
+   * @param {Place} place
+   * @returns {void}
+   */
   addPlace(place) {
-    const { page, draft } = this;
+    const { draft } = this;
+    if (!draft) return;
     const { places, isArea, extend } = draft;
-    const isSame = (one, other) => one && (one === other || (one.el && one.el === other.el));
-    if (places.length && isSame(places[places.length - 1], place)) return this.finish();
+    /**
+     * @param {Place | undefined} one
+     * @param {Place} other
+     */
+    const isSame = (one, other) => one === other || (one?.el !== undefined && one.el === other.el);
+    if (places.length && isSame(lastOf(places), place)) return this.finish();
     const isFirst = places.length > 2 && isSame(places[0], place);
     if (isFirst && !extend) return this.finish(true);
     if (places.length === 0 && !isArea && !extend && place.el) draft.extend = this.endOfSelected(place.el);
     places.push({ ...place });
-    this.tellDraft();
+    this.showDraft(draft);
   }
 
-  // The selected way if it begins or ends at a node, or null. A drawing that begins there goes on with it.
+  /**
+   * The selected way if it begins or ends at a node, or null. A drawing that begins there goes on with it.
+   * @param {string} node
+   */
   endOfSelected(node) {
     const { selected, elements } = this.page;
     return selected.length === 1 && Edits.endsAt(selected[0], idOf(node), elements) ? selected[0] : null;
   }
 
-  tellDraft() {
-    const { places, isArea, extend } = this.draft;
+  /**
+   * Says how long the drawing is, and how it goes on.
+   * @param {Draft} draft
+   */
+  showDraft({ places, isArea, extend }) {
     const text = `${counted(places.length, "point")}${extend ? `, going on with ${extend}` : ""}.`;
     this.page.say(`${text} ${this.hintOf(isArea ? "area" : "line")}`);
     this.page.isHint = true;
-    $("preset").parentElement.hidden = Boolean(extend);
+    this.showPreset();
     $("finish").disabled = places.length < (isArea ? 3 : 2);
     this.page.view.paintOverSoon();
   }
 
   removeLast() {
-    if (!this.draft?.places.length) return;
-    this.draft.places.pop();
-    if (this.draft.places.length === 0) this.draft.extend = null;
-    this.tellDraft();
+    const { draft } = this;
+    if (!draft?.places.length) return;
+    draft.places.pop();
+    if (draft.places.length === 0) draft.extend = null;
+    this.showDraft(draft);
   }
 
-  // Sends the drawing as one gesture. It is kept until it is saved, and comes back if it is refused. The next one that
-  // came back waits for the answer, so that what is said of it does not hide what became of this one.
+  /**
+   * Sends the drawing as one gesture. It is kept until it is saved, and comes back if it is refused. The next one that
+   * came back waits for the answer, so that what is said of it does not hide what became of this one.
+   */
   finish(isClosed = this.draft?.isArea) {
     const { page, draft } = this;
     if (!draft) return;
@@ -250,8 +400,10 @@ class Tools {
     this.use("select");
     const what = kindOf({ el: "w", tags });
     const text = extend ? `made ${extend} longer` : `drew a ${what} with ${counted(places.length, "point")}`;
+    /** @param {NameGiver} newName */
     const build = (newName) => Edits.way(places, { isClosed, tags, extend }, page.elements, newName);
-    const done = (names) => extend ?? names.at(-1);
+    /** @param {string[]} names */
+    const done = (names) => extend ?? lastOf(names);
     page.perform(text, build, done, (error) => this.bringBack({ ...draft, error })).then((isSaved) => {
       this.sent.delete(draft);
       page.view.paintOverSoon();
@@ -259,8 +411,11 @@ class Tools {
     });
   }
 
-  // Goes on with a drawing that could not be saved, after the one that is being drawn. Returns true, since the mapper
-  // has it back.
+  /**
+   * Goes on with a drawing that could not be saved, after the one that is being drawn. Returns true, since the mapper
+   * has it back.
+   * @param {Draft} draft
+   */
   bringBack(draft) {
     if (this.draft?.places.length || !this.page.isInside) {
       this.unsaved.push(draft);
@@ -269,65 +424,81 @@ class Tools {
     } else {
       this.use(draft.isArea ? "area" : "line", { ...draft, isUnsaved: true });
       this.refreshDraft();
-      this.tellDraft();
+      if (this.draft) this.showDraft(this.draft);
     }
     return true;
   }
 
-  // Goes on with the first drawing that waits, unless the mapper does something else or another one is under way. Says
-  // again why it was not saved, after what became of the drawing before it. `before` is null if there was none.
+  /**
+   * Goes on with the first drawing that waits, unless the mapper does something else or another one is under way. Says
+   * again why it was not saved, after what became of the drawing before it. `before` is null if there was none.
+   * @param {string | null} [before]
+   */
   goOnDrawing(before = null) {
     const isBusy = this.tool !== "select" || this.sent.size > 0;
-    if (this.unsaved.length === 0 || !this.page.isInside || isBusy) return;
-    const draft = this.unsaved.shift();
+    const [draft] = this.unsaved;
+    if (!draft || !this.page.isInside || isBusy) return;
+    this.unsaved.shift();
     this.page.keepRefusal(() => this.bringBack(draft));
     const next = [`${before} The next drawing was not saved either.`.trim(), this.hintOf("again")];
     if (draft.error) this.page.refused(draft.error, ...(before === null ? [] : next));
   }
 
-  // Puts the drawing aside, since the session has ended. Returns whether drawings wait.
+  /** Puts the drawing aside, since the session has ended. Returns whether drawings wait. */
   putAside() {
     if (this.draft?.places.length) this.unsaved.unshift({ ...this.draft, preset: $("preset").value });
     this.use("select");
     return this.unsaved.length > 0;
   }
 
-  // How many drawings could not be saved so far.
+  /** How many drawings could not be saved so far. */
   countUnsaved() {
     return this.unsaved.length + (this.draft?.isUnsaved && this.draft.places.length ? 1 : 0);
   }
 
-  // Goes on with a way at its end or its start.
+  /**
+   * Goes on with a way at its end or its start.
+   * @param {string} el
+   * @param {boolean} atStart
+   */
   goOn(el, atStart) {
-    const { nodes } = this.page.elements.get(el);
-    const node = nodeOf(atStart ? nodes[0] : nodes[nodes.length - 1]);
-    const place = { ...this.page.shapes.positionOf(node), el: node };
-    this.use("line", { places: [place], extend: el });
+    const { nodes } = wayOf(el, this.page.elements);
+    const node = nodeOf(atStart ? nodes[0] : lastOf(nodes));
+    const position = this.page.shapes.positionOf(node);
+    if (position) this.use("line", { places: [{ ...position, el: node }], extend: el });
     this.page.view.show(this.page.shapes.boxOf(node));
   }
 
-  // The elements may have gone to which a drawing was joined: it keeps the places. It goes on with a way only as long
-  // as the way begins or ends at its first place.
+  /**
+   * The elements may have gone to which a drawing was joined: it keeps the places. It goes on with a way only as long
+   * as the way begins or ends at its first place.
+   */
   refreshDraft() {
     const { elements } = this.page;
-    const { places = [], extend } = this.draft ?? {};
+    const { draft } = this;
+    if (!draft) return;
+    const { places, extend } = draft;
     for (const place of places) {
       if (place.el && !elements.has(place.el)) delete place.el;
       if (place.segments) place.segments = place.segments.filter(({ el }) => elements.has(el));
     }
     if (!extend || (places[0].el && Edits.endsAt(extend, idOf(places[0].el), elements))) return;
-    this.draft.extend = null;
-    this.tellDraft();
+    draft.extend = null;
+    this.showDraft(draft);
   }
 
   // ---- Drags
 
-  // Whether a press drags something in the place of the map.
+  /**
+   * Whether a press drags something in the place of the map.
+   * @param {Point} point
+   * @param {PointerEvent} event
+   * @returns {boolean}
+   */
   grab(point, event) {
     const { page } = this;
     if (!page.session?.room || page.selected.length === 0) {
-      if (event.shiftKey && this.tool === "select") return this.beginBox(point);
-      return false;
+      return event.shiftKey && this.tool === "select" && this.beginBox(point);
     }
     if (this.tool === "move") return this.grabAll(point);
     if (this.tool !== "select") return false;
@@ -341,6 +512,7 @@ class Tools {
     return true;
   }
 
+  /** @param {Point} point */
   grabAll(point) {
     const { page } = this;
     const at = page.view.positionAt(point);
@@ -351,38 +523,49 @@ class Tools {
     const isIn = at.x > box.west - margin && at.x < box.east + margin && at.y > box.north - margin
       && at.y < box.south + margin;
     if (els.length === 0 || !isIn) return false;
-    const nodes = new Set(els.flatMap((el) => page.elements.get(el).nodes ?? [idOf(el)]));
+    const nodes = new Set(els.flatMap((el) => page.elements.get(el)?.nodes ?? [idOf(el)]));
     this.dragged = { els, nodes, from: at, dx: 0, dy: 0, single: null };
     return true;
   }
 
+  /** @param {Point} point */
   beginBox(point) {
     this.dragged = { box: point, to: point };
     return true;
   }
 
+  /** @param {Point} point */
   drag(point) {
     const { page, dragged } = this;
     if (!dragged) return;
     if (dragged.box) {
       dragged.to = point;
-      return page.view.paintOverSoon();
+    } else {
+      const at = page.view.positionAt(point);
+      dragged.dx = at.x - dragged.from.x;
+      dragged.dy = at.y - dragged.from.y;
+      dragged.onto = null;
+      if (dragged.single) this.snapDragged(dragged, dragged.single, at);
     }
-    const at = page.view.positionAt(point);
-    Object.assign(dragged, { dx: at.x - dragged.from.x, dy: at.y - dragged.from.y, onto: null });
-    if (dragged.single) this.snapDragged(at);
     page.view.paintOverSoon();
   }
 
-  // A node that is dragged onto another is joined to it.
-  snapDragged(at) {
-    const { page, dragged } = this;
-    const start = page.shapes.positionOf(dragged.single);
+  /**
+   * A node that is dragged onto another is joined to it.
+   * @param {Dragged} dragged
+   * @param {string} node
+   * @param {Position} at
+   */
+  snapDragged(dragged, node, at) {
+    const { page } = this;
+    const start = page.shapes.positionOf(node);
     if (!start) return;
-    const onto = page.shapes.nodesAt(at, 8 / page.view.scale).find(({ el }) => el !== dragged.single);
+    const onto = page.shapes.nodesAt(at, 8 / page.view.scale).find(({ el }) => el !== node);
     const isOld = onto && Math.hypot(onto.x - start.x, onto.y - start.y) * page.view.scale < 8;
     if (!onto || isOld || !this.isSnapping || !$("joining").checked) return;
-    Object.assign(dragged, { onto: onto.el, dx: onto.x - start.x, dy: onto.y - start.y });
+    dragged.onto = onto.el;
+    dragged.dx = onto.x - start.x;
+    dragged.dy = onto.y - start.y;
   }
 
   drop() {
@@ -390,7 +573,10 @@ class Tools {
     this.dragged = null;
     if (!dragged) return;
     page.view.paintOverSoon();
-    if (dragged.box) return this.selectBox(dragged);
+    if (dragged.box) {
+      this.selectBox(dragged);
+      return;
+    }
     if (!dragged.els.every((el) => page.elements.has(el))) return;
     this.moving.add(dragged);
     this.saveDrag(dragged).finally(() => {
@@ -399,16 +585,28 @@ class Tools {
     });
   }
 
+  /**
+   * @param {Dragged} dragged
+   * @returns {Promise<unknown>}
+   */
   async saveDrag({ single, onto, els, dx, dy }) {
     if (!onto) return this.moveBy(els, dx, dy);
     const build = () => [{ do: "merge", el: onto, with: single }];
     return this.page.perform(`joined ${single} to ${onto}`, build, () => onto);
   }
 
-  // Moves elements by a distance on the plane.
+  /**
+   * Moves elements by a distance on the plane.
+   * @param {string[]} els
+   * @param {number} dx
+   * @param {number} dy
+   * @returns {Promise<boolean> | undefined}
+   */
   moveBy(els, dx, dy) {
     const { page } = this;
-    const start = page.shapes.positionOf(els[0][0] === "n" ? els[0] : page.elements.get(els[0]).nodes[0]);
+    const start = page.shapes.positionOf(page.elements.get(els[0])?.nodes?.[0] ?? els[0]);
+    if (!start) return undefined;
+    /** @param {number} degrees */
     const steps = (degrees) => Math.round(degrees * 1e7);
     const dlat = steps(Mercator.lat(start.y + dy) - Mercator.lat(start.y));
     const dlon = steps(dx * 360);
@@ -416,6 +614,7 @@ class Tools {
     return page.perform(`moved ${page.titles(els)}`, () => [{ do: "move", els, dlat, dlon }]);
   }
 
+  /** @param {BoxDrag} dragged */
   selectBox({ box, to }) {
     const { page } = this;
     const one = page.view.positionAt({ x: Math.min(box.x, to.x), y: Math.min(box.y, to.y) });
@@ -430,45 +629,58 @@ class Tools {
 
   // ---- The pointer over the map
 
+  /**
+   * @param {Point | null} point
+   * @param {PointerEvent} [event]
+   */
   hover(point, event) {
     const { page } = this;
     this.cursor = point;
-    page.tellWhere(point);
+    page.showWhere(point);
     if (event) this.isSnapping = !event.altKey;
     page.view.soon("hover", () => {
       const isSelecting = this.tool === "select" || this.tool === "members";
       this.hovered = this.cursor && isSelecting && page.session?.room ? this.find(this.cursor) : null;
-      page.tellUnder(this.hovered, this.cursor);
+      page.showUnder(this.hovered, this.cursor);
       page.view.paintOverSoon();
     });
   }
 
+  /** @param {Point} point */
   menu(point) {
     const { page } = this;
     if (!page.session?.room) return;
     if (this.draft?.places.length) {
-      return page.openMenu(point, [["Finish here", () => {
+      page.openMenu(point, [["Finish here", () => {
         this.addPlace(this.snap(point, true));
         if (this.draft) this.finish();
       }], ["Remove the last point", () => this.removeLast()], ["Give up the drawing", () => this.escape()]]);
+      return;
     }
     const el = this.find(point, true);
+    /** @param {"point" | "line" | "area"} tool */
     const begin = (tool) => () => {
       this.use(tool);
       this.click(point, { isTouch: true });
     };
-    const words = { point: "Point here", line: "Line from here", area: "Area from here" };
-    const items = Object.entries(words).map(([tool, text]) => [text, begin(tool)]);
-    const isMore = el && page.selected.length > 0 && !page.selected.includes(el);
-    const title = el && titleOf(page.elements.get(el));
-    if (isMore) items.unshift([`Select ${title} too`, () => page.select(...page.selected, el)]);
-    else if (el) items.unshift([`Select ${title}`, () => page.select(el)]);
+    /** @type {[text: string, work: () => void][]} */
+    const items = [
+      ["Point here", begin("point")], ["Line from here", begin("line")], ["Area from here", begin("area")],
+    ];
+    const row = el ? page.elements.get(el) : null;
+    const isMore = row && page.selected.length > 0 && !page.selected.includes(row.el);
+    if (isMore) items.unshift([`Select ${titleOf(row)} too`, () => page.select(...page.selected, row.el)]);
+    else if (row) items.unshift([`Select ${titleOf(row)}`, () => page.select(row.el)]);
     page.openMenu(point, items);
   }
 
   // ---- Keys
 
-  // A key that was pressed on the map, or anywhere but in a field.
+  /**
+   * A key that was pressed on the map, or anywhere but in a field.
+   * @param {KeyboardEvent} event
+   * @returns {void}
+   */
   key(event) {
     const { page } = this;
     const isOnMap = event.target === $("map");
@@ -478,11 +690,11 @@ class Tools {
     if (key === "Escape") this.escape();
     else if (key === "Backspace" && this.draft) this.removeLast();
     else if (key === "Delete" || key === "Backspace") this.draft || page.isHeld(event) || page.deleteSelected();
-    else if (key === "Enter" && this.draft && !event.target.closest("button, a")) this.finish();
+    else if (key === "Enter" && this.draft && !isIn(event, "button, a")) this.finish();
     else if (steps) page.isHeld(event) || this.nudge(steps, event.shiftKey ? 10 : 1);
     else if (tool === "move") page.selected.length && this.use("move");
     else if (tool) this.use(tool);
-    else if (isOnMap && MOVE_KEYS[key]) page.view.pan(...MOVE_KEYS[key].map((step) => step * 60));
+    else if (isOnMap && MOVE_KEYS[key]) page.view.pan(MOVE_KEYS[key][0] * 60, MOVE_KEYS[key][1] * 60);
     else if (isOnMap && (key === " " || key === "Enter")) this.click(page.view.middle());
     else if (key === "+" || key === "=") page.view.zoomBy(0.5);
     else if (key === "-") page.view.zoomBy(-0.5);
@@ -491,6 +703,10 @@ class Tools {
     event.preventDefault();
   }
 
+  /**
+   * @param {readonly [number, number]} direction
+   * @param {number} pixels
+   */
   nudge([right, down], pixels) {
     const { page } = this;
     const els = page.selected.filter((el) => el[0] !== "r");
@@ -499,6 +715,10 @@ class Tools {
 
   // ---- What is drawn over the map
 
+  /**
+   * @param {CanvasRenderingContext2D} context
+   * @param {Frame} frame
+   */
   paintOver(context, frame) {
     const { page } = this;
     this.paintFresh(context, frame);
@@ -517,10 +737,24 @@ class Tools {
     if (page.isByKeys) this.paintCross(context);
   }
 
+  /**
+   * @param {Position} position
+   * @param {Frame} frame
+   * @returns {[number, number]}
+   */
   place({ x, y }, frame) {
     return [x * frame.scale - frame.left, y * frame.scale - frame.top];
   }
 
+  /**
+   * @param {CanvasRenderingContext2D} context
+   * @param {Frame} frame
+   * @param {string} el
+   * @param {string} colour
+   * @param {number} width
+   * @param {boolean} [hasNodes]
+   * @returns {void}
+   */
   paintElement(context, frame, el, colour, width, hasNodes = false) {
     const { shapes, elements } = this.page;
     const row = elements.get(el);
@@ -546,6 +780,12 @@ class Tools {
     return undefined;
   }
 
+  /**
+   * @param {CanvasRenderingContext2D} context
+   * @param {readonly [number, number]} point
+   * @param {number} radius
+   * @param {string} colour
+   */
   paintDot(context, [x, y], radius, colour) {
     context.beginPath();
     context.arc(x, y, radius, 0, 7);
@@ -556,7 +796,11 @@ class Tools {
     context.stroke();
   }
 
-  // What others changed fades out in their colours.
+  /**
+   * What others changed fades out in their colours.
+   * @param {CanvasRenderingContext2D} context
+   * @param {Frame} frame
+   */
   paintFresh(context, frame) {
     const now = performance.now();
     this.fresh = this.fresh.filter(({ until }) => until > now);
@@ -565,12 +809,21 @@ class Tools {
     }
   }
 
+  /**
+   * @param {string[]} els
+   * @param {string} by
+   */
   markFresh(els, by) {
     this.fresh.push({ els, by, until: performance.now() + FRESH_FOR });
     if (this.fresh.length > 20) this.fresh.shift();
     setTimeout(() => this.page.view.paintOverSoon(), FRESH_FOR + 50);
   }
 
+  /**
+   * @param {CanvasRenderingContext2D} context
+   * @param {Frame} frame
+   * @param {Dragged | BoxDrag} dragged
+   */
   paintDragged(context, frame, dragged) {
     const { page } = this;
     context.strokeStyle = "#d6006c";
@@ -582,13 +835,14 @@ class Tools {
       context.setLineDash([]);
       return;
     }
+    /** @param {number} id */
     const moved = (id) => {
       const at = page.shapes.positionOf(id);
       return at && (dragged.nodes.has(id) ? { x: at.x + dragged.dx, y: at.y + dragged.dy } : at);
     };
     const ways = new Set([...dragged.nodes].flatMap((id) => page.shapes.usersOf(id)));
     for (const el of [...ways].slice(0, 50)) {
-      this.paintLine(context, frame, (page.elements.get(el)?.nodes ?? []).map(moved).filter(Boolean));
+      this.paintLine(context, frame, (page.elements.get(el)?.nodes ?? []).flatMap((id) => moved(id) ?? []));
     }
     context.setLineDash([]);
     for (const id of dragged.nodes) {
@@ -597,12 +851,23 @@ class Tools {
     }
   }
 
+  /**
+   * @param {CanvasRenderingContext2D} context
+   * @param {Frame} frame
+   * @param {Position[]} places
+   */
   paintLine(context, frame, places) {
     context.beginPath();
     for (const [index, place] of places.entries()) context[index ? "lineTo" : "moveTo"](...this.place(place, frame));
     context.stroke();
   }
 
+  /**
+   * @param {CanvasRenderingContext2D} context
+   * @param {Frame} frame
+   * @param {Draft} draft
+   * @param {Place | null} next
+   */
   paintDraft(context, frame, { places, isArea, extend }, next) {
     context.strokeStyle = "#d6006c";
     context.lineWidth = 3;
@@ -618,7 +883,12 @@ class Tools {
     if (extend) this.paintElement(context, frame, extend, "rgba(214, 0, 108, .4)", 4);
   }
 
-  // A ring where a click joins a node, a square where it joins a line.
+  /**
+   * A ring where a click joins a node, a square where it joins a line.
+   * @param {CanvasRenderingContext2D} context
+   * @param {Frame} frame
+   * @param {Place} place
+   */
   paintSnap(context, frame, place) {
     if (!place.el && !place.segments) return;
     const [x, y] = this.place(place, frame);
@@ -630,7 +900,10 @@ class Tools {
     context.stroke();
   }
 
-  // The middle, where the space bar clicks.
+  /**
+   * The middle, where the space bar clicks.
+   * @param {CanvasRenderingContext2D} context
+   */
   paintCross(context) {
     const { x, y } = this.page.view.middle();
     context.strokeStyle = "#155fa8";
@@ -644,12 +917,20 @@ class Tools {
   }
 }
 
-// Where two segments cross, or null.
-function intersectionOf([a, b], [c, d]) {
-  const [ux, uy, vx, vy] = [b.x - a.x, b.y - a.y, d.x - c.x, d.y - c.y];
-  const turn = ux * vy - uy * vx;
+/**
+ * Where two segments cross, or null.
+ * @param {readonly [Position, Position]} first
+ * @param {readonly [Position, Position]} second
+ * @returns {Position | null}
+ */
+function intersectionOf([start, end], [from, to]) {
+  const one = { x: end.x - start.x, y: end.y - start.y };
+  const other = { x: to.x - from.x, y: to.y - from.y };
+  const apart = { x: from.x - start.x, y: from.y - start.y };
+  const turn = one.x * other.y - one.y * other.x;
   if (turn === 0) return null;
-  const along = ((c.x - a.x) * vy - (c.y - a.y) * vx) / turn;
-  const across = ((c.x - a.x) * uy - (c.y - a.y) * ux) / turn;
-  return along > 0 && along < 1 && across > 0 && across < 1 ? { x: a.x + along * ux, y: a.y + along * uy } : null;
+  const along = (apart.x * other.y - apart.y * other.x) / turn;
+  const across = (apart.x * one.y - apart.y * one.x) / turn;
+  const isOnBoth = along > 0 && along < 1 && across > 0 && across < 1;
+  return isOnBoth ? { x: start.x + along * one.x, y: start.y + along * one.y } : null;
 }

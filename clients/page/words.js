@@ -1,11 +1,27 @@
 // What the page says: titles of elements, what entries did, and refusals in sentences.
 "use strict";
 
+/**
+ * A refusal of the room's, or another reason why something was not done.
+ * @typedef {{ why: string, el?: string, by?: string, at?: string, key?: string, field?: string, seq?: number,
+ *   with?: number, action?: number, restarted?: boolean, isDropped?: boolean, isSent?: boolean }} Refusal
+ *
+ * An error of a change. `no` has the room's refusal, and `text` is what the change did.
+ * @typedef {Error & Partial<Refusal> & { no?: Refusal, text?: string, cause?: Error }} Failure
+ *
+ * A usual thing, with its tags, for nodes (`n`) or ways (`w`), and the keys whose values the mapper adds.
+ * @typedef {{ label: string, on: string, tags: Tags, asks: string[] }} Preset
+ */
+
+/** @type {Record<string, string>} */
 const KINDS = { n: "node", w: "way", r: "relation" };
 const PLAIN_KEYS = ["amenity", "shop", "tourism", "leisure", "natural", "landuse", "railway", "waterway", "barrier",
   "man_made", "historic", "place", "boundary", "type"];
 
-// What an element is, in a word or two.
+/**
+ * What an element is, in a word or two.
+ * @param {{ el: string, tags: Tags }} row
+ */
 function kindOf({ el, tags }) {
   const { highway } = tags;
   if (highway && el[0] === "w") return FOOTWAYS.test(highway) ? highway : "street";
@@ -16,26 +32,46 @@ function kindOf({ el, tags }) {
   return tags["addr:housenumber"] ? "address" : KINDS[el[0]];
 }
 
-// The name of an element, or an address, or nothing.
+/**
+ * The name of an element, or an address, or nothing.
+ * @param {MapElement} row
+ */
 function nameOf({ tags }) {
   const house = tags["addr:housenumber"];
   return tags.name ?? tags.ref ?? (house ? [tags["addr:street"], house].filter(Boolean).join(" ") : "");
 }
 
-// An element for people: “Mill Lane, street w12”.
+/**
+ * An element for people: “Mill Lane, street w12”.
+ * @param {MapElement} row
+ */
 function titleOf(row) {
   const name = nameOf(row);
   return `${name ? `${name}, ` : ""}${kindOf(row)} ${row.el}`;
 }
 
+/**
+ * @param {number} count
+ * @param {string} word
+ */
 const counted = (count, word) => `${count} ${word}${count === 1 ? "" : "s"}`;
 
+/**
+ * @param {unknown} one
+ * @param {unknown} other
+ */
 const isSameValue = (one, other) => JSON.stringify(one) === JSON.stringify(other);
 
-// The two parts of an element, each of which an entry changes or leaves.
+/**
+ * The two parts of an element, each of which an entry changes or leaves.
+ * @param {MapElement | null} row
+ */
 const partsOf = (row) => (row ? { tags: row.tags, place: row.nodes ?? row.members ?? [row.lat, row.lon] } : null);
 
-// What was done to an element.
+/**
+ * What was done to an element.
+ * @param {ChangedRow} row
+ */
 function deedTo({ before, after }) {
   if (!before) return "made";
   if (!after) return "deleted";
@@ -43,18 +79,24 @@ function deedTo({ before, after }) {
   return after.lat !== undefined ? "moved" : after.nodes ? "changed the line of" : "changed the members of";
 }
 
-// What an entry did: “made Mill Lane, street w-1 and 3 nodes”.
+/**
+ * What an entry did: “made Mill Lane, street w-1 and 3 nodes”.
+ * @param {ChangedRow[]} rows
+ */
 function deedsOf(rows) {
-  const deeds = new Map();
+  /** @type {Lists<string, MapElement>} */
+  const deeds = new Lists();
   for (const row of rows) {
-    const deed = deedTo(row);
-    if (!deeds.has(deed)) deeds.set(deed, []);
-    deeds.get(deed).push(row.after ?? row.before);
+    const element = row.after ?? row.before;
+    if (element) deeds.add(deedTo(row), element);
   }
   return [...deeds].map(([deed, elements]) => `${deed} ${listOf(elements)}`).join(", ") || "changed nothing";
 }
 
-// Some elements: those with names first, and of plain nodes only how many.
+/**
+ * Some elements: those with names first, and of plain nodes only how many.
+ * @param {MapElement[]} elements
+ */
 function listOf(elements) {
   const plain = elements.filter((row) => row.el[0] === "n" && !hasTags(row.tags));
   const rest = elements.filter((row) => !plain.includes(row)).reverse();
@@ -65,6 +107,7 @@ function listOf(elements) {
   return parts.length > 1 ? `${parts.slice(0, -1).join(", ")} and ${parts[parts.length - 1]}` : parts[0];
 }
 
+/** @type {Record<string, (no: Partial<Refusal>) => string>} */
 const REFUSALS = {
   repeat: (no) => `Another client with your name spent the number of entry ${no.seq}. Try again.`,
   full: () => "The room is full: it takes no more changes. Save its map and serve it anew.",
@@ -98,28 +141,38 @@ const REFUSALS = {
   other_nodes: ({ el }) => `Somebody changed the nodes of ${el} meanwhile. Select it again, and change its list.`,
   not_meant: () => "Nothing was undone or redone, because the change before was not saved.",
   unsafe: () => "The id of a node is too large: the line cannot be changed here.",
-  closed: ({ isDropped, isSent }) => {
-    if (!isDropped) return "You left the room before the answer came.";
-    return isSent ? REFUSALS.unknown() : "The session ended before this was sent. It was not done.";
+  closed: (no) => {
+    if (!no.isDropped) return "You left the room before the answer came.";
+    return no.isSent ? REFUSALS.unknown(no) : "The session ended before this was sent. It was not done.";
   },
 };
 
-// A refusal, or another error of a call, as a sentence.
+/**
+ * A refusal, or another error of a call, as a sentence.
+ * @param {Failure} error
+ */
 function sentenceOf(error) {
   const no = error.no ?? error;
-  return REFUSALS[no.why]?.(no) ?? error.message ?? `The server refused: ${no.why}.`;
+  return (no.why ? REFUSALS[no.why]?.(no) : null) ?? error.message;
 }
 
-// Whether nobody knows if a change was done.
-const isUnsure = ({ why, isSent }) => ["unknown", "no_answer"].includes(why) || (why === "closed" && isSent);
+/**
+ * Whether nobody knows if a change was done.
+ * @param {Failure} error
+ */
+const isUnsure = ({ why, isSent }) => why === "unknown" || why === "no_answer" || (why === "closed" && isSent === true);
 
-// A colour for each author: the same in every browser.
+/**
+ * A colour for each author: the same in every browser.
+ * @param {string} author
+ */
 function colourOf(author) {
   let sum = 0;
   for (const sign of author) sum = (sum * 31 + sign.charCodeAt(0)) % 360;
   return `hsl(${(sum * 47) % 360} 75% 36%)`;
 }
 
+/** @type {Preset[]} */
 const PRESETS = [
   { label: "Building", on: "w", tags: { building: "yes" }, asks: ["addr:street", "addr:housenumber"] },
   { label: "House", on: "w", tags: { building: "house" }, asks: ["addr:street", "addr:housenumber"] },

@@ -2,27 +2,69 @@
 // knows no Leaflet and no page: it draws on the canvas that it is given, and finds what is near a position.
 "use strict";
 
+/**
+ * Elements of a room's map, in which the name of a member comes with its role.
+ * @typedef {maproom.Element} MapElement
+ * @typedef {maproom.NodeElement} MapNode
+ * @typedef {maproom.WayElement} MapWay
+ * @typedef {maproom.RelationElement} MapRelation
+ * @typedef {maproom.Tags} Tags
+ * @typedef {[name: string, role: string]} Member
+ * @typedef {ReadonlyMap<string, MapElement>} Elements
+ *
+ * An element before and after a change, null if it was or is not there.
+ * @typedef {maproom.Row} ChangedRow
+ *
+ * A place on the plane of web maps, and a rectangle on it.
+ * @typedef {{ x: number, y: number }} Position
+ * @typedef {{ west: number, north: number, east: number, south: number }} Box
+ *
+ * Where the world lies on a canvas: the pixel of a position is its part of the world times `scale`, less `left` and
+ * `top`.
+ * @typedef {{ scale: number, left: number, top: number }} Frame
+ *
+ * How ways look. A way that `isApart` is filled together with the others of its style.
+ * @typedef {{ id: string, stroke: string, width: number, fill?: string, dash?: number[], isApart?: boolean }} Style
+ *
+ * A node near a position; and a segment near it: the way, the index of the segment's end in its list, and the nearest
+ * position on the segment, which is the part `part` of it.
+ * @typedef {{ el: string, x: number, y: number, distance: number }} NearNode
+ * @typedef {{ el: string, index: number, part: number, x: number, y: number, distance: number }} NearSegment
+ */
+
+/** @param {number} id */
 const nodeOf = (id) => `n${id}`;
 
 const [ZERO, MINUS, POINT] = [48, 45, 46]; // codes of characters
 const DECIMALS = 7;
 const MOST_DIGITS = 15; // of which every number is exact
 
-// The number that the digits of a text make from a place on, without the character at `point`. A map has hundreds of
-// thousands of such texts, and Number() takes longer.
+/**
+ * The number that the digits of a text make from a place on, without the character at `point`. A map has hundreds of
+ * thousands of such texts, and Number() takes longer.
+ * @param {string} text
+ * @param {number} from
+ * @param {number} point
+ */
 function digitsOf(text, from, point) {
   let value = 0;
   for (let at = from; at < text.length; at++) if (at !== point) value = value * 10 + text.charCodeAt(at) - ZERO;
   return value;
 }
 
-// The id in the name of an element.
+/**
+ * The id in the name of an element.
+ * @param {string} el
+ */
 function idOf(el) {
   if (el.length > MOST_DIGITS) return Number(el.slice(1));
   return el.charCodeAt(1) === MINUS ? -digitsOf(el, 2, -1) : digitsOf(el, 1, -1);
 }
 
-// The number of a coordinate, which rows have as a text with seven decimals.
+/**
+ * The number of a coordinate, which rows have as a text with seven decimals.
+ * @param {string} text
+ */
 function numberOf(text) {
   const point = text.length - DECIMALS - 1;
   if (text.length > MOST_DIGITS || text.charCodeAt(point) !== POINT) return Number(text);
@@ -30,16 +72,23 @@ function numberOf(text) {
 }
 
 const Mercator = {
+  /** @param {string | number} lon */
   x: (lon) => Number(lon) / 360 + 0.5,
+  /** @param {string | number} lat */
   y(lat) {
     const sine = Math.sin((Math.max(-85.0511, Math.min(85.0511, Number(lat))) * Math.PI) / 180);
     return 0.5 - Math.log((1 + sine) / (1 - sine)) / (4 * Math.PI);
   },
+  /** @param {number} x */
   lon: (x) => (x - 0.5) * 360,
+  /** @param {number} y */
   lat: (y) => (Math.atan(Math.exp((0.5 - y) * 2 * Math.PI)) * 2 - Math.PI / 2) * (180 / Math.PI),
 };
 
-// How ways look, in the order in which they are drawn. A way is drawn in the first style whose test it passes.
+/**
+ * How ways look, in the order in which they are drawn. A way is drawn in the first style whose test it passes.
+ * @type {Style[]}
+ */
 const STYLES = [
   { id: "green", fill: "#d5e8c8", stroke: "#6c9a4d", width: 1 },
   { id: "water-area", fill: "#c4def2", stroke: "#2f76b5", width: 1 },
@@ -53,11 +102,17 @@ const STYLES = [
   { id: "street", stroke: "#8a5a1c", width: 2.2 },
   { id: "main", stroke: "#7a3b0c", width: 3 },
 ];
+
+/** @type {Record<string, number>} */
 const STYLE_AT = Object.fromEntries(STYLES.map(({ id }, at) => [id, at]));
 const MAIN_STREETS = /^(motorway|trunk|primary|secondary)/;
 const FOOTWAYS = /foot|path|steps|cycle|bridleway/;
 
-// The place in STYLES of a way.
+/**
+ * The place in STYLES of a way.
+ * @param {Tags} tags
+ * @param {boolean} isClosed
+ */
 function styleOf(tags, isClosed) {
   const { highway } = tags;
   if (highway) return STYLE_AT[FOOTWAYS.test(highway) ? "footway" : MAIN_STREETS.test(highway) ? "main" : "street"];
@@ -69,17 +124,27 @@ function styleOf(tags, isClosed) {
   return STYLE_AT[tags.landuse || tags.leisure || tags.natural || tags.place ? "green" : "outline"];
 }
 
+/** @param {Tags} tags */
 const hasTags = (tags) => {
   for (const key in tags) if (key !== "created_by" && key !== "source") return true;
   return false;
 };
 
-// A box that has nothing in it yet.
+/** A box that has nothing in it yet. */
 const emptyBox = () => ({ west: Infinity, north: Infinity, east: -Infinity, south: -Infinity });
 
-// The box of a place.
+/**
+ * The box of a place.
+ * @param {number} x
+ * @param {number} y
+ */
 const pointBox = (x, y) => ({ west: x, north: y, east: x, south: y });
 
+/**
+ * @param {Box} box
+ * @param {number} x
+ * @param {number} y
+ */
 function stretch(box, x, y) {
   if (x < box.west) box.west = x;
   if (x > box.east) box.east = x;
@@ -87,24 +152,42 @@ function stretch(box, x, y) {
   if (y > box.south) box.south = y;
 }
 
+/**
+ * @param {Box} box
+ * @param {Box} other
+ */
 function stretchBy(box, other) {
   if (other.west > other.east) return;
   stretch(box, other.west, other.north);
   stretch(box, other.east, other.south);
 }
 
+/** @param {Box} box */
 const isEmptyBox = (box) => box.west > box.east;
+/**
+ * @param {Box} one
+ * @param {Box} other
+ */
 const doMeet = (one, other) => one.west <= other.east && one.east >= other.west && one.north <= other.south
   && one.south >= other.north;
 
-// The slots of nodes by their ids. A whole map comes in the order of its ids, so that a list of them can be searched,
-// where a Map would take longer to make. A Map has the nodes that come later.
+/**
+ * The slots of nodes by their ids. A whole map comes in the order of its ids, so that a list of them can be searched,
+ * where a Map would take longer to make. A Map has the nodes that come later.
+ */
 class SlotTable {
+  /** @param {number} count */
   constructor(count) {
-    Object.assign(this, { ids: new Float64Array(count), known: 0, later: new Map() });
+    this.ids = new Float64Array(count);
+    this.known = 0;
+    /** @type {Map<number, number>} */
+    this.later = new Map();
   }
 
-  // The slot of an id, or -1. A node that is gone may keep its slot.
+  /**
+   * The slot of an id, or -1. A node that is gone may keep its slot.
+   * @param {number} id
+   */
   get(id) {
     const { ids, known } = this;
     let low = 0;
@@ -117,7 +200,11 @@ class SlotTable {
     return low < known && ids[low] === id ? low : this.later.get(id) ?? -1;
   }
 
-  // Gives a slot to an id that has none.
+  /**
+   * Gives a slot to an id that has none.
+   * @param {number} id
+   * @param {number} slot
+   */
   set(id, slot) {
     const { ids, known } = this;
     const isNext = slot === known && slot < ids.length && (slot === 0 || ids[slot - 1] < id);
@@ -125,14 +212,23 @@ class SlotTable {
     else this.later.set(id, slot);
   }
 
-  // Returns whether the slot is free for another id now.
+  /**
+   * Returns whether the slot is free for another id now.
+   * @param {number} id
+   */
   delete(id) {
     return this.later.delete(id);
   }
 }
 
-// A way: its style, its box, and the slots of its nodes in the lists of a Shapes.
+/** A way: its style, its box, and the slots of its nodes in the lists of a Shapes. */
 class WayShape {
+  /**
+   * @param {string} el
+   * @param {number[]} slots
+   * @param {number} style
+   * @param {boolean} isClosed
+   */
   constructor(el, slots, style, isClosed) {
     this.el = el;
     this.slots = slots;
@@ -142,35 +238,57 @@ class WayShape {
   }
 }
 
-// The area that a relation of type multipolygon makes of ways: their names with their roles, its style, its box, and
-// its rings, which are found when they are drawn. A ring in a ring is a hole (OpenStreetMap's wiki,
-// Relation:multipolygon).
+/**
+ * The area that a relation of type multipolygon makes of ways: their names with their roles, its style, its box, and
+ * its rings, which are found when they are drawn. A ring in a ring is a hole (OpenStreetMap's wiki,
+ * Relation:multipolygon).
+ */
 class AreaShape {
+  /**
+   * @param {string} el
+   * @param {Map<string, string>} ways
+   * @param {number} style
+   */
   constructor(el, ways, style) {
     this.el = el;
     this.ways = ways;
     this.style = style;
+    /** @type {WayShape[] | null} */
     this.rings = null;
-    Object.assign(this, emptyBox());
+    this.west = this.north = Infinity;
+    this.east = this.south = -Infinity;
   }
 }
 
-// The closed lines that lines make, each a list of slots, joined at their ends. Lines that close none are left out.
+/**
+ * The closed lines that lines make, each a list of slots, joined at their ends. Lines that close none are left out.
+ * @param {number[][]} lines
+ * @returns {number[][]}
+ */
 function ringsOf(lines) {
-  const byEnd = new Map(lines.flatMap((line) => [[line[0], []], [line.at(-1), []]]));
-  for (const line of lines) for (const end of [line[0], line.at(-1)]) byEnd.get(end).push(line);
-  const [rings, used] = [[], new Set()];
+  /** @type {Lists<number, number[]>} */
+  const byEnd = new Lists();
+  for (const line of lines) for (const end of new Set([line[0], lastOf(line)])) byEnd.add(end, line);
+  /** @type {Set<number[]>} */
+  const used = new Set();
+  /** @type {number[][]} */
+  const rings = [];
+  /** @param {number} end */
   const nextAt = (end) => byEnd.get(end).find((line) => !used.has(line));
   for (const first of lines) {
+    /** @type {number[]} */
     const ring = [];
-    for (let line = used.has(first) ? null : first; line; line = nextAt(ring.at(-1))) {
-      used.add(line);
-      const isForward = ring.length === 0 || line[0] === ring.at(-1);
-      const slots = isForward ? line : [...line].reverse();
+    /** @type {number[] | undefined} */
+    let next = used.has(first) ? undefined : first;
+    while (next) {
+      used.add(next);
+      const isForward = ring.length === 0 || next[0] === lastOf(ring);
+      const slots = isForward ? next : [...next].reverse();
       for (const slot of ring.length === 0 ? slots : slots.slice(1)) ring.push(slot);
-      if (ring[0] === ring.at(-1)) break;
+      if (ring[0] === lastOf(ring)) break;
+      next = nextAt(lastOf(ring));
     }
-    if (ring.length > 3 && ring[0] === ring.at(-1)) rings.push(ring);
+    if (ring.length > 3 && ring[0] === lastOf(ring)) rings.push(ring);
   }
   return rings;
 }
@@ -178,31 +296,83 @@ function ringsOf(lines) {
 // Up to how many nodes in a window all are drawn. Of more, only those with tags are drawn, or only places.
 const MOST_NODES = 1500;
 
-// The shapes of all elements. Positions of nodes stand in lists of numbers, by the slot of the node.
+/** The shapes of all elements. Lists of numbers have the positions of nodes, by the slot of the node. */
 class Shapes {
-  constructor() {
-    this.clear(0);
-  }
+  slots = new SlotTable(0);
 
+  /**
+   * By slot, the name; null if the slot is free.
+   * @type {(string | null)[]}
+   */
+  names = [];
+
+  xs = new Float64Array(0);
+
+  ys = new Float64Array(0);
+
+  /** By slot, 1 if the node has tags, 2 if it is a place. */
+  areTagged = new Uint8Array(0);
+
+  /** @type {number[]} */
+  freeSlots = [];
+
+  /**
+   * By the id of a node, the name of its way, or a list of names; made when it is asked for.
+   * @type {Map<number, string | string[]> | null}
+   */
+  users = null;
+
+  /**
+   * By name, the relations that have it as a member.
+   * @type {Map<string, Set<string>>}
+   */
+  parents = new Map();
+
+  /** @type {Map<string, WayShape>} */
+  ways = new Map();
+
+  /**
+   * By style.
+   * @type {Set<WayShape>[]}
+   */
+  layers = STYLES.map(() => new Set());
+
+  /** @type {Set<string>} */
+  relations = new Set();
+
+  /**
+   * By the name of the relation.
+   * @type {Map<string, AreaShape>}
+   */
+  areas = new Map();
+
+  /**
+   * Forgets all, and has room for nodes.
+   * @param {number} count
+   */
   clear(count) {
     const room = Math.max(64, Math.ceil(count * 1.1));
     this.slots = new SlotTable(count);
-    this.names = []; // by slot, the name; null if the slot is free
+    this.names = [];
     this.xs = new Float64Array(room);
     this.ys = new Float64Array(room);
-    this.areTagged = new Uint8Array(room); // 1 if the node has tags, 2 if it is a place
+    this.areTagged = new Uint8Array(room);
     this.freeSlots = [];
-    this.users = null; // by the id of a node, the name of its way, or a list of names; made when it is asked for
-    this.parents = new Map(); // by name, the relations that have it as a member
+    this.users = null;
+    this.parents = new Map();
     this.ways = new Map();
     this.layers = STYLES.map(() => new Set());
     this.relations = new Set();
-    this.areas = new Map(); // by the name of the relation
+    this.areas = new Map();
   }
 
-  // Takes a whole map.
+  /**
+   * Takes a whole map.
+   * @param {Elements} elements
+   */
   reset(elements) {
     this.clear(elements.size);
+    /** @type {(MapWay | MapRelation)[]} */
     const others = [];
     elements.forEach((row) => { // an iterator would make an object for each row
       if (row.lat === undefined) others.push(row);
@@ -215,37 +385,55 @@ class Shapes {
     for (const area of this.areas.values()) this.measureArea(area); // the map may have relations in front of their ways
   }
 
-  // Takes changes. Returns the boxes of what changed, before and after.
+  /**
+   * Takes changes. Returns the boxes of what changed, before and after.
+   * @param {ChangedRow[]} rows
+   * @returns {Box[]}
+   */
   change(rows) {
     if (!this.users) this.indexUsers(); // in the middle, the list would have the nodes of the old ways for good
     const [old, now] = [emptyBox(), emptyBox()];
     const areas = this.areasOf(rows);
-    for (const el of areas) stretchBy(old, this.areas.get(el));
+    for (const el of areas) this.stretchByArea(old, el);
     for (const { el, before, after } of rows) {
       stretchBy(old, this.boxOf(el));
       if (before?.nodes) this.removeUsers(before);
       if (before?.members) this.removeMembers(before);
       if (!after) this.remove(el);
     }
-    const moved = new Map();
+    /** @type {Lists<WayShape, number>} */
+    const moved = new Lists();
     for (const { after } of rows) if (after?.lat !== undefined) this.moveNode(after, moved);
     for (const { after } of rows) {
       if (after?.nodes) this.putWay(after);
       else if (after?.members) this.putRelation(after);
     }
-    for (const [el, slots] of moved) this.moveWay(this.ways.get(el), slots, old, now);
+    for (const [way, slots] of moved) this.moveWay(way, new Set(slots), old, now);
     for (const { el } of rows) stretchBy(now, this.boxOf(el));
     for (const el of new Set([...areas, ...this.areasOf(rows)])) {
       const area = this.areas.get(el);
-      if (!area) continue;
-      this.measureArea(area);
-      stretchBy(now, area);
+      if (area) this.measureArea(area);
+      this.stretchByArea(now, el);
     }
     return [old, now];
   }
 
-  // The relations that make an area of these elements, or of ways that have them.
+  /**
+   * @param {Box} box
+   * @param {string} el
+   */
+  stretchByArea(box, el) {
+    const area = this.areas.get(el);
+    if (area) stretchBy(box, area);
+  }
+
+  /**
+   * The relations that make an area of these elements, or of ways that have them.
+   * @param {{ el: string }[]} rows
+   * @returns {Set<string>}
+   */
   areasOf(rows) {
+    /** @type {Set<string>} */
     const found = new Set();
     for (const { el } of this.areas.size > 0 ? rows : []) {
       for (const way of el[0] === "n" ? this.usersOf(el) : [el]) {
@@ -255,25 +443,38 @@ class Shapes {
     return found;
   }
 
-  // Puts a node, and adds the ways that it moves, each with the slots of its nodes that moved.
+  /**
+   * Puts a node, and adds the ways that it moves, each with the slots of its nodes that moved.
+   * @param {MapNode} row
+   * @param {Lists<WayShape, number>} moved
+   */
   moveNode(row, moved) {
     const was = this.positionOf(row.el);
     this.putNode(row);
     const now = this.positionOf(row.el);
-    if (was && was.x === now.x && was.y === now.y) return;
+    if (was && now && was.x === now.x && was.y === now.y) return;
     for (const el of this.usersOf(row.el)) {
-      if (!this.ways.has(el)) continue;
-      if (!moved.has(el)) moved.set(el, new Set());
-      moved.get(el).add(this.slots.get(idOf(row.el)));
+      const way = this.ways.get(el);
+      if (way) moved.add(way, this.slots.get(idOf(row.el)));
     }
   }
 
-  // Measures a way some of whose nodes moved. What changed of a plain line are the segments at these nodes.
+  /**
+   * Measures a way some of whose nodes moved. What changed of a plain line are the segments at these nodes.
+   * @param {WayShape} way
+   * @param {Set<number>} moved
+   * @param {Box} old
+   * @param {Box} now
+   * @returns {void}
+   */
   moveWay(way, moved, old, now) {
     const isWhole = way.isClosed || Boolean(STYLES[way.style].dash);
     if (isWhole) stretchBy(old, way);
     this.measure(way);
-    if (isWhole) return stretchBy(now, way);
+    if (isWhole) {
+      stretchBy(now, way);
+      return;
+    }
     for (let index = 0; index < way.slots.length; index++) {
       if (!moved.has(way.slots[index])) continue;
       for (const slot of [way.slots[index - 1], way.slots[index], way.slots[index + 1]]) {
@@ -282,9 +483,9 @@ class Shapes {
         stretch(now, this.xs[slot], this.ys[slot]);
       }
     }
-    return undefined;
   }
 
+  /** @param {MapNode} row */
   putNode(row) {
     const id = idOf(row.el);
     const had = this.slots.get(id);
@@ -294,11 +495,20 @@ class Shapes {
     else this.addNode(row, id, slot);
   }
 
+  /**
+   * @param {MapNode} row
+   * @param {number} id
+   * @param {number} slot
+   */
   addNode(row, id, slot) {
     this.slots.set(id, slot);
     this.fillSlot(row, slot);
   }
 
+  /**
+   * @param {MapNode} row
+   * @param {number} slot
+   */
   fillSlot(row, slot) {
     this.names[slot] = row.el;
     this.xs[slot] = Mercator.x(numberOf(row.lon));
@@ -307,13 +517,16 @@ class Shapes {
   }
 
   grow() {
-    for (const key of ["xs", "ys", "areTagged"]) {
-      const longer = new this[key].constructor(2 * this[key].length);
-      longer.set(this[key]);
-      this[key] = longer;
-    }
+    const { xs, ys, areTagged } = this;
+    this.xs = new Float64Array(2 * xs.length);
+    this.ys = new Float64Array(2 * ys.length);
+    this.areTagged = new Uint8Array(2 * areTagged.length);
+    this.xs.set(xs);
+    this.ys.set(ys);
+    this.areTagged.set(areTagged);
   }
 
+  /** @param {MapWay} row */
   putWay(row) {
     const { nodes } = row;
     const slots = [];
@@ -321,7 +534,7 @@ class Shapes {
       const slot = this.slots.get(id);
       if (slot < 0) continue;
       slots.push(slot);
-      if (this.users) this.addUser(id, row.el);
+      if (this.users) this.addUser(this.users, id, row.el);
     }
     const isClosed = nodes.length > 3 && nodes[0] === nodes[nodes.length - 1];
     const old = this.ways.get(row.el);
@@ -332,6 +545,7 @@ class Shapes {
     this.measure(way);
   }
 
+  /** @param {WayShape} way */
   measure(way) {
     const { xs, ys } = this;
     let west = Infinity;
@@ -353,6 +567,7 @@ class Shapes {
     way.south = south;
   }
 
+  /** @param {MapRelation} row */
   putRelation(row) {
     this.relations.add(row.el);
     for (const [name] of row.members) {
@@ -363,6 +578,7 @@ class Shapes {
     this.putArea(row);
   }
 
+  /** @param {MapRelation} row */
   putArea({ el, members, tags }) {
     const style = styleOf(tags, true);
     this.areas.delete(el);
@@ -373,21 +589,28 @@ class Shapes {
     this.measureArea(area);
   }
 
-  // Measures an area whose ways changed.
+  /**
+   * Measures an area whose ways changed.
+   * @param {AreaShape} area
+   */
   measureArea(area) {
     Object.assign(area, emptyBox());
     area.rings = null;
-    for (const name of area.ways.keys()) if (this.ways.has(name)) stretchBy(area, this.ways.get(name));
+    for (const name of area.ways.keys()) stretchBy(area, this.boxOf(name));
   }
 
-  // Whether an area is drawn in the place of a way, because it has the same style. A way in a hole is drawn itself: in
-  // a wood, this can be a meadow.
+  /**
+   * Whether an area is drawn in the place of a way, because it has the same style. A way in a hole is drawn itself: in
+   * a wood, this can be a meadow.
+   * @param {WayShape} way
+   */
   isOfArea(way) {
     if (this.areas.size === 0) return false;
-    const areas = this.parentsOf(way.el).map((el) => this.areas.get(el)).filter(Boolean);
-    return areas.some(({ style, ways }) => style === way.style && ways.get(way.el) !== "inner");
+    const areas = this.parentsOf(way.el).map((el) => this.areas.get(el));
+    return areas.some((area) => area?.style === way.style && area.ways.get(way.el) !== "inner");
   }
 
+  /** @param {string} el */
   remove(el) {
     const way = this.ways.get(el);
     if (way) this.layers[way.style].delete(way);
@@ -402,21 +625,33 @@ class Shapes {
     if (this.slots.delete(id)) this.freeSlots.push(slot);
   }
 
-  // Lists the ways of each node.
+  /** Lists the ways of each node. */
   indexUsers() {
-    this.users = new Map();
+    /** @type {Map<number, string | string[]>} */
+    const users = new Map();
+    this.users = users;
     for (const { el, slots } of this.ways.values()) {
-      for (const slot of slots) this.addUser(idOf(this.names[slot]), el);
+      for (const slot of slots) {
+        const name = this.names[slot];
+        if (name !== null) this.addUser(users, idOf(name), el);
+      }
     }
+    return users;
   }
 
-  addUser(id, el) {
-    const had = this.users.get(id);
-    if (had === undefined) this.users.set(id, el);
-    else if (typeof had === "string" && had !== el) this.users.set(id, [had, el]);
+  /**
+   * @param {Map<number, string | string[]>} users
+   * @param {number} id
+   * @param {string} el
+   */
+  addUser(users, id, el) {
+    const had = users.get(id);
+    if (had === undefined) users.set(id, el);
+    else if (typeof had === "string" && had !== el) users.set(id, [had, el]);
     else if (typeof had !== "string" && !had.includes(el)) had.push(el);
   }
 
+  /** @param {MapWay} row */
   removeUsers({ el, nodes }) {
     if (!this.users) return;
     for (const id of nodes) {
@@ -426,6 +661,7 @@ class Shapes {
     }
   }
 
+  /** @param {MapRelation} row */
   removeMembers({ el, members }) {
     for (const [name] of members) {
       const parents = this.parents.get(name);
@@ -434,38 +670,58 @@ class Shapes {
     }
   }
 
-  // The ways that have a node, by its name or id.
+  /**
+   * The ways that have a node, by its name or id.
+   * @param {string | number} node
+   * @returns {string[]}
+   */
   usersOf(node) {
-    if (!this.users) this.indexUsers();
-    const had = this.users.get(typeof node === "number" ? node : idOf(node));
+    const users = this.users ?? this.indexUsers();
+    const had = users.get(typeof node === "number" ? node : idOf(node));
     return had === undefined ? [] : typeof had === "string" ? [had] : had;
   }
 
-  // The relations that have an element as a member.
+  /**
+   * The relations that have an element as a member.
+   * @param {string} el
+   */
   parentsOf(el) {
     return [...(this.parents.get(el) ?? [])];
   }
 
-  // The position of a node by its name or id, or null.
+  /**
+   * The position of a node by its name or id, or null.
+   * @param {string | number} node
+   * @returns {Position | null}
+   */
   positionOf(node) {
     const slot = this.slots.get(typeof node === "number" ? node : idOf(node));
     return slot < 0 || this.names[slot] === null ? null : { x: this.xs[slot], y: this.ys[slot] };
   }
 
-  // The box of a node or a way; an empty one if it is not there.
+  /**
+   * The box of a node or a way; an empty one if it is not there.
+   * @param {string} el
+   * @returns {Box}
+   */
   boxOf(el) {
-    if (el[0] === "w") return { ...emptyBox(), ...this.boxOfWay(this.ways.get(el)) };
+    const way = this.ways.get(el);
+    if (way) return this.boxOfWay(way);
     const box = emptyBox();
     const position = el[0] === "n" ? this.positionOf(el) : null;
     if (position) stretch(box, position.x, position.y);
     return box;
   }
 
+  /**
+   * @param {WayShape} way
+   * @returns {Box}
+   */
   boxOfWay(way) {
-    return way && { west: way.west, north: way.north, east: way.east, south: way.south };
+    return { west: way.west, north: way.north, east: way.east, south: way.south };
   }
 
-  // The box of all.
+  /** The box of all. */
   whole() {
     const { names, xs, ys } = this;
     let [west, north, east, south] = [Infinity, Infinity, -Infinity, -Infinity];
@@ -481,29 +737,49 @@ class Shapes {
 
   // ---- Finding
 
-  // The nodes within a distance, the nearest first; of several at one place the preferred come first.
+  /**
+   * The nodes within a distance, the nearest first; of several at one place the preferred come first.
+   * @param {Position} position
+   * @param {number} reach
+   * @param {(el: string) => boolean} [isPreferred]
+   */
   nodesAt({ x, y }, reach, isPreferred = () => false) {
+    /** @type {NearNode[]} */
     const found = [];
     const { names, xs, ys } = this;
     for (let slot = 0; slot < names.length; slot++) {
       const [dx, dy] = [xs[slot] - x, ys[slot] - y];
-      if (dx > reach || dx < -reach || dy > reach || dy < -reach || names[slot] === null) continue;
+      const el = names[slot];
+      if (dx > reach || dx < -reach || dy > reach || dy < -reach || el === null) continue;
       const distance = Math.hypot(dx, dy);
-      if (distance <= reach) found.push({ el: names[slot], x: xs[slot], y: ys[slot], distance });
+      if (distance <= reach) found.push({ el, x: xs[slot], y: ys[slot], distance });
     }
+    /** @param {{ el: string, distance: number }} node */
     const rank = ({ el, distance }) => distance - (isPreferred(el) ? reach : 0);
     return found.sort((one, other) => rank(one) - rank(other));
   }
 
-  // The segments within a distance, the nearest first: the way, the place of the segment's end in its list, and the
-  // nearest position on it, which is the part `part` of the segment.
+  /**
+   * The segments within a distance, the nearest first: the way, the place of the segment's end in its list, and the
+   * nearest position on it, which is the part `part` of the segment.
+   * @param {Position} at
+   * @param {number} reach
+   * @returns {NearSegment[]}
+   */
   segmentsAt(at, reach) {
+    /** @type {NearSegment[]} */
     const found = [];
     const window = { west: at.x - reach, east: at.x + reach, north: at.y - reach, south: at.y + reach };
     for (const way of this.ways.values()) if (doMeet(way, window)) this.segmentsOf(way, at, reach, found);
     return found.sort((one, other) => one.distance - other.distance);
   }
 
+  /**
+   * @param {WayShape} way
+   * @param {Position} at
+   * @param {number} reach
+   * @param {NearSegment[]} found
+   */
   segmentsOf(way, at, reach, found) {
     const { xs, ys } = this;
     for (let index = 1; index < way.slots.length; index++) {
@@ -517,17 +793,31 @@ class Shapes {
     }
   }
 
-  // The smallest building that a position is in, or null.
+  /**
+   * The smallest building that a position is in, or null.
+   * @param {Position} position
+   * @returns {string | null}
+   */
   buildingAt({ x, y }) {
-    let [best, least] = [null, Infinity];
+    /** @type {string | null} */
+    let best = null;
+    let least = Infinity;
     for (const way of this.layers[STYLE_AT.building]) {
       if (x < way.west || x > way.east || y < way.north || y > way.south || !this.isInside(way, x, y)) continue;
       const size = (way.east - way.west) * (way.south - way.north);
-      if (size < least) [best, least] = [way.el, size];
+      if (size < least) {
+        best = way.el;
+        least = size;
+      }
     }
     return best;
   }
 
+  /**
+   * @param {WayShape} way
+   * @param {number} x
+   * @param {number} y
+   */
   isInside(way, x, y) {
     const { xs, ys } = this;
     let isIn = false;
@@ -539,8 +829,12 @@ class Shapes {
     return isIn;
   }
 
-  // The nodes and ways that lie whole in a box: ways, and nodes that are no part of a way.
+  /**
+   * The nodes and ways that lie whole in a box: ways, and nodes that are no part of a way.
+   * @param {Box} box
+   */
   within(box) {
+    /** @param {Box} shape */
     const isWithin = (shape) => shape.west >= box.west && shape.east <= box.east && shape.north >= box.north
       && shape.south <= box.south;
     const found = [];
@@ -556,7 +850,13 @@ class Shapes {
   // ---- Drawing. `frame` says where the world lies on the canvas: the pixel of a position is its part of the world
   // times `scale`, less `left` and `top`.
 
-  // Draws what meets a box. Returns how many ways and nodes were drawn.
+  /**
+   * Draws what meets a box. Returns how many ways and nodes were drawn.
+   * @param {CanvasRenderingContext2D} context
+   * @param {Frame} frame
+   * @param {Box} box
+   * @param {number} zoom
+   */
   paint(context, frame, box, zoom) {
     let ways = 0;
     const isThin = zoom < 15; // nobody sees how thin lines end, and round ends take longer
@@ -571,6 +871,14 @@ class Shapes {
     return { ways, nodes: this.paintNodes(context, frame, box, zoom) };
   }
 
+  /**
+   * @param {CanvasRenderingContext2D} context
+   * @param {Frame} frame
+   * @param {Box} box
+   * @param {Style} style
+   * @param {Set<WayShape>} layer
+   * @param {number} zoom
+   */
   paintLayer(context, frame, box, style, layer, zoom) {
     const isThin = zoom < 15;
     context.strokeStyle = style.stroke;
@@ -578,6 +886,7 @@ class Shapes {
     context.setLineDash(isThin || !style.dash ? [] : style.dash);
     context.fillStyle = style.fill ?? "transparent";
     const isEach = Boolean(style.fill) && !style.isApart;
+    /** @type {WayShape[]} */
     const lines = []; // of areas
     let count = 0;
     context.beginPath();
@@ -605,27 +914,42 @@ class Shapes {
     return count;
   }
 
-  // Fills an area without its holes. Its ways draw its lines.
+  /**
+   * Fills an area without its holes. Its ways draw its lines.
+   * @param {CanvasRenderingContext2D} context
+   * @param {Frame} frame
+   * @param {AreaShape} area
+   */
   paintArea(context, frame, area) {
     area.rings ??= ringsOf(this.linesOf(area)).map((slots) => this.ringShape(area, slots));
-    context.fillStyle = STYLES[area.style].fill;
+    context.fillStyle = STYLES[area.style].fill ?? "transparent";
     context.beginPath();
     for (const ring of area.rings) this.trace(context, frame, ring);
     context.fill("evenodd");
   }
 
+  /** @param {AreaShape} area */
   linesOf(area) {
     return [...area.ways.keys()].map((name) => this.ways.get(name)?.slots ?? []).filter((slots) => slots.length > 1);
   }
 
+  /**
+   * @param {AreaShape} area
+   * @param {number[]} slots
+   */
   ringShape({ el, style }, slots) {
     const ring = new WayShape(el, slots, style, true);
     this.measure(ring);
     return ring;
   }
 
-  // Adds a way to the path of a canvas, without the nodes that lie within a pixel of the last. A way that is smaller
-  // than that becomes a dot.
+  /**
+   * Adds a way to the path of a canvas, without the nodes that lie within a pixel of the last. A way that is smaller
+   * than that becomes a dot.
+   * @param {CanvasRenderingContext2D} context
+   * @param {Frame} frame
+   * @param {WayShape} way
+   */
   trace(context, { scale, left, top }, way) {
     const { xs, ys } = this;
     const { slots } = way;
@@ -648,13 +972,20 @@ class Shapes {
     }
   }
 
+  /**
+   * @param {CanvasRenderingContext2D} context
+   * @param {Frame} frame
+   * @param {Box} box
+   * @param {number} zoom
+   */
   paintNodes(context, frame, box, zoom) {
     const slots = this.slotsIn(box, zoom);
-    const place = (slot) => [this.xs[slot] * frame.scale - frame.left, this.ys[slot] * frame.scale - frame.top];
+    /** @param {number} slot */
+    const pixelOf = (slot) => [this.xs[slot] * frame.scale - frame.left, this.ys[slot] * frame.scale - frame.top];
     const tagged = slots.filter((slot) => this.areTagged[slot]);
     context.fillStyle = "#5b6771";
     for (const slot of slots) {
-      const [x, y] = place(slot);
+      const [x, y] = pixelOf(slot);
       if (!this.areTagged[slot]) context.fillRect(x - 2, y - 2, 4, 4);
     }
     context.fillStyle = "#7a2f8f";
@@ -663,7 +994,7 @@ class Shapes {
     const radius = zoom < 16 ? 3 : 4;
     context.beginPath();
     for (const slot of tagged) {
-      const [x, y] = place(slot);
+      const [x, y] = pixelOf(slot);
       context.moveTo(x + radius, y);
       context.arc(x, y, radius, 0, 7);
     }
@@ -672,10 +1003,15 @@ class Shapes {
     return slots.length;
   }
 
-  // The nodes that are drawn in a box: all if they are few, else those with tags, else places.
+  /**
+   * The nodes that are drawn in a box: all if they are few, else those with tags, else places.
+   * @param {Box} box
+   * @param {number} zoom
+   */
   slotsIn(box, zoom) {
     const { names, xs, ys, areTagged } = this;
     const least = zoom < 12 ? 2 : zoom < 16 ? 1 : 0;
+    /** @type {[number[], number[], number[]]} */
     const found = [[], [], []];
     for (let slot = 0; slot < names.length; slot++) {
       const rank = areTagged[slot];

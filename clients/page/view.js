@@ -1,37 +1,18 @@
 // All that uses Leaflet: the map in its window, the canvases on it, the tiles under it, and pointers. A point is a
-// place in the window in pixels, {x, y}. A position is a place on the plane of map_shapes.js.
+// place in the window in pixels, {x, y}. A position is a place on the plane of shapes.js.
 "use strict";
 
-// Where Leaflet is: near the page, where Debian's libjs-leaflet puts it, or otherwise at a public site. The browser
-// takes that site's files only if they have these checksums.
-const LEAFLET_NEAR = location.protocol === "file:" ? "/usr/share/javascript/leaflet/" : "/javascript/leaflet/";
-const LEAFLET_FAR = "https://unpkg.com/leaflet@1.9.4/dist/";
-const LEAFLET_SUMS = {
-  "leaflet.js": "sha256-20nQCchB9co0qIjJZRGuk2/Z9VM+kNiyxNV1lvTlZBo=",
-  "leaflet.css": "sha256-p4NxAoJBhIIN+hmNHrzRCf9tD/miZyoHS5obTRR9BMY=",
-};
-
-// Loads a file of a place, and with a checksum one from elsewhere.
-function loadFile(place, file, sum) {
-  return new Promise((done, fail) => {
-    const isScript = file.endsWith(".js");
-    const tag = document.createElement(isScript ? "script" : "link");
-    if (sum) Object.assign(tag, { integrity: sum, crossOrigin: "anonymous" });
-    Object.assign(tag, { onload: done, onerror: () => fail(new Error(`${place}${file} cannot be loaded`)) });
-    Object.assign(tag, isScript ? { src: place + file } : { rel: "stylesheet", href: place + file });
-    document.head.append(tag);
-  });
-}
-
-// Loads Leaflet from the first place that has it.
-async function loadLeaflet() {
-  const files = Object.keys(LEAFLET_SUMS);
-  try {
-    await Promise.all(files.map((file) => loadFile(LEAFLET_NEAR, file)));
-  } catch {
-    await Promise.all(files.map((file) => loadFile(LEAFLET_FAR, file, LEAFLET_SUMS[file])));
-  }
-}
+/**
+ * A place in the window, in pixels.
+ * @typedef {{ x: number, y: number }} Point
+ *
+ * What is drawn over the map, such as the selection; the names in a box, and what they should not hide.
+ * @typedef {{
+ *   paintOver: (context: CanvasRenderingContext2D, frame: Frame) => void,
+ *   labels: (box: Box, zoom: number, widthOf: (text: string) => number) => Iterable<Label>,
+ *   obstacles: (box: Box, zoom: number) => Iterable<Obstacle>,
+ * }} Painters
+ */
 
 const CREDIT = '© <a href="https://www.openstreetmap.org/copyright" target="_blank" rel="noopener">OpenStreetMap</a>'
   + " contributors";
@@ -40,14 +21,42 @@ const PADDING = 0.3; // how much of the window is drawn beyond each of its edges
 const MOST_PIXELS = 2; // of a canvas for one pixel of the page
 const MOST_STALE = 12; // boxes that are drawn anew one by one
 
+/** @param {string} text */
 const escaped = (text) => text.replace(/[&<>"]/g, (sign) => `&#${sign.charCodeAt(0)};`);
 
 class View {
-  // `shapes` is drawn; `paintOver` draws what changes often, such as the selection, on a canvas of its own; `labels`
-  // gives the texts of a box, each with the places where it may be, and `obstacles` what texts should not hide.
+  /**
+   * `shapes` is drawn; `paintOver` draws what changes often, such as the selection, on a canvas of its own; `labels`
+   * gives the texts of a box, each with the places where it may be, and `obstacles` what texts should not hide.
+   * @param {HTMLElement} container
+   * @param {Shapes} shapes
+   * @param {Painters} painters
+   */
   constructor(container, shapes, { paintOver, labels, obstacles }) {
-    Object.assign(this, { container, shapes, paintOver, labels, obstacles, painted: null, timers: {}, stale: [] });
-    Object.assign(this, { lastPaint: 0, lastRepaint: 0, written: [] });
+    this.container = container;
+    this.shapes = shapes;
+    this.paintOver = paintOver;
+    this.labels = labels;
+    this.obstacles = obstacles;
+    /**
+     * What is on the canvases, which are larger than the window by `across` pixels at its left and its right.
+     * @type {{ zoom: number, box: Box, frame: Frame, across: number, width: number, height: number } | null}
+     */
+    this.painted = null;
+    this.drawn = { ways: 0, nodes: 0 };
+    /** @type {Record<string, number>} */
+    this.timers = {};
+    /** @type {Box[]} */
+    this.stale = [];
+    this.lastPaint = 0;
+    this.lastRepaint = 0;
+    /** @type {PlacedLabel[]} */
+    this.written = [];
+    /** @type {number | undefined} */
+    this.textTimer = undefined;
+    /** @type {L.Layer | null} */
+    this.tiles = null;
+    this.tileCredit = "";
     this.map = L.map(container, {
       zoomControl: false, attributionControl: false, doubleClickZoom: false, boxZoom: false, tap: false, zoomSnap: 0.25,
       wheelPxPerZoomLevel: 100, minZoom: 1, maxZoom: 22, keyboard: false,
@@ -66,7 +75,10 @@ class View {
     this.settle();
   }
 
-  // A canvas above those that were added before it.
+  /**
+   * A canvas above those that were added before it.
+   * @param {string} className
+   */
   addCanvas(className) {
     const canvas = document.createElement("canvas");
     canvas.className = className;
@@ -85,21 +97,30 @@ class View {
     return this.scaleAt(this.zoom);
   }
 
+  /** @param {number} zoom */
   scaleAt(zoom) {
     return TILE * 2 ** zoom;
   }
 
-  // Where the world lies in the window.
+  /** Where the world lies in the window. */
   frame() {
     const { min } = this.map.getPixelBounds();
     return { scale: this.scale, left: min.x, top: min.y };
   }
 
+  /**
+   * @param {Point} point
+   * @returns {Position}
+   */
   positionAt({ x, y }) {
     const { scale, left, top } = this.frame();
     return { x: (x + left) / scale, y: (y + top) / scale };
   }
 
+  /**
+   * @param {Position} position
+   * @returns {Point}
+   */
   pointOf({ x, y }) {
     const { scale, left, top } = this.frame();
     return { x: x * scale - left, y: y * scale - top };
@@ -114,17 +135,21 @@ class View {
     return { x: x / 2, y: y / 2 };
   }
 
-  // The box of the window, or of one that is larger by some pixels at each edge.
+  /** The box of the window, or of one that is larger by some pixels at each edge. */
   box(across = 0, down = across) {
     const { x, y } = this.size();
     const [one, other] = [this.positionAt({ x: -across, y: -down }), this.positionAt({ x: x + across, y: y + down })];
     return { west: one.x, north: one.y, east: other.x, south: other.y };
   }
 
-  // Shows a box, no closer than `most`.
+  /**
+   * Shows a box, no closer than `most`.
+   * @param {Box} box
+   */
   fit(box, most = 19, isAnimated = false) {
     if (isEmptyBox(box)) return;
     const { west, north, east, south } = box;
+    /** @type {L.LatLngPair[]} */
     const corners = [[Mercator.lat(north), Mercator.lon(west)], [Mercator.lat(south), Mercator.lon(east)]];
     const above = Math.min(64, this.size().y / 4); // a bar may lie over the map there
     this.map.fitBounds(corners, {
@@ -132,7 +157,10 @@ class View {
     });
   }
 
-  // Moves the window so that a box is in it, if it is not.
+  /**
+   * Moves the window so that a box is in it, if it is not.
+   * @param {Box} box
+   */
   show(box) {
     if (isEmptyBox(box)) return;
     const window = this.box(-60);
@@ -143,7 +171,11 @@ class View {
     this.fit(box, Math.max(18, this.zoom));
   }
 
-  // Moves the window so that a box is not under the `covered` pixels at the bottom.
+  /**
+   * Moves the window so that a box is not under the `covered` pixels at the bottom.
+   * @param {Box} box
+   * @param {number} covered
+   */
   lift(box, covered) {
     if (isEmptyBox(box)) return;
     const free = this.size().y - covered;
@@ -151,39 +183,52 @@ class View {
     if (y > free - 20) this.pan(0, y - free / 2);
   }
 
+  /**
+   * @param {number} x
+   * @param {number} y
+   */
   pan(x, y) {
     this.map.panBy([x, y], { animate: false });
   }
 
+  /**
+   * @param {number} steps
+   * @param {Point} [point]
+   */
   zoomBy(steps, point) {
-    if (point) this.map.setZoomAround([point.x, point.y], this.zoom + steps);
+    if (point) this.map.setZoomAround(L.point(point.x, point.y), this.zoom + steps);
     else this.map.setZoom(this.zoom + steps);
   }
 
   // ---- Canvases
 
-  // Draws again if the window shows what is not drawn, or the zoom is another.
+  /** Draws again if the window shows what is not drawn, or the zoom is another. */
   settle() {
-    const { painted } = this;
     this.paintOverSoon();
-    if (painted && painted.zoom === this.zoom && this.isCovered(this.box())) return;
+    if (this.painted?.zoom === this.zoom && this.isCovered(this.box())) return;
     this.paint();
   }
 
-  // While the map is moved: draws again where the canvas ends.
+  /** While the map is moved: draws again where the canvas ends. */
   follow() {
     this.paintOverSoon();
     if (!this.painted || this.painted.zoom !== this.zoom || this.isCovered(this.box())) return;
     this.soon("paint", () => this.paint());
   }
 
+  /** @param {Box} box */
   isCovered(box) {
     const { painted } = this;
+    if (!painted) return false;
     return painted.box.west <= box.west && painted.box.east >= box.east && painted.box.north <= box.north
       && painted.box.south >= box.south && painted.across === Math.round(this.size().x * PADDING);
   }
 
-  // Does something in the next frame, once.
+  /**
+   * Does something in the next frame, once.
+   * @param {string} name
+   * @param {() => void} work
+   */
   soon(name, work) {
     if (this.timers[name]) return;
     this.timers[name] = requestAnimationFrame(() => {
@@ -192,7 +237,7 @@ class View {
     });
   }
 
-  // Draws all anew.
+  /** Draws all anew. */
   paint() {
     const began = performance.now();
     const { x, y } = this.size();
@@ -211,7 +256,10 @@ class View {
     this.lastPaint = performance.now() - began;
   }
 
-  // Draws boxes anew in the next frame, since something in them changed.
+  /**
+   * Draws boxes anew in the next frame, since something in them changed.
+   * @param {Box[]} boxes
+   */
   repaint(boxes) {
     this.stale.push(...boxes.filter((box) => !isEmptyBox(box)));
     this.soon("stale", () => this.paintStale());
@@ -220,15 +268,20 @@ class View {
 
   paintStale() {
     const began = performance.now();
-    const stale = this.stale.splice(0).filter((box) => this.painted && doMeet(box, this.painted.box));
+    const { painted } = this;
+    const stale = this.stale.splice(0).filter((box) => painted && doMeet(box, painted.box));
     if (stale.length > MOST_STALE) this.paint();
     else for (const box of stale) this.paintBox(box);
     if (stale.length) this.paintTextsSoon(200);
     this.lastRepaint = performance.now() - began;
   }
 
-  // Draws what is in a box anew, as far as it is on the canvas.
+  /**
+   * Draws what is in a box anew, as far as it is on the canvas.
+   * @param {Box} box
+   */
   paintBox(box) {
+    if (!this.painted) return;
     const { frame, box: all } = this.painted;
     const margin = 8 / frame.scale;
     const part = {
@@ -247,32 +300,43 @@ class View {
     context.restore();
   }
 
+  /** @param {number} milliseconds */
   paintTextsSoon(milliseconds) {
     clearTimeout(this.textTimer);
     this.textTimer = setTimeout(() => this.paintTexts(), milliseconds);
   }
 
+  /**
+   * @param {HTMLCanvasElement} canvas
+   * @returns {CanvasRenderingContext2D}
+   */
   contextOf(canvas) {
     const context = canvas.getContext("2d");
+    if (!context) throw new Error("The browser has no memory for a canvas.");
     const pixels = canvas.width / parseFloat(canvas.style.width);
     context.setTransform(pixels, 0, 0, pixels, 0, 0);
     return context;
   }
 
-  // Gives a canvas its size, and empties it.
+  /**
+   * Gives a canvas its size, and empties it.
+   * @param {HTMLCanvasElement} canvas
+   * @param {number} width
+   * @param {number} height
+   */
   fitCanvas(canvas, width, height) {
     const pixels = Math.min(MOST_PIXELS, devicePixelRatio || 1);
-    const [w, h] = [Math.max(1, Math.round(width * pixels)), Math.max(1, Math.round(height * pixels))];
+    const [across, down] = [Math.max(1, Math.round(width * pixels)), Math.max(1, Math.round(height * pixels))];
     canvas.style.width = `${Math.max(1, width)}px`;
     canvas.style.height = `${Math.max(1, height)}px`;
-    if (canvas.width !== w) canvas.width = w;
-    if (canvas.height !== h) canvas.height = h;
-    const context = canvas.getContext("2d");
+    if (canvas.width !== across) canvas.width = across;
+    if (canvas.height !== down) canvas.height = down;
+    const context = this.contextOf(canvas);
     context.setTransform(1, 0, 0, 1, 0, 0);
-    context.clearRect(0, 0, w, h);
+    context.clearRect(0, 0, across, down);
   }
 
-  // Draws the names, none over another or over what it should not hide.
+  /** Draws the names, none over another or over what it should not hide. */
   paintTexts() {
     if (!this.painted) return;
     const { frame, width, height, box, zoom } = this.painted;
@@ -285,7 +349,10 @@ class View {
     context.lineWidth = 3;
     context.lineJoin = "round";
     const space = new Space(width, height);
-    for (const { kind, margin, box: of } of this.obstacles(box, zoom)) space.take(pixelsOf(of, frame, margin), kind);
+    for (const { kind, margin, box: place } of this.obstacles(box, zoom)) {
+      space.take(pixelsOf(place, frame, margin), kind);
+    }
+    /** @param {string} text */
     const widthOf = (text) => context.measureText(text).width;
     this.written = [];
     for (const { text, places } of this.labels(box, zoom, widthOf)) {
@@ -297,12 +364,21 @@ class View {
     }
   }
 
-  // A text at the first of its places that is free, with the boxes that it takes, or null. The name of a line hides the
-  // end of another line if it has no other place, because a long street has many side streets.
+  /**
+   * A text at the first of its places that is free, with the boxes that it takes, or null. The name of a line hides the
+   * end of another line if it has no other place, because a long street has many side streets.
+   * @param {string} text
+   * @param {number} width
+   * @param {LabelPlace[]} places
+   * @param {Frame} frame
+   * @param {Space} space
+   * @returns {PlacedLabel | null}
+   */
   labelFor(text, width, places, frame, space) {
     const labels = places.map(({ x, y, dx = 0, dy = 0, angle = 0, isOver = false, isOnLine = false }) => {
       const at = { x: x * frame.scale - frame.left + dx, y: y * frame.scale - frame.top + dy };
       const parts = partsOfText(at, width / 2, angle);
+      /** @param {number} kinds */
       const isFree = (kinds) => parts.every((part) => space.isFree(part, isOver ? kinds & ~BUILDING : kinds));
       return { text, at, angle, parts, isOnLine, isFree };
     });
@@ -310,6 +386,10 @@ class View {
     return best ?? labels.find(({ isOnLine, isFree }) => isOnLine && isFree(TAKEN | BUILDING)) ?? null;
   }
 
+  /**
+   * @param {CanvasRenderingContext2D} context
+   * @param {PlacedLabel} label
+   */
   paintText(context, { text, at, angle }) {
     context.save();
     context.translate(at.x, at.y);
@@ -330,7 +410,10 @@ class View {
     });
   }
 
-  // Puts the canvases where they belong while the zoom changes.
+  /**
+   * Puts the canvases where they belong while the zoom changes.
+   * @param {{ center: L.LatLng, zoom: number }} event
+   */
   animate({ center, zoom }) {
     if (!this.painted) return;
     const { frame } = this.painted;
@@ -344,7 +427,11 @@ class View {
 
   // ---- Tiles
 
-  // Shows tiles under the map. The address has {z}, {x} and {y}; an empty address shows none.
+  /**
+   * Shows tiles under the map. The address has {z}, {x} and {y}; an empty address shows none.
+   * @param {string} url
+   * @param {string} credit
+   */
   setTiles(url, credit) {
     this.tiles?.remove();
     this.tiles = null;
@@ -354,171 +441,5 @@ class View {
     if (!url) return;
     this.tiles = L.tileLayer(url, { maxNativeZoom: 19, maxZoom: 22 }).addTo(this.map);
     if (credit) this.credit.addAttribution(this.tileCredit);
-  }
-
-  // ---- Pointers
-
-  // Hears of pointers on the map. `grab(point, event)` says whether something at a point is dragged in the place of the
-  // map, and then come `drag(point)` and `drop(point)`, or `letGo()`; else come `click(point, event)`,
-  // `doubleClick(point)`, `menu(point)` of a long press or the right button, and `hover(point, event)`.
-  hear(handlers) {
-    this.pointers = new Pointers(this, handlers);
-  }
-}
-
-// What is in a square of a Space.
-const TAKEN = 1;
-const BUILDING = 2;
-const END = 4; // of a line
-const SQUARE = 2; // pixels
-
-// What lies where on a canvas, in squares.
-class Space {
-  constructor(width, height) {
-    this.columns = Math.ceil(width / SQUARE) + 1;
-    this.rows = Math.ceil(height / SQUARE) + 1;
-    this.squares = new Uint8Array(this.columns * this.rows);
-  }
-
-  // The first and the last column, and the first and the last row of a box.
-  rangeOf({ west, east, north, south }) {
-    const within = (pixels, most) => Math.max(0, Math.min(most - 1, Math.floor(pixels / SQUARE)));
-    const { columns, rows } = this;
-    return [within(west, columns), within(east, columns), within(north, rows), within(south, rows)];
-  }
-
-  isFree(box, kinds) {
-    const [west, east, north, south] = this.rangeOf(box);
-    for (let row = north; row <= south; row++) {
-      for (let at = row * this.columns + west; at <= row * this.columns + east; at++) {
-        if (this.squares[at] & kinds) return false;
-      }
-    }
-    return true;
-  }
-
-  take(box, kind) {
-    const [west, east, north, south] = this.rangeOf(box);
-    for (let row = north; row <= south; row++) {
-      for (let at = row * this.columns + west; at <= row * this.columns + east; at++) this.squares[at] |= kind;
-    }
-  }
-}
-
-// A box of the plane in pixels, larger by a margin.
-const pixelsOf = ({ west, east, north, south }, { scale, left, top }, margin) => ({
-  west: west * scale - left - margin, east: east * scale - left + margin,
-  north: north * scale - top - margin, south: south * scale - top + margin,
-});
-
-// The boxes that a text takes: small ones along it if it is turned.
-function partsOfText({ x, y }, half, angle) {
-  const around = (at, across) => ({ west: at.x - across, east: at.x + across, north: at.y - 7, south: at.y + 7 });
-  if (!angle) return [around({ x, y }, half)];
-  const steps = Math.ceil(half / 7);
-  const [across, down] = [(Math.cos(angle) * half) / steps, (Math.sin(angle) * half) / steps];
-  const along = (step) => ({ x: x + across * step, y: y + down * step });
-  return Array.from({ length: 2 * steps + 1 }, (_, index) => around(along(index - steps), 7));
-}
-
-const LONG_PRESS = 550; // milliseconds
-const DOUBLE_CLICK = 350;
-
-class Pointers {
-  constructor(view, handlers) {
-    Object.assign(this, { view, handlers, pressed: new Set(), down: null, last: null });
-    const { container } = view;
-    const hear = (kind, method) => container.addEventListener(kind, (event) => this[method](event), true);
-    hear("pointerdown", "press");
-    hear("pointermove", "move");
-    hear("pointerup", "release");
-    hear("pointercancel", "cancel");
-    hear("contextmenu", "menu");
-    container.addEventListener("pointerleave", () => handlers.hover(null));
-    addEventListener("pointerup", (event) => this.pressed.delete(event.pointerId));
-  }
-
-  pointOf(event) {
-    const box = this.view.container.getBoundingClientRect();
-    return { x: event.clientX - box.left, y: event.clientY - box.top };
-  }
-
-  press(event) {
-    if (event.target.closest(".leaflet-control")) return;
-    this.pressed.add(event.pointerId);
-    if (this.pressed.size > 1) return this.giveUp();
-    if (event.button !== 0) return;
-    const point = this.pointOf(event);
-    const isTouch = event.pointerType !== "mouse";
-    this.down = { id: event.pointerId, point, isTouch, isMoved: false, isGrabbed: false };
-    if (this.handlers.grab(point, event)) {
-      this.down.isGrabbed = true;
-      this.view.map.dragging.disable();
-      this.view.container.setPointerCapture(event.pointerId);
-    }
-    if (isTouch) this.down.timer = setTimeout(() => this.pressLong(), LONG_PRESS);
-  }
-
-  pressLong() {
-    if (!this.down || this.down.isMoved) return;
-    const { point } = this.down;
-    this.giveUp();
-    this.handlers.menu(point);
-  }
-
-  move(event) {
-    const { down } = this;
-    const point = this.pointOf(event);
-    if (!down || down.id !== event.pointerId) {
-      if (event.pointerType === "mouse" && !event.buttons) this.handlers.hover(point, event);
-      return;
-    }
-    if (!down.isMoved && Math.hypot(point.x - down.point.x, point.y - down.point.y) < (down.isTouch ? 10 : 4)) return;
-    down.isMoved = true;
-    clearTimeout(down.timer);
-    if (down.isGrabbed) this.handlers.drag(point, event);
-  }
-
-  release(event) {
-    this.pressed.delete(event.pointerId);
-    const { down } = this;
-    if (!down || down.id !== event.pointerId) return;
-    const point = this.pointOf(event);
-    this.end();
-    if (down.isMoved) return down.isGrabbed && this.handlers.drop(point, event);
-    if (down.isGrabbed) this.handlers.letGo();
-    const isDouble = this.last && event.timeStamp - this.last.time < DOUBLE_CLICK
-      && Math.hypot(point.x - this.last.point.x, point.y - this.last.point.y) < (down.isTouch ? 30 : 8);
-    this.last = isDouble ? null : { time: event.timeStamp, point };
-    if (isDouble) {
-      this.handlers.doubleClick(point, event);
-    } else {
-      const isMore = event.shiftKey || event.ctrlKey || event.metaKey;
-      this.handlers.click(point, { isTouch: down.isTouch, isMore });
-    }
-  }
-
-  cancel(event) {
-    this.pressed.delete(event.pointerId);
-    this.giveUp();
-  }
-
-  // Ends what one pointer began, without its effect.
-  giveUp() {
-    const { down } = this;
-    this.end();
-    if (down?.isGrabbed) this.handlers.letGo();
-  }
-
-  end() {
-    clearTimeout(this.down?.timer);
-    if (this.down?.isGrabbed) this.view.map.dragging.enable();
-    this.down = null;
-  }
-
-  menu(event) {
-    event.preventDefault();
-    if (event.pointerType === "touch" || event.target.closest(".leaflet-control")) return;
-    this.handlers.menu(this.pointOf(event));
   }
 }

@@ -1,0 +1,91 @@
+// Elements of the document: finding them, and making them.
+"use strict";
+
+/**
+ * The elements of map.html by their ids.
+ * @typedef {Record<"address" | "room" | "name" | "joining" | "find" | "tiles-url" | "tiles-credit", HTMLInputElement>
+ *   & Record<"preset" | "tiles-choice", HTMLSelectElement>
+ *   & Record<"hello" | "tiles", HTMLFormElement>
+ *   & Record<ButtonId, HTMLButtonElement>
+ *   & Record<"here" | "who" | "state" | "saved" | "place" | "frame" | "map" | "map-keys" | "above", HTMLElement>
+ *   & Record<"drawing" | "message" | "said" | "chosen" | "chosen-title" | "under" | "where" | "menu", HTMLElement>
+ *   & Record<"not-done" | "not-done-title" | "not-done-changes" | "news" | "side" | "grip", HTMLElement>
+ *   & Record<"selected" | "selected-title" | "unsaved-tags" | "unsaved-title" | "typed", HTMLElement>
+ *   & Record<"find-title" | "found-count" | "found" | "undos-title" | "undos", HTMLElement>
+ *   & Record<"changes-title" | "changes" | "people-title" | "people" | "figures" | "keys" | "values", HTMLElement>
+ *   & Record<"relations-title" | "relations" | "tiles-title" | "tiles-own", HTMLElement>} PageElements
+ *
+ * @typedef {"connect" | "share" | "leave" | ToolId | "undo" | "redo" | "closer" | "farther" | "fit" | "sheet"
+ *   | "tools" | "finish" | "back" | "cancel" | "show" | "hush" | "close-not-done" | "open-sheet" | "close-sheet"
+ * } ButtonId
+ *
+ * @typedef {"select" | "point" | "line" | "area"} ToolId
+ */
+
+/**
+ * The element of map.html with an id.
+ * @template {keyof PageElements} Id
+ * @param {Id} id
+ */
+const $ = (id) => /** @type {PageElements[Id]} */(document.getElementById(id));
+
+/**
+ * Makes an element with some properties and children. ARIA's attributes are no properties in all browsers.
+ * @template {keyof HTMLElementTagNameMap} Tag
+ * @param {Tag} tag
+ * @param {Properties<Tag>} properties
+ * @param {...(Node | string)} children
+ * @returns {HTMLElementTagNameMap[Tag]}
+ */
+function make(tag, { label, role, ...properties } = {}, ...children) {
+  const made = Object.assign(document.createElement(tag), properties);
+  if (label) made.setAttribute("aria-label", label);
+  if (role) made.setAttribute("role", role);
+  made.append(...children);
+  return made;
+}
+
+/**
+ * What an element is made with: properties, what a screen reader says (`label`), its role, and its line of tags.
+ * @template {keyof HTMLElementTagNameMap} Tag
+ * @typedef {Partial<Omit<HTMLElementTagNameMap[Tag], "ariaLabel" | "role">>
+ *   & { label?: string, role?: string, tag?: TagLine }} Properties
+ */
+
+/**
+ * Whether an event is of an element that a selector finds, or of an element in it.
+ * @param {Event} event
+ * @param {string} selector
+ */
+const isIn = ({ target }, selector) => target instanceof Element && target.closest(selector) !== null;
+
+/**
+ * @param {string} text
+ * @param {() => void} onclick
+ * @param {Properties<"button">} [properties]
+ */
+function button(text, onclick, properties = {}) {
+  return make("button", { type: "button", textContent: text, onclick, ...properties });
+}
+
+/**
+ * @param {"p" | "li" | "time"} tag
+ * @param {string} text
+ */
+const soft = (tag, text) => make(tag, { className: "soft", textContent: text });
+
+/** @param {...(Node | string)} children */
+const line = (...children) => make("div", { className: "row" }, ...children);
+
+/** @param {Date} date */
+const timeOf = (date) => soft("time", date.toTimeString().slice(0, 5));
+
+/**
+ * A dot in the colour of an author.
+ * @param {string} author
+ */
+function dotOf(author) {
+  const dot = make("span", { className: "dot" });
+  dot.style.background = colourOf(author);
+  return dot;
+}

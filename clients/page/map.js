@@ -1,0 +1,44 @@
+// Starts the page. Its parts, each in a file of its own:
+//
+//     Page            the page as a whole: it has the parts below, shows what happens, and does gestures
+//     Session         the room, over the library maproom.js: its map, gestures, what is not saved, and undos
+//     Shapes          the elements on the plane of the map, which it draws and finds
+//     View            the window on them, with Leaflet; Pointers reports clicks and drags, labels.js places the names
+//     Tools           what clicks, drags and keys on the map do
+//     Panels          the lists and fields next to the map; a TagDraft has the tags that are typed
+//     Background      the tiles under the map
+//
+// Tools and Panels do a gesture by Page.perform. Edits makes its actions from the map, and Session sends them as one
+// group. What the room answers and reports comes back by Page.takeMap and Page.takeChange, for Shapes, View and Panels.
+// These are scripts and no modules, because a browser loads no module from a file.
+"use strict";
+
+/** Fills in the form, by the address of the page or else as it was last. */
+function fillIn() {
+  const last = memory.get("maproom last");
+  $("name").value = given.get("name") ?? last.name ?? "";
+  $("room").value = given.get("room") ?? (given.has("address") ? "" : last.room ?? "");
+  const lastUrl = given.has("room") ? "" : last.url;
+  $("address").value = given.get("address") ?? (lastUrl || usualAddress($("room").value));
+  let isUsual = !given.has("address") && !lastUrl;
+  $("address").oninput = () => (isUsual = false);
+  $("room").oninput = () => {
+    if (isUsual) $("address").value = usualAddress($("room").value);
+  };
+}
+
+const page = new Page();
+fillIn();
+loadLeaflet().then(() => {
+  page.makeMap();
+  page.background = new Background(page);
+  listen(page);
+  page.panels.showAll();
+  if (given.has("connect")) $("connect").click();
+  else if (!$("room").value) $("room").focus();
+  else $("name").focus();
+}, () => {
+  $("connect").disabled = true;
+  page.sayWrong("This page cannot draw a map: Leaflet is neither beside it (Debian's package libjs-leaflet) nor can it "
+    + "be loaded from the internet.");
+});

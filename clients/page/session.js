@@ -1,0 +1,770 @@
+// A mapper's session in a room, over the library maproom.js: gestures, of which each is one group of actions, what is
+// not saved, what entries did, and what can be undone. It knows no page but the storage of the browser.
+"use strict";
+
+/**
+ * An entry of the room's journal: what it changed, when it came, what it did in words, and whether it was undone. An
+ * undo or a redo has the entry that it is about.
+ * @typedef {{ seq: number, by: string, rows: ChangedRow[], at: Date, text: string, isUndone: boolean,
+ *   undoes: number | null, redoes: number | null }} Entry
+ *
+ * The numbers of the entries of one gesture.
+ * @typedef {number[]} Gesture
+ *
+ * An entry whose undo was refused: by the entry `with`, at an element.
+ * @typedef {{ seq: number, with: number, at: string }} Conflict
+ *
+ * @typedef {"connecting" | "waiting" | "lost" | "open" | "closed"} SessionState
+ *
+ * What a session reports: that its state or the number of unsaved changes is another, that the whole map came (for the
+ * first time or, perhaps from another run of the server, again), an entry, and that the lists of undos or the conflict
+ * are others.
+ * @typedef {{
+ *   state: void, unsaved: void, map: { isFirst: boolean, restarted: boolean | null },
+ *   change: { entry: Entry, rows: ChangedRow[] }, history: void, conflict: void,
+ * }} SessionEvents
+ */
+
+// After how many milliseconds without a byte a connection is given up. If a map needs longer, each attempt waits twice
+// as long as the last, up to a limit.
+const HEARTBEAT = 30_000;
+const LONGEST_HEARTBEAT = 240_000;
+const SLOW = 4000; // milliseconds after which the page says that no answer came
+const FIRST_PAUSE = 500;
+const LONGEST_PAUSE = 10_000;
+const MOST_ENTRIES = 1000; // that are remembered
+const MOST_TRIES = 20; // of names for new elements
+const MOST_ACTIONS = 10_000; // of a group
+const LEAST_ID = -(2 ** 52);
+
+// A change that ends for one of these reasons is dropped, whether or not it had to wait for a connection.
+const DROPS = new Set(["not_sent", "unknown", "no_answer", "not_meant", "gone", "other_nodes"]);
+
+/**
+ * Why a WebSocket cannot be opened. The browser does not say, so the page asks over HTTP at the same address. The
+ * browser hides the status of another site, and even whether it answers, for example if its certificate is not trusted.
+ * @type {Record<number, string>}
+ */
+const STATUSES = {
+  401: "wants a name and a password, and those of your browser are missing or wrong. Load this page again.",
+  403: "refuses this page. Open the page that it hands out itself.",
+  404: "has no room at this path. Look at what stands behind the host in the address.",
+  429: "has as many connections from your network as it allows. Ask whoever runs it to allow more.",
+  502: "cannot reach its maproom server. It may be starting.",
+  503: "cannot reach its maproom server. It may be starting.",
+  504: "cannot reach its maproom server. It may be starting.",
+};
+
+/**
+ * @param {string} url
+ * @returns {Promise<string>}
+ */
+async function whyUnreachable(url) {
+  const { host, origin, href } = new URL(url.replace(/^ws/, "http"));
+  const isSecure = origin.startsWith("https");
+  const tooLate = new AbortController();
+  const timer = setTimeout(() => tooLate.abort(), 5000);
+  /** @type {RequestInit} */
+  const how = { cache: "no-store", signal: tooLate.signal };
+  try {
+    if (origin !== location.origin) {
+      await fetch(href, { ...how, mode: "no-cors" });
+    } else {
+      const { status } = await fetch(href, how);
+      return STATUSES[status] ? `${host} ${STATUSES[status]}` : `What answers at ${host} is no maproom server.`;
+    }
+  } catch {
+    if (origin === location.origin) return `No server answers at ${host}.`;
+    const page = isSecure ? ` Perhaps ${origin}/ is that page.` : "";
+    return `No room answers at ${host}: there is no server, or it lets in only its own page.${page}`;
+  } finally {
+    clearTimeout(timer);
+  }
+  const page = isSecure ? ` Open ${origin}/ instead.` : "";
+  const why = location.protocol === "file:" ? "since the page was opened as a file" : "since it is from another site";
+  return `${host} answers, but does not let this page in, perhaps ${why}.${page}`;
+}
+
+/** @param {number} milliseconds */
+const pauseOf = (milliseconds) => new Promise((done) => setTimeout(done, milliseconds));
+
+/**
+ * The gestures of a list without those of some entries.
+ * @param {Gesture[]} gestures
+ * @param {number[]} seqs
+ */
+function without(gestures, seqs) {
+  const all = new Set(seqs);
+  return gestures.filter(([seq]) => !all.has(seq));
+}
+
+/**
+ * Whether a text is a URL.
+ * @param {string} text
+ */
+function isUrl(text) {
+  try {
+    return Boolean(new URL(text));
+  } catch {
+    return false;
+  }
+}
+
+/** A session, which dispatches SessionEvents. */
+class Session extends EventTarget {
+  static heartbeat = HEARTBEAT;
+
+  /**
+   * @param {string} url
+   * @param {string} roomName
+   * @param {string} name
+   */
+  constructor(url, roomName, name) {
+    super();
+    this.url = url;
+    this.roomName = roomName;
+    this.name = name;
+    /** @type {maproom.Room | null} */
+    this.room = null;
+    /** @type {SessionState} */
+    this.state = "connecting";
+    this.text = "";
+    this.isBad = false;
+    this.isOver = false;
+    this.unsaved = 0;
+    /** @type {Map<number, Entry>} */
+    this.entries = new Map(); // by their numbers
+    /** @type {Conflict | null} */
+    this.conflict = null;
+    /** @type {boolean | null} */
+    this.hasGroups = null; // whether the server knows groups; null until it answered one
+    /** @type {Map<number, string>} */
+    this.texts = new Map(); // what the mapper's own entries did
+    /** @type {Map<number, Gesture>} */
+    this.gestures = new Map(); // by each of their entries
+    /** @type {Gesture[]} */
+    this.undos = [];
+    /** @type {Gesture[]} */
+    this.redos = [];
+    this.asked = 0; // the entry whose undo was sent last
+    this.run = 0; // how often the server was restarted
+    this.doubts = 0; // how often it was perhaps restarted
+    this.switches = 0; // how often the connection went or came
+    this.hasLeft = false; // whether the mapper left
+    this.turn = Promise.resolve(true); // whether the last change was done
+    /** @type {(() => void)[]} */
+    this.waiting = []; // what goes on when the connection is back
+    /** @type {Record<Kind, number> | null} */
+    this.lowest = null;
+    /** @type {number | undefined} */
+    this.slowTimer = undefined;
+    this.leaving = new AbortController();
+    this.key = `maproom ${url} ${roomName} ${name}`;
+  }
+
+  /**
+   * Calls a function at each event of a type, with what the event is about.
+   * @template {keyof SessionEvents} Type
+   * @param {Type} type
+   * @param {(about: SessionEvents[Type]) => void} listener
+   */
+  listen(type, listener) {
+    this.addEventListener(type, (event) => listener(/** @type {CustomEvent<SessionEvents[Type]>} */(event).detail));
+  }
+
+  /**
+   * @template {keyof SessionEvents} Type
+   * @param {Type} type
+   * @param {SessionEvents[Type]} about
+   */
+  report(type, about) {
+    this.dispatchEvent(new CustomEvent(type, { detail: about }));
+  }
+
+  /**
+   * @param {SessionState} state
+   * @param {string} text
+   */
+  become(state, text, isBad = false) {
+    this.state = state;
+    this.text = text;
+    this.isBad = isBad;
+    this.report("state", undefined);
+  }
+
+  /** @returns {Elements} */
+  get elements() {
+    return this.room?.elements ?? new Map();
+  }
+
+  /** The room, when the session is in one. */
+  get joinedRoom() {
+    if (!this.room) throw new Error("Connect first.");
+    return this.room;
+  }
+
+  /** Connects, and tries again until it is there or is refused for good. Returns whether it is there. */
+  async open() {
+    let pause = FIRST_PAUSE;
+    let { heartbeat } = Session;
+    if (!/^wss?:\/\/[^/]/.test(this.url)) return this.end("The address has to begin with ws:// or wss://.");
+    if (!isUrl(this.url)) return this.end("The address is invalid. Look at its host and its port.");
+    while (!this.isOver) {
+      if (this.state === "connecting") this.become("connecting", "Connecting ..");
+      const text = "Waiting: perhaps the map is large, or all places of the server are taken";
+      const late = setTimeout(() => this.become("waiting", text), 3000);
+      try {
+        const { name, roomName: room, leaving: { signal } } = this;
+        const times = { openTimeout: null, timeout: null, heartbeat };
+        this.room = await maproom.connect(this.url, { room, name, signal, ...times });
+        clearTimeout(late);
+        return await this.begin();
+      } catch (thrown) {
+        const error = /** @type {Failure} */ (thrown);
+        if (this.isOver) return false;
+        if (error.why !== "connection_failed") return this.end(sentenceOf(error));
+        clearTimeout(late);
+        const isSilent = error.cause?.message === "the server is silent"; // on an open connection
+        const time = counted(heartbeat / 1000, "second");
+        const why = isSilent ? `The map did not come within ${time}.` : await whyUnreachable(this.url);
+        if (this.isOver) return false;
+        this.become("lost", `${why} Trying again ..`, true);
+        if (isSilent) heartbeat = Math.min(2 * heartbeat, LONGEST_HEARTBEAT);
+        await pauseOf(pause);
+        pause = Math.min(2 * pause, LONGEST_PAUSE);
+      } finally {
+        clearTimeout(late);
+      }
+    }
+    return false;
+  }
+
+  async begin() {
+    const room = this.joinedRoom;
+    room.addEventListener("change", (event) => this.takeChange(event));
+    room.addEventListener("reset", (event) => this.takeReset(event));
+    room.addEventListener("state", () => this.takeState());
+    room.addEventListener("error", ({ error }) => this.takeError(/** @type {Failure} */(error)));
+    this.become("open", "");
+    this.report("map", { isFirst: true, restarted: null });
+    await this.askUndos(true);
+    return true;
+  }
+
+  takeState() {
+    const { state } = this.joinedRoom;
+    this.switches += 1;
+    if (state === "connecting") this.become("lost", "Connection lost, trying again ..", true);
+    if (state !== "open") return;
+    this.become("open", "");
+    for (const done of this.waiting.splice(0)) done();
+  }
+
+  /** Waits while there is no connection, so that a gesture is made for the map that comes then. */
+  async whenOpen() {
+    if (this.joinedRoom.state === "connecting") await new Promise((done) => this.waiting.push(() => done(undefined)));
+    if (this.isOver) throw new NotDone("closed");
+  }
+
+  /** @param {Failure} error */
+  takeError(error) {
+    if (this.joinedRoom.state === "closed") this.end(sentenceOf(error));
+    else console.error(error);
+  }
+
+  /** Leaves the room, perhaps for a reason. */
+  end(why = "") {
+    if (this.isOver) return false;
+    this.isOver = true;
+    this.hasLeft = !why;
+    for (const done of this.waiting.splice(0)) done();
+    this.leaving.abort(new Error("left"));
+    this.room?.close();
+    this.become("closed", why, Boolean(why));
+    return false;
+  }
+
+  // ---- What comes
+
+  /** @param {maproom.ResetEvent} event */
+  takeReset({ restarted }) {
+    this.lowest = null;
+    if (restarted !== false) {
+      this.doubts += 1;
+      this.putLists([], []);
+    }
+    if (restarted) {
+      this.run += 1;
+      this.forget();
+    }
+    this.setConflict(null);
+    this.report("map", { isFirst: false, restarted });
+    this.askUndos(restarted === null);
+  }
+
+  /** Another run of the server has other entries. */
+  forget() {
+    for (const each of [this.entries, this.texts, this.gestures]) each.clear();
+    this.store();
+  }
+
+  /** @param {maproom.ChangeEvent} event */
+  takeChange({ seq, by, rows }) {
+    const entry = { seq, by, rows, at: new Date(), text: "", isUndone: false, undoes: null, redoes: null };
+    this.recognize(entry);
+    this.entries.set(seq, entry);
+    if (this.entries.size > MOST_ENTRIES) this.entries.delete(this.entries.keys().next().value);
+    for (const { el } of rows) this.learnName(el);
+    this.report("change", { entry, rows });
+    this.lookAtConflict(rows);
+    if (by === this.name && this.unsaved === 0) this.askUndos();
+  }
+
+  /**
+   * News do not say that an entry was undone or redone: that is seen by what they put back.
+   * @param {Entry} entry
+   */
+  recognize(entry) {
+    const { by, rows } = entry;
+    if (by === this.name) return;
+    const older = [...this.entries.values()].filter((other) => other.by === by && other.rows.length === rows.length
+      && other.rows[0]?.el === rows[0]?.el && other.undoes === null).reverse();
+    const undone = older.find((other) => !other.isUndone && puts(rows, other.rows, "before"));
+    const redone = older.find((other) => other.isUndone && puts(rows, other.rows, "after"));
+    if (undone) {
+      undone.isUndone = true;
+      entry.undoes = undone.seq;
+    } else if (redone) {
+      entry.redoes = redone.seq;
+    }
+  }
+
+  /**
+   * What an entry did, in words.
+   * @param {Entry} entry
+   */
+  deed(entry) {
+    if (entry.undoes) return `undid ${this.about(entry.undoes)}`;
+    if (entry.redoes) return `redid ${this.about(entry.redoes)}`;
+    return this.texts.get(entry.seq) ?? (entry.text ||= deedsOf(entry.rows));
+  }
+
+  /** @param {number} seq */
+  about(seq) {
+    return `entry ${seq}: ${this.textOf(seq)}`;
+  }
+
+  /**
+   * What an undo or a redo is about, in words. Nobody knows which entry is the last while a change is under way.
+   * @param {Gesture[]} gestures
+   */
+  aboutLast(gestures) {
+    const last = this.unsaved === 0 ? gestures.at(-1) : null;
+    return last ? this.about(last[0]) : "the last change";
+  }
+
+  /**
+   * Who made an entry, for the start of a sentence.
+   * @param {Entry} entry
+   */
+  subjectOf({ by }) {
+    return by === this.name ? "You" : by;
+  }
+
+  /**
+   * Whether it is known what an entry did.
+   * @param {number} seq
+   */
+  isKnown(seq) {
+    return this.texts.has(seq) || this.entries.has(seq);
+  }
+
+  /**
+   * What an entry did, also one from before a reload.
+   * @param {number} seq
+   */
+  textOf(seq) {
+    const entry = this.entries.get(seq);
+    return this.texts.get(seq) ?? (entry ? (entry.text ||= deedsOf(entry.rows)) : "made before you came");
+  }
+
+  /** @param {number} seq */
+  authorOf(seq) {
+    return this.entries.get(seq)?.by ?? this.room?.authors.get(seq) ?? null;
+  }
+
+  /** @param {Conflict | null} conflict */
+  setConflict(conflict) {
+    if (this.conflict === conflict) return;
+    this.conflict = conflict;
+    this.report("conflict", undefined);
+  }
+
+  /** @param {ChangedRow[]} rows */
+  lookAtConflict(rows) {
+    const { conflict } = this;
+    if (!conflict) return;
+    const blocking = this.entries.get(conflict.with);
+    const isGone = blocking ? blocking.isUndone : rows.some(({ el }) => el === conflict.at);
+    if (isGone || this.entries.get(conflict.seq)?.isUndone) this.setConflict(null);
+  }
+
+  // ---- Names of new elements
+
+  /** The lowest ids are looked up when the first name is wanted. */
+  learnNames() {
+    const lowest = { n: 0, w: 0, r: 0 };
+    this.lowest = lowest;
+    for (const el of this.elements.keys()) this.learnName(el);
+    return lowest;
+  }
+
+  /** @param {string} el */
+  learnName(el) {
+    if (!this.lowest || el[1] !== "-") return;
+    const [id, kind] = [Number(el.slice(1)), /** @type {Kind} */ (el[0])];
+    if (id > LEAST_ID && id < this.lowest[kind]) this.lowest[kind] = id;
+  }
+
+  /** @param {Kind} kind */
+  newName(kind) {
+    const lowest = this.lowest ?? this.learnNames();
+    lowest[kind] -= 1;
+    return `${kind}${lowest[kind]}`;
+  }
+
+  // ---- What is done
+
+  /**
+   * Does a gesture: `build` gets a function that gives names, and returns the actions. Returns the names that were
+   * given, or throws what refused it.
+   * @param {string} text
+   * @param {Build} build
+   * @returns {Promise<string[]>}
+   */
+  async perform(text, build) {
+    if (!this.room) throw new Error("Connect first.");
+    return this.inTurn(text, async () => {
+      for (let tries = 1; ; tries += 1) {
+        /** @type {string[]} */
+        const names = [];
+        const actions = this.build(build, names);
+        try {
+          this.remember(await this.send(actions), text);
+          return names;
+        } catch (thrown) {
+          const error = /** @type {Failure} */ (thrown);
+          // Somebody else was quicker with a name.
+          if (error.why !== "present" || !names.includes(error.no?.el ?? "") || tries === MOST_TRIES) throw error;
+        }
+      }
+    });
+  }
+
+  /**
+   * Does a change when those before it are answered and there is a connection, so that it fits a map that has them.
+   * `work` gets whether the change before it was done, or true if none was under way when this one was wanted. A change
+   * is not done if the server was restarted since then; one about entries is not done if that is only possible.
+   * @template T
+   * @param {string} text
+   * @param {(isLastDone: boolean) => Promise<T>} work
+   * @returns {Promise<T>}
+   */
+  inTurn(text, work, isOfEntries = false) {
+    const { run, doubts, unsaved } = this;
+    const done = this.turn.then(async (wasDone) => {
+      await this.whenOpen();
+      const restarted = run !== this.run;
+      if (restarted || (isOfEntries && doubts !== this.doubts)) throw new NotDone("not_sent", { restarted });
+      return work(wasDone || unsaved === 0);
+    });
+    this.turn = done.then(() => true, () => false);
+    return this.count(text, () => done);
+  }
+
+  /**
+   * The actions of a gesture for the map as it is now, and the names that it gives.
+   * @param {Build} build
+   * @param {string[]} names
+   */
+  build(build, names) {
+    /** @param {Kind} kind */
+    const newName = (kind) => {
+      names.push(this.newName(kind));
+      return lastOf(names);
+    };
+    const actions = build(newName);
+    if (actions.length === 0) throw new NotDone("nothing");
+    const nodesOf = (/** @type {maproom.Message} */ { nodes }) => /** @type {number[]} */(nodes ?? []);
+    if (!actions.every((action) => areSafe(nodesOf(action)))) throw new NotDone("unsafe");
+    return actions;
+  }
+
+  /**
+   * Counts a change as not saved while it is under way. An error gets the text of the change, and whether the change
+   * was dropped.
+   * @template T
+   * @param {string} text
+   * @param {() => Promise<T>} work
+   * @returns {Promise<T>}
+   */
+  async count(text, work) {
+    const { switches } = this;
+    this.unsaved += 1;
+    this.report("unsaved", undefined);
+    this.watchAnswers();
+    try {
+      return await work();
+    } catch (thrown) {
+      const error = /** @type {Failure} */ (thrown);
+      const { no } = error;
+      if (no?.why === "conflict") this.setConflict({ seq: this.asked, with: no.with ?? 0, at: no.at ?? "" });
+      throw Object.assign(error, { text, isDropped: this.isDropped(error, switches) });
+    } finally {
+      this.unsaved -= 1;
+      this.report("unsaved", undefined);
+      this.watchAnswers();
+      if (this.unsaved === 0) this.askUndos();
+    }
+  }
+
+  /**
+   * Whether a change that was refused was dropped, so that the mapper may have missed it. Whoever leaves agrees to
+   * that, and if nothing would change, the map is as the mapper wanted it.
+   * @param {Failure} error
+   * @param {number} switches
+   */
+  isDropped({ why = "" }, switches) {
+    const hasWaited = switches !== this.switches && !this.hasLeft;
+    return DROPS.has(why) || (hasWaited && why !== "nothing");
+  }
+
+  /** Says that the server does not answer, if an answer is awaited for long. */
+  watchAnswers() {
+    clearTimeout(this.slowTimer);
+    if (this.state !== "open") return;
+    if (this.text) this.become("open", "");
+    if (this.unsaved === 0) return;
+    this.slowTimer = setTimeout(() => {
+      if (this.state === "open") this.become("open", "The server does not answer yet", true);
+    }, SLOW);
+  }
+
+  /**
+   * Sends the actions of a gesture as one group or, if the server knows no groups, one by one. Returns the numbers of
+   * the entries.
+   * @param {maproom.Message[]} actions
+   * @returns {Promise<number[]>}
+   */
+  async send(actions) {
+    if (actions.length > MOST_ACTIONS) throw new Error("That is more than can be done at once. Do it in parts.");
+    if (actions.length === 1) return [await this.change(actions[0])];
+    if (this.hasGroups !== false) {
+      try {
+        const seq = await this.change({ do: "group", actions });
+        this.hasGroups = true;
+        return [seq];
+      } catch (thrown) {
+        const error = /** @type {Failure} */ (thrown);
+        if (error.why !== "unknown_do" || error.no?.action !== undefined) throw error;
+        this.hasGroups = false;
+      }
+    }
+    return this.sendEach(actions);
+  }
+
+  /**
+   * Sends a change. Returns the number of its entry.
+   * @param {maproom.Message} message
+   */
+  async change(message) {
+    return /** @type {number} */ ((await this.joinedRoom.ask(message)).seq);
+  }
+
+  /**
+   * Does one action after another. If one is refused, those before it are undone.
+   * @param {maproom.Message[]} actions
+   * @returns {Promise<number[]>}
+   */
+  async sendEach(actions) {
+    /** @type {number[]} */
+    const seqs = [];
+    try {
+      for (const action of actions) seqs.push(await this.change(action));
+      return seqs;
+    } catch (thrown) {
+      const error = /** @type {Failure} */ (thrown);
+      if (error.no) for (const seq of seqs.reverse()) await this.joinedRoom.undo(seq);
+      throw error;
+    }
+  }
+
+  /**
+   * Notes the entries of a gesture, which is the next to be undone. Nothing can be redone after it but what is given.
+   * @param {number[]} seqs
+   * @param {string} text
+   * @param {Gesture[]} [redos]
+   */
+  remember(seqs, text, redos = []) {
+    for (const seq of seqs) {
+      this.texts.set(seq, text);
+      this.gestures.set(seq, seqs);
+    }
+    this.store();
+    this.putLists([...without(this.undos, seqs), seqs], redos);
+  }
+
+  // ---- What can be undone
+
+  async askUndos(isRestored = false) {
+    try {
+      const { undos, redo } = await this.joinedRoom.undos();
+      if (isRestored) this.restore(undos);
+      this.putLists(this.inGestures(undos), this.inGestures(redo));
+    } catch (error) {
+      if (/** @type {Failure} */ (error).why !== "closed") console.error(error);
+    }
+  }
+
+  /**
+   * @param {Gesture[]} undos
+   * @param {Gesture[]} redos
+   */
+  putLists(undos, redos) {
+    this.undos = undos;
+    this.redos = redos;
+    this.report("history", undefined);
+  }
+
+  /**
+   * The numbers of entries, those of one gesture together.
+   * @param {number[]} seqs
+   * @returns {Gesture[]}
+   */
+  inGestures(seqs) {
+    const all = new Set(seqs);
+    /** @type {Gesture[]} */
+    const items = [];
+    for (const seq of seqs) {
+      const gesture = (this.gestures.get(seq) ?? [seq]).filter((each) => all.has(each));
+      if (gesture[0] === seq || !gesture.includes(seq)) items.push(gesture.length ? gesture : [seq]);
+    }
+    return items;
+  }
+
+  /**
+   * Undoes the entries of a gesture or, if none is given, those of the last. If that was under way and was not done, an
+   * earlier one is not meant.
+   * @param {Gesture | null} [given]
+   */
+  undo(given = null) {
+    const text = `undid ${given ? this.about(given[0]) : this.aboutLast(this.undos)}`;
+    return this.inTurn(text, async (isLastDone) => {
+      const seqs = given ?? this.undos.at(-1);
+      if (!seqs) throw new NotDone("nothing_to_undo");
+      if (!given && !isLastDone) throw new NotDone("not_meant");
+      const done = [];
+      try {
+        for (const seq of [...seqs].reverse()) {
+          this.asked = seq;
+          this.noteUndo(seq, (await this.joinedRoom.undo(seq)).seq);
+          done.push(seq);
+        }
+      } catch (error) {
+        if (/** @type {Failure} */ (error).no) for (const _ of done) await this.joinedRoom.redo();
+        throw error;
+      }
+      this.putLists(without(this.undos, seqs), [...without(this.redos, seqs), seqs]);
+      this.setConflict(null);
+      return this.textOf(seqs[0]);
+    }, true);
+  }
+
+  /**
+   * Notes that an entry of the mapper's own undid another. It shows what an entry did that came before the mapper.
+   * @param {number} seq
+   * @param {number} by
+   */
+  noteUndo(seq, by) {
+    const [entry, undo] = [this.entries.get(seq), this.entries.get(by)];
+    if (entry) entry.isUndone = true;
+    if (!undo) return;
+    undo.undoes = seq;
+    const turned = undo.rows.map(({ el, before, after }) => ({ el, before: after, after: before }));
+    if (!this.isKnown(seq)) this.texts.set(seq, deedsOf(turned));
+  }
+
+  /** Redoes what was undone last. */
+  redo() {
+    return this.inTurn(`redid ${this.aboutLast(this.redos)}`, async (isLastDone) => {
+      const seqs = this.redos.at(-1);
+      if (!seqs) throw new NotDone("nothing_to_redo");
+      if (!isLastDone) throw new NotDone("not_meant");
+      const made = [];
+      let text = "";
+      for (const each of seqs) {
+        const { seq, redid = each } = await this.joinedRoom.redo();
+        made.push(seq);
+        text ||= this.textOf(redid);
+        const entry = this.entries.get(seq);
+        if (entry) entry.redoes = redid;
+      }
+      this.remember(made, text, without(this.redos, seqs));
+      return text;
+    }, true);
+  }
+
+  // ---- What outlives a reload: what the mapper's own entries did
+
+  store() {
+    const entries = [...this.texts].slice(-300).map(([seq, text]) => [seq, text, this.gestures.get(seq)]);
+    try {
+      localStorage.setItem(this.key, JSON.stringify({ seq: this.joinedRoom.seq, entries }));
+    } catch {
+      // Without storage a reload forgets what entries did.
+    }
+  }
+
+  /**
+   * Reads what was kept, if it fits this run of the server: entries have numbers below the last, and of those that are
+   * remembered the newest that can be undone is known.
+   * @param {number[]} undos
+   */
+  restore(undos) {
+    /** @type {{ seq: number, entries: [seq: number, text: string, gesture?: Gesture][] } | null} */
+    let kept = null;
+    try {
+      kept = JSON.parse(localStorage.getItem(this.key) ?? "null");
+    } catch {
+      return;
+    }
+    if (!kept || kept.seq > this.joinedRoom.seq) return;
+    const { entries } = kept;
+    if (!undos.some((seq) => entries.some(([each]) => each === seq))) return;
+    for (const [seq, text, gesture] of entries) {
+      this.texts.set(seq, text);
+      this.gestures.set(seq, gesture ?? [seq]);
+    }
+  }
+}
+
+/**
+ * Whether rows put each part that an entry changed where it was before it (or after it), and leave the rest.
+ * @param {ChangedRow[]} rows
+ * @param {ChangedRow[]} changed
+ * @param {"before" | "after"} when
+ */
+function puts(rows, changed, when) {
+  const byName = new Map(changed.map((row) => [row.el, row]));
+  return rows.every(({ el, before, after }) => {
+    const row = byName.get(el);
+    if (!row) return false;
+    const [wanted, now, then] = [partsOf(row[when]), partsOf(after), partsOf(before)];
+    if (!wanted || !now) return wanted === now;
+    const [from, to] = [partsOf(row.before), partsOf(row.after)];
+    return /** @type {const} */ (["tags", "place"]).every((part) => {
+      const isChanged = !from || !to || !isSameValue(from[part], to[part]);
+      return isSameValue(now[part], isChanged || !then ? wanted[part] : then[part]);
+    });
+  });
+}

@@ -1,0 +1,109 @@
+"""Finds places on pages and elements in their mirrors, and draws."""
+import json
+
+from lib.cases import want
+from lib.map_pages import pause, settled, window_point
+
+
+def at(page, lat, lon):
+    """Where a latitude and a longitude are."""
+    return window_point(page, f"{{ x: Mercator.x({lon}), y: Mercator.y({lat}) }}")
+
+
+def row(page, name):
+    """The row that a page's mirror has of an element, or None."""
+    return page.get(f"page.elements.get('{name}') ?? null")
+
+
+def comes(page, name, key, value):
+    """Waits until a page's mirror has an element with a value."""
+    wanted = json.dumps(json.dumps(value, separators=(",", ":")))
+    page.wait(f"JSON.stringify(page.elements.get('{name}')?.{key}) === {wanted}")
+
+
+def names_of(page, kind=""):
+    """The names of the elements, perhaps of a kind."""
+    return sorted(page.get(f"[...page.elements.keys()].filter((el) => el.startsWith('{kind}'))"))
+
+
+def new_names(page, kind=""):
+    """The names of the elements that were made since the beginning, perhaps of a kind."""
+    return [name for name in names_of(page, kind) if name[1] == "-"]
+
+
+def draw(page, *points, finish="Enter", tool="#line"):
+    """Draws a way through points of the window."""
+    page.click(tool)
+    for point in points:
+        page.click_at(*point)
+        pause(page)
+    if finish:
+        page.press(finish)
+        settled(page)
+
+
+def tagged(text):
+    """An expression for a gesture that gives the tree a number."""
+    return f"page.perform('tagged {text}', () => [{{ do: 'retag', el: 'n4', tags: {{ ref: '{text}' }} }}])"
+
+
+def press_button(text, within="#selected"):
+    """An expression that presses a button at once, whether or not the page is at rest."""
+    return f"""[...document.querySelectorAll('{within} button')].find((each) =>
+        each.textContent.includes('{text}') || each.ariaLabel?.includes('{text}')).click()"""
+
+
+def at_once(page, *expressions):
+    """Does several things before anything can be answered."""
+    page.get(f"{', '.join(expressions)}, 0")
+
+
+def overlay_pixels(page):
+    """How many pixels are drawn over the map."""
+    page.get("new Promise((done) => requestAnimationFrame(() => requestAnimationFrame(done)))")
+    return page.get(
+        """(() => {
+        const { over } = page.view;
+        const { data } = over.getContext('2d').getImageData(0, 0, over.width, over.height);
+        let count = 0;
+        for (let at = 3; at < data.length; at += 4) if (data[at]) count += 1;
+        return count;
+    })()"""
+    )
+
+
+def not_done(page):
+    """The list of changes that were not done: each reason with its changes."""
+    return page.get(
+        """$('not-done').hidden ? [] : [...$('not-done-changes').querySelectorAll('p')].map((each) =>
+        [each.textContent, [...each.nextSibling.children].map((item) => item.textContent)])"""
+    )
+
+
+def close_not_done(page):
+    """Closes the list of changes that were not done, by its button."""
+    page.click("#close-not-done")
+    want(not_done(page), [])
+
+
+def draw_unanswered(page, lat, preset):
+    """Draws a line at a latitude, and does not wait until it is saved."""
+    page.get("page.tools.use('line')")
+    for lon in (8.2002, 8.2004):
+        page.click_at(*at(page, lat, lon))
+        pause(page)
+    page.get(f"$('preset').value = '{preset}'")
+    page.press("Enter")
+
+
+# How many pixels a target needs for a finger.
+TARGET = 44
+
+
+def small_targets(page):
+    """The buttons and fields that a finger can hardly hit."""
+    return page.get(
+        f"""[...document.querySelectorAll('button, input, select')].filter((each) => each.checkVisibility())
+        .filter((each) => each.type !== 'checkbox' && Math.min(each.offsetWidth, each.offsetHeight) < {TARGET})
+        .map((each) => each.id || each.textContent)"""
+    )

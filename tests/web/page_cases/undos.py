@@ -1,0 +1,183 @@
+"""Cases: undo, redo, conflicts, and what others do."""
+import urllib.parse
+
+from lib.cases import want
+from lib.map_pages import at_node, connect, opened, settled, url_of
+from lib.talk import serving
+from page_cases.looking import at, at_once, close_not_done, comes, draw, draw_unanswered, new_names, not_done, row
+from page_cases.looking import tagged
+from page_cases.opening import base_of, browsing, linked, page_case, pages, village
+
+
+@page_case
+def a_link_that_connects():
+    """A link with `connect` joins the room at once; any other fills in its fields alone."""
+    with serving(workers=4, sessions=90, base=base_of(village())) as server, browsing() as (files, chrome):
+        anna = opened(chrome, url_of(files, server.port, "anna", connect="now"))
+        anna.wait_text("#state", "Connected")
+        anna.wait("page.elements.has('w1')")
+        bob = opened(chrome, url_of(files, server.port, "bob"))
+        want(bob.get("$('state').textContent"), "Not connected")
+        for page in (anna, bob):
+            page.end()
+
+
+@page_case
+def two_pages_and_a_third_client():
+    """Each sees at once what the others do; a conflict is told in a sentence and shown, and goes when it is gone; an
+    undo is told as one; a redo."""
+    with pages("anna", "bob") as (_, zoe, anna, bob):
+        anna.click("#point")
+        anna.click_at(*at(anna, 47.6006, 8.2002))
+        bob.wait("page.elements.has('n-1')")
+        bob.wait_text("#changes", "anna made node n-1")
+        anna.wait_text("#undos", "1: made a node")
+        bob.get("page.select('n-1')")
+        was = row(bob, "n-1")
+        x, y = at_node(bob, "n-1")
+        bob.drag((x, y), (x + 60, y - 40))
+        anna.wait_text("#changes", "bob moved node n-1")
+        settled(anna).click("#undo")
+        anna.wait_text(
+            "#message.refused",
+            "bob's entry 2 (moved node n-1) also touched node n-1. bob has to undo that "
+            "entry first. You can also change the element by hand.",
+        )
+        anna.wait("document.querySelector('#changes .blocks')?.dataset.seq === '2'")
+        anna.click("#show")
+        anna.wait_text("#selected-title", "n-1")
+        settled(bob).click("#undo")
+        comes(anna, "n-1", "lat", was["lat"])
+        anna.wait_text("#changes", "bob undid entry 2: moved node n-1")
+        anna.wait("!document.querySelector('#changes .blocks') && page.session.conflict === null")
+        anna.wait_text("#said", "What was in the way is gone")
+        anna.click("#undos button", "Undo")
+        anna.wait_text("#undos", "1, undone: made a node")
+        bob.wait("!page.elements.has('n-1')")
+        bob.wait_text("#changes", "anna undid entry 1: made node n-1")
+        bob.wait_text("#selected-title", "Nothing selected")
+        settled(anna).click("#redo")
+        bob.wait("page.elements.has('n-1')")
+        bob.wait_text("#changes", "anna redid entry 1: made node n-1")
+        anna.wait_text("#changes", "4 You undid entry 1: made a node")
+        anna.wait_text("#people", "You redid entry 1: made a node")
+        zoe.follow(5)
+        want(zoe.rows, settled(bob).get("Object.fromEntries(page.elements)"))
+
+
+@page_case
+def quick_undos():
+    """An undo means what was done last, also if that is not answered yet. If it is refused, nothing older is undone.
+    Several undos and redos at once take one after the other, and each says which. The lists are right at once."""
+    with linked() as (_, anna, link):
+        anna.get("page.session.askUndos = () => {}")
+        said = "[$('message').className, $('said').textContent]"
+        lists = "[page.session.undos, page.session.redos].map((each) => each.map(([seq]) => page.session.textOf(seq)))"
+        at_once(anna, tagged("8"), tagged("9"), "page.undo()")
+        want((row(settled(anna), "n4")["tags"]["ref"], anna.get(said)[1]), ("8", "Undone: tagged 9."))
+        want(anna.get(lists), [["tagged 7", "tagged 8"], ["tagged 9"]])
+        at_once(anna, "page.undo()", "page.undo()")
+        want((row(settled(anna), "n4")["tags"], anna.get(said)), ({"natural": "tree"}, ["", "Undone: tagged 7."]))
+        at_once(anna, "page.redo()", "page.redo()")
+        want((row(settled(anna), "n4")["tags"]["ref"], anna.get(said)), ("8", ["", "Redone: tagged 8."]))
+        want(anna.get(lists), [["tagged 7", "tagged 8"], ["tagged 9"]])
+        kept = anna.get("JSON.parse(localStorage.getItem(page.session.key)).entries.map(([, text]) => text)")
+        want(kept[-2:], ["tagged 7", "tagged 8"])
+        asked = "page.session.room.undos().then(({ undos, redo }) => [undos, redo])"
+        want(anna.get("[page.session.undos.flat(), page.session.redos.flat()]"), anna.get(asked))
+        at_once(anna, "page.perform('moved', () => [{ do: 'move', els: ['n99'], dlat: 1, dlon: 0 }])", "page.undo()")
+        settled(anna)
+        want(anna.get(said), ["refused", "n99 is not there, or not any more."])
+        want(
+            not_done(anna),
+            [["Nothing was undone or redone, because the change before was not saved.", ["undid the last change"]]],
+        )
+        close_not_done(anna)
+        want(row(anna, "n4")["tags"]["ref"], "8")
+        held = (
+            "document.body.dispatchEvent(new KeyboardEvent('keydown', {{ key: '{}', ctrlKey: {}, repeat: true,"
+            " bubbles: true }}))"
+        )
+        at_once(anna, tagged("10"), held.format("z", "true"), "page.select('w2')", held.format("Delete", "false"))
+        want((row(settled(anna), "n4")["tags"]["ref"], anna.get("page.elements.has('w2')")), ("10", True))
+        link.cut(anna)
+        draw_unanswered(anna, 47.6006, "Track")
+        anna.press("z", modifiers=2)
+        anna.wait_text("#saved", "2 changes not saved")
+        link.mend(anna)
+        want((new_names(anna), row(anna, "n4")["tags"]["ref"]), ([], "10"))
+        want(anna.get(said)[1], "Undone: drew a street with 2 points.")
+
+
+@page_case
+def what_is_taken_back_is_said():
+    """Each undo says what it undoes, also after a reload; it undoes a whole gesture."""
+    with pages("anna") as (server, _, anna):
+        draw(anna, at(anna, 47.6003, 8.2015), at(anna, 47.6, 8.2008))
+        [way] = new_names(anna, "w")
+        anna.wait_text("#undos", "drew a way with 2 points")
+        anna.reload()
+        anna.wait("typeof page !== 'undefined' && page.background && !page.session")
+        connect(anna)
+        anna.wait_text("#undos", "drew a way with 2 points")
+        want(anna.get("$('undos').querySelectorAll('button').length"), 1)
+        want(anna.get("$('undo').title"), "Undo: drew a way with 2 points (Ctrl+Z)")
+        anna.press("Z", modifiers=2)  # as under caps lock
+        anna.wait(f"!page.elements.has('{way}')")
+        want((new_names(settled(anna)), row(anna, "w1")["nodes"]), ([], [1, 2, 3]))
+        anna.wait_text("#said", "Undone: drew a way with 2 points")
+        anna.press("Z", modifiers=10)
+        anna.wait("page.elements.size > %d" % len(village()))
+        anna.wait_text("#said", "Redone: drew a way with 2 points")
+        settled(anna)
+
+
+@page_case
+def what_was_made_before():
+    """Entries of an earlier session, of which nothing is known, are one line, and are undone one by one from the last.
+    Each undo shows what its entry did."""
+    with pages() as (server, zoe), browsing() as (files, chrome):
+        for number in (2, 3, 4):
+            zoe.ask({"id": number, "do": "create", "el": f"n-{number}", "lat": "47.6", "lon": "8.2", "tags": {}})
+        zoe.leave()
+        page = connect(opened(chrome, url_of(files, server.port, "zoe")))
+        lines = "[...$('undos').children].map((each) => each.firstChild.textContent)"
+        page.wait_text("#undos", "3 earlier entries, made before you came")
+        page.get("page.perform('tagged', () => [{ do: 'retag', el: 'n4', tags: { ref: '7' } }])")
+        page.wait_text("#undos", "4: tagged")
+        want(page.get(lines), ["4: tagged", "3 earlier entries, made before you came"])
+        for last, rest in ((3, "2 earlier entries, made before you came"), (2, "1: made before you came")):
+            page.click("#undos button", f"Undo {last}")
+            page.wait_text("#said", f"Undone: made node n-{last + 1}.")
+            page.wait_text("#undos", rest)
+            want(page.get(lines)[:3], ["4: tagged", rest, f"{last}, undone: made node n-{last + 1}"])
+        page.end()
+
+
+@page_case
+def people():
+    """Who changed what and where can be gone to; a link fills in room and address; the last room is remembered."""
+    with pages("anna", tiles="http://127.0.0.1:9/{z}/{x}/{y}.png", credit="test") as (server, zoe, anna):
+        zoe.ask({"id": 4, "do": "create", "el": "n99", "lat": "47.9", "lon": "8.9", "tags": {"natural": "tree"}})
+        anna.wait_text("#people", "zoe made tree n99")
+        anna.click("#people button", "Go")
+        anna.wait("Math.abs(page.view.map.getCenter().lat - 47.9) < 0.001")
+        want(anna.get("page.selected"), ["n99"])
+        want(anna.get("colourOf('zoe') !== colourOf('bob')"), True)
+        want(anna.get("$('people').querySelector('.dot').style.background !== ''"), True)
+        fields = dict(urllib.parse.parse_qsl(urllib.parse.urlsplit(anna.get("page.link()")).query))
+        want(
+            fields,
+            {
+                "address": f"ws://127.0.0.1:{server.port}",
+                "room": "paris",
+                "tiles": "http://127.0.0.1:9/{z}/{x}/{y}.png",
+                "credit": "test",
+            },
+        )
+        anna.get("location.href = location.href.split('?')[0]")
+        anna.wait("typeof page !== 'undefined' && page.background && !page.session")
+        want(
+            anna.get("[$('address').value, $('room').value, $('name').value]"),
+            [f"ws://127.0.0.1:{server.port}", "paris", "anna"],
+        )
