@@ -1,9 +1,13 @@
 """Modules that the scripts of tests/ and bench/ share. They need Python 3.9 or later, and its standard library.
 
+Python puts the folder of a script on its path. So each folder of scripts has a file `lib.py` that loads this package in
+its place, and a script imports `lib.cases` without a preamble. An import of any of these modules puts the package
+maproom on the path, too.
+
 A script defines its cases, and ends with `main(__doc__)`:
 
     cases.py               the cases of a script, its options, and the report
-    programs.py            the results of commands, and scripts as modules
+    programs.py            the results of commands
     texts.py               files of runs, with the output of each input line
     messages.py            messages, replies and rows of maps as values and as lines
     failed_allocations.py  runs in which one allocation fails
@@ -24,6 +28,7 @@ For servers:
     proxy.py               a proxy of a server that loses replies
     faulty.py              a server in which a system call or an allocation fails
     others.py              software of other projects, such as browsers, if it is installed
+    system_python.py       the Python of the system, which has the packages of Debian
 
 For clients, editors and the map page:
 
@@ -48,6 +53,15 @@ For tests/run and the pages of the repository:
     parts.py               the parts of tests/run, by subject
     crates.py              the crates of crates.txt
     crates_drawing.py      their drawing, docs/crates.svg
+    repository.py          the files of the repository
     pages.py               the blocks of pages
     sentences.py           the sentences of pages
 """
+import os
+import sys
+
+TOP = os.path.dirname(os.path.dirname(os.path.dirname(os.path.realpath(__file__))))
+
+# The folder of the package maproom.
+PACKAGE = f"{TOP}/clients/python"
+sys.path.insert(1, PACKAGE)

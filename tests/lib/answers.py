@@ -1,12 +1,18 @@
 """Knows the replies that docs/PROTOCOL.md allows: to a text that is no message, and to an author after earlier
 replies."""
+from __future__ import annotations
+
+from collections.abc import Collection, Mapping
+from typing import Any
 
 # The fields of each refusal besides `why`.
-TOLD = {
+MEMBERS = {
     **dict.fromkeys(("wrong_kind", "present", "same", "absent", "out_of_range", "too_few", "too_many"), {"el"}),
     **dict.fromkeys(("bad_position", "not_end_to_end", "nothing", "nothing_to_undo", "nothing_to_redo"), set()),
     **dict.fromkeys(("no_such", "not_yours", "not_standing"), set()),
-    "tag_conflict": {"key"}, "in_use": {"by", "el"}, "conflict": {"at", "with"},
+    "tag_conflict": {"key"},
+    "in_use": {"by", "el"},
+    "conflict": {"at", "with"},
 }
 
 # The reasons for which an action may be refused, and a query.
@@ -24,10 +30,10 @@ ACTIONS = {
     "merge": {"wrong_kind", "same", "absent", "too_few", "tag_conflict", "too_many"},
     "unglue": {"wrong_kind", "absent", "present", "bad_position"},
 }
-QUERIES = {"get": {"absent"}, "undos": set()}
+QUERIES: dict[str, set[str]] = {"get": {"absent"}, "undos": set()}
 
 
-def bad_field(field):
+def bad_field(field: str) -> tuple[int, dict[str, str]]:
     """The id and the refusal of a message under the id 1 whose field is bad."""
     return 1, {"field": field, "why": "bad_field"}
 
@@ -60,23 +66,24 @@ class Undos:
     """The entries that an author can undo and redo, according to the replies so far, in their order. So it knows the
     possible replies to the author's next message."""
 
-    def __init__(self):
+    def __init__(self) -> None:
         # The word of each active action, and of each action that can be redone, by the number of its entry. The last
         # active action has the greatest number; the last of the others was undone last.
-        self.standing, self.undone = {}, {}
+        self.active: dict[int, str] = {}
+        self.undone: dict[int, str] = {}
 
-    def lists(self):
+    def lists(self) -> dict[str, list[int]]:
         """The lists of both, as `undos` returns them."""
-        return {"redo": list(self.undone), "undos": list(self.standing)}
+        return {"redo": list(self.undone), "undos": list(self.active)}
 
-    def meant(self, message):
+    def meant(self, message: Mapping[str, Any]) -> int | None:
         """The number of the entry that an undo is for, or None if no entry is active."""
-        return message.get("seq") or next(reversed(self.standing), None)
+        return message.get("seq") or next(reversed(self.active), None)
 
-    def refusals(self, message):
+    def refusals(self, message: Mapping[str, Any]) -> Collection[str]:
         """The reasons for which a message may be refused."""
         word = message["do"]
-        if word == "undo" and self.meant(message) in self.standing:
+        if word == "undo" and self.meant(message) in self.active:
             return {"conflict"}
         if word == "undo":
             return {"no_such", "not_yours", "not_standing"} if "seq" in message else {"nothing_to_undo"}
@@ -84,39 +91,39 @@ class Undos:
             return ACTIONS[self.undone[next(reversed(self.undone))]] if self.undone else {"nothing_to_redo"}
         return ACTIONS.get(word) or QUERIES[word]
 
-    def outcome(self, message, seq):
+    def outcome(self, message: Mapping[str, Any], seq: int) -> dict[str, int] | None:
         """The reply to a change that is accepted as the entry of this number, or None if it cannot be accepted."""
         word = message["do"]
         if word == "undo":
             undid = self.meant(message)
-            return {"seq": seq, "undid": undid} if undid in self.standing else None
+            return None if undid is None or undid not in self.active else {"seq": seq, "undid": undid}
         if word == "redo":
             return {"redid": next(reversed(self.undone)), "seq": seq} if self.undone else None
         return {"seq": seq}
 
-    def take(self, message, told):
+    def take(self, message: Mapping[str, Any], reply: Mapping[str, int]) -> None:
         """Notes that a change was accepted with this reply."""
         word = message["do"]
         if word == "undo":
-            self.undone[told["undid"]] = self.standing.pop(told["undid"])
+            self.undone[reply["undid"]] = self.active.pop(reply["undid"])
         elif word == "redo":
-            self.standing[told["seq"]] = self.undone.pop(told["redid"])
+            self.active[reply["seq"]] = self.undone.pop(reply["redid"])
         else:
-            self.standing[told["seq"]] = word
+            self.active[reply["seq"]] = word
             self.undone.clear()
 
-    def may_be_told(self, message, reply):
+    def may_be_reply(self, message: Mapping[str, Any], reply: Mapping[str, Any]) -> bool:
         """Whether this may be the reply to a message."""
         if set(reply) == {"id", "no"} and reply["id"] == message["id"]:
             why = reply["no"].get("why")
-            return why in self.refusals(message) and set(reply["no"]) == {"why", *TOLD[why]}
+            return why in self.refusals(message) and set(reply["no"]) == {"why", *MEMBERS[why]}
         return set(reply) == {"id", "ok"} and reply["id"] == message["id"] and self.is_ok(message, reply["ok"])
 
-    def is_ok(self, message, told):
+    def is_ok(self, message: Mapping[str, Any], reply: Mapping[str, Any]) -> bool:
         """Whether this may be the reply to a message that is accepted."""
         if message["do"] == "get":
-            return list(told) == ["is"] and told["is"]["el"] == message["el"]
+            return list(reply) == ["is"] and reply["is"]["el"] == message["el"]
         if message["do"] == "undos":
-            return told == self.lists()
-        seq = told and told.get("seq")
-        return isinstance(seq, int) and seq > 0 and told == self.outcome(message, seq)
+            return reply == self.lists()
+        seq = reply and reply.get("seq")
+        return isinstance(seq, int) and seq > 0 and reply == self.outcome(message, seq)

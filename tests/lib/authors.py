@@ -2,14 +2,18 @@
 
 A kind of authors has a module of its own: library_authors.py, editor_authors.py and page_authors.py.
 """
+from __future__ import annotations
+
 import collections
 import random
 import threading
 import time
 import traceback
+from collections.abc import Mapping, Sequence
+from typing import Any, Protocol
 
 from .cases import check, given, place_in, report
-from .journals import SOON
+from .journals import SOON, Journal, Run
 from .mappers import Mapper
 from .programs import wait_for
 
@@ -23,7 +27,7 @@ MOST_NAMED = 10
 class Villager(Mapper):
     """A mapper of docs/hamlet.osm."""
 
-    def degrees(self, most):
+    def degrees(self, most: int) -> str:
         """A coordinate in the hamlet."""
         middle, wide = (40, 50_000) if most == 90 else (-30, 60_000)
         return f"{middle + self.chance.randint(-wide, wide) / 10 ** 7:.7f}"
@@ -32,36 +36,40 @@ class Villager(Mapper):
 class Stage:
     """Where authors act, or rest. The first failure ends all."""
 
-    def __init__(self):
+    def __init__(self) -> None:
         self.lock, self.is_paused, self.is_over = threading.Lock(), True, threading.Event()
 
-    def may_act(self, author):
+    def may_act(self, author: Author) -> bool:
         """Whether an author may begin another step. Otherwise the author rests."""
         with self.lock:
             author.rests = self.is_paused or self.is_over.is_set()
             return not author.rests
 
-    def pause(self, authors):
+    def pause(self, authors: Sequence[Author]) -> None:
         """Waits until all of some authors rest."""
         with self.lock:
             self.is_paused = True
 
-        def are_at_rest():
+        def are_at_rest() -> bool:
             return all(author.rests for author in authors) or self.is_over.is_set()
 
-        awake = lambda: [f"{author.title}, after {author.last}" for author in authors if not author.rests]
-        wait_for(lambda: f"no rest of {awake()}"[:2000], are_at_rest)
+        def awake() -> str:
+            return f"no rest of {[f'{author.title}, after {author.last}' for author in authors if not author.rests]}"[
+                :2000
+            ]
 
-    def go_on(self):
+        wait_for(awake, are_at_rest)
+
+    def go_on(self) -> None:
         """Lets all authors act."""
         with self.lock:
             self.is_paused = False
 
-    def end(self):
+    def end(self) -> None:
         """Has all authors rest for good."""
         self.is_over.set()
 
-    def fail(self, title, last, fault):
+    def fail(self, title: str, last: object, fault: BaseException) -> None:
         """Reports the fault of an author, of which the first ends all."""
         with self.lock:
             if not self.is_over.is_set():
@@ -74,25 +82,34 @@ class Record:
     """What the client of an author reported of the author's changes: the entry of each accepted change, and the changes
     of which nobody knows, each with the times at which it was sent and answered."""
 
-    def __init__(self):
-        self.accepted, self.unknown = [], []
+    def __init__(self) -> None:
+        self.accepted: list[tuple[int, float, float]] = []
+        self.unknown: list[tuple[float, float]] = []
 
-    def accept(self, seq, asked, answered=None):
+    def accept(self, seq: int, asked: float, answered: float | None = None) -> None:
         """Notes an accepted change."""
         self.accepted.append((seq, asked, answered or time.time()))
 
-    def lose(self, asked, answered=None):
+    def lose(self, asked: float, answered: float | None = None) -> None:
         """Notes a change of which nobody knows."""
         self.unknown.append((asked, answered or time.time()))
 
-    def entries(self, run, journal):
+    def entries(self, run: Run, journal: Journal) -> dict[int, float]:
         """The entries that are of this run for sure, with the times of their answers."""
         return {seq: answered for seq, asked, answered in self.accepted if journal.run_of(asked, answered) is run}
 
-    def unsure(self, run, journal):
+    def unsure(self, run: Run, journal: Journal) -> int:
         """How many changes may be of this run."""
-        times = [times for _, *times in self.accepted if journal.run_of(*times) is None] + self.unknown
+        times = [(asked, answered) for _, asked, answered in self.accepted if journal.run_of(asked, answered) is None]
+        times += self.unknown
         return sum(asked <= run.gone and answered >= run.began - SOON for asked, answered in times)
+
+
+class AuthorsRoom(Protocol):
+    """The room of some authors, as the script has it."""
+
+    name: str
+    journal: Journal
 
 
 class Author:
@@ -100,65 +117,67 @@ class Author:
 
     kind = ""
 
-    def __init__(self, stage, room, place, count):
+    def __init__(self, stage: Stage, room: AuthorsRoom, place: int, count: int) -> None:
         """One of `count` authors, with a place among them."""
         self.stage, self.room, self.name = stage, room, self.name_of(place)
         self.title = f"{room.name}: {self.kind} {self.name}"
         self.chance = random.Random(f"{given.seed} {room.name} {place}")
         self.mapper, self.record = Villager(self.chance, place, count), Record()
         # Whether the author rests, what was done last, and how often each kind of step was made.
-        self.rests, self.last, self.steps = False, "nothing", collections.Counter()
+        self.rests = False
+        self.last: object = "nothing"
+        self.steps: collections.Counter[str] = collections.Counter()
         # The time of the next step.
-        self.next = 0
+        self.next = 0.0
 
     @classmethod
-    def name_of(cls, place):
+    def name_of(cls, place: int) -> str:
         """The name of the author of this kind at a place."""
         return f"{cls.kind}_{place}"
 
-    def is_time(self):
+    def is_time(self) -> bool:
         """Whether it is time for the next step. Then it chooses the time of the step after it."""
         if time.monotonic() < self.next:
             return False
         self.next = time.monotonic() + self.chance.expovariate(given.pace)
         return True
 
-    def check(self, what, got, wanted):
+    def check(self, what: str, got: object, wanted: object) -> bool:
         """Checks something of this author."""
         return check(f"{self.title}: {what}", got, wanted)
 
-    def fail(self, fault):
+    def fail(self, fault: BaseException) -> None:
         """Reports a fault of this author."""
         self.stage.fail(self.title, self.last, fault)
 
-    def accepted(self, run):
+    def accepted(self, run: Run) -> dict[int, float]:
         """The entries of a run that the client acknowledged, with the times of the replies."""
         return self.record.entries(run, self.room.journal)
 
-    def check_record(self, run, _):
+    def check_record(self, run: Run, _: Mapping[str, Any] | None) -> None:
         """Checks that the entries of this author are those that the client reported, each once."""
         known, unsure = self.accepted(run), self.record.unsure(run, self.room.journal)
         own = run.entries_of(self.name)
-        missing = [seq for seq in known if seq not in own and seq <= run.front]
+        missing = [seq for seq in known if seq not in own and seq <= run.entry_count]
         self.check(f"accepted entries of run {run.number} that are not in the room", sorted(missing)[:MOST_NAMED], [])
         more = sorted(own - set(known))
         what = f"entries of run {run.number} that the client did not report, besides {unsure} of which it does not know"
         self.check(what, more[:MOST_NAMED] if len(more) > unsure else [], [])
 
-    def lost(self, run):
+    def lost(self, run: Run) -> dict[int, float]:
         """The entries of a killed run that were acknowledged and not saved, each with the seconds from the reply to the
         kill."""
-        return {seq: run.ended - answered for seq, answered in self.accepted(run).items() if seq > run.saved}
+        return {seq: run.ended - answered for seq, answered in self.accepted(run).items() if seq > (run.saved or 0)}
 
 
 class ThreadedAuthor(Author):
     """An author with a thread."""
 
-    def __init__(self, *how):
-        super().__init__(*how)
+    def __init__(self, stage: Stage, room: AuthorsRoom, place: int, count: int) -> None:
+        super().__init__(stage, room, place, count)
         self.thread = threading.Thread(target=self.live, daemon=True)
 
-    def live(self):
+    def live(self) -> None:
         """Acts until all is over."""
         try:
             while not self.stage.is_over.is_set():
@@ -171,6 +190,6 @@ class ThreadedAuthor(Author):
         finally:
             self.rests = True
 
-    def step(self):
+    def step(self) -> None:
         """Makes a step."""
         raise NotImplementedError

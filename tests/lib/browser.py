@@ -1,7 +1,11 @@
 """Opens pages in Chromium without a window over the DevTools protocol, clicks and types in them, and reads them."""
+from __future__ import annotations
+
 import base64
 import contextlib
 import json
+from collections.abc import Iterator, Sequence
+from typing import Any
 
 from .cases import given
 from .others import browsing
@@ -14,18 +18,20 @@ KEYS |= {"Backspace": 8, "Delete": 46, " ": 32, "+": 187}
 
 
 @contextlib.contextmanager
-def browser(program, *words):
+def browser(program: str, *options: str) -> Iterator[Browser]:
     """Starts a browser with these arguments, and ends it with the block."""
-    with browsing(program, "--remote-debugging-port=0", "--hide-scrollbars", *words, "about:blank") as folder:
+    with browsing(program, "--remote-debugging-port=0", "--hide-scrollbars", *options, "about:blank") as folder:
         path = f"{folder}/DevToolsActivePort"
 
-        def port_and_path():
+        def port_and_path() -> list[str] | None:
             with contextlib.suppress(FileNotFoundError), open(path, encoding="utf-8") as file:
                 lines = file.read().split("\n")
                 return lines if len(lines) == 2 and lines[1] else None
             return None
 
-        port, socket_path = wait_for("the browser does not listen", port_and_path)
+        found = wait_for("the browser does not listen", port_and_path)
+        assert found is not None
+        port, socket_path = found
         with Client(int(port), PATIENCE * given.slow) as client:
             client.shake_hands(first=f"GET {socket_path} HTTP/1.1", host=f"127.0.0.1:{port}")
             yield Browser(client)
@@ -34,24 +40,26 @@ def browser(program, *words):
 class Browser:
     """A browser at the other end of a socket, and its pages."""
 
-    def __init__(self, client):
-        self.client, self.number, self.pages = client, 0, {}
+    def __init__(self, client: Client) -> None:
+        self.client, self.number = client, 0
+        self.pages: dict[str, Page] = {}
 
-    def ask(self, method, session=None, **how):
+    def ask(self, method: str, session: str | None = None, **how: Any) -> dict[str, Any]:
         """Sends a request to the browser, or to a page by its session, and returns the answer."""
         self.number += 1
         about = {"sessionId": session} if session else {}
         self.client.say(json.dumps({"id": self.number, "method": method, "params": how, **about}))
         while True:
-            told = json.loads(self.client.read_kind(TEXT))
-            if told.get("id") == self.number:
-                if "error" in told:
-                    raise Broken(f"{method} is answered {told['error']}")
-                return told["result"]
-            if told.get("method") == "Runtime.exceptionThrown":
-                self.pages[told["sessionId"]].faults.append(told["params"]["exceptionDetails"])
+            received = json.loads(self.client.read_kind(TEXT))
+            if received.get("id") == self.number:
+                if "error" in received:
+                    raise Broken(f"{method} is answered {received['error']}")
+                result: dict[str, Any] = received["result"]
+                return result
+            if received.get("method") == "Runtime.exceptionThrown":
+                self.pages[received["sessionId"]].faults.append(received["params"]["exceptionDetails"])
 
-    def open(self, url, width=1280, height=800, is_apart=False):
+    def open(self, url: str, width: int = 1280, height: int = 800, is_apart: bool = False) -> Page:
         """A page of a width and a height, once it is loaded. In a window of its own (`is_apart`) it is always shown."""
         target = self.ask("Target.createTarget", url="about:blank", newWindow=is_apart)["targetId"]
         session = self.ask("Target.attachToTarget", targetId=target, flatten=True)["sessionId"]
@@ -68,98 +76,109 @@ class Page:
     """A page in a browser. `rest` is an expression that is true when the page is at rest, so that nothing moves during
     a click."""
 
-    def __init__(self, owner, session):
-        self.owner, self.session, self.faults = owner, session, []
+    def __init__(self, owner: Browser, session: str) -> None:
+        self.owner, self.session = owner, session
+        self.faults: list[Any] = []
         self.rest = "true"
 
-    def ask(self, method, **how):
+    def ask(self, method: str, **how: Any) -> dict[str, Any]:
         """Sends a request to the browser for this page."""
         return self.owner.ask(method, self.session, **how)
 
-    def resize(self, width, height, is_phone=False):
+    def resize(self, width: int, height: int, is_phone: bool = False) -> None:
         """Gives the window another size, and a touch screen if it is a phone."""
         self.ask("Emulation.setDeviceMetricsOverride", width=width, height=height, deviceScaleFactor=1, mobile=is_phone)
         self.ask("Emulation.setTouchEmulationEnabled", enabled=is_phone, maxTouchPoints=5)
 
-    def get(self, expression):
+    def get(self, expression: str) -> Any:
         """The value of an expression in the page."""
-        told = self.ask("Runtime.evaluate", expression=expression, returnByValue=True, awaitPromise=True)
-        if "exceptionDetails" in told:
-            raise Broken(f"{expression} fails: {told['exceptionDetails']['exception'].get('description')}")
-        return told["result"].get("value")
+        answer = self.ask("Runtime.evaluate", expression=expression, returnByValue=True, awaitPromise=True)
+        if "exceptionDetails" in answer:
+            raise Broken(f"{expression} fails: {answer['exceptionDetails']['exception'].get('description')}")
+        value: Any = answer["result"].get("value")
+        return value
 
-    def wait(self, expression):
+    def wait(self, expression: str) -> None:
         """Waits until an expression in the page is true."""
-        wait_for(lambda: f"{expression} does not come; the page has {self.get('document.body.innerText')!r}"[:1500],
-                 lambda: self.get(f"!!({expression})"))
+        wait_for(
+            lambda: f"{expression} does not come; the page has {self.get('document.body.innerText')!r}"[:1500],
+            lambda: bool(self.get(f"!!({expression})")),
+        )
 
-    def reload(self):
+    def reload(self) -> None:
         """Loads the page anew."""
         self.get("void (window.isOld = true)")
         self.ask("Page.reload")
 
-        def is_new():
+        def is_new() -> Any:
             with contextlib.suppress(Broken):
                 return self.get("!window.isOld && document.readyState === 'complete'")
             return False
 
         wait_for("the page does not come again", is_new)
 
-    def wait_text(self, selector, text):
+    def wait_text(self, selector: str, text: str) -> None:
         """Waits until an element has a text somewhere in it."""
         self.wait(f"document.querySelector({json.dumps(selector)})?.textContent.includes({json.dumps(text)})")
 
-    def mouse(self, kind, x, y, **how):
+    def mouse(self, kind: str, x: float, y: float, **how: int) -> None:
         """Sends an event of the pointer to the page."""
         self.ask("Input.dispatchMouseEvent", type=kind, x=x, y=y, **{"button": "left", "clickCount": 1, **how})
 
-    def click_at(self, x, y):
+    def click_at(self, x: float, y: float) -> None:
         """Clicks at a point of the window."""
         self.mouse("mousePressed", x, y)
         self.mouse("mouseReleased", x, y)
 
-    def double_click_at(self, x, y):
+    def double_click_at(self, x: float, y: float) -> None:
         """Clicks twice at a point of the window."""
         self.click_at(x, y)
         self.mouse("mousePressed", x, y, clickCount=2)
         self.mouse("mouseReleased", x, y, clickCount=2)
 
-    def fingers(self, kind, *points):
+    def fingers(self, kind: str, *points: tuple[float, float]) -> None:
         """Sends the places of fingers to the page: `touchStart`, `touchMove` or `touchEnd`."""
         places = [{"x": x, "y": y, "id": number} for number, (x, y) in enumerate(points)]
         self.ask("Input.dispatchTouchEvent", type=kind, touchPoints=places)
 
-    def tap(self, x, y):
+    def tap(self, x: float, y: float) -> None:
         """Taps with a finger."""
         self.fingers("touchStart", (x, y))
         self.fingers("touchEnd")
 
-    def tree(self):
+    def tree(self) -> list[tuple[str, str]]:
         """The role and the name of each element that a screen reader reads."""
         nodes = self.ask("Accessibility.getFullAXTree")["nodes"]
-        value = lambda node, key: node.get(key, {}).get("value", "")
-        return [(value(node, "role"), value(node, "name")) for node in nodes if not node.get("ignored")]
+        empty = {"value": ""}
+        read = [node for node in nodes if not node.get("ignored")]
+        return [(node.get("role", empty).get("value", ""), node.get("name", empty).get("value", "")) for node in read]
 
-    def drag(self, one, other):
+    def drag(self, one: Sequence[float], other: Sequence[float]) -> None:
         """Drags from one point of the window to another."""
         self.mouse("mousePressed", *one)
         self.mouse("mouseMoved", *((a + b) / 2 for a, b in zip(one, other)), buttons=1)
         self.mouse("mouseMoved", *other, buttons=1)
         self.mouse("mouseReleased", *other)
 
-    def click(self, selector, text=""):
+    def click(self, selector: str, text: str = "") -> None:
         """Clicks the first element that a selector finds and that has the text."""
-        found = (f"[...document.querySelectorAll({json.dumps(selector)})]"
-                 f".find((each) => each.textContent.includes({json.dumps(text)}) && each.checkVisibility())")
+        found = (
+            f"[...document.querySelectorAll({json.dumps(selector)})]"
+            f".find((each) => each.textContent.includes({json.dumps(text)}) && each.checkVisibility())"
+        )
         self.wait(f"{found} && !{found}.disabled && ({self.rest})")
-        self.click_at(*self.get(f"""(() => {{
+        self.click_at(
+            *self.get(
+                f"""(() => {{
             const each = {found};
             each.scrollIntoView({{ block: 'nearest' }});
             const box = each.getBoundingClientRect();
             return [box.x + box.width / 2, box.y + box.height / 2];
-        }})()"""))
+        }})()"""
+            )
+        )
 
-    def press(self, key, modifiers=0):
+    def press(self, key: str, modifiers: int = 0) -> None:
         """Presses a key."""
         more = {"text": "\r"} if key == "Enter" else {"text": key} if len(key) == 1 and not modifiers else {}
         code = KEYS.get(key, ord(key[0].upper()))
@@ -167,18 +186,18 @@ class Page:
         self.ask("Input.dispatchKeyEvent", type="keyDown", **about, **more)
         self.ask("Input.dispatchKeyEvent", type="keyUp", **about)
 
-    def fill(self, selector, text):
+    def fill(self, selector: str, text: str) -> None:
         """Replaces the text of a field by typing."""
         field = f"document.querySelector({json.dumps(selector)})"
         self.get(f"{field}.focus(), {field}.select()")
         self.ask("Input.insertText", text=text)
 
-    def picture(self, path):
+    def picture(self, path: str) -> None:
         """Writes a picture of the page to a file."""
         with open(path, "wb") as file:
             file.write(base64.b64decode(self.ask("Page.captureScreenshot", format="png")["data"]))
 
-    def end(self):
+    def end(self) -> None:
         """Fails if the page had a fault that no case noticed."""
         self.get("0")
         if self.faults:

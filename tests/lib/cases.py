@@ -4,12 +4,17 @@ A case is a function with a name. It fails if it raises an exception, for exampl
 check, or as the number of its calls of `check`. If a `check` fails, the script prints it and the case goes on. The
 last line of a script is `N passed, M failed`, after `K skipped` if cases were skipped because software is missing.
 """
+from __future__ import annotations
+
 import argparse
 import functools
 import os
 import signal
 import sys
 import traceback
+from collections.abc import Callable, Mapping, Sequence
+from typing import Any, NoReturn, Optional, TypeVar
+
 
 LIBRARY = os.path.dirname(os.path.abspath(__file__))
 TESTS = os.path.dirname(LIBRARY)
@@ -24,8 +29,14 @@ PROGRAMS = {
 # The script's options: the programs, and the factor of its time limits.
 given = argparse.Namespace(slow=1.0)
 
-# Each case by its name: the function, and whether its software is there.
-CASES = {}
+# A case, which takes no arguments, and whether its software is there. Only whether that is true or false counts.
+Case = Callable[[], object]
+Needs = Callable[[], object]
+CaseFunction = TypeVar("CaseFunction", bound=Case)
+Argument = TypeVar("Argument")
+
+# Each case by its name.
+CASES: dict[str, tuple[Case, Optional[Needs]]] = {}
 
 # How many characters of a value are printed if a check fails, with the first that differs.
 MOST_CHARACTERS = 600
@@ -34,7 +45,7 @@ MOST_CHARACTERS = 600
 class Differs(Exception):
     """A value differs from the wanted value, perhaps at a place in a text, such as `tests/texts/plans/x.txt:3`."""
 
-    def __init__(self, got, wanted, place=None):
+    def __init__(self, got: object, wanted: object, place: str | None = None) -> None:
         super().__init__(got, wanted)
         self.got, self.wanted, self.place = got, wanted, place
 
@@ -42,15 +53,15 @@ class Differs(Exception):
 class Report:
     """The numbers of checks that passed and failed, and of cases that were skipped."""
 
-    def __init__(self):
+    def __init__(self) -> None:
         self.passed = self.failed = self.skipped = 0
 
-    def fail(self, what, place, *lines):
+    def fail(self, what: str, place: str, *lines: str) -> None:
         """Counts a check that failed, and prints its name, its place and the reason."""
         self.failed += 1
         print(f"{what} FAILED at {place}", *(f"  {line}" for line in lines), sep="\n", flush=True)
 
-    def end(self):
+    def end(self) -> int:
         """Prints the counts. Returns the exit status of the script."""
         if self.skipped:
             print(f"{self.skipped} skipped")
@@ -61,24 +72,24 @@ class Report:
 report = Report()
 
 
-def case(function, name=None, needs=None):
+def case(function: CaseFunction, name: str | None = None, needs: Needs | None = None) -> CaseFunction:
     """Makes a function a case, under its own or another name. `needs` returns whether its software is there."""
-    CASES[name or function.__name__] = (function, needs)
+    CASES[name or getattr(function, "__name__")] = (function, needs)
     return function
 
 
-def case_if(needs):
+def case_if(needs: Needs) -> Callable[[CaseFunction], CaseFunction]:
     """Makes a function a case that needs software."""
-    return functools.partial(case, needs=needs)
+    return lambda function: case(function, needs=needs)
 
 
-def each_case(function, arguments, needs=None):
+def each_case(function: Callable[..., Any], arguments: Mapping[str, Argument], needs: Needs | None = None) -> None:
     """Makes a function a case for each argument, by the arguments' names."""
     for name, argument in arguments.items():
         case(functools.partial(function, argument), name, needs)
 
 
-def check(what, got, wanted, place=None):
+def check(what: str, got: object, wanted: object, place: str | None = None) -> bool:
     """Counts a check of the case, and prints it if it fails. Returns whether it passed."""
     if got == wanted:
         report.passed += 1
@@ -87,13 +98,13 @@ def check(what, got, wanted, place=None):
     return False
 
 
-def want(got, wanted, place=None):
+def want(got: object, wanted: object, place: str | None = None) -> None:
     """Fails the case if a value differs from the wanted value."""
     if got != wanted:
         raise Differs(got, wanted, place)
 
 
-def both(got, wanted):
+def both(got: object, wanted: object) -> list[str]:
     """The lines with the wanted value and the value, from a little before the first character that differs."""
     texts = [repr(wanted), repr(got)]
     same = len(os.path.commonprefix(texts))
@@ -101,13 +112,13 @@ def both(got, wanted):
     return [f"{word:<7} {cut(text, start)}" for word, text in zip(("wanted", "got"), texts)]
 
 
-def cut(text, start):
+def cut(text: str, start: int) -> str:
     """The part of a text that is printed."""
     end = start + MOST_CHARACTERS
     return f"{'..' if start else ''}{text[start:end]}{'..' if end < len(text) else ''}"
 
 
-def place_in(frames):
+def place_in(frames: Sequence[traceback.FrameSummary]) -> str:
     """The place of a case with these frames: its lines in scripts, the outermost first."""
     begins = [at for at, frame in enumerate(frames) if (frame.filename, frame.name) == (__file__, run.__name__)]
     frames = frames[begins[-1] + 1 :] if begins else frames
@@ -116,7 +127,7 @@ def place_in(frames):
     return ", ".join(f"{os.path.relpath(frame.filename, TOP)}:{frame.lineno}" for frame in own or frames[-1:])
 
 
-def run(name, function):
+def run(name: str, function: Case) -> None:
     """Runs a case, and prints its result."""
     passed, failed = report.passed, report.failed
     try:
@@ -137,58 +148,63 @@ def run(name, function):
         print(f"{name}: {passed} ok", flush=True)
 
 
-def chosen(names, words):
+def chosen(names: Sequence[str], parser: argparse.ArgumentParser) -> list[str]:
     """The cases with these names or, if no case has a name, those whose names contain it; without names all cases."""
     found = []
     for name in names:
         some = [name] if name in CASES else [other for other in CASES if name in other]
         if not some:
-            words.error(f"no case is called {name}: --list prints their names")
+            parser.error(f"no case is called {name}: --list prints their names")
         found += some
     return list(dict.fromkeys(found)) if names else list(CASES)
 
 
-def built(words, needs, may_need=()):
+def built(parser: argparse.ArgumentParser, needs: Sequence[str], may_need: Sequence[str] = ()) -> None:
     """Finds the programs that the options name, or that are built."""
-    for word in (*needs, *may_need):
-        path = os.path.abspath(getattr(given, word))
-        setattr(given, word, path if os.path.isfile(path) else None)
-        if word in needs and not os.path.isfile(path):
-            words.error(f"no program is at {path}; this builds the one of the tests: ({PROGRAMS[word][1]})")
+    for option in (*needs, *may_need):
+        path = os.path.abspath(getattr(given, option))
+        setattr(given, option, path if os.path.isfile(path) else None)
+        if option in needs and not os.path.isfile(path):
+            parser.error(f"no program is at {path}; this builds the one of the tests: ({PROGRAMS[option][1]})")
 
 
-def stop_when_told():
+def end_on_sigterm() -> None:
     """Makes SIGTERM raise an exception, so that the script ends what it started."""
     signal.signal(signal.SIGTERM, lambda *_: sys.exit("stopped"))
 
 
-def add_programs(words, needs, may_need=()):
+def add_programs(parser: argparse.ArgumentParser, needs: Sequence[str], may_need: Sequence[str] = ()) -> None:
     """Adds the options for programs, with the paths of the built programs."""
-    for word in (*needs, *may_need):
-        path = f"{TOP}/{PROGRAMS[word][0]}"
-        text = f"the program to test (otherwise {PROGRAMS[word][0]})"
-        words.add_argument(f"--{word}", metavar="PATH", default=path, help=text)
+    for option in (*needs, *may_need):
+        path = f"{TOP}/{PROGRAMS[option][0]}"
+        text = f"the program to test (otherwise {PROGRAMS[option][0]})"
+        parser.add_argument(f"--{option}", metavar="PATH", default=path, help=text)
 
 
-def main(page, needs=("program",), may_need=(), options=None):
+def main(
+    page: str | None,
+    needs: Sequence[str] = ("program",),
+    may_need: Sequence[str] = (),
+    options: Callable[[argparse.ArgumentParser], object] | None = None,
+) -> NoReturn:
     """Reads the options of a script, runs its cases or the named cases, reports, and ends. --help prints `page` first;
     `options` adds options of the script."""
-    words = argparse.ArgumentParser(description=page, formatter_class=argparse.RawDescriptionHelpFormatter)
+    parser = argparse.ArgumentParser(description=page, formatter_class=argparse.RawDescriptionHelpFormatter)
     names = "a case to run, or a word in the names of cases; without any, all"
-    words.add_argument("names", nargs="*", metavar="CASE", help=names)
-    words.add_argument("--list", action="store_true", help="print the names of the cases")
-    words.add_argument("--slow", type=float, default=1, metavar="FACTOR", help="multiply all time limits")
-    add_programs(words, needs, may_need)
+    parser.add_argument("names", nargs="*", metavar="CASE", help=names)
+    parser.add_argument("--list", action="store_true", help="print the names of the cases")
+    parser.add_argument("--slow", type=float, default=1, metavar="FACTOR", help="multiply all time limits")
+    add_programs(parser, needs, may_need)
     if options:
-        options(words)
-    words.parse_args(namespace=given)
-    names = chosen(given.names, words)
+        options(parser)
+    parser.parse_args(namespace=given)
+    chosen_names = chosen(given.names, parser)
     if given.list:
-        print(*names, sep="\n")
+        print(*chosen_names, sep="\n")
         sys.exit()
-    built(words, needs, may_need)
-    stop_when_told()
-    for name in names:
+    built(parser, needs, may_need)
+    end_on_sigterm()
+    for name in chosen_names:
         function, is_there = CASES[name]
         if is_there and not is_there():
             report.skipped += 1

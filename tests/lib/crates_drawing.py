@@ -14,8 +14,15 @@ WIDTH, HEIGHT, GUTTER, LANE, GAP, TITLES, BORDER = 128, 32, 44, 14, 32, 150, 14
 # How far apart arrows lie that share a gutter, a gap or a side of a box, and the space above and below a band's boxes.
 TRACK, PADDING = 10, 11
 # The tint of each band, and the colour of its title and its boxes.
-COLOURS = [("#e3eefa", "#155fa8"), ("#e5f3ea", "#0b6b3a"), ("#fdf1d3", "#855400"), ("#f2e7fa", "#6d2aa3"),
-           ("#fde9e6", "#b3261e"), ("#dff2f4", "#00626f"), ("#e9edf0", "#4a5a66")]
+COLOURS = [
+    ("#e3eefa", "#155fa8"),
+    ("#e5f3ea", "#0b6b3a"),
+    ("#fdf1d3", "#855400"),
+    ("#f2e7fa", "#6d2aa3"),
+    ("#fde9e6", "#b3261e"),
+    ("#dff2f4", "#00626f"),
+    ("#e9edf0", "#4a5a66"),
+]
 TITLE = "The crates in layers, from the data at the bottom to the programs at the top. Arrows lead to libraries."
 
 Arrows = dict[str, list[str]]
@@ -67,8 +74,10 @@ def arrows_of(layers: list[Layer]) -> Arrows:
     below: dict[str, set[str]] = {}
     for name, libraries in direct.items():
         below[name] = set(libraries).union(*(below[each] for each in libraries))
-    return {name: [each for each in libraries if not any(each in below[other] for other in libraries)]
-            for name, libraries in direct.items()}
+    return {
+        name: [each for each in libraries if not any(each in below[other] for other in libraries)]
+        for name, libraries in direct.items()
+    }
 
 
 def ranks_of(crates: list[str], arrows: Arrows) -> dict[str, int]:
@@ -103,15 +112,22 @@ def places_of(layers: list[Layer], arrows: Arrows) -> dict[str, Place]:
 
     def length(way: dict[str, Place]) -> int:
         """How far to the side the arrows down go."""
-        return sum(abs(place.column - places[each].column)
-                   for name, place in way.items() for each in arrows[name] if each in places)
+        return sum(
+            abs(place.column - places[each].column)
+            for name, place in way.items()
+            for each in arrows[name]
+            if each in places
+        )
 
     for band, layer in enumerate(layers):
         ranks = ranks_of(list(layer.crates), arrows)
         lanes = lanes_of(list(layer.crates), ranks, arrows)
         last = max(ranks.values())
-        ways = [{name: Place(band, first + abs(turned - rank), lanes[name]) for name, rank in ranks.items()}
-                for turned in (0, last) for first in range(columns - last)]
+        ways = [
+            {name: Place(band, first + abs(turned - rank), lanes[name]) for name, rank in ranks.items()}
+            for turned in (0, last)
+            for first in range(columns - last)
+        ]
         shortest = min(ways, key=length)
         places.update(shortest)
     return places
@@ -205,8 +221,10 @@ class Drawing:
         gutters = {pair: self.gutter_of(*pair) for pair in around}
         aside = {}
         for pair in around:
-            same = sorted((it for it in around if gutters[it] == gutters[pair]),
-                          key=lambda it: self.places[it[0]].column + self.places[it[1]].column)
+            same = sorted(
+                (it for it in around if gutters[it] == gutters[pair]),
+                key=lambda it: self.places[it[0]].column + self.places[it[1]].column,
+            )
             aside[pair] = self.gutter(gutters[pair]) + spread(same.index(pair), len(same))
         ends = {pair: (self.port(pair, 0, around, aside), self.port(pair, 1, around, aside)) for pair in around}
         # An arrow to the left is the higher in its gap the further it begins on the left, and the same to the right.
@@ -218,8 +236,16 @@ class Drawing:
             same = [it for it in leaving if self.places[it[0]].band == source]
             high = self.tops[source] + self.height(source) + GAP / 2 + spread(same.index(pair), len(same))
             low = self.tops[target] - GAP / 2 if self.bands_passed(*pair) else high
-            paths.append([Point(first, self.corner(one).y + HEIGHT), Point(first, high), Point(aside[pair], high),
-                          Point(aside[pair], low), Point(last, low), Point(last, self.corner(other).y)])
+            paths.append(
+                [
+                    Point(first, self.corner(one).y + HEIGHT),
+                    Point(first, high),
+                    Point(aside[pair], high),
+                    Point(aside[pair], low),
+                    Point(last, low),
+                    Point(last, self.corner(other).y),
+                ]
+            )
         return paths
 
     def port(self, pair: Arrow, end: int, around: list[Arrow], aside: dict[Arrow, float]) -> float:
@@ -237,19 +263,21 @@ class Drawing:
         width = self.gutter(self.columns) + BORDER
         size = f'viewBox="0 0 {width} {self.end}" width="{width}" height="{self.end}"'
         font = 'font-family="system-ui, DejaVu Sans, sans-serif" font-size="13"'
-        return "\n".join([
-            f'<svg xmlns="http://www.w3.org/2000/svg" {size} {font} role="img" aria-labelledby="title">',
-            f'  <title id="title">{TITLE}</title>',
-            '  <marker id="head" viewBox="0 0 8 8" refX="7.5" refY="4" markerWidth="7" markerHeight="7" orient="auto">'
-            '<path d="M0 0.5L8 4L0 7.5z" fill="#44525e"/></marker>',
-            f'  <rect width="{width}" height="{self.end}" rx="8" fill="#fff"/>',
-            *(line for band in range(len(self.layers)) for line in self.band(band, width)),
-            '  <g fill="none" stroke="#44525e" stroke-width="1.4" stroke-linejoin="round" marker-end="url(#head)">',
-            *(f'    <path d="{path_of(points)}"/>' for points in self.paths()),
-            "  </g>",
-            *(line for name in self.places for line in self.box(name)),
-            "</svg>\n",
-        ])
+        return "\n".join(
+            [
+                f'<svg xmlns="http://www.w3.org/2000/svg" {size} {font} role="img" aria-labelledby="title">',
+                f'  <title id="title">{TITLE}</title>',
+                '  <marker id="head" viewBox="0 0 8 8" refX="7.5" refY="4" markerWidth="7" markerHeight="7" orient="auto">'
+                '<path d="M0 0.5L8 4L0 7.5z" fill="#44525e"/></marker>',
+                f'  <rect width="{width}" height="{self.end}" rx="8" fill="#fff"/>',
+                *(line for band in range(len(self.layers)) for line in self.band(band, width)),
+                '  <g fill="none" stroke="#44525e" stroke-width="1.4" stroke-linejoin="round" marker-end="url(#head)">',
+                *(f'    <path d="{path_of(points)}"/>' for points in self.paths()),
+                "  </g>",
+                *(line for name in self.places for line in self.box(name)),
+                "</svg>\n",
+            ]
+        )
 
     def band(self, band: int, width: int) -> list[str]:
         """The lines of a band and its title."""
@@ -259,8 +287,10 @@ class Drawing:
         first = top + height / 2 + 4.5 - 8 * (len(words) - 1)
         return [
             f'  <rect x="{BORDER}" y="{top}" width="{width - 2 * BORDER}" height="{height}" rx="6" fill="{tint}"/>',
-            *(f'  <text x="{BORDER + 12}" y="{first + 16 * at:g}" fill="{colour}" font-weight="bold">{line}</text>'
-              for at, line in enumerate(words)),
+            *(
+                f'  <text x="{BORDER + 12}" y="{first + 16 * at:g}" fill="{colour}" font-weight="bold">{line}</text>'
+                for at, line in enumerate(words)
+            ),
         ]
 
     def box(self, name: str) -> list[str]:

@@ -2,8 +2,9 @@
 
 A room is a server with groups in threads of the script, or the built program. The way to it can lose or delay replies.
 """
+from __future__ import annotations
+
 import base64
-import collections
 import contextlib
 import functools
 import http.client
@@ -13,14 +14,22 @@ import socket
 import subprocess
 import threading
 import time
+from collections.abc import Callable, Iterable, Sequence
+from typing import TYPE_CHECKING, Any, NamedTuple, cast
 
 from .cases import TOP, given
 from .fake_rooms import FakeRoom
 from .messages import compact
-from .proxy import Proxy
-from .serving import Session, place_of
+from .proxy import Hold, Proxy
+from .serving import Server, Session, place_of
 from .talk import PATIENCE, serving
 from .websocket import Client
+
+if TYPE_CHECKING:
+    from random import Random
+
+    from maproom.core import Element
+    from maproom.osm_api.connection import Accepted, Refusal
 
 PYTHON = "/usr/bin/python3"
 ROOM = "hamlet"
@@ -29,22 +38,25 @@ ROOM = "hamlet"
 class GroupRoom(FakeRoom):
     """A server of a room in memory (maproom.osm_api.memory_room), which knows groups, undo and redo."""
 
-    def __init__(self, rows=(), limit=1_000_000):
+    def __init__(self, rows: Sequence[dict[str, Any]] = (), limit: int = 1_000_000) -> None:
         from maproom.osm_api.memory_room import MemoryRoom  # pylint: disable=import-outside-toplevel
-        self.memory = MemoryRoom(rows, ROOM, limit)
+
+        self.memory = MemoryRoom(cast("Sequence[Element]", rows), ROOM, limit)
         super().__init__(rows, ROOM)
 
     @property
-    def elements(self):
+    def elements(self) -> dict[str, Any]:
         """The map, which is that of the room in memory."""
-        return self.memory.elements
+        return cast("dict[str, Any]", self.memory.elements)
 
     @elements.setter
-    def elements(self, elements):
+    def elements(self, elements: dict[str, Any]) -> None:
         self.memory.elements = dict(elements)
 
-    def answer(self, author, message):
+    def answer(self, author: str, message: dict[str, Any]) -> dict[str, dict[str, Any]]:
         """Does a message. Returns the reply without its id."""
+        from maproom.osm_api.connection import Refusal  # pylint: disable=import-outside-toplevel
+
         word = message["do"]
         if word == "map":
             rows = sorted(self.elements.values(), key=lambda row: place_of(row["el"]))
@@ -53,18 +65,19 @@ class GroupRoom(FakeRoom):
             return super().answer(author, message)
         if (author, message["id"]) in self.spent:
             return {"no": {"seq": self.spent[author, message["id"]], "why": "repeat"}}
-        told, key = self.done(author, message)
-        if hasattr(told, "why"):
-            return {"no": {**told.fields, "why": told.why}}
-        self.spent[author, message["id"]] = told.seq
-        for entry in self.memory.journal[len(self.journal):]:
+        answer, key = self.done(author, message)
+        if isinstance(answer, Refusal):
+            return {"no": {**answer.fields, "why": answer.why}}
+        self.spent[author, message["id"]] = answer.seq
+        for entry in self.memory.journal[len(self.journal) :]:
             rows = [row or {"el": name, "gone": True} for name, row in entry.after.items()]
             self.journal.append({"by": entry.author, "rows": rows, "seq": entry.seq})
-        return {"ok": {"seq": told.seq, **({key: told.other} if key else {})}}
+        return {"ok": {"seq": answer.seq, **({key: answer.other} if key else {})}}
 
-    def done(self, author, message):
+    def done(self, author: str, message: dict[str, Any]) -> tuple[Accepted | Refusal, str | None]:
         """Does a change. Returns the reply, and the key under which it has another entry."""
         from maproom.osm_api.connection import Refusal  # pylint: disable=import-outside-toplevel
+
         if message["do"] == "redo":
             return self.memory.redo_now(author), "redid"
         if message["do"] == "undo":
@@ -74,10 +87,11 @@ class GroupRoom(FakeRoom):
         actions = message.get("actions") or [{key: value for key, value in message.items() if key != "id"}]
         return self.memory.group(author, actions), None
 
-    def start_anew(self, elements=None):
+    def start_anew(self, elements: Iterable[dict[str, Any]] | None = None) -> None:
         """Starts the server anew, with its map or with another map, and with an empty journal."""
         with self.lock:
-            self.memory.restart(None if elements is None else {row["el"]: row for row in elements})
+            rows = None if elements is None else {row["el"]: cast("Element", row) for row in elements}
+            self.memory.restart(rows)
             self.journal, self.spent = [], {}
             self.drop_all()
 
@@ -86,29 +100,31 @@ class Way(Proxy):
     """A way to a server, which takes `seconds` in each direction. A script can break its connections. They also break
     if `is_lost` is true of what the server sends."""
 
-    def __init__(self, port, seconds=0):
+    def __init__(self, port: int, seconds: float = 0) -> None:
         super().__init__(port, lambda data: None if self.is_lost(data) else data)
-        self.seconds, self.is_lost, self.connections = seconds, lambda data: False, []
+        self.seconds = seconds
+        self.is_lost: Callable[[bytes], bool] = lambda data: False
+        self.connections: list[socket.socket] = []
 
-    def drop_all(self):
+    def drop_all(self) -> None:
         """Breaks all connections."""
         for connection in list(self.connections):
             with contextlib.suppress(OSError):
                 connection.shutdown(socket.SHUT_RDWR)
         self.connections.clear()
 
-    def drop_one(self, chance):
+    def drop_one(self, chance: Random) -> None:
         """Breaks a random connection, if there is one."""
         connections = list(self.connections)
         for connection in chance.sample(connections, min(1, len(connections))):
             with contextlib.suppress(OSError):
                 connection.shutdown(socket.SHUT_RDWR)
 
-    def lose_answers(self, count=1, then=lambda: None):
+    def lose_answers(self, count: int = 1, then: Callable[[], object] = lambda: None) -> None:
         """Breaks the connections that have the replies to the next accepted changes, after calling `then`."""
         left = [None] * count
 
-        def is_lost(data):
+        def is_lost(data: bytes) -> bool:
             if b'"ok":{"seq":' not in data:
                 return False
             try:
@@ -120,12 +136,13 @@ class Way(Proxy):
 
         self.is_lost = is_lost
 
-    def pass_on(self, one, other, hold):
+    def pass_on(self, one: socket.socket, other: socket.socket, hold: Hold) -> None:
         """Passes on what comes from one to the other."""
         other.setsockopt(socket.IPPROTO_TCP, socket.TCP_NODELAY, 1)
         self.connections.append(other)
-        waiting, data = queue.SimpleQueue(), True
+        waiting: queue.SimpleQueue[tuple[float, bytes | None]] = queue.SimpleQueue()
         threading.Thread(target=self.send_late, args=(waiting, one, other), daemon=True).start()
+        data: bytes | None = b"some"
         while data:
             try:
                 data = one.recv(1 << 16)
@@ -137,7 +154,9 @@ class Way(Proxy):
             self.connections.remove(other)
 
     @staticmethod
-    def send_late(waiting, one, other):
+    def send_late(
+        waiting: queue.SimpleQueue[tuple[float, bytes | None]], one: socket.socket, other: socket.socket
+    ) -> None:
         """Sends the waiting pieces, each when its time has come."""
         with contextlib.suppress(OSError):
             while True:
@@ -154,57 +173,57 @@ class Way(Proxy):
 class Place:
     """A room at the end of a way. `url` stays the same if the server starts anew."""
 
-    def __init__(self, is_built, rows=(), limit=None, seconds=0):
+    def __init__(
+        self, is_built: bool, rows: Sequence[dict[str, Any]] = (), limit: int | None = None, seconds: float = 0
+    ) -> None:
         self.is_built, self.rows, self.limit, self.seconds = is_built, rows, limit, seconds
         self.kept = contextlib.ExitStack()
 
-    def __enter__(self):
+    def __enter__(self) -> Place:
         self.server = self.start(self.rows)
         self.way = self.kept.enter_context(Way(self.server.port, self.seconds))
         self.url = self.way.url
         return self
 
-    def __exit__(self, *_):
+    def __exit__(self, *_: object) -> None:
         self.kept.close()
 
-    def start(self, rows):
+    def start(self, rows: Sequence[dict[str, Any]]) -> GroupRoom | Server:
         """Starts a server on a map."""
         if not self.is_built:
-            how = {} if self.limit is None else {"limit": self.limit}
-            return self.kept.enter_context(GroupRoom(rows, **how))
+            return self.kept.enter_context(GroupRoom(rows) if self.limit is None else GroupRoom(rows, self.limit))
         ordered = sorted(rows, key=lambda row: place_of(row["el"]))
         base = compact({"id": 1, "ok": {"map": ordered, "seq": 0}}) + "\n"
         return self.kept.enter_context(serving(ROOM, workers=24, sessions=10_000, limit=self.limit, base=base))
 
-    def session(self, name):
+    def session(self, name: str) -> Session:
         """A session of a mapper that does not use the way."""
         client = self.kept.enter_context(Client(self.server.port, patience=PATIENCE * given.slow))
         return Session(client.shake_hands(), name, ROOM)
 
-    def map(self):
+    def map(self) -> dict[str, Any]:
         """The present map, by names."""
         session = self.session("keeper")
         session.leave()
         return session.rows
 
-    def lose_answers(self, count=1, then=lambda: None):
+    def lose_answers(self, count: int = 1, then: Callable[[], object] = lambda: None) -> None:
         """Breaks the connections that have the replies to the next accepted changes, after calling `then`."""
         self.way.lose_answers(count, then)
 
-    def restart(self, rows=None):
+    def restart(self, rows: list[dict[str, Any]] | None = None) -> None:
         """Ends the server, and starts another one on the same map or on another map."""
         rows = list(self.map().values()) if rows is None else rows
-        if self.is_built:
+        if isinstance(self.server, Server):
             self.server.stop()
             self.server = self.start(rows)
             self.way.port = self.server.port
         else:
             self.server.start_anew(rows)
 
-
-    def end_the_room(self):
+    def end_the_room(self) -> None:
         """Ends the server, and starts one of another room."""
-        if self.is_built:
+        if isinstance(self.server, Server):
             self.server.stop()
             self.server = self.kept.enter_context(serving("cellar", workers=4, sessions=100))
             self.way.port = self.server.port
@@ -214,7 +233,7 @@ class Place:
 
 
 @functools.lru_cache(maxsize=None)
-def program_has_groups():
+def program_has_groups() -> bool:
     """Whether the program is built and knows groups. If it does not know them, it prints a line."""
     if not given.program:
         return False
@@ -226,43 +245,51 @@ def program_has_groups():
     return True
 
 
-Answer = collections.namedtuple("Answer", "status text headers")
+class Answer(NamedTuple):
+    """A response of the program."""
+
+    status: int
+    text: str
+    headers: dict[str, str]
 
 
 class OsmApi:
     """The program clients/osm_api, as a process."""
 
-    def __init__(self, url, *more, name=None, room=ROOM):
-        words = [PYTHON, f"{TOP}/clients/osm_api", url, "--room", room, "--listen", "127.0.0.1:0"]
-        words += ["--name", name] if name else []
-        self.words, self.name, self.lines = [*words, *map(str, more)], name, []
+    def __init__(self, url: str, *more: str, name: str | None = None, room: str = ROOM) -> None:
+        command = [PYTHON, f"{TOP}/clients/osm_api", url, "--room", room, "--listen", "127.0.0.1:0"]
+        command += ["--name", name] if name else []
+        self.command, self.name = [*command, *map(str, more)], name
+        self.lines: list[str] = []
 
-    def __enter__(self):
-        self.process = subprocess.Popen(self.words, stdout=subprocess.PIPE, stderr=subprocess.PIPE, text=True)
+    def __enter__(self) -> OsmApi:
+        self.process = subprocess.Popen(self.command, stdout=subprocess.PIPE, stderr=subprocess.PIPE, text=True)
         self.reading = threading.Thread(target=self.read, daemon=True)
         self.reading.start()
         late = threading.Timer(PATIENCE * given.slow, self.process.kill)
         late.start()
+        assert self.process.stdout is not None
         self.root = self.process.stdout.readline().strip()
         late.cancel()
         self.port = int(self.root.rpartition(":")[2] or 0)
         return self
 
-    def read(self):
+    def read(self) -> None:
         """Keeps what the program reports."""
+        assert self.process.stderr is not None
         for line in self.process.stderr:
             self.lines.append(line.rstrip("\n"))
 
-    def __exit__(self, *_):
+    def __exit__(self, *_: object) -> None:
         self.end()
 
-    def end(self, kill=False):
+    def end(self, kill: bool = False) -> int:
         """Ends the program. Returns its status."""
         if self.process.poll() is None:
             (self.process.kill if kill else self.process.terminate)()
         return self.status()
 
-    def status(self):
+    def status(self) -> int:
         """Waits for the end of the program. Returns its status."""
         try:
             status = self.process.wait(PATIENCE * given.slow)
@@ -272,7 +299,7 @@ class OsmApi:
         self.reading.join()
         return status
 
-    def ask(self, method, path, body="", author=None, **headers):
+    def ask(self, method: str, path: str, body: str = "", author: str | None = None, **headers: str) -> Answer:
         """Makes a request."""
         connection = http.client.HTTPConnection("127.0.0.1", self.port, timeout=PATIENCE * 4 * given.slow)
         if author:
@@ -284,16 +311,16 @@ class OsmApi:
         finally:
             connection.close()
 
-    def elements(self, path, **how):
-        """The elements that a call returns in JSON."""
+    def elements(self, path: str, **how: str) -> Any:
+        """The elements that a call returns in JSON, or its answer if it is refused."""
         answer = self.ask("GET", f"/api/0.6/{path}", Accept="application/json", **how)
         return json.loads(answer.text)["elements"] if answer.status == 200 else answer
 
-    def changeset(self, author=None):
+    def changeset(self, author: str | None = None) -> int:
         """Opens a changeset."""
         return int(self.ask("PUT", "/api/0.6/changeset/create", "<osm><changeset/></osm>", author).text)
 
-    def upload(self, changeset, document, author=None):
+    def upload(self, changeset: int, document: str, author: str | None = None) -> Answer:
         """Uploads an osmChange."""
         body = f"<osmChange>{document}</osmChange>"
         return self.ask("POST", f"/api/0.6/changeset/{changeset}/upload", body, author)

@@ -49,6 +49,7 @@ def running(program):
 def browser(program):
     """Starts Firefox, and ends it with the block."""
     with running(program) as folder:
+
         def port():
             with contextlib.suppress(FileNotFoundError, ValueError, KeyError):
                 with open(f"{folder}/WebDriverBiDiServer.json", encoding="utf-8") as file:
@@ -104,8 +105,12 @@ class FirefoxPage(Page):
 
     def get(self, expression):
         """The value of an expression in the page."""
-        told = self.owner.ask("script.evaluate", expression=f"(async () => JSON.stringify(await ({expression})))()",
-                              target={"context": self.session}, awaitPromise=True)
+        told = self.owner.ask(
+            "script.evaluate",
+            expression=f"(async () => JSON.stringify(await ({expression})))()",
+            target={"context": self.session},
+            awaitPromise=True,
+        )
         if told["type"] == "exception":
             raise Broken(f"{expression} fails: {told['exceptionDetails']['text']}")
         return json.loads(told["result"].get("value", "null"))
@@ -126,8 +131,14 @@ class FirefoxPage(Page):
     def drag(self, one, other):
         """Drags from one point of the window to another."""
         middle = ((a + b) / 2 for a, b in zip(one, other))
-        self.act(MOUSE, moved(*one), {"type": "pointerDown", "button": 0}, moved(*middle), moved(*other),
-                 {"type": "pointerUp", "button": 0})
+        self.act(
+            MOUSE,
+            moved(*one),
+            {"type": "pointerDown", "button": 0},
+            moved(*middle),
+            moved(*other),
+            {"type": "pointerUp", "button": 0},
+        )
 
     def press(self, key, modifiers=()):
         """Presses a key, perhaps with others that are held."""

@@ -2,12 +2,15 @@
 
 Several clients report the same entries. Each report is compared with the first one.
 """
+from __future__ import annotations
+
 import collections
 import contextlib
 import math
 import threading
 import time
-from typing import NamedTuple
+from typing import Any, NamedTuple
+from collections.abc import Callable, Mapping, Sequence
 
 from .serving import Session
 from .websocket import Broken, Client, Gone, Late
@@ -19,46 +22,54 @@ RECENT, MORE = 2_000, 500
 SOON = 2
 
 
+# Rows by their names. None means that an element is gone.
+Rows = Mapping[str, Any]
+
+
 class Entry(NamedTuple):
     """An entry: its number, its author, the changed elements (None if an element is gone), and those that are new."""
 
     seq: int
     by: str
-    rows: dict
-    made: frozenset
+    rows: Rows
+    made: frozenset[str]
 
 
 class Run:
     """The entries of one run of a server, and the map after them. `number` counts the runs from 1. `kept` has all
     entries of the authors for whom it has a list. If the server was killed, `saved` is the last saved entry."""
 
-    def __init__(self, number, rows, authors=()):
+    def __init__(self, number: int, rows: Any, authors: Sequence[str] = ()) -> None:
         self.number, self.rows = number, dict(rows)
         # When the server was started, when it was still there, and when it was gone, in seconds since 1970.
         self.began, self.ended, self.gone = time.time(), math.inf, math.inf
-        self.saved, self.is_checked = None, False
-        self.kept, self.authors = {author: [] for author in authors}, []
+        self.saved: int | None = None
+        self.is_checked = False
+        self.kept: dict[str, list[Entry]] = {author: [] for author in authors}
+        self.authors: list[str] = []
         # The last entries, the map in front of them, and the news that wait for earlier news.
-        self.recent, self.before, self.waiting = collections.deque(), dict(rows), {}
+        self.recent: collections.deque[Entry] = collections.deque()
+        self.before = dict(rows)
+        self.waiting: dict[int, Entry] = {}
         self.lock = threading.Lock()
 
     @property
-    def front(self):
-        """The number of the last entry."""
+    def entry_count(self) -> int:
+        """How many entries there are: the number of the last entry."""
         return len(self.authors)
 
-    def take(self, who, seq, by, rows):
+    def take(self, who: str, seq: int, by: str, rows: Rows) -> None:
         """Takes the news of an entry, which have to be the same for each client. `who` reports them."""
         with self.lock:
             known = self.waiting.get(seq) or self.entry(seq)
             if known and (known.by, known.rows) != (by, rows):
                 raise Broken(f"{who} got the news of entry {seq} of {by} {rows}, and another client {known}")
-            if seq > self.front:
+            if seq > self.entry_count:
                 self.waiting[seq] = Entry(seq, by, rows, frozenset())
-            while self.front + 1 in self.waiting:
-                self.add(self.waiting.pop(self.front + 1))
+            while self.entry_count + 1 in self.waiting:
+                self.add(self.waiting.pop(self.entry_count + 1))
 
-    def add(self, entry):
+    def add(self, entry: Entry) -> None:
         """Adds the next entry."""
         made = frozenset(name for name, row in entry.rows.items() if row and name not in self.rows)
         entry = entry._replace(made=made)
@@ -71,28 +82,28 @@ class Run:
             for _ in range(MORE):
                 bring_up(self.before, self.recent.popleft())
 
-    def entry(self, seq):
+    def entry(self, seq: int) -> Entry | None:
         """An entry, if its rows are kept."""
-        at = seq - self.front + len(self.recent) - 1
+        at = seq - self.entry_count + len(self.recent) - 1
         return self.recent[at] if 0 <= at < len(self.recent) else None
 
-    def rows_at(self, seq):
+    def rows_at(self, seq: int) -> dict[str, dict[str, Any]]:
         """The map after an entry. Only the last entries are known."""
         with self.lock:
-            if not self.front - len(self.recent) <= seq <= self.front:
-                raise Broken(f"the map after entry {seq} is not known, and {self.front} is the last entry")
+            if not self.entry_count - len(self.recent) <= seq <= self.entry_count:
+                raise Broken(f"the map after entry {seq} is not known, and {self.entry_count} is the last entry")
             rows = dict(self.before)
             for entry in self.recent:
                 if entry.seq <= seq:
                     bring_up(rows, entry)
             return rows
 
-    def entries_of(self, author):
+    def entries_of(self, author: str) -> set[int]:
         """The numbers of an author's entries."""
         return {seq for seq, by in enumerate(list(self.authors), 1) if by == author}
 
 
-def bring_up(rows, entry):
+def bring_up(rows: dict[str, dict[str, Any]], entry: Entry) -> None:
     """Brings a map up to an entry."""
     for name, row in entry.rows.items():
         if row is None:
@@ -104,20 +115,21 @@ def bring_up(rows, entry):
 class Journal:
     """The runs of a room's server. `authors` are those whose entries are all kept."""
 
-    def __init__(self, rows, authors=()):
-        self.authors, self.runs = authors, []
+    def __init__(self, rows: dict[str, dict[str, Any]], authors: Sequence[str] = ()) -> None:
+        self.authors = authors
+        self.runs: list[Run] = []
         self.begin_run(rows)
 
     @property
-    def last(self):
+    def last(self) -> Run:
         """The present run, or the last one."""
         return self.runs[-1]
 
-    def begin_run(self, rows):
+    def begin_run(self, rows: dict[str, dict[str, Any]]) -> None:
         """Begins another run, with this map."""
         self.runs.append(Run(len(self.runs) + 1, rows, self.authors))
 
-    def run_of(self, asked, answered):
+    def run_of(self, asked: float, answered: float) -> Run | None:
         """The run of a change that was sent and answered at these times, in seconds since 1970. None if it may be of
         one run or of another."""
         for run in self.runs:
@@ -130,13 +142,13 @@ class Journal:
 class Watch(Session):
     """A session that reports all news to a run, from its first entry on."""
 
-    def __init__(self, client, room, run):
+    def __init__(self, client: Client, room: str, run: Run) -> None:
         self.run = run
         super().__init__(client, "watch", room)
         if self.seq or self.rows != run.rows:
             raise Broken(f"the room begins with entry {self.seq} and {len(self.rows)} elements, and not with its base")
 
-    def take(self, news):
+    def take(self, news: Mapping[str, Any]) -> None:
         """Applies news, and reports them."""
         super().take(news)
         rows = {row["el"]: None if row.get("gone") else row for row in news["rows"]}
@@ -146,45 +158,46 @@ class Watch(Session):
 class Watcher:
     """Watches a room in a thread. It is the first client of each run. `fail` gets what goes wrong."""
 
-    def __init__(self, room, port, journal, fail):
+    def __init__(self, room: str, port: int, journal: Journal, fail: Callable[[Exception], object]) -> None:
         self.room, self.port, self.journal, self.fail = room, port, journal, fail
-        self.watch, self.is_over = None, threading.Event()
+        self.watch: Watch | None = None
+        self.is_over = threading.Event()
         self.thread = threading.Thread(target=self.live, daemon=True)
 
-    def start(self):
+    def start(self) -> None:
         """Starts the thread."""
         self.thread.start()
 
-    def is_watching(self):
+    def is_watching(self) -> bool:
         """Whether it watches the present run."""
         return self.watch is not None and self.watch.run is self.journal.last
 
-    def live(self):
+    def live(self) -> None:
         """Watches one run after another."""
         try:
             while not self.is_over.is_set():
                 with contextlib.suppress(Gone, OSError):
                     self.watch = Watch(Client(self.port).shake_hands(), self.room, self.journal.last)
-                    self.follow()
+                    self.follow(self.watch)
                 self.is_over.wait(0.02)
         except Exception as fault:  # whatever goes wrong fails the run
             self.fail(fault)
 
-    def follow(self):
+    def follow(self, watch: Watch) -> None:
         """Follows a run until its server ends or all is over."""
         while not self.is_over.is_set():
             with contextlib.suppress(Late):
-                if (reply := self.watch.hear(0.2)) is not None:
+                if (reply := watch.hear(0.2)) is not None:
                     raise Broken(f"a session that asked for nothing got {reply}")
-        self.watch.leave()
+        watch.leave()
 
-    def end(self):
+    def end(self) -> None:
         """Leaves."""
         self.is_over.set()
         self.thread.join()
 
 
-def visit(port, room, name="guest"):
+def visit(port: int, room: str, name: str = "guest") -> tuple[dict[str, Any], int, dict[str, list[int]]]:
     """The map of a room and its last entry, as a new session receives them, and what `name` can undo and redo."""
     session = Session(Client(port).shake_hands(), name, room)
     undos = session.ask({"id": 2, "do": "undos"})["ok"]
@@ -193,7 +206,7 @@ def visit(port, room, name="guest"):
     return found
 
 
-def differing(got, wanted):
+def differing(got: Mapping[str, object], wanted: Mapping[str, object]) -> dict[str, Any]:
     """The elements in which two maps differ, some of them, with both rows."""
     names = [name for name in {**wanted, **got} if got.get(name) != wanted.get(name)]
     return {name: (got.get(name), wanted.get(name)) for name in names[:5]}

@@ -1,4 +1,4 @@
-"""Opens the page clients/map.html in a browser, and finds places in its window."""
+"""Opens the page clients/page/map.html in a browser, and finds places in its window."""
 import urllib.parse
 
 
@@ -36,11 +36,15 @@ def pause(page):
 
 def window_point(page, expression):
     """Where a position of the map is in the window of a page."""
-    return tuple(page.get(f"""(() => {{
+    return tuple(
+        page.get(
+            f"""(() => {{
         const box = $('map').getBoundingClientRect();
         const {{ x, y }} = page.view.pointOf({expression});
         return [box.x + x, box.y + y];
-    }})()"""))
+    }})()"""
+        )
+    )
 
 
 def at_node(page, name):

@@ -1,4 +1,6 @@
 """Measures runs of the built program over messages (workloads.py): their time, their memory and their allocations."""
+from __future__ import annotations
+
 import argparse
 import os
 import re
@@ -6,44 +8,52 @@ import subprocess
 import sys
 import threading
 import time
+from collections.abc import Callable, Sequence
+from typing import IO, Union
 
 from .cases import given
 from .preloaded import library
 from .programs import run
 
+# A message without its id: a text of anna's, or an author and a text.
+Message = Union[str, "tuple[str, str]"]
 
-def number_from(least):
+
+def number_from(least: int) -> Callable[[str], int]:
     """A reader of an option that is a whole number, at least this one."""
-    def read(word):
+
+    def read(word: str) -> int:
         if not word.isdecimal() or int(word) < least:
             raise argparse.ArgumentTypeError(f"no whole number from {least} on: {word}")
         return int(word)
+
     return read
 
 
-def messages_in(path):
+def messages_in(path: str) -> list[Message]:
     """The messages of a file of lines, each with its author, without their ids."""
     with open(path, encoding="utf-8") as file:
-        return [re.fullmatch(r'(\S+) \{"id":\d+,(.*)\}\n?', line).groups() for line in file]
+        found = (re.fullmatch(r'(\S+) \{"id":\d+,(.*)\}\n?', line) for line in file)
+        return [(each[1], each[2]) for each in found if each]
 
 
-def write_script(path, messages, base):
+def write_script(path: str, messages: Sequence[Message], base: str) -> None:
     """Writes a base, if any, and messages as lines, numbered from 1. A message is a pair of an author and a text, or a
     text of anna's."""
     with open(path, "w", encoding="utf-8") as file:
         file.write(base)
         for number, message in enumerate(messages, 1):
-            author, message = ("anna", message) if isinstance(message, str) else message
-            file.write(f'{author} {{"id":{number},{message}}}\n')
+            author, text = ("anna", message) if isinstance(message, str) else message
+            file.write(f'{author} {{"id":{number},{text}}}\n')
 
 
-def refused(replies):
+def refused(replies: str) -> str | None:
     """The first reply in a file that is a refusal, or None."""
     with open(replies, encoding="utf-8") as lines:
         return next((line for line in lines if re.match(r'\{"id":\d+,"no":', line)), None)
 
 
-def map_line(program, scratch, messages):
+def map_line(program: str, scratch: str, messages: Sequence[Message]) -> str:
     """The line with which a room sends the map that messages make. It can be the base of another room."""
     write_script(f"{scratch}/script", (*messages, '"do":"map"'), "")
     measure(program, f"{scratch}/script", f"{scratch}/replies")
@@ -51,7 +61,7 @@ def map_line(program, scratch, messages):
         return next(line for line in replies if '"ok":{"map":' in line)
 
 
-def watch(process, peaks):
+def watch(process: int, peaks: list[float]) -> None:
     """Samples the peak memory of a process, in MiB, until it ends."""
     while True:
         try:
@@ -65,12 +75,12 @@ def watch(process, peaks):
         time.sleep(0.002)
 
 
-def measure(program, script, replies, *words):
+def measure(program: str, script: str, replies: str, *options: str) -> tuple[float, float]:
     """The time of a run in seconds and its peak memory in MiB. The run has to end with status 0."""
     peaks = [0.0]
     with open(script, "rb") as lines, open(replies, "wb") as written:
         began = time.perf_counter()
-        with subprocess.Popen([program, "replay", *words], stdin=lines, stdout=written) as ran:
+        with subprocess.Popen([program, "replay", *options], stdin=lines, stdout=written) as ran:
             watching = threading.Thread(target=watch, args=(ran.pid, peaks))
             watching.start()
             status = ran.wait()
@@ -81,39 +91,40 @@ def measure(program, script, replies, *words):
     return taken, max(peaks)
 
 
-def memory_of(process, words=("VmRSS", "VmHWM")):
-    """What the kernel says of a process by these words, in MiB: its memory and the peak of it, if none are given."""
+def memory_of(process: int, values: Sequence[str] = ("VmRSS", "VmHWM")) -> tuple[float, ...]:
+    """These values that the kernel has of a process, in MiB: its memory and the peak of it, if none are given."""
     with open(f"/proc/{process}/status", encoding="utf-8") as lines:
         found = dict(line.split(":", 1) for line in lines)
-    return tuple(int(found[word].split()[0]) / 1024 for word in words)
+    return tuple(int(found[value].split()[0]) / 1024 for value in values)
 
 
-def held(script, *words):
+def held(script: str, *options: str) -> tuple[int, int]:
     """The bytes that the program holds at the end of a script, and the number of its allocations until then."""
     with open(script, "rb") as lines:
-        ran = run(given.program, "replay", *words, stdin=lines, env={"LD_PRELOAD": library("held")})
+        ran = run(given.program, "replay", *options, stdin=lines, env={"LD_PRELOAD": library("held")})
     found = re.fullmatch(rb"(\d+) bytes held, memory asked for (\d+) times\n", ran.errors)
     if ran.status or not found:
         sys.exit(f"{given.program} ended with status {ran.status} and printed {ran.errors[:200]!r}")
     return int(found[1]), int(found[2])
 
 
-def each_held(scratch, before, measured):
+def each_held(scratch: str, before: Sequence[Message], measured: Sequence[Message]) -> tuple[float, ...]:
     """The bytes that each of some messages adds to those held before, and its number of allocations."""
     counts = []
-    for messages in (before, before + measured):
+    for messages in (before, [*before, *measured]):
         write_script(f"{scratch}/script", messages, "")
         counts.append(held(f"{scratch}/script", "--limit", "1000000"))
     return tuple((after - first) / len(measured) for first, after in zip(*counts))
 
 
-def most_given(scratch, messages, base, *words):
+def most_given(scratch: str, messages: Sequence[Message], base: str, *options: str) -> tuple[int, int]:
     """The peak memory in bytes that the system gave the program until the last reply, and the length of that reply."""
     write_script(f"{scratch}/script", messages, base)
     with open(f"{scratch}/script", "rb") as script:
         lines = script.read()
     with open(f"{scratch}/replies", "w+b") as replies:
-        with subprocess.Popen([given.program, "replay", *words], stdin=subprocess.PIPE, stdout=replies) as program:
+        with subprocess.Popen([given.program, "replay", *options], stdin=subprocess.PIPE, stdout=replies) as program:
+            assert program.stdin is not None
             program.stdin.write(lines)
             program.stdin.flush()
             while len(found := written(replies)) < len(messages) and program.poll() is None:
@@ -127,7 +138,7 @@ def most_given(scratch, messages, base, *words):
     return most, len(found[-1])
 
 
-def written(replies):
+def written(replies: IO[bytes]) -> list[bytes]:
     """The complete replies in a file, each with its line feed."""
     text = os.pread(replies.fileno(), os.fstat(replies.fileno()).st_size, 0)
     return [line for line in text.splitlines(True) if line.endswith(b"\n")]

@@ -1,4 +1,4 @@
-"""Authors who use the page clients/map.html in a browser. One thread drives all pages of the browser."""
+"""Authors who use the page clients/page/map.html in a browser. One thread drives all pages of the browser."""
 import json
 import threading
 import time
@@ -11,8 +11,23 @@ from .mappers import KEYS, VALUES, one_of
 from .programs import PATIENCE
 
 # The weight of each kind of step.
-STEPS = {"point": 15, "line": 8, "area": 5, "tag": 15, "drag": 15, "delete": 6, "delete_everywhere": 3, "press": 12,
-         "press_for_two": 6, "edit": 15, "undo": 10, "redo": 8, "undo_one": 5, "find": 3, "reload": 2}
+STEPS = {
+    "point": 15,
+    "line": 8,
+    "area": 5,
+    "tag": 15,
+    "drag": 15,
+    "delete": 6,
+    "delete_everywhere": 3,
+    "press": 12,
+    "press_for_two": 6,
+    "edit": 15,
+    "undo": 10,
+    "redo": 8,
+    "undo_one": 5,
+    "find": 3,
+    "reload": 2,
+}
 
 # The buttons for what is selected that an author presses.
 BUTTONS = ("Split", "Unglue", "Join", "Merge", "Reverse", "New relation")
@@ -145,8 +160,9 @@ class PageAuthor(Author):
 
     def place(self):
         """A random place of the map in the window."""
-        x, y, width, height = self.page.get("(({ x, y, width, height }) => [x, y, width, height])"
-                                            "($('map').getBoundingClientRect())")
+        x, y, width, height = self.page.get(
+            "(({ x, y, width, height }) => [x, y, width, height])" "($('map').getBoundingClientRect())"
+        )
         return x + width * self.chance.uniform(0.1, 0.9), y + height * self.chance.uniform(0.2, 0.9)
 
     def point(self):
@@ -263,12 +279,18 @@ class PageAuthor(Author):
         self.note_outcomes()
         self.close_list()
         self.check("the last entry of the page", self.page.get("page.session.room.seq"), seq)
-        self.check("the page's map, and the wanted one",
-                   differing(self.page.get("Object.fromEntries(page.elements)"), rows), {})
+        self.check(
+            "the page's map, and the wanted one",
+            differing(self.page.get("Object.fromEntries(page.elements)"), rows),
+            {},
+        )
         self.check("what the page can undo and redo", self.page.get(f"({lists})"), undos)
         self.check("elements that the page draws otherwise", self.page.get(SHAPES), [])
-        self.check("what the page says", self.page.get("[$('state').textContent, $('saved').textContent]"),
-                   ["Connected", "All saved"])
+        self.check(
+            "what the page says",
+            self.page.get("[$('state').textContent, $('saved').textContent]"),
+            ["Connected", "All saved"],
+        )
         self.check("faults of the page", self.page.faults, [])
 
 

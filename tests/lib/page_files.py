@@ -27,6 +27,7 @@ def is_leaflet_there():
 
 def tile_of(red, green, blue, size=256):
     """A picture of one colour, as PNG."""
+
     def part(name, data):
         return struct.pack(">I", len(data)) + name + data + struct.pack(">I", zlib.crc32(name + data))
 
@@ -40,7 +41,7 @@ class PageFiles:
     server for each path of a room. `asked` has the requested paths of tiles. Without `has_leaflet` it has no
     Leaflet."""
 
-    def __init__(self, has_leaflet=True, statuses=(), folder=f"{TOP}/clients", rooms=()):
+    def __init__(self, has_leaflet=True, statuses=(), folder=f"{TOP}/clients/page", rooms=()):
         self.has_leaflet, self.statuses, self.folder, self.rooms = has_leaflet, dict(statuses), folder, dict(rooms)
         self.asked = []
         self.server = http.server.ThreadingHTTPServer(("127.0.0.1", 0), self.handler())
@@ -74,7 +75,8 @@ class PageFiles:
         if name.startswith(("javascript/leaflet/", "leaflet@")):
             name = f"{LEAFLET}/{name.rpartition('/')[2]}" if self.has_leaflet else "/nowhere"
         else:
-            name = os.path.normpath(f"{self.folder}/{name}")
+            is_beside = name.startswith("js/") and not os.path.isdir(f"{self.folder}/js")
+            name = os.path.normpath(f"{self.folder}/{'../' if is_beside else ''}{name}")
         kind = KINDS.get(os.path.splitext(name)[1])
         if kind is None or not os.path.isfile(name):
             return 404, "text/plain", b"not there"

@@ -34,9 +34,10 @@ def benchmarks(subject: str, *commands: str) -> list[tuple[str, list[str]]]:
 
 # The parts that need no built program and no prover.
 TEXTS = [
-    *scripts("documents", "pages"),
-    *scripts("proofs", "wrong_bodies --check", "borders"),
-    *scripts("documents", "lib_functions"),
+    *scripts("documents", "pages", "promises"),
+    *scripts("proofs", "wrong_bodies --check", "borders", "statement --check"),
+    *scripts("documents", "lib_functions", "python"),
+    *scripts("web", "types"),
 ]
 
 # The parts that run the built programs, in the order of tests/run.

@@ -1,13 +1,20 @@
-"""Runs commands and returns their results. Loads scripts as modules."""
-import importlib.machinery
-import importlib.util
+"""Runs commands and returns their results."""
+from __future__ import annotations
+
 import os
 import subprocess
 import time
-from typing import NamedTuple
+from collections.abc import Callable, Iterable, Mapping, Sequence
+from typing import IO, Any, NamedTuple, TypeVar, Union
 
+from . import PACKAGE
 from .cases import given
 from .websocket import Late
+
+# An argument of a command.
+Word = Union[str, bytes, "os.PathLike[str]"]
+
+Found = TypeVar("Found")
 
 # The time limit of a program in seconds, with its start.
 PATIENCE = 90
@@ -20,38 +27,51 @@ class Ran(NamedTuple):
     output: bytes
     errors: bytes
 
-    def texts(self):
+    def texts(self) -> tuple[int, str, str]:
         """The same, with texts in the place of bytes."""
         return self.status, self.output.decode(), self.errors.decode()
 
-    def lines(self):
+    def lines(self) -> list[str]:
         """The lines of standard output."""
         return lines_of(self.output.decode())
 
 
-def lines_of(text):
+class Piped(subprocess.Popen[bytes]):
+    """A program that runs, of whose streams a script uses those that are pipes."""
+
+    stdin: IO[bytes]
+    stdout: IO[bytes]
+    stderr: IO[bytes]
+
+    def __init__(self, command: Sequence[Word], **how: Any) -> None:
+        super().__init__(command, **how)
+
+
+def lines_of(text: str) -> list[str]:
     """The lines of a text that ends with a line feed. Only a line feed ends a line."""
     return text.split("\n")[:-1]
 
 
-def text_of(lines):
+def text_of(lines: Iterable[str]) -> str:
     """The text of lines."""
     return "".join(f"{line}\n" for line in lines)
 
 
-def run(*words, lines=b"", **how):
+def run(*arguments: Word, lines: bytes = b"", **how: Any) -> Ran:
     """The result of a command over an input, or over a stream that is given as `stdin`."""
-    streams = {"stdout": subprocess.PIPE, "stderr": subprocess.PIPE, **({} if "stdin" in how else {"input": lines})}
-    ran = subprocess.run(words, check=False, **streams, **how)
+    streams: dict[str, Any] = {"stdout": subprocess.PIPE, "stderr": subprocess.PIPE}
+    if "stdin" not in how:
+        streams["input"] = lines
+    ran = subprocess.run(arguments, check=False, **streams, **how)
     return Ran(ran.returncode, ran.stdout, ran.stderr)
 
 
-def run_soon(*words, **how):
+def run_soon(*arguments: Word, **how: Any) -> Ran:
     """The result of a command with a time limit."""
-    return run(*words, timeout=PATIENCE * given.slow, **how)
+    return run(*arguments, timeout=PATIENCE * given.slow, **how)
 
 
-def wait_for(what, value):
+def wait_for(what: str | Callable[[], str], value: Callable[[], Found]) -> Found:
     """Waits until `value` returns a true value, and returns it."""
     deadline = time.monotonic() + PATIENCE * given.slow
     while True:
@@ -63,9 +83,6 @@ def wait_for(what, value):
         time.sleep(0.01)
 
 
-def loaded(path):
-    """A script without an ending, as a module."""
-    loader = importlib.machinery.SourceFileLoader(os.path.basename(path), path)
-    module = importlib.util.module_from_spec(importlib.util.spec_from_loader(loader.name, loader))
-    loader.exec_module(module)
-    return module
+def with_package(environment: Mapping[str, str] | None = None) -> dict[str, str]:
+    """An environment in which Python imports the package maproom of this clone."""
+    return {**(environment or os.environ), "PYTHONPATH": PACKAGE}

@@ -1,8 +1,18 @@
 """Passes connections between clients and a server on. It can lose replies, and pass later connections to another
 server."""
+from __future__ import annotations
+
 import contextlib
 import socket
 import threading
+from collections.abc import Callable
+from typing import Optional, TypeVar
+
+
+ProxyType = TypeVar("ProxyType", bound="Proxy")
+
+# Takes a piece of data, and returns what goes on.
+Hold = Callable[[bytes], Optional[bytes]]
 
 
 class Proxy:
@@ -10,19 +20,19 @@ class Proxy:
     client, or None to break the connection. `port` is the server of the next connection, so it can change when a server
     ends."""
 
-    def __init__(self, port, hold=bytes):
+    def __init__(self, port: int, hold: Hold = bytes) -> None:
         self.port, self.hold = port, hold
         self.listening = socket.create_server(("127.0.0.1", 0))
         self.url = f"ws://127.0.0.1:{self.listening.getsockname()[1]}"
 
-    def __enter__(self):
+    def __enter__(self: ProxyType) -> ProxyType:
         threading.Thread(target=self.accept, daemon=True).start()
         return self
 
-    def __exit__(self, *_):
+    def __exit__(self, *_: object) -> None:
         self.listening.close()
 
-    def accept(self):
+    def accept(self) -> None:
         """Accepts connections."""
         with contextlib.suppress(OSError):
             while True:
@@ -32,11 +42,12 @@ class Proxy:
                 except ConnectionError:
                     client.close()
                     continue
-                for one, other, hold in ((client, server, bytes), (server, client, self.hold)):
+                directions: list[tuple[socket.socket, socket.socket, Hold]] = [(client, server, bytes)]
+                directions.append((server, client, self.hold))
+                for one, other, hold in directions:
                     threading.Thread(target=self.pass_on, args=(one, other, hold), daemon=True).start()
 
-    @staticmethod
-    def pass_on(one, other, hold):
+    def pass_on(self, one: socket.socket, other: socket.socket, hold: Hold) -> None:
         """Passes the data of one socket on to the other."""
         with contextlib.suppress(OSError):
             while True:
@@ -50,12 +61,12 @@ class Proxy:
                 each.shutdown(socket.SHUT_RDWR)
 
 
-def once(wanted, then):
+def once(wanted: bytes, then: bytes | None) -> Hold:
     """A function for `hold`: if a piece has these bytes for the first time, it returns `then`. All other pieces
     pass."""
     left = [wanted]
 
-    def hold(data):
+    def hold(data: bytes) -> bytes | None:
         if left and left[0] in data:
             left.clear()
             return then

@@ -2,6 +2,8 @@
 
 Code counts as one word, a link as its text, and an image as its caption. Each item of a list is a paragraph.
 """
+from __future__ import annotations
+
 import re
 from collections.abc import Iterator
 from typing import NamedTuple
@@ -110,7 +112,7 @@ def ends_in(text: str) -> Iterator[int]:
 class Exceptions:
     """The long sentences that a file allows, of all long ones, which are pairs of a page and a sentence."""
 
-    def __init__(self, text: str, long: list[tuple[str, Sentence]]):
+    def __init__(self, text: str, long: list[tuple[str, Sentence]]) -> None:
         self.allowed: set[tuple[str, Sentence]] = set()
         self.faults: list[tuple[int, str]] = []
         for number, line in enumerate(text.split("\n"), 1):

@@ -7,10 +7,28 @@ from __future__ import annotations
 
 import collections
 import json
-from typing import Any, Callable, Deque, Dict, Iterable, List, Mapping, NamedTuple, Optional, Union
+from typing import Any, Callable, Deque, Dict, Iterable, List, Mapping, NamedTuple, Optional, TypedDict, Union
 
-# An element as a room sends it, for example {"el": "n-1", "lat": "51.5000000", "lon": "-0.1000000", "tags": {}}.
-Element = Dict[str, Any]
+
+class Named(TypedDict):
+    """What every element has: its name and its tags."""
+
+    el: str
+    tags: Dict[str, str]
+
+
+class Element(Named, total=False):
+    """An element as a room sends it, for example {"el": "n-1", "lat": "51.5000000", "lon": "-0.1000000", "tags": {}}.
+
+    A node has `lat` and `lon`, a way the ids `nodes`, and a relation `members`: lists of a name and a role.
+    """
+
+    lat: str
+    lon: str
+    nodes: List[int]
+    members: List[List[str]]
+
+
 # A message without its id, and an answer: {"ok": ..} or {"no": ..}.
 Message = Mapping[str, Any]
 Answer = Dict[str, Any]
@@ -67,7 +85,7 @@ class Reset(NamedTuple):
 Event = Union[Change, Reset]
 
 
-def compact(value: Any) -> str:
+def compact(value: object) -> str:
     """A value as JSON, in the form in which a room writes it."""
     return json.dumps(value, ensure_ascii=False, separators=(",", ":"))
 
@@ -162,8 +180,9 @@ class Core:
 
     # ---- Messages
 
-    def add(self, message: Message, done: Callable[[Answer], None] = lambda answer: None,
-            number: Optional[int] = None) -> Asked:
+    def add(
+        self, message: Message, done: Callable[[Answer], None] = lambda answer: None, number: Optional[int] = None
+    ) -> Asked:
         """Adds a message that `send_more` sends. `done` gets {"ok": ..} or {"no": ..}; an accepted change is in the
         mirror by then.
 
@@ -214,18 +233,18 @@ class Core:
         Raises OutOfStep if a new session has to begin, and HelloRefused if the hello was refused.
         """
         try:
-            told = json.loads(text)
-            if "news" in told:
-                return self.take_news(told["news"])
-            return self.take_next(told) if self.take_next else []
+            reply = json.loads(text)
+            if "news" in reply:
+                return self.take_news(reply["news"])
+            return self.take_next(reply) if self.take_next else []
         except (ValueError, KeyError, TypeError, AttributeError) as fault:
             raise OutOfStep(f"the room sent {text[:200]}") from fault
 
-    def take_welcome(self, told: Any) -> List[str]:
+    def take_welcome(self, reply: Any) -> List[str]:
         """Takes the answer to the hello, and asks which run of the server it is from."""
-        if "no" in told:
-            raise HelloRefused(told["no"])
-        elements, seq = {element["el"]: element for element in told["ok"]["map"]}, int(told["ok"]["seq"])
+        if "no" in reply:
+            raise HelloRefused(reply["no"])
+        elements, seq = {element["el"]: element for element in reply["ok"]["map"]}, int(reply["ok"]["seq"])
         last, self.seq = self.seq, seq
         if last is not None and self.gap is None:
             self.gap = Gap(dict(self.elements), last, self.authors)
@@ -244,11 +263,11 @@ class Core:
         self.take_next = self.take_run
         return [compact({"id": self.accepted[0], "do": "undo", "seq": NO_ENTRY})]
 
-    def take_run(self, told: Any) -> List[str]:
+    def take_run(self, reply: Any) -> List[str]:
         """Takes the answer to the restart question: the same run repeats the entry that spent the id."""
         assert self.accepted is not None
-        no = told.get("no", {})
-        if told["id"] not in (0, self.accepted[0]) or no.get("why") == "memory":
+        no = reply.get("no", {})
+        if reply["id"] not in (0, self.accepted[0]) or no.get("why") == "memory":
             raise OutOfStep("the server did not say which run it is")
         return self.go_on((no.get("why"), no.get("seq")) != ("repeat", self.accepted[1]))
 
@@ -284,16 +303,16 @@ class Core:
         for asked, no in dropped:
             asked.done({"no": no})
 
-    def take_answer(self, told: Any) -> List[str]:
+    def take_answer(self, reply: Any) -> List[str]:
         """Takes an answer, which is to the message that was sent first. The room may not have read its id."""
-        if not self.sent or told["id"] not in (0, self.sent[0].id):
+        if not self.sent or reply["id"] not in (0, self.sent[0].id):
             raise OutOfStep("the room answered a message that was not sent")
         assert self.seq is not None
         asked = self.sent.popleft()
         # A repeat of a message that was sent before is its lost answer.
-        if asked.times_sent > 1 and "no" in told and told["no"]["why"] == "repeat":
-            told = {"ok": {"seq": told["no"]["seq"]}}
-        answer = {key: told[key] for key in ("ok", "no") if key in told}
+        if asked.times_sent > 1 and "no" in reply and reply["no"]["why"] == "repeat":
+            reply = {"ok": {"seq": reply["no"]["seq"]}}
+        answer = {key: reply[key] for key in ("ok", "no") if key in reply}
         if "ok" in answer and asked.is_change():
             seq = int(answer["ok"]["seq"])
             self.accepted = [asked.id, seq]

@@ -35,8 +35,11 @@ class NotSent(Error):
     """The server was started anew, perhaps with another map, before a change was sent. It was not done."""
 
     def __init__(self, restarted: bool = False) -> None:
-        super().__init__("the server was started anew before this was sent: it was not done" if restarted else
-                         "the server may have been started anew before this was sent: it was not done")
+        super().__init__(
+            "the server was started anew before this was sent: it was not done"
+            if restarted
+            else "the server may have been started anew before this was sent: it was not done"
+        )
         self.restarted = restarted
 
 
@@ -223,12 +226,34 @@ class OutOfMemory(Refused):
 
 
 REASONS: Dict[str, Type[Refused]] = {
-    "not_json": NotJson, "not_object": NotObject, "bad_id": BadId, "unknown_do": UnknownDo, "bad_field": BadField,
-    "hello_twice": HelloTwice, "no_hello": NoHello, "no_room": NoRoom, "repeat": Repeat, "full": Full,
-    "nothing_to_undo": NothingToUndo, "no_such": NoSuch, "not_yours": NotYours, "not_standing": NotStanding,
-    "conflict": Conflict, "nothing_to_redo": NothingToRedo, "wrong_kind": WrongKind, "present": Present, "same": Same,
-    "absent": Absent, "bad_position": BadPosition, "not_end_to_end": NotEndToEnd, "tag_conflict": TagConflict,
-    "out_of_range": OutOfRange, "too_few": TooFew, "too_many": TooMany, "in_use": InUse, "nothing": Nothing,
+    "not_json": NotJson,
+    "not_object": NotObject,
+    "bad_id": BadId,
+    "unknown_do": UnknownDo,
+    "bad_field": BadField,
+    "hello_twice": HelloTwice,
+    "no_hello": NoHello,
+    "no_room": NoRoom,
+    "repeat": Repeat,
+    "full": Full,
+    "nothing_to_undo": NothingToUndo,
+    "no_such": NoSuch,
+    "not_yours": NotYours,
+    "not_standing": NotStanding,
+    "conflict": Conflict,
+    "nothing_to_redo": NothingToRedo,
+    "wrong_kind": WrongKind,
+    "present": Present,
+    "same": Same,
+    "absent": Absent,
+    "bad_position": BadPosition,
+    "not_end_to_end": NotEndToEnd,
+    "tag_conflict": TagConflict,
+    "out_of_range": OutOfRange,
+    "too_few": TooFew,
+    "too_many": TooMany,
+    "in_use": InUse,
+    "nothing": Nothing,
     "memory": OutOfMemory,
 }
 

@@ -49,8 +49,15 @@ class Undos(NamedTuple):
     redo: List[int]
 
 
-def connect(url: str, *, room: str, name: str, open_timeout: Optional[float] = 10, timeout: Optional[float] = 60,
-            heartbeat: float = 15) -> Room:
+def connect(
+    url: str,
+    *,
+    room: str,
+    name: str,
+    open_timeout: Optional[float] = 10,
+    timeout: Optional[float] = 60,
+    heartbeat: float = 15,
+) -> Room:
     """A room, for `async with`. `url` is the server's address, such as "ws://127.0.0.1:9001".
 
     The block begins when the welcome has come, within `open_timeout` seconds. Each message then waits for its answer
@@ -65,8 +72,16 @@ class Room:
 
     core_class: ClassVar[Type[Core]] = Core
 
-    def __init__(self, url: str, room: str, name: str, *, open_timeout: Optional[float] = 10,
-                 timeout: Optional[float] = 60, heartbeat: float = 15) -> None:
+    def __init__(
+        self,
+        url: str,
+        room: str,
+        name: str,
+        *,
+        open_timeout: Optional[float] = 10,
+        timeout: Optional[float] = 60,
+        heartbeat: float = 15,
+    ) -> None:
         self.url, self.room, self.name = url, room, name
         self.open_timeout, self.timeout, self.heartbeat = open_timeout, timeout, heartbeat
         self.state = "closed"
@@ -88,8 +103,9 @@ class Room:
         await self.open()
         return self
 
-    async def __aexit__(self, kind: Optional[Type[BaseException]], fault: Optional[BaseException],
-                        trace: Optional[types.TracebackType]) -> None:
+    async def __aexit__(
+        self, kind: Optional[Type[BaseException]], fault: Optional[BaseException], trace: Optional[types.TracebackType]
+    ) -> None:
         await self.close()
 
     async def open(self) -> None:
@@ -279,8 +295,9 @@ class Room:
 
     # ---- Messages
 
-    async def ask(self, message: Message, *, number: Optional[int] = None,
-                  announce: Callable[[int], None] = lambda number: None) -> Dict[str, Any]:
+    async def ask(
+        self, message: Message, *, number: Optional[int] = None, announce: Callable[[int], None] = lambda number: None
+    ) -> Dict[str, Any]:
         """Sends a message without its id, and returns what the answer has under `ok`.
 
         When the answer to a change is returned, `elements` has the change. Raises a Refused, Unknown, NotSent, Closed
@@ -293,8 +310,7 @@ class Room:
             raise self._error or Closed()
         loop = asyncio.get_running_loop()
         future: asyncio.Future[Answer] = loop.create_future()
-        asked = self._core.add(message, lambda told: None if future.done() else future.set_result(told),
-                               number)
+        asked = self._core.add(message, lambda reply: None if future.done() else future.set_result(reply), number)
         try:
             announce(asked.id)
         except BaseException:
@@ -303,16 +319,16 @@ class Room:
         timer = loop.call_later(self.timeout, self._expire, future) if self.timeout is not None else None
         self._send(self._core.send_more())
         try:
-            told = await future
+            reply = await future
         except BaseException:
             self._core.give_up(asked)
             raise
         finally:
             if timer:
                 timer.cancel()
-        if "no" in told:
-            raise self._error_of(told["no"])
-        answer: Dict[str, Any] = told["ok"]
+        if "no" in reply:
+            raise self._error_of(reply["no"])
+        answer: Dict[str, Any] = reply["ok"]
         return answer
 
     def _expire(self, future: asyncio.Future[Answer]) -> None:
@@ -342,13 +358,15 @@ class Room:
                     raise
         raise Error(f"the names of {TRIES} new elements were taken")
 
-    async def create_node(self, lat: Degrees, lon: Degrees, tags: Optional[Tags] = None, *,
-                          el: Optional[str] = None) -> str:
+    async def create_node(
+        self, lat: Degrees, lon: Degrees, tags: Optional[Tags] = None, *, el: Optional[str] = None
+    ) -> str:
         """Creates a node. Returns its name: a new one, unless you give `el`."""
         return await self._create("n", el, lambda name: actions.create_node(name, lat, lon, tags))
 
-    async def create_way(self, nodes: Iterable[Union[int, str]], tags: Optional[Tags] = None, *,
-                         el: Optional[str] = None) -> str:
+    async def create_way(
+        self, nodes: Iterable[Union[int, str]], tags: Optional[Tags] = None, *, el: Optional[str] = None
+    ) -> str:
         """Creates a way of nodes, by their names or ids. Returns its name: a new one, unless you give `el`."""
         ids = actions.node_ids(nodes)
         return await self._create("w", el, lambda name: actions.create_way(name, ids, tags))
@@ -424,13 +442,13 @@ class Room:
     async def undo(self, seq: Optional[int] = None) -> Undone:
         """Undoes your entry of this number, or your last one that is active. Raises Conflict if a later entry touched
         the same part of an element."""
-        told = await self.ask(actions.undo(seq))
-        return Undone(told["seq"], told.get("undid"))
+        reply = await self.ask(actions.undo(seq))
+        return Undone(reply["seq"], reply.get("undid"))
 
     async def redo(self) -> Redone:
         """Does the entry again that you undid last."""
-        told = await self.ask(actions.redo())
-        return Redone(told["seq"], told.get("redid"))
+        reply = await self.ask(actions.redo())
+        return Redone(reply["seq"], reply.get("redid"))
 
     async def get(self, el: str) -> Element:
         """An element as the server has it. Raises Absent if it is not there."""
@@ -439,13 +457,13 @@ class Room:
 
     async def map(self) -> Tuple[List[Element], int]:
         """The whole map as the server has it, and the number of its last entry."""
-        told = await self.ask(actions.map_of_room())
-        return told["map"], told["seq"]
+        reply = await self.ask(actions.map_of_room())
+        return reply["map"], reply["seq"]
 
     async def undos(self) -> Undos:
         """The entries that you can undo and redo."""
-        told = await self.ask(actions.undos())
-        return Undos(told["undos"], told["redo"])
+        reply = await self.ask(actions.undos())
+        return Undos(reply["undos"], reply["redo"])
 
 
 class Changes(AsyncIterator[Event]):
@@ -489,6 +507,9 @@ def socket_module() -> Any:
     except ModuleNotFoundError as fault:
         if fault.name != "aiohttp":
             raise
-        raise ModuleNotFoundError(f"{sys.executable} has no package aiohttp, which maproom needs (Debian has it as "
-                                  "python3-aiohttp, for /usr/bin/python3 only)", name="aiohttp") from fault
+        raise ModuleNotFoundError(
+            f"{sys.executable} has no package aiohttp, which maproom needs (Debian has it as "
+            "python3-aiohttp, for /usr/bin/python3 only)",
+            name="aiohttp",
+        ) from fault
     return sockets

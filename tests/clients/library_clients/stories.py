@@ -1,33 +1,34 @@
 """Stories that a program tells with the Python package: stories.py STORY URL. stories.js tells the same ones."""
+from __future__ import annotations
+
 import asyncio
 import json
-import os
 import sys
 import time
 
-sys.path.insert(0, os.path.join(os.path.dirname(os.path.abspath(__file__)), "../../../clients/python"))
-sys.dont_write_bytecode = True
 import maproom
+from collections.abc import Coroutine
+from typing import Any
 from maproom.core import compact
 from maproom.errors import error_of, short_words
 
 
-def say(*words):
+def say(*words: Any) -> None:
     """Prints a line at once."""
     print(*words, flush=True)
 
 
-def connect(url, **how):
+def connect(url: str, **how: Any) -> maproom.Room:
     """The room paris, for anna."""
     return maproom.connect(url, room="paris", name="anna", **how)
 
 
-def say_map(room):
+def say_map(room: maproom.Room) -> None:
     """Prints the mirror."""
     say(compact([room.elements[name] for name in sorted(room.elements)]))
 
 
-async def say_outcome(awaited):
+async def say_outcome(awaited: Coroutine[Any, Any, Any]) -> None:
     """Prints what came of a message."""
     try:
         say("done", compact(await awaited))
@@ -35,7 +36,7 @@ async def say_outcome(awaited):
         say(type(error).__name__, error)
 
 
-async def lost(url):
+async def lost(url: str) -> None:
     """A change is accepted, then a move whose answer is lost, and one that comes while there is no connection."""
     async with connect(url) as room:
         await say_outcome(room.create_node(1, "2", el="n-1"))
@@ -48,7 +49,7 @@ async def lost(url):
         say_map(room)
 
 
-async def lost_first(url):
+async def lost_first(url: str) -> None:
     """The answer to the very first change is lost."""
     async with connect(url) as room:
         await say_outcome(room.move("n1", 0.000001, 0))
@@ -56,7 +57,7 @@ async def lost_first(url):
         say_map(room)
 
 
-async def events(url):
+async def events(url: str) -> None:
     """Prints all changes until n9 is there, and then the map."""
     async with connect(url) as room:
         changes = room.changes()
@@ -68,7 +69,7 @@ async def events(url):
         say_map(room)
 
 
-async def leaving(url):
+async def leaving(url: str) -> None:
     """Leaves when the connection breaks."""
     async with connect(url) as room:
         moving = asyncio.ensure_future(say_outcome(room.move("n1", 0.000001, 0)))
@@ -80,10 +81,11 @@ async def leaving(url):
         say(room.state)
 
 
-async def listener(url):
+async def listener(url: str) -> None:
     """One reader fails; another one, and the room, go on."""
     async with connect(url) as room:
-        async def fails(changes):
+
+        async def fails(changes: maproom.Changes) -> None:
             async for change in changes:
                 raise RuntimeError(f"boom {change.seq}")
 
@@ -96,7 +98,7 @@ async def listener(url):
         say("change", (await changes.__anext__()).seq)
 
 
-async def opening(url):
+async def opening(url: str) -> None:
     """The server is silent: opening ends in time, and by a cancellation, and leaves nothing."""
     begun = time.monotonic()
     try:
@@ -112,7 +114,7 @@ async def opening(url):
     say("soon", time.monotonic() - begun < 5)
 
 
-async def names(url):
+async def names(url: str) -> None:
     """Some names of new elements are taken by somebody else."""
     async with connect(url) as room:
         made = await asyncio.gather(*(room.create_node(1, number) for number in range(6)))
@@ -120,7 +122,7 @@ async def names(url):
         await say_outcome(room.create_node(1, 2, el=made[0]))
 
 
-async def many(url):
+async def many(url: str) -> None:
     """A thousand moves at once, while connections break."""
     async with connect(url) as room:
         await room.create_node(1, 2, el="n-1")
@@ -129,7 +131,7 @@ async def many(url):
         say_map(room)
 
 
-async def silent(url):
+async def silent(url: str) -> None:
     """The server falls silent in the middle of a session, which has a heartbeat of some seconds or the default."""
     how = {"heartbeat": int(sys.argv[3])} if len(sys.argv) > 3 else {}
     async with connect(url, **how) as room:
@@ -140,7 +142,7 @@ async def silent(url):
         say_map(room)
 
 
-async def limits(url):
+async def limits(url: str) -> None:
     """A message is cancelled on its way, one gets no answer in time, and one waits when the room is closed."""
     async with connect(url, timeout=0.5) as room:
         try:
@@ -157,7 +159,7 @@ async def limits(url):
         await say_outcome(room.get("n1"))
 
 
-async def ends(url):
+async def ends(url: str) -> None:
     """The room is gone when the connection is made anew."""
     async with connect(url) as room:
         changes = room.changes()
@@ -170,7 +172,7 @@ async def ends(url):
         await say_outcome(room.get("n1"))
 
 
-async def late(url):
+async def late(url: str) -> None:
     """A reader that is too late gets one reset."""
     maproom.room.MOST_EVENTS = 5
     async with connect(url) as room:
@@ -179,10 +181,11 @@ async def late(url):
             await room.create_node(number, 2, el=f"n-{number + 1}")
         await room.delete("n-8")
         change = await changes.__anext__()
+        assert isinstance(change, maproom.Reset)
         say(type(change).__name__, change.restarted, [row.el for row in change.rows])
 
 
-async def built(url):
+async def built(url: str) -> None:
     """A move whose answer is lost, perhaps after an accepted change."""
     async with connect(url) as room:
         if len(sys.argv) > 3:
@@ -193,7 +196,7 @@ async def built(url):
         say_map(room)
 
 
-async def speed(url):
+async def speed(url: str) -> None:
     """Ten thousand changes. The last one waits for all others, so that it has no limit of its own."""
     async with connect(url, timeout=None) as room:
         begun = time.monotonic()
@@ -201,7 +204,7 @@ async def speed(url):
         say(len(room.elements), room.seq, f"{time.monotonic() - begun:.3f}")
 
 
-async def groups(url):
+async def groups(url: str) -> None:
     """A group is accepted as one entry, or refused with the position of an action."""
     make = maproom.actions
     async with connect(url) as room:
@@ -220,14 +223,21 @@ async def groups(url):
         say_map(room)
 
 
-async def groups_built(url):
+async def groups_built(url: str) -> None:
     """The same with the built program, and what only a whole room refuses. `unknown_do` is of one without groups."""
     make = maproom.actions
     async with connect(url) as room:
         first, second, way = (room.new_name(kind) for kind in "nnw")
         steps = [make.create_node(first, 1, 2), make.create_node(second, 1, 3), make.create_way(way, [first, second])]
-        for group in (steps, [make.retag(first, {"k": "v"}), make.delete(second)], [],
-                      [make.reverse(way), make.reverse(way)], [make.undo()], [make.create_way("w-9", [1, 0])]):
+        groups: list[list[dict[str, Any]]] = [
+            steps,
+            [make.retag(first, {"k": "v"}), make.delete(second)],
+            [],
+            [make.reverse(way), make.reverse(way)],
+            [make.undo()],
+            [make.create_way("w-9", [1, 0])],
+        ]
+        for group in groups:
             try:
                 say("done", await room.group(group))
             except maproom.Refused as error:
@@ -236,25 +246,41 @@ async def groups_built(url):
         say_map(room)
 
 
-async def words(_):
+async def words(_: str) -> None:
     """The words of each refusal on standard input."""
     for line in sys.stdin:
         error = error_of(json.loads(line), "bob")
+        assert isinstance(error, maproom.Refused)
         say(error.why, "|", error, "|", short_words(error), "|", error.element, "|", error.entry)
 
 
-async def messages(_):
+async def messages(_: tuple[None, None, None]) -> None:
     """A message of each function."""
     make = maproom.actions
     for message in (
-        make.create_node("n-1", 51.5, "-0.1", {"natural": "tree"}), make.create_node("n-1", -90, 1e-7),
-        make.create_way("w-1", ["n-1", 2]), make.create_relation("r-1", [("n-1", "label")]),
-        make.retag("n-1", {"ref": "7", "note": None}), make.move("n-1", 1, "-0.0000001"),
-        make.move(["n-1", "w-1"], 0.1, -180.5), make.reverse("w-1"), make.set_nodes("w-1", [1, "n-2"]),
-        make.set_members("r-1", []), make.delete("n-1"), make.purge("n-1"), make.split("w-1", 1, "w-2"),
-        make.join("w-1", "w-2"), make.merge("n-1", "n-2"), make.unglue("w-1", 0, "n-3"),
+        make.create_node("n-1", 51.5, "-0.1", {"natural": "tree"}),
+        make.create_node("n-1", -90, 1e-7),
+        make.create_way("w-1", ["n-1", 2]),
+        make.create_relation("r-1", [("n-1", "label")]),
+        make.retag("n-1", {"ref": "7", "note": None}),
+        make.move("n-1", 1, "-0.0000001"),
+        make.move(["n-1", "w-1"], 0.1, -180.5),
+        make.reverse("w-1"),
+        make.set_nodes("w-1", [1, "n-2"]),
+        make.set_members("r-1", []),
+        make.delete("n-1"),
+        make.purge("n-1"),
+        make.split("w-1", 1, "w-2"),
+        make.join("w-1", "w-2"),
+        make.merge("n-1", "n-2"),
+        make.unglue("w-1", 0, "n-3"),
         make.group([make.delete("n-1"), make.reverse("w-1")]),
-        make.undo(), make.undo(7), make.redo(), make.get("n-1"), make.map_of_room(), make.undos(),
+        make.undo(),
+        make.undo(7),
+        make.redo(),
+        make.get("n-1"),
+        make.map_of_room(),
+        make.undos(),
     ):
         say(compact(message))
     for wrong in (float("nan"), float("inf")):

@@ -1,11 +1,15 @@
 """Tests the server under clients that try to use up its memory or its descriptors, and with a standard error that is
 closed, that is full, or that nobody reads."""
+from __future__ import annotations
+
 import contextlib
 import functools
 import os
 import tempfile
 import threading
 import time
+from collections.abc import Iterator
+from typing import Any
 
 from lib.cases import case, case_if, each_case, given, want
 from lib.others import is_there
@@ -35,30 +39,30 @@ MEMORY = b'"no":{"why":"memory"}}'
 class StartedBy(Server):
     """A server that another command starts."""
 
-    def __init__(self, before, **how):
+    def __init__(self, before: list[str], **how: int) -> None:
         super().__init__(given.program, **{"patience": PATIENCE * given.slow, **how})
         self.before = before
 
-    def words(self, addr):
-        return [*self.before, *super().words(addr)]
+    def command(self, addr: str) -> list[str]:
+        return [*self.before, *super().command(addr)]
 
 
 @functools.lru_cache(maxsize=None)
-def can_be_limited():
+def can_be_limited() -> bool:
     """Whether the program runs in so little address space. One that is made with address checks does not."""
     return is_there(*LIMITED, given.program, "--version")
 
 
 class Attacker:
-    """A client that sends hostile messages until it has to end. `told` counts the replies."""
+    """A client that sends hostile messages until it has to end. `counts` has the numbers of replies and ends."""
 
-    def __init__(self, server, ends):
+    def __init__(self, server: StartedBy, ends: threading.Event) -> None:
         self.server, self.ends = server, ends
         self.frame = text_frame(HOSTILE)
-        self.told = {"memory": 0, "ended": 0}
-        self.fault = None
+        self.counts = {"memory": 0, "ended": 0}
+        self.fault: Exception | None = None
 
-    def run(self):
+    def run(self) -> None:
         """Attacks; a session that ends is begun again."""
         while not self.ends.is_set() and not self.fault:
             try:
@@ -70,11 +74,11 @@ class Attacker:
                         client.send_bytes(self.frame)
                         self.take(client)
             except (Gone, ConnectionError):
-                self.told["ended"] += 1
+                self.counts["ended"] += 1
             except (Broken, Late, AssertionError) as fault:
                 self.fault = fault
 
-    def take(self, client):
+    def take(self, client: Client) -> None:
         """Takes news, up to an answer or the end."""
         while True:
             opcode, payload = client.read()
@@ -84,51 +88,52 @@ class Attacker:
                 break
         if opcode != TEXT or not payload.endswith(MEMORY):
             raise Broken(f"a hostile message is answered {payload[:100]!r}")
-        self.told["memory"] += 1
+        self.counts["memory"] += 1
 
 
 class Mapper:
     """A mapper who creates one node after another. A change without an answer, or that is answered `memory`, is sent
     again under its id, after a new hello if the session ended. `again` counts how often."""
 
-    def __init__(self, server):
+    def __init__(self, server: StartedBy) -> None:
         self.server, self.again = server, 0
-        self.client, self.session = None, None
-        self.begin()
+        self.client, self.session = self.begin()
 
-    def create(self, number):
+    def create(self, number: int) -> None:
         """Creates the node of a number, which makes the entry before this number."""
         message, seq = {"id": number, "do": "create", "el": f"n{number}", "lat": "1", "lon": "2"}, number - 1
         while True:
+            reply: dict[str, Any] | None
             try:
                 reply = self.session.ask(message)
             except (Broken, Gone, ConnectionError):
                 reply = None
-                self.begin()
+                self.client.drop()
+                self.client, self.session = self.begin()
             if reply in ({"id": number, "ok": {"seq": seq}}, {"id": number, "no": {"seq": seq, "why": "repeat"}}):
                 return
             if reply is not None:
                 want(reply, {"id": reply["id"], "no": {"why": "memory"}})
             self.again += 1
 
-    def begin(self):
-        """Begins a session, as often as that takes."""
+    def begin(self) -> tuple[Client, Session]:
+        """Begins a session, and tries again as often as that takes."""
         deadline = time.monotonic() + self.server.patience
         while True:
-            if self.client:
-                self.client.drop()
+            client = None
             try:
-                self.client = Client(self.server.port, self.server.patience)
-                self.session = Session(self.client.shake_hands(), "anna", "paris")
-                return
+                client = Client(self.server.port, self.server.patience)
+                return client, Session(client.shake_hands(), "anna", "paris")
             except (Broken, Gone, ConnectionError):
+                if client:
+                    client.drop()
                 if time.monotonic() > deadline:
                     raise
                 time.sleep(0.05)
 
 
 @case_if(can_be_limited)
-def messages_that_want_all_memory():
+def messages_that_want_all_memory() -> None:
     """Three clients send messages of 8 MB that would take 570 MB each, and the server has 560 MB of addresses. It
     answers `memory`, or ends the session, and never ends itself. Meanwhile it accepts each change of a mapper once."""
     with StartedBy(LIMITED, workers=ATTACKERS + 1, sessions=1_000_000) as server:
@@ -146,10 +151,12 @@ def messages_that_want_all_memory():
             ends.set()
         for thread in threads:
             thread.join(server.patience)
-        told = [attacker.told for attacker in attackers]
-        print(f"messages that want all memory: {number - 1} changes accepted, {mapper.again} sent again, beside {told}")
+        reported = [attacker.counts for attacker in attackers]
+        print(
+            f"messages that want all memory: {number - 1} changes accepted, {mapper.again} sent again, beside {reported}"
+        )
         want([attacker.fault for attacker in attackers], [None] * ATTACKERS)
-        want((server.process.poll(), all(sum(each.values()) for each in told), number > 10), (None, True, True))
+        want((server.process.poll(), all(sum(each.values()) for each in reported), number > 10), (None, True, True))
         mapper.session.follow(number - 1)
         want(len(mapper.session.rows), number - 1)
         mapper.session.leave()
@@ -160,20 +167,20 @@ FEW, MANY, MOST_FAILED = 10, 12, 25
 
 
 @case
-def few_descriptors():
+def few_descriptors() -> None:
     """A server with too few descriptors waits after each accept that fails, so it uses up few sessions. When clients
     leave, it serves the next one."""
     with StartedBy(["sh", "-c", f'ulimit -n {FEW}; exec "$@"', "sh"], workers=MANY, sessions=1_000_000) as server:
         clients = [server.connect() for _ in range(MANY)]
         time.sleep(1)
-        failed = server.told(server.errors).count(" end fault")
+        failed = server.content(server.errors).count(" end fault")
         want(1 <= failed <= MOST_FAILED, True, f"{failed} accepts failed in a second")
         for client in clients:
             client.drop()
         serve_next(server)
 
 
-def two_sessions(server):
+def two_sessions(server: StartedBy) -> None:
     """Two clients share a room, and leave; then a third one comes."""
     anna, bob = server.client(), server.client()
     talk(anna, hello("anna"), welcome(0))
@@ -183,21 +190,21 @@ def two_sessions(server):
     leave(bob)
     serve_next(server, "zoe", 1, node())
     want(server.process.wait(server.patience), 0)
-    want(server.told(server.output), "listening\nparis 1\n")
+    want(server.content(server.output), "listening\nparis 1\n")
 
 
-def without_a_log(redirection):
+def without_a_log(redirection: str) -> None:
     """A server that cannot write to standard error serves its clients, and sends them nothing about its log."""
     with StartedBy(["sh", "-c", f'exec "$@" {redirection}', "sh"], sessions=3) as server:
         two_sessions(server)
-        want(server.told(server.errors), "")
+        want(server.content(server.errors), "")
 
 
 each_case(without_a_log, {"a_closed_standard_error": "2>&-", "a_full_standard_error": "2>/dev/full"})
 
 
 @contextlib.contextmanager
-def full_pipe():
+def full_pipe() -> Iterator[tuple[str, int]]:
     """A pipe that has as much as it takes: its path, and a descriptor to read from it."""
     with tempfile.TemporaryDirectory(prefix="maproom-pipe-") as folder:
         path = f"{folder}/log"
@@ -213,7 +220,7 @@ def full_pipe():
             os.close(pipe)
 
 
-def read_lines(pipe, seconds, count):
+def read_lines(pipe: int, seconds: float, count: int) -> str:
     """Reads a pipe until `count` lines came, or for `seconds` seconds. Returns them."""
     text, deadline = b"", time.monotonic() + seconds
     while text.count(b"\n") < count and time.monotonic() < deadline:
@@ -225,7 +232,7 @@ def read_lines(pipe, seconds, count):
 
 
 @case
-def a_standard_error_that_nobody_reads():
+def a_standard_error_that_nobody_reads() -> None:
     """If the pipe of the log is full, the server waits until somebody reads it. Then it serves the waiting clients, and
     the log has each line."""
     with full_pipe() as (path, pipe), StartedBy(["sh", "-c", 'exec "$@" 2>"$0"', path], sessions=3) as server:

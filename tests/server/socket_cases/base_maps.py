@@ -1,4 +1,6 @@
 """Tests the server with rooms that begin with a map: the welcomes of clients, and when the program reads the map."""
+from __future__ import annotations
+
 import contextlib
 import json
 import os
@@ -9,10 +11,27 @@ import tempfile
 import time
 
 from lib.cases import case, each_case, given, want
-from lib.serving import free_port
-from lib.talk import PATIENCE, SILENCE, be_closed, create, finish, hear, hello, leave, news, node, ok, refused
-from lib.talk import serve_next, serving, talk, welcome
+from lib.serving import Session, free_port
+from lib.talk import (
+    PATIENCE,
+    SILENCE,
+    be_closed,
+    create,
+    finish,
+    hear,
+    hello,
+    leave,
+    news,
+    node,
+    ok,
+    refused,
+    serve_next,
+    serving,
+    talk,
+    welcome,
+)
 from lib.websocket import BINARY
+from lib.programs import Piped
 
 from .many_clients import at_the_same_time, edit
 from .one_room import BAD_NAME, CANNOT_LISTEN, TOO_MANY, TWICE, connected
@@ -33,7 +52,7 @@ READ_FAILED = (1, "", "maproom: read failed\n")
 
 
 @case
-def two_sessions_on_a_base():
+def two_sessions_on_a_base() -> None:
     """Both welcomes have the base. Both clients get each change, and nobody can undo anything of the base."""
     with serving(sessions=2, base=BASE) as server:
         anna = server.client()
@@ -61,7 +80,7 @@ def two_sessions_on_a_base():
 
 
 @case
-def rooms_apart_on_one_base():
+def rooms_apart_on_one_base() -> None:
     """Each room begins with the map, and what is done in one is not done in the others."""
     with serving("rome", "paris", "oslo", sessions=4, base=BASE) as server:
         anna, other = server.client(), server.client()
@@ -84,7 +103,7 @@ def rooms_apart_on_one_base():
 
 
 @case
-def a_full_room_on_a_base():
+def a_full_room_on_a_base() -> None:
     """A base uses up no entries of a room."""
     with serving(limit=1, base=BASE) as server:
         anna = server.client()
@@ -96,11 +115,15 @@ def a_full_room_on_a_base():
 
 
 @case
-def what_stands_behind_a_base():
+def what_stands_behind_a_base() -> None:
     """The server does not read text after the base as messages. A base may lack its line feed, and its map may be
     empty."""
-    for base in (BASE + f"anna {create(1)}\n" + BASE, BASE + "x" * 200_000, BASE.removesuffix("\n"),
-                 BASE.replace("\n", "\r\n")):
+    for base in (
+        BASE + f"anna {create(1)}\n" + BASE,
+        BASE + "x" * 200_000,
+        BASE.removesuffix("\n"),
+        BASE.replace("\n", "\r\n"),
+    ):
         with serving(base=base) as server:
             serve_next(server, "zoe", 0, N1, N2, W1)
             finish(server, ["paris 0"], "left")
@@ -110,7 +133,7 @@ def what_stands_behind_a_base():
 
 
 @case
-def what_is_not_a_base():
+def what_is_not_a_base() -> None:
     """Without --base the server reads nothing from standard input."""
     with serving() as server:
         server.input.write(b"anna\n")
@@ -122,46 +145,47 @@ class Begun:
     """A program that has to serve, with a pipe as its standard input, which stays open. The end of its block ends
     it."""
 
-    def __init__(self, *rooms, addr="127.0.0.1:0", base=True):
-        words = ["serve", "--addr", addr, "--workers", "1", "--sessions", "1", *(["--base"] if base else []), *rooms]
+    def __init__(self, *rooms: str, addr: str = "127.0.0.1:0", base: bool = True) -> None:
+        options = ["serve", "--addr", addr, "--workers", "1", "--sessions", "1", *(["--base"] if base else []), *rooms]
         self.kept = contextlib.ExitStack()
         self.output, self.errors = (self.kept.enter_context(tempfile.TemporaryFile()) for _ in range(2))
-        streams = {"stdin": subprocess.PIPE, "stdout": self.output, "stderr": self.errors, "bufsize": 0}
-        self.process = subprocess.Popen([given.program, *words], **streams)
+        pipe, command = subprocess.PIPE, [given.program, *options]
+        self.process = Piped(command, stdin=pipe, stdout=self.output, stderr=self.errors, bufsize=0)
 
-    def __enter__(self):
+    def __enter__(self) -> Begun:
         return self
 
-    def __exit__(self, *_):
+    def __exit__(self, *_: object) -> None:
         self.process.kill()
         self.process.wait()
         self.process.stdin.close()
         self.kept.close()
 
-    def say(self, text):
+    def say(self, text: str) -> Begun:
         """Writes to its standard input, if the program has not ended. Returns itself."""
         with contextlib.suppress(BrokenPipeError):
             self.process.stdin.write(text.encode())
         return self
 
-    def told(self):
+    def printed(self) -> tuple[str, str]:
         """What the program has printed so far, to standard output and to standard error."""
-        return tuple(os.pread(file.fileno(), 1 << 20, 0).decode() for file in (self.output, self.errors))
+        output, errors = (os.pread(file.fileno(), 1 << 20, 0).decode() for file in (self.output, self.errors))
+        return output, errors
 
-    def ended(self):
+    def ended(self) -> tuple[int, str, str]:
         """Waits for the program's end while standard input stays open. Returns the status and the output."""
-        return self.process.wait(PATIENCE * given.slow), *self.told()
+        return self.process.wait(PATIENCE * given.slow), *self.printed()
 
 
 @case
-def an_input_that_stays_open():
+def an_input_that_stays_open() -> None:
     """The program opens the rooms when the line is there, even if the input goes on. It serves nobody before that."""
     addr = f"127.0.0.1:{free_port()}"
     with Begun("paris", addr=addr) as program:
         for part in (BASE[:40], BASE[40:-1]):
             program.say(part)
             time.sleep(SILENCE)
-            want((program.process.poll(), program.told()), (None, ("", "")))
+            want((program.process.poll(), program.printed()), (None, ("", "")))
             with socket.socket() as probe:
                 want(probe.connect_ex(("127.0.0.1", int(addr.rpartition(":")[2]))) != 0, True)
         program.say(BASE[-1:])
@@ -172,7 +196,7 @@ def an_input_that_stays_open():
         want((status, printed), (0, "listening\nparis 0\n"))
 
 
-def run(text, *rooms, addr="127.0.0.1:0"):
+def run(text: str, *rooms: str, addr: str = "127.0.0.1:0") -> tuple[int, str, str]:
     """The result of a program that has to serve these rooms on the base of a text."""
     with Begun(*rooms, addr=addr).say(text) as program:
         program.process.stdin.close()
@@ -180,7 +204,7 @@ def run(text, *rooms, addr="127.0.0.1:0"):
 
 
 @case
-def bad_bases():
+def bad_bases() -> None:
     """If the first line is no welcome, or its map is not sound, the server does not listen and prints nothing."""
     others = ("{}\n", f"anna {create(1)}\n", refused(1, '"why":"full"') + "\n")
     for text in ("", "\n", "\n" + BASE, BASE[:-2], BASE[:-3] + "\n" + BASE, BASE[:-1] + BASE, *others):
@@ -193,7 +217,7 @@ def bad_bases():
 
 
 @case
-def faults_in_their_order():
+def faults_in_their_order() -> None:
     """The program checks the names before it reads anything, so it does not wait for the input. Then it checks the
     base, and then the address."""
     for rooms, wanted in [
@@ -221,13 +245,13 @@ def faults_in_their_order():
 
 
 @case
-def an_input_that_cannot_be_read():
+def an_input_that_cannot_be_read() -> None:
     """A folder or nothing as standard input, if a base is asked for. Without --base the server reads neither."""
-    words = [given.program, "serve", "--addr", "nowhere", "--workers", "1", "--sessions", "1"]
+    command = [given.program, "serve", "--addr", "nowhere", "--workers", "1", "--sessions", "1"]
 
-    def run_on(stdin, *more, shell=()):
+    def run_on(stdin: int | None, *more: str, shell: list[str] | tuple[()] = ()) -> tuple[int, str, str]:
         how = {"capture_output": True, "timeout": PATIENCE * given.slow}
-        ran = subprocess.run([*shell, *words, *more], stdin=stdin, check=False, **how)
+        ran = subprocess.run([*shell, *command, *more], stdin=stdin, check=False, **how)
         return ran.returncode, ran.stdout.decode(), ran.stderr.decode()
 
     folder = os.open(tempfile.gettempdir(), os.O_RDONLY)
@@ -241,12 +265,14 @@ def an_input_that_cannot_be_read():
 
 
 @case
-def many_rooms_on_a_large_base():
+def many_rooms_on_a_large_base() -> None:
     """Each of sixteen rooms begins with five hundred elements, the first as the last."""
-    cafe = lambda number: f'"lat":"51.5000000","lon":"-0.1000000","tags":{{"name":"Café {number}"}}'
-    path = lambda number: f'"nodes":[{number},{number + 1},{number + 2}],"tags":{{"highway":"path"}}'
-    rows = [f'{{"el":"n{number}",{cafe(number)}}}' for number in range(1, 451)]
-    rows += [f'{{"el":"w{number}",{path(number)}}}' for number in range(1, 51)]
+    rows = []
+    for number in range(1, 451):
+        rows.append(f'{{"el":"n{number}","lat":"51.5000000","lon":"-0.1000000","tags":{{"name":"Café {number}"}}}}')
+    for number in range(1, 51):
+        nodes = f"{number},{number + 1},{number + 2}"
+        rows.append(f'{{"el":"w{number}","nodes":[{nodes}],"tags":{{"highway":"path"}}}}')
     rooms = [f"room_{number}" for number in range(16)]
     with serving(*rooms, sessions=16, workers=2, base=welcome(5, *rows) + "\n") as server:
         for room in rooms:
@@ -258,14 +284,16 @@ def many_rooms_on_a_large_base():
 
 # A map of some of the elements that random edits are about.
 MIRRORED = [
-    *({"el": f"n{number}", "lat": "1.0000000", "lon": "2.0000000", "tags": {"name": "Café"}}
-      for number in (-3, -2, -1, 1, 2)),
+    *(
+        {"el": f"n{number}", "lat": "1.0000000", "lon": "2.0000000", "tags": {"name": "Café"}}
+        for number in (-3, -2, -1, 1, 2)
+    ),
     *({"el": f"w{number}", "nodes": [-3, 1, number], "tags": {"a": "v"}} for number in (1, 2)),
     {"el": "r1", "members": [["r1", ""], ["w1", "outer"], ["n-1", ""]], "tags": {}},
 ]
 
 
-def mirrors_on_a_base(seed):
+def mirrors_on_a_base(seed: str) -> None:
     """Four edit at random at the same time, from different moments on. From their welcomes on all follow the room's
     map."""
     base = json.dumps({"id": 1, "ok": {"map": MIRRORED, "seq": 3}}) + "\n"
@@ -273,7 +301,7 @@ def mirrors_on_a_base(seed):
         first = server.session("zoe")
         want((first.seq, list(first.rows.values())), (0, MIRRORED))
 
-        def begin_and_edit(at):
+        def begin_and_edit(at: int) -> tuple[Session, list[int]]:
             """A session that edits."""
             chance = random.Random(f"{seed} {at}")
             time.sleep(chance.random() * 0.2)
@@ -281,19 +309,19 @@ def mirrors_on_a_base(seed):
             return session, edit(session, chance)
 
         done = at_the_same_time(3, begin_and_edit)
-        front = sum(len(accepted) for _, accepted in done)
-        want(sorted(seq for _, accepted in done for seq in accepted), list(range(1, front + 1)))
+        entry_count = sum(len(accepted) for _, accepted in done)
+        want(sorted(seq for _, accepted in done for seq in accepted), list(range(1, entry_count + 1)))
         sessions = [first, *(session for session, _ in done)]
         for session in sessions:
-            session.follow(front)
-            told = session.ask({"id": 1, "do": "map"})["ok"]
-            want((session.seq, told["seq"], session.rows), (front, front, session.rows_of(told)))
+            session.follow(entry_count)
+            reported = session.ask({"id": 1, "do": "map"})["ok"]
+            want((session.seq, reported["seq"], session.rows), (entry_count, entry_count, session.rows_of(reported)))
         for session in sessions:
             session.leave()
         last = server.session("last")
-        want((last.seq, last.rows), (front, first.rows))
+        want((last.seq, last.rows), (entry_count, first.rows))
         last.leave()
-        finish(server, [f"paris {front}"], *["left"] * 5)
+        finish(server, [f"paris {entry_count}"], *["left"] * 5)
 
 
 each_case(mirrors_on_a_base, {f"mirrors on a base, the {seed} time": seed for seed in ("first", "second")})

@@ -1,23 +1,58 @@
 """Tests the server against RFC 6455: forbidden frames, slow and broken streams, and messages in pieces."""
+from __future__ import annotations
+
 import contextlib
 import itertools
+from collections.abc import Callable, Iterator
+from typing import Any
 
 from lib.cases import case, each_case, want
-from lib.talk import SILENCE, be_closed, create, finish, hear, hello, leave, news, node, ok, refused, serve_next
-from lib.talk import serving, talk, welcome
-from lib.websocket import BINARY, CLOSE, CONTINUATION, PING, PONG, TEXT, Gone
-from lib.websocket import close_payload, frame, head_of_frame, head_of_request, make_key, masked, text_frame
+from lib.talk import (
+    SILENCE,
+    be_closed,
+    create,
+    finish,
+    hear,
+    hello,
+    leave,
+    news,
+    node,
+    ok,
+    refused,
+    serve_next,
+    serving,
+    talk,
+    welcome,
+)
+from lib.websocket import (
+    BINARY,
+    CLOSE,
+    CONTINUATION,
+    PING,
+    PONG,
+    TEXT,
+    Client,
+    Gone,
+    close_payload,
+    frame,
+    head_of_frame,
+    head_of_request,
+    make_key,
+    masked,
+    text_frame,
+)
+from lib.serving import Server
 
 # The most that a frame may hold, and a message in several frames.
 MOST, MOST_OF_MESSAGE = 16 << 20, 64 << 20
 
 
-def too_long(opcode, length=MOST + 1):
+def too_long(opcode: int, length: int = MOST + 1) -> bytes:
     """The head of a frame that holds too much."""
     return head_of_frame(opcode, length, mask=b"mask")
 
 
-def begun(payload=b"{"):
+def begun(payload: bytes = b"{") -> bytes:
     """The first fragment of a text."""
     return frame(TEXT, payload, last=False)
 
@@ -59,7 +94,7 @@ BAD_FRAMES = {
 }
 
 
-def bad_frame(data):
+def bad_frame(data: bytes) -> None:
     """These bytes end a session as a fault, after its hello and before it."""
     with serving(workers=1, sessions=4) as server:
         for phase in (after_the_hello, before_the_hello):
@@ -71,7 +106,7 @@ def bad_frame(data):
 
 
 @case
-def a_fragment_too_many():
+def a_fragment_too_many() -> None:
     """A fragment comes after the last fragment of a message. The server answers the message, and the session ends as a
     fault."""
     with serving(workers=1, sessions=2) as server:
@@ -84,7 +119,7 @@ def a_fragment_too_many():
 
 
 @case
-def codes_that_are_none():
+def codes_that_are_none() -> None:
     """A close with a code that must not be sent ends the session, and it is left open how."""
     codes = (0, 999, 1004, 1005, 1006, 1015, 5000, 65535)
     with serving(workers=1, sessions=2 * len(codes)) as server:
@@ -114,7 +149,7 @@ BAD_HEADS = {
 }
 
 
-def bad_head(data):
+def bad_head(data: bytes) -> None:
     """These bytes, in the place of a request, end a session as a fault."""
     with serving(workers=1, sessions=2) as server:
         anna = server.connect()
@@ -125,10 +160,10 @@ def bad_head(data):
 
 
 @case
-def other_heads():
+def other_heads() -> None:
     """The server serves each path, also if the head has more lines than needed. It takes no offered extension or
     protocol."""
-    heads = (
+    heads: tuple[dict[str, Any], ...] = (
         {"first": "GET /any/path?room=paris HTTP/1.1"},
         {"connection": "keep-alive, Upgrade", "upgrade": "WebSocket"},
         {"origin": "http://maproom.test", "user_agent": "x" * 1000, "cookie": "a=b"},
@@ -145,63 +180,63 @@ def other_heads():
 # The phases of a session. Each function returns a client in this phase.
 
 
-def before_the_head(server):
+def before_the_head(server: Server) -> Client:
     """Connected, and nothing sent."""
     return server.connect()
 
 
-def in_the_head(server):
+def in_the_head(server: Server) -> Client:
     """With half of the request sent."""
     client = server.connect()
     head = head_of_request(make_key())
     return half_sent(client, head[: len(head) // 2])
 
 
-def before_the_hello(server):
+def before_the_hello(server: Server) -> Client:
     """With hands shaken."""
     return server.client()
 
 
-def after_the_hello(server):
+def after_the_hello(server: Server) -> Client:
     """With its welcome."""
     client = server.client()
     talk(client, hello("anna"), welcome(0))
     return client
 
 
-def in_a_frame(server):
+def in_a_frame(server: Server) -> Client:
     """With half of a message sent."""
     message = text_frame(create(2))
     return half_sent(after_the_hello(server), message[: len(message) // 2])
 
 
-def in_the_head_of_a_frame(server):
+def in_the_head_of_a_frame(server: Server) -> Client:
     """With a part of a length sent."""
     return half_sent(after_the_hello(server), head_of_frame(TEXT, 1000, mask=b"mask")[:3])
 
 
-def in_a_message(server):
+def in_a_message(server: Server) -> Client:
     """With one fragment of a message sent."""
     return half_sent(after_the_hello(server), begun(create(2)[:20].encode()))
 
 
-def in_a_frame_of_the_most(server):
+def in_a_frame_of_the_most(server: Server) -> Client:
     """With a part of the longest frame sent, which is waited for."""
     return half_sent(after_the_hello(server), head_of_frame(TEXT, MOST, mask=b"mask") + b"x" * 1000)
 
 
-def half_sent(client, data):
+def half_sent(client: Client, data: bytes) -> Client:
     """Sends what is not the whole, and nothing comes for it."""
     client.send_bytes(data)
     want(client.is_quiet(SILENCE), True)
     return client
 
 
-PHASES = (before_the_head, in_the_head, before_the_hello, after_the_hello, in_the_head_of_a_frame, in_a_frame)
-PHASES += (in_a_message, in_a_frame_of_the_most)
+PHASES = [before_the_head, in_the_head, before_the_hello, after_the_hello, in_the_head_of_a_frame, in_a_frame]
+PHASES += [in_a_message, in_a_frame_of_the_most]
 
 
-def reset(phase):
+def reset(phase: Callable[..., Any]) -> None:
     """The connection is reset."""
     with serving(workers=1, sessions=2) as server:
         phase(server).reset()
@@ -209,7 +244,7 @@ def reset(phase):
         finish(server, ["paris 0"], "fault", "left")
 
 
-def end(phase):
+def end(phase: Callable[..., Any]) -> None:
     """The stream ends without a close, and nothing more comes back."""
     with serving(workers=1, sessions=2) as server:
         client = phase(server)
@@ -219,7 +254,7 @@ def end(phase):
         finish(server, ["paris 0"], "fault", "left")
 
 
-def silence(phase):
+def silence(phase: Callable[..., Any]) -> None:
     """The client sends nothing more. Another worker serves the clients after it."""
     with serving(workers=2, sessions=4) as server:
         client = phase(server)
@@ -237,7 +272,7 @@ for how in (reset, end, silence):
 
 
 @case
-def a_head_in_pieces():
+def a_head_in_pieces() -> None:
     """Heads in single bytes, and in larger pieces whose pauses are longer than a server waits for more."""
     ways = ((1, 0.04), (8, 0.08), (100, 2 * SILENCE))
     with serving(workers=1, sessions=len(ways)) as server:
@@ -249,7 +284,7 @@ def a_head_in_pieces():
 
 
 @case
-def a_frame_in_pieces():
+def a_frame_in_pieces() -> None:
     """A message whose frame comes in single bytes is answered, and between them come news of the other client's."""
     with serving(sessions=2) as server:
         anna, bob = server.client(), server.client()
@@ -268,7 +303,7 @@ def a_frame_in_pieces():
 
 
 @case
-def many_in_one_piece():
+def many_in_one_piece() -> None:
     """Messages that come together are answered in their order, each with its news right after the reply."""
     numbers = range(2, 52)
     with serving() as server:
@@ -283,7 +318,7 @@ def many_in_one_piece():
 
 
 @case
-def pings():
+def pings() -> None:
     """A ping is answered by a pong with what it held, before the hello and after it, and counts as nothing else."""
     with serving() as server:
         anna = server.client()
@@ -302,7 +337,7 @@ def pings():
 
 
 @case
-def fragments():
+def fragments() -> None:
     """A text in fragments, one of them empty and one ending within a character, is one message."""
     tags = '{"name":"Café 東京"}'
     text = f'{{"id":2,"do":"retag","el":"n-1","tags":{tags}}}'.encode()
@@ -323,7 +358,7 @@ def fragments():
 
 
 @case
-def a_ping_between_fragments():
+def a_ping_between_fragments() -> None:
     """The server answers the ping as well as the text. A binary message may come in fragments, too."""
     with serving() as server:
         anna = after_the_hello(server)
@@ -336,7 +371,7 @@ def a_ping_between_fragments():
         finish(server, ["paris 0"], "binary")
 
 
-def in_frames_of_the_most(text):
+def in_frames_of_the_most(text: bytes) -> Iterator[bytes]:
     """The bytes of a text in frames of which all but the last are the longest. The mask changes nothing."""
     for start in range(0, len(text), MOST):
         part, is_last = text[start : start + MOST], start + MOST >= len(text)
@@ -344,7 +379,7 @@ def in_frames_of_the_most(text):
 
 
 @case
-def a_message_over_the_most():
+def a_message_over_the_most() -> None:
     """A message of 64 MiB is read. With one more byte it ends the session as a fault."""
     with serving(workers=1, sessions=3) as server:
         for length in (MOST_OF_MESSAGE, MOST_OF_MESSAGE + 1):
@@ -363,7 +398,7 @@ def a_message_over_the_most():
 
 
 @case
-def a_long_text():
+def a_long_text() -> None:
     """A text of a megabyte is read."""
     with serving() as server:
         anna = after_the_hello(server)
@@ -373,7 +408,7 @@ def a_long_text():
 
 
 @case
-def closes():
+def closes() -> None:
     """A close is answered with its code, or without one, after the hello and before it."""
     cases = list(itertools.product((1000, 1001, 1003, 1011, 3000, 4999, None), (after_the_hello, before_the_hello)))
     with serving(workers=1, sessions=len(cases)) as server:
@@ -383,7 +418,7 @@ def closes():
 
 
 @case
-def closes_with_more():
+def closes_with_more() -> None:
     """A close may give a reason. The server does not read what comes after it."""
     with serving(workers=1, sessions=2) as server:
         for more in ({"reason": "Tschüß".encode()}, {"reason": b""}):
@@ -395,7 +430,7 @@ def closes_with_more():
 
 
 @case
-def binaries():
+def binaries() -> None:
     """A binary message closes the session with 1003, before the hello and after it, also if the client does not answer
     the close. The server does not read what comes after it."""
     cases = list(itertools.product((after_the_hello, before_the_hello), (b"", b"\x01\x02"), (True, False)))

@@ -1,21 +1,37 @@
 """Tests the server of part_lines, which controls two things that `maproom serve` leaves to chance or to its limit: a
 message that waits, and sessions that read few messages."""
+from __future__ import annotations
+
 from lib.cases import case_if, each_case, given, want
-from lib.talk import SILENCE, be_closed, create, finish, hear, hello, leave, news, node, ok, refused, serving_parts
-from lib.talk import talk, welcome
+from lib.talk import (
+    SILENCE,
+    be_closed,
+    create,
+    finish,
+    hear,
+    hello,
+    leave,
+    news,
+    node,
+    ok,
+    refused,
+    serving_parts,
+    talk,
+    welcome,
+)
 from lib.websocket import text_frame
 
 # How many messages a session reads at most.
 FEW = 20
 
 
-def has_parts():
+def has_parts() -> bool:
     """Whether part_lines is there."""
     return given.parts is not None
 
 
 @case_if(has_parts)
-def a_held_message():
+def a_held_message() -> None:
     """An undo is held back until a change of another session was answered: both are served at the same time. So the
     undo meets that change, and the news of the change follow its reply."""
     with serving_parts(10_000, sessions=2, is_held=True) as server:
@@ -34,7 +50,7 @@ def a_held_message():
         finish(server, ["paris 2"], "left", "left")
 
 
-def as_many_messages_as_may_be(most):
+def as_many_messages_as_may_be(most: int) -> None:
     """A client that says one message more than a session reads gets a close with 1000 in the place of the last reply.
     A wait in which nothing came counts as a message, so a client may be answered less; but one of several is not."""
     clients, numbers = range(5), range(2, most + 2)
@@ -59,7 +75,7 @@ each_case(as_many_messages_as_may_be, {"a_hello_alone": 1, "as_many_messages_as_
 
 
 @case_if(has_parts)
-def as_many_waits_as_may_be():
+def as_many_waits_as_may_be() -> None:
     """The server closes a silent client with 1000 after as many waits as it may read messages. A client that never
     shakes hands gets nothing."""
     with serving_parts(FEW, workers=1, sessions=3) as server:

@@ -1,26 +1,48 @@
 """Tests the sessions of the server, text by text, and what the program prints, logs and refuses."""
+from __future__ import annotations
+
 import functools
 import json
 import signal
 import socket
 import subprocess
 import time
+from collections.abc import Callable
+from typing import Any
 
 from lib import texts
 from lib.cases import TOP, case, case_if, each_case, given, want
 from lib.messages import GREATEST_NUMBER
 from lib.programs import run_soon
-from lib.serving import free_port
-from lib.talk import GONE, PATIENCE, SILENCE, be_closed, create, finish, hear, hello, leave, news, node, ok, refused
-from lib.talk import serve_next, serving, talk, welcome
+from lib.serving import Server, free_port
+from lib.talk import (
+    GONE,
+    PATIENCE,
+    SILENCE,
+    be_closed,
+    create,
+    finish,
+    hear,
+    hello,
+    leave,
+    news,
+    node,
+    ok,
+    refused,
+    serve_next,
+    serving,
+    talk,
+    welcome,
+)
 from lib.websocket import BINARY, Client, head_of_request, make_key
+from lib.texts import Text
 
 # The page that has the sessions of two clients.
 PAGE = f"{TOP}/docs/CLIENT.md"
 
 
 @case
-def two_sessions():
+def two_sessions() -> None:
     """Both clients get each change, and an undo conflicts with later changes of the other client."""
     with serving(sessions=2) as server:
         anna = server.client()
@@ -41,7 +63,7 @@ def two_sessions():
 
 
 @case
-def an_undo_is_told():
+def an_undo_is_told() -> None:
     """The news of an undo have what was put back, those of a redo what was done again."""
     with serving(sessions=2) as server:
         anna, bob = server.client(), server.client()
@@ -59,7 +81,7 @@ def an_undo_is_told():
 
 
 @case
-def before_and_after_a_hello():
+def before_and_after_a_hello() -> None:
     """Before a hello that names an existing room, the server does and sends nothing. It refuses a second hello."""
     with serving(sessions=2) as server:
         anna, bob = server.client(), server.client()
@@ -80,7 +102,7 @@ def before_and_after_a_hello():
 
 
 @case
-def two_at_once():
+def two_at_once() -> None:
     """A second session is served while the first is silent. Then the first gets the news of the second."""
     with serving(sessions=2) as server:
         anna = server.client()
@@ -95,7 +117,7 @@ def two_at_once():
 
 
 @case
-def a_session_waits_for_a_worker():
+def a_session_waits_for_a_worker() -> None:
     """If each worker has a session, the next session waits, and is served when a session has ended."""
     with serving(workers=1, sessions=2) as server:
         anna = server.client()
@@ -112,7 +134,7 @@ def a_session_waits_for_a_worker():
 
 
 @case
-def rooms_apart():
+def rooms_apart() -> None:
     """Clients of two rooms know nothing of each other, not even under one name and one id."""
     with serving("rome", "paris", sessions=2) as server:
         anna, other = server.client(), server.client()
@@ -131,7 +153,7 @@ def rooms_apart():
 
 
 @case
-def one_name_twice():
+def one_name_twice() -> None:
     """Two clients under one author's name share what can be undone and redone, and the ids that are spent."""
     with serving(sessions=2) as server:
         one, other = server.client(), server.client()
@@ -152,7 +174,7 @@ def one_name_twice():
 
 
 @case
-def sent_again():
+def sent_again() -> None:
     """A change whose connection was reset is sent again in a new session under its id, and was done once."""
     with serving(sessions=3) as server:
         anna = server.client()
@@ -168,7 +190,7 @@ def sent_again():
 
 
 @case
-def sent_again_unanswered():
+def sent_again_unanswered() -> None:
     """The same if the reset comes at any moment after the change was sent: the change is never done twice."""
     count = 24
     with serving(sessions=2 * count + 1) as server:
@@ -192,7 +214,7 @@ def sent_again_unanswered():
 
 
 @case
-def late_in_a_lost_session():
+def late_in_a_lost_session() -> None:
     """A change that the next session was refused can still come late in a lost session. Its id shows that it was done,
     and no session does it twice."""
     question = '{"id":5,"do":"undo","seq":%d}' % GREATEST_NUMBER
@@ -217,7 +239,7 @@ def late_in_a_lost_session():
 
 
 @case
-def a_full_room():
+def a_full_room() -> None:
     """A room whose journal is full refuses each change, and still answers queries."""
     with serving(limit=1) as server:
         anna = server.client()
@@ -234,7 +256,7 @@ def a_full_room():
 
 
 @case
-def a_room_that_takes_nothing():
+def a_room_that_takes_nothing() -> None:
     """If a room may have no entries, it refuses the first change."""
     with serving(limit=0) as server:
         anna = server.client()
@@ -250,37 +272,38 @@ class Told:
     """A client's connection in a session of a file: the texts that it got, and those that it should get. The time at
     which news come to a silent client is open. So replies are compared in their order, and news in theirs."""
 
-    def __init__(self, server):
+    def __init__(self, server: Server) -> None:
         self.client = server.client()
         self.is_open = True
-        self.found, self.wanted = ([], []), ([], [])
+        self.found: tuple[list[Any], list[Any]] = ([], [])
+        self.wanted: tuple[list[Any], list[Any]] = ([], [])
 
-    def hear(self, told, place):
+    def hear(self, reported: list[str], place: str) -> None:
         """Expects these texts, by a line at this place."""
-        for text in told:
+        for text in reported:
             self.wanted[is_news(text)].append(text)
         while any(len(found) < len(wanted) for found, wanted in zip(self.found, self.wanted)):
             text = self.client.text()
             self.found[is_news(text)].append(text)
         want(self.found, self.wanted, place)
 
-    def comes_to(self, event, told, place):
+    def comes_to(self, event: str, reported: list[str], place: str) -> None:
         """An event of the client, and what goes out to it, by a line at this place."""
-        if told == ["the session is closed"]:
+        if reported == ["the session is closed"]:
             want(self.is_open, False, place)
         elif event == "close":
             self.end()
         elif event == "binary":
-            want(told, ["close 1003"], place)
+            want(reported, ["close 1003"], place)
             self.client.send(BINARY, b"\x00\xff")
             be_closed(self.client, 1003)
             self.is_open = False
         else:
             if event != "quiet":
                 self.client.say(event)
-            self.hear(told, place)
+            self.hear(reported, place)
 
-    def end(self):
+    def end(self) -> None:
         """Closes, if it has not closed yet. News that the file does not have may come before the answer."""
         if self.is_open:
             self.client.close()
@@ -290,12 +313,12 @@ class Told:
         self.is_open = False
 
 
-def is_news(text):
+def is_news(text: str) -> bool:
     """Whether a text is news, and no reply."""
     return text.startswith('{"news"')
 
 
-def sessions_of_page():
+def sessions_of_page() -> Text:
     """The sessions of the page, from all its blocks of texts together. All other text there is a remark."""
     lines, is_told = [], False
     with open(PAGE, encoding="utf-8") as page:
@@ -305,14 +328,14 @@ def sessions_of_page():
     return texts.Text("".join(lines), PAGE)
 
 
-def told_sessions(read):
+def told_sessions(read: Callable[..., Any]) -> None:
     """The sessions of a text, over sockets. The first event of a client connects it."""
     text = read()
     events = [line.split(" ", 1) for line in text.lines]
     first = {name: event for name, event in reversed(events)}
     count = sum(event == "connect" for _, event in events) + sum(event != "connect" for event in first.values())
     with serving(sessions=count, limit=text.limit) as server:
-        clients = {}
+        clients: dict[str, Any] = {}
         for place, ((name, event), block) in enumerate(zip(events, text.blocks)):
             if event == "connect" and name in clients:
                 clients.pop(name).end()
@@ -327,7 +350,7 @@ def told_sessions(read):
 
 
 @case
-def end_of_the_program():
+def end_of_the_program() -> None:
     """After its last session the program prints the number of entries of each room, in the order of the arguments, and
     ends."""
     with serving("rome", "paris", "a_b_9", workers=1, sessions=4) as server:
@@ -345,13 +368,13 @@ def end_of_the_program():
         dora = server.client()
         talk(dora, hello("dora", "a_b_9"), welcome(0))
         time.sleep(SILENCE)
-        want((server.process.poll(), server.told(server.output)), (None, "listening\n"))
+        want((server.process.poll(), server.content(server.output)), (None, "listening\n"))
         leave(dora)
         finish(server, ["rome 0", "paris 2", "a_b_9 0"], "left", "binary", "fault", "left")
 
 
 @case
-def stopped_by_ctrl_c():
+def stopped_by_ctrl_c() -> None:
     """An interrupt ends the program, and so does SIGTERM, also during a session, without the lines of the rooms."""
     # The program inherits how the script takes an interrupt, unless the script has a handler of its own.
     before = signal.signal(signal.SIGINT, signal.default_int_handler)
@@ -362,18 +385,18 @@ def stopped_by_ctrl_c():
                 talk(anna, hello("anna"), welcome(0))
                 server.process.send_signal(number)
                 want((server.process.wait(PATIENCE * given.slow), anna.rest()), (-number, b""))
-                want(server.told(server.output), "listening\n")
+                want(server.content(server.output), "listening\n")
     finally:
         signal.signal(signal.SIGINT, before)
 
 
 @case
-def a_full_disk():
+def a_full_disk() -> None:
     """If the disk is full, so that the program cannot print, it still serves its clients."""
     port, patience = free_port(), PATIENCE * given.slow
-    words = [given.program, "serve", "--addr", f"127.0.0.1:{port}", "--workers", "1", "--sessions", "1", "paris"]
+    command = [given.program, "serve", "--addr", f"127.0.0.1:{port}", "--workers", "1", "--sessions", "1", "paris"]
     with open("/dev/full", "wb") as full:
-        program = subprocess.Popen(words, stdin=subprocess.DEVNULL, stdout=full, stderr=subprocess.DEVNULL)
+        program = subprocess.Popen(command, stdin=subprocess.DEVNULL, stdout=full, stderr=subprocess.DEVNULL)
     try:
         with connected(port, time.monotonic() + patience) as client:
             talk(client.shake_hands(), hello("anna"), welcome(0))
@@ -384,7 +407,7 @@ def a_full_disk():
         program.wait()
 
 
-def connected(port, deadline):
+def connected(port: int, deadline: float) -> Client:
     """A client of a server that may not listen yet."""
     while True:
         try:
@@ -396,7 +419,7 @@ def connected(port, deadline):
 
 
 @case
-def as_many_as_there_may_be():
+def as_many_as_there_may_be() -> None:
     """As many rooms and workers as there may be, and the longest name of a room."""
     rooms = [*(f"room_{number}" for number in range(63)), "a" * 32]
     with serving(*rooms, workers=64, sessions=2) as server:
@@ -408,12 +431,12 @@ def as_many_as_there_may_be():
         finish(server, [f"{room} {int(room in rooms[62:])}" for room in rooms], "left", "left")
 
 
-def run(*words):
+def run(*options: str) -> tuple[int, str, str]:
     """The result of a program with arguments with which it does not serve."""
-    return run_soon(given.program, *words).texts()
+    return run_soon(given.program, *options).texts()
 
 
-def serve(*rooms, addr="127.0.0.1:0"):
+def serve(*rooms: str, addr: str = "127.0.0.1:0") -> tuple[int, str, str]:
     """The result of a program that has to serve these rooms at an address."""
     return run("serve", "--addr", addr, "--workers", "1", "--sessions", "1", *rooms)
 
@@ -425,7 +448,7 @@ CANNOT_LISTEN = (1, "", "maproom: cannot listen\n")
 
 
 @case
-def bad_rooms():
+def bad_rooms() -> None:
     """The program checks the number of rooms, then their names in order, and then the address."""
     want(serve("Paris"), BAD_NAME)
     want(serve("paris", "paris"), TWICE)
@@ -442,15 +465,15 @@ def bad_rooms():
 
 
 @case
-def bad_addresses():
+def bad_addresses() -> None:
     """At what is no address, has no port or is no address of this machine (RFC 5737), nothing listens."""
-    hosts = ("nowhere", "127.0.0.1", "127.0.0.1:", "127.0.0.1:65536", "127.0.0.1:port", "127.0.0.256:47316", ":", "")
-    hosts += ("192.0.2.1:0",)
+    hosts = ["nowhere", "127.0.0.1", "127.0.0.1:", "127.0.0.1:65536", "127.0.0.1:port", "127.0.0.256:47316", ":", ""]
+    hosts += ["192.0.2.1:0"]
     want({addr: serve("paris", addr=addr) for addr in hosts}, {addr: CANNOT_LISTEN for addr in hosts})
 
 
 @case
-def one_address_alone():
+def one_address_alone() -> None:
     """The server listens at its address, and at no other address of this machine."""
     for host, other in (("127.0.0.1", "127.0.0.2"), ("127.0.0.2", "127.0.0.1")):
         with serving(host=host) as server:
@@ -460,7 +483,7 @@ def one_address_alone():
             finish(server, ["paris 0"], "left")
 
 
-def has_ipv6():
+def has_ipv6() -> bool:
     """Whether this machine has the address ::1."""
     try:
         with socket.socket(socket.AF_INET6) as probe:
@@ -471,7 +494,7 @@ def has_ipv6():
 
 
 @case_if(has_ipv6)
-def an_address_of_ipv6():
+def an_address_of_ipv6() -> None:
     """The server listens at an address of IPv6, which is in brackets, and at none of IPv4."""
     with serving(host="[::1]") as server:
         with socket.socket() as probe:
@@ -481,7 +504,7 @@ def an_address_of_ipv6():
 
 
 @case
-def a_host():
+def a_host() -> None:
     """The server listens at an address of the host that `--addr` names."""
     with serving(host="localhost", sessions=2) as server:
         with socket.create_connection(("localhost", server.port)) as probe:
@@ -491,7 +514,7 @@ def a_host():
 
 
 @case
-def a_taken_port():
+def a_taken_port() -> None:
     """If another program listens at the address, the program ends. It checks the names of rooms before that."""
     with socket.socket() as other:
         other.bind(("127.0.0.1", 0))
@@ -502,32 +525,43 @@ def a_taken_port():
 
 
 @case
-def refused_words():
+def refused_words() -> None:
     """The program refuses numbers out of range, and options that are unknown, repeated or missing."""
-    words = ["serve", "--addr", "127.0.0.1:0", "--workers", "1", "--sessions", "1", "paris"]
-    lines = [["serve"], words[:-1], [words[0], *words[3:]], [*words[:3], *words[5:]], [*words[:5], *words[7:]]]
-    lines += [[*words, "--limit"], [*words, "--port", "1"], [*words, "--workers", "2"]]
+    options = ["serve", "--addr", "127.0.0.1:0", "--workers", "1", "--sessions", "1", "paris"]
+    lines = [
+        ["serve"],
+        options[:-1],
+        [options[0], *options[3:]],
+        [*options[:3], *options[5:]],
+        [*options[:5], *options[7:]],
+    ]
+    lines += [[*options, "--limit"], [*options, "--port", "1"], [*options, "--workers", "2"]]
     for option, values in {
         "--workers": ("0", "65", "-1", "x", "1.0", "", "4294967297"),
         "--sessions": ("0", "1000001", "-1", "1e3", "", "18446744073709551617"),
     }.items():
-        at = words.index(option) + 1
-        lines += [[*words[:at], value, *words[at + 1 :]] for value in values]
-    lines += [[*words, "--limit", value] for value in ("1000001", "-1", "many", "4294967296")]
+        at = options.index(option) + 1
+        lines += [[*options[:at], value, *options[at + 1 :]] for value in values]
+    lines += [[*options, "--limit", value] for value in ("1000001", "-1", "many", "4294967296")]
     for line in lines:
         status, printed, why = run(*line)
         want((line, status, printed, bool(why)), (line, 2, "", True))
 
 
 @case
-def help_for_words():
+def help_for_words() -> None:
     """The help is printed, and names each option."""
     status, printed, why = run("serve", "--help")
     missing = [word for word in ("--addr", "--workers", "--sessions", "--limit", "ROOM") if word not in printed]
     want((status, missing, why), (0, [], ""))
 
 
-each_case(told_sessions, {
-    "the page docs/CLIENT.md": sessions_of_page,
-    **{f"sessions/{name}": functools.partial(texts.read, path) for name, path in texts.files_in("sessions").items()},
-})
+each_case(
+    told_sessions,
+    {
+        "the page docs/CLIENT.md": sessions_of_page,
+        **{
+            f"sessions/{name}": functools.partial(texts.read, path) for name, path in texts.files_in("sessions").items()
+        },
+    },
+)

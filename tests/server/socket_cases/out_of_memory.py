@@ -1,12 +1,16 @@
 """Tests the server if an allocation fails: each allocation of a run, from the first to the last."""
+from __future__ import annotations
+
 import collections
 import itertools
+from collections.abc import Sequence
+from typing import NamedTuple, Optional
 
 from lib.cases import each_case, want
 from lib.failed_allocations import refusing
 from lib.faulty import Faulty, logged
 from lib.talk import GONE, create, hello, news, node, ok, refused, welcome
-from lib.websocket import CLOSE, TEXT, Broken, Gone, close_payload
+from lib.websocket import CLOSE, TEXT, Broken, Client, Gone, close_payload
 
 # What the program prints if it ends because an allocation failed. The system also allocates for a thread.
 NO_MEMORY, NO_WORKER = "maproom: no memory\n", "maproom: cannot start a worker\n"
@@ -19,10 +23,16 @@ BEGINNING, ANSWERED, DONE, END = "before all sessions", "answered", "done withou
 # The messages of each session, with the same ids each time, so nothing is done twice. The rows by the number of
 # entries, in front of those of the map that the room began with.
 MESSAGES = {1: hello("anna"), 2: create(2), 3: '{"id":3,"do":"map"}', 4: '{"id":4,"do":"undo"}'}
-ROWS = {0: (), 1: (node(),), 2: ()}
+ROWS: dict[int, tuple[str, ...]] = {0: (), 1: (node(),), 2: ()}
 
-# A run: the number of sessions, the rooms, the first of which is used, and the rows of their map, if any.
-Run = collections.namedtuple("Run", "sessions rooms rows", defaults=(("paris",), None))
+
+class Run(NamedTuple):
+    """A run: the number of sessions, the rooms, the first of which is used, and the rows of their map, if any."""
+
+    sessions: int
+    rooms: tuple[str, ...] = ("paris",)
+    rows: Optional[tuple[str, ...]] = None
+
 
 # A map with an element of each kind.
 BASE_ROWS = (
@@ -32,7 +42,7 @@ BASE_ROWS = (
 )
 
 
-def answer(run, number, seq):
+def answer(run: Run, number: int, seq: int) -> tuple[list[str], int]:
     """The texts with which a room that has `seq` entries answers a message, and its number of entries afterwards."""
     if number in (1, 3):
         return [welcome(seq, *ROWS[seq], *(run.rows or ()), number=number)], seq
@@ -47,7 +57,7 @@ class Closed(Exception):
     """The server has closed the session because an allocation failed."""
 
 
-def next_text(client):
+def next_text(client: Client) -> str:
     """The next text."""
     opcode, payload = client.read()
     if opcode == CLOSE:
@@ -57,16 +67,16 @@ def next_text(client):
     return payload.decode()
 
 
-class Told:
+class Received:
     """What a room sent so far in the sessions of a run: the numbers of entries that it may have, how often it answered
     `memory`, and the message that it answered `repeat` although only a close had answered it before."""
 
-    def __init__(self, run):
+    def __init__(self, run: Run) -> None:
         self.run, self.seqs = run, {0}
         self.memory = self.asked = self.closed = 0
-        self.repeated = None
+        self.repeated: Optional[int] = None
 
-    def ask(self, client, number):
+    def ask(self, client: Client, number: int) -> None:
         """Sends a message, and once more if the answer is `memory`. Expects the texts of a room with a possible number
         of entries."""
         before, text = self.seqs, self.first_text(client, number)
@@ -74,7 +84,8 @@ class Told:
             self.memory, self.seqs = self.memory + 1, before
             want(self.memory, 1)
             text = self.first_text(client, number)
-        found = [told for told in (answer(self.run, number, seq) for seq in before) if told[0][0] == text]
+        possible = [answer(self.run, number, seq) for seq in before]
+        found = [each for each in possible if each[0][0] == text]
         if len(found) != 1:
             raise Broken(f"the message {number} is answered {text!r} by a room with {before} entries")
         texts, after = found[0]
@@ -84,7 +95,7 @@ class Told:
         for other in texts[1:]:
             want(next_text(client), other)
 
-    def first_text(self, client, number):
+    def first_text(self, client: Client, number: int) -> str:
         """Sends a message, and returns the first text that comes. If the session ends before, the server may have done
         the message. If the server closes the session, it has done it: only the allocation for the text failed."""
         self.asked, afterwards = number, {answer(self.run, number, seq)[1] for seq in self.seqs}
@@ -96,7 +107,7 @@ class Told:
             self.seqs, self.closed = afterwards, number
             raise
 
-    def play(self, server):
+    def play(self, server: Faulty) -> str:
         """Plays a session to its end. Returns how it ended."""
         try:
             client = server.client()
@@ -117,17 +128,17 @@ class Told:
             return "memory"
 
 
-def outcome(server, told, seen):
+def outcome(server: Faulty, received: Received, seen: Sequence[str]) -> str:
     """Checks that the program ended as it may if an allocation was refused. Returns what came of it."""
     found = server.end()
     served = {number: logged(end) for number, end in enumerate(seen, 1)}
-    first, *others = told.run.rooms
+    first, *others = received.run.rooms
     idle = "".join(f"{room} 0\n" for room in others)
-    if found in [(0, f"listening\n{first} {seq}\n{idle}", served, []) for seq in told.seqs]:
-        came = [end for end in seen if end != "left"] + [ANSWERED] * told.memory
+    if found in [(0, f"listening\n{first} {seq}\n{idle}", served, []) for seq in received.seqs]:
+        came = [end for end in seen if end != "left"] + [ANSWERED] * received.memory
         want(len(came) <= 1, True)
         return came[0] if came else DONE
-    if told.asked == 0:
+    if received.asked == 0:
         lines = [NO_MEMORY, NO_WORKER] if found[1] else [NO_MEMORY]
         want(found, (1, "listening\n" if seen else "", {}, [line for line in lines if [line] == found[3]]))
         return BEGINNING
@@ -135,35 +146,40 @@ def outcome(server, told, seen):
     return END
 
 
-def refuse(growth, told):
+def refuse(growth: int, received: Received) -> Optional[str]:
     """Refuses an allocation in a run. Returns what came of it, or None if the run has no such allocation."""
-    sessions, rooms, rows = told.run
+    sessions, rooms, rows = received.run
     base = None if rows is None else welcome(7, *rows) + "\n"
     with Faulty(refusing(growth), rooms, sessions=sessions, base=base) as server:
-        has_begun = server.told(server.output) == "listening\n"
-        seen = [told.play(server) for _ in range(sessions)] if has_begun else []
-        what = outcome(server, told, seen)
+        has_begun = server.content(server.output) == "listening\n"
+        seen = [received.play(server) for _ in range(sessions)] if has_begun else []
+        what = outcome(server, received, seen)
         return what if server.has_failed() else None
 
 
-def each_growth(run):
+def each_growth(run: Run) -> None:
     """Refuses each allocation of a run, each in a run of its own. Each possible outcome comes at least once. With a
     second client, each change is answered `repeat` in at least one run."""
-    outcomes, repeated = collections.Counter(), set()
+    outcomes: collections.Counter[str] = collections.Counter()
+    repeated: set[Optional[int]] = set()
     for growth in itertools.count(1):
-        told = Told(run)
-        what = refuse(growth, told)
+        received = Received(run)
+        what = refuse(growth, received)
         if what is None:
             break
         outcomes[what] += 1
-        repeated.add(told.repeated)
+        repeated.add(received.repeated)
     print(f"{growth - 1} allocations were refused: {', '.join(f'{count} {what}' for what, count in outcomes.items())}")
     want(set(outcomes) - {DONE}, {BEGINNING, ANSWERED, "memory", "fault", END})
-    want(repeated, {None} if run.sessions == 1 else {None, 2, 4})
+    wanted: set[Optional[int]] = {None} if run.sessions == 1 else {None, 2, 4}
+    want(repeated, wanted)
 
 
-each_case(each_growth, {
-    "each growth, one session": Run(1),
-    "each growth, two sessions": Run(2),
-    "each growth, two rooms on a base": Run(1, ("paris", "rome"), BASE_ROWS),
-})
+each_case(
+    each_growth,
+    {
+        "each growth, one session": Run(1),
+        "each growth, two sessions": Run(2),
+        "each growth, two rooms on a base": Run(1, ("paris", "rome"), BASE_ROWS),
+    },
+)

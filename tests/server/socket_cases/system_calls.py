@@ -1,30 +1,55 @@
 """Tests the server if a system call fails: each read and write of a session, writes to a client that reads nothing,
 and the calls by which the program listens, accepts and starts its workers."""
-import collections
+from __future__ import annotations
+
 import contextlib
 import errno
 import functools
 import itertools
 import time
+from typing import NamedTuple
+from collections.abc import Sequence
 
 from lib.cases import case, each_case, want
 from lib.faulty import WHOLE, failing, finish, impatient
 from lib.talk import GONE, create, hello, leave, news, node, ok, refused, serve_next, serving, talk, welcome
-from lib.websocket import BINARY, CLOSE, MOST_OF_CONTROL, PING, PONG, TEXT, Gone, close_payload, frame, head_of_request
-from lib.websocket import make_key, text_frame
+from lib.websocket import (
+    BINARY,
+    CLOSE,
+    MOST_OF_CONTROL,
+    PING,
+    PONG,
+    TEXT,
+    Gone,
+    close_payload,
+    frame,
+    head_of_request,
+    make_key,
+    text_frame,
+)
+from lib.serving import Server
+from lib.websocket import Client
 
 # What a client sends, what it gets, and how many entries the room has afterwards.
-Step = collections.namedtuple("Step", "sent wanted seq")
+
+
+class Step(NamedTuple):
+    """A step of a session: what the client sends, what the server has to answer, and its number of entries then."""
+
+    sent: bytes
+    wanted: bytes
+    seq: int
+
 
 KEY = make_key()
 
 
-def said(*texts):
+def said(*texts: str) -> bytes:
     """The bytes of texts, as a server sends them."""
     return b"".join(frame(TEXT, text.encode(), is_masked=False) for text in texts)
 
 
-def closing(code, is_masked):
+def closing(code: int | None, is_masked: bool) -> bytes:
     """The bytes of a close."""
     return frame(CLOSE, close_payload(code), is_masked=is_masked)
 
@@ -36,7 +61,7 @@ STORY = [
     Step(text_frame(create(2)), said(ok(2, '"seq":1'), news("anna", 1, node())), 1),
     Step(text_frame('{"id":3,"do":"undo"}'), said(ok(3, '"seq":2,"undid":1'), news("anna", 2, GONE)), 2),
 ]
-ROWS = {0: (), 1: (node(),), 2: ()}
+ROWS: dict[int, tuple[str, ...]] = {0: (), 1: (node(),), 2: ()}
 
 # The ways in which a session ends: what the client sends last and, if the server closes, the client's answer.
 ENDINGS = {
@@ -46,7 +71,7 @@ ENDINGS = {
 
 
 @functools.lru_cache(maxsize=None)
-def handshake():
+def handshake() -> Step:
     """The first step: the head of a request, and the answer of a server without faults."""
     with serving(workers=1, sessions=1) as server:
         client = server.connect()
@@ -56,7 +81,7 @@ def handshake():
         return Step(head_of_request(KEY), bytes(client.came), 0)
 
 
-def play(client, story):
+def play(client: Client, story: Sequence[Step]) -> tuple[int, bytes]:
     """Plays a story as far as possible. Returns how many steps were answered, and what else came before the end."""
     for place, step in enumerate(story):
         try:
@@ -68,11 +93,16 @@ def play(client, story):
     return len(story), client.rest()
 
 
-# A kind of calls that fail: the call, the error, how many bytes move at once, and the usual end of the session.
-Fault = collections.namedtuple("Fault", "call why piece ending")
+class Fault(NamedTuple):
+    """A kind of calls that fail: the call, the error, how many bytes move at once, and the usual end of the session."""
+
+    call: str
+    why: int
+    piece: int
+    ending: str
 
 
-def is_passed_over(fault, place):
+def is_passed_over(fault: Fault, place: int) -> bool:
     """Whether the program repeats a call that fails so after this number of answered steps. These are reads in which
     nothing comes, and reads and writes that a signal interrupts, but no write of the handshake."""
     if fault.call == "read":
@@ -80,7 +110,7 @@ def is_passed_over(fault, place):
     return fault.why == errno.EINTR and place > 0
 
 
-def end_of(fault, place):
+def end_of(fault: Fault, place: int) -> str:
     """How a session ends if the fault comes after this number of answered steps: as usual if the failed write was that
     of the close, or the failed read that of its answer."""
     close = 1 + len(STORY)
@@ -88,7 +118,7 @@ def end_of(fault, place):
     return fault.ending if is_closing or is_passed_over(fault, place) else "fault"
 
 
-def serve_after(server, seq):
+def serve_after(server: Server, seq: int) -> int:
     """The next client finds the accepted changes, and gets `repeat` if it sends a change again. Returns the number of
     entries then."""
     client = server.client()
@@ -101,7 +131,7 @@ def serve_after(server, seq):
     return max(seq, 1)
 
 
-def fail_in_session(fault, number):
+def fail_in_session(fault: Fault, number: int) -> bool:
     """Fails a call. If it belongs to the first client's connection, this session ends, and the same worker serves the
     second client. Otherwise it is the first call of the second connection, in which nothing comes. Returns whether it
     belongs to the first."""
@@ -114,15 +144,15 @@ def fail_in_session(fault, number):
         want(place == len(story) or story[place].wanted.startswith(rest), True)
         if is_first or is_passed_over(fault, 0):
             heard = story[: place + (fault.call == "write")]
-            front = serve_after(server, heard[-1].seq if heard else 0)
-            finish(server, front, end_of(fault, place), "left")
+            entry_count = serve_after(server, heard[-1].seq if heard else 0)
+            finish(server, entry_count, end_of(fault, place), "left")
         else:
             want(play(server.connect(), story), (0, b""))
             finish(server, 2, fault.ending, "fault")
         return is_first
 
 
-def each_call(fault):
+def each_call(fault: Fault) -> None:
     """Fails each call of a session, each in a run of its own."""
     for number in itertools.count(1):
         if not fail_in_session(fault, number):
@@ -140,7 +170,7 @@ FAULTS = [
 ]
 
 
-def name_of(fault):
+def name_of(fault: Fault) -> str:
     """What a fault is called."""
     pieces = "" if fault.piece == WHOLE else " in pieces"
     return f"each {fault.call}{pieces} fails by {errno.errorcode[fault.why]}, {fault.ending}"
@@ -150,7 +180,7 @@ each_case(each_call, {name_of(fault): fault for fault in FAULTS})
 
 
 @case
-def news_that_cannot_be_sent():
+def news_that_cannot_be_sent() -> None:
     """If the server cannot send news to a silent client, this session ends. The other session goes on."""
     with failing("write", 3, errno.EPIPE, session=1, workers=2, sessions=3) as server:
         anna, bob = server.client(), server.client()
@@ -168,7 +198,7 @@ def news_that_cannot_be_sent():
 MOST_SECONDS, DIVISOR = 30, 60
 
 
-def nothing_read(data):
+def nothing_read(data: bytes) -> None:
     """A client sends these frames again and again, and reads no answer. When a write has reached its time limit, the
     session ends as a fault, and the same worker serves the next client."""
     with impatient(DIVISOR, sessions=2) as server:
@@ -182,14 +212,17 @@ def nothing_read(data):
         finish(server, serve_after(server, 0), "fault", "left")
 
 
-each_case(nothing_read, {
-    "a client that reads no replies": text_frame('{"id":2,"do":"map"}'),
-    "a client that reads no pongs": frame(PING, b"x" * MOST_OF_CONTROL),
-})
+each_case(
+    nothing_read,
+    {
+        "a client that reads no replies": text_frame('{"id":2,"do":"map"}'),
+        "a client that reads no pongs": frame(PING, b"x" * MOST_OF_CONTROL),
+    },
+)
 
 
 @case
-def handshakes_that_fail():
+def handshakes_that_fail() -> None:
     """Three in a row, by their heads and by the answer that cannot be sent. Then the same worker serves, and stops."""
     with failing("write", 1, sessions=4) as server:
         for head in (b"hello\r\n\r\n", b"GET / HTTP/1.1\r\n\r\n", head_of_request(KEY)):
@@ -200,7 +233,7 @@ def handshakes_that_fail():
 
 
 @case
-def accepts_that_fail():
+def accepts_that_fail() -> None:
     """An accept that fails is a session that ends as a fault, and the connection is left for the next one."""
     for number, why in itertools.product((1, 2, 3), (errno.ECONNABORTED, errno.EMFILE)):
         with failing("accept", number, why, sessions=3) as server:
@@ -210,7 +243,7 @@ def accepts_that_fail():
 
 
 @case
-def an_accept_that_is_interrupted():
+def an_accept_that_is_interrupted() -> None:
     """It is made again, and is no session."""
     with failing("accept", 1, errno.EINTR, sessions=2) as server:
         serve_next(server)
@@ -220,13 +253,13 @@ def an_accept_that_is_interrupted():
 
 
 @case
-def all_accepts_that_fail():
+def all_accepts_that_fail() -> None:
     """If no accept succeeds, the program ends with the last one."""
     with failing("accept", 1, sessions=1) as server:
         finish(server, 0, None)
 
 
-def time_limit(option):
+def time_limit(option: str) -> None:
     """A connection whose reads or writes would not end is not accepted, and ends. The others are served."""
     for number in (1, 2, 3):
         with failing(option, number, errno.ENOPROTOOPT, sessions=3) as server:
@@ -242,16 +275,16 @@ each_case(time_limit, {f"a connection without its {option}": option for option i
 
 
 @case
-def no_delay_that_fails():
+def no_delay_that_fails() -> None:
     """TCP_NODELAY is best effort: the server serves the client without it."""
     with failing("no_delay", 1, sessions=1) as server:
-        front = serve_after(server, 0)
+        entry_count = serve_after(server, 0)
         want(server.has_failed(), True)
-        finish(server, front, "left")
+        finish(server, entry_count, "left")
 
 
 @case
-def workers_that_do_not_start():
+def workers_that_do_not_start() -> None:
     """If the thread of a worker does not start, the server serves nobody. The other workers stop, and the program
     ends."""
     for number in (1, 2, 3):
@@ -262,9 +295,13 @@ def workers_that_do_not_start():
 
 
 @case
-def addresses_that_are_refused():
+def addresses_that_are_refused() -> None:
     """A program that cannot listen reports it, before it prints anything."""
-    for call, why in (("bind", errno.EACCES), ("bind", errno.EADDRINUSE), ("listen", errno.EADDRINUSE),
-                      ("reuse", errno.ENOMEM)):
+    for call, why in (
+        ("bind", errno.EACCES),
+        ("bind", errno.EADDRINUSE),
+        ("listen", errno.EADDRINUSE),
+        ("reuse", errno.ENOMEM),
+    ):
         with failing(call, 1, why) as server:
             want(server.end(), (1, "", {}, ["maproom: cannot listen\n"]))

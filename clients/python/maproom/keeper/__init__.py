@@ -14,6 +14,16 @@ from .journal import Damaged, Entry
 from .who import Question, answers
 
 __all__ = [
-    "Damaged", "Ending", "Entry", "Folder", "Keeper", "Locked", "NothingSaved", "Plan", "Question", "Saved",
-    "answers", "load",
+    "Damaged",
+    "Ending",
+    "Entry",
+    "Folder",
+    "Keeper",
+    "Locked",
+    "NothingSaved",
+    "Plan",
+    "Question",
+    "Saved",
+    "answers",
+    "load",
 ]

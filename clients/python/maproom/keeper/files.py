@@ -18,7 +18,7 @@ def write_all(file: int, content: bytes) -> None:
     """Writes the whole content to an open file."""
     rest = memoryview(content)
     while rest:
-        rest = rest[os.write(file, rest):]
+        rest = rest[os.write(file, rest) :]
 
 
 def replace_durably(path: str, parts: Iterable[bytes]) -> None:

@@ -25,7 +25,7 @@ RECENT, RECENT_ROWS = 200, 50
 # How often a folder is read again because the keeper removed an old snapshot meanwhile.
 TRIES = 5
 
-Tell = Callable[[str], None]
+Note = Callable[[str], None]
 Recent = Deque[Entry]
 
 
@@ -98,25 +98,25 @@ def numbers_in(path: str, pattern: re.Pattern[str]) -> List[int]:
     return sorted(int(found[1]) for found in map(pattern.fullmatch, os.listdir(path)) if found)
 
 
-def load(path: str, tell: Tell) -> Saved:
+def load(path: str, note: Note) -> Saved:
     """Reads what was saved last: the newest whole snapshot, and the journal after it.
 
-    A torn last line is ignored. `tell` reports a damaged snapshot that is not needed. Raises NothingSaved, Damaged, or
+    A torn last line is ignored. `note` reports a damaged snapshot that is not needed. Raises NothingSaved, Damaged, or
     OSError.
     """
     for tries_left in reversed(range(TRIES)):
         try:
-            return load_once(path, tell)
+            return load_once(path, note)
         except FileNotFoundError:
             if not tries_left:
                 raise
     raise AssertionError("the loop above returns or raises")
 
 
-def load_once(path: str, tell: Tell) -> Saved:
+def load_once(path: str, note: Note) -> Saved:
     """The same, for a folder from which nobody removes a file."""
     journals = numbers_in(path, JOURNAL)
-    number, snapshot = newest_whole(path, tell)
+    number, snapshot = newest_whole(path, note)
     if snapshot is None:
         if any(os.path.getsize(journal_path(path, each)) for each in journals):
             raise Damaged(f"{path} has a journal, and no whole snapshot before it")
@@ -129,13 +129,13 @@ def load_once(path: str, tell: Tell) -> Saved:
     return saved
 
 
-def newest_whole(path: str, tell: Tell) -> Tuple[int, Optional[Snapshot]]:
+def newest_whole(path: str, note: Note) -> Tuple[int, Optional[Snapshot]]:
     """The newest whole snapshot and its number."""
     for number in reversed(numbers_in(path, SNAPSHOT)):
         try:
             return number, read_snapshot(snapshot_path(path, number))
         except Damaged as fault:
-            tell(f"{fault}; an older snapshot and its journal are taken")
+            note(f"{fault}; an older snapshot and its journal are taken")
     return 0, None
 
 

@@ -12,7 +12,7 @@ from typing import Any, Dict, List, Optional, Set
 from .. import ConnectionFailed, Error, connect
 from ..core import Change, Element, Event, Reset, differences
 from ..room import Changes, Room
-from .folder import RECENT, Folder, NothingSaved, Saved, Tell, is_restored, load
+from .folder import RECENT, Folder, NothingSaved, Saved, Note, is_restored, load
 from .journal import Damaged, Entry, Position, encoded
 from .lineage import Lineage, lineage
 from .snapshots import Snapshot
@@ -60,9 +60,9 @@ class Plan:
 class Keeper:
     """Follows a room until `stop` is called or something ends it."""
 
-    def __init__(self, plan: Plan, folder: Folder, tell: Tell, report: Tell) -> None:
-        """`tell` gets what an operator should know, and `report` each save if the plan says so."""
-        self.plan, self.folder, self.tell, self.report = plan, folder, tell, report
+    def __init__(self, plan: Plan, folder: Folder, note: Note, report: Note) -> None:
+        """`note` gets what an operator should know, and `report` each save if the plan says so."""
+        self.plan, self.folder, self.note, self.report = plan, folder, note, report
         self._saved: Optional[Saved] = None
         self._pending: List[bytes] = []
         self._writing = asyncio.Lock()
@@ -79,7 +79,7 @@ class Keeper:
         """Follows the room. Returns how that ended."""
         try:
             with contextlib.suppress(NothingSaved):
-                self._saved = load(self.folder.path, self.tell)
+                self._saved = load(self.folder.path, self.note)
             room = await self._connected()
             if room:
                 try:
@@ -88,17 +88,17 @@ class Keeper:
                     await room.close()
             return Ending.ALL_SAVED
         except OtherMap as fault:
-            self.tell(str(fault))
+            self.note(str(fault))
             return Ending.OTHER_MAP
         except (Damaged, Error, NotSaved, OSError) as fault:
-            self.tell(str(fault))
+            self.note(str(fault))
             return Ending.FAILED
 
     # ---- The session
 
     async def _connected(self) -> Optional[Room]:
         """The room, as soon as there is a session. None if the keeper is to end first."""
-        is_told = False
+        is_noted = False
         while not self._ends.is_set():
             room = connect(self.plan.url, room=self.plan.room, name=self.plan.name)
             opening = asyncio.ensure_future(room.open())
@@ -112,9 +112,9 @@ class Keeper:
                 opening.result()
                 return room
             except ConnectionFailed as fault:
-                if not is_told:
-                    self.tell(f"{fault}; trying again")
-                is_told = True
+                if not is_noted:
+                    self.note(f"{fault}; trying again")
+                is_noted = True
                 await self._sleep(PAUSE)
         return None
 
@@ -156,7 +156,7 @@ class Keeper:
                 task.result()
         if self._pending:
             raise NotSaved("not everything was saved")
-        self.tell(f"saved to {self._position()}")
+        self.note(f"saved to {self._position()}")
 
     def _begin(self, elements: Dict[str, Element], seq: int) -> None:
         """Begins with the room's map. Raises OtherMap if it does not go on with what was saved."""
@@ -211,21 +211,25 @@ class Keeper:
         if found is Lineage.OTHER_MAP and not is_worthless:
             raise OtherMap(self._refusal(event))
         if found is not Lineage.SAME_RUN:
-            self.tell(f"the server was started anew: {len(event.rows)} elements differ")
+            self.note(f"the server was started anew: {len(event.rows)} elements differ")
             return Position(saved.position.run + 1, event.seq)
-        self.tell(f"entries after {saved.position} were missed: {len(event.rows)} elements differ")
+        self.note(f"entries after {saved.position} were missed: {len(event.rows)} elements differ")
         return Position(saved.position.run, event.seq)
 
     def _refusal(self, event: Reset) -> str:
         """What an operator should know of a room that does not go on with what was saved."""
         assert self._saved is not None
         saved, path = self._saved, self.folder.path
-        words = (f"the room is at entry {event.seq}, and does not go on with the map that was saved at "
-                 f"{saved.position}: {len(event.rows)} elements differ. Nothing more is saved. "
-                 "Start the server on the map that keep --restore prints, or keep this room in a new folder")
+        words = (
+            f"the room is at entry {event.seq}, and does not go on with the map that was saved at "
+            f"{saved.position}: {len(event.rows)} elements differ. Nothing more is saved. "
+            "Start the server on the map that keep --restore prints, or keep this room in a new folder"
+        )
         if lineage(saved, event.rows, event.seq, event.restarted, True) is not Lineage.OTHER_MAP:
-            words += (". If the server did start on that map, --restore could not note it: run keep --restore again, "
-                      f"as a user who can write to {path}, and start the keeper")
+            words += (
+                ". If the server did start on that map, --restore could not note it: run keep --restore again, "
+                f"as a user who can write to {path}, and start the keeper"
+            )
         return words
 
     async def _look(self, room: Room) -> None:
@@ -274,7 +278,7 @@ class Keeper:
             self._is_busy = False
         if self._failing_since is not None:
             self._failing_since = None
-            self.tell("news are saved again")
+            self.note("news are saved again")
         if self.plan.print_saved:
             self.report(f"saved {position.run} {position.seq}")
         return True
@@ -284,7 +288,7 @@ class Keeper:
         now = time.monotonic()
         if self._failing_since is None:
             self._failing_since = now
-            self.tell(f"news are not saved: {what}")
+            self.note(f"news are not saved: {what}")
         if now - self._failing_since > self.plan.patience:
             raise NotSaved(f"news were not saved for {self.plan.patience:g} seconds: {what}")
 
@@ -300,7 +304,7 @@ class Keeper:
         number = self.folder.begin_journal()
         self._entries_since_snapshot = 0
         await self._save(number, self._captured())
-        self.tell(f"keeping {self.plan.room} from {self._position()}")
+        self.note(f"keeping {self.plan.room} from {self._position()}")
 
     async def _save_snapshots(self) -> None:
         """Saves a snapshot from time to time, if something changed."""
@@ -310,7 +314,7 @@ class Keeper:
                 try:
                     await self._snapshot()
                 except OSError as fault:
-                    self.tell(f"no snapshot was saved: {fault.strerror}")
+                    self.note(f"no snapshot was saved: {fault.strerror}")
 
     def _captured(self) -> Snapshot:
         """The map as of now."""

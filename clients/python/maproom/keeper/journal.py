@@ -55,8 +55,13 @@ class Torn:
 def encoded(entry: Entry) -> bytes:
     """An entry as a line."""
     rows = [row._asdict() for row in entry.rows]
-    value = {"time": round(entry.time, 3), "run": entry.position.run, "seq": entry.position.seq, "by": entry.by,
-             "rows": rows}
+    value = {
+        "time": round(entry.time, 3),
+        "run": entry.position.run,
+        "seq": entry.position.seq,
+        "by": entry.by,
+        "rows": rows,
+    }
     body = compact(value)[1:].encode("utf-8", "surrogatepass") + b"\n"
     return HEAD % zlib.crc32(body) + body
 

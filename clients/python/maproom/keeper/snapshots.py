@@ -51,8 +51,12 @@ def parts_of(snapshot: Snapshot) -> Iterator[bytes]:
     for part in base_line(snapshot.elements.values(), snapshot.position.seq):
         digest.update(part)
         yield part
-    facts = {"run": snapshot.position.run, "seq": snapshot.position.seq, "time": round(snapshot.time, 3),
-             "sha256": digest.hexdigest()}
+    facts = {
+        "run": snapshot.position.run,
+        "seq": snapshot.position.seq,
+        "time": round(snapshot.time, 3),
+        "sha256": digest.hexdigest(),
+    }
     yield f"{compact(facts)}\n".encode()
 
 

@@ -7,7 +7,7 @@ from dataclasses import dataclass
 from typing import Any, Dict, Iterator, List, Optional
 
 from ..core import Element, Row, compact
-from .folder import JOURNAL, Tell, journal_path, numbers_in
+from .folder import JOURNAL, Note, journal_path, numbers_in
 from .journal import Damaged, Entry, Torn, entries_in
 
 AGO = re.compile(r"([0-9]+)([smhd])")
@@ -70,10 +70,16 @@ def what_changed(row: Row) -> str:
         return f"{row.el} {'created' if row.after else 'deleted'} {compact(contents(there)) if there else ''}".rstrip()
     before, after = contents(row.before), contents(row.after)
     old_tags, new_tags = before.pop("tags", {}), after.pop("tags", {})
-    parts = [f"{key}: {compact(before.get(key))} -> {compact(after.get(key))}"
-             for key in after if before.get(key) != after.get(key)]
-    parts += [f"{key}={old_tags.get(key, '')!r} -> {new_tags.get(key, '')!r}"
-              for key in sorted({*old_tags, *new_tags}) if old_tags.get(key) != new_tags.get(key)]
+    parts = [
+        f"{key}: {compact(before.get(key))} -> {compact(after.get(key))}"
+        for key in after
+        if before.get(key) != after.get(key)
+    ]
+    parts += [
+        f"{key}={old_tags.get(key, '')!r} -> {new_tags.get(key, '')!r}"
+        for key in sorted({*old_tags, *new_tags})
+        if old_tags.get(key) != new_tags.get(key)
+    ]
     return f"{row.el} {', '.join(parts)}"
 
 
@@ -82,12 +88,12 @@ def contents(element: Element) -> Dict[str, Any]:
     return {key: value for key, value in element.items() if key != "el"}
 
 
-def answers(path: str, question: Question, tell: Tell) -> Iterator[Answer]:
-    """The changes that are asked for, in order. `tell` reports each damaged line, which is left out."""
+def answers(path: str, question: Question, note: Note) -> Iterator[Answer]:
+    """The changes that are asked for, in order. `note` reports each damaged line, which is left out."""
     for number in numbers_in(path, JOURNAL):
         for entry in entries_in(journal_path(path, number)):
             if isinstance(entry, Damaged):
-                tell(str(entry))
+                note(str(entry))
             elif not isinstance(entry, Torn):
                 for row in question.rows(entry):
                     yield Answer(entry.time, entry.position.run, entry.position.seq, entry.by, row)

@@ -38,8 +38,9 @@ class NotLoopback(Exception):
 
 
 @contextlib.asynccontextmanager
-async def bridge(room: RoomConnection, options: Options,
-                 note: Callable[[str], None] = lambda line: None) -> AsyncIterator[str]:
+async def bridge(
+    room: RoomConnection, options: Options, note: Callable[[str], None] = lambda line: None
+) -> AsyncIterator[str]:
     """Runs a bridge, and gives the URL of its root. Its port may be 0, for any free one.
 
     Raises NotLoopback, LedgerInUse if another program has the ledger, and OSError if the port is in use."""

@@ -6,11 +6,12 @@ import time
 from collections.abc import Awaitable, Callable, Iterable, Mapping
 from dataclasses import dataclass, field, replace
 
+from ..xml_elements import MOST_MEMBERS, MOST_NODES
 from . import osm_json, osm_xml
 from .changesets import Changesets
 from .connection import RoomConnection
 from .documents import Bounds, Change, ChangeAction, Changeset, ElementState, Limits, ResultRow, user_id
-from .elements import MOST_MEMBERS, MOST_NODES, is_in_world, units_of
+from .elements import is_in_world, units_of
 from .errors import ApiError, already_deleted, bad_request, no_connection, not_found
 from .ids import KINDS_BY_WORD, Kind, api_order, room_name
 from .page import MOST_ENTRIES, page
@@ -32,8 +33,10 @@ UNREACHABLE = "The room cannot be reached at the moment. Nothing was done."
 BUSY = "An upload is still under way. Nothing was done."
 NO_NAME = "Give your name by HTTP Basic: 1 to 32 characters of a-z, 0-9 and _"
 BAD_BOX = "The parameter bbox is required, and must be of the form min_lon,min_lat,max_lon,max_lat."
-FALSE_BOX = "The latitudes must be between -90 and 90, longitudes between -180 and 180 and the minima must be less " \
-            "than the maxima."
+FALSE_BOX = (
+    "The latitudes must be between -90 and 90, longitudes between -180 and 180 and the minima must be less "
+    "than the maxima."
+)
 
 
 @dataclass(frozen=True)
@@ -89,8 +92,14 @@ class Route:
 class Calls:
     """Answers requests. While an upload is carried out the others wait, so that nobody sees half of it."""
 
-    def __init__(self, room: RoomConnection, room_map: RoomMap, seconds: float = 60,
-                 clock: Callable[[], float] = time.time, note: Callable[[str], None] = lambda line: None) -> None:
+    def __init__(
+        self,
+        room: RoomConnection,
+        room_map: RoomMap,
+        seconds: float = 60,
+        clock: Callable[[], float] = time.time,
+        note: Callable[[str], None] = lambda line: None,
+    ) -> None:
         self.uploads = Uploads(room, room_map, seconds, note)
         self._room, self._map, self._seconds, self._note = room, room_map, seconds, note
         self._changesets, self._preferences = Changesets(clock), Preferences()
@@ -231,8 +240,9 @@ class Calls:
         return Response(osm_xml.document([]), XML)
 
     @staticmethod
-    def _either(request: Request, in_json: Callable[..., str], in_xml: Callable[..., str],
-                *content: object) -> Response:
+    def _either(
+        request: Request, in_json: Callable[..., str], in_xml: Callable[..., str], *content: object
+    ) -> Response:
         """Returns a document in the format that the client wants."""
         return Response(in_json(*content), JSON) if request.wants_json else Response(in_xml(*content), XML)
 
@@ -413,8 +423,17 @@ class Calls:
                 break
             if entry.author != author:
                 others.insert(0, entry)
-        text = page(self._room.room, author, request.base, len(room_map.elements), others,
-                    self.uploads.done_by(author), self.uploads.undone_by(author), self._changesets.comments(), message)
+        text = page(
+            self._room.room,
+            author,
+            request.base,
+            len(room_map.elements),
+            others,
+            self.uploads.done_by(author),
+            self.uploads.undone_by(author),
+            self._changesets.comments(),
+            message,
+        )
         return Response(text, HTML, status)
 
     async def _undo(self, request: Request) -> Response:

@@ -4,19 +4,14 @@ import json
 import re
 from collections.abc import Mapping
 from decimal import ROUND_HALF_EVEN, Decimal, InvalidOperation
-from typing import Any, Required, TypedDict
+from typing import Any
 
-MOST_TAGS, MOST_CHARACTERS = 1_000, 255
-LEAST_NODES, MOST_NODES, MOST_MEMBERS = 2, 2_000, 32_000
+from ..core import Element
+from ..xml_elements import DECIMALS, MOST_LATITUDE, MOST_LONGITUDE, replaced
 
 # Coordinates are whole numbers of ten-millionths of a degree.
-DECIMALS = 7
 DEGREE: int = 10**DECIMALS
-MOST_LATITUDE, MOST_LONGITUDE = 90 * DEGREE, 180 * DEGREE
 NUMBER = re.compile(r"[+-]?(?:[0-9]+\.?[0-9]*|\.[0-9]+)(?:[eE][+-]?[0-9]{1,3})?")
-
-# XML has no form for these characters: editors see U+FFFD in their place.
-NOT_IN_XML = re.compile("[^\t\n\r\u0020-\ud7ff\ue000-\ufffd\U00010000-\U0010ffff]")
 
 GONE_DIGEST = "gone"
 
@@ -24,17 +19,8 @@ GONE_DIGEST = "gone"
 ENCODER = json.JSONEncoder(ensure_ascii=False, separators=(",", ":"))
 
 
-class Row(TypedDict, total=False):
-    """An element. A node has ``lat`` and ``lon``, a way ``nodes``, a relation ``members``."""
-
-    el: Required[str]
-    tags: Required[dict[str, str]]
-    lat: str
-    lon: str
-    nodes: list[int]
-    members: list[list[str]]
-
-
+# The content of an element. An entry of the API has none if the element is deleted.
+Row = Element
 Rows = Mapping[str, Row | None]
 
 
@@ -68,10 +54,10 @@ def text_units(text: str) -> int:
 
 def is_in_world(latitude: int, longitude: int) -> bool:
     """Returns whether a position lies in the range of latitudes and longitudes."""
-    return abs(latitude) <= MOST_LATITUDE and abs(longitude) <= MOST_LONGITUDE
+    return abs(latitude) <= MOST_LATITUDE * DEGREE and abs(longitude) <= MOST_LONGITUDE * DEGREE
 
 
-def compact(value: Any) -> str:
+def compact(value: object) -> str:
     """Returns a value as compact JSON."""
     return ENCODER.encode(value)
 
@@ -91,5 +77,5 @@ def is_same(row: Row | None, other: Row | None) -> bool:
 
 
 def sayable(text: str) -> str:
-    """Returns a text as XML can hold it."""
-    return NOT_IN_XML.sub("\ufffd", text)
+    """Returns a text as XML can hold it: editors see U+FFFD in the place of other characters."""
+    return replaced(text)[0]

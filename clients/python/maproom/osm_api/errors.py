@@ -70,8 +70,10 @@ def already_deleted(kind: Kind, number: int) -> ApiError:
 
 def missing_references(within: str, kind: Kind, numbers: Iterable[int]) -> ApiError:
     """412: an element refers to elements that are not there."""
-    text = f"Precondition failed: {within} requires the {kind.value}s with id in {ids_text(numbers)}, " \
-           "which either do not exist, or are not visible."
+    text = (
+        f"Precondition failed: {within} requires the {kind.value}s with id in {ids_text(numbers)}, "
+        "which either do not exist, or are not visible."
+    )
     return ApiError(412, text)
 
 
@@ -91,8 +93,11 @@ def invalid_way(number: int | None) -> ApiError:
 
 def too_large(most: int) -> ApiError:
     """413: an upload takes more actions than a group may hold."""
-    return ApiError(413, f"This upload takes more than {most:,} actions, which is the most that a room accepts at "
-                         "once. Nothing was uploaded. Upload in smaller parts.")
+    return ApiError(
+        413,
+        f"This upload takes more than {most:,} actions, which is the most that a room accepts at "
+        "once. Nothing was uploaded. Upload in smaller parts.",
+    )
 
 
 def no_connection(text: str) -> ApiError:

@@ -44,12 +44,12 @@ def loopback_hosts(port: int) -> frozenset[str]:
 def application(calls: Calls, settings: Settings, note: Callable[[str], None] = lambda line: None) -> web.Application:
     """Returns the application, which answers every request by itself."""
     app = web.Application(client_max_size=settings.most_bytes + 1)  # aiohttp refuses a body of exactly this size
-    front = Front(calls, settings, note)
-    app.router.add_route("*", "/{path:.*}", front.handle)
+    handler = RequestHandler(calls, settings, note)
+    app.router.add_route("*", "/{path:.*}", handler.handle)
     return app
 
 
-class Front:
+class RequestHandler:
     """Reads requests and writes responses."""
 
     def __init__(self, calls: Calls, settings: Settings, note: Callable[[str], None]) -> None:
@@ -94,8 +94,16 @@ class Front:
     async def _read(self, request: web.Request) -> Request:
         """Reads a request."""
         accepted = request.headers.get("Accept", "")
-        return Request(request.method, request.path, dict(request.query), await self._body(request),
-                       self._author(request), wants_json(accepted), HTML in accepted, self._base(request))
+        return Request(
+            request.method,
+            request.path,
+            dict(request.query),
+            await self._body(request),
+            self._author(request),
+            wants_json(accepted),
+            HTML in accepted,
+            self._base(request),
+        )
 
     def _base(self, request: web.Request) -> str:
         """Returns the URL of the root as the client knows it. Behind a proxy, only an option can give it."""
@@ -149,9 +157,11 @@ def written(response: Response) -> web.Response:
     if response.location:
         headers["Location"] = response.location
     if response.kind == HTML:
-        headers |= {"Content-Security-Policy": "default-src 'none'; style-src 'unsafe-inline'; form-action 'self'; "
-                                               "frame-ancestors 'none'",
-                    "X-Content-Type-Options": "nosniff"}
+        headers |= {
+            "Content-Security-Policy": "default-src 'none'; style-src 'unsafe-inline'; form-action 'self'; "
+            "frame-ancestors 'none'",
+            "X-Content-Type-Options": "nosniff",
+        }
     answer = web.Response(status=response.status, body=response.text.encode("utf-8", "replace"), headers=headers)
     if response.status in CLOSING:
         answer.force_close()

@@ -103,8 +103,9 @@ def upload_line(upload: PendingUpload) -> str:
 def upload_in(rest: str) -> PendingUpload:
     """Returns the upload of a line."""
     request, author, changeset, message, results, seen = json.loads(rest)
-    return PendingUpload(request, author, changeset, message,
-                         tuple((word, old, name, state) for word, old, name, state in results), seen)
+    return PendingUpload(
+        request, author, changeset, message, tuple((word, old, name, state) for word, old, name, state in results), seen
+    )
 
 
 class LedgerFile:

@@ -88,10 +88,11 @@ class MemoryRoom:
         await asyncio.sleep(0)
         held, self._held = self._held, []
         for news in held:
-            self._tell(news)
+            self._send(news)
 
-    async def send_group(self, author: str, actions: Sequence[Action],
-                         announce: Callable[[int], None] = lambda message: None) -> Answer:
+    async def send_group(
+        self, author: str, actions: Sequence[Action], announce: Callable[[int], None] = lambda message: None
+    ) -> Answer:
         """Does all actions or none."""
         self._last_message += 1
         message = self._last_message
@@ -212,10 +213,10 @@ class MemoryRoom:
         if self.holds_news:
             self._held.append(news)
         else:
-            self._tell(news)
+            self._send(news)
         return self.seq
 
-    def _tell(self, news: News) -> None:
+    def _send(self, news: News) -> None:
         """Passes news to all listeners."""
         for listener in self._listeners:
             listener.on_news(news)

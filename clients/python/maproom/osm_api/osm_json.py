@@ -23,8 +23,12 @@ def elements(values: Iterable[Value], bounds: Bounds | None = None) -> str:
 
 def bounds_value(bounds: Bounds) -> Value:
     """Returns a bounding box."""
-    return {"minlat": bounds.south / DEGREE, "minlon": bounds.west / DEGREE,
-            "maxlat": bounds.north / DEGREE, "maxlon": bounds.east / DEGREE}
+    return {
+        "minlat": bounds.south / DEGREE,
+        "minlon": bounds.west / DEGREE,
+        "maxlat": bounds.north / DEGREE,
+        "maxlon": bounds.east / DEGREE,
+    }
 
 
 def element_value(state: ElementState, author_id: int | None) -> Value:
@@ -41,8 +45,9 @@ def element_value(state: ElementState, author_id: int | None) -> Value:
     if "nodes" in row:
         value["nodes"] = [api_id(f"n{number}") for number in row["nodes"]]
     if "members" in row:
-        value["members"] = [{"type": kind_of(name).value, "ref": api_id(name), "role": role}
-                            for name, role in row["members"]]
+        value["members"] = [
+            {"type": kind_of(name).value, "ref": api_id(name), "role": role} for name, role in row["members"]
+        ]
     if row["tags"]:
         value["tags"] = row["tags"]
     return value
@@ -50,20 +55,35 @@ def element_value(state: ElementState, author_id: int | None) -> Value:
 
 def capabilities(limits: Limits) -> str:
     """Returns what a room can do."""
-    return document({
-        "api": {"version": {"minimum": "0.6", "maximum": "0.6"}, "area": {"maximum": 64800},
-                "waynodes": {"maximum": limits.nodes}, "relationmembers": {"maximum": limits.members},
-                "changesets": {"maximum_elements": limits.changes, "default_query_limit": 100,
-                               "maximum_query_limit": 100},
+    return document(
+        {
+            "api": {
+                "version": {"minimum": "0.6", "maximum": "0.6"},
+                "area": {"maximum": 64800},
+                "waynodes": {"maximum": limits.nodes},
+                "relationmembers": {"maximum": limits.members},
+                "changesets": {
+                    "maximum_elements": limits.changes,
+                    "default_query_limit": 100,
+                    "maximum_query_limit": 100,
+                },
                 "timeout": {"seconds": limits.seconds},
-                "status": {"database": "online", "api": "online", "gpx": "offline"}},
-        "policy": {"imagery": {"blacklist": []}}})
+                "status": {"database": "online", "api": "online", "gpx": "offline"},
+            },
+            "policy": {"imagery": {"blacklist": []}},
+        }
+    )
 
 
 def changeset_value(given: Changeset) -> Value:
     """Returns a changeset."""
-    value: Value = {"id": given.number, "created_at": instant(given.opened), "open": given.closed is None,
-                    "comments_count": 0, "changes_count": given.count}
+    value: Value = {
+        "id": given.number,
+        "created_at": instant(given.opened),
+        "open": given.closed is None,
+        "comments_count": 0,
+        "changes_count": given.count,
+    }
     if given.closed is not None:
         value["closed_at"] = instant(given.closed)
     return value | {"user": given.author, "uid": user_id(given.author), "tags": dict(given.tags)}
@@ -96,8 +116,20 @@ def permissions() -> str:
 
 def user(name: str) -> str:
     """Returns a mapper's details."""
-    return document({"user": {
-        "id": user_id(name), "display_name": name, "account_created": ACCOUNT_CREATED, "description": "",
-        "contributor_terms": {"agreed": True, "pd": False}, "roles": [], "changesets": {"count": 0},
-        "traces": {"count": 0}, "blocks": {"received": {"count": 0, "active": 0}}, "languages": ["en"],
-        "messages": {"received": {"count": 0, "unread": 0}, "sent": {"count": 0}}}})
+    return document(
+        {
+            "user": {
+                "id": user_id(name),
+                "display_name": name,
+                "account_created": ACCOUNT_CREATED,
+                "description": "",
+                "contributor_terms": {"agreed": True, "pd": False},
+                "roles": [],
+                "changesets": {"count": 0},
+                "traces": {"count": 0},
+                "blocks": {"received": {"count": 0, "active": 0}},
+                "languages": ["en"],
+                "messages": {"received": {"count": 0, "unread": 0}, "sent": {"count": 0}},
+            }
+        }
+    )

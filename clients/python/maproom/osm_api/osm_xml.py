@@ -3,11 +3,23 @@ from collections.abc import Iterable, Iterator, Mapping, Sequence
 from xml.etree.ElementTree import Element, ParseError, tostring
 from xml.sax.saxutils import quoteattr
 
-from defusedxml import DefusedXmlException  # type: ignore[import]
-from defusedxml.ElementTree import fromstring  # type: ignore[import]
+from defusedxml import DefusedXmlException
+from defusedxml.ElementTree import fromstring
 
-from .documents import (Bounds, Change, ChangeAction, Changeset, ElementState, GivenElement, GivenMember, Limits,
-                        ResultRow, instant, user_id)
+from ..xml_elements import XmlMember, members_of, nodes_of, tags_of
+from .documents import (
+    Bounds,
+    Change,
+    ChangeAction,
+    Changeset,
+    ElementState,
+    GivenElement,
+    GivenMember,
+    Limits,
+    ResultRow,
+    instant,
+    user_id,
+)
 from .elements import coordinate_text, sayable
 from .errors import bad_request
 from .ids import KINDS_BY_WORD, Kind, api_id, kind_of, number_of
@@ -68,21 +80,28 @@ def element_of(element: Element) -> GivenElement:
     """Returns an element of a document."""
     references: list[GivenMember] = []
     if element.tag == Kind.WAY.value:
-        references = [GivenMember(Kind.NODE, number_of(child.get("ref"))) for child in element.iterfind("nd")]
+        references = [GivenMember(Kind.NODE, number_of(ref)) for ref in nodes_of(element)]
     elif element.tag == Kind.RELATION.value:
-        references = [member_of(child) for child in element.iterfind("member")]
+        references = [member_of(member) for member in members_of(element)]
     return GivenElement(
-        KINDS_BY_WORD[element.tag], number_of(element.get("id")), number_of(element.get("version")),
-        number_of(element.get("changeset")), element.get("lat"), element.get("lon"), references,
-        [(tag.get("k", ""), tag.get("v", "")) for tag in element.iterfind("tag")], source_of(element))
+        KINDS_BY_WORD[element.tag],
+        number_of(element.get("id")),
+        number_of(element.get("version")),
+        number_of(element.get("changeset")),
+        element.get("lat"),
+        element.get("lon"),
+        references,
+        tags_of(element),
+        source_of(element),
+    )
 
 
-def member_of(child: Element) -> GivenMember:
+def member_of(member: XmlMember) -> GivenMember:
     """Returns a member of a relation. Raises ApiError 400 if its type is not a kind."""
-    kind = KINDS_BY_WORD.get(child.get("type", "").lower())
+    kind = KINDS_BY_WORD.get((member.kind or "").lower())
     if kind is None:
-        raise bad_request(f"Unknown member type {child.get('type')}, choices are node, way, relation")
-    return GivenMember(kind, number_of(child.get("ref")), child.get("role", ""))
+        raise bad_request(f"Unknown member type {member.kind}, choices are node, way, relation")
+    return GivenMember(kind, number_of(member.ref), member.role)
 
 
 def source_of(element: Element) -> str:
@@ -118,8 +137,10 @@ def tags_text(tags: Iterable[tuple[str, str]]) -> str:
 def element_text(state: ElementState, author_id: int | None) -> str:
     """Returns an element, also a deleted one."""
     word, row = kind_of(state.name).value, state.row
-    head = f'{word} id="{api_id(state.name)}" version="{state.version}" changeset="{state.changeset}" ' \
-           f'timestamp="{instant(state.time)}" visible="{"true" if row else "false"}"'
+    head = (
+        f'{word} id="{api_id(state.name)}" version="{state.version}" changeset="{state.changeset}" '
+        f'timestamp="{instant(state.time)}" visible="{"true" if row else "false"}"'
+    )
     if author_id is not None:
         head += f' user={attribute(state.author)} uid="{author_id}"'
     if row is None:
@@ -127,8 +148,10 @@ def element_text(state: ElementState, author_id: int | None) -> str:
     if "lat" in row:
         head += f' lat="{row["lat"]}" lon="{row["lon"]}"'
     content = "".join(f'<nd ref="{api_id(f"n{number}")}"/>' for number in row.get("nodes", ()))
-    content += "".join(f'<member type="{kind_of(name).value}" ref="{api_id(name)}" role={attribute(role)}/>'
-                       for name, role in row.get("members", ()))
+    content += "".join(
+        f'<member type="{kind_of(name).value}" ref="{api_id(name)}" role={attribute(role)}/>'
+        for name, role in row.get("members", ())
+    )
     content += tags_text(row["tags"].items())
     return f"<{head}>{content}</{word}>" if content else f"<{head}/>"
 
@@ -141,12 +164,20 @@ def bounds_text(bounds: Bounds) -> str:
 
 def capabilities(limits: Limits) -> str:
     """Returns what a room can do. It has no limit of area, so the area is that of the world."""
-    return document([
-        "<api>", '<version minimum="0.6" maximum="0.6"/>', '<area maximum="64800"/>',
-        f'<waynodes maximum="{limits.nodes}"/>', f'<relationmembers maximum="{limits.members}"/>',
-        f'<changesets maximum_elements="{limits.changes}" default_query_limit="100" maximum_query_limit="100"/>',
-        f'<timeout seconds="{limits.seconds}"/>', '<status database="online" api="online" gpx="offline"/>', "</api>",
-        "<policy><imagery/></policy>"])
+    return document(
+        [
+            "<api>",
+            '<version minimum="0.6" maximum="0.6"/>',
+            '<area maximum="64800"/>',
+            f'<waynodes maximum="{limits.nodes}"/>',
+            f'<relationmembers maximum="{limits.members}"/>',
+            f'<changesets maximum_elements="{limits.changes}" default_query_limit="100" maximum_query_limit="100"/>',
+            f'<timeout seconds="{limits.seconds}"/>',
+            '<status database="online" api="online" gpx="offline"/>',
+            "</api>",
+            "<policy><imagery/></policy>",
+        ]
+    )
 
 
 def versions() -> str:
@@ -161,11 +192,19 @@ def permissions() -> str:
 
 def user(name: str) -> str:
     """Returns a mapper's details."""
-    return document([
-        f'<user id="{user_id(name)}" display_name={attribute(name)} account_created="{ACCOUNT_CREATED}">',
-        '<description></description>', '<contributor-terms agreed="true" pd="false"/>', "<roles/>",
-        '<changesets count="0"/>', '<traces count="0"/>', '<blocks><received count="0" active="0"/></blocks>',
-        '<messages><received count="0" unread="0"/><sent count="0"/></messages>', "</user>"])
+    return document(
+        [
+            f'<user id="{user_id(name)}" display_name={attribute(name)} account_created="{ACCOUNT_CREATED}">',
+            "<description></description>",
+            '<contributor-terms agreed="true" pd="false"/>',
+            "<roles/>",
+            '<changesets count="0"/>',
+            '<traces count="0"/>',
+            '<blocks><received count="0" active="0"/></blocks>',
+            '<messages><received count="0" unread="0"/><sent count="0"/></messages>',
+            "</user>",
+        ]
+    )
 
 
 def preferences(values: Mapping[str, str]) -> str:
@@ -186,9 +225,11 @@ def changesets(given: Iterable[Changeset]) -> str:
 
 def changeset_text(given: Changeset) -> str:
     """Returns a changeset."""
-    head = f'changeset id="{given.number}" created_at="{instant(given.opened)}" ' \
-           f'open="{"true" if given.closed is None else "false"}" user={attribute(given.author)} ' \
-           f'uid="{user_id(given.author)}" comments_count="0" changes_count="{given.count}"'
+    head = (
+        f'changeset id="{given.number}" created_at="{instant(given.opened)}" '
+        f'open="{"true" if given.closed is None else "false"}" user={attribute(given.author)} '
+        f'uid="{user_id(given.author)}" comments_count="0" changes_count="{given.count}"'
+    )
     if given.closed is not None:
         head += f' closed_at="{instant(given.closed)}"'
     content = tags_text(given.tags.items())
@@ -197,8 +238,9 @@ def changeset_text(given: Changeset) -> str:
 
 def diff_result(results: Sequence[ResultRow]) -> str:
     """Returns what became of the elements of an upload."""
-    return "\n".join([HEAD, f'<diffResult version="0.6" generator="{GENERATOR}">', *map(result_text, results),
-                      "</diffResult>", ""])
+    return "\n".join(
+        [HEAD, f'<diffResult version="0.6" generator="{GENERATOR}">', *map(result_text, results), "</diffResult>", ""]
+    )
 
 
 def result_text(result: ResultRow) -> str:

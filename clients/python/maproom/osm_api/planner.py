@@ -6,11 +6,11 @@ from collections.abc import Collection, Sequence
 from dataclasses import dataclass, field
 from typing import Protocol
 
+from ..xml_elements import LEAST_NODES, MOST_CHARACTERS, MOST_MEMBERS, MOST_NODES, MOST_TAGS
 from . import errors
 from .connection import Action
 from .documents import Change, ChangeAction, GivenElement, GivenMember
-from .elements import (LEAST_NODES, MOST_CHARACTERS, MOST_MEMBERS, MOST_NODES, MOST_TAGS, Row, compact,
-                       coordinate_text, is_in_world, references, sayable, text_units, units_of)
+from .elements import Row, compact, coordinate_text, is_in_world, references, sayable, text_units, units_of
 from .ids import Kind, api_id, api_order, kind_of, room_name
 
 # How many actions a group holds at most.
@@ -59,8 +59,9 @@ class Plan:
     created: list[str] = field(default_factory=list)
 
 
-def plan_upload(changes: Sequence[Change], view: MapView, changeset: int | None = None,
-                most_actions: int = MOST_ACTIONS) -> Plan:
+def plan_upload(
+    changes: Sequence[Change], view: MapView, changeset: int | None = None, most_actions: int = MOST_ACTIONS
+) -> Plan:
     """Returns the plan of an upload on a map.
 
     Raises ApiError: 400 for what a document or a room cannot hold, 404 for elements that the room never had, 409 for
@@ -72,8 +73,9 @@ def plan_upload(changes: Sequence[Change], view: MapView, changeset: int | None 
         if len(planner.plan.actions) > most_actions:
             raise errors.too_large(most_actions)
     if sum(len(compact(action)) for action in planner.plan.actions) > MOST_BYTES:
-        raise errors.ApiError(413, "This upload is larger than a room accepts at once. Nothing was uploaded. "
-                                   "Upload in smaller parts.")
+        raise errors.ApiError(
+            413, "This upload is larger than a room accepts at once. Nothing was uploaded. " "Upload in smaller parts."
+        )
     return planner.plan
 
 
@@ -187,8 +189,10 @@ class Planner:
                 element = f"{given.kind.value}/{given.number}"
                 raise errors.bad_request(f"Element {element} has duplicate tags with key {key}")
             if not 1 <= len(key) <= MOST_CHARACTERS or len(value) > MOST_CHARACTERS:
-                raise errors.bad_request(f"A tag of {given.within} is too long or has no key: a key has 1 to "
-                                         f"{MOST_CHARACTERS} characters, and a value at most {MOST_CHARACTERS}")
+                raise errors.bad_request(
+                    f"A tag of {given.within} is too long or has no key: a key has 1 to "
+                    f"{MOST_CHARACTERS} characters, and a value at most {MOST_CHARACTERS}"
+                )
             tags[key] = value
         if len(tags) > MOST_TAGS:
             count = len(tags)

@@ -100,8 +100,11 @@ class RepairPlanner:
 
     def bring_back(self) -> None:
         """Creates the elements again that the group deleted. What others created again since stays theirs."""
-        gone = {name: before for name, before, after in self._changed()
-                if before is not None and after is None and self._row(name) is None}
+        gone = {
+            name: before
+            for name, before, after in self._changed()
+            if before is not None and after is None and self._row(name) is None
+        }
         found = {name for name in gone if self._can_come_back(name, gone)}
         self.repair.stays += gone.keys() - found
         incomplete = []
@@ -137,8 +140,11 @@ class RepairPlanner:
     def _write_back(self, name: str, before: Row, after: Row, now: Row) -> None:
         """Writes the details of an element back."""
         row = now.copy()
-        tags = {key: before["tags"].get(key) for key in changed_keys(before, after)
-                if now["tags"].get(key) == after["tags"].get(key)}
+        tags = {
+            key: before["tags"].get(key)
+            for key in changed_keys(before, after)
+            if now["tags"].get(key) == after["tags"].get(key)
+        }
         if tags:
             row["tags"] = with_tags(now["tags"], tags)
             self._put(name, row, {"do": "retag", "el": name, "tags": tags})

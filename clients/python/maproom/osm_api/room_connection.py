@@ -12,8 +12,20 @@ from typing import Any, cast
 
 from .. import actions as messages
 from ..core import NO_ENTRY, Core, Event, Reset
-from ..errors import (Absent, BadField, ConnectionFailed, Error, Full, NoSuch, NotSent, OutOfMemory, Refused, Repeat,
-                      Unknown, UnknownDo)
+from ..errors import (
+    Absent,
+    BadField,
+    ConnectionFailed,
+    Error,
+    Full,
+    NoSuch,
+    NotSent,
+    OutOfMemory,
+    Refused,
+    Repeat,
+    Unknown,
+    UnknownDo,
+)
 from ..room import Room
 from .connection import UNKNOWN, Accepted, Action, Answer, Listener, News, Refusal, Welcome
 from .elements import Row
@@ -143,8 +155,9 @@ class ServerRoom:
         except UnknownDo as fault:
             raise NoGroups(f"the server at {self.url} is older than version 1.1.0, which uploads need") from fault
 
-    async def __aexit__(self, kind: type[BaseException] | None, fault: BaseException | None,
-                        trace: TracebackType | None) -> None:
+    async def __aexit__(
+        self, kind: type[BaseException] | None, fault: BaseException | None, trace: TracebackType | None
+    ) -> None:
         if self._asking_run:
             self._asking_run.cancel()
         for author in list(self._sessions):
@@ -269,8 +282,9 @@ class ServerRoom:
 
     # These take the run when they are called, since a task that awaits them may begin in a later run.
 
-    def send_group(self, author: str, actions: Sequence[Action],
-                   announce: Callable[[int], None]) -> Coroutine[Any, Any, Answer]:
+    def send_group(
+        self, author: str, actions: Sequence[Action], announce: Callable[[int], None]
+    ) -> Coroutine[Any, Any, Answer]:
         """Sends actions as one message, after it called `announce` with the message's id."""
         return self._write(self._run, author, messages.group(actions), announce=announce)
 
@@ -282,8 +296,15 @@ class ServerRoom:
         """Does again what an author undid last."""
         return self._write(self._run, author, messages.redo(), "redid")
 
-    async def _write(self, run: int, author: str, message: Action, key: str = "", other: int | None = None,
-                     announce: Callable[[int], None] = lambda number: None) -> Answer:
+    async def _write(
+        self,
+        run: int,
+        author: str,
+        message: Action,
+        key: str = "",
+        other: int | None = None,
+        announce: Callable[[int], None] = lambda number: None,
+    ) -> Answer:
         """Asks for a change in an author's session, if that session is in the run. `key` has the entry that was undone
         or redone, or else it is `other`."""
         numbers, found = [], None
@@ -296,7 +317,7 @@ class ServerRoom:
             async with self._session(author) as room:
                 if not await self._is_in_run(room, run):
                     return Refusal("not_sent")
-                told = await room.ask(message, announce=note_number)
+                answer = await room.ask(message, announce=note_number)
         except Refused as refused:
             return Refusal(refused.why, {name: value for name, value in refused.no.items() if name != "why"})
         except NotSent:
@@ -305,16 +326,16 @@ class ServerRoom:
             found = None if unknown.restarted else await self._found_after_loss(author, numbers[0])
             if found is None:
                 return Refusal(UNKNOWN)
-            told, run = {"seq": found[0]}, found[1]
+            answer, run = {"seq": found[0]}, found[1]
         else:
             if self._run != run:  # perhaps it is the same one, but nothing was there to ask with
                 found = await self._found(author, numbers[0])
                 run = found[1] if found else run
-        seq = int(told["seq"])
+        seq = int(answer["seq"])
         if self._run == run:  # otherwise the reader's entry of this number is another
             self._unseen.append(Written(author, numbers[0], seq))
             self._note_seen()
-        return Accepted(seq, told.get(key, other), found[1] if found else None)
+        return Accepted(seq, answer.get(key, other), found[1] if found else None)
 
     async def _is_in_run(self, room: Reader | Writer, run: int) -> bool:
         """Returns whether an author's session and the reader are in a run of the server.

@@ -102,8 +102,9 @@ class RoomMap:
         self._watch: Watch | None = None
         self._users: dict[str, set[str]] = {}
         # if a killed bridge had sent an upload, its new elements come with the first welcome
-        self._created = frozenset(name for pending in ledger.pending.values() for _, old, name, _ in pending.results
-                                  if name and old < 0)
+        self._created = frozenset(
+            name for pending in ledger.pending.values() for _, old, name, _ in pending.results if name and old < 0
+        )
         self._least_avoided = 0
         self._waiting: list[tuple[int, asyncio.Future[None]]] = []
 
@@ -165,16 +166,16 @@ class RoomMap:
     async def reached(self, seq: int) -> None:
         """Waits until an entry is in the map."""
         if self.seq < seq:
-            told: asyncio.Future[None] = asyncio.get_running_loop().create_future()
-            self._waiting.append((seq, told))
-            await told
+            reached: asyncio.Future[None] = asyncio.get_running_loop().create_future()
+            self._waiting.append((seq, reached))
+            await reached
 
     def _wake(self, all_of_them: bool = False) -> None:
         """Wakes those who wait for an entry that the map has now, or for any entry of a run that ended."""
-        for seq, told in self._waiting:
-            if (all_of_them or seq <= self.seq) and not told.done():
-                told.set_result(None)
-        self._waiting = [(seq, told) for seq, told in self._waiting if not told.done()]
+        for seq, reached in self._waiting:
+            if (all_of_them or seq <= self.seq) and not reached.done():
+                reached.set_result(None)
+        self._waiting = [(seq, reached) for seq, reached in self._waiting if not reached.done()]
 
     def _put(self, name: str, row: Row | None) -> None:
         """Replaces an element."""
@@ -219,8 +220,13 @@ class RoomMap:
         """Gives elements the versions back that they had, if their content is the same as then. Only for changes that
         nobody saw."""
         known = self.ledger.known
-        self.ledger.set({name: state for name, state in before.items()
-                         if known[name].digest == state.digest and known[name] != state})
+        self.ledger.set(
+            {
+                name: state
+                for name, state in before.items()
+                if known[name].digest == state.digest and known[name] != state
+            }
+        )
 
     def state(self, name: str) -> ElementState:
         """Returns an element as editors see it.
@@ -289,9 +295,12 @@ class RoomMap:
     def _may_be_overtaken(self, entry: Entry) -> bool:
         """Returns whether another author's entry on the same elements came shortly before an entry."""
         since = entry.moment - SETTLING_SECONDS
-        return any(other.seq < entry.seq and other.author != entry.author
-                   and not other.versions.keys().isdisjoint(entry.versions)
-                   for other in itertools.takewhile(lambda other: other.moment >= since, reversed(self.recent)))
+        return any(
+            other.seq < entry.seq
+            and other.author != entry.author
+            and not other.versions.keys().isdisjoint(entry.versions)
+            for other in itertools.takewhile(lambda other: other.moment >= since, reversed(self.recent))
+        )
 
     async def settled(self, entry: Entry) -> None:
         """Waits until an entry cannot be taken back any more, or until its author made another one."""

@@ -157,8 +157,11 @@ class TakingBack:
         between, own = group.watch.between(seen, group.seq), group.watch.step(group.seq)
         if between is None or own is None:
             return True
-        return any(meet(details(step.before[name], step.after[name]), details(own.before[name], own.after[name]))
-                   for step in between for name in step.after.keys() & own.after.keys())
+        return any(
+            meet(details(step.before[name], step.after[name]), details(own.before[name], own.after[name]))
+            for step in between
+            for name in step.after.keys() & own.after.keys()
+        )
 
 
 def in_order(names: Iterable[str]) -> list[str]:

@@ -26,18 +26,24 @@ MOST_TRIES = 4
 MOST_KEPT, MOST_DONE = 100, 1_000
 
 # After how many seconds an editor has the answer to its upload.
-ANSWERED_SECONDS = 10
+ANSWERED_SECONDS = 10.0
 
 # How many elements an error names at most.
 MOST_NAMED = 20
 
-BROKEN = "The connection to the room broke. Nothing of this upload stays in the room: if the room accepted it, it " \
-         "is undone."
-LOST = "The server was restarted while the upload was on its way, and cannot be reached since. Update the data to " \
-       "see whether the room has the upload."
+BROKEN = (
+    "The connection to the room broke. Nothing of this upload stays in the room: if the room accepted it, it "
+    "is undone."
+)
+LOST = (
+    "The server was restarted while the upload was on its way, and cannot be reached since. Update the data to "
+    "see whether the room has the upload."
+)
 UNSETTLED = "An earlier upload is still on its way to the room. Nothing of this upload was sent."
-FULL = "The room's journal is full, so nothing was uploaded. Ask who runs the server to save the map and start it " \
-       "again."
+FULL = (
+    "The room's journal is full, so nothing was uploaded. Ask who runs the server to save the map and start it "
+    "again."
+)
 
 Result = TypeVar("Result")
 
@@ -93,8 +99,9 @@ class Done:
 class Uploads:
     """Uploads of all authors to one room. At most one is under way at a time: callers hold a lock."""
 
-    def __init__(self, room: RoomConnection, room_map: RoomMap, seconds: float,
-                 note: Callable[[str], None] = lambda line: None) -> None:
+    def __init__(
+        self, room: RoomConnection, room_map: RoomMap, seconds: float, note: Callable[[str], None] = lambda line: None
+    ) -> None:
         self._room, self._map, self._seconds, self._note = room, room_map, seconds, note
         self._taking_back = TakingBack(room, room_map, note)
         self._ledger = room_map.ledger
@@ -157,8 +164,15 @@ class Uploads:
         """Returns an attempt with a plan, on the present map."""
         names = {each.name for each in plan.results if each.name}
         versions = {name: self._map.version(name) or FIRST_VERSION for name in names}
-        return Attempt(upload, plan, self._map.seq, self._map.run, self._map.states_before(plan.rows), versions,
-                       self._map.watch(plan.rows))
+        return Attempt(
+            upload,
+            plan,
+            self._map.seq,
+            self._map.run,
+            self._map.states_before(plan.rows),
+            versions,
+            self._map.watch(plan.rows),
+        )
 
     async def _carried_out(self, attempt: Attempt) -> Outcome:
         """Sends a plan. If it is accepted although others changed its elements in between, it is taken back, and that
@@ -171,12 +185,16 @@ class Uploads:
                     return Outcome(None, attempt.versions)
                 if answer.why != UNKNOWN:
                     return Outcome(answer, {})
-                await self._in_time(self._room.catch_up(), ApiError(409, LOST),
-                                    lambda: self._ledger.settle(attempt.upload.request))
+                await self._in_time(
+                    self._room.catch_up(), ApiError(409, LOST), lambda: self._ledger.settle(attempt.upload.request)
+                )
                 return self._after_restart(attempt)
             group = self._accepted(attempt, answer)
-            await self._in_time(self._taking_back.seen(group.seq, group.run), no_connection(BROKEN),
-                                lambda: self._settle_soon(self._taken_back(attempt, group)))
+            await self._in_time(
+                self._taking_back.seen(group.seq, group.run),
+                no_connection(BROKEN),
+                lambda: self._settle_soon(self._taken_back(attempt, group)),
+            )
             if self._map.run != group.run:
                 return self._after_restart(attempt)
             outcome = self._compared(attempt, group)
@@ -201,8 +219,9 @@ class Uploads:
         """Sends a plan as a group. The ledger has it until it is answered, so that after a kill the bridge can ask the
         room what became of it."""
         upload, plan = attempt.upload, attempt.plan
-        results = tuple((each.kind.value, each.old_id, each.name, self._planned_digest(plan, each.name))
-                        for each in plan.results)
+        results = tuple(
+            (each.kind.value, each.old_id, each.name, self._planned_digest(plan, each.name)) for each in plan.results
+        )
 
         is_announced = False
 
@@ -265,8 +284,9 @@ class Uploads:
         why = conflict.in_words(self._room.authors)
         self._note(f"entry {group.seq} of {group.author}, an upload, is taken back: {why}")
         taking_back = asyncio.create_task(self._taken_back(attempt, group))
-        left = await self._in_time(asyncio.shield(taking_back), no_connection(BROKEN),
-                                   lambda: self._settle_soon(taking_back))
+        left = await self._in_time(
+            asyncio.shield(taking_back), no_connection(BROKEN), lambda: self._settle_soon(taking_back)
+        )
         if not left.names:
             return
         if left.is_whole:
@@ -274,8 +294,11 @@ class Uploads:
         assert left.refusal is not None
         authors, what = self._room.authors, "The upload" if left.is_whole else "A part of the upload"
         names = ", ".join(f"{kind_of(name).value} {api_id(name)}" for name in left.names[:MOST_NAMED])
-        raise ApiError(409, f"{what} stays in the room, although {conflict.in_words(authors)}: "
-                            f"{left.refusal.in_words(authors)}. Update the data, and look at {names}")
+        raise ApiError(
+            409,
+            f"{what} stays in the room, although {conflict.in_words(authors)}: "
+            f"{left.refusal.in_words(authors)}. Update the data, and look at {names}",
+        )
 
     async def _taken_back(self, attempt: Attempt, group: Group) -> Left:
         """Takes a group back, and returns what is left. Versions are as before, since nobody saw the group."""
@@ -304,8 +327,9 @@ class Uploads:
 
     # what is cut off in the middle
 
-    async def _in_time(self, awaited: Awaitable[Result], fault: ApiError,
-                       give_up: Callable[[], None] = lambda: None) -> Result:
+    async def _in_time(
+        self, awaited: Awaitable[Result], fault: ApiError, give_up: Callable[[], None] = lambda: None
+    ) -> Result:
         """Waits for the room, but no longer than an upload may take."""
         try:
             return await asyncio.wait_for(awaited, self._seconds)
@@ -328,6 +352,7 @@ class Uploads:
 
     def _settle_soon(self, settling: Awaitable[object]) -> None:
         """Starts to settle an upload that was given up, in the background."""
+
         async def settle() -> None:
             try:
                 await settling
@@ -336,6 +361,7 @@ class Uploads:
             finally:
                 self._settling = None
                 self._map.unwatch()
+
         self._settling = asyncio.get_running_loop().create_task(settle())
 
     async def _give_up(self, attempt: Attempt, sent: "asyncio.Task[Answer]") -> None:
@@ -476,5 +502,9 @@ def names_in(plan: Plan) -> Iterator[str]:
 
 def results_of(planned: Sequence[Planned], versions: Mapping[str, int]) -> list[ResultRow]:
     """Returns what became of the elements of an upload."""
-    return [ResultRow(each.kind, each.old_id, api_id(each.name), versions[each.name]) if each.name
-            else ResultRow(each.kind, each.old_id) for each in planned]
+    return [
+        ResultRow(each.kind, each.old_id, api_id(each.name), versions[each.name])
+        if each.name
+        else ResultRow(each.kind, each.old_id)
+        for each in planned
+    ]

@@ -1,0 +1,8 @@
+"""Stands for the package python/maproom, which the commands of this folder import."""
+import importlib
+import os
+import sys
+
+sys.path.insert(0, os.path.join(os.path.dirname(os.path.realpath(__file__)), "python"))
+del sys.modules[__name__]
+importlib.import_module(__name__)

@@ -1,0 +1,1 @@
+"""The commands of the package, each a module with a `main`: pyproject.toml names them."""
