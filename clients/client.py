@@ -23,8 +23,8 @@ def arguments() -> argparse.Namespace:
     usage, layout = "%(prog)s [--follow] ROOM NAME [CHANGE..]", argparse.RawDescriptionHelpFormatter
     parser = argparse.ArgumentParser(usage=usage, description=__doc__, formatter_class=layout)
     parser.add_argument("--follow", action="store_true", help="print each change as a line of JSON")
-    parser.add_argument("room", metavar="ROOM")
-    parser.add_argument("name", metavar="NAME")
+    parser.add_argument("room", metavar="ROOM", help="the room to join")
+    parser.add_argument("name", metavar="NAME", help="the author of the changes")
     parser.add_argument("changes", metavar="CHANGE", nargs="*", type=message_of, help="a message without its id")
     return parser.parse_args()
 

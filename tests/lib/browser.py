@@ -5,7 +5,7 @@ import base64
 import contextlib
 import json
 from collections.abc import Iterator, Sequence
-from typing import Any
+from typing import Any, Protocol
 
 from .cases import given
 from .others import browsing
@@ -72,18 +72,25 @@ class Browser:
         return page
 
 
+class Owner(Protocol):
+    """What a page asks: the browser that has it."""
+
+    def ask(self, method: str, **how: Any) -> dict[str, Any]:
+        """Sends a request, and returns the answer."""
+
+
 class Page:
     """A page in a browser. `rest` is an expression that is true when the page is at rest, so that nothing moves during
     a click."""
 
-    def __init__(self, owner: Browser, session: str) -> None:
+    def __init__(self, owner: Owner, session: str) -> None:
         self.owner, self.session = owner, session
         self.faults: list[Any] = []
         self.rest = "true"
 
     def ask(self, method: str, **how: Any) -> dict[str, Any]:
         """Sends a request to the browser for this page."""
-        return self.owner.ask(method, self.session, **how)
+        return self.owner.ask(method, session=self.session, **how)
 
     def resize(self, width: int, height: int, is_phone: bool = False) -> None:
         """Gives the window another size, and a touch screen if it is a phone."""

@@ -1,13 +1,19 @@
 """Authors who use the page clients/page/map.html in a browser. One thread drives all pages of the browser."""
+from __future__ import annotations
+
 import json
 import threading
 import time
+from collections.abc import Mapping, Sequence
+from typing import Protocol
 
-from .authors import NAP, Author
+from .authors import NAP, Author, AuthorsRoom, Stage
+from .browser import Browser, Page
 from .cases import given
 from .journals import differing
 from .map_pages import connect, opened, pause, settled, url_of
 from .mappers import KEYS, VALUES, one_of
+from .page_files import PageFiles
 from .programs import PATIENCE
 
 # The weight of each kind of step.
@@ -80,31 +86,49 @@ SHAPES = """(() => {
 })()"""
 
 
-def call(function, *arguments):
+def call(function: str, *arguments: object) -> str:
     """An expression that calls a function of JavaScript."""
     return f"{function}({', '.join(map(json.dumps, arguments))})"
+
+
+class Way(Protocol):
+    """How to reach the server of a room."""
+
+    @property
+    def url(self) -> str:
+        """The address of the server."""
+
+
+class WayToRoom(AuthorsRoom, Protocol):
+    """The room of some authors, with the way to it."""
+
+    @property
+    def way(self) -> Way:
+        """The way."""
 
 
 class PageAuthor(Author):
     """An author who uses the page."""
 
     kind = "page"
+    room: WayToRoom
+    # The page, once it is opened.
+    page: Page
 
-    def __init__(self, stage, room, place, count):
+    def __init__(self, stage: Stage, room: WayToRoom, place: int, count: int) -> None:
         super().__init__(stage, room, place, count)
-        self.page = None
 
-    def open(self, chrome, files):
+    def open(self, chrome: Browser, files: PageFiles) -> None:
         """Opens the page, and connects it."""
         self.page = opened(chrome, url_of(files, self.room.way.url, self.name, self.room.name), is_apart=True)
         self.connect()
 
-    def connect(self):
+    def connect(self) -> None:
         """Connects the page, and has it record changes."""
         connect(self.page)
         self.page.get(RECORDED)
 
-    def note_outcomes(self):
+    def note_outcomes(self) -> None:
         """Notes the outcomes that the page recorded."""
         for told in self.page.get("outcomes.splice(0)"):
             asked, answered = told["asked"] / 1000, told["answered"] / 1000
@@ -115,7 +139,7 @@ class PageAuthor(Author):
 
     # Steps.
 
-    def step(self):
+    def step(self) -> None:
         """Makes a random step, and waits until it is saved or refused."""
         word = one_of(self.chance, STEPS)
         self.last = word
@@ -126,23 +150,23 @@ class PageAuthor(Author):
         self.note_outcomes()
         self.close_list()
 
-    def close_list(self):
+    def close_list(self) -> None:
         """Closes the list of changes that were not done, and counts them."""
         count = self.page.get("page.notDone.length")
         if count:
             self.steps["not done"] += count
             self.page.click("#close-not-done", "×")
 
-    def names(self, kinds="nwr"):
+    def names(self, kinds: str = "nwr") -> list[str]:
         """The names of all elements of some kinds."""
         return [name for name in dict(self.room.journal.last.rows) if name[0] in kinds]
 
-    def select(self, *names):
+    def select(self, *names: str) -> None:
         """Selects elements."""
         self.last = f"{self.last} {names}"
         self.page.get(f"page.select({', '.join(map(json.dumps, names))})")
 
-    def select_one(self, kinds="nwr"):
+    def select_one(self, kinds: str = "nwr") -> str | None:
         """Selects a random element. Returns its name, or None if there is none."""
         names = self.names(kinds)
         if not names:
@@ -151,26 +175,26 @@ class PageAuthor(Author):
         self.select(name)
         return name
 
-    def press_button(self, selector, *texts):
+    def press_button(self, selector: str, *texts: str) -> bool:
         """Presses one of the buttons that are there. Returns whether one was there."""
         at = self.page.get(call(BUTTON, selector, texts, self.chance.random()))
         if at:
             self.page.click_at(*at)
         return at is not None
 
-    def place(self):
+    def place(self) -> tuple[float, float]:
         """A random place of the map in the window."""
         x, y, width, height = self.page.get(
             "(({ x, y, width, height }) => [x, y, width, height])" "($('map').getBoundingClientRect())"
         )
         return x + width * self.chance.uniform(0.1, 0.9), y + height * self.chance.uniform(0.2, 0.9)
 
-    def point(self):
+    def point(self) -> None:
         """Makes a node."""
         self.press_button("#point")
         self.page.click_at(*self.place())
 
-    def draw(self, tool, least):
+    def draw(self, tool: str, least: int) -> None:
         """Draws a line or an area near a random place."""
         self.press_button(tool)
         x, y = self.place()
@@ -179,15 +203,15 @@ class PageAuthor(Author):
             pause(self.page)
         self.page.press("Enter")
 
-    def line(self):
+    def line(self) -> None:
         """Draws a line."""
         self.draw("#line", 2)
 
-    def area(self):
+    def area(self) -> None:
         """Draws an area."""
         self.draw("#area", 3)
 
-    def tag(self):
+    def tag(self) -> None:
         """Types a tag and saves it."""
         self.select_one()
         key, value = self.chance.choice(KEYS), self.chance.choice(VALUES)
@@ -199,63 +223,65 @@ class PageAuthor(Author):
         settled(self.page)
         self.page.get("page.panels.typed.clear(), page.select(), 0")
 
-    def drag(self):
+    def drag(self) -> None:
         """Drags a node, perhaps onto another one."""
-        name, other = self.select_one("n"), self.chance.choice(self.names("n") or [None])
-        one, at = (name and self.page.get(call(NODE, each)) for each in (name, other))
+        name = self.select_one("n")
+        others: list[str | None] = [*self.names("n")]
+        other = self.chance.choice(others or [None])
+        one, at = (self.page.get(call(NODE, each)) if name else None for each in (name, other))
         if one and (at or self.chance.random() < 0.8):
             is_near = self.chance.random() < 0.8 or not at
             to = (one[0] + self.chance.uniform(-40, 40), one[1] + self.chance.uniform(-40, 40)) if is_near else at
             self.page.drag(one, to)
 
-    def delete(self):
+    def delete(self) -> None:
         """Deletes an element that nothing else uses, with its nodes."""
         self.select_one()
         self.page.press("Delete")
 
-    def delete_everywhere(self):
+    def delete_everywhere(self) -> None:
         """Deletes an element also out of relations."""
         self.select_one()
         self.press_button("#selected button", "Delete everywhere")
 
-    def press(self):
+    def press(self) -> None:
         """Presses a button for an element."""
         self.select_one()
         self.press_button("#selected button", *BUTTONS)
 
-    def press_for_two(self):
+    def press_for_two(self) -> None:
         """Presses a button for two elements."""
         names = self.names(self.chance.choice(("n", "w", "nw")))
         self.select(*self.chance.sample(names, min(2, len(names))))
         self.press_button("#selected button", *BUTTONS)
 
-    def edit(self):
+    def edit(self) -> None:
         """Makes edits of any kind as one gesture."""
         rows = dict(self.room.journal.last.rows)
         messages = [self.mapper.edit(rows) for _ in range(self.chance.choice((1, 1, 2, 3)))]
         self.last = messages
         self.page.get(f"page.perform('edited', () => {json.dumps(messages)}), 0")
 
-    def undo(self):
+    def undo(self) -> None:
         """Presses Undo."""
         self.press_button("#undo")
 
-    def redo(self):
+    def redo(self) -> None:
         """Presses Redo."""
         self.press_button("#redo")
 
-    def undo_one(self):
+    def undo_one(self) -> None:
         """Undoes a chosen entry."""
         self.press_button("#undos button")
 
-    def find(self):
+    def find(self) -> None:
         """Finds elements, and goes to one of them."""
         self.page.fill("#find", self.chance.choice(("path", "n1", "yes", "47")))
         self.press_button("#found button")
         self.page.fill("#find", "")
         self.press_button("#fit")
 
-    def reload(self):
+    def reload(self) -> None:
         """Loads the page anew, and connects again."""
         if self.page.get("page.session.state === 'open' && page.mayLeave()"):
             self.note_outcomes()
@@ -265,7 +291,7 @@ class PageAuthor(Author):
 
     # Looks.
 
-    def look(self, rows, seq, undos):
+    def look(self, rows: Mapping[str, object], seq: int, undos: object) -> None:
         """Checks, while all authors rest, that the page knows the room's map at an entry, and what this author can undo
         and redo. `undos` are these lists as another session receives them. Before, a drawing that the page gave back
         is dropped, and the list of changes that were not done is closed."""
@@ -297,11 +323,11 @@ class PageAuthor(Author):
 class Driver:
     """The thread that drives all pages."""
 
-    def __init__(self, stage, authors):
+    def __init__(self, stage: Stage, authors: Sequence[PageAuthor]) -> None:
         self.stage, self.authors = stage, authors
         self.thread = threading.Thread(target=self.live, daemon=True)
 
-    def live(self):
+    def live(self) -> None:
         """Makes the steps of all pages until all is over."""
         while not self.stage.is_over.is_set():
             if not any([self.drive(author) for author in self.authors]):
@@ -309,7 +335,7 @@ class Driver:
         for author in self.authors:
             author.rests = True
 
-    def drive(self, author):
+    def drive(self, author: PageAuthor) -> bool:
         """Has a page make a step, if it is time. Returns whether it did."""
         try:
             if self.stage.may_act(author) and author.is_time():

@@ -1,3 +1,2 @@
-mod ExampleProofs
 pub mod Planned
 pub mod Retagged

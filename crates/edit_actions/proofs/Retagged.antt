@@ -1,29 +1,7 @@
 -- An accepted retag changes only the tags of its name.
 use Rattle.std.proofs.Common.{◌≡◌, ◌≢◌, Bool, true, false, not, cond, None, Some, List, [], ◌∷◌, refl, sym, ap, ◌∙◌}
-use Rattle.osm_elements.specs.declared.name.Name.{Name}
-use Rattle.osm_elements.specs.declared.element.Element.{Element}
-use Rattle.osm_elements.specs.declared.element.Element.TheVariants.{Node, Way, Relation}
-use Rattle.osm_elements.specs.Elements.{tags_of}
-use Rattle.osm_elements.specs.Maps.{Rows, is_absent, is_present}
-use Rattle.osm_elements.specs.Rows.{row_at}
-use Rattle.osm_elements.specs.TagRows.{Pairs}
-use Rattle.osm_changes.specs.declared.change.Change.{Change}
-use Rattle.osm_changes.specs.declared.part.Part.TheVariants.{Tags, Rest}
-use Rattle.osm_changes.specs.SameRows.{are_same_tags}
-use Rattle.osm_changes.specs.Cells.{tags_at}
-use Rattle.osm_changes.specs.Changes.{changed_cells, differences, half_change, row_changes}
-use Rattle.osm_changes.specs.Halves.{half, are_same_halves}
-use Rattle.osm_changes.specs.Facts.Halves.{same_itself}
-use Rattle.osm_changes.specs.Facts.SameElements.{tags_itself}
-use Rattle.edit_simple.specs.declared.refusal.Refusal.{Refusal}
-use Rattle.edit_simple.specs.declared.refusal.Refusal.TheVariants.{Absent, Nothing}
-use Rattle.edit_simple.specs.Checks.{first_that_holds}
-use Rattle.edit_simple.specs.Contents.{row_tags, with_tags}
-use Rattle.edit_simple.specs.Retag.{retag_checks, after_retag}
-use Rattle.edit_simple.specs.Tagging.{GivenTags, retagged}
-use Rattle.edit_simple.specs.Facts.Checked.{nones, not_so, from_false}
-use Rattle.edit_simple.specs.Facts.Differences.{one_rewritten}
-use Rattle.edit_simple.specs.Facts.Retagging.{is_there, tags_of-with_tags}
+use Rattle.edit_actions.specs.Prelude.{Name, Element, Node, Way, Relation, tags_of, Rows, is_absent, is_present, row_at, Pairs, Change, Tags, Rest, are_same_tags, tags_at, changed_cells, differences, half_change, row_changes, half, are_same_halves, same_itself, tags_itself, Refusal, Absent, Nothing, first_that_holds, row_tags, with_tags, retag_checks, after_retag, GivenTags, nones, not_so, from_false, one_rewritten, is_there, tags_of-with_tags}
+use Rattle.edit_simple.specs.Tagging.{retagged}
 
 module _ {A : Type 0} where
   rest_stays : (f : Pairs → Pairs) (v : Element A) → half Rest (Some (with_tags f v)) ≡ half Rest (Some v)

@@ -1,22 +1,9 @@
 -- The map after an accepted action, and the action's changes. (The rules of the actions are this project's.)
 use Rattle.std.specs.Prelude.{List}
-use Rattle.osm_elements.specs.Maps.{Rows}
+use Rattle.edit_topology.specs.Prelude.{Rows, differences, after_create, after_delete, after_members, after_move, after_nodes, after_purge, after_retag, after_reverse, after_join, after_merge, after_split, after_unglue}
 use Rattle.osm_changes.specs.declared.change.Change.{Change}
-use Rattle.osm_changes.specs.Changes.{differences}
-use Rattle.edit_simple.specs.Create.{after_create}
-use Rattle.edit_simple.specs.Delete.{after_delete}
-use Rattle.edit_simple.specs.Members.{after_members}
-use Rattle.edit_simple.specs.Move.{after_move}
-use Rattle.edit_simple.specs.Nodes.{after_nodes}
-use Rattle.edit_simple.specs.Purge.{after_purge}
-use Rattle.edit_simple.specs.Retag.{after_retag}
-use Rattle.edit_simple.specs.Reverse.{after_reverse}
-use Rattle.edit_topology.specs.Join.{after_join}
-use Rattle.edit_topology.specs.Merge.{after_merge}
-use Rattle.edit_topology.specs.Split.{after_split}
-use Rattle.edit_topology.specs.Unglue.{after_unglue}
-use Rattle.edit_actions.specs.declared.action.Action.{Action}
-use Rattle.edit_actions.specs.declared.action.Action.TheVariants.{Create, Retag, Move, Reverse, Nodes, Members, Delete, Purge, Split, Join, Merge, Unglue}
+use Rattle.room_interface.specs.declared.action.Action.{Action}
+use Rattle.room_interface.specs.declared.action.Action.TheVariants.{Create, Retag, Move, Reverse, Nodes, Members, Delete, Purge, Split, Join, Merge, Unglue}
 
 module _ {A : Type 0} where
   abbrev pub after : Rows A → Action A → Rows A

@@ -1,13 +1,12 @@
 -- Examples of accepted and refused actions, worked out by hand from docs/PROTOCOL.md ("Actions", "Refusals"). `four`
 -- has two nodes, a way from n-1 to n-2 and back, and a relation with this way.
 use Rattle.std.specs.Prelude.{◌≡◌, ◌∷◌, [], Some, None, pos, negsuc}
+use Rattle.edit_topology.specs.Prelude.{Rows, Any, n-1, n-2, n5, w1, w5, r1, node_at, way_of, relation_of, outer, x}
 use Rattle.osm_elements.specs.declared.name.Name.{Name}
 use Rattle.osm_elements.specs.declared.element.Element.{Element}
 use Rattle.osm_elements.specs.declared.element.Element.TheVariants.{Node, Way}
-use Rattle.osm_elements.specs.Maps.{Rows}
-use Rattle.edit_simple.specs.declared.refusal.Refusal.TheVariants.{Absent, Present, BadPosition, OutOfRange}
-use Rattle.edit_simple.specs.Scenes.{Any, n-1, n-2, n5, w1, w5, r1, node_at, way_of, relation_of, outer, x}
-use Rattle.edit_actions.specs.declared.action.Action.TheVariants.{Create, Retag, Move, Split}
+use Rattle.room_interface.specs.declared.refusal.Refusal.TheVariants.{Absent, Present, BadPosition, OutOfRange}
+use Rattle.room_interface.specs.declared.action.Action.TheVariants.{Create, Retag, Move, Split}
 use Rattle.edit_actions.specs.After.{after}
 use Rattle.edit_actions.specs.Refusals.{refusal}
 

@@ -1,5 +1,5 @@
 pub mod After
 pub mod Examples
 pub mod Facts
-pub mod MadeActions
+pub mod Prelude
 pub mod Refusals

@@ -1,23 +1,10 @@
 -- The refusal of an action on a map: the first of its checks, in order, that holds. (The rules of the actions are this
 -- project's.)
 use Rattle.std.specs.Prelude.{List, Option}
-use Rattle.osm_elements.specs.Maps.{Rows}
-use Rattle.edit_simple.specs.declared.refusal.Refusal.{Refusal}
-use Rattle.edit_simple.specs.Checks.{first_that_holds}
-use Rattle.edit_simple.specs.Create.{create_checks}
-use Rattle.edit_simple.specs.Delete.{delete_checks}
-use Rattle.edit_simple.specs.Members.{members_checks}
-use Rattle.edit_simple.specs.Move.{move_checks}
-use Rattle.edit_simple.specs.Nodes.{nodes_checks}
-use Rattle.edit_simple.specs.Purge.{purge_checks}
-use Rattle.edit_simple.specs.Retag.{retag_checks}
-use Rattle.edit_simple.specs.Reverse.{reverse_checks}
-use Rattle.edit_topology.specs.Join.{join_checks}
-use Rattle.edit_topology.specs.Merge.{merge_checks}
-use Rattle.edit_topology.specs.Split.{split_checks}
-use Rattle.edit_topology.specs.Unglue.{unglue_checks}
-use Rattle.edit_actions.specs.declared.action.Action.{Action}
-use Rattle.edit_actions.specs.declared.action.Action.TheVariants.{Create, Retag, Move, Reverse, Nodes, Members, Delete, Purge, Split, Join, Merge, Unglue}
+use Rattle.edit_topology.specs.Prelude.{Rows, first_that_holds, create_checks, delete_checks, members_checks, move_checks, nodes_checks, purge_checks, retag_checks, reverse_checks, join_checks, merge_checks, split_checks, unglue_checks}
+use Rattle.room_interface.specs.declared.refusal.Refusal.{Refusal}
+use Rattle.room_interface.specs.declared.action.Action.{Action}
+use Rattle.room_interface.specs.declared.action.Action.TheVariants.{Create, Retag, Move, Reverse, Nodes, Members, Delete, Purge, Split, Join, Merge, Unglue}
 
 module _ {A : Type 0} where
   abbrev pub checks : Rows A → Action A → List (Option (Refusal A))

@@ -1,19 +1,14 @@
 //! Laws of the actions. Each law is the contract of an empty function.
 ghost use Rattle.std.specs.Prelude.{◌≡◌, ◌≢◌, [], ◌∷◌, true, Some, None};
+ghost use Rattle.edit_topology.specs.Prelude.{row_at, Rows, tags_at, changed_cells, half_change, is_sound, GivenTags, is_made_action};
+ghost use Rattle.osm_changes.specs.Changes.{changed};
 ghost use Rattle.osm_elements.specs.declared.element.Element.{Element};
 ghost use Rattle.osm_elements.specs.declared.name.Name.{Name};
-ghost use Rattle.osm_elements.specs.Rows.{row_at};
-ghost use Rattle.edit_actions.specs.declared.action.Action.TheVariants.{Create, Delete, Retag};
-ghost use Rattle.osm_elements.specs.Maps.{Rows};
+ghost use Rattle.room_interface.specs.declared.action.Action.TheVariants.{Create, Delete, Retag};
 ghost use Rattle.osm_changes.specs.declared.part.Part.TheVariants.{Tags, Rest};
-ghost use Rattle.osm_changes.specs.Cells.{tags_at};
-ghost use Rattle.osm_changes.specs.Changes.{changed, changed_cells, half_change};
-ghost use Rattle.osm_changes.specs.Sound.{is_sound};
-ghost use Rattle.edit_simple.specs.Tagging.{GivenTags};
-ghost use Rattle.edit_actions.specs.declared.action.Action.{Action};
+ghost use Rattle.room_interface.specs.declared.action.Action.{Action};
 ghost use Rattle.edit_actions.specs.After.{after, changes};
 ghost use Rattle.edit_actions.specs.Examples.{created, retagged, moved, split};
-ghost use Rattle.edit_actions.specs.MadeActions.{is_made_action};
 ghost use Rattle.edit_actions.specs.Refusals.{refusal};
 
 use std::alloc::Allocator;

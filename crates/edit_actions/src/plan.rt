@@ -1,25 +1,22 @@
 //! Plans: the changes that an action would make in a store, or its refusal.
 ghost use Rattle.std.specs.Prelude.{◌≡◌, true, IfOk};
-ghost use Rattle.osm_elements.specs.Maps.{Rows};
-ghost use Rattle.osm_changes.specs.Changes.{changed, differences, AreFrom};
-ghost use Rattle.osm_changes.specs.Sound.{is_sound};
-ghost use Rattle.edit_simple.specs.Plans.{IsPlan};
+ghost use Rattle.edit_topology.specs.Prelude.{Rows, differences, AreFrom, is_sound, IsPlan, is_made_action};
+ghost use Rattle.osm_changes.specs.Changes.{changed};
 ghost use Rattle.edit_actions.specs.After.{after};
-ghost use Rattle.edit_actions.specs.MadeActions.{is_made_action};
 ghost use Rattle.edit_actions.specs.Refusals.{checks};
 
-use crate::action::Action;
-use crate::each_action;
 use edit_simple::plans::{
     plan_create, plan_delete, plan_members, plan_move, plan_nodes, plan_purge, plan_retag,
     plan_reverse,
 };
-use edit_simple::refusal::Refusal;
 use edit_topology::plans::{plan_join, plan_merge, plan_split, plan_unglue};
 use osm_changes::changes::Changes;
 use osm_changes::laws::differences_are_changes;
 use osm_changes::store::Store;
 use osm_drafts::draft::Draft;
+use room_interface::action::{Action, keeps_values};
+use room_interface::each_action;
+use room_interface::refusal::Refusal;
 use std::alloc::Allocator;
 
 // Calls the plan of an action.
@@ -103,27 +100,4 @@ fn keeps<A: Allocator>(action: &Action<A>)
 {
     differences_are_changes::<A>();
     keeps_values(action);
-}
-
-/// Proves that the values of an action are made, from the invariants of their types. It does nothing. It is public
-/// because a room that is shared by turns needs this fact for each call. It is written by hand because it needs nothing
-/// for most actions.
-pub fn keeps_values<A: Allocator>(action: &Action<A>)
-    ensures { is_made_action action.now ≡ true }
-{
-    match action {
-        Action::Create { element, .. } => {
-            let _ = element.kind();
-        }
-        Action::Retag { tags, .. } => {
-            let _ = tags.rows();
-        }
-        Action::Nodes { list, .. } => {
-            let _ = list.names();
-        }
-        Action::Members { list, .. } => {
-            let _ = list.as_slice();
-        }
-        _ => {}
-    }
 }

@@ -1,19 +1,11 @@
 -- The lists of numbers after an entry becomes active or ceases to be.
-use Rattle.std.proofs.Common.{◌≡◌, ◌&&◌, ◌||◌, ℕ, Result, Ok, Err, OnErr, Bool, true, false, not, cond, List, [], ◌∷◌, ◌++◌, refl, sym, ap, ◌∙◌, arith}
+use Rattle.std.proofs.Common.{◌≡◌, ◌&&◌, ◌||◌, ℕ, Result, Ok, Err, OnErr, Bool, true, false, not, cond, List, [], ◌∷◌, ◌++◌, refl, sym, ap, ◌∙◌, arith, is_eq, nat_cmp}
 use Rattle.std.proofs.lemmas.Cmp.{nat_cmp_total}
-use Rattle.std.specs.Ordering.{is_eq, nat_cmp}
-use Rattle.std.specs.FinMap.{nat_cmp-IsAntisymmetric}
-use Rattle.osm_changes.specs.declared.cell.Cell.{Cell}
-use Rattle.osm_changes.specs.Cells.{cell_cmp, has, IsRising}
-use Rattle.osm_changes.specs.Facts.Cells.{cell_cmp_total, cell_cmp-IsAntisymmetric}
+use Rattle.edit_footprint.specs.Prelude.{nat_cmp-IsAntisymmetric, Cell, cell_cmp, cell_cmp_total, cell_cmp-IsAntisymmetric, but, AreLists, Gains, Lacks, Loses, SameLists, same_rising, IsRising-but, is_among-but, IsTable-lists, same_holders, holding-standing, AreHeld-standing, holding-fallen, AreHeld-fallen, AreBelow, IsRising-last, is_among-last, same_number, Held, IsNext, HoldsOnly, fallen, holding, holds, standing}
+use Rattle.osm_changes.specs.Cells.{has, IsRising}
+use Rattle.rising_lists.specs.Rising.{is_among}
+use Rattle.rising_lists.specs.Facts.Tables.{same_lists}
 use Rattle.rising_lists.specs.Rising as rising
-use Rattle.rising_lists.specs.Rising.{is_among, but}
-use Rattle.rising_lists.specs.Lists.{AreLists, Gains, Lacks, Loses, SameLists}
-use Rattle.rising_lists.specs.Facts.Rising.{same_rising, IsRising-but, is_among-but}
-use Rattle.rising_lists.specs.Facts.Tables.{IsTable-lists, same_lists}
-use Rattle.edit_footprint.specs.Facts.Holding.{same_holders, holding-standing, AreHeld-standing, holding-fallen, AreHeld-fallen}
-use Rattle.edit_footprint.specs.Facts.Numbers.{AreBelow, IsRising-last, is_among-last, same_number}
-use Rattle.edit_footprint.specs.Holding.{Held, IsNext, HoldsOnly, fallen, holding, holds, standing}
 
 same_numbers : (xs ys : List ℕ) → rising.IsRising nat_cmp xs → rising.IsRising nat_cmp ys → ((n : ℕ) → is_among nat_cmp xs n ≡ is_among nat_cmp ys n) → xs ≡ ys
 same_numbers = same_rising nat_cmp nat_cmp_total nat_cmp-IsAntisymmetric

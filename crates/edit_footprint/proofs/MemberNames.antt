@@ -1,7 +1,6 @@
 -- The names of members.
 use Rattle.std.proofs.Common.{◌≡◌, List, [], ◌∷◌, map, refl, ap}
-use Rattle.osm_elements.specs.declared.member.Member.{Member}
-use Rattle.osm_elements.specs.Members.{member_pair}
+use Rattle.edit_footprint.specs.Prelude.{Member, member_pair}
 
 pub names_of_members : {A : Type 0} (members : List (Member A))
     → map (λ m. m.0) (map member_pair members) ≡ map (λ m. m.name) members

@@ -1,27 +1,16 @@
 -- A walk over the cells of a footprint finds the first entry after a number that holds one of them.
+use Rattle.std.proofs.Common.{◌≡◌, ◌+◌, ◌||◌, ◌<◌, ◌≤◌, ℕ, Bool, true, false, T, cond, List, [], ◌∷◌, ◌++◌, Option, Some, None, length, take, nat_lt, slice_get, refl, get_or, leb, sym, ap, subst, ◌∙◌, arith, Bor, find, option_copied, is_lt, nat_cmp}
 use Prim.Native.Nat.{zero, suc}
-use Rattle.std.proofs.Common.{◌≡◌, ◌+◌, ◌||◌, ◌<◌, ◌≤◌, ℕ, Bool, true, false, T, cond, List, [], ◌∷◌, ◌++◌, Option, Some, None, Bor, length, get_or, take, nat_lt, leb, slice_get, refl, sym, ap, subst, ◌∙◌, arith}
 use Rattle.std.proofs.lemmas.Bool.Decides.{nat_tests}
 use Rattle.std.proofs.lemmas.Cmp.{nat_cmp_total}
 use Rattle.std.proofs.lemmas.List.{take_more}
 use Rattle.std.proofs.lemmas.Option.{slice_get_past, slice_get-get_or}
-use Rattle.std.specs.List.{find}
-use Rattle.std.specs.List.Sorted.{IsNonDecreasing, IsPartitionPoint}
-use Rattle.std.specs.Option.{option_copied}
-use Rattle.std.specs.Ordering.{is_lt, nat_cmp}
-use Rattle.std.specs.Slice.{IsItemAt}
-use Rattle.osm_elements.specs.declared.name.Name.{Name}
-use Rattle.osm_elements.specs.NameOrder.{name_cmp}
+use Rattle.edit_footprint.specs.Prelude.{IsNonDecreasing, IsPartitionPoint, IsItemAt, Name, name_cmp, Cell, cell_cmp, is_same_cell, cell_cmp_total, same_cells, is_same_cell-itself, has-append, below_at, not_less, not_less_itself, first_above, least_above, is_below, Held, holding, holds, Meets, IsFirst, IsFirstAfter}
+use Rattle.osm_changes.specs.Cells.{has, IsRising}
+use Rattle.edit_footprint.specs.Facts.Numbers.{none_above}
 use Rattle.osm_elements.specs.Facts.Entries.{first, second}
-use Rattle.osm_changes.specs.declared.cell.Cell.{Cell}
-use Rattle.osm_changes.specs.Cells.{cell_cmp, is_same_cell, has, IsRising}
-use Rattle.osm_changes.specs.Facts.Cells.{cell_cmp_total, same_cells, is_same_cell-itself, has-append}
-use Rattle.rising_lists.specs.Rising as rising
-use Rattle.rising_lists.specs.Facts.Searching.{below_at}
-use Rattle.edit_footprint.specs.Facts.Meeting.{not_less, not_less_itself}
-use Rattle.edit_footprint.specs.Facts.Numbers.{first_above, least_above, none_above, is_below}
-use Rattle.edit_footprint.specs.Holding.{Held, holding, holds, Meets, IsFirst, IsFirstAfter}
 use Rattle.edit_footprint.specs.Inner.Searching.{sooner}
+use Rattle.rising_lists.specs.Rising as rising
 
 -- rising numbers do not fall
 pub never_falling : (xs : List ℕ) → rising.IsRising nat_cmp xs → IsNonDecreasing xs

@@ -1,23 +1,14 @@
 -- Sorting cells and dropping repeats gives their set.
+use Rattle.std.proofs.Common.{◌≡◌, ◌||◌, suc, Bool, true, false, T, List, [], ◌∷◌, refl, Decides, sym, ap, subst, ◌∙◌, arith, Contains, IsPermutation, IsSorted, is_lt, Less}
+use Rattle.std.specs.List.Sorted.{IsStrictlySortedBy}
 use Prim.Native.Nat.{zero}
-use Rattle.std.proofs.Common.{◌≡◌, ◌||◌, suc, Bool, true, false, T, List, [], ◌∷◌, Decides, refl, sym, ap, subst, ◌∙◌, arith}
-use Rattle.std.specs.List.{Contains, dedup, AllByRecursion}
-use Rattle.std.specs.List.Retain.{IsFiltered, DiffersFromLast}
-use Rattle.std.specs.List.Sorted.{IsPermutation, IsSorted, IsStrictlySortedBy}
-use Rattle.std.specs.Ordering.{is_lt}
-use Rattle.std.specs.Cmp.{eq_by_cmp_equiv}
-use Rattle.std.specs.FinMap.Entries.{below_all}
-use Rattle.std.specs.declared.cmp.Ordering.TheVariants.{Less}
 use Rattle.std.proofs.lemmas.Bool.Decides.{same_from_decides}
 use Rattle.std.proofs.lemmas.List.Filters.{dedup_is}
 use Rattle.std.proofs.lemmas.List.Kept.{Contains-dedup, Contains-from_dedup, IsStrictlySortedBy-dedup}
 use Rattle.std.proofs.lemmas.List.Sorted.{Contains-permutation, IsPermutation-sym}
-use Rattle.osm_changes.specs.declared.cell.Cell.{Cell}
-use Rattle.osm_changes.specs.Cells.{cell_cmp, is_same_cell, IsRising, has, cell_set}
-use Rattle.osm_changes.specs.Facts.Cells.{cell_cmp_total, same_cells, is_same_cell-itself, same_as_cell_set}
-use Rattle.rising_lists.specs.Rising.{bare_rows}
+use Rattle.edit_footprint.specs.Prelude.{dedup, AllByRecursion, IsFiltered, DiffersFromLast, eq_by_cmp_equiv, below_all, Cell, cell_cmp, is_same_cell, cell_set, cell_cmp_total, same_cells, is_same_cell-itself, same_as_cell_set, bare_rows, has-more}
+use Rattle.osm_changes.specs.Cells.{IsRising, has}
 use Rattle.rising_lists.specs.Facts.Sorted.{both}
-use Rattle.edit_footprint.specs.Facts.CellSets.{has-more}
 
 -- a list has a cell exactly if it contains it
 has_contains : (cs : List Cell) (q : Cell) → has cs q ≡ true → Contains cs q

@@ -1,19 +1,7 @@
 -- The cells that changes touch follow from the sets of their halves' references.
-use Rattle.std.proofs.Common.{◌≡◌, ◌&&◌, ◌||◌, Bool, false, not, List, [], ◌∷◌, ◌++◌, map, refl, sym, ap, ◌∙◌}
-use Rattle.std.specs.List.{flat_map}
-use Rattle.osm_elements.specs.declared.name.Name.{Name}
-use Rattle.osm_elements.specs.Maps.{is_among, name_set}
-use Rattle.osm_elements.specs.Facts.Among.{is_among-name_set, is_among-append}
-use Rattle.osm_refs.specs.Facts.RisingNames.{is_among-passing}
-use Rattle.osm_changes.specs.declared.cell.Cell.{Cell}
-use Rattle.osm_changes.specs.declared.change.Change.{Change}
-use Rattle.osm_changes.specs.declared.part.Part.{Part}
-use Rattle.osm_changes.specs.declared.part.Part.TheVariants.{Tags, Rest}
-use Rattle.osm_changes.specs.Cells.{tags_at, rest_at, is_same_cell, has, cell_set}
-use Rattle.osm_changes.specs.Facts.Cells.{is_same_cell-itself, tags_rest, has-append, has-cell_set, IsRising-cell_set, same_as_cell_set}
-use Rattle.osm_refs.specs.Rising.{names_but}
-use Rattle.edit_footprint.specs.Footprints.{half_references, begun_or_ceased}
-use Rattle.edit_footprint.specs.Facts.CellSets.{has-rests}
+use Rattle.std.proofs.Common.{◌≡◌, ◌&&◌, ◌||◌, Bool, false, not, List, [], ◌∷◌, ◌++◌, map, refl, sym, ap, ◌∙◌, flat_map}
+use Rattle.edit_footprint.specs.Prelude.{Name, is_among, name_set, is_among-name_set, is_among-append, is_among-passing, Cell, Change, Part, Tags, Rest, tags_at, rest_at, is_same_cell, cell_set, is_same_cell-itself, tags_rest, has-append, has-cell_set, IsRising-cell_set, same_as_cell_set, names_but, half_references, begun_or_ceased, has-rests}
+use Rattle.osm_changes.specs.Cells.{has}
 use Rattle.edit_footprint.specs.Inner.Touching.{begun_or_ceased_once, all_begun_or_ceased}
 
 -- the rest of names has no tags

@@ -1,22 +1,10 @@
 -- A walk over two rising lists of cells finds the first cell that both have.
+use Rattle.std.proofs.Common.{◌≡◌, ℕ, suc, ◌+◌, ◌<◌, ◌≤◌, ◌||◌, cond, T, List, [], ◌∷◌, Option, Some, None, length, drop, refl, get_or, sym, ap, subst, ◌∙◌, add-one, arith, find, option_map, is_eq, Ordering, Less, Equal, Greater}
 use Prim.Native.Nat.{zero}
-use Rattle.std.proofs.Common.{◌≡◌, ℕ, suc, ◌+◌, ◌<◌, ◌≤◌, ◌||◌, cond, T, List, [], ◌∷◌, Option, Some, None, length, get_or, drop, refl, sym, ap, subst, ◌∙◌, add-one, arith}
 use Rattle.std.proofs.Math.Seq.{drop-cons}
-use Rattle.std.specs.List.{find}
-use Rattle.std.specs.Option.{option_map}
-use Rattle.std.specs.Ordering.{is_eq, ordering_reverse}
-use Rattle.std.specs.FinMap.Entries.{below_all}
-use Rattle.std.specs.declared.cmp.Ordering.{Ordering}
-use Rattle.std.specs.declared.cmp.Ordering.TheVariants.{Less, Equal, Greater}
-use Rattle.osm_elements.specs.declared.name.Name.{Name}
-use Rattle.osm_elements.specs.Facts.Entries.{first, second, below_less}
-use Rattle.osm_changes.specs.declared.cell.Cell.{Cell}
-use Rattle.osm_changes.specs.Cells.{cell_cmp, has, IsRising}
-use Rattle.osm_changes.specs.Facts.Cells.{cell_cmp_total}
-use Rattle.rising_lists.specs.Rising.{bare_rows}
-use Rattle.rising_lists.specs.Facts.Sorted.{less}
-use Rattle.edit_footprint.specs.Facts.CellSets.{none_above}
-use Rattle.edit_footprint.specs.Footprints.{meets}
+use Rattle.edit_footprint.specs.Prelude.{ordering_reverse, below_all, Name, below_less, Cell, cell_cmp, cell_cmp_total, bare_rows, less, none_above, meets}
+use Rattle.osm_elements.specs.Facts.Entries.{first, second}
+use Rattle.osm_changes.specs.Cells.{has, IsRising}
 
 -- the first cell of one list that the other has
 abbrev shared : List Cell → List Cell → Option Cell

@@ -1,10 +1,8 @@
 -- Agreement of two maps at given cells. (Footprints are this project's.)
 use Rattle.std.specs.Prelude.{◌≡◌, true, List}
+use Rattle.osm_changes.specs.Prelude.{Rows, users, rest_at, half_at, has}
 use Rattle.osm_elements.specs.declared.name.Name.{Name}
-use Rattle.osm_elements.specs.Maps.{Rows}
-use Rattle.osm_refs.specs.References.{users}
 use Rattle.osm_changes.specs.declared.cell.Cell.{Cell}
-use Rattle.osm_changes.specs.Cells.{rest_at, half_at, has}
 
 -- both maps have the same half, or none, at each of the cells, and the same users of each name whose rest is one of the
 -- cells

@@ -1,8 +1,7 @@
 -- Commutation of two actions. (Footprints are this project's.)
 use Rattle.std.specs.Prelude.{◌≡◌}
-use Rattle.osm_elements.specs.Maps.{Rows}
-use Rattle.edit_actions.specs.declared.action.Action.{Action}
-use Rattle.edit_actions.specs.After.{after}
+use Rattle.edit_actions.specs.Prelude.{Rows, after}
+use Rattle.room_interface.specs.declared.action.Action.{Action}
 use Rattle.edit_footprint.specs.Locality.{AcceptedAlike}
 
 -- the second action b is accepted alike before a, a is accepted alike after b, and both orders lead to the same map

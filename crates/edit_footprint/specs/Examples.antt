@@ -1,18 +1,12 @@
 -- Examples of footprints, worked out by hand. `start` has the ways w1 of n-1 and n-2, and w2 of n-1, n-3 and n-2, and
 -- the relation r1 of n-1, w2, w1 and w2.
 use Rattle.std.specs.Prelude.{◌≡◌, ◌++◌, [], ◌∷◌, Option, Some, None, pos}
+use Rattle.edit_actions.specs.Prelude.{Rows, named, put_row, tags_at, rest_at, both_at, after, Any, n-1, n-2, n-3, n-7, n5, w1, w2, w3, r1, r9, node_at, way_of, relation_of, outer, x, start, a1, beside, nodes_tagged}
 use Rattle.osm_elements.specs.declared.name.Name.{Name}
-use Rattle.osm_elements.specs.declared.name.Kind.TheVariants as kinds
-use Rattle.osm_elements.specs.Maps.{Rows}
-use Rattle.osm_elements.specs.NameTexts.{named}
-use Rattle.osm_elements.specs.Rows.{put_row}
-use Rattle.osm_changes.specs.Cells.{tags_at, rest_at, both_at}
-use Rattle.edit_actions.specs.declared.action.Action.{Action}
-use Rattle.edit_actions.specs.declared.action.Action.TheVariants.{Create, Retag, Move, Reverse, Nodes, Members, Delete, Purge, Split, Join, Merge, Unglue}
-use Rattle.edit_actions.specs.After.{after}
-use Rattle.edit_simple.specs.Scenes.{Any, n-1, n-2, n-3, n-7, n5, w1, w2, w3, r1, r9, node_at, way_of, relation_of, outer, x, start}
-use Rattle.edit_topology.specs.Scenes.{a1, beside, nodes_tagged}
+use Rattle.room_interface.specs.declared.action.Action.{Action}
+use Rattle.room_interface.specs.declared.action.Action.TheVariants.{Create, Retag, Move, Reverse, Nodes, Members, Delete, Purge, Split, Join, Merge, Unglue}
 use Rattle.edit_footprint.specs.Footprints.{footprint, meets}
+use Rattle.osm_elements.specs.declared.name.Kind.TheVariants as kinds
 
 abbrev pub w9 : Name
 w9 = named kinds.Way (pos 9) tt

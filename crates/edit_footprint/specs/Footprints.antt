@@ -1,19 +1,14 @@
 -- The footprint of an action on a map, cell by cell. (Footprints are this project's.)
-use Rattle.std.specs.Prelude.{◌≡◌, ◌++◌, true, List, [], ◌∷◌, Option, Some, None, map}
-use Rattle.std.specs.List.{find, flat_map, slice_get}
-use Rattle.std.specs.Option.{option_and_then, option_map, option_to_list}
+use Rattle.std.specs.Prelude.{◌≡◌, ◌++◌, true, List, [], ◌∷◌, Option, Some, None, map, find, flat_map, slice_get, option_and_then, option_map, option_to_list}
+use Rattle.edit_actions.specs.Prelude.{Rows, names_but, tags_at, rest_at, both_at, is_same_cell, cell_set, cell_of, changed_cells, changes}
+use Rattle.osm_changes.specs.Cells.{has}
 use Rattle.osm_elements.specs.declared.name.Name.{Name}
-use Rattle.osm_elements.specs.Maps.{Rows}
-use Rattle.osm_refs.specs.Rising.{names_but}
 use Rattle.osm_changes.specs.declared.cell.Cell.{Cell}
 use Rattle.osm_changes.specs.declared.change.Change.{Change}
 use Rattle.osm_changes.specs.declared.half.Half.{Half}
+use Rattle.room_interface.specs.declared.action.Action.{Action}
+use Rattle.room_interface.specs.declared.action.Action.TheVariants.{Create, Retag, Move, Reverse, Nodes, Members, Delete, Purge, Split, Join, Merge, Unglue}
 use Rattle.osm_changes.specs.declared.half.Half.TheVariants as halves
-use Rattle.osm_changes.specs.Cells.{tags_at, rest_at, both_at, is_same_cell, has, cell_set}
-use Rattle.osm_changes.specs.Changes.{cell_of, changed_cells}
-use Rattle.edit_actions.specs.declared.action.Action.{Action}
-use Rattle.edit_actions.specs.declared.action.Action.TheVariants.{Create, Retag, Move, Reverse, Nodes, Members, Delete, Purge, Split, Join, Merge, Unglue}
-use Rattle.edit_actions.specs.After.{changes}
 
 -- the least name of a cell that both footprints have
 abbrev pub meets : List Cell → List Cell → Option Name

@@ -1,14 +1,9 @@
 -- The active entries that hold a cell, because their footprints have it. (Footprints are this project's.)
-use Rattle.std.specs.Prelude.{◌≡◌, ◌<◌, ◌≤◌, ◌++◌, ℕ, Bool, true, false, not, T, List, [], ◌∷◌, Option, Some, None, map}
-use Rattle.std.specs.List.{filter, fold, list_all}
-use Rattle.std.specs.Ordering.{is_lt, nat_cmp}
-use Rattle.std.specs.FinMap.Entries.{put, is_sorted}
+use Rattle.std.specs.Prelude.{◌≡◌, ◌<◌, ◌≤◌, ◌++◌, ℕ, Bool, true, false, not, T, List, [], ◌∷◌, Option, Some, None, map, filter, fold}
+use Rattle.osm_changes.specs.Prelude.{list_all, is_lt, nat_cmp, put, is_sorted, name_cmp, cell_cmp, has, has_none, listed, but}
+use Rattle.rising_lists.specs.Rising.{is_among}
 use Rattle.osm_elements.specs.declared.name.Name.{Name}
-use Rattle.osm_elements.specs.NameOrder.{name_cmp}
 use Rattle.osm_changes.specs.declared.cell.Cell.{Cell}
-use Rattle.osm_changes.specs.Cells.{cell_cmp, has}
-use Rattle.rising_lists.specs.Lists.{has_none, listed}
-use Rattle.rising_lists.specs.Rising.{is_among, but}
 
 -- the held cells in order, each with the numbers of the entries that hold it, rising
 abbrev pub Held : Type 0

@@ -1,13 +1,10 @@
 -- What an action does not change, and when two maps accept it with the same changes. (Footprints are this project's.)
 use Rattle.std.specs.Prelude.{◌≡◌, false, None}
+use Rattle.edit_actions.specs.Prelude.{Rows, users, rest_at, half_at, after, changes, refusal}
+use Rattle.osm_changes.specs.Cells.{has}
 use Rattle.osm_elements.specs.declared.name.Name.{Name}
-use Rattle.osm_elements.specs.Maps.{Rows}
-use Rattle.osm_refs.specs.References.{users}
 use Rattle.osm_changes.specs.declared.cell.Cell.{Cell}
-use Rattle.osm_changes.specs.Cells.{rest_at, half_at, has}
-use Rattle.edit_actions.specs.declared.action.Action.{Action}
-use Rattle.edit_actions.specs.After.{after, changes}
-use Rattle.edit_actions.specs.Refusals.{refusal}
+use Rattle.room_interface.specs.declared.action.Action.{Action}
 use Rattle.edit_footprint.specs.Footprints.{footprint}
 
 module _ {A : Type 0} where

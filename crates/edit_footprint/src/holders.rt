@@ -1,7 +1,6 @@
 //! The active entries that hold a cell.
-ghost use Rattle.std.specs.Prelude.{◌≡◌, [], nat_lt, OnOk, OnErr};
-ghost use Rattle.std.specs.List.{find};
-ghost use Rattle.std.specs.Ordering.{nat_cmp};
+ghost use Rattle.std.specs.Prelude.{◌≡◌, [], nat_lt, OnOk, OnErr, find};
+ghost use Rattle.edit_actions.specs.Prelude.{nat_cmp};
 ghost use Rattle.rising_lists.specs.Rising.{IsRising};
 ghost use Rattle.edit_footprint.specs.Holding.{AreHeld, IsNext, HoldsOnly, IsFirstAfter, standing, fallen};
 ghost use Rattle.edit_footprint.specs.Inner.Searching as inner;

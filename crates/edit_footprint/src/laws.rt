@@ -1,16 +1,10 @@
 //! Laws of footprints. Each law is the contract of an empty function.
 ghost use Rattle.std.specs.Prelude.{◌≡◌, ℕ, true, false, List, Some, None};
-ghost use Rattle.std.specs.Ordering.{is_lt};
+ghost use Rattle.edit_actions.specs.Prelude.{is_lt, name_cmp, Rows, is_sound, after, is_made_action, refusal};
 ghost use Rattle.osm_elements.specs.declared.name.Name.{Name};
-ghost use Rattle.osm_elements.specs.NameOrder.{name_cmp};
-ghost use Rattle.osm_elements.specs.Maps.{Rows};
 ghost use Rattle.osm_changes.specs.declared.cell.Cell.{Cell};
 ghost use Rattle.osm_changes.specs.Cells.{has, IsRising};
-ghost use Rattle.osm_changes.specs.Sound.{is_sound};
-ghost use Rattle.edit_actions.specs.declared.action.Action.{Action};
-ghost use Rattle.edit_actions.specs.After.{after};
-ghost use Rattle.edit_actions.specs.MadeActions.{is_made_action};
-ghost use Rattle.edit_actions.specs.Refusals.{refusal};
+ghost use Rattle.room_interface.specs.declared.action.Action.{Action};
 ghost use Rattle.edit_footprint.specs.Agreement.{Agree};
 ghost use Rattle.edit_footprint.specs.Commutation.{ChangePlaces};
 ghost use Rattle.edit_footprint.specs.Examples.{created, retagged, moved, reversed, nodes_given, members_given, deleted, purged, split, joined, merged, unglued, ceased, by_parts};

@@ -1,17 +1,12 @@
 //! Finds the cells that an action touches.
-ghost use Rattle.std.specs.Prelude.{◌≡◌, ◌++◌, find, map, IfOk, OnOk};
-ghost use Rattle.std.specs.List.{flat_map, slice_get};
-ghost use Rattle.std.specs.Option.{option_copied, option_to_list};
-ghost use Rattle.osm_refs.specs.Rising.{IsRising, names_but};
-ghost use Rattle.osm_changes.specs.Cells.{tags_at, rest_at, both_at, is_same_cell};
-ghost use Rattle.osm_changes.specs.Changes.{cell_of, changed_cells};
+ghost use Rattle.std.specs.Prelude.{◌≡◌, ◌++◌, map, IfOk, OnOk, find, flat_map, slice_get, option_copied, option_to_list};
+ghost use Rattle.edit_actions.specs.Prelude.{names_but, tags_at, rest_at, both_at, is_same_cell, cell_of, changed_cells};
+ghost use Rattle.osm_refs.specs.Rising.{IsRising};
 ghost use Rattle.edit_footprint.specs.Footprints.{subjects, footprint_of, half_nodes, half_before, unglued_from};
 ghost use Rattle.edit_footprint.specs.Inner.Touching.{begun_or_ceased_once, all_begun_or_ceased};
 
 use crate::footprint::Footprint;
 use crate::half_refs::{half_refs, may_refer};
-use edit_actions::action::Action;
-use edit_actions::each_action;
 use osm_changes::cell::Cell;
 use osm_changes::change::Change;
 use osm_changes::changes::Changes;
@@ -20,6 +15,8 @@ use osm_changes::part::Part;
 use osm_elements::Memory;
 use osm_elements::name::Name;
 use osm_refs::but::names_but;
+use room_interface::action::Action;
+use room_interface::each_action;
 use std::alloc::Allocator;
 
 // Returns the subjects of an action, from the list of the actions.

@@ -1,3 +1,2 @@
-pub mod ExampleProofs
 pub mod Planned
 pub mod Turns

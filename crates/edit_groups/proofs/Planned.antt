@@ -1,15 +1,7 @@
 -- The changes of an accepted edit can be applied.
 use Rattle.std.proofs.Common.{◌≡◌, true, List, Result, Ok, Err, IfOk, sym, ap, subst, ◌∙◌}
-use Rattle.osm_elements.specs.Maps.{Rows}
-use Rattle.osm_changes.specs.declared.cell.Cell.{Cell}
-use Rattle.osm_changes.specs.declared.change.Change.{Change}
-use Rattle.osm_changes.specs.Changes.{changed, differences, AreFrom}
-use Rattle.osm_changes.specs.Sound.{is_sound}
-use Rattle.edit_groups.specs.declared.edit.Edit.{Edit}
-use Rattle.edit_groups.specs.declared.refusal.EditRefusal.{EditRefusal}
-use Rattle.edit_groups.specs.Edits.{after, is_made_edit}
-use Rattle.edit_groups.specs.Plans.{IsEditPlan}
-use Rattle.edit_groups.specs.Facts.Local.{changes_lead, keeps_sound}
+use Rattle.edit_groups.specs.Prelude.{Rows, Cell, Change, differences, AreFrom, is_sound, Edit, EditRefusal, after, is_made_edit, IsEditPlan, changes_lead, keeps_sound}
+use Rattle.osm_changes.specs.Changes.{changed}
 
 module _ {A : Type 0} where
   pub plan_from : (m : Rows A) (e : Edit A) (r : Result (List (Change A) × List Cell) (EditRefusal A)) → ((n k : Rows A) → AreFrom n (differences n k)) → IsEditPlan m e r → IfOk r (λ p. AreFrom m p.0)

@@ -1,32 +1,15 @@
 -- A group that is planned action by action: what is true after each of its actions.
-use Rattle.std.proofs.Common.{◌≡◌, ◌+◌, ◌<◌, ℕ, Bool, true, false, List, [], ◌∷◌, ◌++◌, Option, Some, None, Result, Ok, Err, IfOk, IfErr, OnOk, ◌⊎◌, inl, inr, ◌≤◌, suc, refl, sym, ap, subst, ◌∙◌, length, take, drop, get_or, map, arith, Fits, w32, ◌&&◌, append-nil, append_assoc}
-use Rattle.std.proofs.lemmas.Bool.{or_parts, and_parts}
+use Rattle.std.proofs.Common.{◌≡◌, ◌+◌, ◌<◌, ℕ, Bool, true, false, List, [], ◌∷◌, ◌++◌, Option, Some, None, Result, Ok, Err, IfOk, IfErr, OnOk, ◌⊎◌, ◌≤◌, suc, refl, length, take, drop, map, ◌&&◌, inl, inr, sym, ap, subst, ◌∙◌, get_or, arith, w32, append-nil, append_assoc, Fits}
+use Rattle.std.proofs.lemmas.Bool.{or_parts}
 use Rattle.std.proofs.lemmas.Bool.Decides.{nat_tests}
 use Rattle.std.proofs.lemmas.List.{take_more, take-append-drop, length-take-le}
-use Rattle.osm_elements.specs.declared.name.Name.{Name}
-use Rattle.osm_elements.specs.Maps.{Rows, is_among, name_set}
-use Rattle.osm_elements.specs.Rows.{row_at}
-use Rattle.osm_elements.specs.Facts.Among.{is_among-append, is_among-name_set}
-use Rattle.osm_changes.specs.declared.cell.Cell.{Cell}
-use Rattle.osm_changes.specs.declared.change.Change.{Change}
-use Rattle.osm_changes.specs.Cells.{cell_set}
-use Rattle.osm_changes.specs.Changes.{changed, changed_names, differences}
-use Rattle.osm_changes.specs.Facts.Changing.{kept}
-use Rattle.osm_changes.specs.Sound.{is_sound}
-use Rattle.edit_simple.specs.declared.refusal.Refusal.{Refusal}
-use Rattle.edit_simple.specs.declared.refusal.Refusal.TheVariants.{Memory}
-use Rattle.edit_simple.specs.Facts.Lists.{drop_at}
-use Rattle.edit_actions.specs.declared.action.Action.{Action}
+use Rattle.edit_groups.specs.Prelude.{Name, Rows, is_among, name_set, row_at, is_among-append, is_among-name_set, Cell, Change, cell_set, changed_names, differences, kept, is_sound, Refusal, Memory, drop_at, Action, is_made_action, are_made, none_refused, Group, EditRefusal, is_group_length, at_position, after_all, refused_at, first_refused, group_changes, group_refusal, nothing_changed, refused_or, touched, are_made-one, IsEditPlan}
+use Rattle.osm_changes.specs.Changes.{changed}
+use Rattle.room_interface.specs.Groups.{alone}
 use Rattle.edit_actions.specs.After.{after, changes}
 use Rattle.edit_actions.specs.Facts.Accepted.{accepted_keeps_sound, changes_lead}
-use Rattle.edit_actions.specs.MadeActions.{is_made_action}
 use Rattle.edit_actions.specs.Refusals.{refusal}
 use Rattle.edit_footprint.specs.Footprints.{footprint}
-use Rattle.edit_groups.specs.Facts.InTurn.{none_refused}
-use Rattle.edit_groups.specs.declared.edit.Edit.TheVariants.{Group}
-use Rattle.edit_groups.specs.declared.refusal.EditRefusal.{EditRefusal}
-use Rattle.edit_groups.specs.Groups.{is_group_length, after_all, alone, at_position, refused_at, first_refused, group_changes, group_refusal, nothing_changed, refused_or, touched, are_made}
-use Rattle.edit_groups.specs.Plans.{IsEditPlan}
 
 -- a position in a group fits into 32 bits
 pub position_fits : (position i n : ℕ) → position ≡ i → i < n → is_group_length n ≡ true → Fits w32 (position + 1)
@@ -43,12 +26,6 @@ module _ {A : Type 0} where
       ap (λ l. footprint m x ++ l) (touched-one (after m x) xs a)
       ∙ sym (append_assoc (footprint m x) (touched (after m x) xs) (footprint (after_all (after m x) xs) a))
 
-  are_made-one : (xs : List (Action A)) (a : Action A) → are_made xs ≡ true → is_made_action a ≡ true → are_made (xs ++ a ∷ []) ≡ true
-  are_made-one [] a made h = ap (λ b. b && true) h
-  are_made-one (x ∷ xs) a made h =
-      let both = and_parts (is_made_action x) (are_made xs) made in
-      (λ i. both.0 i && are_made-one xs a both.1 h i)
-
   -- if no action so far is refused, the next one decides
   next_refused : (m : Rows A) (k : ℕ) (xs : List (Action A)) (a : Action A) (rest : List (Action A)) → first_refused m k xs ≡ None
       → first_refused m k (xs ++ a ∷ rest) ≡ refused_at (k + length xs) (refusal (after_all m xs) a) (first_refused (after (after_all m xs) a) (k + length xs + 1) rest)
@@ -64,10 +41,6 @@ module _ {A : Type 0} where
     where
       one_more : k + 1 + length xs ≡ k + suc (length xs)
       one_more = omega arith
-
-  -- the actions and the next one are made
-  pub are_made_next : (g : List (Action A)) (i : ℕ) (a : Action A) → i < length g → a ≡ get_or g i a → are_made (take i g) ≡ true → is_made_action a ≡ true → are_made (take (i + 1) g) ≡ true
-  are_made_next g i a l is made own = ap are_made (take_more g i a l ∙ ap (λ y. take i g ++ y ∷ []) (sym is)) ∙ are_made-one (take i g) a made own
 
   pub record IsAfter (m : Rows A) (done : List (Action A)) (draft : Rows A) (names : List Name) (cells : List Cell) : Type 0 where
     pub rows : draft ≡ after_all m done

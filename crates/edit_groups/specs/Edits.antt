@@ -1,19 +1,16 @@
 -- The definitions of actions for edits: one action, or a group. (Groups are this project's.)
-use Rattle.std.specs.Prelude.{Bool, List, Option, Some, None}
-use Rattle.osm_elements.specs.Maps.{Rows}
+use Rattle.std.specs.Prelude.{List, Option, Some, None}
+use Rattle.edit_actions.specs.Prelude.{Rows, cell_set, differences, alone}
 use Rattle.osm_changes.specs.declared.cell.Cell.{Cell}
 use Rattle.osm_changes.specs.declared.change.Change.{Change}
-use Rattle.osm_changes.specs.Cells.{cell_set}
-use Rattle.osm_changes.specs.Changes.{differences}
-use Rattle.edit_simple.specs.declared.refusal.Refusal.{Refusal}
+use Rattle.room_interface.specs.declared.refusal.Refusal.{Refusal}
+use Rattle.room_interface.specs.declared.edit.Edit.{Edit}
+use Rattle.room_interface.specs.declared.edit.Edit.TheVariants.{One, Group}
+use Rattle.room_interface.specs.declared.edit_refusal.EditRefusal.{EditRefusal}
+use Rattle.edit_groups.specs.Groups.{after_all, group_refusal, touched}
 use Rattle.edit_actions.specs.After as actions
-use Rattle.edit_actions.specs.MadeActions.{is_made_action}
 use Rattle.edit_actions.specs.Refusals as of_actions
 use Rattle.edit_footprint.specs.Footprints as cells_of
-use Rattle.edit_groups.specs.declared.edit.Edit.{Edit}
-use Rattle.edit_groups.specs.declared.edit.Edit.TheVariants.{One, Group}
-use Rattle.edit_groups.specs.declared.refusal.EditRefusal.{EditRefusal}
-use Rattle.edit_groups.specs.Groups.{after_all, alone, group_refusal, touched, are_made}
 
 module _ {A : Type 0} where
   abbrev pub after : Rows A → Edit A → Rows A
@@ -38,8 +35,3 @@ module _ {A : Type 0} where
   abbrev pub footprint : Rows A → Edit A → List Cell
   footprint m (One a) = cells_of.footprint m a
   footprint m (Group g) = cell_set (touched m g)
-
-  -- the values of an edit are made: their types could hold them
-  abbrev pub is_made_edit : Edit A → Bool
-  is_made_edit (One a) = is_made_action a
-  is_made_edit (Group g) = are_made g

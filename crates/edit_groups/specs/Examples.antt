@@ -1,18 +1,13 @@
 -- Examples of groups, worked out by hand. `start` has the ways w1 of n-1 and n-2, and w2 of n-1, n-3 and n-2, and the
 -- relation r1 of n-1, w2, w1 and w2.
 use Rattle.std.specs.Prelude.{◌≡◌, ◌++◌, [], ◌∷◌, List, Option, Some, None, pos, negsuc}
-use Rattle.osm_elements.specs.Maps.{Rows}
-use Rattle.osm_elements.specs.Rows.{put_row}
-use Rattle.osm_changes.specs.Cells.{tags_at, rest_at, both_at}
-use Rattle.osm_changes.specs.Changes.{changed_cells}
-use Rattle.edit_actions.specs.declared.action.Action.{Action}
-use Rattle.edit_actions.specs.declared.action.Action.TheVariants.{Create, Retag, Move, Nodes, Delete}
-use Rattle.edit_simple.specs.declared.refusal.Refusal.TheVariants.{Absent, InUse, Nothing}
-use Rattle.edit_simple.specs.Scenes.{Any, n-1, n-2, n-7, n5, w1, w3, r1, node_at, way_of, outer, x, start}
-use Rattle.edit_groups.specs.declared.edit.Edit.{Edit}
-use Rattle.edit_groups.specs.declared.edit.Edit.TheVariants.{Group}
+use Rattle.edit_actions.specs.Prelude.{Rows, put_row, tags_at, rest_at, both_at, changed_cells, Any, n-1, n-2, n-7, n5, w1, w3, r1, node_at, way_of, outer, x, start, at_position, alone}
+use Rattle.room_interface.specs.declared.action.Action.{Action}
+use Rattle.room_interface.specs.declared.action.Action.TheVariants.{Create, Retag, Move, Nodes, Delete}
+use Rattle.room_interface.specs.declared.refusal.Refusal.TheVariants.{Absent, InUse, Nothing}
+use Rattle.room_interface.specs.declared.edit.Edit.{Edit}
+use Rattle.room_interface.specs.declared.edit.Edit.TheVariants.{Group}
 use Rattle.edit_groups.specs.Edits.{after, changes, refusal, footprint}
-use Rattle.edit_groups.specs.Groups.{at_position, alone}
 
 -- draws a way: two nodes, and the way of them
 abbrev pub drawing : Edit Any

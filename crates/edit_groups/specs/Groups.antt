@@ -1,31 +1,16 @@
 -- A group of actions on a map: its refusal, the map after it, its changes and its footprint. (Groups are this
 -- project's.)
-use Rattle.std.specs.Prelude.{◌&&◌, ◌+◌, ◌++◌, ℕ, nat_le, Bool, true, List, [], ◌∷◌, Option, Some, None}
-use Rattle.osm_elements.specs.Maps.{Rows}
+use Rattle.std.specs.Prelude.{◌+◌, ◌++◌, ℕ, List, [], ◌∷◌, Option, Some, None}
+use Rattle.edit_footprint.specs.Prelude.{Rows, differences, after, refusal, footprint, at_position}
+use Rattle.room_interface.specs.Groups.{alone}
 use Rattle.osm_changes.specs.declared.cell.Cell.{Cell}
 use Rattle.osm_changes.specs.declared.change.Change.{Change}
-use Rattle.osm_changes.specs.Changes.{differences}
-use Rattle.edit_simple.specs.declared.refusal.Refusal.{Refusal}
-use Rattle.edit_simple.specs.declared.refusal.Refusal.TheVariants.{Nothing}
-use Rattle.edit_actions.specs.declared.action.Action.{Action}
-use Rattle.edit_actions.specs.After.{after}
-use Rattle.edit_actions.specs.MadeActions.{is_made_action}
-use Rattle.edit_actions.specs.Refusals.{refusal}
-use Rattle.edit_footprint.specs.Footprints.{footprint}
-use Rattle.edit_groups.specs.declared.refusal.EditRefusal.{EditRefusal}
-
--- a group has 1 to 10,000 actions (limits of this project)
-abbrev pub is_group_length : ℕ → Bool
-is_group_length n = nat_le 1 n && nat_le n 10000
+use Rattle.room_interface.specs.declared.refusal.Refusal.{Refusal}
+use Rattle.room_interface.specs.declared.refusal.Refusal.TheVariants.{Nothing}
+use Rattle.room_interface.specs.declared.action.Action.{Action}
+use Rattle.room_interface.specs.declared.edit_refusal.EditRefusal.{EditRefusal}
 
 module _ {A : Type 0} where
-  -- a refusal of the action at a position of a group, and a refusal without a position
-  abbrev pub at_position : ℕ → Refusal A → EditRefusal A
-  at_position k why = record { action = Some k; why = why }
-
-  abbrev pub alone : Refusal A → EditRefusal A
-  alone why = record { action = None; why = why }
-
   -- the map after actions in order
   abbrev pub after_all : Rows A → List (Action A) → Rows A
   after_all m [] = m
@@ -62,7 +47,3 @@ module _ {A : Type 0} where
   abbrev pub touched : Rows A → List (Action A) → List Cell
   touched m [] = []
   touched m (a ∷ rest) = footprint m a ++ touched (after m a) rest
-
-  abbrev pub are_made : List (Action A) → Bool
-  are_made [] = true
-  are_made (a ∷ rest) = is_made_action a && are_made rest

@@ -4,3 +4,4 @@ pub mod Facts
 pub mod Groups
 pub mod Laws
 pub mod Plans
+pub mod Prelude

@@ -1,14 +1,13 @@
 -- The result of planning an edit. (Groups are this project's.)
 use Rattle.std.specs.Prelude.{◌≡◌, ◌⊎◌, ℕ, List, Some, None, Result, Ok, Err}
-use Rattle.osm_elements.specs.Maps.{Rows}
+use Rattle.edit_actions.specs.Prelude.{Rows, alone}
 use Rattle.osm_changes.specs.declared.cell.Cell.{Cell}
 use Rattle.osm_changes.specs.declared.change.Change.{Change}
-use Rattle.edit_simple.specs.declared.refusal.Refusal.{Refusal}
-use Rattle.edit_simple.specs.declared.refusal.Refusal.TheVariants.{Memory}
-use Rattle.edit_groups.specs.declared.edit.Edit.{Edit}
-use Rattle.edit_groups.specs.declared.refusal.EditRefusal.{EditRefusal}
+use Rattle.room_interface.specs.declared.refusal.Refusal.{Refusal}
+use Rattle.room_interface.specs.declared.refusal.Refusal.TheVariants.{Memory}
+use Rattle.room_interface.specs.declared.edit.Edit.{Edit}
+use Rattle.room_interface.specs.declared.edit_refusal.EditRefusal.{EditRefusal}
 use Rattle.edit_groups.specs.Edits.{changes, refusal, footprint}
-use Rattle.edit_groups.specs.Groups.{alone}
 
 module _ {A : Type 0} where
   -- the changes and the footprint of an accepted edit, or its refusal; `Memory` may replace either

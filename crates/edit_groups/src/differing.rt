@@ -1,13 +1,12 @@
 //! The changes between two maps.
 ghost use Rattle.std.specs.Prelude.{◌≡◌, false, IfOk};
-ghost use Rattle.osm_elements.specs.Maps.{is_among};
-ghost use Rattle.osm_elements.specs.Rows.{row_at};
+ghost use Rattle.edit_footprint.specs.Prelude.{is_among, row_at, differences};
 ghost use Rattle.osm_refs.specs.Rising.{IsRising};
-ghost use Rattle.osm_changes.specs.Changes.{differences};
 
 use osm_changes::changes::Changes;
-use osm_changes::lookup::{Lookup, copy_of};
+use osm_changes::lookup::Lookup;
 use osm_elements::Memory;
+use osm_elements::element::copy_of;
 use osm_elements::name::Name;
 use osm_refs::name_set::name_set;
 use std::alloc::Allocator;

@@ -1,27 +1,25 @@
 //! Plans of edits: the changes that an edit would make in a store, or its refusal.
 ghost use Rattle.std.specs.Prelude.{◌≡◌, ◌⊎◌, true, Some, None, IfOk, IfErr, OnOk};
-ghost use Rattle.osm_changes.specs.Cells.{cell_set};
-ghost use Rattle.osm_changes.specs.Changes.{changed, AreFrom};
-ghost use Rattle.osm_changes.specs.Sound.{is_sound};
-ghost use Rattle.edit_simple.specs.declared.refusal.Refusal.TheVariants.{Memory as OutOfMemory};
-ghost use Rattle.edit_groups.specs.declared.edit.Edit.TheVariants.{One, Group};
-ghost use Rattle.edit_groups.specs.Edits.{is_made_edit};
-ghost use Rattle.edit_groups.specs.Groups.{alone, at_position, nothing_changed};
+ghost use Rattle.edit_actions.specs.Prelude.{cell_set, AreFrom, is_sound, is_made_edit, alone, at_position};
+ghost use Rattle.osm_changes.specs.Changes.{changed};
+ghost use Rattle.room_interface.specs.declared.refusal.Refusal.TheVariants.{Memory as OutOfMemory};
+ghost use Rattle.room_interface.specs.declared.edit.Edit.TheVariants.{One, Group};
+ghost use Rattle.edit_groups.specs.Groups.{nothing_changed};
 ghost use Rattle.edit_groups.specs.Plans.{IsEditPlan};
 
-use crate::actions::Actions;
 use crate::differing::changes_between;
-use crate::edit::{Edit, keeps_values};
-use crate::refusal::EditRefusal;
 use crate::step::{planned, step};
-use edit_actions::action::Action;
 use edit_footprint::footprint::Footprint;
-use edit_simple::refusal::Refusal;
 use osm_changes::cell::Cell;
 use osm_changes::changes::Changes;
 use osm_changes::laws::differences_are_changes;
 use osm_changes::store::Store;
 use osm_drafts::draft::Draft;
+use room_interface::action::Action;
+use room_interface::actions::Actions;
+use room_interface::edit::{Edit, keeps_values};
+use room_interface::edit_refusal::EditRefusal;
+use room_interface::refusal::Refusal;
 use std::alloc::Allocator;
 
 /// Plans an edit on a store, which is unchanged. Returns the changes to the map after the whole edit, and the footprint

@@ -1,23 +1,19 @@
 //! Plans one action on a draft, and writes its changes over the draft.
 ghost use Rattle.std.specs.Prelude.{◌≡◌, ◌⊎◌, ◌++◌, map, true, Some, None, IfOk, IfErr, OnOk};
-ghost use Rattle.osm_changes.specs.Sound.{is_sound};
-ghost use Rattle.edit_simple.specs.declared.refusal.Refusal.TheVariants.{Memory as OutOfMemory};
-ghost use Rattle.edit_actions.specs.After.{after, changes};
-ghost use Rattle.edit_actions.specs.MadeActions.{is_made_action};
-ghost use Rattle.edit_actions.specs.Refusals.{refusal};
-ghost use Rattle.edit_footprint.specs.Footprints.{footprint};
+ghost use Rattle.edit_footprint.specs.Prelude.{is_sound, after, changes, is_made_action, refusal, footprint};
+ghost use Rattle.room_interface.specs.declared.refusal.Refusal.TheVariants.{Memory as OutOfMemory};
 
-use edit_actions::action::Action;
 use edit_actions::plan::plan;
 use edit_footprint::footprint::Footprint;
 use edit_footprint::touching::footprint;
-use edit_simple::refusal::Refusal;
 use osm_changes::cell::Cell;
 use osm_changes::change::Change;
 use osm_changes::changes::Changes;
 use osm_drafts::draft::Draft;
 use osm_elements::Memory;
 use osm_elements::name::Name;
+use room_interface::action::Action;
+use room_interface::refusal::Refusal;
 use std::alloc::Allocator;
 
 /// Returns the changes and the footprint of an action on a draft, or its refusal.

@@ -1,4 +1,3 @@
-mod ExampleProofs
 pub mod MemberNames
 pub mod MoveLoops
 pub mod MovePlans

@@ -1,37 +1,12 @@
 -- Moves, node by node.
-use Rattle.std.proofs.Common.{◌≡◌, ◌⊎◌, ◌<◌, ◌+◌, ◌+ℤ◌, ℕ, ℤ, pos, zero, suc, Bool, true, false, not, ◌&&◌, T, List, [], ◌∷◌, ◌++◌, Option, Some, None, inl, inr, is_some, neg_ℤ, int_le, length, take, drop, get_or, refl, sym, ap, subst, ◌∙◌, cond, arith}
+use Rattle.std.proofs.Common.{◌≡◌, ◌⊎◌, ◌<◌, ◌+◌, ◌+ℤ◌, ℕ, ℤ, pos, zero, suc, Bool, true, false, not, ◌&&◌, T, List, [], ◌∷◌, ◌++◌, Option, Some, None, is_some, neg_ℤ, int_le, length, take, drop, refl, cond, inl, inr, get_or, sym, ap, subst, ◌∙◌, arith, option_map, is_lt}
 use Rattle.std.proofs.lemmas.List.{take_more, take-append-drop}
 use Rattle.std.proofs.lemmas.List.Elements.{filter-append}
-use Rattle.std.specs.List.{list_all}
-use Rattle.std.specs.Option.{option_map}
-use Rattle.std.specs.Ordering.{is_lt}
-use Rattle.std.specs.FinMap.Entries.{is_sorted, below_all}
-use Rattle.osm_coords.specs.Latitude.{latitude}
-use Rattle.osm_coords.specs.Longitude.{longitude}
-use Rattle.osm_coords.specs.Range.{value_within}
-use Rattle.osm_elements.specs.declared.name.Name.{Name}
-use Rattle.osm_elements.specs.declared.element.Element.{Element}
-use Rattle.osm_elements.specs.declared.element.Element.TheVariants.{Node}
-use Rattle.osm_elements.specs.NameOrder.{name_cmp}
-use Rattle.osm_elements.specs.Maps.{Rows, least, lesser}
-use Rattle.osm_elements.specs.Rows.{row_at}
-use Rattle.osm_elements.specs.TagRows.{Pairs}
-use Rattle.osm_elements.specs.Facts.Entries.{first, second}
-use Rattle.osm_elements.specs.Facts.Tests.{first_true, second_true}
+use Rattle.edit_simple.specs.Prelude.{list_all, is_sorted, below_all, latitude, longitude, value_within, Name, Element, Node, name_cmp, Rows, least, lesser, row_at, Pairs, first, second, first_true, second_true, bare_rows, Change, row_changes, rows_changes, AreChanges, Refusal, OutOfRange, Memory, moved_by, drop_at, one_fits, min_below, min_assoc}
 use Rattle.osm_refs.specs.Facts.RisingNames.{IsRising-filter}
 use Rattle.osm_refs.specs.Rising.{IsRising}
-use Rattle.rising_lists.specs.Rising.{bare_rows}
-use Rattle.osm_changes.specs.declared.change.Change.{Change}
-use Rattle.osm_changes.specs.Changes.{row_changes, rows_changes, AreChanges}
-use Rattle.edit_simple.specs.declared.refusal.Refusal.{Refusal}
-use Rattle.edit_simple.specs.declared.refusal.Refusal.TheVariants.{OutOfRange, Memory}
 use Rattle.edit_simple.specs.Inner.Moving.{row_leaves, moved_row}
 use Rattle.edit_simple.specs.Inner.Moves.{MayMove, leaving}
-use Rattle.edit_simple.specs.Move.{moved_by}
-use Rattle.edit_simple.specs.Facts.Lists.{drop_at}
-use Rattle.edit_simple.specs.Facts.ChangesInTurn.{one_fits}
-use Rattle.edit_simple.specs.Facts.FirstUsers.{min_below}
-use Rattle.edit_simple.specs.Facts.LeastNames.{min_assoc}
 
 -- ---- the first of a rising list is the least
 

@@ -1,45 +1,11 @@
 -- Plans of moves.
-use Rattle.std.proofs.Common.{◌≡◌, ◌+ℤ◌, ℤ, pos, Bool, true, false, not, ◌&&◌, ◌||◌, List, [], ◌∷◌, Option, Some, None, Result, Ok, Err, inl, inr, is_some, length, nat_eq, arith, refl, sym, ap, ◌∙◌, cond}
+use Rattle.std.proofs.Common.{◌≡◌, ◌+ℤ◌, ℤ, pos, Bool, true, false, not, ◌&&◌, ◌||◌, List, [], ◌∷◌, Option, Some, None, Result, Ok, Err, is_some, length, nat_eq, refl, cond, inl, inr, arith, sym, ap, ◌∙◌, filter, option_map, int_eq, int_cmp}
 use Rattle.std.proofs.Math.IntN.{+ℤ_idr}
 use Rattle.std.proofs.lemmas.Bool.Decides.{nat_tests}
-use Rattle.std.specs.Bool.{then_some}
-use Rattle.std.specs.FinMap.{int_cmp-IsAntisymmetric}
-use Rattle.osm_coords.specs.Latitude.{latitude}
-use Rattle.osm_coords.specs.Longitude.{longitude}
-use Rattle.std.specs.List.{filter, list_any, list_all}
-use Rattle.std.specs.Option.{option_map}
-use Rattle.std.specs.Ordering.{int_eq, int_cmp}
-use Rattle.osm_elements.specs.declared.name.Name.{Name}
-use Rattle.osm_elements.specs.declared.element.Element.{Element}
-use Rattle.osm_elements.specs.declared.element.Element.TheVariants.{Node, Way, Relation}
-use Rattle.osm_elements.specs.Made.{is_node, are_nodes}
-use Rattle.osm_elements.specs.Maps.{Rows, is_same, is_among, is_present, is_absent, least, name_set}
-use Rattle.osm_elements.specs.Rows.{row_at}
-use Rattle.osm_elements.specs.TagRows.{are_tags}
-use Rattle.osm_elements.specs.Facts.Among.{is_among-name_set, is_among-append}
-use Rattle.osm_elements.specs.Facts.Rows.{same, same_names}
-use Rattle.osm_elements.specs.Facts.Tests.{first_true, second_true}
-use Rattle.osm_refs.specs.Facts.RisingNames.{same_rising, IsRising-filter, IsRising-name_set, is_among-passing}
-use Rattle.osm_changes.specs.declared.change.Change.{Change}
-use Rattle.osm_changes.specs.Changes.{rows_changes, differences}
-use Rattle.osm_changes.specs.Sound.{is_sound}
-use Rattle.osm_changes.specs.Facts.SoundRows.{sound_in_order}
-use Rattle.edit_simple.specs.declared.refusal.Refusal.{Refusal}
-use Rattle.edit_simple.specs.declared.refusal.Refusal.TheVariants.{Absent, WrongKind, OutOfRange, Nothing}
-use Rattle.edit_simple.specs.Checks.{first_that_holds, the_least}
+use Rattle.edit_simple.specs.Prelude.{then_some, int_cmp-IsAntisymmetric, list_any, list_all, latitude, longitude, Name, Element, Node, Way, Relation, is_node, are_nodes, Rows, is_same, is_among, is_present, is_absent, least, name_set, row_at, are_tags, is_among-name_set, is_among-append, same, same_names, first_true, second_true, IsRising-name_set, is_among-passing, Change, rows_changes, differences, is_sound, sound_in_order, Refusal, Absent, WrongKind, OutOfRange, Nothing, first_that_holds, the_least, is_relation, is_moved, moved_by, is_out_of_range, left_range, move_checks, after_move, moves, nodes_of, IsPlan, rows_covering, row_at-each_row, sound_kind, node_there, is_among_own, all_listed, all_from, all_present, fine, passes_at, among_rows, rising_names}
+use Rattle.osm_refs.specs.Facts.RisingNames.{same_rising, IsRising-filter}
 use Rattle.edit_simple.specs.Inner.Moving.{moved_with, all_moved, row_leaves, moved_row}
 use Rattle.edit_simple.specs.Inner.Moves.{is_node_row, MayMove, leaving, IsMoved}
-use Rattle.edit_simple.specs.Kinds.{is_relation}
-use Rattle.edit_simple.specs.Move.{is_moved, moved_by, is_out_of_range, left_range, move_checks, after_move, moves}
-use Rattle.edit_simple.specs.Contents.{nodes_of}
-use Rattle.edit_simple.specs.Plans.{IsPlan}
-use Rattle.osm_changes.specs.Facts.DifferingRows.{rows_covering}
-use Rattle.edit_simple.specs.Facts.EachRow.{row_at-each_row}
-use Rattle.edit_simple.specs.Facts.Kinds.{sound_kind, node_there}
-use Rattle.edit_simple.specs.Facts.Lists.{is_among_own, all_listed, all_from}
-use Rattle.edit_simple.specs.Facts.Relisting.{all_present}
-use Rattle.edit_simple.specs.Facts.Rewriting.{fine}
-use Rattle.osm_changes.specs.Facts.PassingRows.{passes_at, among_rows, rising_names}
 
 apart : (a s t u v : Bool) → (a && ((s || u) || (t || v))) ≡ ((a && (s || t)) || (a && (u || v)))
 apart false s t u v = refl

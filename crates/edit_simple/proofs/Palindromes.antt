@@ -1,10 +1,7 @@
 -- Names compared from both ends.
-use Rattle.std.proofs.Common.{◌≡◌, ◌<◌, ◌+◌, ◌-◌, ◌&&◌, ℕ, List, drop, get_or, length, reverse, sym, subst, ◌∙◌}
+use Rattle.std.proofs.Common.{◌≡◌, ◌<◌, ◌+◌, ◌-◌, ◌&&◌, ℕ, List, drop, length, reverse, get_or, sym, subst, ◌∙◌}
 use Rattle.std.proofs.lemmas.List.{length-reverse, get_or-reverse}
-use Rattle.osm_elements.specs.declared.name.Name.{Name}
-use Rattle.osm_elements.specs.Maps.{is_same}
-use Rattle.osm_changes.specs.SameRows.{are_same_names}
-use Rattle.edit_simple.specs.Facts.Lists.{drop_at}
+use Rattle.edit_simple.specs.Prelude.{Name, is_same, are_same_names, drop_at}
 
 pub alike_from : (names : List Name) (i : ℕ) (x y : Name) → i < length names → x ≡ get_or names i x → y ≡ get_or names (length names - 1 - i) y
     → are_same_names (drop i names) (drop i (reverse names)) ≡ (is_same x y && are_same_names (drop (i + 1) names) (drop (i + 1) (reverse names)))

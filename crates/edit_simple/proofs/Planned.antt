@@ -1,23 +1,7 @@
 -- Results of plans.
-use Rattle.std.proofs.Common.{◌≡◌, false, not, List, [], ◌∷◌, Option, Some, None, Ok, Err, is_some, inl, refl, sym, ap, ◌∙◌}
-use Rattle.std.specs.Bool.{then_some}
-use Rattle.std.specs.Option.{option_map}
-use Rattle.osm_elements.specs.declared.name.Name.{Name}
-use Rattle.osm_elements.specs.declared.element.Element.{Element}
-use Rattle.osm_elements.specs.Maps.{least, Rows, is_present}
-use Rattle.osm_elements.specs.Rows.{row_at}
-use Rattle.osm_refs.specs.References.{users}
-use Rattle.osm_changes.specs.declared.change.Change.{Change}
-use Rattle.osm_changes.specs.Changes.{row_changes}
-use Rattle.osm_changes.specs.Facts.Differing.{created, deleted}
-use Rattle.edit_simple.specs.declared.refusal.Refusal.{Refusal}
-use Rattle.edit_simple.specs.declared.refusal.Refusal.TheVariants.{Present, Absent, InUse}
-use Rattle.edit_simple.specs.Checks.{first_that_holds, the_least}
-use Rattle.edit_simple.specs.Create.{create_checks, after_create}
-use Rattle.edit_simple.specs.Delete.{delete_checks, after_delete}
-use Rattle.edit_simple.specs.Plans.{IsPlan}
-use Rattle.edit_simple.specs.Passing.{passed}
-use Rattle.edit_simple.specs.Facts.Checked.{nones, not_so}
+use Rattle.std.proofs.Common.{◌≡◌, false, not, List, [], ◌∷◌, Option, Some, None, Ok, Err, is_some, refl, inl, sym, ap, ◌∙◌, option_map}
+use Rattle.edit_simple.specs.Prelude.{then_some, Name, Element, least, Rows, is_present, row_at, users, Change, row_changes, deleted, Refusal, Present, Absent, InUse, first_that_holds, the_least, create_checks, after_create, delete_checks, after_delete, IsPlan, passed, nones, not_so}
+use Rattle.osm_changes.specs.Facts.Differing.{created}
 
 pub passed_ok : {X : Type 0} (u : Unit {0}) (o : Option X) → Ok u ≡ passed o → o ≡ None
 passed_ok u None e = refl

@@ -1,19 +1,9 @@
 -- Purges, name by name.
-use Rattle.std.proofs.Common.{◌≡◌, ◌<◌, ◌≤◌, ◌+◌, ℕ, suc, Bool, true, false, not, ◌&&◌, ◌||◌, List, [], ◌∷◌, ◌++◌, append-nil, length, take, get_or, count_by, nat_lt, refl, sym, ap, ◌∙◌, cond, arith}
+use Rattle.std.proofs.Common.{◌≡◌, ◌<◌, ◌≤◌, ◌+◌, ℕ, suc, Bool, true, false, not, ◌&&◌, ◌||◌, List, [], ◌∷◌, ◌++◌, length, take, count_by, nat_lt, refl, cond, append-nil, get_or, sym, ap, ◌∙◌, arith, Ordering}
 use Rattle.std.proofs.lemmas.Bool.Decides.{nat_tests}
 use Rattle.std.proofs.lemmas.List.Sums.{length-filter, fold-append}
-use Rattle.std.specs.BTreeSet.{insert_key}
-use Rattle.std.specs.Ordering.{match_ordering}
-use Rattle.std.specs.declared.cmp.Ordering.{Ordering}
-use Rattle.osm_elements.specs.declared.name.Name.{Name}
-use Rattle.osm_elements.specs.NameOrder.{name_cmp}
-use Rattle.osm_elements.specs.Maps.{Rows, is_same, is_among, with_name, name_set}
-use Rattle.osm_elements.specs.Rows.{row_at}
+use Rattle.edit_simple.specs.Prelude.{insert_key, match_ordering, Name, name_cmp, Rows, is_same, is_among, with_name, name_set, row_at, nodes_of, without, falls_short, shorter, filter_more}
 use Rattle.edit_simple.specs.Inner.Purging.{all_gone}
-use Rattle.edit_simple.specs.Contents.{nodes_of}
-use Rattle.edit_simple.specs.Purge.{without, falls_short}
-use Rattle.edit_simple.specs.Facts.Purging.{shorter}
-use Rattle.edit_simple.specs.Facts.LeastNames.{filter_more}
 
 -- ---- lists without a name
 

@@ -1,35 +1,8 @@
 -- The plan of a purge: which rows change, and how.
-use Rattle.std.proofs.Common.{◌≡◌, ℕ, Bool, true, false, not, ◌&&◌, ◌||◌, List, [], ◌∷◌, Option, Some, None, Ok, length, map, nat_lt, refl, sym, ap, ◌∙◌, cond}
-use Rattle.std.specs.Bool.{then_some}
-use Rattle.std.specs.List.{filter, flat_map}
-use Rattle.std.specs.Option.{option_map}
-use Rattle.osm_elements.specs.declared.name.Name.{Name}
-use Rattle.osm_elements.specs.declared.element.Element.{Element}
-use Rattle.osm_elements.specs.declared.element.Element.TheVariants.{Node, Way, Relation}
-use Rattle.osm_elements.specs.Maps.{Rows, is_same, is_among, is_present, name_set}
-use Rattle.osm_elements.specs.Rows.{row_at}
-use Rattle.osm_elements.specs.Facts.Among.{is_among-name_set, is_among-append}
-use Rattle.osm_elements.specs.Facts.Dropped.{same_either_way}
-use Rattle.osm_elements.specs.Facts.Rows.{same_names}
-use Rattle.osm_elements.specs.Facts.Tests.{first_true}
-use Rattle.osm_refs.specs.References.{refers_to, users}
-use Rattle.osm_refs.specs.Tables.{Table, users_in, table_of}
-use Rattle.osm_refs.specs.Facts.MapTables.{users_in-table_of}
-use Rattle.osm_refs.specs.Facts.RisingNames.{IsRising-name_set, is_among-passing}
-use Rattle.osm_changes.specs.declared.change.Change.{Change}
-use Rattle.osm_changes.specs.Changes.{rows_changes, differences}
-use Rattle.osm_changes.specs.Sound.{is_sound}
-use Rattle.osm_changes.specs.Facts.SoundRows.{sound_in_order}
-use Rattle.edit_simple.specs.declared.refusal.Refusal.TheVariants.{Absent}
-use Rattle.edit_simple.specs.Checks.{first_that_holds}
+use Rattle.std.proofs.Common.{◌≡◌, ℕ, Bool, true, false, not, ◌&&◌, ◌||◌, List, [], ◌∷◌, Option, Some, None, Ok, length, map, nat_lt, refl, cond, sym, ap, ◌∙◌, filter, flat_map, option_map}
+use Rattle.edit_simple.specs.Prelude.{then_some, Name, Element, Node, Way, Relation, Rows, is_same, is_among, is_present, name_set, row_at, is_among-name_set, is_among-append, same_either_way, same_names, first_true, refers_to, users, users_in, table_of, users_in-table_of, IsRising-name_set, is_among-passing, Change, rows_changes, differences, is_sound, sound_in_order, Absent, first_that_holds, nodes_of, with_nodes, with_members, IsPlan, without, falls_short, goes, what_is_left, purge_checks, after_purge, rows_covering, or_left, or_right, is_among_own, row_at-after_purge, x_goes, without_none, passes_at, among_rows}
+use Rattle.osm_refs.specs.Tables.{Table}
 use Rattle.edit_simple.specs.Inner.Purging.{all_gone, all_reached, purged_row}
-use Rattle.edit_simple.specs.Contents.{nodes_of, with_nodes, with_members}
-use Rattle.edit_simple.specs.Plans.{IsPlan}
-use Rattle.edit_simple.specs.Purge.{without, falls_short, goes, what_is_left, purge_checks, after_purge}
-use Rattle.osm_changes.specs.Facts.DifferingRows.{rows_covering}
-use Rattle.edit_simple.specs.Facts.Lists.{or_left, or_right, is_among_own}
-use Rattle.edit_simple.specs.Facts.Purging.{row_at-after_purge, x_goes, without_none}
-use Rattle.osm_changes.specs.Facts.PassingRows.{passes_at, among_rows}
 
 -- ---- lists of lists
 

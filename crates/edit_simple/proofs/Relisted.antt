@@ -1,33 +1,7 @@
 -- The plans that give an element a new list.
-use Rattle.std.proofs.Common.{◌≡◌, ◌≢◌, ◌≤◌, ◌⊎◌, arith, ℕ, Bool, true, false, not, ◌&&◌, List, [], ◌∷◌, Option, Some, None, Result, Ok, Err, MatchResult, inl, inr, is_some, length, map, nat_lt, reverse, refl, sym, ap, ◌∙◌, cond}
+use Rattle.std.proofs.Common.{◌≡◌, ◌≢◌, ◌≤◌, ◌⊎◌, ℕ, Bool, true, false, not, ◌&&◌, List, [], ◌∷◌, Option, Some, None, Result, Ok, Err, MatchResult, is_some, length, map, nat_lt, reverse, refl, cond, arith, inl, inr, sym, ap, ◌∙◌, filter, option_map}
 use Rattle.std.proofs.lemmas.Bool.Decides.{nat_tests}
-use Rattle.std.specs.Bool.{then_some}
-use Rattle.std.specs.List.{filter}
-use Rattle.std.specs.Option.{option_map}
-use Rattle.osm_elements.specs.declared.name.Name.{Name}
-use Rattle.osm_elements.specs.declared.element.Element.{Element}
-use Rattle.osm_elements.specs.declared.element.Element.TheVariants.{Way, Relation}
-use Rattle.osm_elements.specs.Maps.{Rows, is_same, is_absent, is_present, least}
-use Rattle.osm_elements.specs.Rows.{row_at}
-use Rattle.osm_elements.specs.TagRows.{Pairs}
-use Rattle.osm_elements.specs.Facts.Rows.{same_names}
-use Rattle.osm_changes.specs.declared.change.Change.{Change}
-use Rattle.osm_changes.specs.Changes.{row_changes, differences}
-use Rattle.osm_changes.specs.SameRows.{are_same_names, are_same_members}
-use Rattle.osm_changes.specs.Sound.{is_sound, most_nodes, most_members}
-use Rattle.edit_simple.specs.declared.refusal.Refusal.{Refusal}
-use Rattle.edit_simple.specs.declared.refusal.Refusal.TheVariants.{WrongKind, Absent, TooFew, TooMany, Nothing, Memory}
-use Rattle.edit_simple.specs.Checks.{first_that_holds}
-use Rattle.edit_simple.specs.Create.{is_missing}
-use Rattle.edit_simple.specs.Kinds.{is_way, is_relation}
-use Rattle.edit_simple.specs.Members.{members_checks, after_members}
-use Rattle.edit_simple.specs.Nodes.{nodes_checks, after_nodes}
-use Rattle.edit_simple.specs.Contents.{nodes_of, members_of, with_nodes, with_members}
-use Rattle.edit_simple.specs.Plans.{IsNamed, IsPlan}
-use Rattle.edit_simple.specs.Reverse.{reverse_checks, after_reverse}
-use Rattle.edit_simple.specs.Facts.Differences.{one_rewritten}
-use Rattle.edit_simple.specs.Facts.Kinds.{way_there, relation_there}
-use Rattle.edit_simple.specs.Facts.Relisting.{same_nodes_itself, same_members_itself}
+use Rattle.edit_simple.specs.Prelude.{then_some, Name, Element, Way, Relation, Rows, is_same, is_absent, is_present, least, row_at, Pairs, same_names, Change, row_changes, differences, are_same_names, are_same_members, is_sound, most_nodes, most_members, Refusal, WrongKind, Absent, TooFew, TooMany, Nothing, Memory, first_that_holds, is_missing, is_way, is_relation, members_checks, after_members, nodes_checks, after_nodes, nodes_of, members_of, with_nodes, with_members, IsNamed, IsPlan, reverse_checks, after_reverse, one_rewritten, way_there, relation_there, same_nodes_itself, same_members_itself}
 
 -- the result of a test of a length
 pub not_below : (n len k : ℕ) → n ≡ len → k ≤ n → false ≡ nat_lt len k

@@ -1,37 +1,13 @@
 -- The plan of a retag.
-use Rattle.std.proofs.Common.{◌≡◌, ◌≢◌, ◌⊎◌, ◌≤◌, ◌<◌, ◌+◌, ℕ, true, false, not, T, List, [], ◌∷◌, ◌++◌, Option, Some, None, Ok, inl, inr, is_some, length, map, take, drop, get_or, nat_lt, refl, sym, ap, subst, ◌∙◌, arith}
+use Rattle.std.proofs.Common.{◌≡◌, ◌≢◌, ◌⊎◌, ◌≤◌, ◌<◌, ◌+◌, ℕ, true, false, not, T, List, [], ◌∷◌, ◌++◌, Option, Some, None, Ok, is_some, length, map, take, drop, nat_lt, refl, inl, inr, get_or, sym, ap, subst, ◌∙◌, arith}
 use Rattle.std.proofs.lemmas.Bool.Decides.{nat_tests}
 use Rattle.std.proofs.lemmas.List.{map-append, take-append-drop}
 use Rattle.std.proofs.lemmas.List.Sums.{fold-append}
-use Rattle.std.specs.Bool.{then_some}
-use Rattle.std.specs.FinMap.Entries.{is_sorted}
-use Rattle.osm_elements.specs.declared.keyed.Keyed.{Keyed}
-use Rattle.osm_elements.specs.declared.fault.TextFault.{TextFault}
-use Rattle.osm_elements.specs.declared.fault.TextFault.TheVariants as faults
-use Rattle.osm_elements.specs.declared.name.Name.{Name}
-use Rattle.osm_elements.specs.declared.element.Element.{Element}
-use Rattle.osm_elements.specs.declared.element.Element.TheVariants as elements
-use Rattle.osm_elements.specs.Elements.{tags_of}
-use Rattle.osm_elements.specs.Maps.{Rows}
-use Rattle.osm_elements.specs.Rows.{row_at}
-use Rattle.osm_elements.specs.KeyedRows.{text_cmp, value_at}
-use Rattle.osm_elements.specs.TagRows.{Pairs, AreTagRows}
-use Rattle.osm_elements.specs.KeyedValues.{is_short, is_none_or}
-use Rattle.osm_elements.specs.Facts.KeyedRows.{sorted_rows, not_over_1000}
-use Rattle.osm_changes.specs.declared.change.Change.{Change}
-use Rattle.osm_changes.specs.Changes.{row_changes}
-use Rattle.osm_changes.specs.SameRows.{are_same_tags}
-use Rattle.edit_simple.specs.declared.refusal.Refusal.TheVariants.{Absent, TooMany, Nothing}
-use Rattle.edit_simple.specs.Checks.{first_that_holds}
-use Rattle.edit_simple.specs.Contents.{row_tags, with_tags}
-use Rattle.edit_simple.specs.Plans.{IsPlan}
-use Rattle.edit_simple.specs.Retag.{retag_checks, after_retag}
-use Rattle.edit_simple.specs.Tagging.{GivenTags, AreGiven, given_pair, retagged, most_tags}
+use Rattle.edit_simple.specs.Prelude.{then_some, is_sorted, Keyed, TextFault, Name, Element, tags_of, Rows, row_at, text_cmp, value_at, Pairs, AreTagRows, is_short, is_none_or, sorted_rows, not_over_1000, Change, row_changes, are_same_tags, Absent, TooMany, Nothing, first_that_holds, row_tags, with_tags, IsPlan, retag_checks, after_retag, GivenTags, AreGiven, given_pair, retagged, most_tags, one_rewritten, drop_at, tags_of-with_tags, same_tags_itself}
 use Rattle.edit_simple.specs.Inner.Retagging.{all_removed, all_valued, valued}
-use Rattle.edit_simple.specs.Facts.Differences.{one_rewritten}
-use Rattle.edit_simple.specs.Facts.Lists.{drop_at}
-use Rattle.edit_simple.specs.Facts.Retagging.{tags_of-with_tags, same_tags_itself}
 use Rattle.edit_simple.proofs.Retagged.{two_goes, sorted-all_valued, too_many_in_the_end}
+use Rattle.osm_elements.specs.declared.fault.TextFault.TheVariants as faults
+use Rattle.osm_elements.specs.declared.element.Element.TheVariants as elements
 
 module _ {A : Type 0} where
   -- if a new key finds 1,000 tags, there are more than 1,000 in the end

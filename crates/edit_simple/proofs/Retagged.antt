@@ -1,17 +1,6 @@
 -- A retag in two passes leads to the same tags as a retag in one.
-use Rattle.std.proofs.Common.{◌≡◌, ◌≤◌, ◌<◌, ◌+◌, ℕ, Bool, true, false, not, T, List, [], ◌∷◌, Option, Some, None, is_some, length, refl, sym, ap, ◌∙◌, cond, arith}
-use Rattle.std.specs.List.{fold}
-use Rattle.std.specs.Ordering.{is_eq}
-use Rattle.std.specs.Cmp.{tied_itself}
-use Rattle.std.specs.FinMap.{IsAntisymmetric, slice_cmp-IsAntisymmetric, nat_cmp-IsAntisymmetric}
-use Rattle.std.specs.FinMap.Entries.{put, find, is_sorted, below_all, find-put, find-where_key, is_sorted-put, is_sorted-where_key, length-put, same_entries}
-use Rattle.osm_elements.specs.KeyedRows.{text_cmp, without_key}
-use Rattle.osm_elements.specs.TagRows.{Pairs}
-use Rattle.osm_elements.specs.Facts.Entries.{first, second, find_below}
-use Rattle.osm_elements.specs.Facts.KeyedRows.{text_total, longer-put}
-use Rattle.osm_elements.specs.Facts.Rows.{same}
-use Rattle.edit_simple.specs.Tagging.{GivenTags, tagged, retagged}
-use Rattle.edit_simple.specs.Facts.Retagging.{sorted_tagged}
+use Rattle.std.proofs.Common.{◌≡◌, ◌≤◌, ◌<◌, ◌+◌, ℕ, Bool, true, false, not, T, List, [], ◌∷◌, Option, Some, None, is_some, length, refl, cond, sym, ap, ◌∙◌, arith, fold, is_eq}
+use Rattle.edit_simple.specs.Prelude.{tied_itself, IsAntisymmetric, slice_cmp-IsAntisymmetric, nat_cmp-IsAntisymmetric, put, is_sorted, below_all, find-put, find-where_key, is_sorted-put, is_sorted-where_key, length-put, same_entries, find, text_cmp, without_key, Pairs, first, second, find_below, text_total, longer-put, same, GivenTags, tagged, retagged, sorted_tagged}
 use Rattle.edit_simple.specs.Inner.Retagging.{removed, valued, all_removed, all_valued}
 
 antisymmetric : IsAntisymmetric text_cmp

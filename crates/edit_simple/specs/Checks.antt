@@ -1,9 +1,8 @@
 -- Lists of checks. Each check is the refusal that it leads to if it holds.
-use Rattle.std.specs.Prelude.{List, [], ◌∷◌, Option, Some, None}
-use Rattle.std.specs.Option.{option_map}
-use Rattle.osm_elements.specs.declared.name.Name.{Name}
+use Rattle.std.specs.Prelude.{List, [], ◌∷◌, Option, Some, None, option_map}
 use Rattle.osm_elements.specs.Maps.{least}
-use Rattle.edit_simple.specs.declared.refusal.Refusal.{Refusal}
+use Rattle.osm_elements.specs.declared.name.Name.{Name}
+use Rattle.room_interface.specs.declared.refusal.Refusal.{Refusal}
 
 -- the first check that holds
 abbrev pub first_that_holds : {X : Type 0} → List (Option X) → Option X

@@ -1,11 +1,9 @@
 -- The contents of rows, and rows with new contents. (OpenStreetMap wiki, "Elements".)
 use Rattle.std.specs.Prelude.{ℕ, List, [], Option, Some, None, map, if◌then◌else◌}
+use Rattle.room_interface.specs.Prelude.{tags_of, Rows, is_same, Pairs}
 use Rattle.osm_elements.specs.declared.name.Name.{Name}
 use Rattle.osm_elements.specs.declared.element.Element.{Element}
 use Rattle.osm_elements.specs.declared.element.Element.TheVariants.{Node, Way, Relation}
-use Rattle.osm_elements.specs.Elements.{tags_of}
-use Rattle.osm_elements.specs.Maps.{Rows, is_same}
-use Rattle.osm_elements.specs.TagRows.{Pairs}
 
 module _ {A : Type 0} where
   -- the tags of a row; an absent row has none

@@ -1,18 +1,12 @@
 -- The action that creates an element. (OpenStreetMap API v0.6: nothing absent is named. The greatest lengths are this
 -- project's.)
-use Rattle.std.specs.Prelude.{◌&&◌, Bool, false, not, List, [], ◌∷◌, Option, length, nat_lt}
-use Rattle.std.specs.Bool.{then_some}
-use Rattle.std.specs.List.{filter}
+use Rattle.std.specs.Prelude.{◌&&◌, Bool, false, not, List, [], ◌∷◌, Option, length, nat_lt, filter}
+use Rattle.osm_drafts.specs.Prelude.{then_some, kind_of, Rows, is_same, is_kind, is_present, is_absent, put_row, references, most_nodes, most_members}
 use Rattle.osm_elements.specs.declared.name.Name.{Name}
 use Rattle.osm_elements.specs.declared.element.Element.{Element}
 use Rattle.osm_elements.specs.declared.element.Element.TheVariants.{Node, Way, Relation}
-use Rattle.osm_elements.specs.Elements.{kind_of}
-use Rattle.osm_elements.specs.Maps.{Rows, is_same, is_kind, is_present, is_absent}
-use Rattle.osm_elements.specs.Rows.{put_row}
-use Rattle.osm_refs.specs.References.{references}
-use Rattle.osm_changes.specs.Sound.{most_nodes, most_members}
-use Rattle.edit_simple.specs.declared.refusal.Refusal.{Refusal}
-use Rattle.edit_simple.specs.declared.refusal.Refusal.TheVariants.{Absent, Present, WrongKind, TooFew, TooMany}
+use Rattle.room_interface.specs.declared.refusal.Refusal.{Refusal}
+use Rattle.room_interface.specs.declared.refusal.Refusal.TheVariants.{Absent, Present, WrongKind, TooFew, TooMany}
 use Rattle.edit_simple.specs.Checks.{the_least}
 
 module _ {A : Type 0} where

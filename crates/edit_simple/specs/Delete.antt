@@ -1,11 +1,9 @@
 -- The action that deletes an element. (OpenStreetMap API v0.6: an element in use is not deleted.)
 use Rattle.std.specs.Prelude.{List, [], ◌∷◌, Option}
-use Rattle.std.specs.Bool.{then_some}
+use Rattle.osm_drafts.specs.Prelude.{then_some, Rows, is_absent, rows_but, users}
 use Rattle.osm_elements.specs.declared.name.Name.{Name}
-use Rattle.osm_elements.specs.Maps.{Rows, is_absent, rows_but}
-use Rattle.osm_refs.specs.References.{users}
-use Rattle.edit_simple.specs.declared.refusal.Refusal.{Refusal}
-use Rattle.edit_simple.specs.declared.refusal.Refusal.TheVariants.{Absent, InUse}
+use Rattle.room_interface.specs.declared.refusal.Refusal.{Refusal}
+use Rattle.room_interface.specs.declared.refusal.Refusal.TheVariants.{Absent, InUse}
 use Rattle.edit_simple.specs.Checks.{the_least}
 
 module _ {A : Type 0} where

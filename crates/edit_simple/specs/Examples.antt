@@ -1,11 +1,8 @@
 -- Examples of the definitions, worked out by hand.
 use Rattle.std.specs.Prelude.{◌≡◌, ◌++◌, [], ◌∷◌, Some, None, pos, negsuc, replicate}
+use Rattle.room_interface.specs.Prelude.{Rows, row_at, put_row, thousand_tags, Pairs}
 use Rattle.osm_elements.specs.declared.element.Element.TheVariants.{Node, Way}
-use Rattle.osm_elements.specs.Maps.{Rows}
-use Rattle.osm_elements.specs.Rows.{row_at, put_row}
-use Rattle.osm_elements.specs.Scenes.{thousand_tags}
-use Rattle.osm_elements.specs.TagRows.{Pairs}
-use Rattle.edit_simple.specs.declared.refusal.Refusal.TheVariants.{Absent, Present, WrongKind, OutOfRange, TooFew, TooMany, InUse, Nothing}
+use Rattle.room_interface.specs.declared.refusal.Refusal.TheVariants.{Absent, Present, WrongKind, OutOfRange, TooFew, TooMany, InUse, Nothing}
 use Rattle.edit_simple.specs.Create.{create_checks, after_create}
 use Rattle.edit_simple.specs.Delete.{delete_checks, after_delete}
 use Rattle.edit_simple.specs.Members.{members_checks, after_members}

@@ -11,6 +11,7 @@ pub mod Move
 pub mod Nodes
 pub mod Passing
 pub mod Plans
+pub mod Prelude
 pub mod Purge
 pub mod Retag
 pub mod Reverse

@@ -1,19 +1,12 @@
 -- The action that moves nodes and ways by a distance. (OpenStreetMap API v0.6: a node's latitude and longitude, and
 -- their ranges.)
-use Rattle.std.specs.Prelude.{◌&&◌, ◌||◌, ◌+ℤ◌, Bool, false, not, ℤ, pos, List, [], ◌∷◌, Option, is_some, length, nat_eq, if◌then◌else◌}
-use Rattle.std.specs.Bool.{then_some}
-use Rattle.std.specs.List.{filter, list_any}
-use Rattle.std.specs.Ordering.{int_eq}
-use Rattle.osm_coords.specs.Latitude.{latitude}
-use Rattle.osm_coords.specs.Longitude.{longitude}
+use Rattle.std.specs.Prelude.{◌&&◌, ◌||◌, ◌+ℤ◌, Bool, false, not, ℤ, pos, List, [], ◌∷◌, Option, is_some, length, nat_eq, if◌then◌else◌, filter}
+use Rattle.room_interface.specs.Prelude.{then_some, list_any, int_eq, latitude, longitude, is_node, Rows, is_among, is_absent, names_of, row_at}
 use Rattle.osm_elements.specs.declared.name.Name.{Name}
 use Rattle.osm_elements.specs.declared.element.Element.{Element}
 use Rattle.osm_elements.specs.declared.element.Element.TheVariants.{Node, Way, Relation}
-use Rattle.osm_elements.specs.Made.{is_node}
-use Rattle.osm_elements.specs.Maps.{Rows, is_among, is_absent, names_of}
-use Rattle.osm_elements.specs.Rows.{row_at}
-use Rattle.edit_simple.specs.declared.refusal.Refusal.{Refusal}
-use Rattle.edit_simple.specs.declared.refusal.Refusal.TheVariants.{Absent, WrongKind, OutOfRange, Nothing}
+use Rattle.room_interface.specs.declared.refusal.Refusal.{Refusal}
+use Rattle.room_interface.specs.declared.refusal.Refusal.TheVariants.{Absent, WrongKind, OutOfRange, Nothing}
 use Rattle.edit_simple.specs.Checks.{the_least}
 use Rattle.edit_simple.specs.Kinds.{is_relation}
 use Rattle.edit_simple.specs.Contents.{nodes_of, each_row}

@@ -1,15 +1,10 @@
 -- The action that gives a way new nodes. (OpenStreetMap API v0.6: nothing absent is named. The greatest length is this
 -- project's.)
-use Rattle.std.specs.Prelude.{not, List, [], ◌∷◌, Option, length, nat_lt}
-use Rattle.std.specs.Bool.{then_some}
-use Rattle.std.specs.List.{filter}
+use Rattle.std.specs.Prelude.{not, List, [], ◌∷◌, Option, length, nat_lt, filter}
+use Rattle.osm_drafts.specs.Prelude.{then_some, Rows, is_absent, row_at, are_same_names, most_nodes}
 use Rattle.osm_elements.specs.declared.name.Name.{Name}
-use Rattle.osm_elements.specs.Maps.{Rows, is_absent}
-use Rattle.osm_elements.specs.Rows.{row_at}
-use Rattle.osm_changes.specs.SameRows.{are_same_names}
-use Rattle.osm_changes.specs.Sound.{most_nodes}
-use Rattle.edit_simple.specs.declared.refusal.Refusal.{Refusal}
-use Rattle.edit_simple.specs.declared.refusal.Refusal.TheVariants.{Absent, WrongKind, TooFew, TooMany, Nothing}
+use Rattle.room_interface.specs.declared.refusal.Refusal.{Refusal}
+use Rattle.room_interface.specs.declared.refusal.Refusal.TheVariants.{Absent, WrongKind, TooFew, TooMany, Nothing}
 use Rattle.edit_simple.specs.Checks.{the_least}
 use Rattle.edit_simple.specs.Kinds.{is_way}
 use Rattle.edit_simple.specs.Contents.{nodes_of, with_nodes, each_row, at_name}

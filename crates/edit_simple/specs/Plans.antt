@@ -1,10 +1,9 @@
 -- The result of a plan. (The rules of the actions are this project's.)
 use Rattle.std.specs.Prelude.{◌≡◌, ◌⊎◌, List, Option, Some, None, Result, Ok, Err}
-use Rattle.osm_elements.specs.Maps.{Rows}
+use Rattle.osm_drafts.specs.Prelude.{Rows, differences}
 use Rattle.osm_changes.specs.declared.change.Change.{Change}
-use Rattle.osm_changes.specs.Changes.{differences}
-use Rattle.edit_simple.specs.declared.refusal.Refusal.{Refusal}
-use Rattle.edit_simple.specs.declared.refusal.Refusal.TheVariants.{Memory}
+use Rattle.room_interface.specs.declared.refusal.Refusal.{Refusal}
+use Rattle.room_interface.specs.declared.refusal.Refusal.TheVariants.{Memory}
 use Rattle.edit_simple.specs.Checks.{first_that_holds}
 
 -- the changes to the map after if no check holds, otherwise the first check that holds; `Memory` can replace either

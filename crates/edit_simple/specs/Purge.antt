@@ -1,14 +1,11 @@
 -- The action that removes an element and every reference to it. (OpenStreetMap API v0.6: nothing absent is named. Which
 -- other elements are removed is this project's rule.)
-use Rattle.std.specs.Prelude.{◌&&◌, ◌||◌, Bool, not, List, [], ◌∷◌, Option, length, nat_lt}
-use Rattle.std.specs.Bool.{then_some}
-use Rattle.std.specs.List.{filter}
+use Rattle.std.specs.Prelude.{◌&&◌, ◌||◌, Bool, not, List, [], ◌∷◌, Option, length, nat_lt, filter}
+use Rattle.room_interface.specs.Prelude.{then_some, Rows, is_same, is_among, is_absent, row_at}
 use Rattle.osm_elements.specs.declared.name.Name.{Name}
 use Rattle.osm_elements.specs.declared.element.Element.{Element}
-use Rattle.osm_elements.specs.Maps.{Rows, is_same, is_among, is_absent}
-use Rattle.osm_elements.specs.Rows.{row_at}
-use Rattle.edit_simple.specs.declared.refusal.Refusal.{Refusal}
-use Rattle.edit_simple.specs.declared.refusal.Refusal.TheVariants.{Absent}
+use Rattle.room_interface.specs.declared.refusal.Refusal.{Refusal}
+use Rattle.room_interface.specs.declared.refusal.Refusal.TheVariants.{Absent}
 use Rattle.edit_simple.specs.Contents.{nodes_of, with_nodes, with_members, each_row}
 
 -- a list without x

@@ -1,15 +1,13 @@
 -- The action that sets tags of an element. (OpenStreetMap wiki, "Elements". The greatest number of tags is this
 -- project's.)
 use Rattle.std.specs.Prelude.{List, [], ◌∷◌, Option, length, nat_lt}
-use Rattle.std.specs.Bool.{then_some}
+use Rattle.room_interface.specs.Prelude.{then_some, Rows, is_absent, row_at, GivenTags}
 use Rattle.osm_elements.specs.declared.name.Name.{Name}
-use Rattle.osm_elements.specs.Maps.{Rows, is_absent}
-use Rattle.osm_elements.specs.Rows.{row_at}
 use Rattle.osm_changes.specs.SameRows.{are_same_tags}
-use Rattle.edit_simple.specs.declared.refusal.Refusal.{Refusal}
-use Rattle.edit_simple.specs.declared.refusal.Refusal.TheVariants.{Absent, TooMany, Nothing}
+use Rattle.room_interface.specs.declared.refusal.Refusal.{Refusal}
+use Rattle.room_interface.specs.declared.refusal.Refusal.TheVariants.{Absent, TooMany, Nothing}
 use Rattle.edit_simple.specs.Contents.{row_tags, with_tags, each_row, at_name}
-use Rattle.edit_simple.specs.Tagging.{GivenTags, retagged, most_tags}
+use Rattle.edit_simple.specs.Tagging.{retagged, most_tags}
 
 module _ {A : Type 0} where
   -- the element is absent, or would have more than 1,000 tags, or the same tags as before

@@ -1,12 +1,9 @@
 -- The action that reverses a way. (OpenStreetMap wiki, "Elements": a way is an ordered list of nodes.)
 use Rattle.std.specs.Prelude.{not, List, [], ◌∷◌, Option, reverse}
-use Rattle.std.specs.Bool.{then_some}
+use Rattle.osm_drafts.specs.Prelude.{then_some, Rows, is_absent, row_at, are_same_names}
 use Rattle.osm_elements.specs.declared.name.Name.{Name}
-use Rattle.osm_elements.specs.Maps.{Rows, is_absent}
-use Rattle.osm_elements.specs.Rows.{row_at}
-use Rattle.osm_changes.specs.SameRows.{are_same_names}
-use Rattle.edit_simple.specs.declared.refusal.Refusal.{Refusal}
-use Rattle.edit_simple.specs.declared.refusal.Refusal.TheVariants.{Absent, WrongKind, Nothing}
+use Rattle.room_interface.specs.declared.refusal.Refusal.{Refusal}
+use Rattle.room_interface.specs.declared.refusal.Refusal.TheVariants.{Absent, WrongKind, Nothing}
 use Rattle.edit_simple.specs.Kinds.{is_way}
 use Rattle.edit_simple.specs.Contents.{nodes_of, with_nodes, each_row, at_name}
 

@@ -1,13 +1,12 @@
 -- Names, elements and the first map of the examples.
 use Rattle.std.specs.Prelude.{◌*◌, ℕ, ⊤, List, [], ◌∷◌, Option, pos, negsuc}
+use Rattle.room_interface.specs.Prelude.{Rows, named}
 use Rattle.osm_elements.specs.declared.name.Name.{Name}
-use Rattle.osm_elements.specs.declared.name.Kind.TheVariants as kinds
 use Rattle.osm_elements.specs.declared.element.Element.{Element}
 use Rattle.osm_elements.specs.declared.element.Element.TheVariants.{Node, Way, Relation}
-use Rattle.osm_elements.specs.Maps.{Rows}
-use Rattle.osm_elements.specs.NameTexts.{named}
 use Rattle.edit_simple.specs.Checks.{first_that_holds}
-use Rattle.edit_simple.specs.declared.refusal.Refusal.{Refusal}
+use Rattle.room_interface.specs.declared.refusal.Refusal.{Refusal}
+use Rattle.osm_elements.specs.declared.name.Kind.TheVariants as kinds
 
 -- the allocator, which no definition looks at
 abbrev pub Any : Type 0

@@ -1,7 +1,6 @@
 //! The plan of a create.
 ghost use Rattle.std.specs.Prelude.{◌≡◌};
-ghost use Rattle.osm_elements.specs.Elements.{kind_of};
-ghost use Rattle.osm_elements.specs.Maps.{is_kind};
+ghost use Rattle.room_interface.specs.Prelude.{kind_of, is_kind};
 ghost use Rattle.edit_simple.specs.Checks.{first_that_holds};
 ghost use Rattle.edit_simple.specs.Create.{create_checks, after_create};
 ghost use Rattle.edit_simple.specs.Passing.{passed};
@@ -10,16 +9,26 @@ ghost use Rattle.edit_simple.specs.Plans.{IsNamed, IsPlan};
 use crate::changing::one_change;
 use crate::lists::list_fault;
 use crate::lookup::is_present;
-use crate::refusal::Refusal;
 use osm_changes::changes::Changes;
 use osm_drafts::draft::Draft;
 use osm_elements::element::Element;
 use osm_elements::name::Name;
+use room_interface::refusal::Refusal;
 use std::alloc::Allocator;
 
-/// Plans to create an element.
+/// Plans to create an element with this name. It looks up each name that the element refers to.
+///
+/// # Errors
+///
+/// - `WrongKind`, if the element is not of the name's kind
+/// - `Present`, if the map has the name
+/// - `TooFew`, if it is a way of fewer than 2 nodes
+/// - `TooMany`, if it is a way of more than 2,000 nodes or a relation of more than 32,000 members (this project's
+///   limits)
+/// - `Absent`, with the least name that the element refers to, other than its own, that the map does not have
+///   (OpenStreetMap API v0.6: nothing absent is named)
 #[tactic(auto, using(crate::specs::Facts::Checked::named_if_none))]
-pub fn plan<A: Allocator + Clone>(
+pub fn plan_create<A: Allocator + Clone>(
     alloc: A,
     rows: &Draft<'_, A>,
     name: &Name,

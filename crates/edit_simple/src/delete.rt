@@ -5,15 +5,21 @@ ghost use Rattle.edit_simple.specs.Delete.{delete_checks, after_delete};
 ghost use Rattle.edit_simple.specs.Plans.{IsNamed, IsPlan};
 
 use crate::changing::one_change;
-use crate::refusal::Refusal;
 use osm_changes::changes::Changes;
 use osm_drafts::draft::Draft;
 use osm_elements::name::Name;
+use room_interface::refusal::Refusal;
 use std::alloc::Allocator;
 
-/// Plans to delete an element.
+/// Plans to delete an element. It looks at no other element.
+///
+/// # Errors
+///
+/// - `Absent`, if the map does not have the name
+/// - `InUse`, with the least element that refers to the name, which can be the element itself (OpenStreetMap API v0.6:
+///   an element in use is not deleted)
 #[tactic(auto, using(crate::specs::Facts::Checked::named_if_none))]
-pub fn plan<A: Allocator + Clone>(
+pub fn plan_delete<A: Allocator + Clone>(
     alloc: A,
     rows: &Draft<'_, A>,
     name: &Name,

@@ -1,12 +1,10 @@
 //! Laws of the actions. Each is the contract of a function that does nothing.
 ghost use Rattle.std.specs.Prelude.{◌≡◌, ◌≢◌, ℕ, ℤ, true, List, Some, None};
+ghost use Rattle.room_interface.specs.Prelude.{are_nodes, is_made, Rows, are_members, GivenTags, are_given};
 ghost use Rattle.osm_elements.specs.declared.name.Name.{Name};
 ghost use Rattle.osm_elements.specs.declared.element.Element.{Element};
-ghost use Rattle.osm_elements.specs.Made.{are_nodes, is_made};
-ghost use Rattle.osm_elements.specs.Maps.{Rows};
-ghost use Rattle.osm_elements.specs.Members.{are_members};
 ghost use Rattle.osm_changes.specs.Sound.{is_sound};
-ghost use Rattle.edit_simple.specs.declared.refusal.Refusal.TheVariants.{Nothing};
+ghost use Rattle.room_interface.specs.declared.refusal.Refusal.TheVariants.{Nothing};
 ghost use Rattle.edit_simple.specs.Checks.{first_that_holds};
 ghost use Rattle.edit_simple.specs.Create.{create_checks, after_create};
 ghost use Rattle.edit_simple.specs.Delete.{delete_checks, after_delete};
@@ -17,7 +15,6 @@ ghost use Rattle.edit_simple.specs.Nodes.{nodes_checks, after_nodes};
 ghost use Rattle.edit_simple.specs.Purge.{purge_checks, after_purge};
 ghost use Rattle.edit_simple.specs.Retag.{retag_checks, after_retag};
 ghost use Rattle.edit_simple.specs.Reverse.{reverse_checks, after_reverse};
-ghost use Rattle.edit_simple.specs.Tagging.{GivenTags, are_given};
 
 use std::alloc::Allocator;
 

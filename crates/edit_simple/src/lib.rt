@@ -1,7 +1,7 @@
 //! The actions on single elements: create, retag, move, reverse, nodes, members, delete and purge.
 //!
 //! [`plans`] has a function for each action. A plan returns the changes that lead to the map after the action, or the
-//! first of the action's checks that holds ([`refusal::Refusal`]). If an allocation fails, it returns `Memory`, but not
+//! first of the action's checks that holds (a [`Refusal`](room_interface::refusal::Refusal)). If an allocation fails, it returns `Memory`, but not
 //! in place of a refusal that needs no memory. A plan leaves its draft unchanged. [`laws`] has the laws of the actions.
 //!
 //! A function that cannot return `Memory` allocates nothing. `Memory` is also returned if a shared value of an element
@@ -23,8 +23,6 @@ mod moving;
 mod nodes;
 pub mod plans;
 mod purge;
-pub mod refusal;
-pub mod retag;
 mod retagging;
 mod reverse;
 pub mod row_change;

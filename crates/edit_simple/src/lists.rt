@@ -1,17 +1,15 @@
 //! Checks of the list of an element: its length, and the names in it.
-ghost use Rattle.std.specs.Prelude.{◌≡◌};
-ghost use Rattle.std.specs.List.{filter};
-ghost use Rattle.osm_elements.specs.Maps.{least};
-ghost use Rattle.osm_refs.specs.References.{references};
+ghost use Rattle.std.specs.Prelude.{◌≡◌, filter};
+ghost use Rattle.osm_drafts.specs.Prelude.{least, references};
 ghost use Rattle.edit_simple.specs.Checks.{first_that_holds};
 ghost use Rattle.edit_simple.specs.Create.{is_too_short, is_too_long, is_missing, list_checks};
 
 use crate::limits::{FEWEST_NODES, MOST_MEMBERS, MOST_NODES};
 use crate::lookup::{least_missing, least_missing_member};
-use crate::refusal::Refusal;
 use osm_changes::lookup::Lookup;
 use osm_elements::element::Element;
 use osm_elements::name::Name;
+use room_interface::refusal::Refusal;
 use std::alloc::Allocator;
 
 /// Returns the first fault of an element's list, if the element is to have `name` in the map:

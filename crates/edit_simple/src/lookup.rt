@@ -1,6 +1,5 @@
 //! Look-ups of names in a map.
-ghost use Rattle.std.specs.Prelude.{◌≡◌, map};
-ghost use Rattle.std.specs.List.{filter};
+ghost use Rattle.std.specs.Prelude.{◌≡◌, map, filter};
 ghost use Rattle.osm_elements.specs.Maps.{is_present, least};
 ghost use Rattle.edit_simple.specs.Create.{is_missing};
 ghost use Rattle.edit_simple.specs.Inner.Least.{lesser_of};

@@ -1,13 +1,8 @@
 //! The plan that gives a relation new members.
 ghost use Rattle.std.specs.Prelude.{◌≡◌, ◌⊎◌, true, false, [], ◌∷◌, not, MatchResult, Some, Err};
-ghost use Rattle.std.specs.Bool.{then_some};
-ghost use Rattle.osm_elements.specs.Maps.{is_absent};
-ghost use Rattle.osm_elements.specs.Rows.{row_at};
+ghost use Rattle.osm_drafts.specs.Prelude.{then_some, is_absent, row_at, row_changes, are_same_members, is_sound};
 ghost use Rattle.osm_elements.specs.declared.element.Element.TheVariants.{Relation};
-ghost use Rattle.osm_changes.specs.Changes.{row_changes};
-ghost use Rattle.osm_changes.specs.SameRows.{are_same_members};
-ghost use Rattle.osm_changes.specs.Sound.{is_sound};
-ghost use Rattle.edit_simple.specs.declared.refusal.Refusal.TheVariants.{WrongKind, Absent, Nothing, Memory as OutOfMemory};
+ghost use Rattle.room_interface.specs.declared.refusal.Refusal.TheVariants.{WrongKind, Absent, Nothing, Memory as OutOfMemory};
 ghost use Rattle.edit_simple.specs.Checks.{first_that_holds};
 ghost use Rattle.edit_simple.specs.Kinds.{is_relation};
 ghost use Rattle.edit_simple.specs.Members.{members_checks, after_members};
@@ -17,7 +12,6 @@ use crate::changing::one_change;
 use crate::kinds::is_relation;
 use crate::limits::MOST_MEMBERS;
 use crate::lookup::least_missing_member;
-use crate::refusal::Refusal;
 use osm_changes::changes::Changes;
 use osm_changes::same::are_same_members;
 use osm_drafts::draft::Draft;
@@ -26,11 +20,20 @@ use osm_elements::members::Members;
 use osm_elements::name::Name;
 use osm_elements::shared::Shared;
 use osm_elements::shared_tags::SharedTags;
+use room_interface::refusal::Refusal;
 use std::alloc::Allocator;
 
-/// Plans to give a relation new members.
+/// Plans to give a relation new members. It looks up each of the members.
+///
+/// # Errors
+///
+/// - `WrongKind`, if the name is not a relation's
+/// - `Absent`, if the map does not have the name
+/// - `TooMany`, if there are more than 32,000 members, a limit of this project
+/// - `Absent`, with the least member that the map does not have
+/// - `Nothing`, if these are the members of the relation
 #[tactic(auto, using(crate::specs::Facts::Checked::named_if_none))]
-pub fn plan<A: Allocator + Clone>(
+pub fn plan_members<A: Allocator + Clone>(
     alloc: A,
     rows: &Draft<'_, A>,
     name: &Name,

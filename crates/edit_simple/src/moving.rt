@@ -1,11 +1,7 @@
 //! The plan of a move.
-ghost use Rattle.std.specs.Prelude.{◌≡◌, ◌⊎◌, ◌&&◌, ◌||◌, ◌++◌, pos, true, false, Some, length, nat_eq, take, drop, IfOk, OnOk, MatchResult};
-ghost use Rattle.std.specs.List.{filter};
-ghost use Rattle.std.specs.Ordering.{int_eq};
-ghost use Rattle.osm_elements.specs.Maps.{is_absent, least, name_set};
-ghost use Rattle.osm_elements.specs.Rows.{row_at};
-ghost use Rattle.osm_changes.specs.Sound.{is_sound};
-ghost use Rattle.edit_simple.specs.declared.refusal.Refusal.TheVariants.{OutOfRange as OutsideRange, Memory as OutOfMemory};
+ghost use Rattle.std.specs.Prelude.{◌≡◌, ◌⊎◌, ◌&&◌, ◌||◌, ◌++◌, pos, true, false, Some, length, nat_eq, take, drop, IfOk, OnOk, MatchResult, filter};
+ghost use Rattle.osm_drafts.specs.Prelude.{int_eq, is_absent, least, name_set, row_at, is_sound};
+ghost use Rattle.room_interface.specs.declared.refusal.Refusal.TheVariants.{OutOfRange as OutsideRange, Memory as OutOfMemory};
 ghost use Rattle.edit_simple.specs.Inner.Moving.{moved_with, all_moved, row_leaves, moved_row};
 ghost use Rattle.edit_simple.specs.Inner.Moves.{IsMoved, MayMove, is_node_row};
 ghost use Rattle.edit_simple.specs.Kinds.{is_relation};
@@ -14,18 +10,28 @@ ghost use Rattle.edit_simple.specs.Plans.{IsNamed, IsPlan};
 
 use crate::kinds::is_relation;
 use crate::lookup::{is_present, lesser};
-use crate::refusal::Refusal;
 use osm_changes::changes::Changes;
 use osm_drafts::draft::Draft;
 use osm_elements::Memory;
 use osm_elements::element::Element;
 use osm_elements::name::Name;
 use osm_refs::name_set::name_set;
+use room_interface::refusal::Refusal;
 use std::alloc::Allocator;
 
-/// Plans to move nodes and the nodes of ways.
+/// Plans to move each listed node, and each node of each listed way, by `dlat` and `dlon` ten-millionths of a degree.
+/// Each node moves once, however often it is listed. The plan sorts the moved nodes and looks up each of them.
+///
+/// # Errors
+///
+/// - `WrongKind`, with the least relation in the list
+/// - `Absent`, with the least listed name that the map does not have
+/// - `OutOfRange`, with the least node that would leave the range of latitudes or longitudes (OpenStreetMap API v0.6)
+/// - `Nothing`, if the list is empty or both distances are 0
+///
+/// Only `OutOfRange` needs memory. `Memory` can replace it, but no other refusal.
 #[tactic(auto, using(crate::specs::Facts::Checked::named_if_none))]
-pub fn plan<A: Allocator + Clone>(
+pub fn plan_move<A: Allocator + Clone>(
     alloc: A,
     rows: &Draft<'_, A>,
     names: &[Name],
@@ -35,6 +41,8 @@ pub fn plan<A: Allocator + Clone>(
     requires { is_sound rows.now ≡ true }
     ensures plan { IsPlan rows.now (move_checks rows.now names.now dlat dlon)
         (after_move rows.now names.now dlat dlon) result }
+
+    // `Memory` can replace `OutOfRange` alone.
     ensures named { IsNamed (take 2 (move_checks rows.now names.now dlat dlon)
         ++ drop 3 (move_checks rows.now names.now dlat dlon)) result }
 {

@@ -1,12 +1,6 @@
 //! The plan of a purge.
-ghost use Rattle.std.specs.Prelude.{◌≡◌, ◌++◌, [], ◌∷◌, true, not, map, IfOk, OnOk};
-ghost use Rattle.std.specs.List.{filter};
-ghost use Rattle.osm_elements.specs.Maps.{is_among, name_set};
-ghost use Rattle.osm_elements.specs.Members.{member_pair};
-ghost use Rattle.osm_elements.specs.Nodes.{AreNodes};
-ghost use Rattle.osm_elements.specs.Rows.{row_at};
-ghost use Rattle.osm_refs.specs.Tables.{users_in, table_of};
-ghost use Rattle.osm_changes.specs.Sound.{is_sound};
+ghost use Rattle.std.specs.Prelude.{◌≡◌, ◌++◌, [], ◌∷◌, true, not, map, IfOk, OnOk, filter};
+ghost use Rattle.osm_drafts.specs.Prelude.{is_among, name_set, member_pair, AreNodes, row_at, users_in, table_of, is_sound};
 ghost use Rattle.edit_simple.specs.Inner.Purging.{reached_with, all_reached, all_gone, left_of, row_left};
 ghost use Rattle.edit_simple.specs.Contents.{nodes_of};
 ghost use Rattle.edit_simple.specs.Plans.{IsNamed, IsPlan};
@@ -14,7 +8,6 @@ ghost use Rattle.edit_simple.specs.Purge.{without, falls_short, purge_checks, af
 
 use crate::cut_short::is_cut_short;
 use crate::lookup::is_present;
-use crate::refusal::Refusal;
 use crate::row_change::{RowChange, change_rows};
 use osm_changes::changes::Changes;
 use osm_drafts::draft::Draft;
@@ -27,12 +20,24 @@ use osm_elements::names::{Names, is_same};
 use osm_elements::nodes::Nodes;
 use osm_elements::shared::Shared;
 use osm_refs::name_set::name_set;
+use room_interface::refusal::Refusal;
 use std::alloc::Allocator;
 use std::collections::BTreeSet;
 
-/// Plans to remove an element and every reference to it.
+/// Plans to remove an element and every reference to it (OpenStreetMap API v0.6: nothing absent is named).
+///
+/// All other ways lose their references to the element. A way that loses references and keeps fewer than 2 nodes is
+/// removed, too. All other relations lose the members that are removed, but no relation is removed for that. Which
+/// elements are removed is this project's rule.
+///
+/// The plan looks at the users of the element and at the users of each removed way, which all change, and at no other
+/// element. It takes time for the contents of these, times a logarithm.
+///
+/// # Errors
+///
+/// `Absent`, if the map does not have the name.
 #[tactic(auto, using(crate::specs::Facts::Checked::named_if_none))]
-pub fn plan<A: Allocator + Clone>(
+pub fn plan_purge<A: Allocator + Clone>(
     alloc: A,
     rows: &Draft<'_, A>,
     name: &Name,

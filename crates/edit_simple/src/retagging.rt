@@ -1,20 +1,16 @@
 //! The plan that sets tags of an element.
 ghost use Rattle.std.specs.Prelude.{◌≡◌, ◌⊎◌, ◌<◌, ◌≤◌, true, false, T, map, length, nat_lt, nat_eq, is_some, take, MatchResult, IfOk, OnOk, IfErr};
-ghost use Rattle.std.specs.FinMap.Entries.{is_sorted};
-ghost use Rattle.osm_elements.specs.KeyedRows.{text_cmp, value_at};
-ghost use Rattle.osm_elements.specs.declared.fault.TextFault.TheVariants as faults;
-ghost use Rattle.osm_changes.specs.SameRows.{are_same_tags};
-ghost use Rattle.osm_changes.specs.Sound.{is_sound};
-ghost use Rattle.edit_simple.specs.declared.refusal.Refusal.TheVariants.{TooMany, Memory as OutOfMemory};
+ghost use Rattle.room_interface.specs.Prelude.{is_sorted, text_cmp, value_at, AreGiven, given_pair};
+ghost use Rattle.osm_drafts.specs.Prelude.{are_same_tags, is_sound};
+ghost use Rattle.room_interface.specs.declared.refusal.Refusal.TheVariants.{TooMany, Memory as OutOfMemory};
 ghost use Rattle.edit_simple.specs.Inner.Retagging.{all_removed, all_valued, valued};
 ghost use Rattle.edit_simple.specs.Contents.{with_tags};
 ghost use Rattle.edit_simple.specs.Plans.{IsNamed, IsPlan};
 ghost use Rattle.edit_simple.specs.Retag.{retag_checks, after_retag};
-ghost use Rattle.edit_simple.specs.Tagging.{AreGiven, given_pair, retagged, most_tags};
+ghost use Rattle.edit_simple.specs.Tagging.{retagged, most_tags};
+ghost use Rattle.osm_elements.specs.declared.fault.TextFault.TheVariants as faults;
 
 use crate::changing::one_change;
-use crate::refusal::Refusal;
-use crate::retag::{Given, Retag};
 use osm_changes::changes::Changes;
 use osm_changes::same::are_same_tags;
 use osm_drafts::draft::Draft;
@@ -24,11 +20,21 @@ use osm_elements::fault::TextFault;
 use osm_elements::name::Name;
 use osm_elements::shared_tags::SharedTags;
 use osm_elements::tags::Tags;
+use room_interface::refusal::Refusal;
+use room_interface::retag::{Given, Retag};
 use std::alloc::Allocator;
 
-/// Plans to set tags of an element.
+/// Plans to set tags of an element: each given key gets its value, or its tag is removed if it is given no value.
+///
+/// # Errors
+///
+/// - `Absent`, if the map does not have the name
+/// - `TooMany`, if the element would have more than 1,000 tags, a limit of this project
+/// - `Nothing`, if the tags of the element would be the same
+///
+/// The last two need memory. `Memory` can replace them, but not `Absent`.
 #[tactic(auto, using(crate::specs::Facts::Checked::named_if_none))]
-pub fn plan<A: Allocator + Clone>(
+pub fn plan_retag<A: Allocator + Clone>(
     alloc: A,
     rows: &Draft<'_, A>,
     name: &Name,
@@ -37,6 +43,8 @@ pub fn plan<A: Allocator + Clone>(
     requires { is_sound rows.now ≡ true }
     ensures plan { IsPlan rows.now (retag_checks rows.now name.now given.now)
         (after_retag rows.now name.now given.now) result }
+
+    // `Memory` can replace `TooMany` and `Nothing`.
     ensures named { IsNamed (take 1 (retag_checks rows.now name.now given.now)) result }
 {
     let Some(element) = rows.get(name) else {

@@ -1,12 +1,10 @@
 //! The plan that reverses a way.
 ghost use Rattle.std.specs.Prelude.{◌≡◌, true, reverse, IfOk};
-ghost use Rattle.osm_changes.specs.SameRows.{are_same_names};
-ghost use Rattle.osm_changes.specs.Sound.{is_sound};
+ghost use Rattle.osm_drafts.specs.Prelude.{are_same_names, is_sound};
 ghost use Rattle.edit_simple.specs.Plans.{IsNamed, IsPlan};
 ghost use Rattle.edit_simple.specs.Reverse.{reverse_checks, after_reverse};
 
 use crate::kinds::is_way;
-use crate::refusal::Refusal;
 use crate::ways::{change_nodes, way_at};
 use osm_changes::changes::Changes;
 use osm_drafts::draft::Draft;
@@ -15,11 +13,18 @@ use osm_elements::name::Name;
 use osm_elements::names::is_same;
 use osm_elements::nodes::Nodes;
 use osm_elements::shared::Shared;
+use room_interface::refusal::Refusal;
 use std::alloc::Allocator;
 
 /// Plans to reverse a way.
+///
+/// # Errors
+///
+/// - `WrongKind`, if the name is not a way's
+/// - `Absent`, if the map does not have the name
+/// - `Nothing`, if the nodes of the way are the same backwards
 #[tactic(auto, using(crate::specs::Facts::Checked::named_if_none))]
-pub fn plan<A: Allocator + Clone>(
+pub fn plan_reverse<A: Allocator + Clone>(
     alloc: A,
     rows: &Draft<'_, A>,
     name: &Name,

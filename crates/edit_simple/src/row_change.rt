@@ -1,17 +1,14 @@
 //! Changes of many rows, each by itself.
-ghost use Rattle.std.specs.Prelude.{◌≡◌, IfOk, Option};
-ghost use Rattle.std.specs.Option.{option_copied};
+ghost use Rattle.std.specs.Prelude.{◌≡◌, IfOk, Option, option_copied};
+ghost use Rattle.osm_drafts.specs.Prelude.{row_at, rows_changes};
 ghost use Rattle.osm_elements.specs.declared.element.Element.{Element};
 ghost use Rattle.osm_elements.specs.declared.name.Name.{Name};
-ghost use Rattle.osm_elements.specs.Rows.{row_at};
 ghost use Rattle.osm_refs.specs.Rising.{IsRising};
-ghost use Rattle.osm_changes.specs.Changes.{rows_changes};
 
 use osm_changes::changes::Changes;
-use osm_changes::lookup::copy_of;
 use osm_drafts::draft::Draft;
 use osm_elements::Memory;
-use osm_elements::element::Element;
+use osm_elements::element::{Element, copy_of};
 use osm_elements::name::Name;
 use std::alloc::Allocator;
 

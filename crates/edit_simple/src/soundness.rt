@@ -1,16 +1,15 @@
 //! The first row of a map that is not sound.
 ghost use Rattle.std.specs.Prelude.{◌≡◌, IfSome, None, true};
-ghost use Rattle.osm_elements.specs.Made.{is_made};
-ghost use Rattle.osm_changes.specs.Sound.{is_sound};
+ghost use Rattle.osm_drafts.specs.Prelude.{is_made, is_sound, are_of_kinds};
 ghost use Rattle.edit_simple.specs.Checks.{first_that_holds};
 ghost use Rattle.edit_simple.specs.Create.{list_checks};
-ghost use Rattle.edit_simple.specs.Soundness.{IsFirstUnsound, are_of_kinds};
+ghost use Rattle.edit_simple.specs.Soundness.{IsFirstUnsound};
 
 use crate::lists::list_fault;
-use crate::refusal::Refusal;
 use osm_elements::element::Element;
 use osm_elements::map::OsmMap;
 use osm_elements::name::Name;
+use room_interface::refusal::Refusal;
 use std::alloc::Allocator;
 
 /// Returns the least name of a map whose row is not sound, and the row's fault, or `None` if the map is sound. It goes

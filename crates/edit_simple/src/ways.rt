@@ -1,16 +1,11 @@
 //! Ways in a map, and the change of their nodes.
 ghost use Rattle.std.specs.Prelude.{◌≡◌, ◌⊎◌, true, false, MatchResult, Some, Err};
-ghost use Rattle.osm_elements.specs.Maps.{is_absent};
-ghost use Rattle.osm_elements.specs.Rows.{row_at};
+ghost use Rattle.osm_drafts.specs.Prelude.{is_absent, row_at, row_changes, are_same_names, is_sound};
 ghost use Rattle.osm_elements.specs.declared.element.Element.TheVariants.{Way};
-ghost use Rattle.osm_changes.specs.Changes.{row_changes};
-ghost use Rattle.osm_changes.specs.SameRows.{are_same_names};
-ghost use Rattle.osm_changes.specs.Sound.{is_sound};
-ghost use Rattle.edit_simple.specs.declared.refusal.Refusal.TheVariants.{Absent, Nothing, Memory as OutOfMemory};
+ghost use Rattle.room_interface.specs.declared.refusal.Refusal.TheVariants.{Absent, Nothing, Memory as OutOfMemory};
 ghost use Rattle.edit_simple.specs.Kinds.{is_way};
 
 use crate::changing::one_change;
-use crate::refusal::Refusal;
 use osm_changes::changes::Changes;
 use osm_changes::same::are_same_names;
 use osm_drafts::draft::Draft;
@@ -19,6 +14,7 @@ use osm_elements::name::Name;
 use osm_elements::nodes::Nodes;
 use osm_elements::shared::Shared;
 use osm_elements::shared_tags::SharedTags;
+use room_interface::refusal::Refusal;
 use std::alloc::Allocator;
 
 /// Returns the nodes and the tags of a way. Takes time logarithmic in the size of the map.

@@ -1,20 +1,10 @@
 -- The tags of two elements, put one by one.
-use Rattle.std.proofs.Common.{◌≡◌, ◌⊎◌, ◌≤◌, ◌<◌, ◌+◌, ℕ, true, false, T, List, [], ◌∷◌, ◌++◌, inl, inr, is_some, length, map, take, drop, get_or, nat_lt, sym, ap, subst, ◌∙◌, cond, arith}
+use Rattle.std.proofs.Common.{◌≡◌, ◌⊎◌, ◌≤◌, ◌<◌, ◌+◌, ℕ, true, false, T, List, [], ◌∷◌, ◌++◌, is_some, length, map, take, drop, nat_lt, cond, inl, inr, get_or, sym, ap, subst, ◌∙◌, arith}
 use Rattle.std.proofs.lemmas.Bool.Decides.{nat_tests}
 use Rattle.std.proofs.lemmas.List.{map-append, take-append-drop}
 use Rattle.std.proofs.lemmas.List.Sums.{fold-append}
-use Rattle.std.specs.Cmp.Lexicographic.{nat_list_cmp_total}
-use Rattle.std.specs.FinMap.Entries.{is_sorted, put, is_sorted-put, length-put}
-use Rattle.osm_elements.specs.declared.fault.TextFault.{TextFault}
+use Rattle.edit_topology.specs.Prelude.{nat_list_cmp_total, is_sorted, put, is_sorted-put, length-put, TextFault, Keyed, text_cmp, value_at, Pairs, tag_pair, AreTagRows, is_short, longer-put, not_over_1000, most_tags, drop_at, both_tags}
 use Rattle.osm_elements.specs.declared.fault.TextFault.TheVariants as faults
-use Rattle.osm_elements.specs.declared.keyed.Keyed.{Keyed}
-use Rattle.osm_elements.specs.KeyedRows.{text_cmp, value_at}
-use Rattle.osm_elements.specs.TagRows.{Pairs, tag_pair, AreTagRows}
-use Rattle.osm_elements.specs.KeyedValues.{is_short}
-use Rattle.osm_elements.specs.Facts.KeyedRows.{longer-put, not_over_1000}
-use Rattle.edit_simple.specs.Tagging.{most_tags}
-use Rattle.edit_simple.specs.Facts.Lists.{drop_at}
-use Rattle.edit_topology.specs.BothTags.{both_tags}
 
 -- ---- how many tags there are
 

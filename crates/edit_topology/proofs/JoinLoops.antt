@@ -1,13 +1,8 @@
 -- The lists of a join, and the names whose rows it changes, one by one.
-use Rattle.std.proofs.Common.{◌≡◌, ◌-◌, ◌++◌, ℕ, suc, Bool, List, [], ◌∷◌, Option, Some, None, length, take, drop, slice_get, All, Bor, refl, sym, ap, subst, ◌∙◌, arith}
+use Rattle.std.proofs.Common.{◌≡◌, ◌-◌, ◌++◌, ℕ, suc, Bool, List, [], ◌∷◌, Option, Some, None, length, take, drop, slice_get, All, refl, sym, ap, subst, ◌∙◌, arith, Bor, option_copied}
 use Rattle.std.proofs.lemmas.List.Elements.{All-append, All-drop, All-take}
-use Rattle.std.specs.List.{last_or}
-use Rattle.std.specs.Option.{option_copied, option_eq}
-use Rattle.osm_elements.specs.declared.name.Name.{Name}
+use Rattle.edit_topology.specs.Prelude.{last_or, option_eq, Name, is_same, AreNodes, meet_end_to_end}
 use Rattle.osm_elements.specs.declared.name.Kind.TheVariants.{Node}
-use Rattle.osm_elements.specs.Maps.{is_same}
-use Rattle.osm_elements.specs.Nodes.{AreNodes}
-use Rattle.edit_topology.specs.Join.{meet_end_to_end}
 
 -- ---- the last of a list
 

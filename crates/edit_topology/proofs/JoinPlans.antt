@@ -1,34 +1,7 @@
 -- Plans of joins: which rows change, and what they become.
-use Rattle.std.proofs.Common.{◌≡◌, Bool, true, false, ◌||◌, List, ◌∷◌, Option, Some, None, Ok, refl, sym, ap, ◌∙◌, cond}
-use Rattle.std.specs.Option.{option_map}
-use Rattle.osm_elements.specs.declared.name.Name.{Name}
-use Rattle.osm_elements.specs.declared.element.Element.{Element}
-use Rattle.osm_elements.specs.declared.element.Element.TheVariants.{Way}
-use Rattle.osm_elements.specs.Maps.{Rows, is_same, is_among, name_set}
-use Rattle.osm_elements.specs.Rows.{row_at}
-use Rattle.osm_elements.specs.TagRows.{Pairs}
-use Rattle.osm_elements.specs.Facts.Among.{is_among-name_set}
-use Rattle.osm_elements.specs.Facts.Dropped.{same_either_way}
-use Rattle.osm_elements.specs.Facts.Rows.{same_names, is_eq-name_cmp_itself}
-use Rattle.osm_refs.specs.References.{refers_to, row_references, users}
-use Rattle.osm_refs.specs.Facts.RisingNames.{IsRising-name_set}
-use Rattle.osm_changes.specs.declared.change.Change.{Change}
-use Rattle.osm_changes.specs.Changes.{rows_changes, differences}
-use Rattle.osm_changes.specs.Sound.{is_sound}
-use Rattle.osm_changes.specs.Facts.SoundRows.{sound_in_order}
-use Rattle.edit_simple.specs.Checks.{first_that_holds}
-use Rattle.edit_simple.specs.Contents.{nodes_of, row_tags, with_members}
-use Rattle.edit_simple.specs.Plans.{IsPlan}
-use Rattle.osm_changes.specs.Facts.DifferingRows.{rows_covering}
-use Rattle.edit_simple.specs.Facts.Kinds.{way_there}
-use Rattle.osm_changes.specs.Facts.PassingRows.{passes_at, among_rows}
-use Rattle.edit_topology.specs.BothTags.{both_tags}
+use Rattle.std.proofs.Common.{◌≡◌, Bool, true, false, ◌||◌, List, ◌∷◌, Option, Some, None, Ok, refl, cond, sym, ap, ◌∙◌, option_map}
+use Rattle.edit_topology.specs.Prelude.{Name, Element, Way, Rows, is_same, is_among, name_set, row_at, Pairs, is_among-name_set, same_either_way, same_names, is_eq-name_cmp_itself, refers_to, row_references, users, IsRising-name_set, Change, rows_changes, differences, is_sound, sound_in_order, first_that_holds, nodes_of, row_tags, with_members, IsPlan, rows_covering, way_there, passes_at, among_rows, both_tags, end_to_end, joined_members, join_checks, after_join, lengthened, join_row, row_at-each_but, Joins, joins, or_first, or_second, join_leaves}
 use Rattle.edit_topology.specs.Inner.Joining.{way_of_both, row_joined}
-use Rattle.edit_topology.specs.Join.{end_to_end, joined_members, join_checks, after_join, lengthened, join_row}
-use Rattle.edit_topology.specs.Facts.EachBut.{row_at-each_but}
-use Rattle.edit_topology.specs.Facts.Joining.{Joins, joins}
-use Rattle.edit_topology.specs.Facts.Lists.{or_first, or_second}
-use Rattle.edit_topology.specs.Facts.Staying.{join_leaves}
 
 module _ {A : Type 0} (m : Rows A) (w v : Name) (sound : is_sound m ≡ true) (ok : first_that_holds (join_checks m w v) ≡ None) where
   j : Joins m w v

@@ -1,14 +1,7 @@
 -- What a sound map has at the name of a way.
 use Rattle.std.proofs.Common.{◌≡◌, ◌≤◌, true, ◌&&◌, List, Some, length, nat_le, arith}
 use Rattle.std.proofs.lemmas.Bool.Decides.{nat_tests}
-use Rattle.osm_elements.specs.declared.name.Name.{Name}
-use Rattle.osm_elements.specs.declared.element.Element.TheVariants.{Way}
-use Rattle.osm_elements.specs.Maps.{Rows}
-use Rattle.osm_elements.specs.Rows.{row_at}
-use Rattle.osm_elements.specs.TagRows.{Pairs}
-use Rattle.osm_elements.specs.Facts.Tests.{first_true, second_true}
-use Rattle.osm_changes.specs.Sound.{is_sound, most_nodes}
-use Rattle.edit_simple.specs.Facts.Rewriting.{fine}
+use Rattle.edit_topology.specs.Prelude.{Name, Way, Rows, row_at, Pairs, first_true, second_true, is_sound, most_nodes, fine}
 
 module _ {A : Type 0} where
   module _ (m : Rows A) (w : Name) (nodes : List Name) (tags : Pairs) (sound : is_sound m ≡ true) (is : row_at m w ≡ Some (Way nodes tags)) where

@@ -1,5 +1,4 @@
 pub mod BothTagsLoops
-mod ExampleProofs
 pub mod JoinLoops
 pub mod JoinPlans
 pub mod JoinWays

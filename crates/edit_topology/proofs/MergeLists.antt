@@ -1,32 +1,12 @@
 -- The lists and the tags that a merge leaves.
-use Rattle.std.proofs.Common.{◌≡◌, ◌≤◌, ◌<◌, ◌+◌, ◌++◌, ℕ, zero, suc, Bool, true, false, ◌&&◌, ◌||◌, T, List, [], ◌∷◌, Option, Some, None, is_some, length, map, take, get_or, nat_lt, refl, sym, ap, ◌∙◌, cond, arith}
+use Rattle.std.proofs.Common.{◌≡◌, ◌≤◌, ◌<◌, ◌+◌, ◌++◌, ℕ, zero, suc, Bool, true, false, ◌&&◌, ◌||◌, T, List, [], ◌∷◌, Option, Some, None, is_some, length, map, take, nat_lt, refl, cond, get_or, sym, ap, ◌∙◌, arith, find, is_eq}
 use Rattle.std.proofs.lemmas.Bool.Decides.{nat_tests}
 use Rattle.std.proofs.lemmas.List.{take_more}
 use Rattle.std.proofs.lemmas.List.Elements.{All-map}
 use Rattle.std.proofs.lemmas.List.Filters.{All-dedup}
-use Rattle.std.specs.Cmp.{tied_itself}
-use Rattle.std.specs.Cmp.Lexicographic.{nat_list_cmp_total}
-use Rattle.std.specs.FinMap.{nat_cmp-IsAntisymmetric, slice_cmp-IsAntisymmetric}
-use Rattle.std.specs.FinMap.Entries.{put, is_sorted, below_all, is_sorted-put, find-put, length-put, same_entries}
-use Rattle.std.specs.List.{dedup_from, find, list_all}
-use Rattle.std.specs.Ordering.{is_eq}
-use Rattle.osm_elements.specs.declared.name.Name.{Name}
+use Rattle.edit_topology.specs.Prelude.{tied_itself, nat_list_cmp_total, nat_cmp-IsAntisymmetric, slice_cmp-IsAntisymmetric, put, is_sorted, below_all, is_sorted-put, find-put, length-put, same_entries, dedup_from, list_all, Name, is_node, is_same, is_among, AreNodes, text_cmp, value_at, Pairs, is_same_text, first, second, is_eq-name_cmp_itself, same_texts, told_node, both_tags, conflict, HasTwo, renamed, same_keys, same_text_itself, later, no_key_has_two}
 use Rattle.osm_elements.specs.declared.name.Kind.TheVariants.{Node}
-use Rattle.osm_elements.specs.Made.{is_node}
-use Rattle.osm_elements.specs.Maps.{is_same, is_among}
-use Rattle.osm_elements.specs.Nodes.{AreNodes}
-use Rattle.osm_elements.specs.KeyedRows.{text_cmp, value_at}
-use Rattle.osm_elements.specs.TagRows.{Pairs}
-use Rattle.osm_elements.specs.Texts.{is_same_text}
-use Rattle.osm_elements.specs.Facts.Entries.{first, second}
-use Rattle.osm_elements.specs.Facts.Rows.{is_eq-name_cmp_itself}
-use Rattle.osm_changes.specs.Facts.SameElements.{same_texts}
-use Rattle.edit_simple.specs.Facts.Kinds.{told_node}
-use Rattle.edit_topology.specs.BothTags.{both_tags, conflict, HasTwo}
 use Rattle.edit_topology.specs.Inner.Merging.{is_either, replaced}
-use Rattle.edit_topology.specs.Renaming.{renamed}
-use Rattle.edit_topology.specs.Facts.BothTags.{same_keys, same_text_itself, later}
-use Rattle.edit_topology.specs.Facts.TagValues.{no_key_has_two}
 
 -- ---- the first of a list that passes
 

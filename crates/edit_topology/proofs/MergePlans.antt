@@ -1,47 +1,9 @@
 -- Plans of merges: which check holds first, which rows change, and what they become.
-use Rattle.std.proofs.Common.{◌≡◌, ◌⊎◌, ℕ, ℤ, Bool, true, false, ◌&&◌, ◌||◌, T, List, [], ◌∷◌, ◌++◌, Option, Some, None, Result, Ok, Err, inl, inr, length, nat_lt, slice_get, refl, sym, ap, subst, ◌∙◌, cond, arith, take}
+use Rattle.std.proofs.Common.{◌≡◌, ◌⊎◌, ℕ, ℤ, Bool, true, false, ◌&&◌, ◌||◌, T, List, [], ◌∷◌, ◌++◌, Option, Some, None, Result, Ok, Err, length, nat_lt, slice_get, refl, cond, take, inl, inr, sym, ap, subst, ◌∙◌, arith, filter, find, option_map, IsErr, IsErrAnd}
 use Rattle.std.proofs.lemmas.Bool.Decides.{nat_tests}
-use Rattle.std.specs.FinMap.Entries.{is_sorted}
-use Rattle.std.specs.List.{filter, find, list_all}
-use Rattle.std.specs.Option.{option_map}
-use Rattle.std.specs.Result.{IsErr, IsErrAnd}
-use Rattle.osm_elements.specs.declared.name.Name.{Name}
-use Rattle.osm_elements.specs.declared.element.Element.{Element}
-use Rattle.osm_elements.specs.declared.element.Element.TheVariants.{Node, Way, Relation}
-use Rattle.osm_elements.specs.Elements.{tags_of}
-use Rattle.osm_elements.specs.Maps.{Rows, is_same, is_among, least, name_set}
-use Rattle.osm_elements.specs.Rows.{AreInOrder, row_at}
-use Rattle.osm_elements.specs.KeyedRows.{text_cmp}
-use Rattle.osm_elements.specs.TagRows.{Pairs}
-use Rattle.osm_elements.specs.Facts.Among.{is_among-name_set, is_among-append}
-use Rattle.osm_elements.specs.Facts.Dropped.{same_either_way}
-use Rattle.osm_elements.specs.Facts.Rows.{same_names}
-use Rattle.osm_refs.specs.References.{refers_to, row_references, users}
-use Rattle.osm_refs.specs.Facts.RisingNames.{IsRising-filter, IsRising-name_set, is_among-passing, same_rising}
-use Rattle.osm_changes.specs.declared.change.Change.{Change}
-use Rattle.osm_changes.specs.Changes.{rows_changes, differences}
-use Rattle.osm_changes.specs.Sound.{is_sound}
-use Rattle.osm_changes.specs.Facts.SoundRows.{sound_in_order}
-use Rattle.edit_simple.specs.declared.refusal.Refusal.{Refusal}
-use Rattle.edit_simple.specs.declared.refusal.Refusal.TheVariants.{TagConflict, TooFew, Memory}
-use Rattle.edit_simple.specs.Checks.{first_that_holds, the_least}
-use Rattle.edit_simple.specs.Contents.{nodes_of, row_tags, with_nodes, with_members}
-use Rattle.edit_simple.specs.Plans.{IsPlan}
-use Rattle.edit_simple.specs.Facts.Checked.{rest_decides}
-use Rattle.edit_simple.specs.Facts.Checked.{nones}
-use Rattle.osm_changes.specs.Facts.DifferingRows.{rows_covering}
-use Rattle.edit_simple.specs.Facts.FirstUsers.{first_is_least}
-use Rattle.edit_simple.specs.Facts.Kinds.{node_there}
-use Rattle.osm_changes.specs.Facts.PassingRows.{passes_at, among_rows, rising_names}
-use Rattle.edit_simple.specs.Facts.Retagging.{tags_sorted}
-use Rattle.edit_topology.specs.BothTags.{both_tags, conflict}
+use Rattle.edit_topology.specs.Prelude.{is_sorted, list_all, Name, Element, Node, Way, Relation, tags_of, Rows, is_same, is_among, least, name_set, AreInOrder, row_at, text_cmp, Pairs, is_among-name_set, is_among-append, same_either_way, same_names, refers_to, row_references, users, IsRising-name_set, is_among-passing, Change, rows_changes, differences, is_sound, sound_in_order, Refusal, TagConflict, TooFew, Memory, first_that_holds, the_least, nodes_of, row_tags, with_nodes, with_members, IsPlan, rest_decides, nones, rows_covering, first_is_least, node_there, passes_at, among_rows, rising_names, tags_sorted, both_tags, conflict, merged_nodes, shrunk, merge_checks, after_merge, united, merge_row, renamed_members, are_tags-row_tags, row_at-each_but, Merges, merges, merge_leaves}
+use Rattle.osm_refs.specs.Facts.RisingNames.{IsRising-filter, same_rising}
 use Rattle.edit_topology.specs.Inner.Merging.{is_either, replaced, subjects, tag_checks, is_cut_short, merged_element, row_merged}
-use Rattle.edit_topology.specs.Merge.{merged_nodes, shrunk, merge_checks, after_merge, united, merge_row}
-use Rattle.edit_topology.specs.Renaming.{renamed_members}
-use Rattle.edit_topology.specs.Facts.BothTags.{are_tags-row_tags}
-use Rattle.edit_topology.specs.Facts.EachBut.{row_at-each_but}
-use Rattle.edit_topology.specs.Facts.Merging.{Merges, merges}
-use Rattle.edit_topology.specs.Facts.Staying.{merge_leaves}
 use Rattle.edit_topology.proofs.MergeLists.{short_is, tags_stay}
 
 -- ---- tests

@@ -1,13 +1,8 @@
 -- Splits member by member.
-use Rattle.std.proofs.Common.{◌≡◌, ◌+◌, ◌++◌, ℕ, suc, Bool, true, false, List, [], ◌∷◌, Some, length, map, find, slice_get, count_by, refl, sym, ap, ◌∙◌, cond, arith}
+use Rattle.std.proofs.Common.{◌≡◌, ◌+◌, ◌++◌, ℕ, suc, Bool, true, false, List, [], ◌∷◌, Some, length, map, slice_get, count_by, refl, cond, sym, ap, ◌∙◌, arith, find, filter}
 use Rattle.std.proofs.lemmas.List.Sums.{sum_by-cons}
-use Rattle.std.specs.List.{filter}
-use Rattle.osm_elements.specs.declared.name.Name.{Name}
-use Rattle.osm_elements.specs.declared.member.Member.{Member}
-use Rattle.osm_elements.specs.Maps.{is_same}
-use Rattle.osm_elements.specs.Members.{member_pair}
+use Rattle.edit_topology.specs.Prelude.{Name, Member, is_same, member_pair, split_members}
 use Rattle.edit_topology.specs.Inner.Splitting.{count_named, split_length}
-use Rattle.edit_topology.specs.Split.{split_members}
 
 -- the first match is the first of all matches
 pub find_is_first : {X : Type 0} (p : X → Bool) (xs : List X) → find p xs ≡ slice_get (filter p xs) 0

@@ -1,47 +1,10 @@
 -- Plans of splits: which rows change, and what they become.
-use Rattle.std.proofs.Common.{◌≡◌, ◌+◌, ◌++◌, ℕ, min, Bool, true, false, not, ◌&&◌, ◌||◌, List, [], ◌∷◌, Option, Some, None, Ok, is_some, find, slice_get, length, take, nat_lt, refl, sym, ap, ◌∙◌, cond, arith}
+use Rattle.std.proofs.Common.{◌≡◌, ◌+◌, ◌++◌, ℕ, min, Bool, true, false, not, ◌&&◌, ◌||◌, List, [], ◌∷◌, Option, Some, None, Ok, is_some, slice_get, length, take, nat_lt, refl, cond, sym, ap, ◌∙◌, arith, find, filter, option_map}
 use Rattle.std.proofs.lemmas.Bool.Decides.{nat_tests}
 use Rattle.std.proofs.lemmas.List.{length-take}
-use Rattle.std.specs.Bool.{then_some}
-use Rattle.std.specs.List.{filter}
-use Rattle.std.specs.Option.{option_map}
-use Rattle.osm_elements.specs.declared.name.Name.{Name}
-use Rattle.osm_elements.specs.declared.element.Element.{Element}
-use Rattle.osm_elements.specs.declared.element.Element.TheVariants.{Node, Way, Relation}
-use Rattle.osm_elements.specs.Made.{is_node}
-use Rattle.osm_elements.specs.Maps.{Rows, is_same, is_among, is_present, name_set, names_of, least}
-use Rattle.osm_elements.specs.Rows.{AreInOrder, row_at}
-use Rattle.osm_elements.specs.Facts.Among.{is_among-name_set}
-use Rattle.osm_elements.specs.Facts.Dropped.{same_either_way}
-use Rattle.osm_elements.specs.Facts.Rows.{same_names, is_eq-name_cmp_itself}
-use Rattle.osm_elements.specs.Facts.Tests.{second_true}
-use Rattle.osm_refs.specs.References.{refers_to, row_references, users}
-use Rattle.osm_refs.specs.Facts.RisingNames.{IsRising-name_set, IsRising-filter, is_among-passing, same_rising}
-use Rattle.osm_changes.specs.declared.change.Change.{Change}
-use Rattle.osm_changes.specs.Changes.{rows_changes, differences}
-use Rattle.osm_changes.specs.Sound.{is_sound, most_members}
-use Rattle.osm_changes.specs.Facts.SoundRows.{sound_in_order}
-use Rattle.edit_simple.specs.declared.refusal.Refusal.{Refusal}
-use Rattle.edit_simple.specs.declared.refusal.Refusal.TheVariants.{Absent, Present, WrongKind, BadPosition, TooMany}
-use Rattle.edit_simple.specs.Checks.{first_that_holds, the_least}
-use Rattle.edit_simple.specs.Passing.{passed}
-use Rattle.edit_simple.specs.Kinds.{is_way}
-use Rattle.edit_simple.specs.Contents.{nodes_of, members_of, with_nodes, with_members}
-use Rattle.edit_simple.specs.Plans.{IsPlan}
-use Rattle.edit_simple.specs.Facts.Checked.{rest_decides}
-use Rattle.osm_changes.specs.Facts.DifferingRows.{rows_covering}
-use Rattle.edit_simple.specs.Facts.FirstUsers.{first_is_least}
-use Rattle.edit_simple.specs.Facts.Kinds.{told_way}
-use Rattle.edit_simple.specs.Facts.Lists.{or_left, all_listed}
-use Rattle.osm_changes.specs.Facts.PassingRows.{passes_at, rising_names, among_rows}
-use Rattle.edit_simple.specs.Facts.Rewriting.{fine}
+use Rattle.edit_topology.specs.Prelude.{then_some, Name, Element, Node, Way, Relation, is_node, Rows, is_same, is_among, is_present, name_set, names_of, least, AreInOrder, row_at, is_among-name_set, same_either_way, same_names, is_eq-name_cmp_itself, second_true, refers_to, row_references, users, IsRising-name_set, is_among-passing, Change, rows_changes, differences, is_sound, most_members, sound_in_order, Refusal, Absent, Present, WrongKind, BadPosition, TooMany, first_that_holds, the_least, passed, is_way, nodes_of, members_of, with_nodes, with_members, IsPlan, rest_decides, rows_covering, first_is_least, told_way, or_left, all_listed, passes_at, rising_names, among_rows, fine, is_inside, split_members, overfull, split_checks, after_split, split_row, split_off, way_fits, or_first, or_second, overfull_are_users, Splits, splits, row_at-after_split, split_leaves}
+use Rattle.osm_refs.specs.Facts.RisingNames.{IsRising-filter, same_rising}
 use Rattle.edit_topology.specs.Inner.Splitting.{split_length, is_overfull, split_element, row_split, row_of_split}
-use Rattle.edit_topology.specs.Split.{is_inside, split_members, overfull, split_checks, after_split, split_row, split_off}
-use Rattle.edit_topology.specs.Facts.Fitting.{way_fits}
-use Rattle.edit_topology.specs.Facts.Lists.{or_first, or_second}
-use Rattle.edit_topology.specs.Facts.Refusing.{overfull_are_users}
-use Rattle.edit_topology.specs.Facts.Splitting.{Splits, splits, row_at-after_split}
-use Rattle.edit_topology.specs.Facts.Staying.{split_leaves}
 use Rattle.edit_topology.proofs.SplitLoops.{find_is_first, length_split}
 
 -- ---- tests

@@ -1,37 +1,12 @@
 -- Plans of unglues: which rows change, and what they become.
-use Rattle.std.proofs.Common.{◌≡◌, ◌++◌, ℕ, Bool, true, false, not, ◌||◌, ◌&&◌, ◌<◌, T, List, [], ◌∷◌, append-nil, Option, Some, None, Ok, is_some, length, set, nat_lt, refl, sym, ap, subst, ◌∙◌, arith}
+use Rattle.std.proofs.Common.{◌≡◌, ◌++◌, ℕ, Bool, true, false, not, ◌||◌, ◌&&◌, ◌<◌, T, List, [], ◌∷◌, Option, Some, None, Ok, is_some, length, set, nat_lt, refl, append-nil, sym, ap, subst, ◌∙◌, arith, option_and_then, is_lt, nat_cmp, int_cmp, slice_get}
 use Rattle.std.proofs.lemmas.Bool.Decides.{nat_tests}
 use Rattle.std.proofs.lemmas.Option.{slice_get_within}
-use Rattle.std.specs.Bool.{then_some}
-use Rattle.std.specs.List.{slice_get}
-use Rattle.std.specs.Option.{option_and_then}
-use Rattle.std.specs.Ordering.{is_lt, nat_cmp, int_cmp, ordering_then}
-use Rattle.osm_elements.specs.declared.name.Name.{Name}
-use Rattle.osm_elements.specs.declared.name.Kind.TheVariants as kinds
-use Rattle.osm_elements.specs.declared.element.Element.{Element}
-use Rattle.osm_elements.specs.declared.element.Element.TheVariants.{Node, Way, Relation}
-use Rattle.osm_elements.specs.Made.{is_node}
-use Rattle.osm_elements.specs.Maps.{Rows, is_same}
+use Rattle.edit_topology.specs.Prelude.{then_some, ordering_then, Name, Element, Node, Way, Relation, is_node, Rows, is_same, kind_rank, row_at, Change, row_changes, differences, AreChanges, is_sound, AreChanges-row_changes, AreChanges-two_rows, BadPosition, first_that_holds, nodes_of, with_nodes, IsPlan, rest_decides, covering, told_node, told_way, unglue_checks, after_unglue, or_first, or_second, unglue_leaves, Unglues, unglues, standing, not_new, new_row, way_after}
 use Rattle.osm_elements.specs.NameOrder.{name_cmp}
-use Rattle.osm_elements.specs.Names.{kind_rank}
-use Rattle.osm_elements.specs.Rows.{row_at}
 use Rattle.osm_refs.specs.Rising.{IsRising}
-use Rattle.osm_changes.specs.declared.change.Change.{Change}
-use Rattle.osm_changes.specs.Changes.{row_changes, differences, AreChanges}
-use Rattle.osm_changes.specs.Sound.{is_sound}
-use Rattle.osm_changes.specs.Facts.RowChanges.{AreChanges-row_changes, AreChanges-two_rows}
-use Rattle.edit_simple.specs.declared.refusal.Refusal.TheVariants.{BadPosition}
-use Rattle.edit_simple.specs.Checks.{first_that_holds}
-use Rattle.edit_simple.specs.Contents.{nodes_of, with_nodes}
-use Rattle.edit_simple.specs.Plans.{IsPlan}
-use Rattle.edit_simple.specs.Facts.Checked.{rest_decides}
-use Rattle.osm_changes.specs.Facts.DifferingRows.{covering}
-use Rattle.edit_simple.specs.Facts.Kinds.{told_node, told_way}
 use Rattle.edit_topology.specs.Inner.Ungluing.{name_checks, node_standing}
-use Rattle.edit_topology.specs.Unglue.{unglue_checks, after_unglue}
-use Rattle.edit_topology.specs.Facts.Lists.{or_first, or_second}
-use Rattle.edit_topology.specs.Facts.Staying.{unglue_leaves}
-use Rattle.edit_topology.specs.Facts.Ungluing.{Unglues, unglues, standing, not_new, new_row, way_after}
+use Rattle.osm_elements.specs.declared.name.Kind.TheVariants as kinds
 
 -- a node's name comes before a way's
 node_first : (v w : Name) → v.kind ≡ kinds.Node → w.kind ≡ kinds.Way → is_lt (name_cmp v w) ≡ true

@@ -1,11 +1,6 @@
 -- Unites the tags of two elements. (OpenStreetMap wiki, "Elements": no two tags of an element have the same key.)
-use Rattle.std.specs.Prelude.{◌≡◌, ◌≢◌, ℕ, Bool, false, not, List, Option, Some, None}
-use Rattle.std.specs.List.{fold, find}
-use Rattle.std.specs.Option.{option_map}
-use Rattle.std.specs.FinMap.Entries.{put}
-use Rattle.osm_elements.specs.KeyedRows.{text_cmp, value_at}
-use Rattle.osm_elements.specs.TagRows.{Pairs}
-use Rattle.osm_elements.specs.Texts.{is_same_text}
+use Rattle.std.specs.Prelude.{◌≡◌, ◌≢◌, ℕ, Bool, false, not, List, Option, Some, None, fold, find, option_map}
+use Rattle.edit_simple.specs.Prelude.{put, text_cmp, value_at, Pairs, is_same_text}
 
 -- the tags of both elements; if both have a key, the value is the other element's
 abbrev pub both_tags : Pairs → Pairs → Pairs

@@ -1,14 +1,11 @@
 -- Examples of the definitions, worked out by hand.
 use Rattle.std.specs.Prelude.{◌≡◌, ℕ, List, [], ◌∷◌, Option, Some, None, pos, replicate}
+use Rattle.edit_simple.specs.Prelude.{Rows, row_at, put_row, thousand_tags, Any, n-1, n-2, n-3, n-7, n-8, w1, w2, w3, w5, r1, r9, node_at, way_of, relation_of, outer, start, refused}
 use Rattle.osm_elements.specs.declared.name.Name.{Name}
 use Rattle.osm_elements.specs.declared.element.Element.{Element}
 use Rattle.osm_elements.specs.declared.element.Element.TheVariants.{Node}
-use Rattle.osm_elements.specs.Maps.{Rows}
-use Rattle.osm_elements.specs.Rows.{row_at, put_row}
-use Rattle.osm_elements.specs.Scenes.{thousand_tags}
-use Rattle.edit_simple.specs.declared.refusal.Refusal.{Refusal}
-use Rattle.edit_simple.specs.declared.refusal.Refusal.TheVariants.{Absent, Present, WrongKind, Same, BadPosition, NotEndToEnd, TagConflict, TooFew, TooMany}
-use Rattle.edit_simple.specs.Scenes.{Any, n-1, n-2, n-3, n-7, n-8, w1, w2, w3, w5, r1, r9, node_at, way_of, relation_of, outer, start, refused}
+use Rattle.room_interface.specs.declared.refusal.Refusal.{Refusal}
+use Rattle.room_interface.specs.declared.refusal.Refusal.TheVariants.{Absent, Present, WrongKind, Same, BadPosition, NotEndToEnd, TagConflict, TooFew, TooMany}
 use Rattle.edit_topology.specs.Join.{join_checks, after_join}
 use Rattle.edit_topology.specs.Merge.{merge_checks, after_merge}
 use Rattle.edit_topology.specs.Scenes.{a1, a2, b1, b2, c1, tagged_node, tagged_way, beside, ring, thrice, with_many, with_long, ways_tagged, nodes_tagged, there_and_back}

@@ -1,20 +1,11 @@
 -- Joins two ways, if one begins where the other ends. (Editors' practice. The changes of members and the greatest
 -- lengths are this project's.)
-use Rattle.std.specs.Prelude.{◌++◌, ◌&&◌, ℕ, Bool, false, not, List, [], ◌∷◌, Option, Some, None, length, drop, map, nat_lt}
-use Rattle.std.specs.Bool.{then_some}
-use Rattle.std.specs.List.{filter, last_or, slice_get, zip}
-use Rattle.std.specs.Option.{option_eq, option_map}
+use Rattle.std.specs.Prelude.{◌++◌, ◌&&◌, ℕ, Bool, false, not, List, [], ◌∷◌, Option, Some, None, length, drop, map, nat_lt, filter, zip, slice_get, option_map}
+use Rattle.edit_simple.specs.Prelude.{then_some, last_or, option_eq, Rows, is_same, is_absent, rows_but, row_at, is_same_text, most_nodes, is_way, nodes_of, row_tags, with_nodes, with_tags, with_members, each_row, at_name, most_tags}
 use Rattle.osm_elements.specs.declared.name.Name.{Name}
 use Rattle.osm_elements.specs.declared.element.Element.{Element}
-use Rattle.osm_elements.specs.Maps.{Rows, is_same, is_absent, rows_but}
-use Rattle.osm_elements.specs.Rows.{row_at}
-use Rattle.osm_elements.specs.Texts.{is_same_text}
-use Rattle.osm_changes.specs.Sound.{most_nodes}
-use Rattle.edit_simple.specs.declared.refusal.Refusal.{Refusal}
-use Rattle.edit_simple.specs.declared.refusal.Refusal.TheVariants.{Absent, WrongKind, Same, NotEndToEnd, TagConflict, TooMany}
-use Rattle.edit_simple.specs.Kinds.{is_way}
-use Rattle.edit_simple.specs.Contents.{nodes_of, row_tags, with_nodes, with_tags, with_members, each_row, at_name}
-use Rattle.edit_simple.specs.Tagging.{most_tags}
+use Rattle.room_interface.specs.declared.refusal.Refusal.{Refusal}
+use Rattle.room_interface.specs.declared.refusal.Refusal.TheVariants.{Absent, WrongKind, Same, NotEndToEnd, TagConflict, TooMany}
 use Rattle.edit_topology.specs.BothTags.{both_tags, conflict}
 use Rattle.edit_topology.specs.Renaming.{renamed_members}
 

@@ -4,6 +4,7 @@ pub mod Facts
 pub mod Inner
 pub mod Join
 pub mod Merge
+pub mod Prelude
 pub mod Renaming
 pub mod Scenes
 pub mod Split

@@ -1,19 +1,11 @@
 -- Merges one node into another. (Editors' practice. Which repetitions are dropped, and the greatest number of tags, are
 -- this project's.)
-use Rattle.std.specs.Prelude.{◌&&◌, not, List, [], ◌∷◌, Option, Some, length, map, nat_lt, if◌then◌else◌}
-use Rattle.std.specs.Bool.{then_some}
-use Rattle.std.specs.List.{dedup, filter}
-use Rattle.std.specs.Option.{option_map}
+use Rattle.std.specs.Prelude.{◌&&◌, not, List, [], ◌∷◌, Option, Some, length, map, nat_lt, if◌then◌else◌, filter, option_map}
+use Rattle.edit_simple.specs.Prelude.{then_some, dedup, is_node, Rows, is_same, is_among, is_absent, names_of, rows_but, row_at, the_least, nodes_of, row_tags, with_nodes, with_tags, with_members, each_row, at_name, most_tags}
 use Rattle.osm_elements.specs.declared.name.Name.{Name}
 use Rattle.osm_elements.specs.declared.element.Element.{Element}
-use Rattle.osm_elements.specs.Made.{is_node}
-use Rattle.osm_elements.specs.Maps.{Rows, is_same, is_among, is_absent, names_of, rows_but}
-use Rattle.osm_elements.specs.Rows.{row_at}
-use Rattle.edit_simple.specs.declared.refusal.Refusal.{Refusal}
-use Rattle.edit_simple.specs.declared.refusal.Refusal.TheVariants.{Absent, WrongKind, Same, TagConflict, TooFew, TooMany}
-use Rattle.edit_simple.specs.Checks.{the_least}
-use Rattle.edit_simple.specs.Contents.{nodes_of, row_tags, with_nodes, with_tags, with_members, each_row, at_name}
-use Rattle.edit_simple.specs.Tagging.{most_tags}
+use Rattle.room_interface.specs.declared.refusal.Refusal.{Refusal}
+use Rattle.room_interface.specs.declared.refusal.Refusal.TheVariants.{Absent, WrongKind, Same, TagConflict, TooFew, TooMany}
 use Rattle.edit_topology.specs.BothTags.{both_tags, conflict}
 use Rattle.edit_topology.specs.Renaming.{renamed, renamed_members}
 

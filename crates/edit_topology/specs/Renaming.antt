@@ -1,7 +1,7 @@
 -- Replaces one name with another.
 use Rattle.std.specs.Prelude.{ℕ, List, map, if◌then◌else◌}
-use Rattle.osm_elements.specs.declared.name.Name.{Name}
 use Rattle.osm_elements.specs.Maps.{is_same}
+use Rattle.osm_elements.specs.declared.name.Name.{Name}
 
 -- y in place of x; any other name is unchanged
 abbrev pub renamed : Name → Name → Name → Name

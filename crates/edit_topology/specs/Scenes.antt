@@ -1,12 +1,9 @@
 -- Maps and parts of maps for the worked examples, in addition to those of `edit_simple`.
 use Rattle.std.specs.Prelude.{◌*◌, ◌++◌, ℕ, List, [], ◌∷◌, pos, replicate}
+use Rattle.edit_simple.specs.Prelude.{Rows, put_row, Pairs, Any, n-1, n-2, n-3, w2, w3, w5, r9, way_of, relation_of, outer, start}
 use Rattle.osm_elements.specs.declared.name.Name.{Name}
 use Rattle.osm_elements.specs.declared.element.Element.{Element}
 use Rattle.osm_elements.specs.declared.element.Element.TheVariants.{Node, Way}
-use Rattle.osm_elements.specs.Maps.{Rows}
-use Rattle.osm_elements.specs.Rows.{put_row}
-use Rattle.osm_elements.specs.TagRows.{Pairs}
-use Rattle.edit_simple.specs.Scenes.{Any, n-1, n-2, n-3, w2, w3, w5, r9, way_of, relation_of, outer, start}
 
 -- a tag with a letter as its key and a digit as its value: a1 is "a": "1"
 abbrev pub a1 : List ℕ × List ℕ

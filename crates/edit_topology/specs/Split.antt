@@ -1,19 +1,12 @@
 -- Splits a way in two at one of its nodes. (Editors' practice: both parts have the node, the tags and the memberships.
 -- The order of a relation's members, and their greatest number, are this project's.)
-use Rattle.std.specs.Prelude.{◌+◌, ◌&&◌, ℕ, Bool, not, List, [], ◌∷◌, Option, Some, length, take, drop, nat_lt, if◌then◌else◌}
-use Rattle.std.specs.Bool.{then_some}
-use Rattle.std.specs.List.{filter, flat_map}
+use Rattle.std.specs.Prelude.{◌+◌, ◌&&◌, ℕ, Bool, not, List, [], ◌∷◌, Option, Some, length, take, drop, nat_lt, if◌then◌else◌, filter, flat_map}
+use Rattle.edit_simple.specs.Prelude.{then_some, Rows, is_same, is_present, is_absent, names_of, row_at, put_row, most_members, the_least, is_way, nodes_of, members_of, row_tags, with_nodes, with_members, each_row, at_name}
 use Rattle.osm_elements.specs.declared.name.Name.{Name}
 use Rattle.osm_elements.specs.declared.element.Element.{Element}
 use Rattle.osm_elements.specs.declared.element.Element.TheVariants.{Way}
-use Rattle.osm_elements.specs.Maps.{Rows, is_same, is_present, is_absent, names_of}
-use Rattle.osm_elements.specs.Rows.{row_at, put_row}
-use Rattle.osm_changes.specs.Sound.{most_members}
-use Rattle.edit_simple.specs.declared.refusal.Refusal.{Refusal}
-use Rattle.edit_simple.specs.declared.refusal.Refusal.TheVariants.{Absent, Present, WrongKind, BadPosition, TooMany}
-use Rattle.edit_simple.specs.Checks.{the_least}
-use Rattle.edit_simple.specs.Kinds.{is_way}
-use Rattle.edit_simple.specs.Contents.{nodes_of, members_of, row_tags, with_nodes, with_members, each_row, at_name}
+use Rattle.room_interface.specs.declared.refusal.Refusal.{Refusal}
+use Rattle.room_interface.specs.declared.refusal.Refusal.TheVariants.{Absent, Present, WrongKind, BadPosition, TooMany}
 
 -- i is a position of the list, counted from 0, and neither the first nor the last
 abbrev pub is_inside : ℕ → List Name → Bool

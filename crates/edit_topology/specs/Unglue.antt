@@ -1,19 +1,11 @@
 -- Unglues a way from a node: the way gets a new node in place of the old. (Editors' practice: the new node has the
 -- position and the tags of the old one. Which positions and names are refused, and in which order, is this project's.)
-use Rattle.std.specs.Prelude.{ℕ, not, List, [], ◌∷◌, Option, length, nat_lt, set}
-use Rattle.std.specs.Bool.{then_some}
-use Rattle.std.specs.List.{slice_get}
-use Rattle.std.specs.Option.{option_and_then}
+use Rattle.std.specs.Prelude.{ℕ, not, List, [], ◌∷◌, Option, length, nat_lt, set, option_and_then, slice_get}
+use Rattle.edit_simple.specs.Prelude.{then_some, is_node, Rows, is_present, is_absent, row_at, with_row, is_way, nodes_of, with_nodes, each_row, at_name}
 use Rattle.osm_elements.specs.declared.name.Name.{Name}
 use Rattle.osm_elements.specs.declared.element.Element.{Element}
-use Rattle.osm_elements.specs.Made.{is_node}
-use Rattle.osm_elements.specs.Maps.{Rows, is_present, is_absent}
-use Rattle.osm_elements.specs.Rows.{row_at}
-use Rattle.osm_changes.specs.Changes.{with_row}
-use Rattle.edit_simple.specs.declared.refusal.Refusal.{Refusal}
-use Rattle.edit_simple.specs.declared.refusal.Refusal.TheVariants.{Absent, Present, WrongKind, BadPosition}
-use Rattle.edit_simple.specs.Kinds.{is_way}
-use Rattle.edit_simple.specs.Contents.{nodes_of, with_nodes, each_row, at_name}
+use Rattle.room_interface.specs.declared.refusal.Refusal.{Refusal}
+use Rattle.room_interface.specs.declared.refusal.Refusal.TheVariants.{Absent, Present, WrongKind, BadPosition}
 
 module _ {A : Type 0} where
   -- the row of the node at position i of w's list, counted from 0

@@ -1,20 +1,16 @@
 //! Unites the tags of two elements.
-ghost use Rattle.std.specs.Prelude.{◌≡◌, ◌⊎◌, ◌<◌, ◌≤◌, true, false, T, map, length, nat_lt, nat_eq, is_some, MatchResult, OnOk, IfErr};
-ghost use Rattle.std.specs.FinMap.Entries.{is_sorted, put};
-ghost use Rattle.std.specs.Option.{option_copied};
-ghost use Rattle.osm_elements.specs.KeyedRows.{text_cmp, value_at};
-ghost use Rattle.osm_elements.specs.TagRows.{AreTagRows, tag_pair};
-ghost use Rattle.osm_elements.specs.declared.fault.TextFault.TheVariants as faults;
-ghost use Rattle.edit_simple.specs.declared.refusal.Refusal.TheVariants.{TooMany, Memory as OutOfMemory};
-ghost use Rattle.edit_simple.specs.Tagging.{most_tags};
+ghost use Rattle.std.specs.Prelude.{◌≡◌, ◌⊎◌, ◌<◌, ◌≤◌, true, false, T, map, length, nat_lt, nat_eq, is_some, MatchResult, OnOk, IfErr, option_copied};
+ghost use Rattle.edit_simple.specs.Prelude.{is_sorted, put, text_cmp, value_at, AreTagRows, tag_pair, most_tags};
+ghost use Rattle.room_interface.specs.declared.refusal.Refusal.TheVariants.{TooMany, Memory as OutOfMemory};
 ghost use Rattle.edit_topology.specs.BothTags.{both_tags, is_another, conflict};
+ghost use Rattle.osm_elements.specs.declared.fault.TextFault.TheVariants as faults;
 
-use edit_simple::refusal::Refusal;
 use osm_elements::fault::TextFault;
 use osm_elements::name::Name;
 use osm_elements::shared_tags::SharedTags;
 use osm_elements::tags::{Tag, Tags};
 use osm_elements::text::{Text, is_same_text};
+use room_interface::refusal::Refusal;
 use std::alloc::Allocator;
 
 /// Returns the least key that has different values in `tags` and `others`, or `None` if there is no such key. Keys

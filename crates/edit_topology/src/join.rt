@@ -1,16 +1,8 @@
 //! Plans of joins.
-ghost use Rattle.std.specs.Prelude.{◌≡◌, ◌⊎◌, ◌≤◌, true, map, length, take, None, Some, MatchResult, IfOk};
-ghost use Rattle.std.specs.Option.{option_copied, option_map};
-ghost use Rattle.osm_elements.specs.Maps.{is_present, is_same};
-ghost use Rattle.osm_elements.specs.Members.{member_pair};
-ghost use Rattle.osm_elements.specs.Rows.{row_at};
+ghost use Rattle.std.specs.Prelude.{◌≡◌, ◌⊎◌, ◌≤◌, true, map, length, take, None, Some, MatchResult, IfOk, option_copied, option_map};
+ghost use Rattle.edit_simple.specs.Prelude.{is_present, is_same, member_pair, row_at, is_sound, most_nodes, first_that_holds, passed, with_members, IsNamed, IsPlan};
 ghost use Rattle.osm_elements.specs.declared.element.Element.TheVariants.{Way};
-ghost use Rattle.osm_changes.specs.Sound.{is_sound, most_nodes};
-ghost use Rattle.edit_simple.specs.declared.refusal.Refusal.TheVariants.{TagConflict, Memory as OutOfMemory};
-ghost use Rattle.edit_simple.specs.Checks.{first_that_holds};
-ghost use Rattle.edit_simple.specs.Passing.{passed};
-ghost use Rattle.edit_simple.specs.Contents.{with_members};
-ghost use Rattle.edit_simple.specs.Plans.{IsNamed, IsPlan};
+ghost use Rattle.room_interface.specs.declared.refusal.Refusal.TheVariants.{TagConflict, Memory as OutOfMemory};
 ghost use Rattle.edit_topology.specs.BothTags.{conflict};
 ghost use Rattle.edit_topology.specs.Inner.Joining.{name_checks, list_checks, way_of_both, joined_row};
 ghost use Rattle.edit_topology.specs.Join.{meet_end_to_end, end_to_end, goes_on, joined_members, join_checks, after_join};
@@ -20,7 +12,6 @@ use crate::both_tags::{both_tags, conflict};
 use crate::subjects::subjects_and_users;
 use edit_simple::kinds::is_way;
 use edit_simple::limits::MOST_NODES;
-use edit_simple::refusal::Refusal;
 use edit_simple::row_change::{RowChange, change_rows};
 use edit_simple::ways::way_at;
 use osm_changes::changes::Changes;
@@ -35,11 +26,30 @@ use osm_elements::nodes::Nodes;
 use osm_elements::shared::Shared;
 use osm_elements::shared_tags::SharedTags;
 use osm_elements::text::is_same_text;
+use room_interface::refusal::Refusal;
 use std::alloc::Allocator;
 
-/// Plans to join a way to another.
+/// Plans to join the way `name` to the way `other`, which begins where `name` ends.
+///
+/// The way gets the other way's nodes except the first after its own, and the tags of both. The other way is removed.
+/// In every relation, a member that names the other way is dropped if it comes right after a member that names the way
+/// in the same role. Otherwise it names the way. (Editors' practice; the changes of members and the limits are this
+/// project's.)
+///
+/// # Errors
+///
+/// The first of these that applies:
+/// - `WrongKind`, if a name is not a way's; `name` is checked first
+/// - `Same`, if both names are the same
+/// - `Absent`, if the map does not have a way; `name` is checked first
+/// - `NotEndToEnd`, if the last node of the way is not the first node of the other way
+/// - `TooMany`, for more than 2,000 nodes
+/// - `TagConflict` with the least key that has two values
+/// - `TooMany`, for more than 1,000 tags
+///
+/// The last two need memory. `Memory` can replace them, but no other refusal.
 #[tactic(auto, using(edit_simple::specs::Facts::Checked::named_if_none))]
-pub fn plan<A: Allocator + Clone>(
+pub fn plan_join<A: Allocator + Clone>(
     alloc: A,
     rows: &Draft<'_, A>,
     name: &Name,
@@ -48,6 +58,8 @@ pub fn plan<A: Allocator + Clone>(
     requires { is_sound rows.now ≡ true }
     ensures plan { IsPlan rows.now (join_checks rows.now name.now other.now)
         (after_join rows.now name.now other.now) result }
+
+    // `Memory` can replace the refusals of the tags alone.
     ensures named { IsNamed (take 7 (join_checks rows.now name.now other.now)) result }
 {
     let joined = way_of_both(&alloc, rows, name, other)?;

@@ -1,15 +1,7 @@
 //! Laws of the actions. Each law is the contract of an empty function.
 ghost use Rattle.std.specs.Prelude.{◌≡◌, ◌≢◌, ℕ, true, false, List, Some, None};
-ghost use Rattle.std.specs.Option.{option_or};
-ghost use Rattle.std.specs.declared.cmp.Ordering.TheVariants.{Less};
+ghost use Rattle.edit_simple.specs.Prelude.{option_or, Less, Rows, is_same, is_among, row_at, text_cmp, value_at, Pairs, are_tags, row_references, is_sound, first_that_holds};
 ghost use Rattle.osm_elements.specs.declared.name.Name.{Name};
-ghost use Rattle.osm_elements.specs.Maps.{Rows, is_same, is_among};
-ghost use Rattle.osm_elements.specs.Rows.{row_at};
-ghost use Rattle.osm_elements.specs.KeyedRows.{text_cmp, value_at};
-ghost use Rattle.osm_elements.specs.TagRows.{Pairs, are_tags};
-ghost use Rattle.osm_refs.specs.References.{row_references};
-ghost use Rattle.osm_changes.specs.Sound.{is_sound};
-ghost use Rattle.edit_simple.specs.Checks.{first_that_holds};
 ghost use Rattle.edit_topology.specs.BothTags.{both_tags, conflict, HasTwo};
 ghost use Rattle.edit_topology.specs.Examples.{closed_way_split, members_split, split_refusals, ends_joined, members_joined, tags_joined, join_refusals, neighbours_merged, doubles_merged, members_merged, tags_merged, merge_refusals, map_unglued, closed_way_unglued, doubles_unglued, node_copied, unglue_refusals};
 ghost use Rattle.edit_topology.specs.Join.{join_checks, after_join};

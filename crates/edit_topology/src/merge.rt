@@ -1,13 +1,7 @@
 //! Plans of merges.
-ghost use Rattle.std.specs.Prelude.{◌≡◌, ◌⊎◌, ◌++◌, true, take, None, Some, IfOk, MatchResult};
-ghost use Rattle.std.specs.List.{find, list_all};
-ghost use Rattle.osm_elements.specs.Made.{is_node};
-ghost use Rattle.osm_elements.specs.Maps.{is_present, is_same, name_set};
-ghost use Rattle.osm_elements.specs.Rows.{row_at};
-ghost use Rattle.osm_changes.specs.Sound.{is_sound};
-ghost use Rattle.edit_simple.specs.declared.refusal.Refusal.TheVariants.{Memory as OutOfMemory};
-ghost use Rattle.edit_simple.specs.Checks.{first_that_holds};
-ghost use Rattle.edit_simple.specs.Plans.{IsNamed, IsPlan};
+ghost use Rattle.std.specs.Prelude.{◌≡◌, ◌⊎◌, ◌++◌, true, take, None, Some, IfOk, MatchResult, find};
+ghost use Rattle.edit_simple.specs.Prelude.{list_all, is_node, is_present, is_same, name_set, row_at, is_sound, first_that_holds, IsNamed, IsPlan};
+ghost use Rattle.room_interface.specs.declared.refusal.Refusal.TheVariants.{Memory as OutOfMemory};
 ghost use Rattle.edit_topology.specs.BothTags.{both_tags};
 ghost use Rattle.edit_topology.specs.Inner.Merging.{is_either, subjects, tag_checks, is_cut_short, merged_element, merged_row};
 ghost use Rattle.edit_topology.specs.Merge.{merge_checks, after_merge};
@@ -16,7 +10,6 @@ use crate::both_tags::{both_tags, conflict};
 use crate::renaming::{renamed_members, replaced};
 use crate::subjects::subjects_and_users;
 use edit_simple::kinds::is_node;
-use edit_simple::refusal::Refusal;
 use edit_simple::row_change::{RowChange, change_rows};
 use osm_changes::changes::Changes;
 use osm_drafts::draft::Draft;
@@ -26,11 +19,28 @@ use osm_elements::name::Name;
 use osm_elements::names::is_same;
 use osm_elements::shared::Shared;
 use osm_elements::shared_tags::SharedTags;
+use room_interface::refusal::Refusal;
 use std::alloc::Allocator;
 
-/// Plans to merge another node into a node.
+/// Plans to merge the node `other` into the node `name`.
+///
+/// Every reference to the other node becomes a reference to the node. If a way that named the other node then has the
+/// node several times in a row, it keeps one of them. The node keeps its position and gets the tags of both nodes. The
+/// other node is removed. (Editors' practice; which repetitions are dropped is this project's.)
+///
+/// # Errors
+///
+/// The first of these that applies:
+/// - `WrongKind`, if a name is not a node's; `name` is checked first
+/// - `Same`, if both names are the same
+/// - `Absent`, if the map does not have a node; `name` is checked first
+/// - `TooFew` with the least way that named the other node and would have fewer than 2 nodes
+/// - `TagConflict` with the least key that has two values
+/// - `TooMany`, for more than 1,000 tags, a limit of this project
+///
+/// The last three need memory. `Memory` can replace them, but no other refusal.
 #[tactic(auto, using(edit_simple::specs::Facts::Checked::named_if_none))]
-pub fn plan<A: Allocator + Clone>(
+pub fn plan_merge<A: Allocator + Clone>(
     alloc: A,
     rows: &Draft<'_, A>,
     name: &Name,
@@ -39,6 +49,8 @@ pub fn plan<A: Allocator + Clone>(
     requires { is_sound rows.now ≡ true }
     ensures plan { IsPlan rows.now (merge_checks rows.now name.now other.now)
         (after_merge rows.now name.now other.now) result }
+
+    // `Memory` can replace `TooFew`, `TagConflict` and `TooMany` alone.
     ensures named { IsNamed (take 5 (merge_checks rows.now name.now other.now)) result }
 {
     let (kept, gone) = nodes_to_merge(rows, name, other)?;

@@ -1,8 +1,6 @@
 //! Lists in which one name replaces another.
 ghost use Rattle.std.specs.Prelude.{◌≡◌, true, map, IfOk};
-ghost use Rattle.osm_elements.specs.Made.{is_node};
-ghost use Rattle.osm_elements.specs.Members.{member_pair};
-ghost use Rattle.osm_elements.specs.Nodes.{AreNodes};
+ghost use Rattle.edit_simple.specs.Prelude.{is_node, member_pair, AreNodes};
 ghost use Rattle.edit_topology.specs.Inner.Merging.{replaced};
 ghost use Rattle.edit_topology.specs.Renaming.{renamed, renamed_members};
 

@@ -1,12 +1,6 @@
 //! Plans of splits.
-ghost use Rattle.std.specs.Prelude.{◌≡◌, ◌+◌, ◌++◌, true, Some, map, take, drop, count_by, find, IfOk, OnOk};
-ghost use Rattle.osm_elements.specs.Maps.{is_same};
-ghost use Rattle.osm_elements.specs.Members.{member_pair};
-ghost use Rattle.osm_elements.specs.Rows.{row_at};
-ghost use Rattle.osm_changes.specs.Sound.{is_sound};
-ghost use Rattle.edit_simple.specs.Checks.{first_that_holds};
-ghost use Rattle.edit_simple.specs.Passing.{passed};
-ghost use Rattle.edit_simple.specs.Plans.{IsNamed, IsPlan};
+ghost use Rattle.std.specs.Prelude.{◌≡◌, ◌+◌, ◌++◌, true, Some, map, take, drop, count_by, IfOk, OnOk, find};
+ghost use Rattle.edit_simple.specs.Prelude.{is_same, member_pair, row_at, is_sound, first_that_holds, passed, IsNamed, IsPlan};
 ghost use Rattle.edit_topology.specs.Inner.Splitting.{split_length, is_overfull, is_way_row, split_member, split_element, new_way, row_split};
 ghost use Rattle.edit_topology.specs.Split.{is_inside, split_members, split_checks, after_split};
 
@@ -14,7 +8,6 @@ use crate::subjects::subjects_and_users;
 use edit_simple::kinds::is_way;
 use edit_simple::limits::MOST_MEMBERS;
 use edit_simple::lookup::is_present;
-use edit_simple::refusal::Refusal;
 use edit_simple::row_change::{RowChange, change_rows};
 use edit_simple::ways::way_at;
 use osm_changes::changes::Changes;
@@ -27,11 +20,27 @@ use osm_elements::name::Name;
 use osm_elements::names::is_same;
 use osm_elements::nodes::Nodes;
 use osm_elements::shared::Shared;
+use room_interface::refusal::Refusal;
 use std::alloc::Allocator;
 
-/// Plans to split a way in two.
+/// Plans to split the way `name` in two at position `place`, counted from 0.
+///
+/// The way keeps the nodes up to this position. The new way `into` gets the nodes from this position on, and the same
+/// tags. In every relation, each member that names the way is followed by a member that names the new way in the same
+/// role. (Editors' practice; the order of the members is this project's.)
+///
+/// # Errors
+///
+/// The first of these that applies:
+/// - `WrongKind`, if a name is not a way's; `name` is checked first
+/// - `Absent`, if the map does not have the way
+/// - `Present`, if the map has the new way
+/// - `BadPosition`, if `place` is the first or the last position, or lies after the last
+/// - `TooMany` with the least relation that would have more than 32,000 members, a limit of this project
+///
+/// Only `TooMany` needs memory. `Memory` can replace it, but no other refusal.
 #[tactic(auto, using(edit_simple::specs::Facts::Checked::named_if_none))]
-pub fn plan<A: Allocator + Clone>(
+pub fn plan_split<A: Allocator + Clone>(
     alloc: A,
     rows: &Draft<'_, A>,
     name: &Name,
@@ -41,6 +50,8 @@ pub fn plan<A: Allocator + Clone>(
     requires { is_sound rows.now ≡ true }
     ensures plan { IsPlan rows.now (split_checks rows.now name.now place into.now)
         (after_split rows.now name.now place into.now) result }
+
+    // `Memory` can replace `TooMany` alone.
     ensures named { IsNamed (take 5 (split_checks rows.now name.now place into.now)) result }
 {
     check(rows, name, place, into)?;

@@ -1,21 +1,12 @@
 //! Plans of unglues.
-ghost use Rattle.std.specs.Prelude.{◌≡◌, ◌<◌, ◌++◌, true, None, Some, length, set, MatchResult, IfOk};
-ghost use Rattle.std.specs.Option.{option_copied};
-ghost use Rattle.std.specs.Ordering.{is_lt};
-ghost use Rattle.osm_elements.specs.Made.{is_node};
-ghost use Rattle.osm_elements.specs.NameOrder.{name_cmp};
-ghost use Rattle.osm_elements.specs.Rows.{row_at};
+ghost use Rattle.std.specs.Prelude.{◌≡◌, ◌<◌, ◌++◌, true, None, Some, length, set, MatchResult, IfOk, option_copied};
+ghost use Rattle.edit_simple.specs.Prelude.{is_lt, is_node, name_cmp, row_at, row_changes, is_sound, first_that_holds, IsNamed, IsPlan};
 ghost use Rattle.osm_elements.specs.declared.element.Element.TheVariants.{Way};
-ghost use Rattle.osm_changes.specs.Changes.{row_changes};
-ghost use Rattle.osm_changes.specs.Sound.{is_sound};
-ghost use Rattle.edit_simple.specs.Checks.{first_that_holds};
-ghost use Rattle.edit_simple.specs.Plans.{IsNamed, IsPlan};
 ghost use Rattle.edit_topology.specs.Inner.Ungluing.{name_checks, node_standing};
 ghost use Rattle.edit_topology.specs.Unglue.{unglue_checks, after_unglue};
 
 use edit_simple::kinds::{is_node, is_way};
 use edit_simple::lookup::is_present;
-use edit_simple::refusal::Refusal;
 use edit_simple::ways::way_at;
 use osm_changes::changes::Changes;
 use osm_drafts::draft::Draft;
@@ -25,11 +16,24 @@ use osm_elements::name::Name;
 use osm_elements::nodes::Nodes;
 use osm_elements::shared::Shared;
 use osm_elements::shared_tags::SharedTags;
+use room_interface::refusal::Refusal;
 use std::alloc::Allocator;
 
-/// Plans to unglue a way from a node.
+/// Plans to unglue the way `name` from the node at position `place`, counted from 0.
+///
+/// The way gets the new node `into` at this position. The new node has the position and the tags of the old node. The
+/// old node stays, and so do all other references to it, also those of the way at other positions. (Editors' practice;
+/// which names and positions are refused is this project's.)
+///
+/// # Errors
+///
+/// The first of these that applies:
+/// - `WrongKind`, if `name` is not a way's, and then if `into` is not a node's
+/// - `Absent`, if the map does not have the way
+/// - `Present`, if the map has the new node
+/// - `BadPosition`, if `place` lies after the last position
 #[tactic(auto, using(edit_simple::specs::Facts::Checked::named_if_none))]
-pub fn plan<A: Allocator + Clone>(
+pub fn plan_unglue<A: Allocator + Clone>(
     alloc: A,
     rows: &Draft<'_, A>,
     name: &Name,

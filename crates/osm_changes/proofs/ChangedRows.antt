@@ -1,13 +1,7 @@
 -- Changed rows, each with its row in the map before.
-use Rattle.std.proofs.Common.{◌≡◌, Bool, true, false, List, [], ◌∷◌, map, refl, ap, cond, ◌∙◌, is_none, is_some, ◌&&◌}
+use Rattle.std.proofs.Common.{◌≡◌, Bool, true, false, List, [], ◌∷◌, map, refl, cond, is_none, is_some, ◌&&◌, ap, ◌∙◌, filter}
 use Rattle.std.proofs.lemmas.List.Elements.{All-nil, All-cons, All-head, All-tail}
-use Rattle.std.specs.List.{filter}
-use Rattle.osm_elements.specs.declared.name.Name.{Name}
-use Rattle.osm_elements.specs.Maps.{Rows}
-use Rattle.osm_elements.specs.Rows.{row_at}
-use Rattle.osm_changes.specs.declared.change.Change.{Change}
-use Rattle.osm_changes.specs.declared.changed_row.ChangedRow.{ChangedRow}
-use Rattle.osm_changes.specs.Changes.{changed, changed_names, changed_row, changed_rows}
+use Rattle.osm_changes.specs.Prelude.{Name, Rows, row_at, Change, ChangedRow, changed, changed_names, changed_row, changed_rows}
 use Rattle.osm_changes.specs.Inner.Applying.{after_of, begins, is_new, row_in, rows_after, AreBefore}
 use Rattle.osm_changes.specs.Inner.References.{reference_change_of, row_reference_change}
 

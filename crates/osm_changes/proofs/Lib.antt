@@ -1,14 +1,13 @@
 pub mod Applied
 pub mod Applying
 pub mod ChangedRows
-pub mod ExampleProofs
-pub mod ReferencesEntered
+pub mod HalvesAfter
 pub mod Likely
 pub mod Parting
 pub mod Pushing
+pub mod ReferencesEntered
 pub mod Restoring
+pub mod RowsEntered
 pub mod RowsNoted
 pub mod RowsOfChanges
-pub mod RowsTold
-pub mod Told
 pub mod Turning

@@ -1,10 +1,6 @@
 -- A place in a list that does not fall, between an item below and an item above.
-use Rattle.std.proofs.Common.{◌≡◌, ◌<◌, ◌≤◌, ◌-◌, ℕ, List, length, get_or, subst, arith, refl}
-use Rattle.std.specs.List.{HoldsAt}
-use Rattle.std.specs.List.Sorted.{IsNonDecreasingBy, IsPartitionPoint}
-use Rattle.std.specs.Ordering.{ordering_index}
-use Rattle.std.specs.declared.cmp.Ordering.{Ordering}
-use Rattle.std.specs.declared.cmp.Ordering.TheVariants.{Less, Equal, Greater}
+use Rattle.std.proofs.Common.{◌≡◌, ◌<◌, ◌≤◌, ◌-◌, ℕ, List, length, refl, get_or, subst, arith, HoldsAt, Ordering, Less, Equal, Greater}
+use Rattle.osm_changes.specs.Prelude.{IsNonDecreasingBy, IsPartitionPoint, ordering_index}
 
 below_less : (o p : Ordering) → p ≡ Less → ordering_index o ≤ ordering_index p → o ≡ Less
 below_less Less p is h = refl

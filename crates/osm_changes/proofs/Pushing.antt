@@ -1,15 +1,7 @@
 -- The changes of one row, pushed half by half.
-use Rattle.std.proofs.Common.{◌≡◌, List, [], ◌∷◌, ◌++◌, Option, sym, ap, ◌∙◌, append_assoc}
+use Rattle.std.proofs.Common.{◌≡◌, List, [], ◌∷◌, ◌++◌, Option, sym, ap, ◌∙◌, append_assoc, filter}
 use Rattle.std.proofs.lemmas.List.Elements.{filter-append}
-use Rattle.std.specs.List.{filter}
-use Rattle.osm_elements.specs.declared.name.Name.{Name}
-use Rattle.osm_elements.specs.declared.element.Element.{Element}
-use Rattle.osm_changes.specs.declared.change.Change.{Change}
-use Rattle.osm_changes.specs.declared.half.Half.{Half}
-use Rattle.osm_changes.specs.declared.part.Part.{Part}
-use Rattle.osm_changes.specs.declared.part.Part.TheVariants.{Tags, Rest}
-use Rattle.osm_changes.specs.Changes.{differs, half_change, row_changes}
-use Rattle.osm_changes.specs.Halves.{half}
+use Rattle.osm_changes.specs.Prelude.{Name, Element, Change, Half, Part, Tags, Rest, differs, half_change, row_changes, half}
 
 module _ {A : Type 0} where
   abbrev pub change_of : Name → Part → Option (Half A) → Option (Half A) → Change A

@@ -1,31 +1,13 @@
 -- The references that begin and cease with changed rows, entered row by row.
-use Rattle.std.proofs.Common.{◌≡◌, ◌<◌, ◌+◌, ◌||◌, ℕ, zero, suc, Bool, true, false, not, cond, T, List, [], ◌∷◌, ◌++◌, Option, Some, None, length, map, take, drop, get_or, refl, sym, ap, subst, ◌∙◌, arith}
+use Rattle.std.proofs.Common.{◌≡◌, ◌<◌, ◌+◌, ◌||◌, ℕ, zero, suc, Bool, true, false, not, cond, T, List, [], ◌∷◌, ◌++◌, Option, Some, None, length, map, take, drop, refl, get_or, sym, ap, subst, ◌∙◌, arith, fold}
 use Rattle.std.proofs.lemmas.List.{take-map}
-use Rattle.std.specs.FinMap.Entries.{below_all}
-use Rattle.std.specs.List.{fold}
-use Rattle.osm_changes.proofs.RowsTold.{below_is_other, earlier, names_told}
-use Rattle.osm_changes.specs.Changes.{are_rising, with_row}
-use Rattle.osm_changes.specs.Facts.Changing.{AreInOrder-with_row}
-use Rattle.osm_changes.specs.Inner.Applying.{with_told}
+use Rattle.osm_changes.specs.Prelude.{below_all, are_rising, Rows, is_among, is_same, name_set, with_row, AreInOrder-with_row, RowAfter, same_names, name_cmp, AreInOrder, row_at, Element, Name, after_is, before_is, new_names, IsTable-table_of, references_at-table_of, table_of-put_row, table_of-rows_but, IsRising-name_set, same_tables, IsTable-updated_all, becomes_at, references_at-updated_all, untouched, row_references, names_but, Note, Table, noted, references_at, referring, table_of, ReferenceChange, bare_rows}
+use Rattle.osm_refs.specs.Facts.RisingNames.{IsRising-filter}
+use Rattle.osm_refs.specs.Rising.{IsRising}
+use Rattle.osm_changes.proofs.RowsEntered.{below_is_other, earlier, names_entered}
+use Rattle.osm_changes.specs.Inner.Applying.{with_entered}
 use Rattle.osm_changes.specs.Inner.References.{AreChangesOf, gained, given_back, lost, notes_of, reference_change_of}
-use Rattle.osm_changes.specs.declared.row_after.RowAfter.{RowAfter}
-use Rattle.osm_elements.specs.Facts.Rows.{same_names}
-use Rattle.osm_elements.specs.Maps.{Rows, is_among, is_same, name_set}
-use Rattle.osm_elements.specs.NameOrder.{name_cmp}
-use Rattle.osm_elements.specs.Rows.{AreInOrder, row_at}
-use Rattle.osm_elements.specs.declared.element.Element.{Element}
-use Rattle.osm_elements.specs.declared.name.Name.{Name}
-use Rattle.osm_refs.specs.Facts.Changes.{after_is, before_is, new_names}
-use Rattle.osm_refs.specs.Facts.MapTables.{IsTable-table_of, references_at-table_of, table_of-put_row, table_of-rows_but}
-use Rattle.osm_refs.specs.Facts.RisingNames.{IsRising-filter, IsRising-name_set}
-use Rattle.osm_refs.specs.Facts.Tables.{same_tables}
-use Rattle.osm_refs.specs.Facts.Updating.{IsTable-updated_all, becomes_at, references_at-updated_all, untouched}
-use Rattle.osm_refs.specs.References.{row_references}
-use Rattle.osm_refs.specs.Rising.{IsRising, names_but}
-use Rattle.osm_refs.specs.Tables.{Note, Table, noted, references_at, referring, table_of}
-use Rattle.osm_refs.specs.declared.change.ReferenceChange.{ReferenceChange}
 use Rattle.rising_lists.specs.Facts.Sorted.{both as both_tests, first, second}
-use Rattle.rising_lists.specs.Rising.{bare_rows}
 
 -- ---- rising names
 
@@ -69,9 +51,9 @@ module _ {A : Type 0} where
   table_of-with_row m x None h = table_of-rows_but m x h
   table_of-with_row m x (Some v) h = table_of-put_row m x v h
 
-  noted_is : (rs : List (RowAfter A)) (m : Rows A) → AreInOrder m → noted (table_of m) (notes_of rs) ≡ table_of (fold with_told m rs)
+  noted_is : (rs : List (RowAfter A)) (m : Rows A) → AreInOrder m → noted (table_of m) (notes_of rs) ≡ table_of (fold with_entered m rs)
   noted_is [] m h = refl
-  noted_is (r ∷ rs) m h = ap (λ t. noted t (notes_of rs)) (sym (table_of-with_row m r.name r.element h)) ∙ noted_is rs (with_told m r) (AreInOrder-with_row m r.name r.element h)
+  noted_is (r ∷ rs) m h = ap (λ t. noted t (notes_of rs)) (sym (table_of-with_row m r.name r.element h)) ∙ noted_is rs (with_entered m r) (AreInOrder-with_row m r.name r.element h)
 
   abbrev name_of : ReferenceChange A → Name
   name_of c = c.name
@@ -89,29 +71,29 @@ module _ {A : Type 0} where
     abbrev all : List (RowAfter A) → List (ReferenceChange A)
     all rs = map (reference_change_of m) rs
 
-    names_of_changes : (rs : List (RowAfter A)) → map name_of (all rs) ≡ names_told rs
+    names_of_changes : (rs : List (RowAfter A)) → map name_of (all rs) ≡ names_entered rs
     names_of_changes [] = refl
     names_of_changes (r ∷ rs) = ap (λ names. r.name ∷ names) (names_of_changes rs)
 
-    names_of_notes : (rs : List (RowAfter A)) → map note_name (notes_of rs) ≡ names_told rs
+    names_of_notes : (rs : List (RowAfter A)) → map note_name (notes_of rs) ≡ names_entered rs
     names_of_notes [] = refl
     names_of_notes (r ∷ rs) = ap (λ names. r.name ∷ names) (names_of_notes rs)
 
     -- after the change of a name, later changes leave its references
-    module _ (then : ReferenceChange A → List Name → List Name) (r : RowAfter A) (rs : List (RowAfter A)) (q : Name) (rising : T (are_rising (r.name ∷ names_told rs))) (same : is_same q r.name ≡ true) where
+    module _ (then : ReferenceChange A → List Name → List Name) (r : RowAfter A) (rs : List (RowAfter A)) (q : Name) (rising : T (are_rising (r.name ∷ names_entered rs))) (same : is_same q r.name ≡ true) where
       left : (names : List Name) → becomes_at name_of then (all rs) q names ≡ names
-      left names = untouched name_of then (all rs) q names (ap (λ ns. is_among ns q) (names_of_changes rs) ∙ first_is_apart r.name q (names_told rs) rising same)
+      left names = untouched name_of then (all rs) q names (ap (λ ns. is_among ns q) (names_of_changes rs) ∙ first_is_apart r.name q (names_entered rs) rising same)
 
       both : (names : List Name) → becomes_at name_of then (all rs) q (then (reference_change_of m r) (becomes_at name_of gain (all rs) q (gain (reference_change_of m r) names))) ≡ then (reference_change_of m r) (gain (reference_change_of m r) names)
       both names =
           left (then (reference_change_of m r) (becomes_at name_of gain (all rs) q (gain (reference_change_of m r) names)))
-          ∙ ap (then (reference_change_of m r)) (untouched name_of gain (all rs) q (gain (reference_change_of m r) names) (ap (λ ns. is_among ns q) (names_of_changes rs) ∙ first_is_apart r.name q (names_told rs) rising same))
+          ∙ ap (then (reference_change_of m r)) (untouched name_of gain (all rs) q (gain (reference_change_of m r) names) (ap (λ ns. is_among ns q) (names_of_changes rs) ∙ first_is_apart r.name q (names_entered rs) rising same))
 
     before_at : (q : Name) (r : RowAfter A) → is_same q r.name ≡ true → name_set (row_references (row_at m r.name)) ≡ name_set (row_references (row_at m q))
     before_at q r same = ap (λ x. name_set (row_references (row_at m x))) (sym (same_names q r.name same))
 
     -- after all gains and losses, the references of a name are those that its note has
-    comes : (rs : List (RowAfter A)) → T (are_rising (names_told rs)) → (q : Name) (names : List Name) → names ≡ name_set (row_references (row_at m q))
+    comes : (rs : List (RowAfter A)) → T (are_rising (names_entered rs)) → (q : Name) (names : List Name) → names ≡ name_set (row_references (row_at m q))
         → becomes_at name_of lose (all rs) q (becomes_at name_of gain (all rs) q names) ≡ becomes_at note_name note (notes_of rs) q names
     comes [] rising q names is = refl
     comes (r ∷ rs) rising q names is = by (is_same q r.name) refl (comes rs (second _ _ rising) q names is)
@@ -125,11 +107,11 @@ module _ {A : Type 0} where
         by true same rest =
             both lose r rs q rising same names
             ∙ ap (λ before. names_but (name_set (names ++ names_but after before)) (names_but before after)) (before_at q r same ∙ sym is) ∙ after_is names after (IsRising-name_set (row_references r.element))
-            ∙ sym (untouched note_name note (notes_of rs) q after (ap (λ ns. is_among ns q) (names_of_notes rs) ∙ first_is_apart r.name q (names_told rs) rising same))
+            ∙ sym (untouched note_name note (notes_of rs) q after (ap (λ ns. is_among ns q) (names_of_notes rs) ∙ first_is_apart r.name q (names_entered rs) rising same))
         by false other rest = rest
 
     -- after all gains are taken back, the references of a name are those of the map
-    stays : (rs : List (RowAfter A)) → T (are_rising (names_told rs)) → (q : Name) (names : List Name) → names ≡ name_set (row_references (row_at m q))
+    stays : (rs : List (RowAfter A)) → T (are_rising (names_entered rs)) → (q : Name) (names : List Name) → names ≡ name_set (row_references (row_at m q))
         → becomes_at name_of give_back (all rs) q (becomes_at name_of gain (all rs) q names) ≡ names
     stays [] rising q names is = refl
     stays (r ∷ rs) rising q names is = by (is_same q r.name) refl (stays rs (second _ _ rising) q names is)
@@ -146,12 +128,12 @@ module _ {A : Type 0} where
             ∙ before_is names after (subst IsRising (sym is) (IsRising-name_set (row_references (row_at m q))))
         by false other rest = rest
 
-    module _ (order : AreInOrder m) (rs : List (RowAfter A)) (rising : T (are_rising (names_told rs))) where
+    module _ (order : AreInOrder m) (rs : List (RowAfter A)) (rising : T (are_rising (names_entered rs))) where
       abbrev t : Table
       t = table_of m
 
-      pub entered : fold lost (fold gained t (all rs)) (all rs) ≡ table_of (fold with_told m rs)
-      entered =
+      pub references_entered : fold lost (fold gained t (all rs)) (all rs) ≡ table_of (fold with_entered m rs)
+      references_entered =
           same_tables (fold lost (fold gained t (all rs)) (all rs)) (noted t (notes_of rs))
           (IsTable-updated_all name_of lose (fold gained t (all rs)) (all rs) (IsTable-updated_all name_of gain t (all rs) (IsTable-table_of m order)))
           (IsTable-updated_all note_name note t (notes_of rs) (IsTable-table_of m order))

@@ -1,21 +1,9 @@
 -- Changes that are taken back restore the map that they are from.
-use Rattle.std.proofs.Common.{All, ◌≡◌, suc, Bool, true, false, List, [], ◌∷◌, ◌++◌, get_or, refl, sym, ap, subst, ◌∙◌, cond, arith}
+use Rattle.std.proofs.Common.{All, ◌≡◌, suc, Bool, true, false, List, [], ◌∷◌, ◌++◌, refl, cond, get_or, sym, ap, subst, ◌∙◌, arith}
 use Rattle.std.proofs.lemmas.List.Elements.{All-map}
-use Rattle.osm_elements.specs.declared.name.Name.{Name}
-use Rattle.osm_elements.specs.Facts.Rows.{same_rows}
-use Rattle.osm_elements.specs.Maps.{Rows, name_set, names_of}
-use Rattle.osm_elements.specs.Rows.{row_at, AreInOrder}
-use Rattle.osm_refs.specs.Facts.RisingNames.{IsRising-name_set}
+use Rattle.osm_changes.specs.Prelude.{Name, same_rows, Rows, name_set, names_of, row_at, AreInOrder, IsRising-name_set, Change, tags_at, rest_at, is_same_cell, half_at, differing, change_at, differences, cell_of, taken_back, inverse, half_after, row_after, changed, AreChanges, AreFrom, half, row_of, same_cells, AreInOrder-changed, row_at-changed, half_after-differences, row_of-halves, AreChanges-rows_changes, differences-all_rows}
 use Rattle.osm_changes.specs.declared.cell.Cell.{Cell}
-use Rattle.osm_changes.specs.declared.change.Change.{Change}
-use Rattle.osm_changes.specs.Cells.{tags_at, rest_at, is_same_cell, half_at}
-use Rattle.osm_changes.specs.Changes.{differing, change_at, differences, cell_of, taken_back, inverse, half_after, row_after, changed, AreChanges, AreFrom}
-use Rattle.osm_changes.specs.Halves.{half, row_of}
-use Rattle.osm_changes.specs.Facts.Cells.{same_cells}
-use Rattle.osm_changes.specs.Facts.Changing.{AreInOrder-changed, row_at-changed, half_after-differences}
-use Rattle.osm_changes.specs.Facts.Halves.{row_of-halves}
-use Rattle.osm_changes.specs.Facts.RowChanges.{AreChanges-rows_changes, differences-all_rows}
-use Rattle.osm_changes.proofs.Told.{told_at}
+use Rattle.osm_changes.proofs.HalvesAfter.{entered_at}
 
 module _ {A : Type 0} where
   -- a half that is changed and changed back stays the same
@@ -58,7 +46,7 @@ module _ {A : Type 0} where
   AreFrom-inverse m cs order are from = record {
     before = All-map (λ (c : Change A). c.before ≡ half_at (changed m cs) (cell_of c)) taken_back cs
         (λ k d l. sym (half_at-changed m cs from (cell_of (get_or cs k d))
-        ∙ told_at cs are.rising k d (half_at m (cell_of (get_or cs k d))) l));
+        ∙ entered_at cs are.rising k d (half_at m (cell_of (get_or cs k d))) l));
     whole = λ c. ap (half c.part) (row_back m cs from c.name) ∙ sym (back m cs from c);
   }
 

@@ -1,16 +1,7 @@
 -- The rows of a map, noted row by row.
 use Rattle.std.proofs.Common.{◌≡◌, List, [], ◌∷◌, ◌++◌, refl, sym, ap, ◌∙◌}
 use Rattle.std.proofs.lemmas.List.Sums.{fold-append}
-use Rattle.osm_elements.specs.declared.name.Name.{Name}
-use Rattle.osm_elements.specs.declared.element.Element.{Element}
-use Rattle.osm_elements.specs.Maps.{Rows, name_set}
-use Rattle.osm_elements.specs.Rows.{AreInOrder, put_row}
-use Rattle.osm_elements.specs.Facts.MadeMaps.{put_all, AreInOrder-put_all, not_yet_put}
-use Rattle.osm_refs.specs.References.{references, row_references}
-use Rattle.osm_refs.specs.Tables.{Table, references_at, referring, table_of}
-use Rattle.osm_refs.specs.Facts.RisingNames.{IsRising-name_set, same_as_name_set}
-use Rattle.osm_refs.specs.Rising.{names_but}
-use Rattle.osm_refs.specs.Facts.MapTables.{table_of-put_row, references_at-table_of}
+use Rattle.osm_changes.specs.Prelude.{Name, Element, Rows, name_set, AreInOrder, put_row, put_all, AreInOrder-put_all, not_yet_put, references, row_references, Table, references_at, referring, table_of, IsRising-name_set, same_as_name_set, names_but, table_of-put_row, references_at-table_of}
 
 module _ {A : Type 0} where
   -- a name that comes after all names in order has no references yet

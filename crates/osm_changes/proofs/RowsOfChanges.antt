@@ -1,21 +1,9 @@
 -- Changes from a map are the differences to the map after them, and the changes of the rows that they change.
-use Rattle.std.proofs.Common.{◌≡◌, ◌≢◌, ◌||◌, Bool, true, false, not, cond, All, List, [], ◌∷◌, ◌++◌, Option, get_or, map, refl, sym, ap, ◌∙◌, arith}
+use Rattle.std.proofs.Common.{◌≡◌, ◌≢◌, ◌||◌, Bool, true, false, not, cond, All, List, [], ◌∷◌, ◌++◌, Option, map, refl, get_or, sym, ap, ◌∙◌, arith}
 use Rattle.std.proofs.lemmas.List.Elements.{All-head, All-tail}
-use Rattle.osm_elements.specs.declared.name.Name.{Name}
-use Rattle.osm_elements.specs.Maps.{Rows}
-use Rattle.osm_elements.specs.Rows.{row_at}
-use Rattle.osm_refs.specs.Facts.RisingNames.{IsRising-name_set}
+use Rattle.osm_changes.specs.Prelude.{Name, Rows, row_at, IsRising-name_set, Change, Half, half_at, has, is_same_cell, cell_of, change_at, changed, changed_cells, changed_names, changed_row, changed_rows, changes_of, differences, differing, half_after, row_changes, rows_changes, AreChanges, AreFrom, half, are_same_halves, same_cells, same_rising, has-differing, kept, row_at-changed, IsRising-differing, covering, same_itself, equal_halves}
 use Rattle.osm_changes.specs.declared.cell.Cell.{Cell}
-use Rattle.osm_changes.specs.declared.change.Change.{Change}
-use Rattle.osm_changes.specs.declared.half.Half.{Half}
-use Rattle.osm_changes.specs.Cells.{half_at, has, is_same_cell}
-use Rattle.osm_changes.specs.Changes.{cell_of, change_at, changed, changed_cells, changed_names, changed_row, changed_rows, changes_of, differences, differing, half_after, row_changes, rows_changes, AreChanges, AreFrom}
-use Rattle.osm_changes.specs.Halves.{half, are_same_halves}
-use Rattle.osm_changes.specs.Facts.Cells.{same_cells, same_rising}
-use Rattle.osm_changes.specs.Facts.Changing.{has-differing, kept, row_at-changed, IsRising-differing}
-use Rattle.osm_changes.specs.Facts.DifferingRows.{covering}
-use Rattle.osm_changes.specs.Facts.Halves.{same_itself, told_same_halves}
-use Rattle.osm_changes.proofs.Told.{told_at, untold}
+use Rattle.osm_changes.proofs.HalvesAfter.{entered_at, not_entered}
 
 module _ {A : Type 0} where
   -- a changed cell has another half after the changes
@@ -47,13 +35,13 @@ module _ {A : Type 0} where
         differ h k apart = at (are_same_halves h k) refl
           where
             at : (b : Bool) → are_same_halves h k ≡ b → not b ≡ true
-            at true e = absurd (apart (sym (told_same_halves h k e)))
+            at true e = absurd (apart (sym (equal_halves h k e)))
             at false e = refl
 
         by : (c : Cell) (b : Bool) → has (changed_cells cs) c ≡ b → not (are_same_halves (half_at m c) (half_at (changed m cs) c)) ≡ b
         by c true there = differ (half_at m c) (half_at (changed m cs) c)
             (λ same. other_half m cs c from.before are.differ there (sym (after_changes c) ∙ same))
-        by c false there = ap (λ h. not (are_same_halves (half_at m c) h)) (after_changes c ∙ untold cs c (half_at m c) there)
+        by c false there = ap (λ h. not (are_same_halves (half_at m c) h)) (after_changes c ∙ not_entered cs c (half_at m c) there)
             ∙ ap not (same_itself (half_at m c))
 
     -- each change is that of its cell
@@ -74,7 +62,7 @@ module _ {A : Type 0} where
     differences-changed =
         ap (map (change_at m (changed m cs))) differing_cells
         ∙ remade cs from.before
-        (λ k d l. sym (after_changes (cell_of (get_or cs k d)) ∙ told_at cs are.rising k d (half_at m (cell_of (get_or cs k d))) l))
+        (λ k d l. sym (after_changes (cell_of (get_or cs k d)) ∙ entered_at cs are.rising k d (half_at m (cell_of (get_or cs k d))) l))
 
   by_rows : (m n : Rows A) (names : List Name) → changes_of (map (changed_row m n) names) ≡ rows_changes m (row_at n) names
   by_rows m n [] = refl

@@ -1,9 +1,7 @@
 -- Changes that are taken back one by one.
-use Rattle.std.proofs.Common.{◌≡◌, ◌≢◌, ◌<◌, ◌≤◌, ◌+◌, ℕ, suc, zero, List, [], ◌∷◌, ◌++◌, length, take, drop, get_or, set, All, refl, sym, ap, ◌∙◌, arith, subst}
+use Rattle.std.proofs.Common.{◌≡◌, ◌≢◌, ◌<◌, ◌≤◌, ◌+◌, ℕ, suc, zero, List, [], ◌∷◌, ◌++◌, length, take, drop, set, All, refl, get_or, sym, ap, ◌∙◌, arith, subst}
 use Rattle.std.proofs.lemmas.List.Elements.{All-map}
-use Rattle.osm_changes.specs.declared.change.Change.{Change}
-use Rattle.osm_changes.specs.Cells.{IsRising}
-use Rattle.osm_changes.specs.Changes.{cell_of, changed_cells, taken_back, inverse, AreChanges}
+use Rattle.osm_changes.specs.Prelude.{Change, IsRising, cell_of, changed_cells, taken_back, inverse, AreChanges}
 
 module _ {A : Type 0} where
   prefix : (i : ℕ) (cs : List (Change A)) (d : Change A) → i < length cs

@@ -1,18 +1,13 @@
 -- Cells, each a name and a part, and lists of them. (Parts are this project's.)
-use Rattle.std.specs.Prelude.{Bool, ℕ, List, [], ◌∷◌, Option}
-use Rattle.std.specs.List.{fold, flat_map}
-use Rattle.std.specs.Ordering.{is_eq, nat_cmp, then_cmp, on}
-use Rattle.std.specs.declared.cmp.Ordering.{Ordering}
+use Rattle.std.specs.Prelude.{Bool, ℕ, List, [], ◌∷◌, Option, fold, flat_map}
+use Rattle.osm_refs.specs.Prelude.{is_eq, nat_cmp, then_cmp, on, Ordering, name_cmp, Rows, row_at, with_value}
+use Rattle.rising_lists.specs.Rising.{is_among}
 use Rattle.osm_elements.specs.declared.name.Name.{Name}
-use Rattle.osm_elements.specs.NameOrder.{name_cmp}
-use Rattle.osm_elements.specs.Maps.{Rows}
-use Rattle.osm_elements.specs.Rows.{row_at}
-use Rattle.rising_lists.specs.Rising.{is_among, with_value}
-use Rattle.rising_lists.specs.Rising as lists
 use Rattle.osm_changes.specs.declared.half.Half.{Half}
 use Rattle.osm_changes.specs.declared.part.Part.{Part}
 use Rattle.osm_changes.specs.declared.part.Part.TheVariants.{Tags, Rest}
 use Rattle.osm_changes.specs.Halves.{half}
+use Rattle.rising_lists.specs.Rising as lists
 
 -- a name and a part of its row
 pub record Cell : Type 0 where

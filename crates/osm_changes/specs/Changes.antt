@@ -1,13 +1,9 @@
 -- Changes from a map to a map: the cells at which they differ, rising, each with both halves. (Changes are this
 -- project's.)
-use Rattle.std.specs.Prelude.{◌≡◌, ◌≢◌, ◌++◌, Bool, not, List, [], ◌∷◌, Option, Some, None, All, map, if◌then◌else◌}
-use Rattle.std.specs.List.{filter, flat_map, fold}
+use Rattle.std.specs.Prelude.{◌≡◌, ◌≢◌, ◌++◌, Bool, not, List, [], ◌∷◌, Option, Some, None, All, map, if◌then◌else◌, filter, flat_map, fold}
+use Rattle.osm_refs.specs.Prelude.{row_at, put_row, Rows, name_set, names_of, rows_but}
 use Rattle.osm_elements.specs.declared.name.Name.{Name}
 use Rattle.osm_elements.specs.declared.element.Element.{Element}
-use Rattle.osm_elements.specs.NameOrder.{name_cmp}
-use Rattle.osm_elements.specs.Rows.{row_at, put_row}
-use Rattle.osm_elements.specs.Maps.{Rows, name_set, names_of, rows_but}
-use Rattle.rising_lists.specs.Rising.{is_rising}
 use Rattle.osm_changes.specs.declared.cell.Cell.{Cell}
 use Rattle.osm_changes.specs.declared.change.Change.{Change}
 use Rattle.osm_changes.specs.declared.half.Half.{Half}
@@ -16,10 +12,6 @@ use Rattle.osm_changes.specs.declared.part.Part.TheVariants.{Tags, Rest}
 use Rattle.osm_changes.specs.declared.changed_row.ChangedRow.{ChangedRow}
 use Rattle.osm_changes.specs.Cells.{tags_at, rest_at, cells_of, is_same_cell, IsRising, half_at}
 use Rattle.osm_changes.specs.Halves.{half, row_of, are_same_halves}
-
--- the names strictly rise
-abbrev pub are_rising : List Name → Bool
-are_rising names = is_rising name_cmp names
 
 module _ {A : Type 0} where
   -- the cells at which two maps differ, rising

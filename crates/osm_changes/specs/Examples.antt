@@ -1,14 +1,12 @@
 -- Examples of the definitions, worked out by hand.
 use Rattle.std.specs.Prelude.{◌≡◌, List, [], ◌∷◌, Some, None, pos}
+use Rattle.osm_refs.specs.Prelude.{Rows, Any, n-2, n-1, w5, path, two_tags, Pairs}
 use Rattle.osm_elements.specs.declared.element.Element.{Element}
 use Rattle.osm_elements.specs.declared.element.Element.TheVariants.{Node, Way}
-use Rattle.osm_elements.specs.Maps.{Rows}
-use Rattle.osm_elements.specs.Scenes.{Any, n-2, n-1, w5, path, two_tags}
-use Rattle.osm_elements.specs.TagRows.{Pairs}
 use Rattle.osm_changes.specs.declared.change.Change.{Change}
 use Rattle.osm_changes.specs.declared.half.Half.TheVariants.{Tags, Place, Nodes}
-use Rattle.osm_changes.specs.declared.part.Part.TheVariants as parts
 use Rattle.osm_changes.specs.Changes.{differences, changed, changed_names, changed_rows, changes_of, inverse}
+use Rattle.osm_changes.specs.declared.part.Part.TheVariants as parts
 
 abbrev node : Pairs → Element Any
 node tags = Node (pos 1) (pos 2) tags

@@ -1,16 +1,13 @@
 -- The two halves of a row: its tags, and the rest. (Parts are this project's.)
 use Rattle.std.specs.Prelude.{◌&&◌, Bool, false, Option, Some, None}
-use Rattle.std.specs.Option.{option_eq}
-use Rattle.std.specs.Ordering.{int_eq}
+use Rattle.osm_refs.specs.Prelude.{option_eq, int_eq, tags_of, Pairs}
 use Rattle.osm_elements.specs.declared.element.Element.{Element}
 use Rattle.osm_elements.specs.declared.element.Element.TheVariants.{Node, Way, Relation}
-use Rattle.osm_elements.specs.Elements.{tags_of}
-use Rattle.osm_elements.specs.TagRows.{Pairs}
 use Rattle.osm_changes.specs.declared.half.Half.{Half}
 use Rattle.osm_changes.specs.declared.half.Half.TheVariants.{Tags, Place, Nodes, Members}
 use Rattle.osm_changes.specs.declared.part.Part.{Part}
-use Rattle.osm_changes.specs.declared.part.Part.TheVariants as parts
 use Rattle.osm_changes.specs.SameRows.{are_same_names, are_same_tags, are_same_members}
+use Rattle.osm_changes.specs.declared.part.Part.TheVariants as parts
 
 module _ {A : Type 0} where
   -- an element apart from its tags

@@ -4,6 +4,7 @@ pub mod Examples
 pub mod Facts
 pub mod Halves
 pub mod Inner
+pub mod Prelude
 pub mod SameRows
 pub mod Sound
 pub mod Stores

@@ -1,14 +1,9 @@
 -- Tests of equality on elements and rows.
 use Rattle.std.specs.Prelude.{◌&&◌, ℕ, Bool, false, List, Option}
-use Rattle.std.specs.Ordering.{int_eq}
-use Rattle.std.specs.Option.{option_eq}
-use Rattle.std.specs.Cmp.Lexicographic.{pointwise}
+use Rattle.osm_refs.specs.Prelude.{int_eq, option_eq, pointwise, Pairs, is_same, is_same_text}
 use Rattle.osm_elements.specs.declared.name.Name.{Name}
 use Rattle.osm_elements.specs.declared.element.Element.{Element}
 use Rattle.osm_elements.specs.declared.element.Element.TheVariants.{Node, Way, Relation}
-use Rattle.osm_elements.specs.TagRows.{Pairs}
-use Rattle.osm_elements.specs.Maps.{is_same}
-use Rattle.osm_elements.specs.Texts.{is_same_text}
 
 abbrev pub are_same_names : List Name → List Name → Bool
 are_same_names = pointwise is_same

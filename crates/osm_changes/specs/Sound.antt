@@ -1,15 +1,9 @@
 -- Sound maps. (OpenStreetMap API v0.6: nothing absent is named. The greatest lengths are this project's.)
 use Rattle.std.specs.Prelude.{◌&&◌, ℕ, Bool, true, length, nat_le}
-use Rattle.std.specs.List.{list_all}
-use Rattle.std.specs.FinMap.Entries.{is_sorted}
+use Rattle.osm_refs.specs.Prelude.{list_all, is_sorted, kind_of, is_made, name_cmp, Rows, is_kind, is_present, references}
 use Rattle.osm_elements.specs.declared.name.Name.{Name}
 use Rattle.osm_elements.specs.declared.element.Element.{Element}
-use Rattle.osm_elements.specs.Elements.{kind_of}
-use Rattle.osm_elements.specs.Made.{is_made}
 use Rattle.osm_elements.specs.declared.element.Element.TheVariants.{Node, Way, Relation}
-use Rattle.osm_elements.specs.NameOrder.{name_cmp}
-use Rattle.osm_elements.specs.Maps.{Rows, is_kind, is_present}
-use Rattle.osm_refs.specs.References.{references}
 
 -- a way has at most 2,000 nodes
 abbrev pub most_nodes : ℕ

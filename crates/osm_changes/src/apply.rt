@@ -1,12 +1,10 @@
 //! Writes rows to a map: first the rows of new names, which need memory and can be taken out again, and then all other
 //! rows, which need no memory.
-ghost use Rattle.std.specs.Prelude.{◌≡◌, true, T, map, OnOk, OnErr};
-ghost use Rattle.std.specs.List.{fold};
-ghost use Rattle.osm_elements.specs.Maps.{rows_but};
-ghost use Rattle.osm_elements.specs.Rows.{AreInOrder};
+ghost use Rattle.std.specs.Prelude.{◌≡◌, true, T, map, OnOk, OnErr, fold};
+ghost use Rattle.osm_refs.specs.Prelude.{rows_but, are_rising, AreInOrder};
 ghost use Rattle.osm_changes.specs.declared.row_after.RowAfter.{RowAfter as Row};
-ghost use Rattle.osm_changes.specs.Changes.{are_rising, with_row};
-ghost use Rattle.osm_changes.specs.Inner.Applying.{is_new, with_told, AreNew, NoneIsNew};
+ghost use Rattle.osm_changes.specs.Changes.{with_row};
+ghost use Rattle.osm_changes.specs.Inner.Applying.{is_new, with_entered, AreNew, NoneIsNew};
 
 use crate::row_after::RowAfter;
 use osm_elements::Memory;
@@ -22,7 +20,7 @@ pub fn put_new<A: Allocator + Clone>(
 ) -> Result<(), Memory>
     requires order { AreInOrder rows.old }
     requires new { AreNew rows.old new.items }
-    ensures ok { OnOk result (rows.new ≡ fold with_told rows.old new.items) }
+    ensures ok { OnOk result (rows.new ≡ fold with_entered rows.old new.items) }
     ensures err { OnErr result (rows.new ≡ rows.old) }
 {
     for place in 0..new.len() {
@@ -60,21 +58,21 @@ fn put<A: Allocator + Clone>(
 }
 
 // Removes the rows of these names.
-fn take_out<A: Allocator>(rows: &mut OsmMap<A>, told: &[RowAfter<A>])
-    ensures { rows.new ≡ fold (λ n x. rows_but x n) rows.old (map (λ (r : Row A). r.name) told.now) }
+fn take_out<A: Allocator>(rows: &mut OsmMap<A>, entered: &[RowAfter<A>])
+    ensures { rows.new ≡ fold (λ n x. rows_but x n) rows.old (map (λ (r : Row A). r.name) entered.now) }
 {
-    for row in told {
+    for row in entered {
         let _ = rows.take_out(&row.name);
     }
 }
 
 /// Gives the names their rows, or removes their rows. The names must rise, and no row may be new.
-pub fn replace<A: Allocator + Clone>(rows: &mut OsmMap<A>, told: Vec<RowAfter<A>, A>)
-    requires rising { T (are_rising (map (λ (r : Row A). r.name) told.items)) }
-    requires there { NoneIsNew rows.old told.items }
-    ensures { rows.new ≡ fold with_told rows.old told.items }
+pub fn replace<A: Allocator + Clone>(rows: &mut OsmMap<A>, entered: Vec<RowAfter<A>, A>)
+    requires rising { T (are_rising (map (λ (r : Row A). r.name) entered.items)) }
+    requires there { NoneIsNew rows.old entered.items }
+    ensures { rows.new ≡ fold with_entered rows.old entered.items }
 {
-    for row in told {
+    for row in entered {
         match put(rows, row.name, row.element) {
             Ok(()) => {}
             Err(_) => unreachable!(),

@@ -1,12 +1,12 @@
 //! Changed rows, each with its element before and after the changes.
 ghost use Rattle.std.specs.Prelude.{◌≡◌, ◌≢◌, ◌++◌, [], ◌∷◌, IfOk, IfErr, OnOk, T, length, map};
-ghost use Rattle.osm_changes.specs.Changes.{are_rising, changes_of, row_changes, AreChanges};
+ghost use Rattle.osm_elements.specs.Maps.{are_rising};
+ghost use Rattle.osm_changes.specs.Changes.{changes_of, row_changes, AreChanges};
 ghost use Rattle.osm_changes.specs.declared.changed_row.ChangedRow.{ChangedRow as Row};
 
 use crate::changes::Changes;
-use crate::lookup::copy_of;
 use osm_elements::Memory;
-use osm_elements::element::Element;
+use osm_elements::element::{Element, copy_of};
 use osm_elements::name::Name;
 use std::alloc::Allocator;
 use std::marker::Model;
@@ -56,7 +56,7 @@ pub struct ChangedRows<A: Allocator> {
 impl<A: Allocator> Model for ChangedRows<A> {
     ghost use Rattle.std.specs.Prelude.{List, T, map};
     ghost use Rattle.osm_changes.specs.declared.changed_row.ChangedRow.{ChangedRow};
-    ghost use Rattle.osm_changes.specs.Changes.{are_rising};
+    ghost use Rattle.osm_elements.specs.Maps.{are_rising};
 
     ghost Value = { List (ChangedRow A) };
 

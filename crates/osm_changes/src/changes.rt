@@ -1,6 +1,5 @@
 //! Lists of changes.
-ghost use Rattle.std.specs.Prelude.{◌≡◌, ◌↔◌, ◌+◌, ◌<◌, ◌≤◌, [], ◌∷◌, ◌++◌, OnOk, OnErr, IfOk, length, IsTrue, vec_len, vec_capacity};
-ghost use Rattle.std.specs.List.{filter};
+ghost use Rattle.std.specs.Prelude.{◌≡◌, ◌↔◌, ◌+◌, ◌<◌, ◌≤◌, [], ◌∷◌, ◌++◌, OnOk, OnErr, IfOk, length, IsTrue, vec_len, vec_capacity, filter};
 ghost use Rattle.osm_changes.specs.Changes.{differs, row_changes, inverse, AreChanges};
 
 use crate::change::Change;

@@ -1,6 +1,5 @@
 //! What changed rows mean for a map: which rows are new, and which references begin and cease.
-ghost use Rattle.std.specs.Prelude.{◌≡◌, not, IfOk, map};
-ghost use Rattle.std.specs.List.{filter};
+ghost use Rattle.std.specs.Prelude.{◌≡◌, not, IfOk, map, filter};
 ghost use Rattle.osm_changes.specs.Inner.Applying.{after_of, begins};
 ghost use Rattle.osm_changes.specs.Inner.References.{row_reference_change};
 

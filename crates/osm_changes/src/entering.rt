@@ -1,9 +1,6 @@
 //! Enters the references of rows in the users of a map: of all rows of a map, and of changed rows.
-ghost use Rattle.std.specs.Prelude.{◌≡◌, [], IfOk, OnErr, OnOk};
-ghost use Rattle.std.specs.List.{fold};
-ghost use Rattle.osm_elements.specs.Maps.{name_set};
-ghost use Rattle.osm_refs.specs.References.{references};
-ghost use Rattle.osm_refs.specs.Tables.{references_at, referring, table_of};
+ghost use Rattle.std.specs.Prelude.{◌≡◌, [], IfOk, OnErr, OnOk, fold};
+ghost use Rattle.osm_refs.specs.Prelude.{name_set, references, references_at, referring, table_of};
 ghost use Rattle.osm_changes.specs.Inner.References.{AreChangesOf, gained, given_back, lost};
 
 use osm_elements::Memory;

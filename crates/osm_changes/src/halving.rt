@@ -1,6 +1,5 @@
 //! Takes rows apart into their halves, and puts them together again.
-ghost use Rattle.std.specs.Prelude.{◌≡◌, IfOk};
-ghost use Rattle.std.specs.Option.{option_copied};
+ghost use Rattle.std.specs.Prelude.{◌≡◌, IfOk, option_copied};
 ghost use Rattle.osm_changes.specs.Halves.{half, half_in, rest_of, row_of, element_of};
 
 use crate::half::Half;

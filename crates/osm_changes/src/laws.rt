@@ -1,8 +1,7 @@
 //! Laws of changes. Each is the contract of a function that does nothing.
 ghost use Rattle.std.specs.Prelude.{◌≡◌, List};
-ghost use Rattle.osm_elements.specs.Maps.{Rows};
+ghost use Rattle.osm_refs.specs.Prelude.{Rows, AreInOrder, row_at};
 ghost use Rattle.osm_elements.specs.declared.name.Name.{Name};
-ghost use Rattle.osm_elements.specs.Rows.{AreInOrder, row_at};
 ghost use Rattle.osm_changes.specs.declared.change.Change.{Change};
 ghost use Rattle.osm_changes.specs.Changes.{changed, changed_rows, changes_of, differences, inverse, row_after, AreChanges, AreFrom};
 ghost use Rattle.osm_changes.specs.Examples.{retagged, come_and_gone, moved, both_parts};

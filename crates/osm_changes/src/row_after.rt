@@ -3,9 +3,8 @@ ghost use Rattle.std.specs.Prelude.{◌≡◌, IfOk};
 ghost use Rattle.osm_changes.specs.Inner.Applying.{after_of};
 
 use crate::changed_row::ChangedRow;
-use crate::lookup::copy_of;
 use osm_elements::Memory;
-use osm_elements::element::Element;
+use osm_elements::element::{Element, copy_of};
 use osm_elements::name::Name;
 use std::alloc::Allocator;
 

@@ -1,9 +1,6 @@
 //! The rows of a map before and after changes.
-ghost use Rattle.std.specs.Prelude.{◌≡◌, ◌<◌, ◌≤◌, ◌-◌, IfOk, length, map, true};
-ghost use Rattle.std.specs.List.{HoldsAt};
-ghost use Rattle.std.specs.List.Sorted.{IsBinarySearchResult, IsSearchInRange};
-ghost use Rattle.std.specs.declared.cmp.Ordering.TheVariants.{Less, Greater};
-ghost use Rattle.std.specs.Option.{option_copied};
+ghost use Rattle.std.specs.Prelude.{◌≡◌, ◌<◌, ◌≤◌, ◌-◌, IfOk, length, map, true, HoldsAt, option_copied};
+ghost use Rattle.osm_refs.specs.Prelude.{IsBinarySearchResult, IsSearchInRange, Less, Greater};
 ghost use Rattle.osm_changes.specs.Cells.{cell_cmp, IsRising};
 ghost use Rattle.osm_changes.specs.Changes.{cell_of, changed, changed_cells, changed_names, changed_row, changed_rows, half_after};
 ghost use Rattle.osm_changes.specs.Halves.{half};
@@ -13,10 +10,10 @@ use crate::change::Change;
 use crate::changed_row::ChangedRow;
 use crate::half::{self, Half};
 use crate::halving::{half_of, row_of};
-use crate::lookup::{Lookup, copy_of};
+use crate::lookup::Lookup;
 use crate::part::Part;
 use osm_elements::Memory;
-use osm_elements::element::Element;
+use osm_elements::element::{Element, copy_of};
 use osm_elements::name::Name;
 use std::alloc::Allocator;
 use std::cmp::Ordering;
@@ -33,7 +30,7 @@ pub fn changed_rows<A: Allocator + Clone, R: Lookup<A>>(
     changes: &[Change<A>],
 ) -> Result<Vec<ChangedRow<A>, A>, Memory>
     requires { IsRising (changed_cells changes.now) }
-    ensures { IfOk result (λ told. told.items ≡ changed_rows (R.rows rows.now) changes.now) }
+    ensures { IfOk result (λ entered. entered.items ≡ changed_rows (R.rows rows.now) changes.now) }
 {
     let names = changed_names(alloc.clone()?, changes)?;
     rows_of(alloc, rows, changes, &names)
@@ -61,15 +58,15 @@ fn rows_of<A: Allocator + Clone, R: Lookup<A>>(
     names: &[Name],
 ) -> Result<Vec<ChangedRow<A>, A>, Memory>
     requires { IsRising (changed_cells changes.now) }
-    ensures { IfOk result (λ told. told.items
+    ensures { IfOk result (λ entered. entered.items
         ≡ map (changed_row (R.rows rows.now) (changed (R.rows rows.now) changes.now)) names.now) }
 {
-    let mut told = Vec::with_capacity(alloc, names.len())?;
+    let mut entered = Vec::with_capacity(alloc, names.len())?;
     let mut next = 0;
     for name in names {
-        told.push(row_of_name(rows, changes, name, &mut next)?)?;
+        entered.push(row_of_name(rows, changes, name, &mut next)?)?;
     }
-    Ok(told)
+    Ok(entered)
 }
 
 // Returns a name with its row before and after the changes. `next` is where its changes are likely to be, and becomes
@@ -82,7 +79,7 @@ fn row_of_name<A: Allocator + Clone, R: Lookup<A>>(
 ) -> Result<ChangedRow<A>, Memory>
     requires { IsRising (changed_cells changes.now) }
     ensures { IfOk result
-        (λ told. told ≡ changed_row (R.rows rows.now) (changed (R.rows rows.now) changes.now) name.now) }
+        (λ entered. entered ≡ changed_row (R.rows rows.now) (changed (R.rows rows.now) changes.now) name.now) }
 {
     let row = rows.element(name);
     let name = *name;

@@ -1,10 +1,6 @@
 //! Tests of equality on rows and their contents.
-ghost use Rattle.std.specs.Prelude.{◌≡◌, ◌&&◌, length, map};
-ghost use Rattle.std.specs.Option.{option_copied};
-ghost use Rattle.osm_elements.specs.Maps.{is_same};
-ghost use Rattle.osm_elements.specs.Members.{member_pair};
-ghost use Rattle.osm_elements.specs.TagRows.{tag_pair};
-ghost use Rattle.osm_elements.specs.Texts.{is_same_text};
+ghost use Rattle.std.specs.Prelude.{◌≡◌, ◌&&◌, length, map, option_copied};
+ghost use Rattle.osm_refs.specs.Prelude.{is_same, member_pair, tag_pair, is_same_text};
 ghost use Rattle.osm_changes.specs.SameRows.{are_same_names, are_same_members, are_same_tags, is_same_element, is_same_row};
 
 use osm_elements::element::Element;

@@ -1,13 +1,11 @@
 //! The store of a room: a sound map with its users.
-ghost use Rattle.std.specs.Prelude.{◌≡◌, [], T, true, not, map, IfOk, OnOk, OnErr};
-ghost use Rattle.std.specs.List.{fold, filter};
-ghost use Rattle.osm_elements.specs.Rows.{AreInOrder};
-ghost use Rattle.osm_refs.specs.Tables.{table_of};
-ghost use Rattle.osm_changes.specs.Changes.{changed, changed_rows, are_rising, AreFrom};
+ghost use Rattle.std.specs.Prelude.{◌≡◌, [], T, true, not, map, IfOk, OnOk, OnErr, fold, filter};
+ghost use Rattle.osm_refs.specs.Prelude.{AreInOrder, table_of, are_rising};
+ghost use Rattle.osm_changes.specs.Changes.{changed, changed_rows, AreFrom};
 ghost use Rattle.osm_changes.specs.Sound.{is_sound};
 ghost use Rattle.osm_changes.specs.Stores.{applied_to};
 ghost use Rattle.osm_changes.specs.declared.row_after.RowAfter.{RowAfter as Row};
-ghost use Rattle.osm_changes.specs.Inner.Applying.{after_of, is_new, with_told, AreBefore};
+ghost use Rattle.osm_changes.specs.Inner.Applying.{after_of, is_new, with_entered, AreBefore};
 ghost use Rattle.osm_changes.specs.Inner.References.{gained, reference_change_of};
 
 use crate::apply::{put_new, replace};
@@ -208,25 +206,25 @@ fn prepare<A: Allocator + Clone>(
     alloc: A,
     rows: &mut OsmMap<A>,
     users: &mut Users<A>,
-    told: &[ChangedRow<A>],
+    entered: &[ChangedRow<A>],
 ) -> Result<Prepared<A>, Memory>
     requires order { AreInOrder rows.old }
-    requires before { AreBefore rows.old told.now }
-    requires rising { T (are_rising (map (λ (r : Row A). r.name) (map after_of told.now))) }
+    requires before { AreBefore rows.old entered.now }
+    requires rising { T (are_rising (map (λ (r : Row A). r.name) (map after_of entered.now))) }
     requires users { users.old ≡ table_of rows.old }
     ensures ok { IfOk result
-        (λ p. (p.others.items ≡ filter (λ r. not (is_new rows.old r)) (map after_of told.now))
-        × (p.changes.items ≡ map (reference_change_of rows.old) (map after_of told.now))
-        × (rows.new ≡ fold with_told rows.old (filter (is_new rows.old) (map after_of told.now)))
+        (λ p. (p.others.items ≡ filter (λ r. not (is_new rows.old r)) (map after_of entered.now))
+        × (p.changes.items ≡ map (reference_change_of rows.old) (map after_of entered.now))
+        × (rows.new ≡ fold with_entered rows.old (filter (is_new rows.old) (map after_of entered.now)))
         × (users.new ≡ fold gained (table_of rows.old)
-        (map (reference_change_of rows.old) (map after_of told.now)))) }
+        (map (reference_change_of rows.old) (map after_of entered.now)))) }
     ensures err { OnErr result ((rows.new ≡ rows.old) × (users.new ≡ users.old)) }
 {
     let Division {
         new,
         others,
         changes,
-    } = divide(&alloc, told)?;
+    } = divide(&alloc, entered)?;
     gain(&alloc, users, &changes)?;
     if let Err(memory) = put_new(rows, new) {
         give_back(users, &changes);

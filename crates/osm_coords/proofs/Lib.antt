@@ -1,4 +1,3 @@
-mod ExampleProofs
 mod FormRead
 mod Numerals
 mod ReadBack

@@ -1,26 +1,10 @@
 -- The first user of a name in a draft: the lesser of the store's first user that was not written and the first user
 -- among the written rows.
-use Rattle.std.proofs.Common.{◌≡◌, ◌||◌, ◌++◌, Bool, true, false, not, cond, T, List, [], ◌∷◌, Option, Some, None, refl, sym, ap, subst, ◌∙◌, slice_get}
-use Rattle.std.specs.List.{filter, find, flat_map}
-use Rattle.std.specs.Ordering.{ord_min, is_eq, is_lt, ordering_reverse}
-use Rattle.std.specs.FinMap.Entries.{below_all}
-use Rattle.std.specs.declared.cmp.Ordering.{Ordering}
-use Rattle.std.specs.declared.cmp.Ordering.TheVariants.{Less, Equal, Greater}
-use Rattle.osm_elements.specs.declared.name.Name.{Name}
-use Rattle.osm_elements.specs.Maps.{Rows, is_same, is_among, least, lesser}
-use Rattle.osm_elements.specs.NameOrder.{name_cmp}
-use Rattle.osm_elements.specs.Rows.{AreInOrder}
-use Rattle.osm_elements.specs.Facts.Among.{is_among-append, is_among-name_set}
-use Rattle.osm_elements.specs.Facts.Names.{name_cmp_total, name_cmp-IsAntisymmetric}
-use Rattle.osm_elements.specs.Facts.Rows.{same_names, is_eq-name_cmp_itself}
-use Rattle.rising_lists.specs.Rising.{bare_rows}
-use Rattle.rising_lists.specs.Facts.Sorted.{first, second, less}
-use Rattle.osm_refs.specs.References.{refers_to, users}
+use Rattle.std.proofs.Common.{◌≡◌, ◌||◌, ◌++◌, Bool, true, false, not, cond, T, List, [], ◌∷◌, Option, Some, None, refl, slice_get, sym, ap, subst, ◌∙◌, filter, find, flat_map, is_eq, is_lt, Ordering, Less, Equal, Greater}
+use Rattle.osm_drafts.specs.Prelude.{ord_min, ordering_reverse, below_all, Name, Rows, is_same, is_among, least, lesser, name_cmp, AreInOrder, is_among-append, is_among-name_set, name_cmp_total, name_cmp-IsAntisymmetric, same_names, is_eq-name_cmp_itself, bare_rows, less, refers_to, users, is_among-passing, rising_names, unwritten, drafted, AreInside, among_unwritten, users-drafted}
+use Rattle.rising_lists.specs.Facts.Sorted.{first, second}
+use Rattle.osm_refs.specs.Facts.RisingNames.{IsRising-filter}
 use Rattle.osm_refs.specs.Rising.{IsRising}
-use Rattle.osm_refs.specs.Facts.RisingNames.{IsRising-filter, is_among-passing}
-use Rattle.osm_changes.specs.Facts.PassingRows.{rising_names}
-use Rattle.osm_drafts.specs.Drafts.{unwritten, drafted}
-use Rattle.osm_drafts.specs.Facts.Drafting.{AreInside, among_unwritten, users-drafted}
 
 not_less : (x y : Name) → T (is_lt (name_cmp x y)) → is_lt (name_cmp y x) ≡ false
 not_less x y t = ap is_lt (name_cmp_total.antisymm y x ∙ ap ordering_reverse (less (name_cmp x y) t))
@@ -37,10 +21,10 @@ not_less_itself x = by (name_cmp x x) (is_eq-name_cmp_itself x)
 not_less_still : (x y o : Name) → is_lt (name_cmp x o) ≡ false → is_lt (name_cmp o y) ≡ false → is_lt (name_cmp x y) ≡ false
 not_less_still x y o p q = by (is_lt (name_cmp x y)) refl
   where
-    told : (r : Ordering) → is_lt r ≡ true → r ≡ Less
-    told Less e = refl
-    told Equal e = absurd (cc)
-    told Greater e = absurd (cc)
+    entered : (r : Ordering) → is_lt r ≡ true → r ≡ Less
+    entered Less e = refl
+    entered Equal e = absurd (cc)
+    entered Greater e = absurd (cc)
 
     down : (r : Ordering) → name_cmp o y ≡ r → name_cmp x y ≡ Less → name_cmp x o ≡ Less
     down Less e h = absurd (cc (ap is_lt e))
@@ -48,7 +32,7 @@ not_less_still x y o p q = by (is_lt (name_cmp x y)) refl
     down Greater e h = name_cmp_total.trans x y o h (name_cmp_total.antisymm y o ∙ ap ordering_reverse e)
 
     by : (b : Bool) → is_lt (name_cmp x y) ≡ b → b ≡ false
-    by true e = absurd (cc (ap is_lt (down (name_cmp o y) refl (told (name_cmp x y) e))))
+    by true e = absurd (cc (ap is_lt (down (name_cmp o y) refl (entered (name_cmp x y) e))))
     by false e = refl
 
 not_less_among : (x : Name) (zs : List Name) → T (below_all name_cmp x (bare_rows zs)) → (q : Name) → is_among zs q ≡ true → is_lt (name_cmp q x) ≡ false

@@ -1,11 +1,8 @@
 -- A map with rows written over it. (Drafts are this project's.)
-use Rattle.std.specs.Prelude.{◌≡◌, true, not, List, [], ◌∷◌, if◌then◌else◌}
-use Rattle.std.specs.List.{filter, fold}
+use Rattle.std.specs.Prelude.{◌≡◌, true, not, List, [], ◌∷◌, if◌then◌else◌, filter, fold}
+use Rattle.osm_changes.specs.Prelude.{Rows, is_among, is_present, put_row, AreInOrder, Table, table_of}
 use Rattle.osm_elements.specs.declared.name.Name.{Name}
 use Rattle.osm_elements.specs.declared.element.Element.{Element}
-use Rattle.osm_elements.specs.Maps.{Rows, is_among, is_present}
-use Rattle.osm_elements.specs.Rows.{put_row, AreInOrder}
-use Rattle.osm_refs.specs.Tables.{Table, table_of}
 
 -- the name if it was not written, otherwise nothing
 abbrev pub unwritten : List Name → Name → List Name

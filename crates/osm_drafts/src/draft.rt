@@ -1,11 +1,6 @@
 //! Drafts: a borrowed store with rows written over it.
-ghost use Rattle.std.specs.Prelude.{◌≡◌, ◌++◌, not, true, IfOk, OnOk};
-ghost use Rattle.std.specs.List.{find, flat_map, fold};
-ghost use Rattle.std.specs.Option.{option_copied};
-ghost use Rattle.osm_elements.specs.Maps.{is_among, least};
-ghost use Rattle.osm_elements.specs.Rows.{row_at, AreInOrder};
-ghost use Rattle.osm_refs.specs.References.{users};
-ghost use Rattle.osm_changes.specs.Changes.{changed, with_row};
+ghost use Rattle.std.specs.Prelude.{◌≡◌, ◌++◌, not, true, IfOk, OnOk, find, flat_map, fold, option_copied};
+ghost use Rattle.osm_changes.specs.Prelude.{is_among, least, row_at, AreInOrder, users, changed, with_row};
 ghost use Rattle.osm_drafts.specs.Drafts.{unwritten};
 
 use osm_changes::changed_row::ChangedRow;

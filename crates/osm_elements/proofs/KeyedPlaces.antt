@@ -1,17 +1,8 @@
 -- The place of a key, and the rows after an edit there.
-use Rattle.std.proofs.Common.{◌≡◌, ℕ, ◌<◌, ◌≤◌, List, [], ◌∷◌, map, set, length, Option, Some, None, Result, Ok, Err, MatchResult, get_or, refl, ap, sym, subst, ◌∙◌, arith, add-one, Bool, true, false, not, T, is_some, nat_eq, nat_lt}
-use Rattle.std.specs.declared.cmp.Ordering.TheVariants.{Less, Equal, Greater}
-use Rattle.std.specs.List.{insert, remove}
-use Rattle.std.specs.Ordering.{is_lt}
-use Rattle.std.specs.FinMap.Entries.{put, by_order, is_sorted, below_all}
+use Rattle.std.proofs.Common.{◌≡◌, ℕ, ◌<◌, ◌≤◌, List, [], ◌∷◌, map, set, length, Option, Some, None, Result, Ok, Err, MatchResult, refl, Bool, true, false, not, T, is_some, nat_eq, nat_lt, get_or, ap, sym, subst, ◌∙◌, arith, add-one, Less, Equal, Greater, insert, remove, is_lt}
 use Rattle.std.proofs.lemmas.Result.{MatchResult-at_ok, MatchResult-at_err}
 use Rattle.std.proofs.lemmas.Bool.Decides.{nat_tests}
-use Rattle.osm_elements.specs.declared.keyed.Keyed.{Keyed}
-use Rattle.osm_elements.specs.declared.fault.TextFault.{TextFault}
-use Rattle.osm_elements.specs.declared.fault.TextFault.TheVariants.{TooManyTags}
-use Rattle.osm_elements.specs.Facts.Entries.{both, first, second, find_below, without_below, below_less, below_equal}
-use Rattle.osm_elements.specs.Facts.KeyedRows.{text_total, sorted_rows}
-use Rattle.osm_elements.specs.KeyedRows.{keyed_pair, text_cmp, further, place, AreRows, set_refusal, value_at, without_key}
+use Rattle.osm_elements.specs.Prelude.{put, by_order, is_sorted, below_all, Keyed, TextFault, TooManyTags, both, first, second, find_below, without_below, below_less, below_equal, text_total, sorted_rows, keyed_pair, text_cmp, further, place, AreRows, set_refusal, value_at, without_key}
 
 -- the key is at i: its value is found there, setting the value there is a put, and removing that row removes the key
 pub record FoundAt {V A : Type 0} (key : List ℕ) (rows : List (Keyed V A)) (i : ℕ) : Type 0 where

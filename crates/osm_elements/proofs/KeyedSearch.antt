@@ -1,17 +1,7 @@
 -- A binary search among rows under keys finds the place of a key.
+use Rattle.std.proofs.Common.{◌≡◌, ℕ, suc, ◌<◌, ◌≤◌, List, [], ◌∷◌, map, length, Result, Ok, Err, refl, T, get_or, ap, sym, subst, ◌∙◌, arith, add-one, Ordering, Less, Equal, Greater, HoldsAt, is_lt}
 use Prim.Native.Nat.{zero}
-use Rattle.std.proofs.Common.{◌≡◌, ℕ, suc, ◌<◌, ◌≤◌, List, [], ◌∷◌, map, length, Result, Ok, Err, get_or, refl, ap, sym, subst, ◌∙◌, arith, add-one, T}
-use Rattle.std.specs.declared.cmp.Ordering.{Ordering}
-use Rattle.std.specs.declared.cmp.Ordering.TheVariants.{Less, Equal, Greater}
-use Rattle.std.specs.List.{AllWithin, HoldsAt}
-use Rattle.std.specs.List.Sorted.{IsBinarySearchResult, IsSearchInRange, IsNonDecreasingBy}
-use Rattle.std.specs.Ordering.{is_lt, ordering_index, ordering_reverse}
-use Rattle.std.specs.Cmp.{alike_right}
-use Rattle.std.specs.FinMap.Entries.{is_sorted, below_all}
-use Rattle.osm_elements.specs.declared.keyed.Keyed.{Keyed}
-use Rattle.osm_elements.specs.Facts.Entries.{first, second}
-use Rattle.osm_elements.specs.KeyedRows.{keyed_pair, text_cmp, further, place}
-use Rattle.osm_elements.specs.Facts.KeyedRows.{text_total}
+use Rattle.osm_elements.specs.Prelude.{AllWithin, IsBinarySearchResult, IsSearchInRange, IsNonDecreasingBy, ordering_index, ordering_reverse, alike_right, is_sorted, below_all, Keyed, first, second, keyed_pair, text_cmp, further, place, text_total}
 
 less : (o : Ordering) → T (is_lt o) → o ≡ Less
 less Less p = refl

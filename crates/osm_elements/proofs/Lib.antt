@@ -1,5 +1,4 @@
 pub mod Buffers
-pub mod ExampleProofs
 pub mod KeyedPlaces
 pub mod KeyedSearch
 pub mod Letters

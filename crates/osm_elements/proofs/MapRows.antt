@@ -1,13 +1,6 @@
 -- The rows of a map's tree.
-use Rattle.std.proofs.Common.{◌≡◌, List, Result, Ok, Err, OnOk, OnErr, sym, ap, subst, ◌∙◌}
-use Rattle.std.specs.Map.{remove_entry}
-use Rattle.std.specs.BTreeMap.{insert_entry, is_at}
-use Rattle.std.specs.declared.cmp.Ordering.{Ordering}
-use Rattle.osm_elements.specs.declared.name.Name.{Name}
-use Rattle.osm_elements.specs.declared.element.Element.{Element}
-use Rattle.osm_elements.specs.NameOrder.{name_cmp}
-use Rattle.osm_elements.specs.Rows.{AreInOrder}
-use Rattle.osm_elements.specs.Facts.Rows.{AreInOrder-put_row, AreInOrder-without_row}
+use Rattle.std.proofs.Common.{◌≡◌, List, Result, Ok, Err, OnOk, OnErr, sym, ap, subst, ◌∙◌, Ordering}
+use Rattle.osm_elements.specs.Prelude.{remove_entry, insert_entry, is_at, Name, Element, name_cmp, AreInOrder, AreInOrder-put_row, AreInOrder-without_row}
 
 module _ {A : Type 0} (cmp : Name → Name → Ordering) (is : cmp ≡ name_cmp) (m n : List (Name × Element A)) (x : Name) where
   -- an insert that succeeds puts the row, and an insert that fails changes nothing

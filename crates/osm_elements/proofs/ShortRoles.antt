@@ -2,10 +2,7 @@
 use Rattle.std.proofs.Common.{◌≡◌, ◌&&◌, ℕ, Bool, true, false, not, T, List, [], ◌∷◌, map}
 use mathlib.Core.HLevel.{Σ_prop_path}
 use Rattle.std.proofs.Math.Bool.{Bool-set}
-use Rattle.osm_elements.specs.declared.name.Name.{Name}
-use Rattle.osm_elements.specs.declared.member.Member.{Member}
-use Rattle.osm_elements.specs.Texts.{is_long}
-use Rattle.osm_elements.specs.Members.{AreMembers, are_members, member_pair}
+use Rattle.osm_elements.specs.Prelude.{Name, Member, is_long, AreMembers, are_members, member_pair}
 
 kept : (b c : Bool) → b ≡ false → T c → T (not b && c)
 kept true c e t = absurd (cc)

@@ -7,6 +7,7 @@ pub mod MadeMaps
 pub mod NameOrder
 pub mod NameTexts
 pub mod Names
+pub mod Nodes
 pub mod Rows
 pub mod SameNames
 pub mod Tests

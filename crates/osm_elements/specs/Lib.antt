@@ -10,6 +10,7 @@ pub mod NameOrder
 pub mod NameTexts
 pub mod Names
 pub mod Nodes
+pub mod Prelude
 pub mod Refused
 pub mod RowPairs
 pub mod Rows

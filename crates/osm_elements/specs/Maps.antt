@@ -1,14 +1,16 @@
 -- Maps, each the list of its rows in name order, and lists of names. (OpenStreetMap wiki, "Elements": nodes, ways and
 -- relations; each kind has its own ids.)
-use Rattle.std.specs.Prelude.{Bool, not, List, [], ◌∷◌, Option, Some, None, is_some, map, nat_eq}
-use Rattle.std.specs.List.{fold, filter, list_any}
+use Rattle.std.specs.Prelude.{Bool, not, List, [], ◌∷◌, Option, Some, None, is_some, map, nat_eq, fold, filter}
+use Rattle.std.specs.List.{list_all, list_any}
 use Rattle.std.specs.Ordering.{is_eq, match_ordering, ord_min}
 use Rattle.osm_elements.specs.declared.name.Name.{Name}
 use Rattle.osm_elements.specs.declared.name.Kind.{Kind}
 use Rattle.osm_elements.specs.declared.element.Element.{Element}
+use Rattle.osm_elements.specs.Elements.{kind_of}
 use Rattle.osm_elements.specs.Names.{kind_rank}
 use Rattle.osm_elements.specs.NameOrder.{name_cmp}
 use Rattle.osm_elements.specs.Rows.{row_at}
+use Rattle.rising_lists.specs.Rising.{is_rising}
 
 -- a row is a name and an element
 abbrev pub Rows : Type 0 → Type 0
@@ -30,6 +32,10 @@ is_kind k j = nat_eq (kind_rank k) (kind_rank j)
 abbrev pub with_name : Name → List Name → List Name
 with_name x [] = x ∷ []
 with_name x (y ∷ ys) = match_ordering (name_cmp x y) (x ∷ y ∷ ys) (y ∷ ys) (y ∷ with_name x ys)
+
+-- the names strictly rise
+abbrev pub are_rising : List Name → Bool
+are_rising names = is_rising name_cmp names
 
 -- the names of a list, rising, each once
 abbrev pub name_set : List Name → List Name
@@ -59,3 +65,7 @@ module _ {A : Type 0} where
   -- the rows whose names are not x
   abbrev pub rows_but : Name → Rows A → Rows A
   rows_but x m = filter (λ r. not (is_same x r.0)) m
+
+  -- each element is of its name's kind
+  abbrev pub are_of_kinds : Rows A → Bool
+  are_of_kinds m = list_all (λ r. is_kind (kind_of r.1) r.0.kind) m

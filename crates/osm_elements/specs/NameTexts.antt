@@ -1,9 +1,8 @@
 -- The text of a name, and the name that a text denotes, which are this project's.
-use Rattle.std.specs.Prelude.{◌≢◌, ◌^◌, ◌&&◌, ℕ, Bool, true, false, not, T, List, [], ◌∷◌, Option, Some, None, ℤ, pos, negsuc, nat_eq, nat_lt, if◌then◌else◌}
+use Rattle.std.specs.Prelude.{◌≢◌, ◌^◌, ◌&&◌, ℕ, Bool, true, false, not, T, List, [], ◌∷◌, Option, Some, None, ℤ, pos, negsuc, nat_eq, nat_lt, if◌then◌else◌, option_and_then}
 use Rattle.std.specs.Fmt.{signed_decimal}
 use Rattle.std.specs.Ordering.{int_eq}
 use Rattle.std.specs.Cmp.Lexicographic.{pointwise}
-use Rattle.std.specs.Option.{option_and_then}
 use Rattle.std.specs.Str.Parse.{signed_digits_value}
 use mathlib.Core.Path.{subst}
 use Rattle.osm_elements.specs.declared.name.Name.{Name}

@@ -1,10 +1,10 @@
 -- Names, texts and tags of the examples.
-use Rattle.std.specs.Prelude.{ℕ, ⊤, List, [], ◌∷◌, map, pos, negsuc, codes, replicate}
-use Rattle.std.specs.List.{flat_map, range_with_len}
+use Rattle.std.specs.Prelude.{ℕ, ⊤, List, [], ◌∷◌, map, pos, negsuc, codes, replicate, flat_map}
+use Rattle.std.specs.List.{range_with_len}
 use Rattle.osm_elements.specs.declared.name.Name.{Name}
-use Rattle.osm_elements.specs.declared.name.Kind.TheVariants as kinds
 use Rattle.osm_elements.specs.NameTexts.{named}
 use Rattle.osm_elements.specs.TagRows.{Pairs}
+use Rattle.osm_elements.specs.declared.name.Kind.TheVariants as kinds
 
 -- the allocator, which no definition looks at
 abbrev pub Any : Type 0

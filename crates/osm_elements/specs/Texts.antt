@@ -1,7 +1,6 @@
 -- Which texts are refused, and which are the same. (The limit of 255 Unicode characters is this project's.)
-use Rattle.std.specs.Prelude.{ℕ, Bool, List, length, Option, Some, None, if◌then◌else◌, nat_eq, nat_lt}
+use Rattle.std.specs.Prelude.{ℕ, Bool, List, length, Option, Some, None, if◌then◌else◌, nat_eq, nat_lt, chars}
 use Rattle.std.specs.Cmp.Lexicographic.{pointwise}
-use Rattle.std.specs.Str.{chars}
 use Rattle.osm_elements.specs.declared.fault.TextFault.{TextFault}
 use Rattle.osm_elements.specs.declared.fault.TextFault.TheVariants.{TextTooLong}
 

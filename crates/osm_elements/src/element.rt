@@ -1,5 +1,5 @@
 //! The elements of a map.
-ghost use Rattle.std.specs.Prelude.{◌≡◌, IfOk, true};
+ghost use Rattle.std.specs.Prelude.{◌≡◌, IfOk, true, option_copied};
 
 use crate::Memory;
 use crate::members::Members;
@@ -121,5 +121,17 @@ impl<A: Allocator + Clone> Clone for Element<A> {
                 Ok(Element::Relation { members, tags })
             }
         }
+    }
+}
+
+/// Returns a copy of an element that was looked up, or `Memory`.
+pub fn copy_of<A: Allocator + Clone>(
+    found: Option<&Element<A>>,
+) -> Result<Option<Element<A>>, Memory>
+    ensures { IfOk result (λ copy. copy ≡ option_copied found.entry) }
+{
+    match found {
+        Some(element) => Ok(Some(element.copy()?)),
+        None => Ok(None),
     }
 }

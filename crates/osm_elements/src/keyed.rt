@@ -1,7 +1,6 @@
 //! Rows under keys, of which tags and retags consist.
-ghost use Rattle.std.specs.Prelude.{◌≡◌, [], IfOk, OnOk, IfErr, None, map, is_some};
+ghost use Rattle.std.specs.Prelude.{◌≡◌, [], IfOk, OnOk, IfErr, None, map, is_some, option_copied};
 ghost use Rattle.std.specs.FinMap.Entries.{put};
-ghost use Rattle.std.specs.Option.{option_copied};
 ghost use Rattle.osm_elements.specs.Refused.{refuses};
 ghost use Rattle.osm_elements.specs.declared.fault.TextFault.{TextFault};
 ghost use Rattle.osm_elements.specs.KeyedRows.{AreRows, keyed_pair, text_cmp, set_refusal, place, value_at, without_key};

@@ -1,6 +1,6 @@
 //! Values under keys: a text, or an optional value.
-ghost use Rattle.std.specs.Prelude.{◌≡◌, true, Bool, Some, None, refl};
 ghost use Rattle.std.proofs.Common.{ap};
+ghost use Rattle.std.specs.Prelude.{◌≡◌, true, Bool, Some, None, refl};
 ghost use Rattle.osm_elements.specs.KeyedValues.{is_short, is_none_or};
 
 use crate::text::Text;

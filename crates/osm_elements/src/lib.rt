@@ -14,6 +14,7 @@
 
 pub mod element;
 pub mod fault;
+pub mod items;
 pub mod keyed;
 pub mod keyed_value;
 pub mod laws;

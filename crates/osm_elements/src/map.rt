@@ -1,6 +1,5 @@
 //! Maps from names to elements.
-ghost use Rattle.std.specs.Prelude.{◌≡◌, ◌↔◌, [], length, map, IfOk, IfErr, IfSome, OnOk, OnErr, IsTrue, None};
-ghost use Rattle.std.specs.Option.{option_copied};
+ghost use Rattle.std.specs.Prelude.{◌≡◌, ◌↔◌, [], length, map, IfOk, IfErr, IfSome, OnOk, OnErr, IsTrue, None, option_copied};
 ghost use Rattle.std.specs.Slice.Iter.{iter_rest};
 
 use crate::Memory;

@@ -1,6 +1,5 @@
 //! Tags that several owners share.
-ghost use Rattle.std.specs.Prelude.{◌≡◌, ◌↔◌, [], Ok, IfOk, map, length, IsTrue};
-ghost use Rattle.std.specs.Option.{option_copied};
+ghost use Rattle.std.specs.Prelude.{◌≡◌, ◌↔◌, [], Ok, IfOk, map, length, IsTrue, option_copied};
 ghost use Rattle.osm_elements.specs.KeyedRows.{value_at};
 ghost use Rattle.osm_elements.specs.TagRows.{AreTagRows, tag_pair};
 

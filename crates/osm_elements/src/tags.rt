@@ -1,7 +1,6 @@
 //! The tags of an element.
-ghost use Rattle.std.specs.Prelude.{◌≡◌, ◌↔◌, [], IfOk, OnOk, IfErr, None, map, length, is_some, IsTrue};
+ghost use Rattle.std.specs.Prelude.{◌≡◌, ◌↔◌, [], IfOk, OnOk, IfErr, None, map, length, is_some, IsTrue, option_copied};
 ghost use Rattle.std.specs.FinMap.Entries.{put};
-ghost use Rattle.std.specs.Option.{option_copied};
 ghost use Rattle.osm_elements.specs.Refused.{refuses};
 ghost use Rattle.osm_elements.specs.declared.fault.TextFault.{TextFault};
 ghost use Rattle.osm_elements.specs.KeyedRows.{text_cmp, set_refusal, value_at, without_key};

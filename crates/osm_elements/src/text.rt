@@ -1,6 +1,5 @@
 //! Texts of tags.
-ghost use Rattle.std.specs.Prelude.{◌≡◌, false, MatchResult, IfOk};
-ghost use Rattle.std.specs.String.{string_bytes};
+ghost use Rattle.std.specs.Prelude.{◌≡◌, false, MatchResult, IfOk, string_bytes};
 ghost use Rattle.osm_elements.specs.Refused.{refuses};
 ghost use Rattle.osm_elements.specs.declared.fault.TextFault.{TextFault};
 ghost use Rattle.osm_elements.specs.Texts.{is_long, text_refusal, is_same_text};

@@ -1,17 +1,8 @@
 -- The table that the lists of users represent, after a name gains or loses references.
 use Rattle.std.proofs.Common.{◌≡◌, ◌&&◌, ◌||◌, Result, Ok, Err, OnErr, Bool, true, false, not, cond, List, ◌++◌, refl, sym, ap, subst, ◌∙◌}
-use Rattle.osm_elements.specs.declared.name.Name.{Name}
-use Rattle.osm_elements.specs.NameOrder.{name_cmp}
-use Rattle.osm_elements.specs.Facts.Among.{is_among-append, is_among-name_set}
-use Rattle.osm_elements.specs.Facts.Rows.{same_names}
-use Rattle.osm_elements.specs.Maps.{is_same, is_among, name_set}
+use Rattle.osm_refs.specs.Prelude.{Name, name_cmp, is_among-append, is_among-name_set, same_names, is_same, is_among, name_set, IsRising-filter, IsRising-name_set, is_among-passing, same_rising, IsTable, same_tables, references_at-referring, IsTable-referring, IsRising, names_but, Table, references_at, referring, users_in, AreLists, Gains, Lacks, Loses, SameLists}
 use Rattle.osm_refs.proofs.Turning.{IsRising-users_in, among_users_in, references_at-turned, IsTable-turned, users_in-turned}
-use Rattle.osm_refs.specs.Facts.RisingNames.{IsRising-filter, IsRising-name_set, is_among-passing, same_rising}
-use Rattle.osm_refs.specs.Facts.Tables.{IsTable, same_tables, references_at-referring, IsTable-referring}
 use Rattle.osm_refs.specs.Inner.Turned.{references_of}
-use Rattle.osm_refs.specs.Rising.{IsRising, names_but}
-use Rattle.osm_refs.specs.Tables.{Table, references_at, referring, users_in}
-use Rattle.rising_lists.specs.Lists.{AreLists, Gains, Lacks, Loses, SameLists}
 
 -- the users of a name in the represented table are its list
 pub users_in-references_of : (lists : Table) (e : Name) → AreLists name_cmp name_cmp lists → users_in (references_of lists) e ≡ references_at lists e

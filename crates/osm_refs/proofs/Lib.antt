@@ -1,5 +1,4 @@
 pub mod Entering
-mod ExampleProofs
 pub mod MemberNames
 mod SameReferences
 pub mod Turning

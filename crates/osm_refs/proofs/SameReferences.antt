@@ -1,11 +1,6 @@
 -- References that stay the same.
 use Rattle.std.proofs.Common.{◌≡◌, ◌&&◌, Bool, true, false, List, [], ◌∷◌, not, refl, ap, ◌∙◌}
-use Rattle.std.specs.Cmp.Lexicographic.{pointwise}
-use Rattle.osm_elements.specs.Facts.Rows.{same_names}
-use Rattle.osm_elements.specs.Maps.{is_among, is_same}
-use Rattle.osm_elements.specs.declared.name.Name.{Name}
-use Rattle.osm_refs.specs.Facts.RisingNames.{IsRising-filter, is_among-passing, same_rising}
-use Rattle.osm_refs.specs.Rising.{IsRising, names_but}
+use Rattle.osm_refs.specs.Prelude.{pointwise, same_names, is_among, is_same, Name, IsRising-filter, is_among-passing, same_rising, IsRising, names_but}
 
 both : (a b : Bool) → (a && b) ≡ true → (a ≡ true) × (b ≡ true)
 both true b e = (refl, e)

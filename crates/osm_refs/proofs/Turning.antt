@@ -1,20 +1,6 @@
 -- The inverse of a table.
-use Rattle.std.proofs.Common.{◌≡◌, ◌||◌, Bool, true, false, not, cond, T, List, [], ◌∷◌, map, Some, unwrap_or, refl, sym, ap, ◌∙◌}
-use Rattle.std.specs.List.{filter, flat_map, list_all}
-use Rattle.std.specs.FinMap.Entries.{find, is_sorted, below_all}
-use Rattle.osm_elements.specs.declared.name.Name.{Name}
-use Rattle.osm_elements.specs.NameOrder.{name_cmp}
-use Rattle.osm_elements.specs.Facts.Entries.{both, first, second, find_below}
-use Rattle.osm_elements.specs.Facts.Rows.{same_names, is_eq-name_cmp_itself}
-use Rattle.osm_elements.specs.Facts.Among.{is_among-name_set, is_among-append}
-use Rattle.osm_elements.specs.Maps.{is_same, is_among, name_set}
-use Rattle.osm_refs.specs.Tables.{Table, references_at, users_in}
-use Rattle.osm_refs.specs.Facts.RisingNames.{IsRising-name_set, same_rising}
-use Rattle.osm_refs.specs.Rising.{IsRising}
-use Rattle.rising_lists.specs.Rising.{bare_rows}
-use Rattle.rising_lists.specs.Lists.{has_none}
-use Rattle.rising_lists.specs.Facts.Sorted.{is_sorted-filter}
-use Rattle.osm_refs.specs.Facts.Tables.{IsTable}
+use Rattle.std.proofs.Common.{◌≡◌, ◌||◌, Bool, true, false, not, cond, T, List, [], ◌∷◌, map, Some, unwrap_or, refl, sym, ap, ◌∙◌, filter, flat_map}
+use Rattle.osm_refs.specs.Prelude.{list_all, is_sorted, below_all, find, Name, name_cmp, both, first, second, find_below, same_names, is_eq-name_cmp_itself, is_among-name_set, is_among-append, is_same, is_among, name_set, Table, references_at, users_in, IsRising-name_set, same_rising, IsRising, bare_rows, has_none, is_sorted-filter, IsTable}
 use Rattle.osm_refs.specs.Inner.Turned.{turned}
 
 module _ {X : Type 0} where

@@ -1,11 +1,10 @@
 -- Examples of references, worked out by hand from the OpenStreetMap wiki ("Elements": a way lists nodes, a relation has
 -- members). `three` has a node n5, a way w5 with a node twice, and a relation r5 that is its own member.
 use Rattle.std.specs.Prelude.{◌≡◌, List, [], ◌∷◌, None, true, false, pos}
+use Rattle.osm_elements.specs.Prelude.{Rows, name_set, Any, n-1, n-2, n5, w-7, w5, r5}
 use Rattle.osm_elements.specs.declared.name.Name.{Name}
 use Rattle.osm_elements.specs.declared.element.Element.{Element}
 use Rattle.osm_elements.specs.declared.element.Element.TheVariants.{Node, Way, Relation}
-use Rattle.osm_elements.specs.Maps.{Rows, name_set}
-use Rattle.osm_elements.specs.Scenes.{Any, n-1, n-2, n5, w-7, w5, r5}
 use Rattle.osm_refs.specs.declared.change.ReferenceChange.{ReferenceChange}
 use Rattle.osm_refs.specs.Changes.{reference_change}
 use Rattle.osm_refs.specs.References.{references, row_references, refers_to, users}

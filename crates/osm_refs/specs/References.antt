@@ -1,11 +1,10 @@
 -- The references of an element, and the users of a name, found by searching every row. (OpenStreetMap wiki, "Elements":
 -- a way lists nodes, a relation has members.)
-use Rattle.std.specs.Prelude.{Bool, List, [], Option, Some, None, map}
-use Rattle.std.specs.List.{filter}
+use Rattle.std.specs.Prelude.{Bool, List, [], Option, Some, None, map, filter}
+use Rattle.osm_elements.specs.Maps.{Rows, is_among, names_of}
 use Rattle.osm_elements.specs.declared.name.Name.{Name}
 use Rattle.osm_elements.specs.declared.element.Element.{Element}
 use Rattle.osm_elements.specs.declared.element.Element.TheVariants.{Node, Way, Relation}
-use Rattle.osm_elements.specs.Maps.{Rows, is_among, names_of}
 
 module _ {A : Type 0} where
   -- the nodes of a way, or the names of a relation's members; a node refers to nothing

@@ -1,9 +1,7 @@
 -- Lists of names that rise, each once.
-use Rattle.std.specs.Prelude.{not, List}
-use Rattle.std.specs.List.{filter}
+use Rattle.std.specs.Prelude.{not, List, filter}
+use Rattle.osm_elements.specs.Prelude.{is_among, name_cmp}
 use Rattle.osm_elements.specs.declared.name.Name.{Name}
-use Rattle.osm_elements.specs.Maps.{is_among}
-use Rattle.osm_elements.specs.NameOrder.{name_cmp}
 use Rattle.rising_lists.specs.Rising as lists
 
 -- the names strictly rise

@@ -1,10 +1,7 @@
 -- References as a table. (OpenStreetMap wiki, "Elements": a way lists nodes, a relation has members.)
-use Rattle.std.specs.Prelude.{Bool, true, false, not, List, [], ◌∷◌, map, unwrap_or}
-use Rattle.std.specs.List.{filter, fold}
-use Rattle.std.specs.FinMap.Entries.{put, find}
+use Rattle.std.specs.Prelude.{Bool, true, false, not, List, [], ◌∷◌, map, unwrap_or, filter, fold}
+use Rattle.osm_elements.specs.Prelude.{put, find, name_cmp, Rows, is_same, is_among, name_set}
 use Rattle.osm_elements.specs.declared.name.Name.{Name}
-use Rattle.osm_elements.specs.NameOrder.{name_cmp}
-use Rattle.osm_elements.specs.Maps.{Rows, is_same, is_among, name_set}
 use Rattle.osm_refs.specs.References.{references}
 
 -- each name that refers to something, in name order, with its references, rising, each once

@@ -1,6 +1,5 @@
 //! The references that begin and cease when an element changes.
-ghost use Rattle.std.specs.Prelude.{◌≡◌, IfOk, true};
-ghost use Rattle.std.specs.Option.{option_copied};
+ghost use Rattle.std.specs.Prelude.{◌≡◌, IfOk, true, option_copied};
 ghost use Rattle.osm_elements.specs.Maps.{name_set};
 ghost use Rattle.osm_refs.specs.References.{row_references};
 ghost use Rattle.osm_refs.specs.Changes.{reference_change};

@@ -1,9 +1,8 @@
 //! Laws of tables of references. Each is the contract of a function that does nothing.
 ghost use Rattle.std.specs.Prelude.{◌≡◌, []};
+ghost use Rattle.osm_elements.specs.Prelude.{Rows, name_set, rows_but, row_at, put_row, AreInOrder};
 ghost use Rattle.osm_elements.specs.declared.element.Element.{Element};
 ghost use Rattle.osm_elements.specs.declared.name.Name.{Name};
-ghost use Rattle.osm_elements.specs.Maps.{Rows, name_set, rows_but};
-ghost use Rattle.osm_elements.specs.Rows.{row_at, put_row, AreInOrder};
 ghost use Rattle.osm_refs.specs.Examples.{references_found, users_found, tables_made, references_changed};
 ghost use Rattle.osm_refs.specs.References.{references, row_references, users};
 ghost use Rattle.osm_refs.specs.Tables.{table_of, users_in, references_at, referring};

@@ -1,8 +1,7 @@
 //! The names that an element refers to.
 ghost use Rattle.std.specs.Prelude.{◌≡◌, map, IfOk, IsOk};
+ghost use Rattle.osm_elements.specs.Prelude.{kind_of, name_set};
 ghost use Rattle.osm_elements.specs.declared.name.Kind.TheVariants.{Node};
-ghost use Rattle.osm_elements.specs.Elements.{kind_of};
-ghost use Rattle.osm_elements.specs.Maps.{name_set};
 ghost use Rattle.osm_refs.specs.References.{references};
 
 use crate::name_set::name_set;

@@ -11,8 +11,7 @@
 //! For each line, the output has what goes out to this client, and then an empty line. Each text is on its own line.
 //! `close` and the code follow if the connection is closed. If the session was closed before, the output says so.
 
-ghost use Rattle.room_session.specs.Running.{IsRunOn};
-ghost use Rattle.room_server.specs.Tables.{known_of};
+ghost use Rattle.room_server.specs.Prelude.{IsRunOn, known_of};
 
 mod client;
 mod line;

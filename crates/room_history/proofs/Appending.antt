@@ -1,24 +1,10 @@
 -- The past of a journal, and its active entries, after one more entry.
-use Rattle.std.proofs.Common.{◌≡◌, ◌+◌, ◌++◌, ℕ, suc, Bool, true, false, not, List, [], ◌∷◌, Some, length, refl, sym, ap, ◌∙◌, append-nil, cond, length-append, nat_eq, arith}
-use Rattle.std.specs.List.{filter, fold}
+use Rattle.std.proofs.Common.{◌≡◌, ◌+◌, ◌++◌, ℕ, suc, Bool, true, false, not, List, [], ◌∷◌, Some, length, refl, cond, nat_eq, sym, ap, ◌∙◌, append-nil, length-append, arith, filter, fold}
 use Rattle.std.proofs.lemmas.List.Elements.{filter-append}
 use Rattle.std.proofs.lemmas.List.Sums.{fold-append}
-use Rattle.osm_elements.specs.Maps.{Rows}
-use Rattle.osm_elements.specs.Rows.{AreInOrder}
+use Rattle.room_history.specs.Prelude.{Rows, AreInOrder, counted, changed-differences, after, AreInOrder-after, Author, is_same_author, Entry, EntryKind, Do, Undo, Redo, numbered, is_undo_of, is_work, standing, others, redos, redos_after, applied, Recorded, Past, past, past_after, mapof, recorded_of, recorded_next, action_at, done_again}
 use Rattle.osm_changes.specs.Changes.{changed}
-use Rattle.osm_changes.specs.Stores.{counted}
-use Rattle.osm_changes.specs.Facts.Changing.{changed-differences}
-use Rattle.edit_groups.specs.declared.edit.Edit.{Edit as Action}
-use Rattle.edit_groups.specs.Edits.{after}
-use Rattle.edit_groups.specs.Facts.Local.{AreInOrder-after}
-use Rattle.room_stacks.specs.declared.author.Author.{Author}
-use Rattle.room_stacks.specs.SameAuthors.{is_same_author}
-use Rattle.room_history.specs.declared.entry.Entry.{Entry}
-use Rattle.room_history.specs.declared.entry.EntryKind.{EntryKind}
-use Rattle.room_history.specs.declared.entry.EntryKind.TheVariants.{Do, Undo, Redo}
-use Rattle.room_history.specs.Journals.{numbered, is_undo_of, is_work, standing, others, redos, redos_after}
-use Rattle.room_history.specs.Applied.{applied}
-use Rattle.room_history.specs.Replays.{Recorded, Past, past, past_after, mapof, recorded_of, recorded_next, action_at, done_again}
+use Rattle.room_interface.specs.declared.edit.Edit.{Edit as Action}
 use Rattle.room_history.proofs.Growing.{numbered_next, standing_from-append, new_number}
 
 unfiltered : (ss : List ℕ) → filter (λ _. true) ss ≡ ss

@@ -1,31 +1,16 @@
 -- The reply of a room, from the results of its own calls.
 use Rattle.std.proofs.Common.{◌≡◌, ℕ, List, Option, Result, Ok, Err, IfOk, length, refl, ap, inl, inr}
-use Rattle.std.specs.declared.alloc.AllocError.{AllocError}
-use Rattle.osm_elements.specs.declared.name.Name.{Name}
-use Rattle.osm_elements.specs.declared.element.Element.{Element}
-use Rattle.osm_elements.specs.Rows.{row_at}
-use Rattle.room_stacks.specs.declared.author.Author.{Author}
-use Rattle.room_history.specs.declared.ask.RoomCall.TheVariants as calls
-use Rattle.room_history.specs.declared.ask.RoomReply.TheVariants as replies
-use Rattle.room_history.specs.declared.ask.Undoable.{Undoable}
-use Rattle.room_history.specs.declared.call.Call.{Call}
-use Rattle.room_history.specs.declared.entry.Entry.{Entry}
-use Rattle.room_history.specs.declared.reply.Reply.{Reply}
-use Rattle.osm_elements.specs.Maps.{Rows}
-use Rattle.room_history.specs.declared.news.News.{News}
-use Rattle.room_history.specs.Journals.{undos, redos}
-use Rattle.room_history.specs.News.{news}
-use Rattle.room_history.specs.Replays.{mapof}
-use Rattle.room_history.specs.Runs.{IsStep}
-use Rattle.room_history.specs.Asking.{IsAnswered}
+use Rattle.room_history.specs.Prelude.{AllocError, Name, Element, row_at, Author, Undoable, Call, Entry, Reply, Rows, News, undos, redos, news, mapof, IsStep, IsAnswered}
+use Rattle.room_interface.specs.declared.ask.RoomCall.TheVariants as calls
+use Rattle.room_interface.specs.declared.ask.RoomReply.TheVariants as replies
 
 module _ {A : Type 0} (base : Rows A) (limit : ℕ) (j : List (Entry A)) where
   pub took : (k : List (Entry A)) (c : Call A) (reply : Reply A) → IsStep base limit j c reply k → IsAnswered base limit j (calls.Take c) (replies.Take reply) k
   took k c reply (inl e) = inl (ap (λ (p : Reply A × List (Entry A)). (replies.Take p.0, p.1)) e)
   took k c reply (inr e) = inr (ap replies.Take e.0, e.1)
 
-  pub got : (x : Name) (r : Result (Option (Element A)) AllocError) → IfOk r (λ found. found ≡ row_at (mapof base j) x) → IsAnswered base limit j (calls.Get x) (replies.Get r) j
-  got x (Ok found) h = inl (ap (λ o. (replies.Get (Ok o), j)) h)
+  pub got : (x : Name) (r : Result (Option (Element A)) AllocError) → IfOk r (λ found. found ≡ row_at (mapof base j) x) → IsAnswered base limit j (calls.Get x) (replies.Get x r) j
+  got x (Ok found) h = inl (ap (λ o. (replies.Get x (Ok o), j)) h)
   got x (Err e) h = inr (refl, refl)
 
   pub listed : (r : Result (ℕ × Rows A) AllocError) → IfOk r (λ rows. rows ≡ (length j, mapof base j)) → IsAnswered base limit j calls.Rows (replies.Rows r) j

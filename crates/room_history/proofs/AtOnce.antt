@@ -1,36 +1,10 @@
 -- An accepted action that is undone in the next accepted call.
-use Rattle.std.proofs.Common.{◌≡◌, ◌+◌, ◌++◌, ◌∷◌, ◌⊎◌, ◌&&◌, ℕ, suc, Bool, true, false, not, List, [], Option, Some, None, length, refl, sym, ap, ◌∙◌, cond, arith, inl, inr, nat_eq, nat_lt, nat_le, length-append}
-use Rattle.std.specs.List.{filter}
-use Rattle.std.specs.Option.{option_map}
+use Rattle.std.proofs.Common.{◌≡◌, ◌+◌, ◌++◌, ◌∷◌, ◌⊎◌, ◌&&◌, ℕ, suc, Bool, true, false, not, List, [], Option, Some, None, length, refl, cond, nat_eq, nat_lt, nat_le, sym, ap, ◌∙◌, arith, inl, inr, length-append, filter, option_map}
 use Rattle.std.proofs.lemmas.Bool.Decides.{nat_tests}
 use Rattle.std.proofs.lemmas.List.Elements.{filter-append}
-use Rattle.osm_elements.specs.declared.name.Name.{Name}
-use Rattle.osm_elements.specs.Rows.{AreInOrder}
-use Rattle.osm_elements.specs.Maps.{Rows}
-use Rattle.osm_elements.specs.Texts.{is_same_text}
-use Rattle.osm_refs.specs.References.{users}
-use Rattle.osm_changes.specs.Changes.{inverse, changed}
-use Rattle.osm_changes.specs.Sound.{is_sound}
-use Rattle.osm_changes.specs.Facts.Changing.{changed-inverse}
-use Rattle.osm_changes.specs.Facts.SoundRows.{sound_in_order}
-use Rattle.edit_groups.specs.declared.edit.Edit.{Edit as Action}
-use Rattle.edit_groups.specs.Edits.{after, changes}
-use Rattle.edit_groups.specs.Facts.Local.{AreInOrder-after}
-use Rattle.room_history.specs.Holdings.{first_meeting}
-use Rattle.room_stacks.specs.declared.author.Author.{Author}
-use Rattle.room_stacks.specs.SameAuthors.{is_same_author}
-use Rattle.room_history.specs.declared.call.Call.{Call}
-use Rattle.room_history.specs.declared.call.Request.TheVariants as requests
-use Rattle.room_history.specs.declared.entry.Entry.{Entry}
-use Rattle.room_history.specs.declared.entry.EntryKind.{EntryKind}
-use Rattle.room_history.specs.declared.entry.EntryKind.TheVariants.{Do, Undo, Redo}
-use Rattle.room_history.specs.declared.reply.Reply.{Reply}
-use Rattle.room_history.specs.declared.reply.Reply.TheVariants.{Undid}
-use Rattle.room_history.specs.Answers.{spent, conflict, asked, meant, undo_refusal, redo_refusal, kind_refusal, meaning_refusal, answer_by, answer, answers}
-use Rattle.room_history.specs.Blockers.{recorded_footprint, blocker}
-use Rattle.room_history.specs.Headline.{IsUndoneAtOnce}
-use Rattle.room_history.specs.Journals.{numbered, is_by, is_work, is_standing, standing, last}
-use Rattle.room_history.specs.Replays.{Past, past, mapof, recorded_of, recorded_next, taken_back, action_at, done_again}
+use Rattle.room_history.specs.Prelude.{Name, AreInOrder, Rows, is_same_text, users, inverse, is_sound, changed-inverse, sound_in_order, after, changes, AreInOrder-after, first_meeting, Author, is_same_author, Call, Entry, EntryKind, Do, Undo, Redo, Reply, Undid, spent, conflict, asked, meant, undo_refusal, redo_refusal, kind_refusal, meaning_refusal, answer_by, answer, answers, recorded_footprint, blocker, IsUndoneAtOnce, numbered, is_by, is_work, is_standing, standing, last, Past, past, mapof, recorded_of, recorded_next, taken_back, action_at, done_again}
+use Rattle.osm_changes.specs.Changes.{changed}
+use Rattle.room_interface.specs.declared.edit.Edit.{Edit as Action}
 use Rattle.room_history.proofs.Appending.{mapof-append, mapof-work, recorded-last, standing-work, standing-undo}
 use Rattle.room_history.proofs.Deciding.{unspent, own_refusal}
 use Rattle.room_history.proofs.Growing.{numbered_next, Rise, Rise-standing_from}
@@ -38,6 +12,7 @@ use Rattle.room_history.proofs.HeldEntries.{with_cells, blocker_is}
 use Rattle.room_history.proofs.LastItems.{last-append}
 use Rattle.room_history.proofs.Outcomes.{outcome, got_longer}
 use Rattle.room_history.proofs.RisingNumbers.{is_in, last_there, none_behind, others_stay}
+use Rattle.room_interface.specs.declared.call.Request.TheVariants as requests
 
 pub same_author : (text : List ℕ) → is_same_author text text ≡ true
 same_author [] = refl

@@ -1,12 +1,8 @@
 -- The first entries of a journal are a journal.
-use Rattle.std.proofs.Common.{◌≡◌, ◌⊎◌, ◌+◌, ◌≤◌, ◌++◌, ℕ, zero, suc, Bool, true, false, List, [], ◌∷◌, inl, inr, length, length-append, nat_le, take, refl, sym, ap, subst, ◌∙◌, arith}
+use Rattle.std.proofs.Common.{◌≡◌, ◌⊎◌, ◌+◌, ◌≤◌, ◌++◌, ℕ, zero, suc, Bool, true, false, List, [], ◌∷◌, length, nat_le, take, refl, inl, inr, length-append, sym, ap, subst, ◌∙◌, arith}
 use Rattle.std.proofs.lemmas.Bool.Decides.{nat_tests}
 use Rattle.std.proofs.lemmas.List.{take-append-le}
-use Rattle.osm_elements.specs.Maps.{Rows}
-use Rattle.room_history.specs.declared.entry.Entry.{Entry}
-use Rattle.room_history.specs.declared.reply.Reply.{Reply}
-use Rattle.room_history.specs.Answers.{answer}
-use Rattle.room_history.specs.LegalJournals.{IsJournal, opened, called}
+use Rattle.room_history.specs.Prelude.{Rows, Entry, Reply, answer, IsJournal, opened, called}
 use Rattle.room_history.proofs.Outcomes.{Appended, Left, outcome}
 
 take_of_none : {X : Type 0} (n : ℕ) → take {A = X} n [] ≡ []

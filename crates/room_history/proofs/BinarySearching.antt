@@ -1,21 +1,13 @@
 -- The result of a binary search among rising numbers, and the position of a list's last item.
-use Rattle.std.proofs.Common.{◌≡◌, ◌+◌, ◌-◌, ◌<◌, ◌≤◌, ℕ, zero, suc, Bool, true, false, List, [], ◌∷◌, ◌++◌, Option, Some, None, Result, Ok, Err, is_ok, length, get_or, refl, sym, ap, ◌∙◌, arith, nat_eq, nat_lt, reverse, slice_get}
-use Rattle.std.specs.List.{list_any}
-use Rattle.std.specs.List.Sorted.{IsBinarySearchResult, IsNonDecreasing}
-use Rattle.std.specs.Option.{option_or}
-use Rattle.std.specs.Ordering.{nat_cmp}
+use Rattle.std.proofs.Common.{◌≡◌, ◌+◌, ◌-◌, ◌<◌, ◌≤◌, ℕ, zero, suc, Bool, true, false, List, [], ◌∷◌, ◌++◌, Option, Some, None, Result, Ok, Err, is_ok, length, refl, nat_eq, nat_lt, reverse, slice_get, get_or, sym, ap, ◌∙◌, arith, nat_cmp}
 use Rattle.std.proofs.lemmas.Bool.Decides.{nat_tests}
 use Rattle.std.proofs.lemmas.List.{reverse-append}
 use Rattle.std.proofs.lemmas.List.Elements.{All-from_get_or}
 use Rattle.std.proofs.lemmas.List.Folds.{list_any_at, list_any_none}
 use Rattle.std.proofs.lemmas.List.Sorted.{searched}
-use Rattle.room_stacks.specs.declared.author.Author.{Author}
-use Rattle.room_history.specs.declared.entry.Entry.{Entry}
-use Rattle.room_history.specs.Journals.{last, standing, undos}
-use Rattle.room_history.specs.Answers.{asked}
+use Rattle.room_history.specs.Prelude.{list_any, IsBinarySearchResult, IsNonDecreasing, option_or, Author, Entry, last, standing, undos, numbered, is_by, asked}
 use Rattle.room_history.proofs.Growing.{Rise, Rise-standing_from}
 use Rattle.room_history.proofs.RisingNumbers.{Rise-filter}
-use Rattle.room_history.specs.Journals.{numbered, is_by}
 
 -- rising numbers are at least their start, and do not fall
 risen : (n : ℕ) (xs : List ℕ) (end : ℕ) → Rise n xs end → (k d : ℕ) → k < length xs → n ≤ get_or xs k d

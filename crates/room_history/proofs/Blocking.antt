@@ -1,19 +1,7 @@
 -- The meaning of the blocker.
-use Rattle.std.proofs.Common.{◌≡◌, ◌+◌, ◌≤◌, ℕ, true, false, List, None, Some, length, nat_lt, sym, ap, subst, ◌∙◌}
-use Rattle.std.specs.List.{filter}
-use Rattle.std.specs.Ordering.{is_lt}
-use Rattle.osm_elements.specs.declared.name.Name.{Name}
-use Rattle.osm_elements.specs.NameOrder.{name_cmp}
-use Rattle.osm_elements.specs.Maps.{Rows}
-use Rattle.osm_changes.specs.declared.cell.Cell.{Cell}
+use Rattle.std.proofs.Common.{◌≡◌, ◌+◌, ◌≤◌, ℕ, true, false, List, None, Some, length, nat_lt, sym, ap, subst, ◌∙◌, filter, is_lt}
+use Rattle.room_history.specs.Prelude.{Name, name_cmp, Rows, Cell, apart, both_have, none_lesser, first_meeting, Entry, footprint_of_recorded, recorded_footprint, blocker, Share, Blocks, standing, is_standing, past}
 use Rattle.osm_changes.specs.Cells.{IsRising}
-use Rattle.edit_footprint.specs.Facts.Meeting.{apart, both_have, none_lesser}
-use Rattle.room_history.specs.Holdings.{first_meeting}
-use Rattle.room_history.specs.declared.entry.Entry.{Entry}
-use Rattle.room_history.specs.Blockers.{footprint_of_recorded, recorded_footprint, blocker}
-use Rattle.room_history.specs.Headline.{Share, Blocks}
-use Rattle.room_history.specs.Journals.{standing, is_standing}
-use Rattle.room_history.specs.Replays.{past}
 use Rattle.room_history.proofs.FirstMeeting.{First, none_met, first_met}
 use Rattle.room_history.proofs.Growing.{Rise-standing_from}
 use Rattle.room_history.proofs.HeldEntries.{with_cells, blocker_is}

@@ -1,26 +1,11 @@
 -- Actions accepted in order. If an action shares no cell with the later ones, it can be taken out of the middle.
-use Rattle.std.proofs.Common.{◌≡◌, ◌++◌, true, List, [], ◌∷◌, Some, None, is_none, map, refl, sym, ap, subst, ◌∙◌, cond}
-use Rattle.osm_elements.specs.Maps.{Rows}
-use Rattle.osm_changes.specs.declared.cell.Cell.{Cell}
-use Rattle.osm_changes.specs.declared.change.Change.{Change}
+use Rattle.std.proofs.Common.{◌≡◌, ◌++◌, true, List, [], ◌∷◌, Some, None, is_none, map, refl, cond, sym, ap, subst, ◌∙◌}
+use Rattle.room_history.specs.Prelude.{Rows, Cell, Change, inverse, is_sound, changed-inverse, sound_in_order, One, after, changes, refusal, footprint, accepted_keeps_sound, AreInOrder-after, ChangePlaces, meets, footprint_of, commutation, replay}
+use Rattle.osm_changes.specs.Changes.{changed}
 use Rattle.osm_changes.specs.Cells.{IsRising}
-use Rattle.osm_changes.specs.Changes.{changed, inverse}
-use Rattle.osm_changes.specs.Sound.{is_sound}
-use Rattle.osm_changes.specs.Facts.Changing.{changed-inverse}
-use Rattle.osm_changes.specs.Facts.SoundRows.{sound_in_order}
-use Rattle.edit_actions.specs.declared.action.Action.{Action as SingleAction}
-use Rattle.edit_groups.specs.declared.edit.Edit.{Edit as Action}
-use Rattle.edit_groups.specs.declared.edit.Edit.TheVariants.{One}
-use Rattle.edit_groups.specs.Edits.{after, changes}
-use Rattle.edit_groups.specs.Edits.{is_made_edit as is_made_action}
-use Rattle.edit_groups.specs.Edits.{refusal}
-use Rattle.edit_groups.specs.Facts.Accepted.{accepted_keeps_sound}
-use Rattle.edit_groups.specs.Facts.Local.{AreInOrder-after}
-use Rattle.edit_groups.specs.Laws.{ChangePlaces}
-use Rattle.edit_footprint.specs.Footprints.{meets, footprint_of}
-use Rattle.edit_groups.specs.Edits.{footprint}
-use Rattle.edit_groups.specs.Facts.Commutation.{commutation}
-use Rattle.room_history.specs.Replays.{replay}
+use Rattle.room_interface.specs.declared.action.Action.{Action as SingleAction}
+use Rattle.room_interface.specs.declared.edit.Edit.{Edit as Action}
+use Rattle.room_interface.specs.MadeCalls.{is_made_edit as is_made_action}
 
 -- an action with its recorded changes and cells
 pub record Work (A : Type 0) : Type 0 where

@@ -1,26 +1,10 @@
 -- The changes of a journal's entry are from the map before it.
-use Rattle.std.proofs.Common.{◌≡◌, ◌≢◌, ◌⊎◌, ◌++◌, ℕ, suc, true, List, [], ◌∷◌, All, Option, Some, None, inl, inr, refl, sym, ap, subst, ◌∙◌, arith}
-use Rattle.std.specs.List.{fold}
+use Rattle.std.proofs.Common.{◌≡◌, ◌≢◌, ◌⊎◌, ◌++◌, ℕ, suc, true, List, [], ◌∷◌, All, Option, Some, None, refl, inl, inr, sym, ap, subst, ◌∙◌, arith, fold}
 use Rattle.std.proofs.lemmas.List.Elements.{All-cons, All-map, All-nil}
-use Rattle.edit_groups.specs.declared.edit.Edit.{Edit as Action}
-use Rattle.edit_groups.specs.Edits.{after, changes}
-use Rattle.edit_groups.specs.Facts.Local.{AreInOrder-after}
-use Rattle.osm_elements.specs.Maps.{Rows}
-use Rattle.osm_elements.specs.Rows.{AreInOrder}
-use Rattle.osm_changes.specs.declared.change.Change.{Change}
-use Rattle.osm_changes.specs.Cells.{IsRising, half_at}
-use Rattle.osm_changes.specs.Changes.{cell_of, changed_cells, taken_back, inverse, changed, differences, AreChanges, AreFrom}
-use Rattle.osm_changes.specs.Sound.{is_sound}
-use Rattle.osm_changes.specs.Facts.Changing.{changed-differences}
-use Rattle.osm_changes.specs.Facts.SoundRows.{sound_in_order}
-use Rattle.room_stacks.specs.declared.author.Author.{Author}
-use Rattle.room_history.specs.declared.entry.Entry.{Entry}
-use Rattle.room_history.specs.declared.entry.EntryKind.{EntryKind}
-use Rattle.room_history.specs.declared.entry.EntryKind.TheVariants.{Do, Undo, Redo}
-use Rattle.room_history.specs.declared.reply.Reply.{Reply}
-use Rattle.room_history.specs.Answers.{redo_refusal, kind_refusal, answer}
-use Rattle.room_history.specs.LegalJournals.{IsJournal, opened, called}
-use Rattle.room_history.specs.Replays.{Past, Recorded, past, past_after, mapof, recorded_of, recorded_next, action_at}
+use Rattle.room_history.specs.Prelude.{after, changes, AreInOrder-after, Rows, AreInOrder, Change, half_at, cell_of, changed_cells, inverse, differences, AreChanges, AreFrom, is_sound, changed-differences, sound_in_order, Author, Entry, EntryKind, Do, Undo, Redo, Reply, redo_refusal, kind_refusal, answer, IsJournal, opened, called, Past, Recorded, past, past_after, mapof, recorded_of, recorded_next, action_at}
+use Rattle.osm_changes.specs.Cells.{IsRising}
+use Rattle.osm_changes.specs.Changes.{taken_back, changed}
+use Rattle.room_interface.specs.declared.edit.Edit.{Edit as Action}
 use Rattle.room_history.proofs.Appending.{mapof-append, recorded-redo}
 use Rattle.room_history.proofs.Keeping.{journal_led, undone_by}
 use Rattle.room_history.proofs.Leading.{IsLed, led_sound}

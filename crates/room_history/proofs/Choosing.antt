@@ -1,21 +1,8 @@
 -- The entry that an undo asks for, and its refusal.
-use Rattle.std.proofs.Common.{◌≡◌, ℕ, Bool, true, false, not, List, [], ◌∷◌, Option, Some, None, Ok, Err, is_none, refl, sym, ap, ◌∙◌, Result, IfErr, ◌⊎◌, inr}
-use Rattle.std.specs.Bool.{then_some}
-use Rattle.std.specs.Result.{IsErr, IsErrAnd}
-use Rattle.std.specs.Option.{option_map}
-use Rattle.osm_elements.specs.declared.name.Name.{Name}
-use Rattle.edit_simple.specs.Checks.{first_that_holds}
-use Rattle.edit_footprint.specs.Holding.{Held, IsFirstAfter}
-use Rattle.room_stacks.specs.declared.author.Author.{Author}
-use Rattle.room_history.specs.declared.entry.Entry.{Entry}
-use Rattle.room_history.specs.declared.reply.Reply.{Reply}
-use Rattle.room_history.specs.declared.reply.Reply.TheVariants.{Memory, NoSuch, NotYours, NotStanding}
-use Rattle.room_history.specs.Answers.{conflict, undo_refusal}
-use Rattle.room_history.specs.Blockers.{recorded_footprint, blocker}
+use Rattle.std.proofs.Common.{◌≡◌, ℕ, Bool, true, false, not, List, [], ◌∷◌, Option, Some, None, Ok, Err, is_none, refl, Result, IfErr, ◌⊎◌, sym, ap, ◌∙◌, inr, IsErr, IsErrAnd, option_map}
+use Rattle.room_history.specs.Prelude.{then_some, Name, first_that_holds, Held, IsFirstAfter, Author, Entry, Reply, Memory, NoSuch, NotYours, NotStanding, conflict, undo_refusal, recorded_footprint, blocker, numbered, is_by, is_standing, Past}
 use Rattle.room_history.specs.Inner.Holders.{AreHolders}
 use Rattle.room_history.specs.Inner.Undoing.{undone_or, asked_or, standing_refusal}
-use Rattle.room_history.specs.Journals.{numbered, is_by, is_standing}
-use Rattle.room_history.specs.Replays.{Past}
 use Rattle.room_history.proofs.KeptHolders.{blocker_found}
 
 -- a refusal that is passed on

@@ -28,8 +28,8 @@ use Rattle.turn_desk.proofs.seat.Seat.TheSendSync as seat
 use Rattle.turn_desk.specs.contracts.desk.Desk as Desk
 use Rattle.turn_desk.specs.contracts.seat.Seat as Seat
 use Rattle.room_history.proofs.entry.Entry.TheSendSync as entry
-use Rattle.room_history.specs.contracts.ask.RoomCall as RoomCall
-use Rattle.room_history.specs.contracts.ask.RoomReply as RoomReply
+use Rattle.room_interface.specs.contracts.ask.RoomCall as RoomCall
+use Rattle.room_interface.specs.contracts.ask.RoomReply as RoomReply
 use Rattle.room_history.specs.contracts.entry.Entry as Entry
 use Rattle.room_history.specs.contracts.room.Room as Room
 use Rattle.room_history.specs.contracts.turned.Opening as Opening

@@ -1,30 +1,11 @@
 -- The decision on an undo of an active entry: only its blocker refuses it, the first entry that blocks it.
-use Rattle.std.proofs.Common.{◌≡◌, ◌↔◌, ◌+◌, ◌≤◌, ℕ, true, false, not, List, [], ◌∷◌, Option, Some, None, is_none, length, refl, sym, ap, ◌∙◌, nat_le}
-use Rattle.std.specs.Bool.{then_some}
-use Rattle.std.specs.List.{filter}
-use Rattle.std.specs.Option.{option_map}
-use Rattle.std.specs.Ordering.{is_lt}
-use Rattle.room_stacks.specs.declared.author.Author.{Author}
-use Rattle.room_history.specs.declared.call.Call.{Call}
-use Rattle.room_history.specs.declared.call.Request.TheVariants as requests
-use Rattle.room_history.specs.declared.entry.Entry.{Entry}
-use Rattle.room_history.specs.declared.entry.EntryKind.{EntryKind}
-use Rattle.room_history.specs.declared.entry.EntryKind.TheVariants.{Undo}
-use Rattle.room_history.specs.declared.reply.Reply.{Reply}
-use Rattle.room_history.specs.declared.reply.Reply.TheVariants.{Undid, Repeat, Full, NoSuch, NotYours, NotStanding, Conflict}
-use Rattle.osm_elements.specs.declared.name.Name.{Name}
-use Rattle.osm_elements.specs.NameOrder.{name_cmp}
-use Rattle.osm_elements.specs.Maps.{Rows}
-use Rattle.edit_simple.specs.Checks.{first_that_holds}
-use Rattle.room_history.specs.Journals.{numbered, is_by, is_standing, standing}
-use Rattle.room_history.specs.Answers.{spent, conflict, asked, meant, undo_refusal, meaning_refusal, answer_by, answer}
-use Rattle.room_history.specs.Blockers.{blocker}
-use Rattle.room_history.specs.Replays.{Past, past}
-use Rattle.room_history.specs.Headline.{Share, Blocks, IsUndoneExactlyWhere, IsUndoOfLast}
+use Rattle.std.proofs.Common.{◌≡◌, ◌↔◌, ◌+◌, ◌≤◌, ℕ, true, false, not, List, [], ◌∷◌, Option, Some, None, is_none, length, refl, nat_le, sym, ap, ◌∙◌, filter, option_map, is_lt}
+use Rattle.room_history.specs.Prelude.{then_some, Author, Call, Entry, EntryKind, Undo, Reply, Undid, Repeat, Full, NoSuch, NotYours, NotStanding, Conflict, Name, name_cmp, Rows, first_that_holds, numbered, is_by, is_standing, standing, spent, conflict, asked, meant, undo_refusal, meaning_refusal, answer_by, answer, blocker, Past, past, Share, Blocks, IsUndoneExactlyWhere, IsUndoOfLast}
 use Rattle.room_history.proofs.Growing.{Rise-standing_from}
 use Rattle.room_history.proofs.Blocking.{IsFirst, nothing_blocks, first_blocks}
 use Rattle.room_history.proofs.Leading.{IsLed}
 use Rattle.room_history.proofs.RisingNumbers.{greatest_is_last, Rise-filter, into_filter, out_of_filter}
+use Rattle.room_interface.specs.declared.call.Request.TheVariants as requests
 
 pub only : {X : Type 0} (o : Option X) → first_that_holds (o ∷ []) ≡ o
 only None = refl

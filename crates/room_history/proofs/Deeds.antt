@@ -1,19 +1,10 @@
 -- A journal and the deeds of its authors.
+use Rattle.std.proofs.Common.{◌≡◌, ◌+◌, ◌&&◌, ◌||◌, ℕ, Bool, true, false, List, [], ◌∷◌, ◌++◌, length, nat_eq, nat_lt, refl, cond, sym, ap, ◌∙◌, arith, filter}
 use Prim.Native.Nat.{suc}
-use Rattle.std.proofs.Common.{◌≡◌, ◌+◌, ◌&&◌, ◌||◌, ℕ, Bool, true, false, List, [], ◌∷◌, ◌++◌, length, nat_eq, nat_lt, refl, sym, ap, ◌∙◌, cond, arith}
-use Rattle.std.specs.List.{filter, list_any}
 use Rattle.std.proofs.lemmas.Bool.Decides.{nat_tests}
-use Rattle.room_stacks.specs.declared.author.Author.{Author}
-use Rattle.room_stacks.specs.SameAuthors.{is_same_author}
-use Rattle.room_stacks.specs.Stacks as stacks
-use Rattle.room_stacks.specs.Facts.OneMore.{is_work_of}
-use Rattle.room_stacks.specs.Facts.Numbered.{spent_entries, standing_entries, kept_standing, above_entries, deeds_from-push, redo_entries}
-use Rattle.room_history.specs.declared.entry.Entry.{Entry}
-use Rattle.room_history.specs.declared.entry.EntryKind.{EntryKind}
-use Rattle.room_history.specs.declared.entry.EntryKind.TheVariants.{Do, Undo, Redo}
-use Rattle.room_history.specs.Answers.{spends, spent}
-use Rattle.room_history.specs.Journals.{numbered, is_by, is_undo_of, is_standing, is_work, standing, standing_from, undos, redos, redos_after}
+use Rattle.room_history.specs.Prelude.{list_any, Author, is_same_author, is_work_of, spent_entries, standing_entries, kept_standing, above_entries, deeds_from-push, redo_entries, Entry, EntryKind, Do, Undo, Redo, spends, spent, numbered, is_by, is_undo_of, is_standing, is_work, standing, standing_from, undos, redos, redos_after}
 use Rattle.room_history.specs.Inner.Deeds.{deed, deed_by, deeds}
+use Rattle.room_stacks.specs.Stacks as stacks
 
 -- a number of a list that passes a test is in the filtered list
 any_kept : (p : ℕ → Bool) (s : ℕ) (ts : List ℕ) → list_any (λ t. nat_eq t s) ts ≡ true → p s ≡ true → list_any (λ t. nat_eq t s) (filter p ts) ≡ true

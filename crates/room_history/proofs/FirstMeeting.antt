@@ -1,12 +1,7 @@
 -- The first of rising entries that shares cells with a footprint.
-use Rattle.std.proofs.Common.{◌≡◌, ◌+◌, ◌≤◌, ◌||◌, ℕ, Bool, true, false, List, [], ◌∷◌, Option, Some, None, nat_eq, refl, sym, ap, subst, ◌∙◌, arith}
-use Rattle.std.specs.Option.{option_map, option_or}
-use Rattle.osm_elements.specs.declared.name.Name.{Name}
-use Rattle.osm_changes.specs.declared.cell.Cell.{Cell}
+use Rattle.std.proofs.Common.{◌≡◌, ◌+◌, ◌≤◌, ◌||◌, ℕ, Bool, true, false, List, [], ◌∷◌, Option, Some, None, nat_eq, refl, sym, ap, subst, ◌∙◌, arith, option_map}
+use Rattle.room_history.specs.Prelude.{option_or, Name, Cell, meets, apart, first_meeting}
 use Rattle.osm_changes.specs.Cells.{has}
-use Rattle.edit_footprint.specs.Footprints.{meets}
-use Rattle.edit_footprint.specs.Facts.Meeting.{apart}
-use Rattle.room_history.specs.Holdings.{first_meeting}
 use Rattle.room_history.proofs.Growing.{Rise, equal_numbers}
 use Rattle.room_history.proofs.HeldEntries.{with_cells}
 use Rattle.room_history.proofs.RisingNumbers.{is_in, itself, or_else, at_least}

@@ -1,11 +1,8 @@
 -- A journal with one more entry.
-use Rattle.std.proofs.Common.{◌≡◌, ◌+◌, ◌≤◌, ◌&&◌, ◌||◌, ◌++◌, ◌∷◌, ℕ, zero, suc, Bool, true, false, not, List, [], Some, length, refl, sym, ap, subst, ◌∙◌, cond, arith, nat_eq, slice_get}
-use Rattle.std.specs.List.{filter, list_any}
+use Rattle.std.proofs.Common.{◌≡◌, ◌+◌, ◌≤◌, ◌&&◌, ◌||◌, ◌++◌, ◌∷◌, ℕ, zero, suc, Bool, true, false, not, List, [], Some, length, refl, cond, nat_eq, slice_get, sym, ap, subst, ◌∙◌, arith, filter}
 use Rattle.std.proofs.lemmas.List.Folds.{list_any-append}
 use Rattle.std.proofs.lemmas.Bool.Decides.{nat_tests}
-use Rattle.room_history.specs.declared.entry.Entry.{Entry}
-use Rattle.room_history.specs.declared.entry.EntryKind.{EntryKind}
-use Rattle.room_history.specs.Journals.{numbered, is_undo_of, is_work, standing_from}
+use Rattle.room_history.specs.Prelude.{list_any, Entry, EntryKind, numbered, is_undo_of, is_work, standing_from}
 
 -- the numbered items of a list stay, and the next number is that of the new item
 pub numbered_within : {X : Type 0} (xs : List X) (y : X) (s : ℕ) → s ≤ length xs → numbered (xs ++ y ∷ []) s ≡ numbered xs s

@@ -1,24 +1,9 @@
 -- The active entries with their footprints: which of them blocks an entry, and how they follow a growing journal.
-use Rattle.std.proofs.Common.{◌≡◌, ◌+◌, ◌<◌, ◌≤◌, ◌++◌, ◌||◌, ℕ, suc, Bool, true, false, not, List, [], ◌∷◌, Option, Some, None, All, length, map, nat_eq, nat_lt, unwrap_or, refl, sym, ap, ◌∙◌, cond, arith}
-use Rattle.std.specs.List.{filter}
-use Rattle.std.specs.Option.{option_map, option_or}
-use Rattle.std.specs.Ordering.{nat_cmp}
-use Rattle.std.specs.FinMap.Entries.{find}
+use Rattle.std.proofs.Common.{◌≡◌, ◌+◌, ◌<◌, ◌≤◌, ◌++◌, ◌||◌, ℕ, suc, Bool, true, false, not, List, [], ◌∷◌, Option, Some, None, All, length, map, nat_eq, nat_lt, unwrap_or, refl, cond, sym, ap, ◌∙◌, arith, filter, option_map, nat_cmp}
 use Rattle.std.proofs.lemmas.List.{map-append}
 use Rattle.std.proofs.lemmas.List.Elements.{All-cons}
-use Rattle.osm_elements.specs.declared.name.Name.{Name}
-use Rattle.osm_elements.specs.Maps.{Rows}
-use Rattle.osm_changes.specs.declared.cell.Cell.{Cell}
-use Rattle.edit_groups.specs.declared.edit.Edit.{Edit as Action}
-use Rattle.edit_footprint.specs.Facts.Numbers.{tied}
-use Rattle.edit_groups.specs.Edits.{footprint}
-use Rattle.edit_footprint.specs.Footprints.{meets}
-use Rattle.room_history.specs.Holdings.{Holdings, behind, first_meeting, without}
-use Rattle.room_history.specs.declared.entry.Entry.{Entry}
-use Rattle.room_history.specs.declared.entry.EntryKind.TheVariants.{Undo}
-use Rattle.room_history.specs.Blockers.{footprint_of_recorded, recorded_footprint, held, blocker}
-use Rattle.room_history.specs.Journals.{is_work, standing, is_standing}
-use Rattle.room_history.specs.Replays.{Past, past, mapof, recorded_of, recorded_next}
+use Rattle.room_history.specs.Prelude.{option_or, find, Name, Rows, Cell, tied, footprint, meets, Holdings, behind, first_meeting, without, Entry, Undo, footprint_of_recorded, recorded_footprint, held, blocker, is_work, standing, is_standing, Past, past, mapof, recorded_of, recorded_next}
+use Rattle.room_interface.specs.declared.edit.Edit.{Edit as Action}
 use Rattle.room_history.proofs.Appending.{past-append, recorded_each, recorded-last, standing-work, standing-undo}
 use Rattle.room_history.proofs.Chains.{Work, touched, IsApart}
 use Rattle.room_history.proofs.Growing.{numbered_within, Rise, Rise-standing_from, equal_numbers}

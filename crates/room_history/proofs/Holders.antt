@@ -1,20 +1,13 @@
 -- The holders of the active entries follow the journal, and the first entry that they find after an entry is its
 -- blocker.
-use Rattle.std.proofs.Common.{◌≡◌, ◌<◌, ◌++◌, ◌||◌, ℕ, Bool, true, false, not, List, [], ◌∷◌, Option, Some, None, All, map, nat_eq, nat_lt, refl, sym, ap, ◌∙◌, cond, arith, append-nil, append_assoc}
-use Rattle.std.specs.List.{filter, fold}
-use Rattle.std.specs.Ordering.{is_eq, nat_cmp}
+use Rattle.std.proofs.Common.{◌≡◌, ◌<◌, ◌++◌, ◌||◌, ℕ, Bool, true, false, not, List, [], ◌∷◌, Option, Some, None, All, map, nat_eq, nat_lt, refl, cond, sym, ap, ◌∙◌, arith, append-nil, append_assoc, filter, fold, is_eq, nat_cmp}
 use Rattle.std.proofs.lemmas.Bool.Decides.{nat_tests}
 use Rattle.std.proofs.lemmas.List.Elements.{All-tail}
 use Rattle.std.proofs.lemmas.List.Sums.{fold-append}
-use Rattle.osm_elements.specs.declared.name.Name.{Name}
-use Rattle.osm_changes.specs.declared.cell.Cell.{Cell}
+use Rattle.room_history.specs.Prelude.{Name, Cell, but, same_holders, holding-standing, AreHeld-standing, holding-fallen, AreHeld-fallen, apart, both_have, none_lesser, tied, same_number, Held, AreHeld, holding, holds, fallen, IsNext, HoldsOnly, IsFirstAfter, Holdings, without, first_meeting, holders_of}
+use Rattle.rising_lists.specs.Rising.{is_among}
+use Rattle.edit_footprint.specs.Holding.{standing as stands}
 use Rattle.osm_changes.specs.Cells.{has, IsRising}
-use Rattle.rising_lists.specs.Rising.{is_among, but}
-use Rattle.edit_footprint.specs.Facts.Holding.{same_holders, holding-standing, AreHeld-standing, holding-fallen, AreHeld-fallen}
-use Rattle.edit_footprint.specs.Facts.Meeting.{apart, both_have, none_lesser}
-use Rattle.edit_footprint.specs.Facts.Numbers.{tied, same_number}
-use Rattle.edit_footprint.specs.Holding.{Held, AreHeld, holding, holds, standing as stands, fallen, IsNext, HoldsOnly, IsFirstAfter}
-use Rattle.room_history.specs.Holdings.{Holdings, without, first_meeting, holders_of}
 use Rattle.room_history.proofs.FirstMeeting.{First, none_met, first_met}
 use Rattle.room_history.proofs.Growing.{Rise}
 use Rattle.room_history.proofs.HeldEntries.{with_cells}

@@ -1,15 +1,6 @@
 -- Facts about every journal that calls lead to.
 use Rattle.std.proofs.Common.{◌≡◌, ◌++◌, ◌∷◌, ℕ, true, List, [], refl, ap, subst, ◌∙◌}
-use Rattle.room_history.specs.declared.call.Call.{Call}
-use Rattle.room_history.specs.declared.entry.Entry.{Entry}
-use Rattle.room_history.specs.declared.reply.Reply.{Reply}
-use Rattle.osm_elements.specs.Maps.{Rows}
-use Rattle.osm_changes.specs.Sound.{is_sound}
-use Rattle.room_history.specs.Headline.{Holds}
-use Rattle.room_history.specs.Journals.{standing}
-use Rattle.room_history.specs.LegalJournals.{IsJournal}
-use Rattle.room_history.specs.Replays.{past, mapof, replay}
-use Rattle.room_history.specs.Runs.{IsStep, IsRun}
+use Rattle.room_history.specs.Prelude.{Call, Entry, Reply, Rows, is_sound, Holds, standing, IsJournal, past, mapof, replay, IsStep, IsRun}
 use Rattle.room_history.proofs.AtOnce.{is_undone_at_once}
 use Rattle.room_history.proofs.Chains.{replays}
 use Rattle.room_history.proofs.Deciding.{is_undone_exactly_where, is_undo_of_last}

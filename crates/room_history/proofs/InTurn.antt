@@ -1,19 +1,8 @@
 -- Undos of an author, followed by as many redos.
-use Rattle.std.proofs.Common.{◌≡◌, ◌⊎◌, ◌+◌, ◌++◌, ℕ, suc, true, List, [], ◌∷◌, Option, Some, inl, inr, length, map, reverse, refl, sym, ap, subst, ◌∙◌, arith, length-append}
+use Rattle.std.proofs.Common.{◌≡◌, ◌⊎◌, ◌+◌, ◌++◌, ℕ, suc, true, List, [], ◌∷◌, Option, Some, length, map, reverse, refl, inl, inr, sym, ap, subst, ◌∙◌, arith, length-append}
 use Rattle.std.proofs.lemmas.List.{map-append, length-reverse, reverse-append}
-use Rattle.osm_elements.specs.Maps.{Rows}
-use Rattle.osm_refs.specs.References.{users}
-use Rattle.osm_changes.specs.Sound.{is_sound}
-use Rattle.edit_groups.specs.declared.edit.Edit.{Edit as Action}
-use Rattle.room_stacks.specs.declared.author.Author.{Author}
-use Rattle.room_history.specs.declared.call.Call.{Call}
-use Rattle.room_history.specs.declared.entry.Entry.{Entry}
-use Rattle.room_history.specs.declared.entry.EntryKind.TheVariants.{Undo, Redo}
-use Rattle.room_history.specs.declared.reply.Reply.{Reply}
-use Rattle.room_history.specs.declared.reply.Reply.TheVariants.{Undid, Redid}
-use Rattle.room_history.specs.Answers.{with_entry, answer, answers}
-use Rattle.room_history.specs.Headline.{undo_by, redo_by, undid_from, redid_from, AreFresh, IsRedoneInTurn}
-use Rattle.room_history.specs.Replays.{past, action_at}
+use Rattle.room_history.specs.Prelude.{Rows, users, is_sound, Author, Call, Entry, Undo, Redo, Reply, Undid, Redid, with_entry, answer, answers, undo_by, redo_by, undid_from, redid_from, AreFresh, IsRedoneInTurn, past, action_at}
+use Rattle.room_interface.specs.declared.edit.Edit.{Edit as Action}
 use Rattle.room_history.proofs.LastItems.{ended}
 use Rattle.room_history.proofs.Leading.{IsLed}
 use Rattle.room_history.proofs.Outcomes.{Appended, Left, no_acceptance, outcome}

@@ -1,29 +1,14 @@
 -- Invariants of every journal that calls lead to.
-use Rattle.std.proofs.Common.{◌≡◌, ◌⊎◌, ℕ, true, List, [], Option, Some, None, inl, inr, refl, sym, ap, subst, ◌∙◌}
-use Rattle.std.specs.Option.{option_map}
-use Rattle.osm_elements.specs.Maps.{Rows}
-use Rattle.osm_changes.specs.Sound.{is_sound}
-use Rattle.edit_groups.specs.declared.edit.Edit.{Edit as Action}
-use Rattle.edit_groups.specs.Edits.{is_made_edit as is_made_action}
-use Rattle.edit_groups.specs.Edits.{refusal}
-use Rattle.room_stacks.specs.declared.author.Author.{Author}
-use Rattle.room_history.specs.declared.call.Call.{Call}
-use Rattle.room_history.specs.declared.call.Request.{Request}
-use Rattle.room_history.specs.declared.call.Request.TheVariants as requests
-use Rattle.room_history.specs.declared.entry.Entry.{Entry}
-use Rattle.room_history.specs.declared.entry.EntryKind.{EntryKind}
-use Rattle.room_history.specs.declared.entry.EntryKind.TheVariants.{Do, Undo, Redo}
-use Rattle.room_history.specs.declared.reply.Reply.{Reply}
-use Rattle.room_history.specs.declared.reply.Reply.TheVariants.{Refused}
-use Rattle.room_history.specs.Answers.{asked, meant, redo_refusal, kind_refusal, with_entry, answer}
-use Rattle.room_history.specs.Journals.{last, redos}
-use Rattle.room_history.specs.LegalJournals.{is_made_request, IsJournal, opened, called}
-use Rattle.room_history.specs.Replays.{past, mapof}
+use Rattle.std.proofs.Common.{◌≡◌, ◌⊎◌, ℕ, true, List, [], Option, Some, None, refl, inl, inr, sym, ap, subst, ◌∙◌, option_map}
+use Rattle.room_history.specs.Prelude.{Rows, is_sound, refusal, Author, Call, Request, Entry, EntryKind, Do, Undo, Redo, Reply, Refused, asked, meant, redo_refusal, kind_refusal, with_entry, answer, last, redos, is_made_request, IsJournal, opened, called, past, mapof}
+use Rattle.room_interface.specs.MadeCalls.{is_made_edit as is_made_action}
+use Rattle.room_interface.specs.declared.edit.Edit.{Edit as Action}
 use Rattle.room_history.proofs.Leading.{IsLed, led-do, led-redo}
 use Rattle.room_history.proofs.Outcomes.{Appended, Left, outcome}
 use Rattle.room_history.proofs.Redoable.{Acts, AreRedoable, redoable-append, top_acts}
 use Rattle.room_history.proofs.TakingBack.{Undone, undone}
 use Rattle.room_history.proofs.Undoing.{Found, found, mapped_none}
+use Rattle.room_interface.specs.declared.call.Request.TheVariants as requests
 
 module _ {A : Type 0} where
   no_do : (a : Action A) (f : ℕ → EntryKind A) (o : Option ℕ) → ((s : ℕ) → f s ≡ Do a → ⊥) → option_map f o ≡ Some (Do a) → ⊥

@@ -1,13 +1,7 @@
 -- The kept effect of an entry is the one that the journal records.
 use Rattle.std.proofs.Common.{◌≡◌, List, Option, Some, None, refl, sym, ap, ◌∙◌}
-use Rattle.std.specs.Bool.{then_some}
-use Rattle.osm_elements.specs.Maps.{Rows}
-use Rattle.osm_changes.specs.declared.cell.Cell.{Cell}
-use Rattle.osm_changes.specs.declared.change.Change.{Change}
-use Rattle.osm_changes.specs.Changes.{changed_rows}
-use Rattle.room_history.specs.declared.kept.Effect.{Effect}
+use Rattle.room_history.specs.Prelude.{then_some, Rows, Cell, Change, changed_rows, Effect, Recorded, taken_back}
 use Rattle.room_history.specs.Inner.Telling.{is_group, group_cells, single_effect, effect_of}
-use Rattle.room_history.specs.Replays.{Recorded, taken_back}
 
 module _ {A : Type 0} (m : Rows A) (cs : List (Change A)) (effect kept : Effect A) (group : Option (List Cell)) (effect_is : effect ≡ single_effect m cs) (kept_is : kept ≡ record effect { group = group }) where
   effect_with : kept ≡ record { changes = cs; rows = changed_rows m cs; group = group }

@@ -1,23 +1,11 @@
 -- The holders that a room keeps follow its journal.
-use Rattle.std.proofs.Common.{◌≡◌, ◌+◌, ◌<◌, ◌≤◌, ◌++◌, ◌||◌, ℕ, suc, Bool, true, false, not, List, [], ◌∷◌, Option, Some, length, nat_eq, nat_lt, refl, sym, ap, subst, ◌∙◌, arith}
-use Rattle.std.specs.List.{filter}
+use Rattle.std.proofs.Common.{◌≡◌, ◌+◌, ◌<◌, ◌≤◌, ◌++◌, ◌||◌, ℕ, suc, Bool, true, false, not, List, [], ◌∷◌, Option, Some, length, nat_eq, nat_lt, refl, sym, ap, subst, ◌∙◌, arith, filter}
 use Rattle.std.proofs.lemmas.List.Folds.{list_any-append}
-use Rattle.osm_elements.specs.declared.name.Name.{Name}
-use Rattle.osm_elements.specs.Maps.{Rows}
-use Rattle.osm_changes.specs.declared.cell.Cell.{Cell}
+use Rattle.room_history.specs.Prelude.{Name, Rows, Cell, footprint, IsRising-footprint, just_one, Held, IsNext, HoldsOnly, fallen, IsFirstAfter, Entry, Undo, recorded_footprint, footprint_of_recorded, held, blocker, first_meeting, holders_of, is_work, standing, is_standing, Past, past, mapof, recorded_of, recorded_next}
+use Rattle.edit_footprint.specs.Holding.{standing as stands}
 use Rattle.osm_changes.specs.Cells.{IsRising}
-use Rattle.edit_groups.specs.declared.edit.Edit.{Edit as Action}
-use Rattle.edit_groups.specs.Edits.{footprint}
-use Rattle.edit_groups.specs.Facts.Local.{IsRising-footprint}
-use Rattle.edit_footprint.specs.Facts.Holding.{just_one}
-use Rattle.edit_footprint.specs.Holding.{Held, IsNext, HoldsOnly, standing as stands, fallen, IsFirstAfter}
-use Rattle.room_history.specs.declared.entry.Entry.{Entry}
-use Rattle.room_history.specs.declared.entry.EntryKind.TheVariants.{Undo}
-use Rattle.room_history.specs.Blockers.{recorded_footprint, footprint_of_recorded, held, blocker}
-use Rattle.room_history.specs.Holdings.{first_meeting, holders_of}
+use Rattle.room_interface.specs.declared.edit.Edit.{Edit as Action}
 use Rattle.room_history.specs.Inner.Holders.{AreHolders}
-use Rattle.room_history.specs.Journals.{is_work, standing, is_standing}
-use Rattle.room_history.specs.Replays.{Past, past, mapof, recorded_of, recorded_next}
 use Rattle.room_history.proofs.Appending.{recorded-last, standing-work, standing-undo}
 use Rattle.room_history.proofs.Growing.{Rise, Rise-standing_from, equal_numbers}
 use Rattle.room_history.proofs.HeldEntries.{with_cells, blocker_is, earlier_stay, held-work, held-undo, is_next}

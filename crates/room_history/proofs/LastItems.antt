@@ -1,5 +1,5 @@
 -- The last item of a list.
-use Rattle.std.proofs.Common.{◌≡◌, ◌-◌, ◌++◌, List, [], ◌∷◌, Some, length, take, refl, sym, ap, subst, ◌∙◌, slice_get, arith, append-nil, append_assoc, length-append}
+use Rattle.std.proofs.Common.{◌≡◌, ◌-◌, ◌++◌, List, [], ◌∷◌, Some, length, take, refl, slice_get, sym, ap, subst, ◌∙◌, arith, append-nil, append_assoc, length-append}
 use Rattle.std.proofs.lemmas.List.{reverse-append}
 use Rattle.room_history.specs.Journals.{last}
 

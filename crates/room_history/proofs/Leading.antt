@@ -1,19 +1,10 @@
 -- The works of the active entries lead from the base to the map of the journal.
 use Rattle.std.proofs.Common.{◌≡◌, ◌+◌, ◌++◌, ℕ, suc, true, List, [], ◌∷◌, Some, None, length, refl, sym, ap, subst, ◌∙◌, arith}
-use Rattle.osm_elements.specs.Maps.{Rows}
+use Rattle.room_history.specs.Prelude.{Rows, is_sound, footprint_of, changes, footprint, refusal, IsRising-footprint, Entry, Do, Redo, numbered, standing, Recorded, Past, past, mapof, recorded_of, recorded_next, action_at}
 use Rattle.osm_changes.specs.Changes.{changed}
-use Rattle.osm_changes.specs.Sound.{is_sound}
-use Rattle.edit_groups.specs.declared.edit.Edit.{Edit as Action}
-use Rattle.edit_footprint.specs.Footprints.{footprint_of}
-use Rattle.edit_groups.specs.Edits.{changes, footprint}
-use Rattle.edit_groups.specs.Facts.Local.{IsRising-footprint}
-use Rattle.edit_groups.specs.Edits.{is_made_edit as is_made_action}
-use Rattle.edit_groups.specs.Edits.{refusal}
+use Rattle.room_interface.specs.declared.edit.Edit.{Edit as Action}
+use Rattle.room_interface.specs.MadeCalls.{is_made_edit as is_made_action}
 use Rattle.edit_groups.specs.Facts.Accepted.{changes_lead}
-use Rattle.room_history.specs.declared.entry.Entry.{Entry}
-use Rattle.room_history.specs.declared.entry.EntryKind.TheVariants.{Do, Redo}
-use Rattle.room_history.specs.Journals.{numbered, standing}
-use Rattle.room_history.specs.Replays.{Recorded, Past, past, mapof, recorded_of, recorded_next, action_at}
 use Rattle.room_history.proofs.Appending.{past-append, recorded_each, recorded-redo, standing-do, standing-redo}
 use Rattle.room_history.proofs.Chains.{Work, Leads, leads_sound, leads-append}
 use Rattle.room_history.proofs.Growing.{numbered_next}

@@ -11,7 +11,6 @@ pub mod Crossing
 pub mod Deciding
 pub mod Deeds
 pub mod KeptEffects
-pub mod ExampleProofs
 pub mod FirstMeeting
 pub mod Growing
 pub mod HeldEntries

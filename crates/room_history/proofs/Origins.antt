@@ -1,15 +1,8 @@
 -- The recorded action of an entry is the one that its origin stores.
-use Rattle.std.proofs.Common.{◌≡◌, ◌+◌, ◌++◌, ◌≤◌, ℕ, suc, zero, List, [], ◌∷◌, Option, Some, None, length, refl, sym, ap, subst, ◌∙◌, unwrap_or, arith, length-append}
-use Rattle.std.specs.List.{fold}
-use Rattle.std.specs.Option.{option_and_then}
+use Rattle.std.proofs.Common.{◌≡◌, ◌+◌, ◌++◌, ◌≤◌, ℕ, suc, zero, List, [], ◌∷◌, Option, Some, None, length, refl, unwrap_or, sym, ap, subst, ◌∙◌, arith, length-append, fold, option_and_then}
 use Rattle.std.proofs.lemmas.List.Sums.{fold-append}
-use Rattle.osm_elements.specs.Maps.{Rows}
-use Rattle.edit_groups.specs.declared.edit.Edit.{Edit as Action}
-use Rattle.room_history.specs.declared.entry.Entry.{Entry}
-use Rattle.room_history.specs.declared.entry.EntryKind.{EntryKind}
-use Rattle.room_history.specs.declared.entry.EntryKind.TheVariants.{Do, Undo, Redo}
-use Rattle.room_history.specs.Journals.{numbered}
-use Rattle.room_history.specs.Replays.{Recorded, past, taken_back, recorded_next, action_at, done_again}
+use Rattle.room_history.specs.Prelude.{Rows, Entry, EntryKind, Do, Undo, Redo, numbered, Recorded, past, taken_back, recorded_next, action_at, done_again}
+use Rattle.room_interface.specs.declared.edit.Edit.{Edit as Action}
 use Rattle.room_history.specs.Inner.Origins.{own_action, done_by, origin_next, origins_after, origins}
 use Rattle.room_history.proofs.Appending.{past-append, recorded_each}
 use Rattle.room_history.proofs.Growing.{numbered_within, numbered_next}

@@ -1,27 +1,9 @@
 -- The outcome of a call: an accepted entry is appended, or a refusal leaves the journal unchanged.
-use Rattle.std.proofs.Common.{◌≡◌, ◌⊎◌, ◌+◌, ◌++◌, ◌∷◌, ℕ, Bool, true, false, not, List, [], Option, Some, None, is_none, length, refl, sym, ap, ◌∙◌, inl, inr, nat_le, arith, length-append}
-use Rattle.std.specs.Bool.{then_some}
-use Rattle.std.specs.Option.{option_map}
-use Rattle.osm_elements.specs.declared.name.Name.{Name}
-use Rattle.osm_elements.specs.Maps.{Rows}
-use Rattle.edit_groups.specs.declared.edit.Edit.{Edit as Action}
-use Rattle.edit_groups.specs.Edits.{refusal}
-use Rattle.edit_simple.specs.Checks.{first_that_holds}
-use Rattle.edit_groups.specs.declared.refusal.EditRefusal.{EditRefusal}
-use Rattle.room_stacks.specs.declared.author.Author.{Author}
-use Rattle.room_history.specs.declared.call.Call.{Call}
-use Rattle.room_history.specs.declared.call.Request.{Request}
-use Rattle.room_history.specs.declared.call.Request.TheVariants as requests
-use Rattle.room_history.specs.declared.entry.Entry.{Entry}
-use Rattle.room_history.specs.declared.entry.EntryKind.{EntryKind}
-use Rattle.room_history.specs.declared.entry.EntryKind.TheVariants.{Do, Undo, Redo}
-use Rattle.room_history.specs.declared.reply.Reply.{Reply}
-use Rattle.room_history.specs.declared.reply.Reply.TheVariants.{Done, Undid, Redid, Repeat, Full, NoSuch, NotYours, NotStanding, Refused}
-use Rattle.room_history.specs.Answers.{spent, conflict, meant, nothing_meant, undo_refusal, redo_refusal, kind_refusal, meaning_refusal, accepted, with_entry, answer_by, answer}
-use Rattle.room_history.specs.Blockers.{blocker}
-use Rattle.room_history.specs.Journals.{numbered, is_by, is_standing}
-use Rattle.room_history.specs.Replays.{Past, past, action_at}
+use Rattle.std.proofs.Common.{◌≡◌, ◌⊎◌, ◌+◌, ◌++◌, ◌∷◌, ℕ, Bool, true, false, not, List, [], Option, Some, None, is_none, length, refl, nat_le, sym, ap, ◌∙◌, inl, inr, arith, length-append, option_map}
+use Rattle.room_history.specs.Prelude.{then_some, Name, Rows, refusal, first_that_holds, EditRefusal, Author, Call, Request, Entry, EntryKind, Do, Undo, Redo, Reply, Done, Undid, Redid, Repeat, Full, NoSuch, NotYours, NotStanding, Refused, spent, conflict, meant, nothing_meant, undo_refusal, redo_refusal, kind_refusal, meaning_refusal, accepted, with_entry, answer_by, answer, blocker, numbered, is_by, is_standing, Past, past, action_at}
+use Rattle.room_interface.specs.declared.edit.Edit.{Edit as Action}
 use Rattle.room_history.proofs.LastItems.{same_end}
+use Rattle.room_interface.specs.declared.call.Request.TheVariants as requests
 
 module _ {A : Type 0} where
   -- a reply to an accepted call

@@ -1,16 +1,8 @@
 -- Each entry on a redo stack has a made action in its record.
-use Rattle.std.proofs.Common.{◌≡◌, ◌⊎◌, ◌-◌, ◌++◌, ◌||◌, ℕ, suc, zero, Bool, true, false, List, [], ◌∷◌, Option, Some, None, inl, inr, length, take, nat_eq, refl, sym, ap, ◌∙◌, cond}
-use Rattle.std.specs.Option.{option_and_then}
-use Rattle.osm_elements.specs.Maps.{Rows}
-use Rattle.edit_groups.specs.declared.edit.Edit.{Edit as Action}
-use Rattle.edit_groups.specs.Edits.{is_made_edit as is_made_action}
-use Rattle.room_stacks.specs.declared.author.Author.{Author}
-use Rattle.room_stacks.specs.SameAuthors.{is_same_author}
-use Rattle.room_history.specs.declared.entry.Entry.{Entry}
-use Rattle.room_history.specs.declared.entry.EntryKind.{EntryKind}
-use Rattle.room_history.specs.declared.entry.EntryKind.TheVariants.{Do, Undo, Redo}
-use Rattle.room_history.specs.Journals.{numbered, last, redos, redos_after}
-use Rattle.room_history.specs.Replays.{Recorded, past, recorded_next, action_at}
+use Rattle.std.proofs.Common.{◌≡◌, ◌⊎◌, ◌-◌, ◌++◌, ◌||◌, ℕ, suc, zero, Bool, true, false, List, [], ◌∷◌, Option, Some, None, length, take, nat_eq, refl, cond, inl, inr, sym, ap, ◌∙◌, option_and_then}
+use Rattle.room_history.specs.Prelude.{Rows, Author, is_same_author, Entry, EntryKind, Do, Undo, Redo, numbered, last, redos, redos_after, Recorded, past, recorded_next, action_at}
+use Rattle.room_interface.specs.declared.edit.Edit.{Edit as Action}
+use Rattle.room_interface.specs.MadeCalls.{is_made_edit as is_made_action}
 use Rattle.room_history.proofs.Appending.{past-append, redos-append}
 use Rattle.room_history.proofs.Growing.{equal_numbers}
 use Rattle.room_history.proofs.LastItems.{last_put_back}

@@ -1,26 +1,7 @@
 -- A redo of an undo restores the room before the undo.
-use Rattle.std.proofs.Common.{◌≡◌, ◌+◌, ◌++◌, ◌-◌, ℕ, Bool, true, false, List, [], ◌∷◌, Some, None, length, take, refl, sym, ap, subst, ◌∙◌, cond, arith, nat_le, length-append}
-use Rattle.std.specs.Option.{option_map}
-use Rattle.osm_elements.specs.Rows.{AreInOrder}
-use Rattle.osm_elements.specs.Maps.{Rows}
-use Rattle.osm_refs.specs.References.{users}
-use Rattle.osm_changes.specs.Sound.{is_sound}
-use Rattle.osm_changes.specs.Facts.SoundRows.{sound_in_order}
-use Rattle.edit_groups.specs.declared.edit.Edit.{Edit as Action}
-use Rattle.edit_groups.specs.Edits.{after}
-use Rattle.edit_groups.specs.Edits.{refusal}
-use Rattle.room_stacks.specs.declared.author.Author.{Author}
-use Rattle.room_stacks.specs.SameAuthors.{is_same_author}
-use Rattle.room_history.specs.declared.call.Call.{Call}
-use Rattle.room_history.specs.declared.call.Request.TheVariants as requests
-use Rattle.room_history.specs.declared.entry.Entry.{Entry}
-use Rattle.room_history.specs.declared.entry.EntryKind.TheVariants.{Undo, Redo}
-use Rattle.room_history.specs.declared.reply.Reply.{Reply}
-use Rattle.room_history.specs.declared.reply.Reply.TheVariants.{Undid, Redid, Refused}
-use Rattle.room_history.specs.Answers.{spent, meant, redo_refusal, kind_refusal, meaning_refusal, with_entry, answer_by, answer, answers}
-use Rattle.room_history.specs.Headline.{IsRedoneAtOnce}
-use Rattle.room_history.specs.Journals.{standing, others, last, redos, redos_after}
-use Rattle.room_history.specs.Replays.{past, mapof, action_at}
+use Rattle.std.proofs.Common.{◌≡◌, ◌+◌, ◌++◌, ◌-◌, ℕ, Bool, true, false, List, [], ◌∷◌, Some, None, length, take, refl, cond, nat_le, sym, ap, subst, ◌∙◌, arith, length-append, option_map}
+use Rattle.room_history.specs.Prelude.{AreInOrder, Rows, users, is_sound, sound_in_order, after, refusal, Author, is_same_author, Call, Entry, Undo, Redo, Reply, Undid, Redid, Refused, spent, meant, redo_refusal, kind_refusal, meaning_refusal, with_entry, answer_by, answer, answers, IsRedoneAtOnce, standing, others, last, redos, redos_after, past, mapof, action_at}
+use Rattle.room_interface.specs.declared.edit.Edit.{Edit as Action}
 use Rattle.room_history.proofs.Appending.{mapof-redo, redos-append, standing-redo, standing-undo}
 use Rattle.room_history.proofs.AtOnce.{same_author}
 use Rattle.room_history.proofs.Deciding.{unspent}
@@ -31,6 +12,7 @@ use Rattle.room_history.proofs.Outcomes.{outcome, got_longer}
 use Rattle.room_history.proofs.Redoable.{action_stays}
 use Rattle.room_history.proofs.RestLeft.{undoes}
 use Rattle.room_history.proofs.TakingBack.{Undone}
+use Rattle.room_interface.specs.declared.call.Request.TheVariants as requests
 
 module _ {A : Type 0} (base : Rows A) (limit : ℕ) where
   -- a redo that is accepted

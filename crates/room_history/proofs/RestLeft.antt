@@ -1,17 +1,6 @@
 -- After an accepted undo, the other entries stay active, and their replay gives the map.
-use Rattle.std.proofs.Common.{◌≡◌, ◌⊎◌, ◌+◌, ℕ, true, List, Some, None, inl, inr, length, refl, sym, ap, subst, ◌∙◌}
-use Rattle.osm_elements.specs.Maps.{Rows}
-use Rattle.osm_changes.specs.Sound.{is_sound}
-use Rattle.room_history.specs.declared.call.Call.{Call}
-use Rattle.room_history.specs.declared.entry.Entry.{Entry}
-use Rattle.room_history.specs.declared.entry.EntryKind.{EntryKind}
-use Rattle.room_history.specs.declared.entry.EntryKind.TheVariants.{Do, Undo, Redo}
-use Rattle.room_history.specs.declared.reply.Reply.{Reply}
-use Rattle.room_history.specs.declared.reply.Reply.TheVariants.{Undid}
-use Rattle.room_history.specs.Answers.{kind_refusal, accepted, with_entry, answer}
-use Rattle.room_history.specs.Headline.{IsRestLeft}
-use Rattle.room_history.specs.Journals.{standing, others}
-use Rattle.room_history.specs.Replays.{past, mapof, replay, actions_of}
+use Rattle.std.proofs.Common.{◌≡◌, ◌⊎◌, ◌+◌, ℕ, true, List, Some, None, length, refl, inl, inr, sym, ap, subst, ◌∙◌}
+use Rattle.room_history.specs.Prelude.{Rows, is_sound, Call, Entry, EntryKind, Do, Undo, Redo, Reply, Undid, kind_refusal, accepted, with_entry, answer, IsRestLeft, standing, others, past, mapof, replay, actions_of}
 use Rattle.room_history.proofs.Appending.{standing-undo}
 use Rattle.room_history.proofs.Leading.{IsLed}
 use Rattle.room_history.proofs.Outcomes.{Appended, Left, no_acceptance, outcome}

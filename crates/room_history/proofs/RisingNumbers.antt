@@ -1,8 +1,7 @@
 -- Rising numbers: membership, positions, and the greatest number.
-use Rattle.std.proofs.Common.{◌≡◌, ◌++◌, ◌+◌, ◌<◌, ◌≤◌, ◌||◌, ℕ, Bool, true, false, not, List, [], ◌∷◌, Some, refl, sym, ap, ◌∙◌, cond, nat_eq, nat_lt, arith}
-use Rattle.std.specs.List.{filter, list_any}
+use Rattle.std.proofs.Common.{◌≡◌, ◌++◌, ◌+◌, ◌<◌, ◌≤◌, ◌||◌, ℕ, Bool, true, false, not, List, [], ◌∷◌, Some, refl, cond, nat_eq, nat_lt, sym, ap, ◌∙◌, arith, filter}
 use Rattle.std.proofs.lemmas.Bool.Decides.{nat_tests}
-use Rattle.room_history.specs.Journals.{last}
+use Rattle.room_history.specs.Prelude.{list_any, last}
 use Rattle.room_history.proofs.Growing.{Rise, Rise-from, equal_numbers}
 use Rattle.room_history.proofs.LastItems.{last-append}
 

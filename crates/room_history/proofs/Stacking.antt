@@ -1,17 +1,6 @@
 -- The redo stacks after accepted calls.
-use Rattle.std.proofs.Common.{◌≡◌, ◌⊎◌, ◌+◌, ◌++◌, ℕ, false, List, [], ◌∷◌, Some, inl, inr, length, refl, sym, ap, subst, ◌∙◌, cond}
-use Rattle.osm_elements.specs.Maps.{Rows}
-use Rattle.room_stacks.specs.declared.author.Author.{Author}
-use Rattle.room_stacks.specs.SameAuthors.{is_same_author}
-use Rattle.room_history.specs.declared.call.Call.{Call}
-use Rattle.room_history.specs.declared.entry.Entry.{Entry}
-use Rattle.room_history.specs.declared.entry.EntryKind.{EntryKind}
-use Rattle.room_history.specs.declared.entry.EntryKind.TheVariants.{Do, Undo, Redo}
-use Rattle.room_history.specs.declared.reply.Reply.{Reply}
-use Rattle.room_history.specs.declared.reply.Reply.TheVariants.{Done, Undid, Redid}
-use Rattle.room_history.specs.Answers.{meant, accepted, with_entry, answer}
-use Rattle.room_history.specs.Headline.{IsRedoStacked}
-use Rattle.room_history.specs.Journals.{redos, redos_after}
+use Rattle.std.proofs.Common.{◌≡◌, ◌⊎◌, ◌+◌, ◌++◌, ℕ, false, List, [], ◌∷◌, Some, length, refl, cond, inl, inr, sym, ap, subst, ◌∙◌}
+use Rattle.room_history.specs.Prelude.{Rows, Author, is_same_author, Call, Entry, EntryKind, Do, Undo, Redo, Reply, Done, Undid, Redid, meant, accepted, with_entry, answer, IsRedoStacked, redos, redos_after}
 use Rattle.room_history.proofs.Appending.{redos-append}
 use Rattle.room_history.proofs.AtOnce.{same_author}
 use Rattle.room_history.proofs.Keeping.{meant_redo}

@@ -1,66 +1,26 @@
 -- One step of a room.
-use Rattle.std.proofs.Common.{◌≡◌, Result, OnOk, OnErr, IfOk, IfErr, ◌<◌, ◌≤◌, ◌+◌, ◌++◌, ◌∷◌, ℕ, Bool, true, false, is_some, List, [], Option, Some, None, Ok, Err, length, refl, sym, ap, subst, ◌∙◌, arith, ◌-◌, get_or, slice_get, ◌⊎◌, inl, inr, zero, suc, map, fold, nat_le}
-use Rattle.std.specs.Bool.{then_some}
-use Rattle.std.specs.Result.{IsErr}
-use Rattle.std.specs.Option.{option_map, option_and_then}
+use Rattle.std.proofs.Common.{◌≡◌, Result, OnOk, OnErr, IfOk, IfErr, ◌<◌, ◌≤◌, ◌+◌, ◌++◌, ◌∷◌, ℕ, Bool, true, false, is_some, List, [], Option, Some, None, Ok, Err, length, refl, ◌-◌, slice_get, ◌⊎◌, zero, suc, map, nat_le, sym, ap, subst, ◌∙◌, arith, get_or, inl, inr, fold, IsErr, option_map, option_and_then}
 use Rattle.std.proofs.lemmas.Bool.Decides.{nat_tests}
 use Rattle.std.proofs.lemmas.List.Sums.{fold-append}
-use Rattle.edit_actions.specs.declared.action.Action.{Action as SingleAction}
-use Rattle.edit_groups.specs.declared.edit.Edit.{Edit as Action}
-use Rattle.edit_groups.specs.declared.edit.Edit.TheVariants.{One, Group}
-use Rattle.room_stacks.specs.declared.author.Author.{Author}
-use Rattle.room_history.specs.declared.call.Call.{Call}
-use Rattle.room_history.specs.declared.call.Request.{Request}
-use Rattle.room_history.specs.declared.call.Request.TheVariants as requests
-use Rattle.room_history.specs.declared.entry.Entry.{Entry}
-use Rattle.room_history.specs.declared.entry.EntryKind.{EntryKind}
-use Rattle.room_history.specs.declared.entry.EntryKind.TheVariants.{Do, Undo, Redo}
-use Rattle.edit_simple.specs.declared.refusal.Refusal.{Refusal}
-use Rattle.room_history.specs.declared.reply.Reply.{Reply}
-use Rattle.room_history.specs.declared.reply.Reply.TheVariants.{Undid, Repeat, Full, NothingToRedo, Refused, Memory}
-use Rattle.osm_changes.specs.declared.cell.Cell.{Cell}
-use Rattle.osm_elements.specs.Maps.{Rows}
+use Rattle.room_history.specs.Prelude.{then_some, One, Group, Author, Call, Request, Entry, EntryKind, Do, Undo, Redo, Refusal, Reply, Undid, Repeat, Full, NothingToRedo, Refused, Memory, Cell, Rows, is_sound, after, changes, refusal, footprint, first_that_holds, is_work, is_standing, numbered, last, redos, standing, Past, Recorded, past, past_after, mapof, action_at, recorded_of, recorded_next, done_again, taken_back, spent, asked, meant, undo_refusal, redo_refusal, kind_refusal, meaning_refusal, accepted, with_entry, answer_by, answer, IsJournal, opened, called, is_made_request, IsStep, applied, Deed, AreInOrder, Change, differences, inverse, AreChanges, AreFrom, StoreState, applied_to, counted, IsEditPlan, EditRefusal, refusal_reply, refused_by, Effect, changed-differences, sound_in_order, AreInOrder-after, IsRising-footprint, footprint_of, Held, IsNext, HoldsOnly, fallen, footprint_of_recorded, recorded_footprint}
+use Rattle.osm_changes.specs.Changes.{changed}
+use Rattle.edit_footprint.specs.Holding.{standing as stands}
+use Rattle.room_interface.specs.declared.action.Action.{Action as SingleAction}
+use Rattle.room_interface.specs.declared.edit.Edit.{Edit as Action}
 use Rattle.osm_changes.specs.Cells.{IsRising}
-use Rattle.osm_changes.specs.Sound.{is_sound}
-use Rattle.edit_groups.specs.Edits.{after, changes, refusal, footprint}
-use Rattle.edit_simple.specs.Checks.{first_that_holds}
-use Rattle.room_history.specs.Journals.{is_work, is_standing, numbered, last, redos, standing}
-use Rattle.room_history.specs.Replays.{Past, Recorded, past, past_after, mapof, action_at, recorded_of, recorded_next, done_again, taken_back}
-use Rattle.room_history.specs.Answers.{spent, asked, meant, undo_refusal, redo_refusal, kind_refusal, meaning_refusal, accepted, with_entry, answer_by, answer}
-use Rattle.room_history.specs.LegalJournals.{IsJournal, is_made_request, opened, called}
-use Rattle.room_history.specs.Runs.{IsStep}
-use Rattle.room_history.specs.Applied.{applied}
 use Rattle.room_history.specs.Inner.Holders.{AreHolders}
 use Rattle.room_history.specs.Inner.Deeds.{deed_by, deeds, MayNote}
 use Rattle.room_history.specs.Inner.Origins.{done_by, origin_next, origins}
 use Rattle.room_history.proofs.Origins.{origins-append, origins_each, action_by_origin}
-use Rattle.room_history.proofs.Deeds as journals
 use Rattle.room_history.proofs.Deeds.{deeds-append, spent_deeds, stands_among, redo_deeds}
-use Rattle.room_stacks.specs.Stacks as stacks
-use Rattle.room_stacks.specs.declared.deed.Deed.{Deed}
 use Rattle.room_stacks.specs.declared.deed.Deed.TheVariants.{Undid}
-use Rattle.osm_elements.specs.Rows.{AreInOrder}
-use Rattle.osm_changes.specs.declared.change.Change.{Change}
-use Rattle.osm_changes.specs.Changes.{changed, differences, inverse, AreChanges, AreFrom}
-use Rattle.osm_changes.specs.Stores.{StoreState, applied_to, counted}
-use Rattle.edit_simple.specs.declared.refusal.Refusal.TheVariants as refusals
-use Rattle.edit_groups.specs.Plans.{IsEditPlan}
-use Rattle.edit_groups.specs.declared.refusal.EditRefusal.{EditRefusal}
-use Rattle.room_history.specs.Inner.Refusing.{refusal_reply, refused_by}
 use Rattle.room_history.specs.Inner.Undoing.{undone_or, asked_or}
 use Rattle.room_history.specs.Inner.Rooms.{IsRoom, MayAppend, MayWork}
-use Rattle.room_history.specs.declared.kept.Effect.{Effect}
 use Rattle.room_history.specs.Inner.Telling.{is_group, group_cells, footprint_by, effect_of, kept_from, kept}
 use Rattle.room_history.proofs.Telling.{kept_of_each}
 use Rattle.room_history.proofs.BinarySearching.{last_is}
 use Rattle.room_history.proofs.Deciding.{unspent}
 use Rattle.room_history.proofs.Keeping.{journal_led}
-use Rattle.osm_changes.specs.Facts.Changing.{changed-differences}
-use Rattle.osm_changes.specs.Facts.SoundRows.{sound_in_order}
-use Rattle.edit_groups.specs.Facts.Local.{AreInOrder-after, IsRising-footprint}
-use Rattle.edit_footprint.specs.Footprints.{footprint_of}
-use Rattle.edit_footprint.specs.Holding.{Held, IsNext, HoldsOnly, standing as stands, fallen}
-use Rattle.room_history.specs.Blockers.{footprint_of_recorded, recorded_footprint}
 use Rattle.room_history.proofs.Appending.{past-append, mapof-append, applied-append, recorded-redo}
 use Rattle.room_history.proofs.KeptHolders.{AreHolders-opened, AreHolders-work, AreHolders-undo, stands_within, holds_own, holders_next}
 use Rattle.room_history.proofs.Leading.{IsLed, led_sound}
@@ -68,6 +28,10 @@ use Rattle.room_history.proofs.TakingBack.{Undone, undone}
 use Rattle.room_history.proofs.Undoing.{Found, found}
 use Rattle.room_history.proofs.Chains.{Work}
 use Rattle.room_history.proofs.Works.{IsRecorded, one_of}
+use Rattle.room_interface.specs.declared.call.Request.TheVariants as requests
+use Rattle.room_history.proofs.Deeds as journals
+use Rattle.room_stacks.specs.Stacks as stacks
+use Rattle.room_interface.specs.declared.refusal.Refusal.TheVariants as refusals
 
 -- the reply for a refusal: the refusal itself, or `Memory`
 reply_is : {A : Type 0} (at : Option ℕ) (why : Refusal A) → (refused_by at why ≡ Refused (record { action = at; why = why })) ⊎ (refused_by at why ≡ Memory)

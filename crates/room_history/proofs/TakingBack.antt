@@ -1,19 +1,9 @@
 -- The undo of an active entry that nothing blocks.
-use Rattle.std.proofs.Common.{◌≡◌, ◌+◌, ◌++◌, ℕ, true, List, [], ◌∷◌, Some, None, length, sym, ap, subst, ◌∙◌}
-use Rattle.std.specs.Option.{option_and_then}
-use Rattle.osm_elements.specs.Maps.{Rows}
-use Rattle.osm_changes.specs.Changes.{changed, inverse}
-use Rattle.osm_changes.specs.Sound.{is_sound}
-use Rattle.edit_groups.specs.declared.edit.Edit.{Edit as Action}
-use Rattle.edit_groups.specs.Edits.{after, changes}
-use Rattle.edit_groups.specs.Edits.{is_made_edit as is_made_action}
-use Rattle.edit_groups.specs.Edits.{refusal}
-use Rattle.room_history.specs.Holdings.{first_meeting}
-use Rattle.room_history.specs.declared.entry.Entry.{Entry}
-use Rattle.room_history.specs.declared.entry.EntryKind.TheVariants.{Undo}
-use Rattle.room_history.specs.Blockers.{recorded_footprint, blocker}
-use Rattle.room_history.specs.Journals.{numbered, standing, is_standing, others}
-use Rattle.room_history.specs.Replays.{Recorded, Past, past, mapof, recorded_next, taken_back, replay, action_at, actions_of}
+use Rattle.std.proofs.Common.{◌≡◌, ◌+◌, ◌++◌, ℕ, true, List, [], ◌∷◌, Some, None, length, sym, ap, subst, ◌∙◌, option_and_then}
+use Rattle.room_history.specs.Prelude.{Rows, inverse, is_sound, after, changes, refusal, first_meeting, Entry, Undo, recorded_footprint, blocker, numbered, standing, is_standing, others, Recorded, Past, past, mapof, recorded_next, taken_back, replay, action_at, actions_of}
+use Rattle.osm_changes.specs.Changes.{changed}
+use Rattle.room_interface.specs.declared.edit.Edit.{Edit as Action}
+use Rattle.room_interface.specs.MadeCalls.{is_made_edit as is_made_action}
 use Rattle.room_history.proofs.Appending.{past-append, mapof-append, standing-undo}
 use Rattle.room_history.proofs.Chains.{Work, Leads, LeavesOut, replays, left_out, taken_out}
 use Rattle.room_history.proofs.Growing.{Rise-standing_from}

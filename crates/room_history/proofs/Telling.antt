@@ -1,12 +1,8 @@
 -- The news of entries, collected in order.
-use Rattle.std.proofs.Common.{◌≡◌, ◌+◌, ◌<◌, ◌≤◌, ◌++◌, ℕ, zero, suc, List, [], ◌∷◌, length, get_or, drop, refl, sym, ap, ◌∙◌, append_assoc, append-nil, arith}
-use Rattle.room_history.specs.declared.entry.Entry.{Entry}
-use Rattle.room_history.specs.declared.kept.Effect.{Effect}
-use Rattle.room_history.specs.declared.news.News.{News}
-use Rattle.osm_elements.specs.Maps.{Rows}
+use Rattle.std.proofs.Common.{◌≡◌, ◌+◌, ◌<◌, ◌≤◌, ◌++◌, ℕ, zero, suc, List, [], ◌∷◌, length, drop, refl, get_or, sym, ap, ◌∙◌, append_assoc, append-nil, arith}
+use Rattle.room_history.specs.Prelude.{Entry, Effect, News, Rows, Recorded, past}
 use Rattle.osm_changes.specs.Changes.{changed}
 use Rattle.room_history.specs.Inner.Telling.{kept_from, kept, told_of, told_from}
-use Rattle.room_history.specs.Replays.{Recorded, past}
 use Rattle.room_history.proofs.Appending.{recorded_each}
 
 module _ {A : Type 0} where

@@ -1,17 +1,7 @@
 -- The journal of a room after a turn.
 use Rattle.std.proofs.Common.{◌≡◌, ◌⊎◌, ◌++◌, ℕ, true, List, [], ◌∷◌, refl, sym, ap, subst, inl, inr, append_assoc, append-nil}
-use Rattle.osm_elements.specs.Maps.{Rows}
-use Rattle.turn_desk.specs.History.{GainsAtMostOne, MayAllFollow}
-use Rattle.room_history.specs.declared.ask.RoomCall.{RoomCall}
-use Rattle.room_history.specs.declared.ask.RoomCall.TheVariants.{Take, Get, Rows as AllRows, Undos, News as NewsPast}
-use Rattle.room_history.specs.declared.ask.RoomReply.{RoomReply}
-use Rattle.room_history.specs.declared.call.Call.{Call}
-use Rattle.room_history.specs.declared.entry.Entry.{Entry}
-use Rattle.room_history.specs.declared.turned.Opening.{Opening}
-use Rattle.room_history.specs.Answers.{answer}
-use Rattle.room_history.specs.Asking.{room_answer, IsAnswered}
-use Rattle.room_history.specs.LegalJournals.{IsJournal, called, is_made_room_call}
-use Rattle.room_history.specs.Turns.{IsTurn}
+use Rattle.room_history.specs.Prelude.{Rows, GainsAtMostOne, MayAllFollow, RoomCall, Take, Get, Undos, RoomReply, Call, Entry, Opening, answer, room_answer, IsAnswered, IsJournal, called, is_made_room_call, IsTurn}
+use Rattle.room_interface.specs.declared.ask.RoomCall.TheVariants.{Rows as AllRows, News as NewsPast}
 use Rattle.room_history.proofs.Outcomes.{Appended, Left, outcome}
 
 module _ {A : Type 0} (base : Rows A) (limit : ℕ) (j : List (Entry A)) where

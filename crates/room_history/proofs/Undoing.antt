@@ -1,15 +1,6 @@
 -- The facts of an accepted undo.
-use Rattle.std.proofs.Common.{◌≡◌, ℕ, Bool, true, false, not, List, [], ◌∷◌, Option, Some, None, is_none, refl}
-use Rattle.std.specs.Bool.{then_some}
-use Rattle.std.specs.Option.{option_map}
-use Rattle.room_stacks.specs.declared.author.Author.{Author}
-use Rattle.room_history.specs.declared.entry.Entry.{Entry}
-use Rattle.room_history.specs.declared.reply.Reply.TheVariants.{NotStanding, NotYours, NoSuch}
-use Rattle.edit_simple.specs.Checks.{first_that_holds}
-use Rattle.room_history.specs.Answers.{conflict, undo_refusal}
-use Rattle.room_history.specs.Blockers.{blocker}
-use Rattle.room_history.specs.Journals.{numbered, is_by, is_standing}
-use Rattle.room_history.specs.Replays.{Past}
+use Rattle.std.proofs.Common.{◌≡◌, ℕ, Bool, true, false, not, List, [], ◌∷◌, Option, Some, None, is_none, refl, option_map}
+use Rattle.room_history.specs.Prelude.{then_some, Author, Entry, NotStanding, NotYours, NoSuch, first_that_holds, conflict, undo_refusal, blocker, numbered, is_by, is_standing, Past}
 
 -- if none of four checks holds, none of the last three holds
 last_three : {X : Type 0} (o p q r : Option X) → first_that_holds (o ∷ p ∷ q ∷ r ∷ []) ≡ None → (p ≡ None) × (q ≡ None) × (r ≡ None)

@@ -1,12 +1,6 @@
 -- Works, and the entries that record them.
-use Rattle.std.proofs.Common.{◌≡◌, ◌++◌, ◌||◌, ℕ, suc, zero, Bool, true, false, List, [], ◌∷◌, Some, map, length, nat_eq, slice_get, refl, sym, ap, ◌∙◌}
-use Rattle.std.specs.List.{cons_option}
-use Rattle.std.specs.Option.{option_and_then}
-use Rattle.osm_elements.specs.Maps.{Rows}
-use Rattle.edit_groups.specs.Edits.{after}
-use Rattle.room_history.specs.Journals.{numbered}
-use Rattle.room_history.specs.Replays.{Recorded, Past, recorded_of, actions_of}
-use Rattle.room_history.specs.Headline.{AreAccepted}
+use Rattle.std.proofs.Common.{◌≡◌, ◌++◌, ◌||◌, ℕ, suc, zero, Bool, true, false, List, [], ◌∷◌, Some, map, length, nat_eq, slice_get, refl, sym, ap, ◌∙◌, option_and_then}
+use Rattle.room_history.specs.Prelude.{cons_option, Rows, after, numbered, Recorded, Past, recorded_of, actions_of, AreAccepted}
 use Rattle.room_history.proofs.Chains.{Work, touched, Accepts, Leads}
 use Rattle.room_history.proofs.Growing.{equal_numbers}
 use Rattle.room_history.proofs.RisingNumbers.{is_in}

@@ -1,27 +1,21 @@
 -- The answer to a call: the reply, and the journal after it. An accepted call appends one entry, and a refused call
 -- none. (The rules of a room are this project's.)
-use Rattle.std.specs.Prelude.{◌+◌, ◌++◌, ◌&&◌, ℕ, Bool, not, List, [], ◌∷◌, Option, Some, None, is_none, length, nat_eq, nat_le}
-use Rattle.std.specs.Bool.{then_some}
-use Rattle.std.specs.List.{position}
-use Rattle.std.specs.Option.{option_map}
-use Rattle.room_stacks.specs.declared.author.Author.{Author}
-use Rattle.room_history.specs.declared.call.Call.{Call}
-use Rattle.room_history.specs.declared.call.Request.{Request}
-use Rattle.room_history.specs.declared.call.Request.TheVariants as requests
+use Rattle.std.specs.Prelude.{◌+◌, ◌++◌, ◌&&◌, ℕ, Bool, not, List, [], ◌∷◌, Option, Some, None, is_none, length, nat_eq, nat_le, position, option_map}
+use Rattle.edit_groups.specs.Prelude.{then_some, Rows, refusal, first_that_holds, is_same_author}
+use Rattle.room_interface.specs.declared.author.Author.{Author}
+use Rattle.room_interface.specs.declared.call.Call.{Call}
+use Rattle.room_interface.specs.declared.call.Request.{Request}
 use Rattle.room_history.specs.declared.entry.Entry.{Entry}
 use Rattle.room_history.specs.declared.entry.EntryKind.{EntryKind}
 use Rattle.room_history.specs.declared.entry.EntryKind.TheVariants.{Do, Undo, Redo}
-use Rattle.room_history.specs.declared.reply.Reply.{Reply}
-use Rattle.room_history.specs.declared.reply.Reply.TheVariants.{Done, Undid, Redid, Repeat, Full, NothingToUndo, NothingToRedo, NoSuch, NotYours, NotStanding, Conflict, Refused}
+use Rattle.room_interface.specs.declared.reply.Reply.{Reply}
+use Rattle.room_interface.specs.declared.reply.Reply.TheVariants.{Done, Undid, Redid, Repeat, Full, NothingToUndo, NothingToRedo, NoSuch, NotYours, NotStanding, Conflict, Refused}
 use Rattle.osm_elements.specs.declared.name.Name.{Name}
-use Rattle.osm_elements.specs.Maps.{Rows}
-use Rattle.edit_groups.specs.declared.edit.Edit.{Edit as Action}
-use Rattle.edit_groups.specs.Edits.{refusal}
-use Rattle.edit_simple.specs.Checks.{first_that_holds}
-use Rattle.room_stacks.specs.SameAuthors.{is_same_author}
+use Rattle.room_interface.specs.declared.edit.Edit.{Edit as Action}
 use Rattle.room_history.specs.Blockers.{blocker}
 use Rattle.room_history.specs.Journals.{is_by, is_standing, numbered, last, undos, redos}
 use Rattle.room_history.specs.Replays.{Past, past, action_at}
+use Rattle.room_interface.specs.declared.call.Request.TheVariants as requests
 
 module _ {A : Type 0} where
   -- the entry is the author's and spent the id

@@ -1,8 +1,6 @@
 -- The number of changes of cells that a journal's entries made. (The count is this project's.)
-use Rattle.std.specs.Prelude.{ℕ, List}
-use Rattle.std.specs.List.{fold}
-use Rattle.osm_elements.specs.Maps.{Rows}
-use Rattle.osm_changes.specs.Stores.{counted}
+use Rattle.std.specs.Prelude.{ℕ, List, fold}
+use Rattle.edit_groups.specs.Prelude.{Rows, counted}
 use Rattle.room_history.specs.declared.entry.Entry.{Entry}
 use Rattle.room_history.specs.Replays.{Recorded, past}
 

@@ -1,6 +1,5 @@
 -- The faults of maps that a room cannot begin with.
-use Rattle.osm_elements.specs.Maps.{Rows}
-use Rattle.edit_simple.specs.Soundness.{IsFirstUnsound}
+use Rattle.edit_groups.specs.Prelude.{Rows, IsFirstUnsound}
 use Rattle.room_history.specs.declared.base.BaseFault.{BaseFault}
 use Rattle.room_history.specs.declared.base.BaseFault.TheVariants.{Unsound, Memory}
 

@@ -1,11 +1,10 @@
 -- Examples of the definitions, worked out by hand.
 use Rattle.std.specs.Prelude.{◌≡◌, ◌++◌, ℕ, [], ◌∷◌, Some, None, true, pos, negsuc, replicate}
-use Rattle.edit_actions.specs.declared.action.Action.TheVariants.{Create, Retag, Move, Nodes, Delete, Split, Unglue}
+use Rattle.edit_groups.specs.Prelude.{tags_at, rest_at, both_at, is_sound}
+use Rattle.room_interface.specs.declared.action.Action.TheVariants.{Create, Retag, Move, Nodes, Delete, Split, Unglue}
 use Rattle.osm_elements.specs.declared.element.Element.TheVariants.{Node, Way}
-use Rattle.osm_changes.specs.Cells.{tags_at, rest_at, both_at}
-use Rattle.edit_simple.specs.declared.refusal.Refusal.TheVariants.{Absent, Present, WrongKind, TooFew, TooMany, InUse, Nothing}
-use Rattle.room_history.specs.declared.reply.Reply.TheVariants.{Done, Undid, Redid, Repeat, Full, NothingToUndo, NothingToRedo, NoSuch, NotYours, NotStanding, Conflict}
-use Rattle.osm_changes.specs.Sound.{is_sound}
+use Rattle.room_interface.specs.declared.refusal.Refusal.TheVariants.{Absent, Present, WrongKind, TooFew, TooMany, InUse, Nothing}
+use Rattle.room_interface.specs.declared.reply.Reply.TheVariants.{Done, Undid, Redid, Repeat, Full, NothingToUndo, NothingToRedo, NoSuch, NotYours, NotStanding, Conflict}
 use Rattle.room_history.specs.Replays.{replay, standing_actions}
 use Rattle.room_history.specs.Answers.{answers}
 use Rattle.room_history.specs.Scenes.{n-1, n1, n2, n3, w1, w2, r1, r2, r3, anna, bob, carl, given, tagged, node_at, way_of, relation_of, does, does_all, undoes, redoes, refused, refused_in, replies, map_after, held_after, redos_left}

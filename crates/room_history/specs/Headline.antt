@@ -1,22 +1,14 @@
 -- The theorem: what is true of every journal that calls lead to from a sound base.
 use Rattle.std.specs.Prelude.{◌≡◌, ◌⊎◌, ◌↔◌, ◌+◌, ◌<◌, ◌≤◌, ◌++◌, ℕ, true, false, List, [], ◌∷◌, Option, Some, None, length, map, reverse, nat_le}
-use Rattle.std.specs.Ordering.{is_lt}
+use Rattle.edit_groups.specs.Prelude.{is_lt, name_cmp, is_same_author, Rows, users, is_sound, after, refusal, Shares}
 use Rattle.osm_elements.specs.declared.name.Name.{Name}
-use Rattle.osm_elements.specs.NameOrder.{name_cmp}
-use Rattle.room_stacks.specs.declared.author.Author.{Author}
-use Rattle.room_stacks.specs.SameAuthors.{is_same_author}
-use Rattle.room_history.specs.declared.call.Call.{Call}
-use Rattle.room_history.specs.declared.call.Request.TheVariants.{Undo, Redo}
+use Rattle.room_interface.specs.declared.author.Author.{Author}
+use Rattle.room_interface.specs.declared.call.Call.{Call}
+use Rattle.room_interface.specs.declared.call.Request.TheVariants.{Undo, Redo}
 use Rattle.room_history.specs.declared.entry.Entry.{Entry}
-use Rattle.room_history.specs.declared.reply.Reply.{Reply}
-use Rattle.room_history.specs.declared.reply.Reply.TheVariants.{Done, Undid, Redid, Conflict}
-use Rattle.osm_elements.specs.Maps.{Rows}
-use Rattle.osm_refs.specs.References.{users}
-use Rattle.osm_changes.specs.Sound.{is_sound}
-use Rattle.edit_groups.specs.declared.edit.Edit.{Edit as Action}
-use Rattle.edit_groups.specs.Edits.{after}
-use Rattle.edit_groups.specs.Edits.{refusal}
-use Rattle.edit_footprint.specs.Footprints.{Shares}
+use Rattle.room_interface.specs.declared.reply.Reply.{Reply}
+use Rattle.room_interface.specs.declared.reply.Reply.TheVariants.{Done, Undid, Redid, Conflict}
+use Rattle.room_interface.specs.declared.edit.Edit.{Edit as Action}
 use Rattle.room_history.specs.Blockers.{recorded_footprint}
 use Rattle.room_history.specs.Journals.{numbered, standing, is_standing, is_by, is_work, others, redos}
 use Rattle.room_history.specs.Replays.{Past, past, mapof, recorded_of, replay, actions_of, standing_actions}

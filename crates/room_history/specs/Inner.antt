@@ -3,7 +3,6 @@ pub mod Deeds
 pub mod Holders
 pub mod Kept
 pub mod Origins
-pub mod Refusing
 pub mod Rooms
 pub mod Telling
 pub mod Undoing

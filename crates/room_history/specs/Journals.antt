@@ -1,11 +1,10 @@
 -- Journals: entries numbered from 1. Names say that an active entry stands. (The rules of a room are this project's.)
-use Rattle.std.specs.Prelude.{◌&&◌, ◌+◌, ◌-◌, ◌++◌, ℕ, suc, zero, Bool, true, false, not, List, [], ◌∷◌, Option, Some, None, length, reverse, take, nat_eq, slice_get, if◌then◌else◌}
-use Rattle.std.specs.List.{filter, fold, list_any}
-use Rattle.room_stacks.specs.declared.author.Author.{Author}
+use Rattle.std.specs.Prelude.{◌&&◌, ◌+◌, ◌-◌, ◌++◌, ℕ, suc, zero, Bool, true, false, not, List, [], ◌∷◌, Option, Some, None, length, reverse, take, nat_eq, slice_get, if◌then◌else◌, filter, fold}
+use Rattle.room_stacks.specs.Prelude.{list_any, is_same_author}
+use Rattle.room_interface.specs.declared.author.Author.{Author}
 use Rattle.room_history.specs.declared.entry.Entry.{Entry}
 use Rattle.room_history.specs.declared.entry.EntryKind.{EntryKind}
 use Rattle.room_history.specs.declared.entry.EntryKind.TheVariants.{Do, Undo, Redo}
-use Rattle.room_stacks.specs.SameAuthors.{is_same_author}
 
 -- the item with a number, counted from 1
 abbrev pub numbered : {X : Type 0} → List X → ℕ → Option X

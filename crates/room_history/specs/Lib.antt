@@ -10,6 +10,7 @@ pub mod Inner
 pub mod Journals
 pub mod LegalJournals
 pub mod News
+pub mod Prelude
 pub mod Replays
 pub mod Rooms
 pub mod Runs

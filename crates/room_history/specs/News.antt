@@ -1,15 +1,12 @@
 -- The news of an entry: its number, its author, and the names that it changed, with their rows in the map after it. A
 -- map can be updated by news. (The news of a room are this project's.)
-use Rattle.std.specs.Prelude.{◌+◌, ◌++◌, List, [], ◌∷◌, ℕ, drop, length, map, take}
-use Rattle.std.specs.List.{fold}
+use Rattle.std.specs.Prelude.{◌+◌, ◌++◌, List, [], ◌∷◌, ℕ, drop, length, map, take, fold}
+use Rattle.edit_groups.specs.Prelude.{Rows, row_at, changed_names, with_row}
 use Rattle.osm_elements.specs.declared.name.Name.{Name}
-use Rattle.osm_elements.specs.Maps.{Rows}
-use Rattle.osm_elements.specs.Rows.{row_at}
-use Rattle.osm_changes.specs.Changes.{changed_names, with_row}
 use Rattle.room_history.specs.declared.entry.Entry.{Entry}
 use Rattle.room_history.specs.declared.entry.EntryKind.{EntryKind}
-use Rattle.room_history.specs.declared.news.News.{News}
-use Rattle.room_history.specs.declared.news.NewsRow.{NewsRow}
+use Rattle.room_interface.specs.declared.news.News.{News}
+use Rattle.room_interface.specs.declared.news.NewsRow.{NewsRow}
 use Rattle.room_history.specs.Replays.{Past, mapof, past, recorded_next}
 
 module _ {A : Type 0} where

@@ -1,19 +1,14 @@
 -- The map of a journal, from the base by each entry's changes, and the replay of a list of actions. (The rules of a
 -- room are this project's.)
-use Rattle.std.specs.Prelude.{◌++◌, ℕ, List, [], ◌∷◌, Option, Some, None, is_none, if◌then◌else◌}
-use Rattle.std.specs.List.{fold, filter_map}
-use Rattle.std.specs.Option.{option_and_then}
-use Rattle.edit_groups.specs.declared.edit.Edit.{Edit as Action}
+use Rattle.std.specs.Prelude.{◌++◌, ℕ, List, [], ◌∷◌, Option, Some, None, is_none, if◌then◌else◌, fold, filter_map, option_and_then}
+use Rattle.edit_groups.specs.Prelude.{Rows, after, changes, refusal, footprint, inverse}
+use Rattle.osm_changes.specs.Changes.{changed}
+use Rattle.room_interface.specs.declared.edit.Edit.{Edit as Action}
 use Rattle.room_history.specs.declared.entry.Entry.{Entry}
 use Rattle.room_history.specs.declared.entry.EntryKind.{EntryKind}
 use Rattle.room_history.specs.declared.entry.EntryKind.TheVariants.{Do, Undo, Redo}
-use Rattle.osm_elements.specs.Maps.{Rows}
-use Rattle.edit_groups.specs.Edits.{after, changes}
-use Rattle.edit_groups.specs.Edits.{refusal}
 use Rattle.osm_changes.specs.declared.cell.Cell.{Cell}
 use Rattle.osm_changes.specs.declared.change.Change.{Change}
-use Rattle.osm_changes.specs.Changes.{inverse, changed}
-use Rattle.edit_groups.specs.Edits.{footprint}
 use Rattle.room_history.specs.Journals.{numbered, standing}
 
 -- the record of an entry: its action, if it did or redid one, its changes, and its action's footprint

@@ -1,10 +1,10 @@
 -- Runs of calls, and what is true of the room after each call.
 use Rattle.std.specs.Prelude.{◌≡◌, ◌⊎◌, ℕ, List, [], ◌∷◌}
-use Rattle.room_history.specs.declared.call.Call.{Call}
-use Rattle.room_history.specs.declared.entry.Entry.{Entry}
-use Rattle.room_history.specs.declared.reply.Reply.{Reply}
-use Rattle.room_history.specs.declared.reply.Reply.TheVariants.{Memory}
 use Rattle.osm_elements.specs.Maps.{Rows}
+use Rattle.room_interface.specs.declared.call.Call.{Call}
+use Rattle.room_history.specs.declared.entry.Entry.{Entry}
+use Rattle.room_interface.specs.declared.reply.Reply.{Reply}
+use Rattle.room_interface.specs.declared.reply.Reply.TheVariants.{Memory}
 use Rattle.room_history.specs.Answers.{answer}
 use Rattle.room_history.specs.Headline.{Holds}
 use Rattle.room_history.specs.Rooms.{RoomState}

@@ -1,27 +1,23 @@
 -- People, names, elements and calls of the worked examples.
 use Rattle.std.specs.Prelude.{ℕ, ⊤, List, [], ◌∷◌, map, Option, Some, ℤ, pos, negsuc}
+use Rattle.room_stacks.specs.Prelude.{named, Pairs, GivenTags, alone, at_position, Rows}
 use Rattle.osm_elements.specs.declared.name.Name.{Name}
-use Rattle.osm_elements.specs.declared.name.Kind.TheVariants as kinds
 use Rattle.osm_elements.specs.declared.element.Element.{Element}
 use Rattle.osm_elements.specs.declared.element.Element.TheVariants.{Node, Way, Relation}
-use Rattle.osm_elements.specs.NameTexts.{named}
-use Rattle.osm_elements.specs.TagRows.{Pairs}
-use Rattle.edit_simple.specs.Tagging.{GivenTags}
-use Rattle.edit_simple.specs.declared.refusal.Refusal.{Refusal}
-use Rattle.edit_actions.specs.declared.action.Action.{Action}
-use Rattle.edit_groups.specs.declared.edit.Edit.TheVariants.{One, Group}
-use Rattle.edit_groups.specs.Groups.{alone, at_position}
+use Rattle.room_interface.specs.declared.refusal.Refusal.{Refusal}
+use Rattle.room_interface.specs.declared.action.Action.{Action}
+use Rattle.room_interface.specs.declared.edit.Edit.TheVariants.{One, Group}
 use Rattle.room_history.specs.Holdings.{Holdings}
-use Rattle.room_stacks.specs.declared.author.Author.{Author}
-use Rattle.room_history.specs.declared.call.Call.{Call}
-use Rattle.room_history.specs.declared.call.Request.TheVariants.{Do, Undo, Redo}
-use Rattle.room_history.specs.declared.reply.Reply.{Reply}
-use Rattle.room_history.specs.declared.reply.Reply.TheVariants.{Refused}
-use Rattle.osm_elements.specs.Maps.{Rows}
+use Rattle.room_interface.specs.declared.author.Author.{Author}
+use Rattle.room_interface.specs.declared.call.Call.{Call}
+use Rattle.room_interface.specs.declared.call.Request.TheVariants.{Do, Undo, Redo}
+use Rattle.room_interface.specs.declared.reply.Reply.{Reply}
+use Rattle.room_interface.specs.declared.reply.Reply.TheVariants.{Refused}
 use Rattle.room_history.specs.Answers.{answers}
 use Rattle.room_history.specs.Blockers.{held}
 use Rattle.room_history.specs.Journals.{redos}
 use Rattle.room_history.specs.Replays.{past, mapof}
+use Rattle.osm_elements.specs.declared.name.Kind.TheVariants as kinds
 
 -- no definition looks at the allocator
 abbrev pub Any : Type 0

@@ -1,11 +1,11 @@
 -- A room as the value that a desk passes from turn to turn: its list is its journal, over its base map and its limit.
 use Rattle.std.specs.Prelude.{◌≡◌, true, List}
-use Rattle.room_history.specs.declared.ask.RoomCall.{RoomCall}
-use Rattle.room_history.specs.declared.ask.RoomReply.{RoomReply}
+use Rattle.room_interface.specs.MadeCalls.{is_made_room_call}
+use Rattle.room_interface.specs.declared.ask.RoomCall.{RoomCall}
+use Rattle.room_interface.specs.declared.ask.RoomReply.{RoomReply}
 use Rattle.room_history.specs.declared.entry.Entry.{Entry}
 use Rattle.room_history.specs.declared.turned.Opening.{Opening}
 use Rattle.room_history.specs.Asking.{IsAnswered}
-use Rattle.room_history.specs.LegalJournals.{is_made_room_call}
 
 module _ {A : Type 0} where
   -- the values of the call or query are made, and the room with the journal gives this reply and the journal after it

@@ -2,9 +2,9 @@
 ghost use Rattle.std.specs.Prelude.{◌≡◌};
 ghost use Rattle.room_history.specs.declared.base.BaseFault.TheVariants.{Memory as OutOfMemory};
 
-use edit_simple::refusal::Refusal;
 use osm_elements::Memory;
 use osm_elements::name::Name;
+use room_interface::refusal::Refusal;
 use std::alloc::Allocator;
 
 /// The reason why a room cannot begin with a map.

@@ -1,10 +1,7 @@
 //! Changes of a room's parts for an entry.
 ghost use Rattle.std.specs.Prelude.{◌≡◌, ◌<◌, [], ◌∷◌, ◌++◌, Some, None, true, OnOk, OnErr, vec_len, vec_capacity};
-ghost use Rattle.osm_changes.specs.Changes.{changed, changed_rows, AreFrom};
-ghost use Rattle.osm_changes.specs.Sound.{is_sound};
-ghost use Rattle.osm_changes.specs.Stores.{applied_to};
-ghost use Rattle.osm_changes.specs.Cells.{IsRising};
-ghost use Rattle.edit_footprint.specs.Holding.{IsNext, standing};
+ghost use Rattle.edit_groups.specs.Prelude.{changed_rows, AreFrom, is_sound, applied_to, IsNext, standing};
+ghost use Rattle.osm_changes.specs.Prelude.{changed, IsRising};
 ghost use Rattle.room_stacks.specs.Stacks.{IsAboveAll, spent};
 ghost use Rattle.room_history.specs.Inner.Deeds.{deed_by, MayNote};
 
@@ -14,7 +11,7 @@ use edit_footprint::footprint::Footprint;
 use edit_footprint::holders::Holders;
 use osm_changes::store::Store;
 use osm_elements::Memory;
-use room_stacks::author::Author;
+use room_interface::author::Author;
 use room_stacks::stacks::Stacks;
 use std::alloc::Allocator;
 

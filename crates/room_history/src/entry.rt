@@ -1,6 +1,6 @@
 //! Entries of a room's journal.
-use edit_groups::edit::Edit;
-use room_stacks::author::Author;
+use room_interface::author::Author;
+use room_interface::edit::Edit;
 use std::alloc::Allocator;
 
 /// What an entry did.

@@ -1,11 +1,10 @@
 //! Look-ups in a journal's entries.
-ghost use Rattle.std.specs.Prelude.{◌≡◌};
-ghost use Rattle.std.specs.Option.{option_copied, option_and_then};
+ghost use Rattle.std.specs.Prelude.{◌≡◌, option_copied, option_and_then};
 ghost use Rattle.room_history.specs.Journals.{numbered};
 ghost use Rattle.room_history.specs.Inner.Origins.{done_by, origin_next, own_action};
 
 use crate::entry::{Entry, EntryKind};
-use edit_groups::edit::Edit;
+use room_interface::edit::Edit;
 use std::alloc::Allocator;
 
 /// Returns the item with a number, counted from 1.

@@ -1,18 +1,18 @@
 //! What a room keeps of the changes of an entry.
-ghost use Rattle.std.specs.Prelude.{◌≡◌, Some, IfOk, map};
-ghost use Rattle.std.specs.Option.{is_some, option_copied};
+ghost use Rattle.std.specs.Prelude.{◌≡◌, Some, IfOk, map, option_copied, is_some};
 ghost use Rattle.osm_changes.specs.Changes.{changes_of, AreFrom};
 ghost use Rattle.room_history.specs.Inner.Telling.{footprint_by, is_group, single_effect, told_row};
 
-use crate::news::{NewsRows, told_rows};
+use crate::news::told_rows;
 use edit_footprint::footprint::Footprint;
 use edit_footprint::touching::footprint;
-use edit_groups::edit::Edit;
 use osm_changes::changed_row::{ChangedRow, ChangedRows};
 use osm_changes::changes::Changes;
 use osm_changes::laws::changes_are_those_of_rows;
 use osm_changes::store::Store;
 use osm_elements::Memory;
+use room_interface::edit::Edit;
+use room_interface::news::NewsRows;
 use std::alloc::Allocator;
 use std::array;
 use std::marker::Model;

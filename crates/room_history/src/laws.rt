@@ -1,26 +1,20 @@
 //! Laws of the definitions. Each law is the contract of an empty function.
 ghost use Rattle.std.specs.Prelude.{◌≡◌, ◌++◌, ℕ, true, false, List, [], ◌∷◌, All, take};
-ghost use Rattle.edit_simple.specs.declared.refusal.Refusal.{Refusal};
+ghost use Rattle.edit_groups.specs.Prelude.{AreInOrder, IsFirstUnsound, are_of_kinds, Rows, half_at, cell_of, AreChanges, AreFrom, counted, is_sound};
+ghost use Rattle.turn_desk.specs.History.{History, entries, IsLegal};
+ghost use Rattle.room_interface.specs.declared.refusal.Refusal.{Refusal};
 ghost use Rattle.osm_elements.specs.declared.name.Name.{Name};
-ghost use Rattle.osm_elements.specs.Rows.{AreInOrder};
 ghost use Rattle.room_history.specs.declared.base.BaseFault.{BaseFault};
 ghost use Rattle.room_history.specs.declared.base.BaseFault.TheVariants.{Memory as OutOfMemory};
-ghost use Rattle.edit_simple.specs.Soundness.{IsFirstUnsound, are_of_kinds};
 ghost use Rattle.room_history.specs.Bases.{IsBaseFault};
 ghost use Rattle.room_history.specs.declared.entry.Entry.{Entry};
 ghost use Rattle.room_history.specs.declared.turned.Opening.{Opening};
-ghost use Rattle.osm_changes.specs.Cells.{half_at};
-ghost use Rattle.osm_changes.specs.Changes.{cell_of, AreChanges, AreFrom};
 ghost use Rattle.osm_changes.specs.declared.change.Change.{Change};
-ghost use Rattle.osm_changes.specs.Stores.{counted};
 ghost use Rattle.room_history.specs.Applied.{applied};
 ghost use Rattle.room_history.specs.Headline.{Holds};
 ghost use Rattle.room_history.specs.Replays.{past, mapof, recorded_next};
 ghost use Rattle.room_history.specs.LegalJournals.{IsJournal};
 ghost use Rattle.room_history.specs.Turns.{IsTurn};
-ghost use Rattle.turn_desk.specs.History.{History, entries, IsLegal};
-ghost use Rattle.osm_elements.specs.Maps.{Rows};
-ghost use Rattle.osm_changes.specs.Sound.{is_sound};
 ghost use Rattle.room_history.specs.Examples.{first_run, range_ends, limit_one, limit_zero, strangers, in_use, taken_back_way, refusals_in_turn, relations_in_turn, redo_at_once, redo_refused, redo_order, redo_again, unglued_node, blocker_goes_by_parts, both_moved, two_blockers_by_parts, split_over_retag, drawn_as_one};
 
 use osm_changes::laws::{an_inverse_restores, differences_are_changes};

@@ -11,17 +11,13 @@
 //! allocation failed, and the room is unchanged.
 #![tactic(auto)]
 
-pub mod ask;
 pub mod base;
-pub mod call;
 mod effects;
 pub mod entry;
 mod journal;
 mod kept;
 pub mod laws;
-pub mod news;
-pub mod numbers;
-pub mod reply;
+mod news;
 pub mod room;
 pub mod run;
 mod standing;

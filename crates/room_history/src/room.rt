@@ -1,23 +1,16 @@
 //! The room.
-ghost use Rattle.std.specs.Prelude.{◌≡◌, ◌⊎◌, [], Some, None, Ok, Err, true, length, IfOk, IfErr, OnOk};
-ghost use Rattle.std.specs.Option.{option_copied, option_map};
-ghost use Rattle.osm_changes.specs.Changes.{changed, inverse, AreFrom};
-ghost use Rattle.osm_elements.specs.Maps.{Rows};
-ghost use Rattle.osm_elements.specs.Rows.{AreInOrder};
-ghost use Rattle.osm_changes.specs.Sound.{is_sound};
+ghost use Rattle.std.specs.Prelude.{◌≡◌, ◌⊎◌, [], Some, None, Ok, Err, true, length, IfOk, IfErr, OnOk, option_copied, option_map};
+ghost use Rattle.osm_changes.specs.Prelude.{changed, inverse, AreFrom, Rows, AreInOrder, is_sound};
 ghost use Rattle.room_history.specs.Journals.{numbered};
 
 use crate::base::BaseFault;
-use crate::call::{Call, Request};
 use crate::entry::{Entry, EntryKind};
 use crate::journal::{action_of, numbered};
 use crate::kept::{Kept, footprint_by};
-use crate::news::{NewsList, news_past};
-use crate::reply::Reply;
-use crate::undo::{Undoable, asked_for};
+use crate::news::news_past;
+use crate::undo::{EntryToUndo, asked_for};
 use edit_footprint::footprint::Footprint;
 use edit_footprint::holders::Holders;
-use edit_groups::edit::Edit;
 use edit_groups::plan::plan_edit;
 use edit_simple::soundness::first_unsound;
 use osm_changes::changes::Changes;
@@ -26,7 +19,11 @@ use osm_elements::Memory;
 use osm_elements::element::Element;
 use osm_elements::map::{OsmMap, Rows};
 use osm_elements::name::Name;
-use room_stacks::author::Author;
+use room_interface::author::Author;
+use room_interface::call::{Call, Request};
+use room_interface::edit::Edit;
+use room_interface::news::NewsList;
+use room_interface::reply::Reply;
 use room_stacks::stacks::Stacks;
 use std::alloc::Allocator;
 use std::marker::Model;
@@ -75,9 +72,10 @@ impl<A: Allocator> Model for Room<A> {
 
 impl<A: Allocator + Copy> Room<A> {
     ghost use Rattle.room_history.specs.Answers.{asked, undo_refusal, redo_refusal};
-    ghost use Rattle.room_history.specs.declared.call.Request.TheVariants as requests;
-    ghost use Rattle.room_history.specs.declared.reply.Reply.TheVariants as replies;
-    ghost use Rattle.edit_groups.specs.Edits.{changes as changes_of, footprint as footprint_of, is_made_edit, refusal};
+    ghost use Rattle.room_interface.specs.declared.call.Request.TheVariants as requests;
+    ghost use Rattle.room_interface.specs.declared.reply.Reply.TheVariants as replies;
+    ghost use Rattle.edit_groups.specs.Edits.{changes as changes_of, footprint as footprint_of, refusal};
+    ghost use Rattle.room_interface.specs.MadeCalls.{is_made_edit};
     ghost use Rattle.room_history.specs.declared.entry.EntryKind.TheVariants.{Undo, Redo};
     ghost use Rattle.room_history.specs.Blockers.{recorded_footprint};
     ghost use Rattle.room_history.specs.Inner.Undoing.{asked_or};
@@ -88,7 +86,7 @@ impl<A: Allocator + Copy> Room<A> {
     ghost use Rattle.room_history.specs.Inner.Rooms.{MayAppend};
     ghost use Rattle.room_history.specs.News.{news};
     ghost use Rattle.room_history.specs.Runs.{IsStep};
-    ghost use Rattle.edit_simple.specs.Soundness.{are_of_kinds};
+    ghost use Rattle.osm_elements.specs.Maps.{are_of_kinds};
     ghost use Rattle.room_history.specs.Bases.{IsBaseFault};
     ghost use Rattle.osm_elements.specs.Rows.{row_at};
 
@@ -250,7 +248,7 @@ impl<A: Allocator + Copy> Room<A> {
 
     // Returns what an undo takes back, if the entry is active, is the author's own, and is not blocked by a later
     // active entry. Otherwise returns the reply that refuses the undo.
-    fn undoable(&self, author: &Author, number: Option<u64>) -> Result<Undoable<A>, Reply<A>>
+    fn undoable(&self, author: &Author, number: Option<u64>) -> Result<EntryToUndo<A>, Reply<A>>
         ensures found { IfOk result
             (λ u. Ok u.of ≡ asked_or (undo_refusal (past self.now.base self.now.journal) self.now.journal author.now)
             (asked self.now.journal author.now number)) }
@@ -267,7 +265,7 @@ impl<A: Allocator + Copy> Room<A> {
         match self.worked_out(of) {
             Ok((changes, footprint)) => match self.holders.first_after(&footprint, of) {
                 Some((blocker, shared)) => Err(Reply::Conflict { blocker, shared }),
-                None => Ok(Undoable {
+                None => Ok(EntryToUndo {
                     of,
                     changes,
                     footprint,

@@ -1,16 +1,15 @@
 //! Runs of calls.
 ghost use Rattle.std.specs.Prelude.{◌≡◌, [], IfOk, IfErr, true};
-ghost use Rattle.osm_elements.specs.Rows.{AreInOrder};
-ghost use Rattle.edit_simple.specs.Soundness.{are_of_kinds};
+ghost use Rattle.room_stacks.specs.Prelude.{AreInOrder, are_of_kinds};
 ghost use Rattle.room_history.specs.Bases.{IsBaseFault};
 ghost use Rattle.room_history.specs.Runs.{Answers, IsRun};
 
 use crate::base::BaseFault;
-use crate::call::{Call, Calls};
-use crate::reply::{Replies, Reply};
 use crate::room::Room;
 use osm_elements::Memory;
 use osm_elements::map::Rows;
+use room_interface::call::{Call, Calls};
+use room_interface::reply::{Replies, Reply};
 use std::alloc::Allocator;
 
 /// Opens a room with the empty map, whose journal takes at most `limit` entries, and takes the calls in order. Returns

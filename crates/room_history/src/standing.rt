@@ -1,7 +1,6 @@
 //! A search among the numbers of active entries.
 ghost use Rattle.std.specs.Prelude.{◌≡◌, nat_eq};
-ghost use Rattle.std.specs.List.{list_any};
-ghost use Rattle.std.specs.List.Sorted.{IsNonDecreasing};
+ghost use Rattle.room_stacks.specs.Prelude.{list_any, IsNonDecreasing};
 
 /// Whether a number is among rising numbers, in time logarithmic in their count.
 pub fn contains(standing: &[u64], seq: u64) -> bool

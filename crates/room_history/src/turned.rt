@@ -1,13 +1,13 @@
 //! Rooms as values that a desk passes from turn to turn.
 ghost use Rattle.std.specs.Prelude.{◌≡◌, true};
-ghost use Rattle.room_history.specs.LegalJournals.{is_made_room_call};
+ghost use Rattle.room_interface.specs.MadeCalls.{is_made_room_call};
 
-use crate::ask::{RoomCall, RoomReply};
-use crate::call::{Call, Request};
 use crate::entry::Entry;
 use crate::room::Room;
-use edit_groups::edit::keeps_values;
 use osm_elements::map::Rows;
+use room_interface::ask::{RoomCall, RoomReply};
+use room_interface::call::{Call, Request};
+use room_interface::edit::keeps_values;
 use std::alloc::Allocator;
 use turn_desk::Turned;
 

@@ -6,17 +6,17 @@ ghost use Rattle.room_history.specs.Inner.Undoing.{asked_or, standing_refusal, u
 
 use crate::entry::Entry;
 use crate::journal::numbered;
-use crate::reply::Reply;
 use crate::standing::contains;
 use edit_footprint::footprint::Footprint;
 use osm_changes::changes::Changes;
-use room_stacks::author::Author;
+use room_interface::author::Author;
+use room_interface::reply::Reply;
 use std::alloc::Allocator;
 
 /// An entry to undo, with its changes and its footprint.
 #[derive(Drop)]
 #[derive_where(Debug)]
-pub struct Undoable<A: Allocator> {
+pub struct EntryToUndo<A: Allocator> {
     /// The number of the entry.
     pub of: u64,
     /// Its changes.

@@ -1,37 +1,10 @@
 -- A client that reads a room's texts in order has the room's map.
-use Rattle.std.proofs.Common.{◌≡◌, ◌≢◌, ◌&&◌, ◌+◌, ◌≤◌, ◌++◌, ℕ, zero, suc, true, List, [], ◌∷◌, Option, Some, None, All, IfSome, is_some, drop, length, length-append, map, take, refl, sym, ap, ap₂, subst, ◌∙◌, append_assoc, arith}
-use Rattle.std.specs.Option.{option_and_then}
-use Rattle.std.specs.Result.{result_ok}
-use Rattle.std.specs.FinMap.Entries.{below_all, is_sorted}
-use Rattle.std.specs.declared.alloc.Global.{Global}
+use Rattle.std.proofs.Common.{◌≡◌, ◌≢◌, ◌&&◌, ◌+◌, ◌≤◌, ◌++◌, ℕ, zero, suc, true, List, [], ◌∷◌, Option, Some, None, All, IfSome, is_some, drop, length, map, take, refl, length-append, sym, ap, ap₂, subst, ◌∙◌, append_assoc, arith, option_and_then}
 use Rattle.std.proofs.lemmas.List.{take-append-drop}
 use Rattle.std.proofs.lemmas.List.Elements.{All-cons, All-nil}
 use Rattle.std.proofs.Math.Seq.{take-append_seam}
-use Rattle.osm_elements.specs.declared.name.Name.{Name}
-use Rattle.osm_elements.specs.declared.element.Element.{Element}
-use Rattle.osm_elements.specs.Maps.{Rows, is_same, is_among, names_of}
-use Rattle.osm_elements.specs.NameOrder.{name_cmp}
+use Rattle.room_mirror.specs.Prelude.{result_ok, below_all, is_sorted, Global, Name, Element, Rows, is_same, is_among, names_of, are_rising, name_cmp, Change, Half, half_at, cell_of, changed_names, there_by_half, is_true, sound_in_order, is_sound, or_right, is_among_own, Entry, News, NewsRow, Holds, news, news_behind, news_of, news_row, mapof, past, recorded_next, AreNews, IsNewsRow, IsUnder, IsWelcome, HasId, IsNumber, MirrorFault, IsBrought, IsReadBack, SpellNews, followed, taken, welcome_to, MirrorState, fault, taken_in_turn, taken_or, with_news}
 use Rattle.osm_elements.specs.Rows.{row_at}
-use Rattle.osm_changes.specs.declared.change.Change.{Change}
-use Rattle.osm_changes.specs.declared.half.Half.{Half}
-use Rattle.osm_changes.specs.Cells.{half_at}
-use Rattle.osm_changes.specs.Changes.{are_rising, cell_of, changed_names}
-use Rattle.osm_changes.specs.Facts.Halves.{there_by_half}
-use Rattle.osm_changes.specs.Facts.SoundRows.{is_true, sound_in_order}
-use Rattle.osm_changes.specs.Sound.{is_sound}
-use Rattle.edit_simple.specs.Facts.Lists.{or_right, is_among_own}
-use Rattle.room_history.specs.declared.entry.Entry.{Entry}
-use Rattle.room_history.specs.declared.news.News.{News}
-use Rattle.room_history.specs.declared.news.NewsRow.{NewsRow}
-use Rattle.room_history.specs.Headline.{Holds}
-use Rattle.room_history.specs.News.{news, news_behind, news_of, news_row}
-use Rattle.room_history.specs.Replays.{mapof, past, recorded_next}
-use Rattle.room_wire.specs.NewsBack.{AreNews, IsNewsRow, IsUnder, IsWelcome}
-use Rattle.room_wire.specs.ReadBack.{HasId}
-use Rattle.room_wire.specs.WellFormed.{IsNumber}
-use Rattle.room_mirror.specs.declared.fault.MirrorFault.{MirrorFault}
-use Rattle.room_mirror.specs.Clients.{IsBrought, IsReadBack, SpellNews, followed, taken, welcome_to}
-use Rattle.room_mirror.specs.Mirrors.{MirrorState, fault, taken_in_turn, taken_or, with_news}
 use Rattle.room_mirror.proofs.Following.{IsStep, AreSteps, LeadTo, StartFrom, names_rise, of_changed_names}
 use Rattle.room_mirror.proofs.NamesKept.{HaveIds, ids_of_base, ids_of_map}
 use Rattle.room_mirror.proofs.WholeRows.{map_rows, row_under}

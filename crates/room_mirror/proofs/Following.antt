@@ -1,37 +1,13 @@
 -- A mirror that takes the news of a room in order.
-use Rattle.std.proofs.Common.{◌≡◌, ◌≢◌, ◌+◌, ◌-◌, ◌≤◌, ◌++◌, ℕ, zero, suc, Bool, true, false, not, ◌||◌, List, [], ◌∷◌, None, Ok, All, length, drop, take, map, nat_eq, refl, sym, ap, subst, ◌∙◌, append_assoc, append-nil, length-append, length-drop, arith}
-use Rattle.std.specs.Bool.{then_some}
-use Rattle.std.specs.List.{fold, list_all}
+use Rattle.std.proofs.Common.{◌≡◌, ◌≢◌, ◌+◌, ◌-◌, ◌≤◌, ◌++◌, ℕ, zero, suc, Bool, true, false, not, ◌||◌, List, [], ◌∷◌, None, Ok, All, length, drop, take, map, nat_eq, refl, sym, ap, subst, ◌∙◌, append_assoc, append-nil, length-append, length-drop, arith, fold}
 use Rattle.std.proofs.lemmas.Bool.Decides.{nat_tests}
 use Rattle.std.proofs.lemmas.List.{length-take-le, take-append-drop}
 use Rattle.std.proofs.lemmas.List.Elements.{All-cons, All-nil}
 use Rattle.std.proofs.lemmas.List.Sums.{fold-append}
 use Rattle.std.proofs.Math.Seq.{take-add}
-use Rattle.osm_elements.specs.declared.name.Name.{Name}
-use Rattle.osm_elements.specs.Maps.{Rows, is_same, is_among}
+use Rattle.room_mirror.specs.Prelude.{then_some, list_all, Name, Rows, is_same, is_among, are_rising, is_among-name_set, same_names, both_true, is_true, IsRising-name_set, Change, half_at, AreChanges, AreFrom, cell_of, changed_names, row_after, with_row, half, is_same_row, is_sound, row_at-changed, equal_row, first_that_holds, or_right, is_among_own, Entry, News, IsJournal, news_row, news_of, news_behind, news, mirrored, Past, past, past_after, mapof, recorded_next, Gap, Mismatch, due_after, told_names, tells_another, fits, fault, mirror_of, taken_or, taken_in_turn}
+use Rattle.osm_changes.specs.Changes.{changed}
 use Rattle.osm_elements.specs.Rows.{row_at}
-use Rattle.osm_elements.specs.Facts.Among.{is_among-name_set}
-use Rattle.osm_elements.specs.Facts.Rows.{same_names}
-use Rattle.osm_elements.specs.Facts.Tests.{both_true}
-use Rattle.osm_refs.specs.Facts.RisingNames.{IsRising-name_set}
-use Rattle.osm_changes.specs.declared.change.Change.{Change}
-use Rattle.osm_changes.specs.Cells.{half_at}
-use Rattle.osm_changes.specs.Changes.{AreChanges, AreFrom, are_rising, cell_of, changed, changed_names, row_after, with_row}
-use Rattle.osm_changes.specs.Halves.{half}
-use Rattle.osm_changes.specs.SameRows.{is_same_row}
-use Rattle.osm_changes.specs.Sound.{is_sound}
-use Rattle.osm_changes.specs.Facts.Changing.{row_at-changed}
-use Rattle.osm_changes.specs.Facts.SameElements.{told_same_row}
-use Rattle.osm_changes.specs.Facts.SoundRows.{is_true}
-use Rattle.edit_simple.specs.Checks.{first_that_holds}
-use Rattle.edit_simple.specs.Facts.Lists.{or_right, is_among_own}
-use Rattle.room_history.specs.declared.entry.Entry.{Entry}
-use Rattle.room_history.specs.declared.news.News.{News}
-use Rattle.room_history.specs.LegalJournals.{IsJournal}
-use Rattle.room_history.specs.News.{news_row, news_of, news_behind, news, mirrored}
-use Rattle.room_history.specs.Replays.{Past, past, past_after, mapof, recorded_next}
-use Rattle.room_mirror.specs.declared.fault.MirrorFault.TheVariants.{Gap, Mismatch}
-use Rattle.room_mirror.specs.Mirrors.{due_after, told_names, tells_another, fits, fault, mirror_of, taken_or, taken_in_turn}
 
 same_number : (n : ℕ) → nat_eq n n ≡ true
 same_number n = grind (arith, nat_tests)
@@ -81,7 +57,7 @@ module _ {A : Type 0} where
   another m n x differ = by (is_same_row (row_at n x) (row_at m x)) refl
     where
       by : (b : Bool) → is_same_row (row_at n x) (row_at m x) ≡ b → not b ≡ true
-      by true e = absurd (differ (told_same_row (row_at n x) (row_at m x) e))
+      by true e = absurd (differ (equal_row (row_at n x) (row_at m x) e))
       by false e = refl
 
   others : (m n : Rows A) (names : List Name) → ((x : Name) → is_among names x ≡ true → row_at n x ≢ row_at m x) → list_all (tells_another m) (map (news_row n) names) ≡ true

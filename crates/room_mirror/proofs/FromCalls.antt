@@ -1,30 +1,11 @@
 -- What types keep, from their items; and the entries of calls.
-use Rattle.std.proofs.Common.{◌≡◌, ◌+◌, ◌<◌, ◌⊎◌, ℕ, suc, inl, inr, List, [], ◌∷◌, Option, Some, None, All, IfSome, get_or, length, map, slice_get, take, true, option_map, ◌≤◌, sym, ap, subst, ◌∙◌, arith}
-use Rattle.std.specs.declared.alloc.Global.{Global}
+use Rattle.std.proofs.Common.{◌≡◌, ◌+◌, ◌<◌, ◌⊎◌, ℕ, suc, List, [], ◌∷◌, Option, Some, None, All, IfSome, length, map, slice_get, take, true, ◌≤◌, inl, inr, get_or, sym, ap, subst, ◌∙◌, arith, option_map}
 use Rattle.std.proofs.lemmas.List.Elements.{All-cons, All-more, All-nil, All-push}
 use Rattle.std.proofs.lemmas.Option.{slice_get_cases}
-use Rattle.osm_elements.specs.declared.map.Row.{Row}
-use Rattle.osm_elements.specs.declared.name.Name.{Name}
-use Rattle.osm_elements.specs.Maps.{Rows, is_among, is_same, names_of}
-use Rattle.osm_elements.specs.Facts.Among.{is_among-names_of}
-use Rattle.osm_elements.specs.RowPairs.{row_pair}
-use Rattle.edit_simple.specs.Facts.Lists.{or_right, is_among_own}
-use Rattle.edit_actions.specs.declared.action.Action.{Action}
-use Rattle.room_stacks.specs.declared.author.Author.{Author}
-use Rattle.room_history.specs.declared.call.Call.{Call}
-use Rattle.room_history.specs.declared.call.Request.{Request}
-use Rattle.room_history.specs.declared.call.Request.TheVariants as requests
-use Rattle.room_history.specs.declared.entry.Entry.{Entry}
-use Rattle.room_history.specs.declared.entry.EntryKind.{EntryKind}
-use Rattle.room_history.specs.declared.entry.EntryKind.TheVariants.{Undo, Redo}
-use Rattle.room_history.specs.declared.reply.Reply.{Reply}
-use Rattle.room_history.specs.Answers.{answer, answer_by, asked, call_refusal, meant}
-use Rattle.room_history.specs.Journals.{last, numbered, redos}
-use Rattle.room_history.specs.LegalJournals.{IsJournal, called}
-use Rattle.room_history.specs.Runs.{IsRun, IsStep}
-use Rattle.room_wire.specs.ReadBack.{HasId}
-use Rattle.room_mirror.specs.Clients.{AllHaveIds, HasIds, HasRequestIds, HasSubjectIds, IsBrought, IsBroughtCall}
+use Rattle.room_mirror.specs.Prelude.{Global, Row, Name, Rows, is_among, is_same, names_of, is_among-names_of, row_pair, or_right, is_among_own, Action, Author, Call, Request, Entry, EntryKind, Undo, Redo, Reply, answer, answer_by, call_refusal, meant, last, numbered, redos, IsJournal, called, IsRun, IsStep, HasId, AllHaveIds, HasIds, HasRequestIds, HasSubjectIds, IsBrought, IsBroughtCall}
+use Rattle.room_history.specs.Answers.{asked}
 use Rattle.room_mirror.proofs.NamesKept.{HaveIds}
+use Rattle.room_interface.specs.declared.call.Request.TheVariants as requests
 
 -- the names of rows
 pub ids_of_rows : (rows : List (Row Global)) → All (λ (r : Row Global). HasId r.name) rows → All HasId (names_of (map row_pair rows))

@@ -1,38 +1,11 @@
 -- The names of a room's map have ids as in messages if those of its base and of its actions do.
-use Rattle.std.proofs.Common.{◌≡◌, ◌||◌, ℕ, zero, suc, Bool, true, false, List, [], ◌∷◌, Option, Some, None, All, IfSome, is_some, is_none, cond, map, option_map, slice_get, refl, sym, ap, subst, ◌∙◌, arith}
-use Rattle.std.specs.List.{cons_option, fold}
-use Rattle.std.specs.Option.{option_and_then}
-use Rattle.std.specs.declared.alloc.Global.{Global}
+use Rattle.std.proofs.Common.{◌≡◌, ◌||◌, ℕ, zero, suc, Bool, true, false, List, [], ◌∷◌, Option, Some, None, All, IfSome, is_some, is_none, cond, map, slice_get, refl, sym, ap, subst, ◌∙◌, arith, option_map, fold, option_and_then}
 use Rattle.std.proofs.lemmas.List.Elements.{All-append, All-cons, All-nil}
-use Rattle.osm_elements.specs.declared.name.Name.{Name}
-use Rattle.osm_elements.specs.declared.element.Element.{Element}
-use Rattle.osm_elements.specs.Maps.{Rows, is_among, is_present, is_same, names_of}
+use Rattle.room_mirror.specs.Prelude.{cons_option, Global, Name, Element, Rows, is_among, is_present, is_same, names_of, is_among-names_of, same_names, Cell, goes, join_row, merge_row, split_off, row_standing, Action, Create, Retag, Move, Reverse, Nodes, Members, Delete, Purge, Split, Join, Merge, Unglue, subjects, Edit, One, Group, after_all, becomes, row_at-after, Entry, EntryKind, Do, Undo, Redo, IsReplayed, numbered, standing, Past, Recorded, actions_of, done_again, mapof, past, past_after, recorded_next, replay, taken_back, HasId, HasEditIds, HasIds, HasSubjectIds, AllHaveIds, IsBrought}
+use Rattle.room_history.specs.Replays.{action_at}
 use Rattle.osm_elements.specs.Rows.{row_at}
-use Rattle.osm_elements.specs.Facts.Among.{is_among-names_of}
-use Rattle.osm_elements.specs.Facts.Rows.{same_names}
-use Rattle.osm_changes.specs.declared.cell.Cell.{Cell}
-use Rattle.edit_simple.specs.Purge.{goes}
-use Rattle.edit_topology.specs.Join.{join_row}
-use Rattle.edit_topology.specs.Merge.{merge_row}
-use Rattle.edit_topology.specs.Split.{split_off}
-use Rattle.edit_topology.specs.Unglue.{row_standing}
-use Rattle.edit_actions.specs.declared.action.Action.{Action}
-use Rattle.edit_actions.specs.declared.action.Action.TheVariants.{Create, Retag, Move, Reverse, Nodes, Members, Delete, Purge, Split, Join, Merge, Unglue}
 use Rattle.edit_actions.specs.After.{after}
-use Rattle.edit_footprint.specs.Footprints.{subjects}
-use Rattle.edit_groups.specs.declared.edit.Edit.{Edit}
-use Rattle.edit_groups.specs.declared.edit.Edit.TheVariants.{One, Group}
 use Rattle.edit_groups.specs.Edits as edits
-use Rattle.edit_groups.specs.Groups.{after_all}
-use Rattle.edit_footprint.specs.Facts.Becoming.{becomes, row_at-after}
-use Rattle.room_history.specs.declared.entry.Entry.{Entry}
-use Rattle.room_history.specs.declared.entry.EntryKind.{EntryKind}
-use Rattle.room_history.specs.declared.entry.EntryKind.TheVariants.{Do, Undo, Redo}
-use Rattle.room_history.specs.Headline.{IsReplayed}
-use Rattle.room_history.specs.Journals.{numbered, standing}
-use Rattle.room_history.specs.Replays.{Past, Recorded, action_at, actions_of, done_again, mapof, past, past_after, recorded_next, replay, taken_back}
-use Rattle.room_wire.specs.ReadBack.{HasId}
-use Rattle.room_mirror.specs.Clients.{HasEditIds, HasIds, HasSubjectIds, AllHaveIds, IsBrought}
 
 first_false : (a : Bool) → (a || (a || false)) ≡ false → a ≡ false
 first_false true e = absurd (cc)

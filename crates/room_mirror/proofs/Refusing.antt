@@ -1,14 +1,6 @@
 -- The refusal of news follows from the tests.
 use Rattle.std.proofs.Common.{◌≡◌, ◌&&◌, ◌+◌, ℕ, Bool, true, false, not, T, ◌∷◌, [], Option, Some, None, nat_eq, refl, subst}
-use Rattle.std.specs.Bool.{then_some}
-use Rattle.std.specs.List.{list_all}
-use Rattle.osm_changes.specs.Changes.{are_rising}
-use Rattle.osm_changes.specs.Facts.SoundRows.{so}
-use Rattle.edit_simple.specs.Checks.{first_that_holds}
-use Rattle.room_history.specs.declared.news.News.{News}
-use Rattle.room_mirror.specs.declared.fault.MirrorFault.{MirrorFault}
-use Rattle.room_mirror.specs.declared.fault.MirrorFault.TheVariants.{Gap, Mismatch}
-use Rattle.room_mirror.specs.Mirrors.{MirrorState, due_after, told_names, tells_another, fits, fault, IsRefused}
+use Rattle.room_mirror.specs.Prelude.{then_some, list_all, are_rising, so, first_that_holds, News, MirrorFault, Gap, Mismatch, MirrorState, due_after, told_names, tells_another, fits, fault, IsRefused}
 
 module _ {A : Type 0} (s : MirrorState A) (n : News A) where
   abbrev by_tests : Bool → Bool → ℕ → Option MirrorFault

@@ -1,19 +1,10 @@
 -- News applied to a map row by row.
-use Rattle.std.proofs.Common.{◌≡◌, ◌||◌, ◌+◌, ◌<◌, ℕ, Bool, true, false, T, List, [], ◌∷◌, ◌++◌, Some, is_some, length, get_or, take, refl, sym, ap, subst, ◌∙◌, append-nil, arith, cond}
-use Rattle.std.specs.List.{filter, fold}
+use Rattle.std.proofs.Common.{◌≡◌, ◌||◌, ◌+◌, ◌<◌, ℕ, Bool, true, false, T, List, [], ◌∷◌, ◌++◌, Some, is_some, length, take, refl, cond, get_or, sym, ap, subst, ◌∙◌, append-nil, arith, filter, fold}
 use Rattle.std.proofs.lemmas.List.{take_more}
 use Rattle.std.proofs.lemmas.List.Sums.{fold-append}
 use Rattle.std.proofs.lemmas.List.Elements.{filter-append}
-use Rattle.osm_elements.specs.declared.element.Element.TheVariants.{Relation}
-use Rattle.osm_elements.specs.declared.name.Name.{Name}
-use Rattle.osm_elements.specs.Maps.{Rows, is_absent, is_among, is_present, is_same}
-use Rattle.osm_elements.specs.Rows.{AreInOrder, row_at}
-use Rattle.osm_elements.specs.Facts.Rows.{is_eq-name_cmp_itself, same_rows}
-use Rattle.osm_changes.specs.Changes.{are_rising, with_row}
-use Rattle.osm_changes.specs.Facts.Changing.{row_at-with_row, AreInOrder-with_row}
-use Rattle.room_history.specs.declared.news.NewsRow.{NewsRow}
-use Rattle.room_history.specs.News.{mirrored}
-use Rattle.room_mirror.specs.Mirrors.{told_names}
+use Rattle.room_mirror.specs.Prelude.{Relation, Name, Rows, is_absent, is_among, is_present, is_same, are_rising, AreInOrder, is_eq-name_cmp_itself, same_rows, with_row, row_at-with_row, AreInOrder-with_row, NewsRow, mirrored, told_names}
+use Rattle.osm_elements.specs.Rows.{row_at}
 use Rattle.room_mirror.specs.Inner.Replacing.{with_empty, absent_names, ArePresent}
 use Rattle.room_mirror.proofs.Rising.{earlier}
 use Rattle.room_mirror.proofs.Rooming.{not_passed, row_at-with_empties, order-with_empties}

@@ -1,15 +1,6 @@
 -- Rising names have no repetitions.
-use Rattle.std.proofs.Common.{◌≡◌, ◌||◌, false, T, List, [], ◌∷◌, ◌++◌, map, refl, sym, ap, ◌∙◌}
-use Rattle.std.specs.Ordering.{is_lt, is_eq}
-use Rattle.std.specs.declared.cmp.Ordering.{Ordering}
-use Rattle.std.specs.declared.cmp.Ordering.TheVariants.{Less, Equal, Greater}
-use Rattle.std.specs.FinMap.Entries.{below_all}
-use Rattle.osm_elements.specs.declared.name.Name.{Name}
-use Rattle.osm_elements.specs.NameOrder.{name_cmp}
-use Rattle.osm_elements.specs.Maps.{is_same, is_among}
-use Rattle.osm_elements.specs.Facts.Dropped.{same_either_way}
-use Rattle.osm_elements.specs.Facts.Entries.{first, second}
-use Rattle.osm_changes.specs.Changes.{are_rising}
+use Rattle.std.proofs.Common.{◌≡◌, ◌||◌, false, T, List, [], ◌∷◌, ◌++◌, map, refl, sym, ap, ◌∙◌, is_lt, is_eq, Ordering, Less, Equal, Greater}
+use Rattle.room_mirror.specs.Prelude.{below_all, Name, name_cmp, is_same, is_among, are_rising, same_either_way, first, second}
 
 -- names, each with nothing
 abbrev bare : List Name → List (Name × Unit {0})

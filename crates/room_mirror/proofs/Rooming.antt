@@ -1,14 +1,7 @@
 -- Empty rows put at absent names, and removed again.
-use Rattle.std.proofs.Common.{◌≡◌, ◌||◌, ℕ, zero, suc, Bool, true, false, not, List, [], ◌∷◌, Option, Some, None, is_some, take, refl, sym, ap, ◌∙◌, cond}
-use Rattle.std.specs.List.{filter, fold}
-use Rattle.osm_elements.specs.declared.element.Element.{Element}
-use Rattle.osm_elements.specs.declared.element.Element.TheVariants.{Relation}
-use Rattle.osm_elements.specs.declared.name.Name.{Name}
-use Rattle.osm_elements.specs.Maps.{Rows, is_absent, is_among, is_present, is_same}
-use Rattle.osm_elements.specs.Rows.{AreInOrder, row_at, without_row}
-use Rattle.osm_elements.specs.Facts.Among.{is_among-filter}
-use Rattle.osm_elements.specs.Facts.Dropped.{same_either_way}
-use Rattle.osm_elements.specs.Facts.Rows.{same_names, same_rows, row_at-put_row, row_at-without_row, AreInOrder-put_row, AreInOrder-without_row}
+use Rattle.std.proofs.Common.{◌≡◌, ◌||◌, ℕ, zero, suc, Bool, true, false, not, List, [], ◌∷◌, Option, Some, None, is_some, take, refl, cond, sym, ap, ◌∙◌, filter, fold}
+use Rattle.room_mirror.specs.Prelude.{Element, Relation, Name, Rows, is_absent, is_among, is_present, is_same, AreInOrder, without_row, is_among-filter, same_either_way, same_names, same_rows, row_at-put_row, row_at-without_row, AreInOrder-put_row, AreInOrder-without_row}
+use Rattle.osm_elements.specs.Rows.{row_at}
 use Rattle.room_mirror.specs.Inner.Replacing.{with_empty, absent_names, AreAbsent, ArePresent}
 
 clash : {X : Type 0} → false ≡ true → X

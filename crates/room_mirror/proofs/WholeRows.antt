@@ -1,36 +1,12 @@
 -- The rows of a sound map are read back from their texts.
 use Rattle.std.proofs.Common.{◌≡◌, ◌&&◌, ◌||◌, ℤ, suc, Bool, true, false, List, [], ◌∷◌, ℕ, Some, All, is_some, map, refl, sym, ap, ◌∙◌, arith}
-use Rattle.std.specs.List.{list_all}
-use Rattle.std.specs.FinMap.Entries.{is_sorted}
-use Rattle.std.specs.declared.alloc.Global.{Global}
 use Rattle.std.proofs.lemmas.Bool.Decides.{nat_tests}
 use Rattle.std.proofs.lemmas.Int.{ints}
 use Rattle.std.proofs.lemmas.List.Elements.{All-cons, All-nil}
-use Rattle.osm_coords.specs.Latitude.{latitude}
-use Rattle.osm_coords.specs.Longitude.{longitude}
-use Rattle.osm_coords.specs.Range.{IsWithin, value_within}
-use Rattle.osm_elements.specs.declared.name.Name.{Name}
-use Rattle.osm_elements.specs.declared.name.Kind.TheVariants as kinds
-use Rattle.osm_elements.specs.declared.element.Element.{Element}
-use Rattle.osm_elements.specs.declared.element.Element.TheVariants.{Node, Way, Relation}
-use Rattle.osm_elements.specs.Elements.{kind_of}
-use Rattle.osm_elements.specs.Facts.Among.{is_among-names_of}
-use Rattle.osm_elements.specs.Facts.Rows.{is_eq-name_cmp_itself}
-use Rattle.osm_elements.specs.Facts.Tests.{first_true, second_true}
-use Rattle.osm_elements.specs.Made.{are_nodes, is_made, is_node}
-use Rattle.osm_elements.specs.Maps.{Rows, is_among, is_kind, is_present, is_same, names_of}
-use Rattle.osm_elements.specs.Members.{are_members}
-use Rattle.osm_elements.specs.NameOrder.{name_cmp}
-use Rattle.osm_elements.specs.Nodes.{AreNodes}
+use Rattle.room_mirror.specs.Prelude.{list_all, is_sorted, Global, latitude, longitude, IsWithin, value_within, Name, Element, Node, Way, Relation, kind_of, is_among-names_of, is_eq-name_cmp_itself, first_true, second_true, so, are_nodes, is_made, is_node, Rows, is_among, is_kind, is_present, is_same, names_of, are_members, name_cmp, AreNodes, are_tags, references, sound_row, is_of_length, is_sound, is_sound_row, told_kind, told_node, IsMapRow, IsUnder, HasId, IsWhole}
 use Rattle.osm_elements.specs.Rows.{row_at}
-use Rattle.osm_elements.specs.TagRows.{are_tags}
-use Rattle.osm_refs.specs.References.{references}
-use Rattle.osm_changes.specs.Facts.SoundRows.{so, sound_row}
-use Rattle.osm_changes.specs.Sound.{is_of_length, is_sound, is_sound_row}
-use Rattle.edit_simple.specs.Facts.Kinds.{told_kind, told_node}
-use Rattle.room_wire.specs.NewsBack.{IsMapRow, IsUnder}
-use Rattle.room_wire.specs.ReadBack.{HasId, IsWhole}
 use Rattle.room_mirror.proofs.NamesKept.{HaveIds}
+use Rattle.osm_elements.specs.declared.name.Kind.TheVariants as kinds
 
 within : (limit : ℕ) (z : ℤ) → is_some (value_within limit z) ≡ true → IsWithin limit z
 within limit z h = grind (arith, nat_tests, ints)

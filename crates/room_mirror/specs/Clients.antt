@@ -1,32 +1,23 @@
 -- Clients of a room: a client reads a welcome, and then news in order, and keeps a mirror. (Welcomes, news and mirrors
 -- are this project's.)
-use Rattle.std.specs.Prelude.{◌≡◌, ℕ, true, List, [], ◌∷◌, Option, Some, None, Ok, All, take}
-use Rattle.std.specs.Option.{option_and_then}
-use Rattle.std.specs.Result.{result_ok}
-use Rattle.std.specs.declared.alloc.Global.{Global}
+use Rattle.std.specs.Prelude.{◌≡◌, ℕ, true, List, [], ◌∷◌, Option, Some, None, Ok, All, take, option_and_then}
 use Rattle.serde_json.specs.Read.{read}
-use Rattle.osm_elements.specs.Maps.{Rows}
+use Rattle.room_wire.specs.Prelude.{result_ok, Global, Rows, is_made_request, is_author, news_tree, spells_news, HasId, spells_welcome}
+use Rattle.room_history.specs.Prelude.{subjects, mapof}
 use Rattle.osm_changes.specs.declared.cell.Cell.{Cell}
-use Rattle.edit_actions.specs.declared.action.Action.{Action}
-use Rattle.edit_footprint.specs.Footprints.{subjects}
-use Rattle.edit_groups.specs.declared.edit.Edit.{Edit}
-use Rattle.edit_groups.specs.declared.edit.Edit.TheVariants.{One, Group}
-use Rattle.room_history.specs.declared.call.Call.{Call}
-use Rattle.room_history.specs.declared.call.Request.{Request}
-use Rattle.room_history.specs.declared.call.Request.TheVariants as requests
+use Rattle.room_interface.specs.declared.action.Action.{Action}
+use Rattle.room_interface.specs.declared.edit.Edit.{Edit}
+use Rattle.room_interface.specs.declared.edit.Edit.TheVariants.{One, Group}
+use Rattle.room_interface.specs.declared.call.Call.{Call}
+use Rattle.room_interface.specs.declared.call.Request.{Request}
 use Rattle.room_history.specs.declared.entry.Entry.{Entry}
 use Rattle.room_history.specs.declared.entry.EntryKind.{EntryKind}
 use Rattle.room_history.specs.declared.entry.EntryKind.TheVariants.{Do, Undo, Redo}
-use Rattle.room_history.specs.declared.news.News.{News}
-use Rattle.room_history.specs.LegalJournals.{is_made_request}
-use Rattle.room_history.specs.Replays.{mapof}
-use Rattle.room_stacks.specs.Authors.{is_author}
+use Rattle.room_interface.specs.declared.news.News.{News}
 use Rattle.room_wire.specs.declared.welcome.Welcome.{Welcome}
-use Rattle.room_wire.specs.News.{news_tree, spells_news}
-use Rattle.room_wire.specs.ReadBack.{HasId}
-use Rattle.room_wire.specs.Welcomes.{spells_welcome}
 use Rattle.room_mirror.specs.declared.fault.MirrorFault.{MirrorFault}
 use Rattle.room_mirror.specs.Mirrors.{MirrorState, fault, with_news}
+use Rattle.room_interface.specs.declared.call.Request.TheVariants as requests
 
 -- the welcome to a room whose journal has n entries, with the id of its message
 abbrev pub welcome_to : ℕ → Rows Global → List (Entry Global) → ℕ → Welcome

@@ -1,3 +1,4 @@
 pub mod Clients
 pub mod Inner
 pub mod Mirrors
+pub mod Prelude

@@ -1,18 +1,10 @@
 -- Mirrors, which follow the news of a room by their numbers. (The rules of mirrors are this project's.)
 use Rattle.std.specs.Prelude.{◌≡◌, ◌&&◌, ◌+◌, ◌-◌, ◌^◌, ℕ, Bool, not, List, [], ◌∷◌, Option, Some, None, Result, Ok, Err, map, min, nat_eq, take}
-use Rattle.std.specs.Bool.{then_some}
-use Rattle.std.specs.List.{list_all}
+use Rattle.room_history.specs.Prelude.{then_some, list_all, Rows, are_rising, row_at, is_same_row, first_that_holds, mirrored, mapof}
 use Rattle.osm_elements.specs.declared.name.Name.{Name}
-use Rattle.osm_elements.specs.Maps.{Rows}
-use Rattle.osm_elements.specs.Rows.{row_at}
-use Rattle.osm_changes.specs.Changes.{are_rising}
-use Rattle.osm_changes.specs.SameRows.{is_same_row}
-use Rattle.edit_simple.specs.Checks.{first_that_holds}
 use Rattle.room_history.specs.declared.entry.Entry.{Entry}
-use Rattle.room_history.specs.declared.news.News.{News}
-use Rattle.room_history.specs.declared.news.NewsRow.{NewsRow}
-use Rattle.room_history.specs.News.{mirrored}
-use Rattle.room_history.specs.Replays.{mapof}
+use Rattle.room_interface.specs.declared.news.News.{News}
+use Rattle.room_interface.specs.declared.news.NewsRow.{NewsRow}
 use Rattle.room_mirror.specs.declared.fault.MirrorFault.{MirrorFault}
 use Rattle.room_mirror.specs.declared.fault.MirrorFault.TheVariants.{Gap, Mismatch, Memory}
 

@@ -2,20 +2,18 @@
 //!
 //! Each function proves such a fact of a value that a program has. It only looks at the value.
 ghost use Rattle.std.specs.Prelude.{◌≡◌, All, IfSome, true};
-ghost use Rattle.osm_elements.specs.Maps.{names_of};
+ghost use Rattle.room_wire.specs.Prelude.{names_of, is_made_request, HasId};
 ghost use Rattle.room_history.specs.Journals.{numbered};
-ghost use Rattle.room_history.specs.LegalJournals.{is_made_request};
 ghost use Rattle.room_mirror.specs.Clients.{HasEditIds, HasIds, HasRequestIds, IsBrought, IsBroughtCall};
-ghost use Rattle.room_wire.specs.ReadBack.{HasId};
 
-use edit_actions::action::Action;
-use edit_actions::each_action;
-use edit_groups::edit::{Edit, keeps_values};
 use osm_elements::map::{OsmMap, Row, Rows};
 use osm_elements::name::Name;
-use room_history::call::{Call, Request};
 use room_history::entry::{Entry, EntryKind};
 use room_history::room::Room;
+use room_interface::action::Action;
+use room_interface::call::{Call, Request};
+use room_interface::each_action;
+use room_interface::edit::{Edit, keeps_values};
 use std::alloc::Global;
 
 // Proves that the subjects of an action have ids that fit, from the list of the actions.

@@ -1,12 +1,11 @@
 //! Tests whether news fit a map.
-ghost use Rattle.std.specs.Prelude.{◌≡◌};
+ghost use Rattle.std.specs.Prelude.{◌≡◌, option_copied};
 ghost use Rattle.std.specs.List.{list_all};
-ghost use Rattle.std.specs.Option.{option_copied};
 ghost use Rattle.room_mirror.specs.Mirrors.{fits, tells_another};
 
 use osm_changes::same::is_same_row;
 use osm_elements::map::OsmMap;
-use room_history::news::NewsRow;
+use room_interface::news::NewsRow;
 use room_wire::rising::are_rising;
 use std::alloc::Allocator;
 

@@ -1,25 +1,14 @@
 //! Laws of mirrors. Each law is the contract of an empty function.
 ghost use Rattle.std.specs.Prelude.{◌≡◌, ◌≤◌, ◌-◌, ℕ, true, List, Ok, Some, All, length, take};
-ghost use Rattle.std.specs.declared.alloc.Global.{Global};
-ghost use Rattle.osm_changes.specs.Sound.{is_sound};
-ghost use Rattle.osm_elements.specs.Maps.{Rows, names_of};
-ghost use Rattle.osm_elements.specs.Rows.{AreInOrder};
-ghost use Rattle.room_history.specs.declared.call.Call.{Call};
+ghost use Rattle.serde_json.specs.Read.{read};
+ghost use Rattle.room_history.specs.Prelude.{Global, is_sound, Rows, names_of, AreInOrder, IsJournal, news, mapof, RoomState, Answers, IsStep};
+ghost use Rattle.room_wire.specs.Prelude.{AreNews, IsWelcome, HasId, spells_welcome, welcome_tree, IsNumber};
+ghost use Rattle.room_interface.specs.declared.call.Call.{Call};
 ghost use Rattle.room_history.specs.declared.entry.Entry.{Entry};
-ghost use Rattle.room_history.specs.declared.news.News.{News};
-ghost use Rattle.room_history.specs.declared.reply.Reply.{Reply};
-ghost use Rattle.room_history.specs.LegalJournals.{IsJournal};
-ghost use Rattle.room_history.specs.News.{news};
-ghost use Rattle.room_history.specs.Replays.{mapof};
-ghost use Rattle.room_history.specs.Rooms.{RoomState};
-ghost use Rattle.room_history.specs.Runs.{Answers, IsStep};
+ghost use Rattle.room_interface.specs.declared.news.News.{News};
+ghost use Rattle.room_interface.specs.declared.reply.Reply.{Reply};
 ghost use Rattle.room_mirror.specs.Clients.{IsBrought, IsBroughtCall, IsReadBack, SpellNews, mirror_made, welcome_to};
 ghost use Rattle.room_mirror.specs.Mirrors.{mirror_of, taken_in_turn};
-ghost use Rattle.room_wire.specs.NewsBack.{AreNews, IsWelcome};
-ghost use Rattle.room_wire.specs.ReadBack.{HasId};
-ghost use Rattle.room_wire.specs.Welcomes.{spells_welcome, welcome_tree};
-ghost use Rattle.room_wire.specs.WellFormed.{IsNumber};
-ghost use Rattle.serde_json.specs.Read.{read};
 
 use room_history::laws::{entries_change_their_maps, journals_begin, journals_hold};
 use room_wire::laws::{a_welcome_is_read_back, news_are_read_back};

@@ -8,7 +8,7 @@ use crate::fitting::fits;
 use crate::replacing::replace;
 use osm_elements::Memory;
 use osm_elements::map::{OsmMap, Rows};
-use room_history::news::News;
+use room_interface::news::News;
 use room_wire::welcome::Welcome;
 use std::alloc::{Allocator, Global};
 use std::marker::Model;

@@ -3,12 +3,8 @@
 //! First each absent name gets an empty row. These insertions allocate, and can be taken back. Then each row is
 //! replaced or removed, which cannot fail. The empty rows cannot be observed, because the news have a row for each of
 //! these names. Changing a copy of the map would cost time linear in the size of the map for each news.
-ghost use Rattle.std.specs.Prelude.{◌≡◌, T, true, map, IfOk, OnOk, OnErr};
-ghost use Rattle.std.specs.List.{fold};
-ghost use Rattle.osm_elements.specs.Maps.{is_absent, is_present};
-ghost use Rattle.osm_elements.specs.Rows.{AreInOrder, row_at, without_row};
-ghost use Rattle.osm_changes.specs.Changes.{are_rising, with_row};
-ghost use Rattle.room_history.specs.News.{mirrored};
+ghost use Rattle.std.specs.Prelude.{◌≡◌, T, true, map, IfOk, OnOk, OnErr, fold};
+ghost use Rattle.room_history.specs.Prelude.{is_absent, is_present, are_rising, AreInOrder, row_at, without_row, with_row, mirrored};
 ghost use Rattle.room_mirror.specs.Mirrors.{told_names};
 ghost use Rattle.room_mirror.specs.Inner.Replacing.{absent_names, AreAbsent, ArePresent, with_empty};
 
@@ -19,7 +15,7 @@ use osm_elements::members::Members;
 use osm_elements::name::Name;
 use osm_elements::shared::Shared;
 use osm_elements::shared_tags::SharedTags;
-use room_history::news::{NewsRow, NewsRows};
+use room_interface::news::{NewsRow, NewsRows};
 use std::alloc::Allocator;
 
 /// Gives each name its row of the news. If it returns `Memory`, the map is unchanged. It costs the size of the news,

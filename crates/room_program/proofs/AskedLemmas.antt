@@ -1,10 +1,6 @@
 -- Arguments that are taken ask for one of the subcommands, with numbers in their ranges.
-use Rattle.std.proofs.Common.{◌≡◌, ◌∙◌, ◌||◌, ◌⊎◌, ◌≤◌, ◌<◌, ◌^◌, inl, inr, refl, sym, ap, subst, arith, cond, ℕ, Bool, true, false, true≢false, List, [], ◌∷◌, Option, Some, None, codes, drop, is_some, take}
-use Rattle.std.specs.Prelude.{⊤, IfSome, option_map, pos, unwrap_or}
-use Rattle.std.specs.List.{slice_index_or}
-use Rattle.std.specs.Option.{option_map_or}
-use Rattle.std.specs.Str.{bytes_eq}
-use Rattle.std.specs.Str.Parse.{IsNumeral, ParsesUnsigned, without_leading_plus}
+use Rattle.std.proofs.Common.{◌≡◌, ◌||◌, ◌⊎◌, ◌≤◌, ◌<◌, ◌^◌, refl, cond, ℕ, Bool, true, false, List, [], ◌∷◌, Option, Some, None, codes, drop, is_some, take, IfSome, pos, unwrap_or, option_map, ◌∙◌, inl, inr, sym, ap, subst, arith, true≢false, slice_index_or, bytes_eq}
+use Rattle.std.specs.Prelude.{⊤}
 use Rattle.std.proofs.lemmas.Slice.Eq.{bytes_eq-Decides}
 use Rattle.clap.specs.Faults.{check_fault, entered_fault, level_fault}
 use Rattle.clap.specs.Lexer.{without_minus}
@@ -18,7 +14,7 @@ use Rattle.clap.specs.declared.error.kind.ErrorKind.{ErrorKind}
 use Rattle.clap.specs.declared.error.kind.ErrorKind.TheVariants.{MissingSubcommand}
 use Rattle.clap.proofs.CallerReads.{signed_reads}
 use Rattle.clap.proofs.ValueTestLemmas.{accepts-Accepts, Accepts-accepts}
-use Rattle.room_program.specs.CommandLine.{HasNumber, faults, limit_option, number_in, number_of, number_option, program_app, replay_app, rows_asked, subcommand_asked}
+use Rattle.room_program.specs.Prelude.{option_map_or, IsNumeral, ParsesUnsigned, without_leading_plus, HasNumber, faults, limit_option, number_in, number_of, number_option, program_app, replay_app, rows_asked, subcommand_asked}
 use Rattle.room_program.proofs.OptionLemmas.{EachKeeps, IsRead, Keeps, KeepsByDefault, default_read, first_passes, level_good, needed_read, no_default, only_own, own_default, set_good}
 use Rattle.room_program.proofs.WordWalks.{NoHelpMet, below_none, check_none, level_stops, no_second}
 

@@ -1,8 +1,6 @@
 -- How far a block of lines was answered, and its end.
 use Rattle.std.proofs.Common.{ℕ, List, ◌++◌, Option, sym, subst, append_assoc}
-use Rattle.std.specs.Io.KnownBytes.{Appends}
-use Rattle.room_program.specs.Scripts.{Loss}
-use Rattle.room_program.specs.Runs.{AnswersFront, AnswersSome}
+use Rattle.room_program.specs.Prelude.{Appends, Loss, AnswersFront, AnswersSome}
 use Rattle.room_program.proofs.RunLemmas.{front-then}
 use Rattle.room_program.proofs.StreamLemmas.{Appends-then}
 

@@ -1,7 +1,7 @@
 -- Counting the calls of a reader.
-use Rattle.std.proofs.Common.{◌≤◌, ◌<◌, ℕ, suc, zero, Result, Ok, inl, inr, refl, arith}
+use Rattle.std.proofs.Common.{◌≤◌, ◌<◌, ℕ, suc, zero, Result, Ok, refl, inl, inr, arith}
 use Rattle.room_program.specs.declared.failed.Failed.{Failed}
-use Rattle.room_program.specs.Streams.{Gets, GetsAtMost}
+use Rattle.room_program.specs.Streams.{GetsAtMost, Gets}
 
 module _ {S : Type 0} (gets : S → Result ℕ Failed → S → Type 0) where
   -- no call leads to the same state

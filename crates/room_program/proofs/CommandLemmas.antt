@@ -1,18 +1,8 @@
 -- The outcome of a run of the program, from the outcome of its replay.
-use Rattle.std.proofs.Common.{◌≡◌, ◌⊎◌, ◌^◌, ℕ, true, false, List, [], Option, Result, Ok, Err, inl, inr, refl, sym, subst, arith}
-use Rattle.std.specs.declared.alloc.Global.{Global}
-use Rattle.osm_changes.specs.Sound.{is_sound}
-use Rattle.osm_elements.specs.Maps.{Rows}
-use Rattle.room_program.specs.declared.fault.ProgramFault.TheVariants.{Replay}
-use Rattle.room_program.specs.declared.fault.ReplayFault.{ReplayFault}
+use Rattle.std.proofs.Common.{◌≡◌, ◌⊎◌, ◌^◌, ℕ, true, false, List, [], Option, Result, Ok, Err, refl, inl, inr, sym, subst, arith}
+use Rattle.room_program.specs.Prelude.{Global, is_sound, Rows, Replay, ReplayFault, IsNoBase, IsTold, behind, Ran, RanBy, Replays, Takes, fault_line, script, HasRun, GetsAtMost}
 use Rattle.room_program.specs.declared.sink.Sink as sinks
 use Rattle.room_program.specs.declared.source.Source as sources
-use Rattle.room_program.specs.Bases.{IsNoBase, IsTold, behind}
-use Rattle.room_program.specs.Commands.{Ran, RanBy, Replays}
-use Rattle.room_program.specs.Faults.{Takes, fault_line}
-use Rattle.room_program.specs.LineAnswers.{script}
-use Rattle.room_program.specs.Replays.{HasRun}
-use Rattle.room_program.specs.Streams.{GetsAtMost}
 
 module _ {S W E : Type 0} (source : sources.Ghosts S) (sink : sinks.Ghosts W) (errors_sink : sinks.Ghosts E) (limit : ℕ) (input input' : S) (output output' : W) (errors errors' : E) where
   -- the result of a replay on a base

@@ -1,8 +1,5 @@
 -- The values of the program's arguments, and the kinds of error in a list.
-use Rattle.std.proofs.Common.{◌≡◌, ◌∙◌, ◌||◌, refl, sym, ap, true≢false, inl, inr, Bool, true, false, List, [], ◌∷◌, Option, Some, None}
-use Rattle.std.specs.Prelude.{Box, option_map, unwrap_or}
-use Rattle.std.specs.Box.{box_value}
-use Rattle.std.specs.List.{list_any}
+use Rattle.std.proofs.Common.{◌≡◌, ◌||◌, refl, Bool, true, false, List, [], ◌∷◌, Option, Some, None, Box, unwrap_or, option_map, ◌∙◌, sym, ap, true≢false, inl, inr, box_value}
 use Rattle.clap.specs.Matches.{subcommand_name_of}
 use Rattle.clap.specs.Faults.{fault_of, is_simple_and_free}
 use Rattle.clap.specs.Simple.{App, HasMatchesOf, is_simple, subcommand_of, subcommand_rows, subcommand_rows_of}
@@ -15,7 +12,7 @@ use Rattle.clap.specs.declared.error.kind.ErrorKind.TheVariants.{OutOfMemory}
 use Rattle.clap.specs.declared.parser.matches.ArgMatches.{ArgMatches}
 use Rattle.clap.specs.declared.parser.matches.ArgMatches.TheViews.{out-ArgMatches, out-SubCommand}
 use Rattle.clap.specs.declared.parser.matches.SubCommand.{SubCommand}
-use Rattle.room_program.specs.CommandLine.{IsTaken, program_app, rows_asked, subcommand_asked}
+use Rattle.room_program.specs.Prelude.{list_any, IsTaken, program_app, rows_asked, subcommand_asked}
 
 any_among : (p : ErrorKind → Bool) (k : ErrorKind) (kinds : Kinds) → p k ≡ true → IsAmong k kinds → list_any p kinds ≡ true
 any_among p k [] passes among = absurd among

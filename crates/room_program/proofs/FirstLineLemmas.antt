@@ -1,17 +1,9 @@
 -- The first line of what a reader has left, and the bytes after that line.
-use Rattle.std.proofs.Common.{◌≡◌, ◌+◌, ℕ, zero, suc, List, [], ◌∷◌, ◌++◌, Option, Some, None, Result, Ok, Err, refl, sym, ap, subst, ◌∙◌, inl, inr, append_assoc, append-nil, arith, if◌then◌else◌}
+use Rattle.std.proofs.Common.{◌≡◌, ◌+◌, ℕ, zero, suc, List, [], ◌∷◌, ◌++◌, Option, Some, None, Result, Ok, Err, refl, if◌then◌else◌, IsErrAnd, sym, ap, subst, ◌∙◌, inl, inr, append_assoc, append-nil, arith, IsUtf8}
 use Rattle.std.proofs.lemmas.Bool.{cond-false, cond-true, false_from_ne_true, ne_eqb}
 use Rattle.std.proofs.lemmas.Str.{IsUtf8-from_is_utf8, is_utf8-from_IsUtf8}
-use Rattle.std.specs.Prelude.{IsErrAnd}
-use Rattle.std.specs.Str.{IsUtf8, is_utf8}
-use Rattle.std.specs.Io.KnownBytes.{Consumes, IsAtEnd}
-use Rattle.room_wire.specs.declared.bad.Fault.TheVariants.{NotJson}
-use Rattle.room_wire.specs.Welcomes.{spells_welcome}
-use Rattle.room_program.specs.declared.failed.Failed.{Failed}
-use Rattle.room_program.specs.Bases.{IsFirstLineOf, behind, behind_line, first_line, spelled_base}
-use Rattle.room_program.specs.Lines.{IsLine}
-use Rattle.room_program.specs.Scripts.{Loss}
-use Rattle.room_program.specs.Streams.{Gets, GetsAtMost, WritesAll, WritesEnded, WritesFront, with_bytes}
+use Rattle.room_program.specs.Prelude.{is_utf8, Consumes, IsAtEnd, NotJson, spells_welcome, Failed, IsFirstLineOf, behind, behind_line, first_line, spelled_base, IsLine, Loss, GetsAtMost, WritesAll, WritesEnded, WritesFront, with_bytes}
+use Rattle.room_program.specs.Streams.{Gets}
 use Rattle.room_program.proofs.CallLemmas.{calls_made}
 
 -- ---- lines

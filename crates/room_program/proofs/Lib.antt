@@ -2,7 +2,6 @@ pub mod AskedLemmas
 pub mod BlockLemmas
 pub mod CallLemmas
 pub mod CommandLemmas
-pub mod CommandLineExampleProofs
 pub mod CommandLineLemmas
 pub mod FirstLineLemmas
 pub mod LineAnswerLemmas

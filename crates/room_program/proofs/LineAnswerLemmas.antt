@@ -1,28 +1,13 @@
 -- The author and the message of a line.
-use Rattle.std.proofs.Common.{◌≡◌, ℕ, zero, suc, ◌+◌, ◌-◌, ◌<◌, List, [], ◌∷◌, Some, None, true, ◌&&◌, Result, Ok, Err, inl, inr, nat_le, length, get_or, take, drop, refl, sym, ap, ◌∙◌, arith, add-one}
+use Rattle.std.proofs.Common.{◌≡◌, ℕ, zero, suc, ◌+◌, ◌-◌, ◌<◌, List, [], ◌∷◌, Some, None, true, ◌&&◌, Result, Ok, Err, nat_le, length, take, drop, refl, inl, inr, get_or, sym, ap, ◌∙◌, arith, add-one, option_map, IsUtf8, IsAscii}
 use Rattle.std.proofs.lemmas.Bool.{ne_eqb, eq-eqb, eqb-true, and_parts, cond-true, cond-false, false_from_ne_true}
 use Rattle.std.proofs.lemmas.Bool.Decides.{nat_tests}
 use Rattle.std.proofs.lemmas.List.{take_rest}
-use Rattle.std.specs.Option.{option_map}
-use Rattle.std.specs.List.{list_all}
-use Rattle.std.specs.Str.{IsUtf8, IsAscii, is_utf8}
 use Rattle.std.proofs.lemmas.Str.{IsUtf8-from_ascii, IsUtf8-from_is_utf8, is_utf8-from_IsUtf8}
 use Rattle.memchr.specs.Find.{IsFirstByte, is_byte}
-use Rattle.room_stacks.specs.Authors.{author_of, is_author, is_name_character}
-use Rattle.room_wire.specs.declared.bad.Fault.TheVariants.{NotJson}
-use Rattle.room_wire.specs.declared.incoming.Incoming.{Incoming}
+use Rattle.room_program.specs.Prelude.{list_all, is_utf8, Global, author_of, is_author, is_name_character, NotJson, Incoming, id_told, GivesMessage, Bad, Rows, RoomState, Author, spells, answer_text, split_space, said, spelled, body_answer, message_answer, line_answer, line_id, opened_on, IsReply, Loss, Nothing, Answer_lost, Answer_and_id_lost, script_of}
+use Rattle.room_program.specs.LineAnswers.{answered, script}
 use Rattle.room_wire.specs.declared.answer.Answer.TheVariants as answers
-use Rattle.room_wire.specs.Reading.{id_told, GivesMessage}
-use Rattle.room_wire.specs.declared.bad.Bad.{Bad}
-use Rattle.osm_elements.specs.Maps.{Rows}
-use Rattle.room_history.specs.Rooms.{RoomState}
-use Rattle.room_stacks.specs.declared.author.Author.{Author}
-use Rattle.std.specs.declared.alloc.Global.{Global}
-use Rattle.room_wire.specs.Spelling.{spells}
-use Rattle.room_wire.specs.Asked.{answer_text}
-use Rattle.room_program.specs.LineAnswers.{split_space, said, spelled, body_answer, message_answer, line_answer, line_id, answered, opened_on, script}
-use Rattle.room_program.specs.LineReplies.{IsReply}
-use Rattle.room_program.specs.Scripts.{Loss, Nothing, Answer_lost, Answer_and_id_lost, script_of}
 
 split_space-first : (bs : List ℕ) (n : ℕ) → ((k : ℕ) → k < n → get_or bs k 0 ≡ 32 → ⊥) → n < length bs → get_or bs n 0 ≡ 32 → split_space bs ≡ Some (take n bs, drop (suc n) bs)
 split_space-first [] n h lt e = absurd (omega arith)

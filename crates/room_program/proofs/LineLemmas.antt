@@ -1,10 +1,9 @@
 -- The lines of bytes whose line feeds are known.
-use Rattle.std.proofs.Common.{◌≡◌, ◌≢◌, ℕ, suc, ◌+◌, ◌-◌, ◌<◌, List, [], ◌∷◌, ◌++◌, Some, None, length, length-append, append_assoc, get_or, take, drop, refl, sym, ap, ◌∙◌, arith, add-one, zero, eqb, cond, true, false}
+use Rattle.std.proofs.Common.{◌≡◌, ◌≢◌, ℕ, suc, ◌+◌, ◌-◌, ◌<◌, List, [], ◌∷◌, ◌++◌, Some, None, length, take, drop, refl, zero, cond, true, false, length-append, append_assoc, get_or, sym, ap, ◌∙◌, arith, add-one, eqb}
 use Rattle.std.proofs.lemmas.Bool.{ne_eqb, eq-eqb, eqb-true}
 use Rattle.std.proofs.lemmas.List.{take_rest}
 use Rattle.memchr.specs.Find.{IsFirstByte, is_byte}
-use Rattle.room_program.specs.Lines.{lines, with_byte, ended, before, IsLine}
-use Rattle.room_program.specs.Runs.{joined, AreLines}
+use Rattle.room_program.specs.Prelude.{lines, with_byte, ended, before, IsLine, joined, AreLines}
 
 pub IsLine-from_places : (bs : List ℕ) → ((k : ℕ) → k < length bs → get_or bs k 0 ≡ 10 → ⊥) → IsLine bs
 IsLine-from_places [] h = tt

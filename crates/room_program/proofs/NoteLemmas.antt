@@ -1,12 +1,9 @@
 -- The last call in the notes, and the counts of calls.
-use Rattle.std.proofs.Common.{◌≡◌, ◌<◌, ◌∙◌, ◌+◌, ◌^◌, ℕ, suc, zero, [], ◌∷◌, Ok, Err, Some, true≢false, ap, arith, inl, inr, length, refl, sym, add-zero}
-use Rattle.room_program.specs.declared.io.Io.{Io}
-use Rattle.room_program.specs.declared.noted.Calls.{Calls}
+use Rattle.std.proofs.Common.{◌≡◌, ◌<◌, ◌+◌, ◌^◌, ℕ, suc, zero, [], ◌∷◌, Ok, Err, Some, length, refl, ◌∙◌, true≢false, ap, arith, inl, inr, sym, add-zero}
+use Rattle.room_program.specs.Prelude.{Io, Calls, IsAnswered, noted, one_more, Puts, calls_of, TookNone}
+use Rattle.room_program.specs.Io.{Gets}
 use Rattle.room_program.specs.declared.noted.Stop.TheVariants.{Failed}
-use Rattle.room_program.specs.Calls.{IsAnswered, noted, one_more}
-use Rattle.room_program.specs.Io.{Gets, Puts, calls_of}
 use Rattle.room_program.specs.Streams as streams
-use Rattle.room_program.specs.Streams.{TookNone}
 
 module _ (before between after : Calls) (asked : ℕ) (none : between.answered ≡ before.answered) where
   pub count_noted : (count : ℕ) → after ≡ noted between asked (Ok count) → IsAnswered before after asked (Ok count)

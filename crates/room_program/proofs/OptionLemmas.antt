@@ -1,9 +1,6 @@
 -- Arguments without a fault give an option values, the first of which its parser accepts.
-use Rattle.std.proofs.Common.{◌≡◌, ◌∙◌, ◌||◌, ◌&&◌, ◌++◌, ◌+◌, refl, sym, ap, subst, cond, ℕ, zero, suc, Bool, true, false, true≢false, List, [], ◌∷◌, Option, Some, None, min}
-use Rattle.std.specs.Prelude.{⊤, find, fold, not, slice_get, unwrap_or}
-use Rattle.std.specs.List.{AllByRecursion, list_any}
-use Rattle.std.specs.Option.{option_map_or}
-use Rattle.std.specs.Str.{bytes_eq}
+use Rattle.std.proofs.Common.{◌≡◌, ◌||◌, ◌&&◌, ◌++◌, ◌+◌, refl, cond, ℕ, zero, suc, Bool, true, false, List, [], ◌∷◌, Option, Some, None, min, not, slice_get, unwrap_or, find, fold, ◌∙◌, sym, ap, subst, true≢false, bytes_eq}
+use Rattle.std.specs.Prelude.{⊤}
 use Rattle.std.proofs.lemmas.Slice.Eq.{bytes_eq-Decides}
 use Rattle.clap.specs.Facts.{explicit_source}
 use Rattle.clap.specs.Faults.{level_fault, use_fault}
@@ -20,6 +17,7 @@ use Rattle.clap.specs.declared.builder.value_parser.Reading.{Reading}
 use Rattle.clap.specs.declared.builder.value_parser.ValueParser.{ValueParser}
 use Rattle.clap.specs.declared.parser.matches.ValueSource.{ValueSource}
 use Rattle.clap.specs.declared.parser.matches.ValueSource.TheVariants.{CommandLine, DefaultValue}
+use Rattle.room_program.specs.Prelude.{AllByRecursion, list_any, option_map_or}
 use Rattle.room_program.proofs.WordWalks.{check_none, level_keeps, no_first}
 
 -- what is true of each rule is true of the rule that is found

@@ -1,10 +1,6 @@
 -- How far a replay has come, and its end.
 use Rattle.std.proofs.Common.{◌≡◌, ◌≢◌, ℕ, List, [], ◌∷◌, ◌++◌, Option, sym, ap, subst, ◌∙◌, append_assoc, append-nil}
-use Rattle.std.specs.Io.KnownBytes.{Appends, Consumes, Keeps, IsAtEnd}
-use Rattle.room_program.specs.Lines.{lines, IsLine}
-use Rattle.room_program.specs.Scripts.{Loss, replies, script_of}
-use Rattle.room_program.specs.Runs.{AnswersFront, AnswersSome}
-use Rattle.room_program.specs.Streams.{WritesAll, WritesEnded, WritesFront, with_bytes}
+use Rattle.room_program.specs.Prelude.{Appends, Consumes, Keeps, IsAtEnd, lines, IsLine, Loss, replies, script_of, AnswersFront, AnswersSome, WritesAll, WritesEnded, WritesFront, with_bytes}
 use Rattle.room_program.proofs.LineLemmas.{lines-fed}
 use Rattle.room_program.proofs.RunLemmas.{front-none, front-extend, front-then, front-script, front-ended, front-fed}
 use Rattle.room_program.proofs.StreamLemmas.{Appends-none, Appends-then, Consumes-before, Consumes-then, Consumes-kept, with_bytes-none}

@@ -1,28 +1,14 @@
 -- The ends of a replay and of reading its first line, from the contracts of their parts.
-use Rattle.std.proofs.Common.{◌≡◌, ◌⊎◌, ℕ, true, false, List, [], Option, Some, None, Result, Ok, Err, IfErr, IfOk, inl, inr, refl, subst, sym}
-use Rattle.std.specs.Prelude.{IsErrAnd}
-use Rattle.std.specs.Io.KnownBytes.{Appends}
-use Rattle.std.specs.declared.alloc.Global.{Global}
-use Rattle.osm_elements.specs.Maps.{Rows}
-use Rattle.room_history.specs.Bases.{IsBaseFault}
-use Rattle.room_history.specs.declared.base.BaseFault.{BaseFault}
-use Rattle.room_history.specs.declared.base.BaseFault.TheVariants as bases
-use Rattle.room_program.specs.declared.base.Later.{Later}
-use Rattle.room_program.specs.declared.fault.ReplayFault.{ReplayFault}
-use Rattle.room_program.specs.declared.fault.ReplayFault.TheVariants as replays
-use Rattle.room_program.specs.declared.fault.StreamFault.{StreamFault}
-use Rattle.room_program.specs.declared.fault.StreamFault.TheVariants.{Read, Write, Memory}
-use Rattle.room_program.specs.declared.sink.Sink as sinks
-use Rattle.room_program.specs.declared.source.Source as sources
-use Rattle.room_program.specs.Bases.{IsFirstLineOf, behind, IsNoBase, IsTold, IsUnread, Tells}
-use Rattle.room_program.specs.Faults.{base_fault, stream_fault}
+use Rattle.std.proofs.Common.{◌≡◌, ◌⊎◌, ℕ, true, false, List, [], Option, Some, None, Result, Ok, Err, IfErr, IfOk, refl, IsErrAnd, inl, inr, subst, sym}
+use Rattle.room_program.specs.Prelude.{Appends, Global, Rows, IsBaseFault, BaseFault, Later, ReplayFault, StreamFault, Read, Write, IsFirstLineOf, behind, IsNoBase, IsTold, IsUnread, Tells, base_fault, stream_fault, IsLine, HasRun, Loss, Gets, GetsAtMost, TookNone, WritesAll, WritesEnded, WritesFront, with_bytes}
+use Rattle.room_program.specs.declared.fault.StreamFault.TheVariants.{Memory}
 use Rattle.room_program.specs.Inner.FirstLines.{EndsLine, IsBadLine, ReadsTo}
-use Rattle.room_program.specs.Lines.{IsLine}
-use Rattle.room_program.specs.Replays.{HasRun}
-use Rattle.room_program.specs.Scripts.{Loss}
-use Rattle.room_program.specs.Streams.{Gets, GetsAtMost, TookNone, WritesAll, WritesEnded, WritesFront, with_bytes}
 use Rattle.room_program.proofs.FirstLineLemmas.{all_behind, all_then, begins_last, begins_line, behind_last, ended_behind, err_is, front_behind, most_then}
 use Rattle.room_program.proofs.StreamLemmas.{Appends-none, Consumes-none}
+use Rattle.room_history.specs.declared.base.BaseFault.TheVariants as bases
+use Rattle.room_program.specs.declared.fault.ReplayFault.TheVariants as replays
+use Rattle.room_program.specs.declared.sink.Sink as sinks
+use Rattle.room_program.specs.declared.source.Source as sources
 
 -- ---- a run over streams
 

@@ -1,8 +1,6 @@
 -- Runs over lines in sequence, and the whole script.
 use Rattle.std.proofs.Common.{◌≡◌, ◌≢◌, ℕ, List, [], ◌∷◌, ◌++◌, refl, sym, ap, subst, ◌∙◌, append_assoc, append-nil}
-use Rattle.room_program.specs.Lines.{lines, ended, IsLine}
-use Rattle.room_program.specs.Scripts.{Loss, replies}
-use Rattle.room_program.specs.Runs.{joined, AreLines, Runs, AnswersFront}
+use Rattle.room_program.specs.Prelude.{lines, ended, IsLine, Loss, replies, joined, AreLines, Runs, AnswersFront}
 use Rattle.room_program.proofs.LineLemmas.{IsLine-append, joined-more, lines-joined, lines-fed, ended-joined, rest-fed}
 
 joined-append : (xs ys : List (List ℕ)) (rest : List ℕ) → joined (xs ++ ys) rest ≡ joined xs (joined ys rest)

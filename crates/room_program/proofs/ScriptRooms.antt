@@ -1,22 +1,7 @@
 -- Calls lead to the journals of the rooms through which a script leads.
 use Rattle.std.proofs.Common.{◌≡◌, ℕ, Bool, true, false, cond, List, [], ◌∷◌, Option, Some, None, Result, Ok, Err, IfOk, refl, sym, subst}
-use Rattle.std.specs.Str.{is_utf8}
-use Rattle.std.specs.declared.alloc.Global.{Global}
-use Rattle.room_stacks.specs.declared.author.Author.{Author}
-use Rattle.room_history.specs.declared.call.Call.{Call}
-use Rattle.room_history.specs.Answers.{answer}
-use Rattle.room_history.specs.LegalJournals.{IsJournal, opened, called}
-use Rattle.osm_elements.specs.Maps.{Rows}
-use Rattle.room_history.specs.Rooms.{RoomState}
-use Rattle.room_wire.specs.declared.bad.Bad.{Bad}
-use Rattle.room_wire.specs.declared.bad.Fault.TheVariants.{NotJson}
-use Rattle.room_wire.specs.declared.incoming.Incoming.{Incoming}
-use Rattle.room_wire.specs.declared.incoming.Body.{Body}
-use Rattle.room_wire.specs.declared.incoming.Body.TheVariants.{Hello, Change, Get, Map, Undos}
-use Rattle.room_wire.specs.Made.{is_made_body}
-use Rattle.room_wire.specs.Spelling.{spells}
-use Rattle.room_program.specs.LineAnswers.{said, spelled, body_answer, message_answer, line_answer, answered, opened_on}
-use Rattle.room_program.specs.Scripts.{Loss, Nothing, Answer_lost, Answer_and_id_lost, first_loss, later_losses, room_after}
+use Rattle.room_program.specs.Prelude.{is_utf8, Global, Author, Call, answer, IsJournal, opened, called, Rows, RoomState, Bad, NotJson, Incoming, Body, Hello, Change, Get, Map, Undos, is_made_body, spells, said, spelled, body_answer, message_answer, line_answer, opened_on, Loss, Nothing, Answer_lost, Answer_and_id_lost, first_loss, later_losses, room_after}
+use Rattle.room_program.specs.LineAnswers.{answered}
 
 -- the room began with this map and this limit, and calls lead to its journal
 pub record IsLegal (base : Rows Global) (limit : ℕ) (room : RoomState Global) : Type 0 where

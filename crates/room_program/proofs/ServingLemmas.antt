@@ -1,39 +1,14 @@
 -- The outcome of serving rooms: the texts that were taken in order, and the rooms' entry counts.
-use Rattle.std.proofs.Common.{◌≡◌, ◌∙◌, ◌⊎◌, ◌≤◌, ◌<◌, refl, sym, ap, subst, inl, inr, arith, ℕ, zero, suc, Bool, true, false, List, [], ◌∷◌, ◌++◌, Some, length, append_assoc}
-use Rattle.std.specs.Prelude.{All, slice_get}
-use Rattle.std.specs.List.{slice_index_or}
-use Rattle.std.specs.declared.alloc.Global.{Global}
+use Rattle.std.proofs.Common.{◌≡◌, ◌⊎◌, ◌≤◌, ◌<◌, refl, ℕ, zero, suc, Bool, true, false, List, [], ◌∷◌, ◌++◌, Some, length, All, slice_get, ◌∙◌, sym, ap, subst, inl, inr, arith, append_assoc, slice_index_or}
 use Rattle.std.proofs.lemmas.List.{length-map}
-use Rattle.edit_simple.specs.declared.refusal.Refusal.{Refusal}
-use Rattle.osm_elements.specs.declared.name.Name.{Name}
-use Rattle.osm_elements.specs.Maps.{Rows}
+use Rattle.room_program.specs.Prelude.{Global, Appends, Refusal, Name, Rows, IsFirstUnsound, IsBaseFault, BaseFault, Entry, Opening, IsJournal, IsTurn, ProgramFault, Replay, Memory, Listen, Worker, TooManyRooms, BadName, Twice, Takes, opening_fault, pool_fault, table_fault, BeginsOn, CanBeServed, IsFrontOf, IsUnopened, StopsBy, listening, TookNone, PoolFault, TableFault, AreFronts, IsFront, IsNameFault, Opens, opening, AreAt, DeskView, SeatView, TableView, History, IsLegal, entries}
 use Rattle.osm_elements.specs.Rows.{row_at}
-use Rattle.edit_simple.specs.Soundness.{IsFirstUnsound}
-use Rattle.room_history.specs.Bases.{IsBaseFault}
-use Rattle.room_history.specs.declared.base.BaseFault.{BaseFault}
+use Rattle.room_program.proofs.StreamLemmas.{Appends-then}
 use Rattle.room_history.specs.declared.base.BaseFault.TheVariants as bases
-use Rattle.room_history.specs.declared.entry.Entry.{Entry}
-use Rattle.room_history.specs.declared.turned.Opening.{Opening}
-use Rattle.room_history.specs.LegalJournals.{IsJournal}
-use Rattle.room_history.specs.Turns.{IsTurn}
-use Rattle.room_program.specs.declared.fault.ProgramFault.{ProgramFault}
-use Rattle.room_program.specs.declared.fault.ProgramFault.TheVariants.{Replay, Memory, Listen, Worker, TooManyRooms, BadName, Twice}
 use Rattle.room_program.specs.declared.sink.Sink as sinks
 use Rattle.room_program.specs.declared.source.Source as sources
-use Rattle.room_program.specs.Faults.{Takes, opening_fault, pool_fault, table_fault}
-use Rattle.room_program.specs.Bases.{BeginsOn}
-use Rattle.room_program.specs.Servings.{CanBeServed, IsFrontOf, IsUnopened, StopsBy, listening}
-use Rattle.room_program.specs.Streams.{TookNone}
-use Rattle.room_program.proofs.StreamLemmas.{Appends-then}
-use Rattle.std.specs.Io.KnownBytes.{Appends}
-use Rattle.room_server.specs.declared.pool.PoolFault.{PoolFault}
 use Rattle.room_server.specs.declared.pool.PoolFault.TheVariants as pools
-use Rattle.room_server.specs.declared.table.TableFault.{TableFault}
 use Rattle.room_server.specs.declared.table.TableFault.TheVariants as tables
-use Rattle.room_server.specs.Fronts.{AreFronts, IsFront}
-use Rattle.room_server.specs.Openings.{IsNameFault, Opens, opening}
-use Rattle.room_server.specs.Tables.{AreAt, DeskView, SeatView, TableView}
-use Rattle.turn_desk.specs.History.{History, IsLegal, entries}
 
 module _ {W : Type 0} (sink : sinks.Ghosts W) where
   -- a whole text, followed by another text as far as it was taken

@@ -1,10 +1,7 @@
 -- Bytes that a writer takes and a reader gives, in parts.
-use Rattle.std.proofs.Common.{◌≡◌, ℕ, ◌-◌, List, [], ◌++◌, Option, Some, None, length, take, drop, refl, sym, ap, ◌∙◌, append_assoc, append-nil}
+use Rattle.std.proofs.Common.{◌≡◌, ℕ, ◌-◌, List, [], ◌++◌, Option, Some, None, length, take, drop, refl, Result, Ok, Err, OnErr, OnOk, IfErr, IsErrAnd, sym, ap, ◌∙◌, append_assoc, append-nil, subst}
 use Rattle.std.proofs.lemmas.List.{take_rest, take-append-drop}
-use Rattle.std.proofs.Common.{Result, Ok, Err, OnErr, OnOk, IfErr, subst}
-use Rattle.std.specs.Prelude.{IsErrAnd}
-use Rattle.std.specs.Io.KnownBytes.{Appends, Consumes, Keeps}
-use Rattle.room_program.specs.Streams.{with_bytes}
+use Rattle.room_program.specs.Prelude.{Appends, Consumes, Keeps, with_bytes}
 
 pub Appends-then : (old mid new : Option (List ℕ)) (xs ys : List ℕ) → Appends old mid xs → Appends mid new ys → Appends old new (xs ++ ys)
 Appends-then None mid new xs ys h k = tt

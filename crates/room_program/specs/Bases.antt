@@ -1,18 +1,13 @@
 -- The base map in the first line of a stream. The line is a welcome; this is the project's own format.
-use Rattle.std.specs.Prelude.{◌==◌, ◌≡◌, ◌⊎◌, ℕ, Bool, true, false, List, [], ◌∷◌, Option, IfSome, Result, Ok, Err, if◌then◌else◌}
-use Rattle.std.specs.Option.{option_map}
-use Rattle.std.specs.Str.{is_utf8}
-use Rattle.std.specs.declared.alloc.Global.{Global}
-use Rattle.osm_elements.specs.Maps.{Rows}
-use Rattle.edit_simple.specs.Soundness.{IsFirstUnsound}
+use Rattle.std.specs.Prelude.{◌==◌, ◌≡◌, ◌⊎◌, ℕ, Bool, true, false, List, [], ◌∷◌, Option, IfSome, Result, Ok, Err, if◌then◌else◌, option_map}
+use Rattle.room_server.specs.Prelude.{is_utf8, Global, Rows, IsFirstUnsound, spells_welcome}
 use Rattle.room_wire.specs.declared.bad.Bad.{Bad}
 use Rattle.room_wire.specs.declared.bad.Fault.TheVariants.{NotJson}
 use Rattle.room_wire.specs.declared.welcome.Welcome.{Welcome}
-use Rattle.room_wire.specs.Welcomes.{spells_welcome}
 use Rattle.room_program.specs.declared.fault.ReplayFault.{ReplayFault}
 use Rattle.room_program.specs.declared.fault.ReplayFault.TheVariants.{Read, Memory, BadBase, Unsound}
-use Rattle.room_program.specs.declared.source.Source as sources
 use Rattle.room_program.specs.Streams.{Gets}
+use Rattle.room_program.specs.declared.source.Source as sources
 
 -- the bytes before the first line feed and the bytes after it; without a line feed, these are all bytes and none
 abbrev pub first_line : List ℕ → List ℕ

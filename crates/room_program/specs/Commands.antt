@@ -1,22 +1,20 @@
 -- What the program's arguments ask for, and what a run that they ask for did to its streams.
 use Rattle.std.specs.Prelude.{◌≡◌, ◌≤◌, ◌⊎◌, ◌^◌, ℕ, Bool, true, false, List, [], Option, Some, codes, map}
-use Rattle.std.specs.declared.alloc.Global.{Global}
 use Rattle.clap.specs.Words.{Text}
-use Rattle.osm_changes.specs.Sound.{is_sound}
-use Rattle.osm_elements.specs.Maps.{Rows}
+use Rattle.room_server.specs.Prelude.{Global, is_sound, Rows}
 use Rattle.room_program.specs.declared.asked.Asked.{Asked}
-use Rattle.room_program.specs.declared.asked.Asked.TheVariants as asked
 use Rattle.room_program.specs.declared.asked.ServeOptions.{ServeOptions}
 use Rattle.room_program.specs.declared.fault.ProgramFault.TheVariants.{Replay}
 use Rattle.room_program.specs.declared.fault.ReplayFault.{ReplayFault}
-use Rattle.room_program.specs.declared.sink.Sink as sinks
-use Rattle.room_program.specs.declared.source.Source as sources
 use Rattle.room_program.specs.Bases.{IsNoBase, IsTold, behind}
 use Rattle.room_program.specs.Faults.{Takes, fault_line}
 use Rattle.room_program.specs.LineAnswers.{script}
 use Rattle.room_program.specs.Replays.{EndsBy}
 use Rattle.room_program.specs.Streams.{GetsAtMost, WritesAll, WritesFront}
 use Rattle.room_program.specs.CommandLine.{IsTaken, addr_asked, base_asked, limit_asked, rooms_asked, sessions_asked, subcommand_asked, workers_asked}
+use Rattle.room_program.specs.declared.asked.Asked.TheVariants as asked
+use Rattle.room_program.specs.declared.sink.Sink as sinks
+use Rattle.room_program.specs.declared.source.Source as sources
 
 -- the arguments are taken, and ask for a replay with this limit, on a base or not
 pub record AsksForReplay (words : List Text) (limit : ℕ) (base : Bool) : Type 0 where

@@ -1,22 +1,20 @@
 -- The lines and exit statuses of faults.
 use Rattle.std.specs.Prelude.{◌≡◌, ◌⊎◌, ℕ, Bool, true, false, List, [], ◌∷◌, ◌++◌, codes}
-use Rattle.std.specs.declared.alloc.Global.{Global}
-use Rattle.std.specs.Io.KnownBytes.{Appends}
+use Rattle.room_server.specs.Prelude.{Global, Appends, name_text}
 use Rattle.osm_elements.specs.declared.name.Name.{Name}
-use Rattle.osm_elements.specs.NameTexts.{name_text}
 use Rattle.room_history.specs.declared.base.BaseFault.{BaseFault}
-use Rattle.room_history.specs.declared.base.BaseFault.TheVariants as bases
 use Rattle.room_program.specs.declared.fault.ProgramFault.{ProgramFault}
 use Rattle.room_program.specs.declared.fault.ProgramFault.TheVariants.{Replay, Memory, Listen, Worker, TooManyRooms, BadName, Twice}
 use Rattle.room_program.specs.declared.fault.ReplayFault.{ReplayFault}
-use Rattle.room_program.specs.declared.fault.ReplayFault.TheVariants as faults
 use Rattle.room_program.specs.declared.fault.StreamFault.{StreamFault}
-use Rattle.room_program.specs.declared.fault.StreamFault.TheVariants as streams
 use Rattle.room_program.specs.declared.sink.Sink.{Ghosts}
 use Rattle.room_program.specs.Streams.{TookNone}
 use Rattle.room_server.specs.declared.pool.PoolFault.{PoolFault}
-use Rattle.room_server.specs.declared.pool.PoolFault.TheVariants as pools
 use Rattle.room_server.specs.declared.table.TableFault.{TableFault}
+use Rattle.room_history.specs.declared.base.BaseFault.TheVariants as bases
+use Rattle.room_program.specs.declared.fault.ReplayFault.TheVariants as faults
+use Rattle.room_program.specs.declared.fault.StreamFault.TheVariants as streams
+use Rattle.room_server.specs.declared.pool.PoolFault.TheVariants as pools
 use Rattle.room_server.specs.declared.table.TableFault.TheVariants as tables
 
 -- the line with the name whose row is not sound

@@ -11,6 +11,7 @@ pub mod LineAnswers
 pub mod LineReplies
 pub mod Lines
 pub mod Noted
+pub mod Prelude
 pub mod Replays
 pub mod Runs
 pub mod Scripts

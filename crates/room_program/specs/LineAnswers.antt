@@ -1,23 +1,14 @@
 -- The meaning of a line, and a room's reply to it.
-use Rattle.std.specs.Prelude.{◌==◌, ℕ, List, [], ◌∷◌, Option, Some, None, Result, Ok, Err, if◌then◌else◌}
-use Rattle.std.specs.Option.{option_map, option_and_then}
-use Rattle.std.specs.Str.{is_utf8}
-use Rattle.std.specs.declared.alloc.Global.{Global}
-use Rattle.room_stacks.specs.declared.author.Author.{Author}
-use Rattle.room_stacks.specs.Authors.{author_of}
-use Rattle.osm_elements.specs.Maps.{Rows}
-use Rattle.room_history.specs.Rooms.{RoomState}
-use Rattle.room_history.specs.Asking.{room_answer}
-use Rattle.room_history.specs.declared.ask.RoomCall.{RoomCall}
-use Rattle.room_wire.specs.declared.answer.Answer.TheVariants as answers
+use Rattle.std.specs.Prelude.{◌==◌, ℕ, List, [], ◌∷◌, Option, Some, None, Result, Ok, Err, if◌then◌else◌, option_map, option_and_then}
+use Rattle.room_server.specs.Prelude.{is_utf8, Global, author_of, Rows, RoomState, room_answer, answer_to, asked, answer_text, id_told, spells}
+use Rattle.room_interface.specs.declared.author.Author.{Author}
+use Rattle.room_interface.specs.declared.ask.RoomCall.{RoomCall}
 use Rattle.room_wire.specs.declared.bad.Bad.{Bad}
 use Rattle.room_wire.specs.declared.bad.Fault.TheVariants.{NotJson}
 use Rattle.room_wire.specs.declared.incoming.Incoming.{Incoming}
 use Rattle.room_wire.specs.declared.incoming.Body.{Body}
-use Rattle.room_wire.specs.Asked.{answer_to, asked, answer_text}
-use Rattle.room_wire.specs.Reading.{id_told}
-use Rattle.room_wire.specs.Spelling.{spells}
 use Rattle.room_program.specs.Scripts.{Loss, Nothing, Answer_lost, Answer_and_id_lost, script_of}
+use Rattle.room_wire.specs.declared.answer.Answer.TheVariants as answers
 
 -- the bytes before the first space (32) and the bytes after it, if there is a space
 abbrev pub split_space : List ℕ → Option (List ℕ × List ℕ)
@@ -42,7 +33,7 @@ abbrev pub asked_answer : RoomState Global → ℕ → Option (RoomCall Global) 
 asked_answer room id None = (answer_text id answers.HelloTwice, room)
 asked_answer room id (Some call) =
     let step = room_answer room.base room.limit room.journal call in
-    (answer_text id (answer_to call step.0), record { base = room.base; limit = room.limit; journal = step.1 })
+    (answer_text id (answer_to step.0), record { base = room.base; limit = room.limit; journal = step.1 })
 
 -- the reply to an author's message, and the room after it
 abbrev pub body_answer : RoomState Global → Author → ℕ → Body → List ℕ × RoomState Global

@@ -1,24 +1,17 @@
 -- The outcome of serving rooms.
 use Rattle.std.specs.Prelude.{◌≡◌, ◌≤◌, ◌<◌, ◌⊎◌, ◌^◌, ℕ, Bool, true, false, List, All, length, ◌++◌, codes}
-use Rattle.std.specs.declared.alloc.Global.{Global}
 use Rattle.clap.specs.Words.{Text}
-use Rattle.osm_changes.specs.Sound.{is_sound}
-use Rattle.osm_elements.specs.Maps.{Rows}
+use Rattle.room_server.specs.Prelude.{Global, is_sound, Rows, IsJournal, AreFronts, AreFine, IsNameFault, Opens, Pools, SeatView, TableView}
 use Rattle.room_history.specs.declared.entry.Entry.{Entry}
-use Rattle.room_history.specs.LegalJournals.{IsJournal}
 use Rattle.room_program.specs.declared.fault.ProgramFault.{ProgramFault}
 use Rattle.room_program.specs.declared.fault.ProgramFault.TheVariants.{Replay, Memory, Listen, Worker, TooManyRooms, BadName, Twice}
-use Rattle.room_program.specs.declared.sink.Sink as sinks
-use Rattle.room_program.specs.declared.source.Source as sources
 use Rattle.room_program.specs.Bases.{BeginsOn, IsNoBase}
 use Rattle.room_program.specs.Faults.{Takes, fault_line, fault_status}
 use Rattle.room_program.specs.Fronts.{front_lines}
-use Rattle.room_server.specs.declared.table.TableFault.TheVariants as tables
 use Rattle.room_program.specs.Streams.{GetsAtMost}
-use Rattle.room_server.specs.Fronts.{AreFronts}
-use Rattle.room_server.specs.Openings.{AreFine, IsNameFault, Opens}
-use Rattle.room_server.specs.Pools.{Pools}
-use Rattle.room_server.specs.Tables.{SeatView, TableView}
+use Rattle.room_program.specs.declared.sink.Sink as sinks
+use Rattle.room_program.specs.declared.source.Source as sources
+use Rattle.room_server.specs.declared.table.TableFault.TheVariants as tables
 
 -- the rooms can be served: there are at most 64, each with a name of its own
 abbrev pub CanBeServed : List Text → Type 0

@@ -1,6 +1,5 @@
 -- What a run over a reader and a writer did to their bytes, if these are known.
-use Rattle.std.specs.Prelude.{◌≡◌, ◌≢◌, ◌⊎◌, ◌<◌, ℕ, suc, zero, List, [], ◌++◌, Option, Result, Ok}
-use Rattle.std.specs.Option.{option_map}
+use Rattle.std.specs.Prelude.{◌≡◌, ◌≢◌, ◌⊎◌, ◌<◌, ℕ, suc, zero, List, [], ◌++◌, Option, Result, Ok, option_map}
 use Rattle.std.specs.Io.KnownBytes.{Appends, Consumes, IsAtEnd}
 use Rattle.room_program.specs.declared.failed.Failed.{Failed}
 use Rattle.room_program.specs.Lines.{ended}

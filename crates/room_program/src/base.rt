@@ -1,8 +1,7 @@
 //! Reading the base map of a room from the first line of a stream.
 ghost use Rattle.std.specs.Prelude.{◌≡◌, ◌<◌, ◌⊎◌, false, true, length, Ok, Err, IfErr, IfOk, MatchResult, OnOk};
+ghost use Rattle.room_server.specs.Prelude.{AreInOrder, are_of_kinds};
 ghost use Rattle.room_wire.specs.declared.bad.Fault.TheVariants.{Memory as OutOfMemory};
-ghost use Rattle.osm_elements.specs.Rows.{AreInOrder};
-ghost use Rattle.edit_simple.specs.Soundness.{are_of_kinds};
 ghost use Rattle.room_program.specs.Bases.{IsTold, IsUnread, Tells, spelled_base};
 ghost use Rattle.room_program.specs.Inner.FirstLines.{EndsLine, IsBadLine, ReadsLine};
 ghost use Rattle.room_program.specs.Streams.{Gets, GetsAtMost};

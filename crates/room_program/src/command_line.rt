@@ -3,8 +3,7 @@ ghost use Rattle.std.specs.Prelude.{◌≡◌, IfOk, MatchResult, false, map};
 ghost use Rattle.clap.specs.Words.{HasKind, app_of, found_of, rows_of, rule_of};
 ghost use Rattle.clap.specs.declared.builder.command.Command.TheViews.{out-Command as fields_of};
 ghost use Rattle.room_program.specs.Commands.{IsAsked};
-ghost use Rattle.room_program.specs.CommandLine.{HasNumber, addr_in, base_in, faults, number_in, rooms_in};
-ghost use Rattle.room_program.specs.CommandLine.{program_app, replay_app, serve_app};
+ghost use Rattle.room_program.specs.CommandLine.{HasNumber, addr_in, base_in, faults, number_in, rooms_in, program_app, replay_app, serve_app};
 ghost use Rattle.room_program.specs.CommandLine as words;
 
 use crate::asked::{Asked, ServeOptions};

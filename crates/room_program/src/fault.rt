@@ -1,9 +1,9 @@
 //! The faults that end a replay or the program.
 ghost use Rattle.std.specs.Prelude.{◌≡◌};
 
-use edit_simple::refusal::Refusal;
 use osm_elements::name::Name;
 use room_history::base::BaseFault;
+use room_interface::refusal::Refusal;
 use room_server::{PoolFault, TableFault};
 use room_wire::bad::Bad;
 use std::alloc::{AllocError, Global};

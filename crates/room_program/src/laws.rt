@@ -1,19 +1,13 @@
 //! Laws about the definitions, each the contract of a function that does nothing.
 ghost use Rattle.std.specs.Prelude.{◌≡◌, ◌≤◌, ◌<◌, ◌+◌, ◌^◌, ℕ, List, Ok, Some, codes, is_some, true};
-ghost use Rattle.std.specs.declared.alloc.Global.{Global};
-ghost use Rattle.osm_changes.specs.Sound.{is_sound};
-ghost use Rattle.osm_elements.specs.Maps.{Rows};
-ghost use Rattle.room_history.specs.Headline.{Holds};
-ghost use Rattle.room_history.specs.LegalJournals.{IsJournal};
+ghost use Rattle.room_server.specs.Prelude.{Global, is_sound, Rows, Holds, IsJournal};
 ghost use Rattle.room_program.specs.LineAnswers.{answered, opened_on};
 ghost use Rattle.room_program.specs.Scripts.{Loss, room_after};
 ghost use Rattle.room_program.specs.declared.io.Io.{Io};
 ghost use Rattle.room_program.specs.Io.{calls_of};
 ghost use Rattle.room_program.specs.Streams.{Gets, TookNone};
-ghost use Rattle.room_program.specs.CommandLine.{IsTaken, limit_asked, limit_text, subcommand_asked};
-ghost use Rattle.room_program.specs.CommandLine.{sessions_asked, workers_asked};
-ghost use Rattle.room_program.specs.CommandLineExamples.{taken, bad_limit, serve_taken, bad_serve, bad_word};
-ghost use Rattle.room_program.specs.CommandLineExamples.{help_asked, version_asked};
+ghost use Rattle.room_program.specs.CommandLine.{IsTaken, limit_asked, limit_text, subcommand_asked, sessions_asked, workers_asked};
+ghost use Rattle.room_program.specs.CommandLineExamples.{taken, bad_limit, serve_taken, bad_serve, bad_word, help_asked, version_asked};
 
 use crate::io::Io;
 use crate::sink::Sink;

@@ -1,23 +1,19 @@
 //! Answering a line by a room.
 ghost use Rattle.std.specs.Prelude.{◌≡◌, ◌⊎◌, ℕ, Some, None, IfOk, MatchOption, length};
+ghost use Rattle.room_server.specs.Prelude.{author_of, undos, redos, mapof, found_answer, answer_text, to_value, GivesMessage, id_told};
 ghost use Rattle.room_wire.specs.declared.incoming.Body.TheVariants.{Change, Get, Map, Undos};
 ghost use Rattle.osm_elements.specs.Rows.{row_at};
-ghost use Rattle.room_stacks.specs.Authors.{author_of};
-ghost use Rattle.room_history.specs.Journals.{undos, redos};
-ghost use Rattle.room_history.specs.Replays.{mapof};
-ghost use Rattle.room_wire.specs.declared.answer.Answer.TheVariants as answers;
-ghost use Rattle.room_wire.specs.Asked.{found_answer, answer_text, to_value};
-ghost use Rattle.room_wire.specs.Reading.{GivesMessage, id_told};
 ghost use Rattle.room_program.specs.LineAnswers.{said, spelled, body_answer, message_answer, answered};
 ghost use Rattle.room_program.specs.LineReplies.{IsReply};
+ghost use Rattle.room_wire.specs.declared.answer.Answer.TheVariants as answers;
 
 use crate::answerer::Answerer;
 use memchr::memchr;
 use osm_elements::Memory;
 use osm_elements::name::Name;
-use room_history::call::{Call, Request};
 use room_history::room::Room;
-use room_stacks::author::Author;
+use room_interface::author::Author;
+use room_interface::call::{Call, Request};
 use room_wire::answer::Answer;
 use room_wire::bad::{Bad, Fault};
 use room_wire::incoming::{Body, Incoming};

@@ -1,7 +1,6 @@
 //! A stream of the system, with notes of its calls.
 ghost use Rattle.std.specs.Prelude.{◌≡◌, Some, length};
-ghost use Rattle.std.specs.Io.{ReadsAtMost, WritesAtMost};
-ghost use Rattle.std.specs.Io.KnownBytes.{ReadConsumes, WriteAppends};
+ghost use Rattle.room_server.specs.Prelude.{ReadsAtMost, WritesAtMost, ReadConsumes, WriteAppends};
 ghost use Rattle.room_program.specs.Calls.{noted, unnoted};
 
 use crate::failed::Failed;

@@ -1,17 +1,13 @@
 //! Running a room from a stream of lines to a stream of replies.
 ghost use Rattle.std.specs.Prelude.{◌≡◌, ◌≢◌, ◌++◌, ◌⊎◌, ℕ, List, [], true, false, OnOk, OnErr, Err, ◌<◌, length};
-ghost use Rattle.std.specs.Io.KnownBytes.{Appends};
-ghost use Rattle.std.specs.declared.alloc.Global.{Global};
-ghost use Rattle.osm_changes.specs.Sound.{is_sound};
-ghost use Rattle.osm_elements.specs.Maps.{Rows};
+ghost use Rattle.room_server.specs.Prelude.{Appends, Global, is_sound, Rows};
 ghost use Rattle.room_program.specs.Bases.{IsNoBase, IsTold, behind};
 ghost use Rattle.room_program.specs.Lines.{IsLine};
 ghost use Rattle.room_program.specs.Replays.{HasRun};
 ghost use Rattle.room_program.specs.Scripts.{script_of};
 ghost use Rattle.room_program.specs.LineAnswers.{script};
 ghost use Rattle.room_program.specs.Runs.{AnswersFront, AnswersSome};
-ghost use Rattle.room_program.specs.Streams.{Gets, GetsAtMost, TookNone, WritesAll, WritesEnded, WritesFront};
-ghost use Rattle.room_program.specs.Streams.{with_bytes};
+ghost use Rattle.room_program.specs.Streams.{Gets, GetsAtMost, TookNone, WritesAll, WritesEnded, WritesFront, with_bytes};
 
 use crate::answerer::Answerer;
 use crate::base::{FirstLine, read_first_line, rows_of};

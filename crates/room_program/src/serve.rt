@@ -1,13 +1,9 @@
 //! Serving rooms to clients.
 ghost use Rattle.std.specs.Prelude.{◌≡◌, ◌≤◌, ◌^◌, IfErr, IfOk, OnOk, false, true, length, map};
-ghost use Rattle.std.specs.declared.alloc.Global.{Global};
-ghost use Rattle.osm_elements.specs.Maps.{Rows};
-ghost use Rattle.osm_elements.specs.Rows.{AreInOrder};
-ghost use Rattle.edit_simple.specs.Soundness.{are_of_kinds};
+ghost use Rattle.room_server.specs.Prelude.{Global, Rows, are_of_kinds, AreInOrder, Opens};
 ghost use Rattle.room_program.specs.Bases.{BeginsOn, IsUnread};
 ghost use Rattle.room_program.specs.Servings.{CanBeServed, IsUnopened, ServesAll, StopsBy};
 ghost use Rattle.room_program.specs.Streams.{GetsAtMost};
-ghost use Rattle.room_server.specs.Openings.{Opens};
 
 use crate::asked::ServeOptions;
 use crate::base::read_base;

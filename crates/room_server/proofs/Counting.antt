@@ -1,14 +1,8 @@
 -- How many parts and kin the seats of a table have, after splits and meets.
-use Rattle.std.proofs.Common.{◌≡◌, ℕ, zero, suc, ◌<◌, ◌≤◌, ◌+◌, ◌*◌, ◌^◌, ◌-◌, List, [], ◌∷◌, ◌∙◌, All, Option, Some, None, IfNone, length, slice_get, map, ap, sym, refl, subst, length-append, arith}
+use Rattle.std.proofs.Common.{◌≡◌, ℕ, zero, suc, ◌<◌, ◌≤◌, ◌+◌, ◌*◌, ◌^◌, ◌-◌, List, [], ◌∷◌, All, Option, Some, None, IfNone, length, slice_get, map, refl, ◌∙◌, ap, sym, subst, length-append, arith, option_map, slice_index_or}
 use Rattle.std.proofs.lemmas.Option.{get_or_from_slice_get, slice_get-get_or, slice_get-map, slice_get_within}
 use Rattle.std.proofs.lemmas.List.{length-map}
-use Rattle.std.specs.Option.{option_map}
-use Rattle.std.specs.declared.alloc.Global.{Global}
-use Rattle.room_history.specs.declared.entry.Entry.{Entry}
-use Rattle.std.specs.List.{slice_index_or}
-use Rattle.turn_desk.specs.Desk.{IsFirst, kin, share}
-use Rattle.room_server.specs.Seats.{AreMet, AreSplit, HaveMet, HavePartsFor, IsFresh, IsSet}
-use Rattle.room_server.specs.Tables.{AreAt, SeatView, TableView, mark}
+use Rattle.room_server.specs.Prelude.{Global, Entry, IsFirst, kin, share, AreMet, AreSplit, HaveMet, HavePartsFor, IsFresh, IsSet, AreAt, SeatView, TableView, mark}
 use Rattle.room_server.proofs.Seating.{some_is}
 
 -- ---- lists

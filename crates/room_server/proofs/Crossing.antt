@@ -1,24 +1,24 @@
 -- A table and the seats at its desks may go to other threads. Rattle does not derive these proofs.
 use denote.Param.Send.{IsSend, IsSync, sendable, view_sync, recorded_sync, struct_sync}
 use Rattle.std.proofs.Crossing.{crosses, send, sync, frees}
+use denote.Struct.Declared.{shape}
+use denote.Struct.Field.{u64-field}
+use Rattle.room_history.proofs.Crossing.{seat_send, desk_sync}
+use Rattle.room_history.specs.contracts.turned.RoomTurned.TheImpl.{no_dict}
 use Rattle.std.proofs.vec.Vec.TheSendSync as vec
 use Rattle.std.specs.contracts.alloc.Global as Heap
 use Rattle.std.specs.contracts.impls.GlobalAllocator.TheImpl as heap
 use Rattle.std.below.core.specs.contracts.clone.Clone+copy.TheImpl as cloning
 use Rattle.indexmap.proofs.set.IndexSet.TheSendSync as set
-use Rattle.room_stacks.proofs.author.Author.TheSendSync as author
-use Rattle.room_history.proofs.Crossing.{seat_send, desk_sync}
-use Rattle.room_history.specs.contracts.turned.RoomTurned.TheImpl.{no_dict}
+use Rattle.room_interface.proofs.author.Author.TheSendSync as author
 use Rattle.turn_desk.specs.contracts.desk.Desk as Desk
 use Rattle.turn_desk.specs.contracts.seat.Seat as Seat
-use Rattle.room_history.specs.contracts.ask.RoomCall as RoomCall
-use Rattle.room_history.specs.contracts.ask.RoomReply as RoomReply
+use Rattle.room_interface.specs.contracts.ask.RoomCall as RoomCall
+use Rattle.room_interface.specs.contracts.ask.RoomReply as RoomReply
 use Rattle.room_history.specs.contracts.entry.Entry as Entry
 use Rattle.room_history.specs.contracts.room.Room as Room
 use Rattle.room_history.specs.contracts.turned.Opening as Opening
 use Rattle.room_history.specs.contracts.turned.RoomTurned.TheImpl as turned
-use denote.Struct.Declared.{shape}
-use denote.Struct.Field.{u64-field}
 use Rattle.std.specs.contracts.vec.Vec as Vec
 use Rattle.std.specs.contracts.net.tcp.TcpStream as TcpStream
 use Rattle.std.proofs.net.tcp.TcpStream.TheSendSync as stream

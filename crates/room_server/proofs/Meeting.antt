@@ -1,12 +1,8 @@
 -- Meeting the seats of workers into those of a table, in order, and closing the desks.
-use Rattle.std.proofs.Common.{◌≡◌, ◌≢◌, ℕ, suc, ◌<◌, ◌≤◌, List, [], ◌∷◌, ◌++◌, ◌∙◌, Some, length, slice_get, slice_set, ap, sym, refl, subst, inl, inr, ◌⊎◌, arith}
+use Rattle.std.proofs.Common.{◌≡◌, ◌≢◌, ℕ, suc, ◌<◌, ◌≤◌, List, [], ◌∷◌, ◌++◌, Some, length, slice_get, slice_set, refl, ◌⊎◌, ◌∙◌, ap, sym, subst, inl, inr, arith}
 use Rattle.std.proofs.lemmas.List.{length-set}
 use Rattle.std.proofs.lemmas.Option.{slice_get_within}
-use Rattle.room_history.specs.Turns.{IsTurn}
-use Rattle.turn_desk.specs.Desk.{MeetsAt}
-use Rattle.room_server.specs.Fronts.{AreFronts, IsFront}
-use Rattle.room_server.specs.Seats.{AreMet}
-use Rattle.room_server.specs.Tables.{DeskView, SeatView, TableView}
+use Rattle.room_server.specs.Prelude.{IsTurn, MeetsAt, AreFronts, IsFront, AreMet, DeskView, SeatView, TableView}
 use Rattle.room_server.proofs.Seating.{get_set_other, get_set_same, some_is}
 use Rattle.room_server.proofs.Splitting.{get_more, length_more}
 

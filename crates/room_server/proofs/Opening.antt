@@ -1,30 +1,16 @@
 -- Opening the rooms of a table, in order.
-use Rattle.std.proofs.Common.{◌≡◌, ◌≢◌, ℕ, zero, suc, ◌<◌, ◌+◌, Bool, true, false, List, [], ◌∷◌, ◌++◌, ◌∙◌, ◌⊎◌, inl, inr, Some, None, Result, Ok, Err, IfErr, IsErrAnd, length, map, slice_get, take, ap, sym, refl, subst, if◌then◌else◌, arith}
+use Rattle.std.proofs.Common.{◌≡◌, ◌≢◌, ℕ, zero, suc, ◌<◌, ◌+◌, Bool, true, false, List, [], ◌∷◌, ◌++◌, ◌⊎◌, Some, None, Result, Ok, Err, IfErr, length, map, slice_get, take, refl, if◌then◌else◌, ◌∙◌, inl, inr, ap, sym, subst, arith, IsErrAnd, option_map, slice_index_or}
 use Rattle.std.proofs.lemmas.Bool.{cases_eq}
 use Rattle.std.proofs.lemmas.List.Folds.{Any-from_list_any, list_any_at}
 use Rattle.std.proofs.lemmas.Option.{get_or_from_slice_get, slice_get-get_or, slice_get-map, slice_get_within}
-use Rattle.std.specs.Option.{option_map}
-use Rattle.std.specs.List.{slice_index_or}
-use Rattle.edit_topology.specs.Facts.BothTags.{same_text_itself}
-use Rattle.osm_changes.specs.Facts.SameElements.{same_texts}
-use Rattle.std.specs.declared.alloc.Global.{Global}
-use Rattle.osm_elements.specs.Maps.{Rows}
-use Rattle.room_history.specs.Bases.{IsBaseFault}
-use Rattle.room_history.specs.declared.base.BaseFault.{BaseFault}
-use Rattle.room_history.specs.declared.base.BaseFault.TheVariants as bases
-use Rattle.room_stacks.specs.Authors.{author_of, is_author}
-use Rattle.room_stacks.specs.SameAuthors.{is_same_author}
-use Rattle.turn_desk.specs.Desk.{IsAt, IsFirst}
-use Rattle.room_server.specs.declared.table.TableFault.{TableFault}
-use Rattle.room_server.specs.declared.table.TableFault.TheVariants.{BadName, Twice, Unsound, Memory}
-use Rattle.room_server.specs.Inner.NewNames.{IsRefused, contains_name}
-use Rattle.room_server.specs.Openings.{AreFine, IsAgain, IsBad, IsFirstFault, IsNameFault, opening}
-use Rattle.room_server.specs.Inner.Opened.{AreOpened}
-use Rattle.room_server.specs.Tables.{DeskView, SeatView, TableView, base_fault}
 use Rattle.std.proofs.lemmas.List.Elements.{All-same, All-push}
+use Rattle.room_server.specs.Prelude.{Global, same_text_itself, same_texts, Rows, IsBaseFault, BaseFault, author_of, is_author, is_same_author, IsAt, IsFirst, TableFault, BadName, Twice, Unsound, Memory, AreFine, IsAgain, IsBad, IsFirstFault, IsNameFault, opening, DeskView, SeatView, TableView, base_fault}
+use Rattle.room_server.specs.Inner.NewNames.{IsRefused, contains_name}
+use Rattle.room_server.specs.Inner.Opened.{AreOpened}
 use Rattle.room_server.proofs.Counting.{all_none}
 use Rattle.room_server.proofs.Seating.{some_is}
 use Rattle.room_server.proofs.Splitting.{AtFirst, get_more, length_more}
+use Rattle.room_history.specs.declared.base.BaseFault.TheVariants as bases
 
 -- ---- lists
 

@@ -1,12 +1,8 @@
 -- No part of a desk is lost by splits, by work and by meetings.
-use Rattle.std.proofs.Common.{◌≡◌, ℕ, ◌+◌, ◌*◌, ◌^◌, ◌≤◌, ◌-◌, List, [], ◌∷◌, ◌++◌, ◌∙◌, All, Option, Some, None, length, slice_get, map, ap, sym, refl, arith}
+use Rattle.std.proofs.Common.{◌≡◌, ℕ, ◌+◌, ◌*◌, ◌^◌, ◌≤◌, ◌-◌, List, [], ◌∷◌, ◌++◌, All, Option, Some, None, length, slice_get, map, refl, ◌∙◌, ap, sym, arith, option_map}
 use Rattle.std.proofs.lemmas.Option.{slice_get-map, slice_get_within}
-use Rattle.std.specs.Option.{option_map}
-use Rattle.turn_desk.specs.Desk.{IsFirst, share}
+use Rattle.room_server.specs.Prelude.{IsFirst, share, Pairs, Works, AreMet, AreSplit, HavePartsFor, AreAt, Mark, SeatView, TableView, mark}
 use Rattle.room_server.specs.Inner.Parts.{parts_at, parts_in}
-use Rattle.room_server.specs.Pools.{Pairs, Works}
-use Rattle.room_server.specs.Seats.{AreMet, AreSplit, HavePartsFor}
-use Rattle.room_server.specs.Tables.{AreAt, Mark, SeatView, TableView, mark}
 use Rattle.room_server.proofs.Counting.{all_at, all_from, there_is}
 
 -- an element cannot be there and be missing

@@ -1,17 +1,10 @@
 -- What a pool makes of the seats, a set after the other.
-use Rattle.std.proofs.Common.{◌≡◌, ℕ, List, [], ◌∷◌, ◌++◌, ◌∙◌, All, Option, Some, None, IfNone, length, slice_get, map, ap, sym, refl, subst, append_assoc, append-nil, arith}
+use Rattle.std.proofs.Common.{◌≡◌, ℕ, List, [], ◌∷◌, ◌++◌, All, Option, Some, None, IfNone, length, slice_get, map, refl, ◌∙◌, ap, sym, subst, append_assoc, append-nil, arith, flat_map, option_to_list}
 use Rattle.std.proofs.lemmas.List.{map-append}
 use Rattle.std.proofs.lemmas.List.Elements.{All-push}
 use Rattle.std.proofs.lemmas.Option.{slice_get_within}
-use Rattle.std.specs.List.{flat_map}
-use Rattle.std.specs.Option.{option_to_list}
+use Rattle.room_server.specs.Prelude.{Meet, Pairs, seats_of, AreMet, AreAt, SeatView, TableView, joined, kin, BeginsWith}
 use Rattle.room_server.proofs.Counting.{all_at, all_from, there_is}
-use Rattle.room_server.specs.Pools.{Meet, Pairs, seats_of}
-use Rattle.room_server.specs.Seats.{AreMet}
-use Rattle.room_server.specs.Tables.{AreAt, SeatView, TableView}
-use Rattle.room_session.specs.Facts.Running.{joined}
-use Rattle.turn_desk.specs.Desk.{kin}
-use Rattle.turn_desk.specs.History.{BeginsWith}
 
 -- ---- lists
 

@@ -1,22 +1,12 @@
 -- What a turn and a look at one seat of a table change, and what a session learns from them.
-use Rattle.std.proofs.Common.{◌≡◌, ◌≢◌, ℕ, zero, suc, ◌<◌, List, [], ◌∷◌, ◌++◌, ◌∙◌, Option, Some, None, length, map, slice_get, slice_set, ap, sym, refl, subst, inl, inr, ◌⊎◌, append-nil, length-append, arith}
+use Rattle.std.proofs.Common.{◌≡◌, ◌≢◌, ℕ, zero, suc, ◌<◌, List, [], ◌∷◌, ◌++◌, Option, Some, None, length, map, slice_get, slice_set, refl, ◌⊎◌, ◌∙◌, ap, sym, subst, inl, inr, append-nil, length-append, arith}
 use Rattle.std.proofs.lemmas.Bool.{cases_eq}
 use Rattle.std.proofs.lemmas.List.{length-set, length-map, map-append}
 use Rattle.std.proofs.lemmas.Option.{slice_get_within}
 use Rattle.std.proofs.lemmas.List.Quantifiers.{position-Some}
-use Rattle.std.specs.declared.alloc.Global.{Global}
-use Rattle.room_history.specs.declared.ask.RoomCall.{RoomCall}
-use Rattle.room_history.specs.declared.ask.RoomReply.{RoomReply}
-use Rattle.room_history.specs.declared.entry.Entry.{Entry}
-use Rattle.room_history.specs.declared.turned.Opening.{Opening}
-use Rattle.room_history.specs.LegalJournals.{IsJournal}
-use Rattle.room_history.specs.Turns.{IsTurn}
-use Rattle.room_session.specs.Rooms.{Known, RoomKnown, HasRoom, AnswersAt, LooksAt as LooksSo, LeavesOthers, AnswersCall, TellsLength}
-use Rattle.room_stacks.specs.SameAuthors.{is_same_author}
-use Rattle.room_stacks.specs.Authors.{author_of}
-use Rattle.turn_desk.specs.Desk.{IsAt, IsSameSeat, TurnsAt, LooksAt, Leaves, Adds}
-use Rattle.turn_desk.specs.History.{History, entries, BeginsWith, IsLegal}
-use Rattle.room_server.specs.Tables.{AreAt, DeskView, LooksThere, SeatView, SeatedView, TableView, TurnsThere, kept_of, known_at, known_by, known_of, mark, place_by}
+use Rattle.room_server.specs.Prelude.{Global, RoomCall, RoomReply, Entry, Opening, IsJournal, IsTurn, Known, RoomKnown, HasRoom, AnswersAt, LeavesOthers, AnswersCall, TellsLength, is_same_author, author_of, IsAt, IsSameSeat, TurnsAt, Leaves, Adds, History, entries, BeginsWith, IsLegal, AreAt, DeskView, LooksThere, SeatView, SeatedView, TableView, TurnsThere, kept_of, known_at, known_by, known_of, mark, place_by}
+use Rattle.room_session.specs.Rooms.{LooksAt as LooksSo}
+use Rattle.turn_desk.specs.Desk.{LooksAt}
 
 -- ---- lists
 

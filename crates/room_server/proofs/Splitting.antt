@@ -1,9 +1,7 @@
 -- Splitting the seats of a table, in order.
-use Rattle.std.proofs.Common.{◌≡◌, ℕ, zero, suc, ◌+◌, List, [], ◌∷◌, ◌++◌, ◌∙◌, Some, length, slice_get, ap, sym, refl, subst, inl, inr, ◌⊎◌, append_assoc, append-nil, arith}
+use Rattle.std.proofs.Common.{◌≡◌, ℕ, zero, suc, ◌+◌, List, [], ◌∷◌, ◌++◌, Some, length, slice_get, refl, ◌⊎◌, ◌∙◌, ap, sym, subst, inl, inr, append_assoc, append-nil, arith}
 use Rattle.std.proofs.lemmas.Option.{slice_get_within}
-use Rattle.turn_desk.specs.Desk.{IsAt, SplitsInto}
-use Rattle.room_server.specs.Seats.{AreSplit}
-use Rattle.room_server.specs.Tables.{DeskView, SeatView, TableView}
+use Rattle.room_server.specs.Prelude.{IsAt, SplitsInto, AreSplit, DeskView, SeatView, TableView}
 use Rattle.room_server.proofs.Seating.{some_is}
 
 -- ---- lists

@@ -1,11 +1,10 @@
 -- The entry counts of the rooms of a table that is closed.
 use Rattle.std.specs.Prelude.{◌≡◌, ◌≢◌, ◌-◌, ◌^◌, ℕ, List, [], Some, length, slice_get}
-use Rattle.std.specs.declared.alloc.Global.{Global}
-use Rattle.room_history.specs.declared.entry.Entry.{Entry}
-use Rattle.room_history.specs.Turns.{IsTurn}
-use Rattle.room_server.specs.Tables.{DeskView, SeatView}
+use Rattle.room_socket.specs.Prelude.{Global, IsTurn, History, IsLegal, BeginsWith}
 use Rattle.turn_desk.specs.Desk.{HasKin, kin}
-use Rattle.turn_desk.specs.History.{History, IsAmong, IsLegal, BeginsWith, entries_by}
+use Rattle.turn_desk.specs.History.{IsAmong, entries_by}
+use Rattle.room_history.specs.declared.entry.Entry.{Entry}
+use Rattle.room_server.specs.Tables.{DeskView, SeatView}
 
 -- the number is the length of a legal history of the desk, which begins with all that the seat has seen and has the
 -- entries of each of its kin

@@ -1,15 +1,11 @@
 -- The opening of a table of rooms. The names of rooms are this project's.
 use Rattle.std.specs.Prelude.{◌≡◌, ◌<◌, ℕ, List, Some, None, All, length, slice_get, true}
-use Rattle.std.specs.declared.alloc.Global.{Global}
-use Rattle.osm_changes.specs.Sound.{is_sound}
-use Rattle.osm_elements.specs.Maps.{Rows}
+use Rattle.room_socket.specs.Prelude.{Global, is_sound, Rows, IsFirstUnsound, author_of}
+use Rattle.turn_desk.specs.Desk.{IsFirst}
 use Rattle.room_history.specs.declared.turned.Opening.{Opening}
-use Rattle.edit_simple.specs.Soundness.{IsFirstUnsound}
-use Rattle.room_stacks.specs.Authors.{author_of}
 use Rattle.room_server.specs.declared.table.TableFault.{TableFault}
 use Rattle.room_server.specs.declared.table.TableFault.TheVariants.{BadName, Twice, Unsound, Memory}
 use Rattle.room_server.specs.Tables.{AreAt, SeatView, TableView}
-use Rattle.turn_desk.specs.Desk.{IsFirst}
 
 -- the text at the position is not a name of a room
 abbrev pub IsBad : List (List ℕ) → ℕ → Type 0

@@ -1,12 +1,9 @@
 -- What a pool of workers does with the seats at a table of rooms.
-use Rattle.std.specs.Prelude.{◌≡◌, ◌++◌, ◌-◌, ◌^◌, ℕ, List, [], ◌∷◌, All, Some, length, map, slice_get}
-use Rattle.std.specs.List.{flat_map}
-use Rattle.std.specs.Option.{option_to_list}
+use Rattle.std.specs.Prelude.{◌≡◌, ◌++◌, ◌-◌, ◌^◌, ℕ, List, [], ◌∷◌, All, Some, length, map, slice_get, flat_map, option_to_list}
+use Rattle.room_socket.specs.Prelude.{ServesEach, BeginsWith}
+use Rattle.turn_desk.specs.Desk.{kin}
 use Rattle.room_server.specs.Seats.{IsFresh}
 use Rattle.room_server.specs.Tables.{SeatView, TableView, known_through, mark}
-use Rattle.room_socket.specs.Serving.{ServesEach}
-use Rattle.turn_desk.specs.Desk.{kin}
-use Rattle.turn_desk.specs.History.{BeginsWith}
 
 -- the lists have the same length, and R holds of the two elements at each position
 abbrev pub Pairs : {X Y : Type 0} → (X → Y → Type 0) → List X → List Y → Type 0

@@ -1,8 +1,8 @@
 -- How the seats of a table are split and met.
 use Rattle.std.specs.Prelude.{◌≡◌, ◌≤◌, ◌*◌, ◌+◌, ◌^◌, ℕ, List, [], All, Some, length, slice_get}
-use Rattle.room_history.specs.Turns.{IsTurn}
-use Rattle.room_server.specs.Tables.{AreAt, DeskView, SeatView, TableView}
+use Rattle.room_socket.specs.Prelude.{IsTurn}
 use Rattle.turn_desk.specs.Desk.{MeetsAt, SplitsInto}
+use Rattle.room_server.specs.Tables.{AreAt, DeskView, SeatView, TableView}
 
 -- Each seat can be split `count` times. A split gives away a 64th of the seat's parts, and a desk has 2^64 - 1 parts.
 abbrev pub HavePartsFor : ℕ → List SeatView → Type 0

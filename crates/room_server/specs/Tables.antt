@@ -1,21 +1,17 @@
 -- What is known of a table of rooms through a seat at each desk. The rules of a room are this project's.
-use Rattle.std.specs.Prelude.{◌≡◌, ℕ, List, [], ◌∷◌, Option, Some, None, map, length, position, slice_get, slice_set}
-use Rattle.std.specs.declared.alloc.Global.{Global}
+use Rattle.std.specs.Prelude.{◌≡◌, ℕ, List, [], ◌∷◌, Option, Some, None, map, length, slice_get, slice_set, position}
 use Rattle.atomic_table.specs.Seated.{TableId}
-use Rattle.room_history.specs.declared.ask.RoomCall.{RoomCall}
-use Rattle.room_history.specs.declared.ask.RoomReply.{RoomReply}
+use Rattle.room_socket.specs.Prelude.{Global, IsTurn, Known, RoomKnown, author_of, is_same_author, entries}
+use Rattle.turn_desk.specs.Desk.{DeskId, HasKin, IsAt, IsSameSeat, Sitting, TurnsAt}
+use Rattle.turn_desk.specs.Desk.{LooksAt}
+use Rattle.room_interface.specs.declared.ask.RoomCall.{RoomCall}
+use Rattle.room_interface.specs.declared.ask.RoomReply.{RoomReply}
 use Rattle.room_history.specs.declared.base.BaseFault.{BaseFault}
-use Rattle.room_history.specs.declared.base.BaseFault.TheVariants as bases
 use Rattle.room_history.specs.declared.entry.Entry.{Entry}
 use Rattle.room_history.specs.declared.turned.Opening.{Opening}
-use Rattle.room_history.specs.Turns.{IsTurn}
-use Rattle.room_session.specs.Rooms.{Known, RoomKnown}
-use Rattle.room_stacks.specs.Authors.{author_of}
-use Rattle.room_stacks.specs.SameAuthors.{is_same_author}
 use Rattle.room_server.specs.declared.table.TableFault.{TableFault}
 use Rattle.room_server.specs.declared.table.TableFault.TheVariants.{Unsound, Memory}
-use Rattle.turn_desk.specs.Desk.{DeskId, HasKin, IsAt, IsSameSeat, LooksAt, Sitting, TurnsAt}
-use Rattle.turn_desk.specs.History.{entries}
+use Rattle.room_history.specs.declared.base.BaseFault.TheVariants as bases
 
 abbrev pub DeskView : Type 0
 DeskView = DeskId (Opening Global)

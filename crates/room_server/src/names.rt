@@ -1,13 +1,13 @@
 //! The names of rooms.
 ghost use Rattle.std.specs.Prelude.{◌≡◌, ◌++◌, ◌∷◌, [], Some, false, length, map, IfErr, IfOk, MatchResult, OnOk};
-ghost use Rattle.room_stacks.specs.Authors.{author_of};
+ghost use Rattle.room_interface.specs.Authors.{author_of};
 ghost use Rattle.room_server.specs.Inner.NewNames.{IsRefused, contains_name};
 ghost use Rattle.room_server.specs.Openings.{AreFine, IsNameFault};
 
 use crate::table::TableFault;
 use indexmap::IndexSet;
 use osm_elements::Memory;
-use room_stacks::author::Author;
+use room_interface::author::Author;
 use std::alloc::Global;
 use std::marker::Model;
 

@@ -1,9 +1,9 @@
 //! A pool of workers.
 ghost use Rattle.std.specs.Prelude.{◌≡◌, ◌≤◌, All, IfOk};
+ghost use Rattle.turn_desk.specs.Desk.{IsFirst};
 ghost use Rattle.room_server.specs.Pools.{Pools};
 ghost use Rattle.room_server.specs.Seats.{HaveMet};
 ghost use Rattle.room_server.specs.Tables.{AreAt};
-ghost use Rattle.turn_desk.specs.Desk.{IsFirst};
 
 use crate::seats::{RoomSeat, meet_all};
 use crate::sets::split_sets;

@@ -1,13 +1,13 @@
 //! A table with a seat at each desk, as the rooms of a session.
 ghost use Rattle.std.specs.Prelude.{◌≡◌, ◌<◌, Some, vec_len, slice_get};
-ghost use Rattle.room_session.specs.Rooms.{HasRoom, AnswersCall, TellsLength};
-ghost use Rattle.room_server.specs.Tables.{AreAt, DeskView, Kept, SeatView, TurnsThere, LooksThere, kept_of, known_of};
+ghost use Rattle.room_socket.specs.Prelude.{HasRoom, AnswersCall, TellsLength};
 ghost use Rattle.turn_desk.specs.Desk.{IsAt};
+ghost use Rattle.room_server.specs.Tables.{AreAt, DeskView, Kept, SeatView, TurnsThere, LooksThere, kept_of, known_of};
 
 use crate::seats::RoomSeat;
 use crate::table::{RoomDesk, RoomTable};
-use room_history::ask::{RoomCall, RoomReply};
 use room_history::laws::legal_histories_hold;
+use room_interface::ask::{RoomCall, RoomReply};
 use room_session::rooms::Rooms;
 use std::alloc::Global;
 use std::marker::Model;

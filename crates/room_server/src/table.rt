@@ -1,24 +1,21 @@
 //! The table of rooms.
 ghost use Rattle.std.specs.Prelude.{◌≡◌, ◌<◌, ◌++◌, ◌∷◌, [], Some, true, length, slice_get, map, IfOk, IfErr, OnOk};
-ghost use Rattle.osm_elements.specs.Rows.{AreInOrder};
-ghost use Rattle.edit_simple.specs.Soundness.{are_of_kinds};
-ghost use Rattle.room_history.specs.Bases.{IsBaseFault};
-ghost use Rattle.room_stacks.specs.Authors.{author_of};
+ghost use Rattle.room_socket.specs.Prelude.{AreInOrder, are_of_kinds, IsBaseFault, author_of};
+ghost use Rattle.turn_desk.specs.Desk.{IsAt, IsFirst};
 ghost use Rattle.room_server.specs.Inner.Opened.{AreOpened};
 ghost use Rattle.room_server.specs.Openings.{AreFine, IsFirstFault, Opens, opening};
 ghost use Rattle.room_server.specs.Tables.{DeskView, SeatView, place_by};
-ghost use Rattle.turn_desk.specs.Desk.{IsAt, IsFirst};
 
 use crate::names::RoomNames;
 use crate::seats::RoomSeat;
-use edit_simple::refusal::Refusal;
 use indexmap::IndexSet;
 use osm_elements::Memory;
 use osm_elements::map::Rows;
 use osm_elements::name::Name;
 use room_history::base::BaseFault;
 use room_history::room::Room;
-use room_stacks::author::Author;
+use room_interface::author::Author;
+use room_interface::refusal::Refusal;
 use std::alloc::Global;
 use std::marker::Model;
 use thiserror::Error;

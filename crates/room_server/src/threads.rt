@@ -1,10 +1,9 @@
 //! The threads of a pool.
 ghost use Rattle.std.specs.Prelude.{◌≡◌, ℕ, All, IfNone, None, map, vec_items, vec_len};
-ghost use Rattle.std.specs.Thread.{IsSync};
+ghost use Rattle.room_socket.specs.Prelude.{IsSync, ServesEach};
 ghost use Rattle.room_server.specs.Pools.{Pairs, Works};
 ghost use Rattle.room_server.specs.Seats.{IsFresh, IsSet};
 ghost use Rattle.room_server.specs.Tables.{AreAt, known_through, mark};
-ghost use Rattle.room_socket.specs.Serving.{ServesEach};
 
 use crate::accepting::accept_all;
 use crate::job::Job;

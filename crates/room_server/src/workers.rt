@@ -1,8 +1,7 @@
 //! Workers.
 ghost use Rattle.std.specs.Prelude.{◌≡◌, ℕ, map};
-ghost use Rattle.room_session.specs.Rooms.{KeepsKnown};
+ghost use Rattle.room_socket.specs.Prelude.{KeepsKnown, ServesEach};
 ghost use Rattle.room_server.specs.Tables.{AreAt, known_through, mark};
-ghost use Rattle.room_socket.specs.Serving.{ServesEach};
 
 use crate::job::Job;
 use crate::seated::Seated;

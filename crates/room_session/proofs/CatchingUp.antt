@@ -1,21 +1,11 @@
 -- A session that catches up with its room.
-use Rattle.std.proofs.Common.{◌≡◌, ◌≤◌, ◌<◌, ◌++◌, ◌∙◌, ℕ, List, [], Ok, length, sym, ap, subst, inl, inr, append-nil, arith}
-use Rattle.std.specs.declared.alloc.Global.{Global}
-use Rattle.room_history.specs.declared.ask.RoomCall.TheVariants as calls
-use Rattle.room_history.specs.declared.ask.RoomReply.{RoomReply}
-use Rattle.room_history.specs.declared.ask.RoomReply.TheVariants as replies
-use Rattle.room_history.specs.declared.entry.Entry.{Entry}
-use Rattle.room_history.specs.declared.news.News.{News}
-use Rattle.room_history.specs.declared.turned.Opening.{Opening}
-use Rattle.room_history.specs.News.{news}
-use Rattle.room_history.specs.Turns.{IsTurn}
-use Rattle.room_session.specs.Events.{AsksForNews}
-use Rattle.room_session.specs.Facts.Running.{answers_keep, keeps_both, looks_keep, not_shorter}
+use Rattle.std.proofs.Common.{◌≡◌, ◌≤◌, ◌<◌, ◌++◌, ℕ, List, [], Ok, length, ◌∙◌, sym, ap, subst, inl, inr, append-nil, arith}
+use Rattle.room_session.specs.Prelude.{Global, RoomReply, Entry, News, Opening, news, IsTurn, AsksForNews, answers_keep, keeps_both, looks_keep, not_shorter, news_texts, Known, IsJournalOf, AnswersCall, KeepsKnown, TellsLength}
 use Rattle.room_session.specs.Inner.LastTold.{last_told}
 use Rattle.room_session.specs.Inner.Telling.{Tells}
-use Rattle.room_session.specs.NewsTexts.{news_texts}
-use Rattle.room_session.specs.Rooms.{Known, IsJournalOf, AnswersCall, KeepsKnown, TellsLength}
 use Rattle.room_session.proofs.Told.{last_news, no_news, news_taken}
+use Rattle.room_interface.specs.declared.ask.RoomCall.TheVariants as calls
+use Rattle.room_interface.specs.declared.ask.RoomReply.TheVariants as replies
 
 -- all entries count as sent
 pub nothing_new : (before after : Known) (room told count : ℕ) (texts : List (List ℕ)) → told ≤ length (before.at room).seen → TellsLength before room count after → count ≤ told → Tells before room told texts texts told after

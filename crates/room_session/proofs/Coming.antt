@@ -1,17 +1,6 @@
 -- The outcome of an event, from what the private functions return.
 use Rattle.std.proofs.Common.{◌≡◌, ◌⊎◌, ℕ, List, Result, Ok, Err, MatchResult, sym, subst, inl, inr}
-use Rattle.std.specs.declared.alloc.AllocError.{AllocError}
-use Rattle.room_stacks.specs.declared.author.Author.{Author}
-use Rattle.room_wire.specs.declared.bad.Bad.{Bad}
-use Rattle.room_wire.specs.declared.incoming.Incoming.{Incoming}
-use Rattle.room_wire.specs.Reading.{GivesMessage}
-use Rattle.room_wire.specs.Spelling.{spells}
-use Rattle.room_session.specs.declared.next.Next.{Next}
-use Rattle.room_session.specs.declared.sent.Sent.{Sent}
-use Rattle.room_session.specs.declared.session.State.{State}
-use Rattle.room_session.specs.declared.session.State.TheVariants.{BeforeHello, Open, Closed}
-use Rattle.room_session.specs.Events.{closing, only, Begins, BreaksOff, EndsFirst, GivesUp, GoesOn, HearsText}
-use Rattle.room_session.specs.Rooms.{Known}
+use Rattle.room_session.specs.Prelude.{AllocError, Author, Bad, Incoming, GivesMessage, spells, Next, Sent, State, BeforeHello, Open, Closed, closing, only, Begins, BreaksOff, EndsFirst, GivesUp, GoesOn, HearsText, Known}
 
 -- the outcome goes out, or an allocation failed
 abbrev Goes : Result Next AllocError → Sent → State → Type 0

@@ -1,32 +1,9 @@
 -- The entries that events make.
-use Rattle.std.proofs.Common.{◌≡◌, ◌≢◌, ◌⊎◌, ◌++◌, ◌∙◌, ℕ, List, [], ◌∷◌, Option, Some, None, Result, Ok, Err, IfOk, OnErr, refl, sym, ap, subst, inl, inr, append-nil, arith}
+use Rattle.std.proofs.Common.{◌≡◌, ◌≢◌, ◌⊎◌, ◌++◌, ℕ, List, [], ◌∷◌, Option, Some, None, Result, Ok, Err, IfOk, OnErr, refl, ◌∙◌, sym, ap, subst, inl, inr, append-nil, arith}
 use Rattle.std.proofs.lemmas.Bool.{cases_eq}
 use Rattle.std.proofs.lemmas.List.{append_cancel_left}
-use Rattle.std.specs.declared.alloc.AllocError.{AllocError}
-use Rattle.std.specs.declared.alloc.Global.{Global}
-use Rattle.room_stacks.specs.declared.author.Author.{Author}
-use Rattle.room_history.specs.Answers.{answer, answer_by, call_refusal, meant}
-use Rattle.room_history.specs.Turns.{IsTurn}
-use Rattle.room_history.specs.declared.ask.RoomCall.{RoomCall}
-use Rattle.room_history.specs.declared.ask.RoomCall.TheVariants as calls
-use Rattle.room_history.specs.declared.ask.RoomReply.{RoomReply}
-use Rattle.room_history.specs.declared.call.Call.{Call}
-use Rattle.room_history.specs.declared.entry.Entry.{Entry}
-use Rattle.room_history.specs.declared.entry.EntryKind.{EntryKind}
-use Rattle.room_history.specs.declared.reply.Reply.{Reply}
-use Rattle.room_history.specs.declared.turned.Opening.{Opening}
-use Rattle.room_wire.specs.declared.bad.Bad.{Bad}
-use Rattle.room_wire.specs.declared.incoming.Body.{Body}
-use Rattle.room_wire.specs.declared.incoming.Body.TheVariants.{Hello, Change, Get, Map, Undos}
-use Rattle.room_wire.specs.declared.incoming.Incoming.{Incoming}
-use Rattle.room_wire.specs.Reading.{GivesMessage}
-use Rattle.room_wire.specs.Spelling.{spells}
-use Rattle.room_session.specs.declared.next.Next.{Next}
-use Rattle.room_session.specs.declared.sent.Sent.{Sent}
-use Rattle.room_session.specs.declared.session.State.{State}
-use Rattle.room_session.specs.declared.session.State.TheVariants.{BeforeHello, Open, Closed}
-use Rattle.room_session.specs.Events.{AsksForNews, Begins, BeginsBy, CatchesUp, FindsNoNews, Greets, HearsText, Makes, MakesBy, Replies}
-use Rattle.room_session.specs.Rooms.{Known, RoomKnown, AnswersCall, TellsLength, MakesNone, MakesOne}
+use Rattle.room_session.specs.Prelude.{AllocError, Global, Author, answer, answer_by, call_refusal, meant, IsTurn, RoomCall, RoomReply, Call, Entry, EntryKind, Reply, Opening, Bad, Body, Hello, Change, Get, Map, Undos, Incoming, GivesMessage, spells, Next, Sent, State, BeforeHello, Open, Closed, AsksForNews, Begins, BeginsBy, CatchesUp, FindsNoNews, Greets, HearsText, Makes, MakesBy, Replies, Known, RoomKnown, AnswersCall, TellsLength, MakesNone, MakesOne}
+use Rattle.room_interface.specs.declared.ask.RoomCall.TheVariants as calls
 
 -- ---- what one turn adds
 

@@ -1,29 +1,9 @@
 -- The reply to a message, from what the private functions return.
-use Rattle.std.proofs.Common.{◌≡◌, ◌⊎◌, ◌∙◌, ℕ, List, [], ◌∷◌, Option, Some, None, Result, Ok, Err, IfOk, OnErr, MatchResult, length, refl, sym, ap, subst, inl, inr}
-use Rattle.std.specs.declared.alloc.AllocError.{AllocError}
-use Rattle.std.specs.declared.alloc.Global.{Global}
+use Rattle.std.proofs.Common.{◌≡◌, ◌⊎◌, ℕ, List, [], ◌∷◌, Option, Some, None, Result, Ok, Err, IfOk, OnErr, MatchResult, length, refl, ◌∙◌, sym, ap, subst, inl, inr}
 use Rattle.serde_json.specs.Written.{compact_text}
-use Rattle.osm_elements.specs.declared.name.Name.{Name}
-use Rattle.room_stacks.specs.declared.author.Author.{Author}
-use Rattle.room_history.specs.declared.call.Request.{Request}
-use Rattle.room_history.specs.declared.ask.RoomCall.{RoomCall}
-use Rattle.room_history.specs.declared.ask.RoomCall.TheVariants as calls
-use Rattle.room_history.specs.declared.ask.RoomReply.{RoomReply}
-use Rattle.room_history.specs.declared.entry.Entry.{Entry}
-use Rattle.room_history.specs.Asking.{room_answer, wanting}
-use Rattle.room_history.specs.Replays.{mapof}
-use Rattle.room_wire.specs.declared.answer.Answer.{Answer}
+use Rattle.room_session.specs.Prelude.{AllocError, Global, Name, Author, Request, RoomCall, RoomReply, Entry, room_answer, wanting, mapof, Answer, Body, Hello, Change, Get, Map, Undos, answer_to, answer_text, AreToldAlike, map_tree, Next, Sent, State, BeforeHello, Open, only, BeginsBy, Greets, Refuses, RepliesTo, Known, AnswersCall, IsJournalOf}
+use Rattle.room_interface.specs.declared.ask.RoomCall.TheVariants as calls
 use Rattle.room_wire.specs.declared.answer.Answer.TheVariants as answers
-use Rattle.room_wire.specs.declared.incoming.Body.{Body}
-use Rattle.room_wire.specs.declared.incoming.Body.TheVariants.{Hello, Change, Get, Map, Undos}
-use Rattle.room_wire.specs.Asked.{answer_to, answer_text}
-use Rattle.room_wire.specs.Trees.{AreToldAlike, map_tree}
-use Rattle.room_session.specs.declared.next.Next.{Next}
-use Rattle.room_session.specs.declared.sent.Sent.{Sent}
-use Rattle.room_session.specs.declared.session.State.{State}
-use Rattle.room_session.specs.declared.session.State.TheVariants.{BeforeHello, Open}
-use Rattle.room_session.specs.Events.{only, BeginsBy, Greets, Refuses, RepliesTo}
-use Rattle.room_session.specs.Rooms.{Known, AnswersCall, IsJournalOf}
 
 -- ---- in an open session
 
@@ -39,9 +19,9 @@ alike_text id told answer (Err e) alike is = is
 
 -- if the room was asked
 pub replied : (before after : Known) (room id : ℕ) (asks : Option (RoomCall Global)) (call : RoomCall Global) (reply : RoomReply Global) (told : Answer) (made : Result (List ℕ) AllocError) → asks ≡ Some call → AnswersCall before room call reply after
-    → AreToldAlike told (answer_to call reply) → IfOk made (λ json. json ≡ answer_text id told) → (due : List ℕ) × RepliesTo before room id asks due after × IfOk made (λ json. json ≡ due)
+    → AreToldAlike told (answer_to reply) → IfOk made (λ json. json ≡ answer_text id told) → (due : List ℕ) × RepliesTo before room id asks due after × IfOk made (λ json. json ≡ due)
 replied before after room id asks call reply told made some answers alike is =
-    (answer_text id (answer_to call reply), subst (λ c. RepliesTo before room id c (answer_text id (answer_to call reply)) after) (sym some) (reply, answers, refl), alike_text id told (answer_to call reply) made alike is)
+    (answer_text id (answer_to reply), subst (λ c. RepliesTo before room id c (answer_text id (answer_to reply)) after) (sym some) (reply, answers, refl), alike_text id told (answer_to reply) made alike is)
 
 -- ---- before a hello
 

@@ -1,18 +1,10 @@
 -- The rows and the news that a room replies with are those of its journal.
-use Rattle.std.proofs.Common.{◌≡◌, ◌+◌, ◌≤◌, ◌++◌, ◌-◌, ◌∙◌, ℕ, zero, suc, Bool, true, false, List, [], ◌∷◌, Option, Some, unwrap_or, Ok, slice_get, length, length-append, length-drop, drop, take, refl, sym, ap, inl, inr, arith}
+use Rattle.std.proofs.Common.{◌≡◌, ◌+◌, ◌≤◌, ◌++◌, ◌-◌, ℕ, zero, suc, Bool, true, false, List, [], ◌∷◌, Option, Some, unwrap_or, Ok, slice_get, length, drop, take, refl, ◌∙◌, length-append, length-drop, sym, ap, inl, inr, arith}
 use Rattle.std.proofs.lemmas.List.{length-take-le}
-use Rattle.std.specs.declared.alloc.Global.{Global}
-use Rattle.osm_elements.specs.Maps.{Rows}
-use Rattle.room_history.specs.declared.ask.RoomReply.{RoomReply}
-use Rattle.room_history.specs.declared.ask.RoomReply.TheVariants as replies
-use Rattle.room_history.specs.declared.ask.RoomCall.TheVariants as calls
-use Rattle.room_history.specs.declared.entry.Entry.{Entry}
-use Rattle.room_history.specs.declared.news.News.{News}
-use Rattle.room_history.specs.declared.turned.Opening.{Opening}
-use Rattle.room_history.specs.News.{news, news_behind}
-use Rattle.room_history.specs.Replays.{mapof}
-use Rattle.room_history.specs.Turns.{IsTurn}
+use Rattle.room_session.specs.Prelude.{Global, Rows, RoomReply, Entry, News, Opening, news, news_behind, mapof, IsTurn}
 use Rattle.room_session.specs.Inner.LastTold.{last_told}
+use Rattle.room_interface.specs.declared.ask.RoomReply.TheVariants as replies
+use Rattle.room_interface.specs.declared.ask.RoomCall.TheVariants as calls
 
 -- the last of the news of the later entries has the number of the last entry
 last_behind : (base : Rows Global) (i k : List (Entry Global)) → last_told (length i) (news_behind base i k) ≡ length i + length k

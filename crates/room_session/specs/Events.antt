@@ -1,29 +1,23 @@
 -- The outcome of each event of a session: what goes out, the state after it, what it asks of the rooms, and what is
 -- then known of them. The rules of a session are this project's; RFC 6455, section 7.4.1, defines the codes.
 use Rattle.std.specs.Prelude.{◌≡◌, ◌⊎◌, ◌≤◌, ◌<◌, ◌++◌, ℕ, List, [], ◌∷◌, Option, Some, None, Result, Ok, Err, length}
-use Rattle.std.specs.declared.alloc.Global.{Global}
 use Rattle.serde_json.specs.Written.{compact_text}
-use Rattle.room_history.specs.declared.ask.RoomCall.{RoomCall}
-use Rattle.room_history.specs.declared.ask.RoomCall.TheVariants as calls
-use Rattle.room_history.specs.declared.ask.RoomReply.{RoomReply}
-use Rattle.room_history.specs.Asking.{wanting}
-use Rattle.room_history.specs.News.{news}
-use Rattle.room_history.specs.Replays.{mapof}
-use Rattle.room_stacks.specs.declared.author.Author.{Author}
-use Rattle.room_wire.specs.declared.answer.Answer.TheVariants as answers
+use Rattle.room_wire.specs.Prelude.{Global, answer_to, asked, answer_text, GivesMessage, spells, map_tree}
+use Rattle.room_history.specs.Prelude.{wanting, news, mapof}
+use Rattle.room_interface.specs.declared.ask.RoomCall.{RoomCall}
+use Rattle.room_interface.specs.declared.ask.RoomReply.{RoomReply}
+use Rattle.room_interface.specs.declared.author.Author.{Author}
 use Rattle.room_wire.specs.declared.bad.Bad.{Bad}
 use Rattle.room_wire.specs.declared.incoming.Body.{Body}
 use Rattle.room_wire.specs.declared.incoming.Body.TheVariants.{Hello, Change, Get, Map, Undos}
 use Rattle.room_wire.specs.declared.incoming.Incoming.{Incoming}
-use Rattle.room_wire.specs.Asked.{answer_to, asked, answer_text}
-use Rattle.room_wire.specs.Reading.{GivesMessage}
-use Rattle.room_wire.specs.Spelling.{spells}
-use Rattle.room_wire.specs.Trees.{map_tree}
 use Rattle.room_session.specs.declared.sent.Sent.{Sent}
 use Rattle.room_session.specs.declared.session.State.{State}
 use Rattle.room_session.specs.declared.session.State.TheVariants.{BeforeHello, Open, Closed}
 use Rattle.room_session.specs.NewsTexts.{news_texts}
 use Rattle.room_session.specs.Rooms.{Known, AnswersCall, TellsLength, IsJournalOf, MakesNone, MakesOne}
+use Rattle.room_interface.specs.declared.ask.RoomCall.TheVariants as calls
+use Rattle.room_wire.specs.declared.answer.Answer.TheVariants as answers
 
 -- these texts go out, and the connection stays open
 abbrev pub only : List (List ℕ) → Sent
@@ -88,7 +82,7 @@ abbrev pub RepliesTo : Known → ℕ → ℕ → Option (RoomCall Global) → Li
 RepliesTo before room id None text after = (text ≡ answer_text id answers.HelloTwice) × (after ≡ before)
 RepliesTo before room id (Some call) text after =
     (reply : RoomReply Global) × AnswersCall before room call reply after
-    × (text ≡ answer_text id (answer_to call reply))
+    × (text ≡ answer_text id (answer_to reply))
 
 -- the text is the reply to the message that was read, or its refusal
 abbrev pub Replies : Known → ℕ → Author → Result Incoming Bad → List ℕ → Known → Type 0

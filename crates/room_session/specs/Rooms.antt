@@ -1,14 +1,11 @@
 -- What is known of rooms, and how a call and a look change it. The rules of a room are this project's.
 use Rattle.std.specs.Prelude.{◌≡◌, ◌≢◌, ◌≤◌, ◌+◌, ◌++◌, ℕ, List, [], ◌∷◌, Option, Some, length}
-use Rattle.std.specs.declared.alloc.Global.{Global}
-use Rattle.room_history.specs.declared.ask.RoomCall.{RoomCall}
-use Rattle.room_history.specs.declared.ask.RoomReply.{RoomReply}
+use Rattle.room_history.specs.Prelude.{Global, IsJournal, IsTurn, BeginsWith}
+use Rattle.room_interface.specs.declared.ask.RoomCall.{RoomCall}
+use Rattle.room_interface.specs.declared.ask.RoomReply.{RoomReply}
 use Rattle.room_history.specs.declared.entry.Entry.{Entry}
 use Rattle.room_history.specs.declared.turned.Opening.{Opening}
-use Rattle.room_history.specs.LegalJournals.{IsJournal}
-use Rattle.room_history.specs.Turns.{IsTurn}
-use Rattle.room_stacks.specs.declared.author.Author.{Author}
-use Rattle.turn_desk.specs.History.{BeginsWith}
+use Rattle.room_interface.specs.declared.author.Author.{Author}
 
 -- What is known of one room. `opening` is what no call changes, and `seen` has the entries seen so far. `mine` has the
 -- entries made by calls through these rooms. `looks` has the journal's length at each look and at the end of each turn,

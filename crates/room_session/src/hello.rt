@@ -1,26 +1,23 @@
 //! The beginning of a session: texts before a hello is accepted.
 ghost use Rattle.std.specs.Prelude.{◌≡◌, [], ◌∷◌, IfOk, MatchResult, OnErr, Result};
-ghost use Rattle.std.specs.declared.alloc.Global.{Global};
-ghost use Rattle.room_history.specs.declared.ask.RoomCall.TheVariants as calls;
-ghost use Rattle.room_history.specs.declared.ask.RoomReply.{RoomReply};
+ghost use Rattle.room_wire.specs.Prelude.{Global, answer_text, GivesMessage, spells};
+ghost use Rattle.room_interface.specs.declared.ask.RoomReply.{RoomReply};
 ghost use Rattle.room_session.specs.declared.sent.Sent.{Sent};
 ghost use Rattle.room_session.specs.declared.session.State.{State};
 ghost use Rattle.room_session.specs.Events.{only, Begins, BeginsBy, EndsFirst, Greets, Refuses};
 ghost use Rattle.room_session.specs.Rooms.{AnswersCall, KeepsKnown, HasRoom};
 ghost use Rattle.room_session.specs.Running.{IsRunOn};
-ghost use Rattle.room_wire.specs.Asked.{answer_text};
 ghost use Rattle.room_wire.specs.declared.bad.Bad.{Bad};
 ghost use Rattle.room_wire.specs.declared.incoming.Incoming.{Incoming};
-ghost use Rattle.room_wire.specs.Reading.{GivesMessage};
-ghost use Rattle.room_wire.specs.Spelling.{spells};
+ghost use Rattle.room_interface.specs.declared.ask.RoomCall.TheVariants as calls;
 
 use crate::next::Next;
 use crate::rooms::Rooms;
 use crate::sent::Texts;
 use crate::session::State;
 use osm_elements::Memory;
-use room_history::ask::{RoomCall, RoomReply};
-use room_stacks::author::Author;
+use room_interface::ask::{RoomCall, RoomReply};
+use room_interface::author::Author;
 use room_wire::answer::Answer;
 use room_wire::incoming::{Body, Incoming};
 use room_wire::{Scratch, read_request, reply_text};

@@ -1,22 +1,19 @@
 //! Replies in an open session.
 ghost use Rattle.std.specs.Prelude.{◌≡◌, ◌≤◌, ℕ, List, IfOk, MatchResult, Result, length};
+ghost use Rattle.room_wire.specs.Prelude.{asked, GivesMessage, spells};
 ghost use Rattle.room_session.specs.Events.{only, BreaksOff, GoesOn, Replies, RepliesTo};
 ghost use Rattle.room_session.specs.Rooms.{KeepsKnown, HasRoom};
 ghost use Rattle.room_session.specs.Running.{IsRunOn};
-ghost use Rattle.room_wire.specs.Asked.{asked};
 ghost use Rattle.room_wire.specs.declared.bad.Bad.{Bad};
 ghost use Rattle.room_wire.specs.declared.incoming.Incoming.{Incoming};
-ghost use Rattle.room_wire.specs.Reading.{GivesMessage};
-ghost use Rattle.room_wire.specs.Spelling.{spells};
 
 use crate::news::catch_up;
 use crate::next::Next;
 use crate::rooms::Rooms;
 use crate::sent::Texts;
 use osm_elements::Memory;
-use room_stacks::author::Author;
+use room_interface::author::Author;
 use room_wire::answer::Answer;
-use room_wire::asked::name_asked;
 use room_wire::incoming::{Body, Incoming};
 use room_wire::json_text::Json;
 use room_wire::{Scratch, read_request, reply_text};
@@ -90,7 +87,6 @@ fn reply_to<R: Rooms, W: Wait>(
     let Some(call) = body.into_call(author, id) else {
         return reply_text(alloc, id, &Answer::HelloTwice);
     };
-    let name = name_asked(&call);
     let reply = rooms.turn(rt, room, call);
-    reply_text(alloc, id, &Answer::to(name, &reply))
+    reply_text(alloc, id, &Answer::to(&reply))
 }

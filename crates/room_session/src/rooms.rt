@@ -2,7 +2,7 @@
 ghost use Rattle.std.specs.Prelude.{◌≡◌};
 ghost use Rattle.room_session.specs.Rooms.{Known, HasRoom, AnswersCall, TellsLength};
 
-use room_history::ask::{RoomCall, RoomReply};
+use room_interface::ask::{RoomCall, RoomReply};
 use std::alloc::Global;
 use std::sync::Wait;
 

@@ -1,13 +1,12 @@
 //! Sessions.
 ghost use Rattle.std.specs.Prelude.{◌≡◌, ◌≢◌, [], IfOk, OnOk, OnErr, MatchResult, Result};
+ghost use Rattle.room_wire.specs.Prelude.{GivesMessage, spells};
 ghost use Rattle.room_session.specs.Events.{only, closing, HearsText, Makes, WaitsOn};
 ghost use Rattle.room_session.specs.declared.session.State.TheVariants.{BeforeHello, Closed};
 ghost use Rattle.room_session.specs.Rooms.{KeepsKnown, MakesNone};
 ghost use Rattle.room_session.specs.Running.{IsRunOn};
 ghost use Rattle.room_wire.specs.declared.bad.Bad.{Bad};
 ghost use Rattle.room_wire.specs.declared.incoming.Incoming.{Incoming};
-ghost use Rattle.room_wire.specs.Reading.{GivesMessage};
-ghost use Rattle.room_wire.specs.Spelling.{spells};
 
 use crate::hello::greet;
 use crate::news::news_alone;
@@ -16,7 +15,7 @@ use crate::replies::reply_and_news;
 use crate::rooms::Rooms;
 use crate::sent::{Sent, Texts};
 use osm_elements::Memory;
-use room_stacks::author::Author;
+use room_interface::author::Author;
 use room_wire::Scratch;
 use std::alloc::Global;
 use std::fmt;

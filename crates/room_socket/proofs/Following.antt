@@ -1,18 +1,6 @@
 -- The calls of a session's core as events, and sequences of events.
-use Rattle.std.proofs.Common.{◌≡◌, ◌≤◌, ◌+◌, ◌++◌, ◌∷◌, [], ℕ, List, arith, length, length-append, refl, subst}
-use Rattle.std.specs.Prelude.{IfOk, OnErr, Result, Ok, Err}
-use Rattle.room_wire.specs.declared.bad.Bad.{Bad}
-use Rattle.room_wire.specs.declared.incoming.Incoming.{Incoming}
-use Rattle.room_wire.specs.Reading.{GivesMessage}
-use Rattle.room_wire.specs.Spelling.{spells}
-use Rattle.room_session.specs.declared.sent.Sent.{Sent}
-use Rattle.room_session.specs.declared.session.Ended.{Ended}
-use Rattle.room_session.specs.declared.session.State.{State}
-use Rattle.room_session.specs.declared.session.State.TheVariants.{Closed}
-use Rattle.room_session.specs.Events.{HearsText, Makes, WaitsOn}
-use Rattle.room_session.specs.Rooms.{Known, MakesNone}
-use Rattle.room_socket.specs.Serving.{Event, Follows, Happens}
-use Rattle.room_socket.specs.Serving.Event.{Text, Quiet, Last}
+use Rattle.std.proofs.Common.{◌≡◌, ◌≤◌, ◌+◌, ◌++◌, ◌∷◌, [], ℕ, List, length, refl, IfOk, OnErr, Result, Ok, Err, arith, length-append, subst}
+use Rattle.room_socket.specs.Prelude.{Bad, Incoming, GivesMessage, spells, Sent, Ended, State, Closed, HearsText, Makes, WaitsOn, Known, MakesNone, Event, Follows, Happens, Text, Quiet, Last}
 
 -- events followed by further events
 pub follows_both : (one two : List Event) (state between state' : State) (before known after : Known) → Follows one state before between known → Follows two between known state' after → Follows (one ++ two) state before state' after

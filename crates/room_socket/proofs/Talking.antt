@@ -1,22 +1,8 @@
 -- The calls of a session's core as parts of a conversation, and the turns of a conversation.
-use Rattle.std.proofs.Common.{inl, inr, ◌≡◌, ◌<◌, ◌≤◌, ◌-◌, ◌+◌, ℕ, zero, suc, List, Option, Some, None, Ok, Err, Result, refl, subst, arith}
-use Rattle.std.specs.Prelude.{IfOk, OnErr, ◌≢◌}
+use Rattle.std.proofs.Common.{inl, inr, subst, arith, ◌≡◌, ◌<◌, ◌≤◌, ◌-◌, ◌+◌, ℕ, zero, suc, List, Option, Some, None, Ok, Err, Result, refl, IfOk, OnErr, ◌≢◌}
 use Rattle.tungstenite.specs.declared.CloseCode.TheVariants.{Normal}
 use Rattle.tungstenite.specs.Socket.{Socket}
-use Rattle.room_wire.specs.declared.bad.Bad.{Bad}
-use Rattle.room_wire.specs.declared.incoming.Incoming.{Incoming}
-use Rattle.room_wire.specs.Reading.{GivesMessage}
-use Rattle.room_wire.specs.Spelling.{spells}
-use Rattle.room_session.specs.declared.sent.Sent.{Sent}
-use Rattle.room_session.specs.declared.session.Ended.{Ended}
-use Rattle.room_session.specs.declared.session.State.{State}
-use Rattle.room_session.specs.declared.session.State.TheVariants.{Closed}
-use Rattle.room_session.specs.Events.{HearsText, Makes, WaitsOn, closing}
-use Rattle.room_session.specs.Rooms.{Known, MakesNone}
-use Rattle.room_socket.specs.declared.end.End.{End}
-use Rattle.room_socket.specs.declared.end.End.TheVariants.{Bound}
-use Rattle.room_socket.specs.Conversing.{Converses, TakesBinary, TakesQuiet, TakesText, TakesTurn}
-use Rattle.room_socket.specs.Sending.{Closes}
+use Rattle.room_socket.specs.Prelude.{Bad, Incoming, GivesMessage, spells, Sent, Ended, State, Closed, HearsText, Makes, WaitsOn, closing, Known, MakesNone, End, Bound, Converses, TakesBinary, TakesQuiet, TakesText, TakesTurn, Closes}
 
 module _ (state state' : State) (before after : Known) where
   pub gave_text : (result : Result Sent Ended) (words : List ℕ) → IfOk result (λ sent. HearsText before sent state' after state words)

@@ -1,6 +1,5 @@
 -- What the calls of a socket wrote, as what a session sends.
-use Rattle.std.proofs.Common.{inl, inr, ◌≡◌, ◌≢◌, ◌≤◌, ◌+◌, ℕ, zero, suc, List, [], ◌∷◌, Option, Some, Ok, Err, Result, false, is_err, drop, length, refl, subst, arith}
-use Rattle.std.specs.Result.{OnOk, IfErr}
+use Rattle.std.proofs.Common.{inl, inr, subst, arith, ◌≡◌, ◌≢◌, ◌≤◌, ◌+◌, ℕ, zero, suc, List, [], ◌∷◌, Option, Some, Ok, Err, Result, false, is_err, drop, length, refl, OnOk, IfErr}
 use Rattle.tungstenite.specs.declared.CloseCode.{CloseCode}
 use Rattle.tungstenite.specs.declared.error.Error.{Error}
 use Rattle.tungstenite.specs.declared.error.Error.TheVariants.{Io, OutOfMemory, WriteBufferFull}
@@ -9,10 +8,7 @@ use Rattle.tungstenite.specs.Connection.{write_step}
 use Rattle.tungstenite.specs.Content.{Content, close}
 use Rattle.tungstenite.specs.Failure.{IsIo, IsOutside, WriteFails}
 use Rattle.tungstenite.specs.Socket.{Socket, Flushed, Reads, Writes}
-use Rattle.room_session.specs.declared.sent.Sent.{Sent}
-use Rattle.room_session.specs.declared.session.Ended.{Ended}
-use Rattle.room_socket.specs.declared.end.End.{End}
-use Rattle.room_socket.specs.Sending.{AsksToClose, EndsBy, ReadsOn, Sends, SendsTexts, WritesTexts}
+use Rattle.room_socket.specs.Prelude.{Sent, Ended, End, AsksToClose, EndsBy, ReadsOn, Sends, SendsTexts, WritesTexts}
 
 pub drop_past : {X : Type 0} (n : ℕ) (xs : List X) → length xs ≤ n → drop n xs ≡ []
 drop_past zero [] short = refl

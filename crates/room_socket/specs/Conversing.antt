@@ -3,24 +3,21 @@ use Rattle.std.specs.Prelude.{◌≡◌, ◌⊎◌, ℕ, zero, suc, List, Option
 use Rattle.tungstenite.specs.declared.CloseCode.TheVariants.{Normal}
 use Rattle.tungstenite.specs.Heads.{Serves as Accepted}
 use Rattle.tungstenite.specs.Socket.{Socket, Flushed}
+use Rattle.room_session.specs.Prelude.{GivesMessage, spells, HearsText, Makes, WaitsOn, closing, Known, MakesNone}
 use Rattle.room_wire.specs.declared.bad.Bad.{Bad}
 use Rattle.room_wire.specs.declared.incoming.Incoming.{Incoming}
-use Rattle.room_wire.specs.Reading.{GivesMessage}
-use Rattle.room_wire.specs.Spelling.{spells}
 use Rattle.room_session.specs.declared.sent.Sent.{Sent}
 use Rattle.room_session.specs.declared.session.Ended.{Ended}
 use Rattle.room_session.specs.declared.session.State.{State}
 use Rattle.room_session.specs.declared.session.State.TheVariants.{BeforeHello, Closed}
-use Rattle.room_session.specs.Events.{HearsText, Makes, WaitsOn, closing}
-use Rattle.room_session.specs.Rooms.{Known, MakesNone}
 use Rattle.room_socket.specs.declared.end.End.{End}
-use Rattle.room_socket.specs.declared.end.End.TheVariants as ends
 use Rattle.room_socket.specs.declared.hearing.Heard.{Heard}
 use Rattle.room_socket.specs.declared.hearing.Heard.TheVariants.{Text, Binary, Other, Quiet, Close, Fault}
 use Rattle.room_socket.specs.declared.patient.Patient.{Patient}
 use Rattle.room_socket.specs.Hearing.{Hears}
 use Rattle.room_socket.specs.Patience.{remaining_of, contents_of}
 use Rattle.room_socket.specs.Sending.{Closes, Sends}
+use Rattle.room_socket.specs.declared.end.End.TheVariants as ends
 
 -- a closed core stays closed and asks nothing of the rooms
 abbrev pub StaysClosed : State → Known → State → Known → Type 0

@@ -1,16 +1,14 @@
 -- What a read from a client means to a session (RFC 6455, section 5.6 for texts and binary messages, and section 5.5
 -- for closes, pings and pongs).
 use Rattle.std.specs.Prelude.{◌≡◌, Bool, true, false, cond, ℕ, List, Option, Result, Ok, Err}
-use Rattle.std.specs.IoError.{error_kind}
-use Rattle.std.specs.declared.io.ErrorKind.{ErrorKind}
-use Rattle.std.specs.declared.io.ErrorKind.TheVariants.{WouldBlock, TimedOut, Interrupted}
 use Rattle.tungstenite.specs.declared.error.Error.{Error}
 use Rattle.tungstenite.specs.declared.error.Error.TheVariants.{Io}
 use Rattle.tungstenite.specs.declared.message.Message.{Message}
-use Rattle.tungstenite.specs.declared.message.Message.TheVariants as messages
 use Rattle.tungstenite.specs.Socket.{Socket, Reads}
+use Rattle.room_session.specs.Prelude.{error_kind, ErrorKind, WouldBlock, TimedOut, Interrupted}
 use Rattle.room_socket.specs.declared.hearing.Heard.{Heard}
 use Rattle.room_socket.specs.declared.hearing.Heard.TheVariants.{Text, Binary, Other, Quiet, Close, Fault}
+use Rattle.tungstenite.specs.declared.message.Message.TheVariants as messages
 
 -- whether a read failed only because nothing came in time, or because a signal interrupted it
 abbrev pub is_quiet : ErrorKind → Bool

@@ -1,5 +1,6 @@
 pub mod Conversing
 pub mod Hearing
 pub mod Patience
+pub mod Prelude
 pub mod Sending
 pub mod Serving

@@ -1,8 +1,6 @@
 -- What goes out to a client: texts (RFC 6455, section 5.6), and a close (section 5.5.1) with a code (section 7.4.1).
-use Rattle.std.specs.Prelude.{◌≡◌, ◌≢◌, ◌==◌, ◌≤◌, ◌⊎◌, cond}
-use Rattle.std.specs.Prelude.{ℕ, zero, suc, List, [], ◌∷◌, Option, Some, None, Result, Ok, Err, IsErr}
+use Rattle.std.specs.Prelude.{◌≡◌, ◌≢◌, ◌==◌, ◌≤◌, ◌⊎◌, cond, ℕ, zero, suc, List, [], ◌∷◌, Option, Some, None, Result, Ok, Err, IsErr}
 use Rattle.tungstenite.specs.declared.CloseCode.{CloseCode}
-use Rattle.tungstenite.specs.declared.CloseCode.TheVariants as codes
 use Rattle.tungstenite.specs.declared.error.Error.{Error}
 use Rattle.tungstenite.specs.declared.message.Message.{Message}
 use Rattle.tungstenite.specs.Connection.{write_step}
@@ -12,6 +10,7 @@ use Rattle.room_session.specs.declared.sent.Sent.{Sent}
 use Rattle.room_session.specs.declared.session.Ended.{Ended}
 use Rattle.room_socket.specs.declared.end.End.{End}
 use Rattle.room_socket.specs.declared.end.End.TheVariants.{Binary, Memory, Fault}
+use Rattle.tungstenite.specs.declared.CloseCode.TheVariants as codes
 
 -- the close code and the end of a session that closes with this number
 abbrev pub code_of : ℕ → CloseCode

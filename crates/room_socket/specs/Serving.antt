@@ -1,14 +1,11 @@
 -- What a session over a stream does to the rooms, event by event. The rules of a session are this project's.
 use Rattle.std.specs.Prelude.{◌≡◌, ◌≤◌, ℕ, zero, suc, List, [], ◌∷◌, Result, length}
+use Rattle.room_session.specs.Prelude.{GivesMessage, spells, HearsText, Makes, WaitsOn, Known, MakesNone}
 use Rattle.room_wire.specs.declared.bad.Bad.{Bad}
 use Rattle.room_wire.specs.declared.incoming.Incoming.{Incoming}
-use Rattle.room_wire.specs.Reading.{GivesMessage}
-use Rattle.room_wire.specs.Spelling.{spells}
 use Rattle.room_session.specs.declared.sent.Sent.{Sent}
 use Rattle.room_session.specs.declared.session.State.{State}
 use Rattle.room_session.specs.declared.session.State.TheVariants.{BeforeHello, Closed}
-use Rattle.room_session.specs.Events.{HearsText, Makes, WaitsOn}
-use Rattle.room_session.specs.Rooms.{Known, MakesNone}
 
 -- an event of a session: a text, nothing for a while, or an event that ends the session
 pub data Event : Type 0 where

@@ -1,7 +1,6 @@
 //! A stream that waits for the head of a handshake.
 ghost use Rattle.std.specs.Prelude.{◌≡◌};
-ghost use Rattle.std.specs.Io.{ReadsAtMost};
-ghost use Rattle.std.specs.IoError.{error_kind};
+ghost use Rattle.room_session.specs.Prelude.{ReadsAtMost, error_kind};
 ghost use Rattle.room_socket.specs.Hearing.{is_quiet};
 ghost use Rattle.room_socket.specs.Patience.{remaining_of, contents_of};
 

@@ -1,7 +1,6 @@
 //! A session over a stream.
 ghost use Rattle.std.specs.Prelude.{◌≡◌, ◌≤◌, ◌∷◌, [], List, length};
-ghost use Rattle.room_session.specs.Rooms.{KeepsKnown};
-ghost use Rattle.room_session.specs.Running.{IsRunOn};
+ghost use Rattle.room_session.specs.Prelude.{KeepsKnown, IsRunOn};
 ghost use Rattle.room_session.specs.declared.session.State.{State};
 ghost use Rattle.room_session.specs.declared.session.State.TheVariants.{BeforeHello};
 ghost use Rattle.room_socket.specs.Conversing.{Converses, Talks, TakesQuiet, TakesText, TakesTurn};

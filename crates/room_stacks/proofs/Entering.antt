@@ -1,19 +1,10 @@
 -- One more deed in the collections of the code.
-use Rattle.std.proofs.Common.{◌≡◌, ◌<◌, Bool, true, false, cond, ℕ, List, [], ◌∷◌, ◌++◌, map, length, Option, Some, None, option_map, unwrap_or, refl, sym, ap, subst, ◌∙◌}
-use Rattle.std.specs.Map.{lookup}
+use Rattle.std.proofs.Common.{◌≡◌, ◌<◌, Bool, true, false, cond, ℕ, List, [], ◌∷◌, ◌++◌, map, length, Option, Some, None, unwrap_or, refl, sym, ap, subst, ◌∙◌, option_map}
 use Rattle.std.proofs.lemmas.List.{map-append}
-use Rattle.room_stacks.specs.declared.author.Author.{Author}
-use Rattle.room_stacks.specs.declared.deed.Deed.{Deed}
-use Rattle.room_stacks.specs.declared.deed.Deed.TheVariants.{Undid}
-use Rattle.room_stacks.specs.SameAuthors.{is_same_author}
-use Rattle.room_stacks.specs.Stacks.{doer, number, is_work, undoes, IsAboveAll, spent, standing, is_standing, redo, redo_after, works}
-use Rattle.room_stacks.specs.declared.spent_ids.Work.{Work}
+use Rattle.room_stacks.specs.Prelude.{lookup, Author, Deed, Undid, is_same_author, doer, number, is_work, undoes, IsAboveAll, spent, standing, is_standing, redo, redo_after, works, Work, one_author, IsRising-push, IsRising-filter, IsRising-passing, below_numbers, is_work_of, stands, standing-work, standing-undid, redo-push, none_of_another}
 use Rattle.room_stacks.specs.Inner.Lists.{Lists, IsRising, without, author_at, authors_of, has_room_at, standing_at, redo_at, IsRewritten}
 use Rattle.room_stacks.specs.Inner.SpentIds.{Spent, AreNumbered, deed_of, deeds_of, is_key}
 use Rattle.room_stacks.specs.Inner.Kept.{AreKept, IsKept, IsReady}
-use Rattle.room_stacks.specs.Facts.SameAuthors.{one_author}
-use Rattle.room_stacks.specs.Facts.Rising.{IsRising-push, IsRising-filter, IsRising-passing, below_numbers}
-use Rattle.room_stacks.specs.Facts.OneMore.{is_work_of, stands, standing-work, standing-undid, redo-push, none_of_another}
 use Rattle.room_stacks.proofs.Numbering.{length-authors}
 use Rattle.room_stacks.proofs.Spending.{deeds_more, numbered_more, unspent}
 

@@ -1,13 +1,11 @@
 -- The numbers of authors.
-use Rattle.std.proofs.Common.{◌≡◌, ◌<◌, ◌+◌, ◌++◌, false, ℕ, List, [], ◌∷◌, length, position, Option, Some, None, is_some, refl, sym, ap, ◌∙◌, arith}
+use Rattle.std.proofs.Common.{◌≡◌, ◌<◌, ◌+◌, ◌++◌, false, ℕ, List, [], ◌∷◌, length, Option, Some, None, is_some, refl, sym, ap, ◌∙◌, arith, position}
 use Rattle.std.proofs.lemmas.List.{get_or_append_left, get_or_push, length-append, length-map, map-append}
 use Rattle.std.proofs.lemmas.List.Quantifiers.{position-Some}
 use Rattle.indexmap.specs.IndexMap.{IndexMap, get, insert_entry, insert_index}
 use Rattle.indexmap.proofs.CallerLemmas.{insert_entry-new}
 use Rattle.indexmap.proofs.MapLemmas.{absent_from_lookup, or_len-absent}
-use Rattle.room_stacks.specs.declared.author.Author.{Author}
-use Rattle.room_stacks.specs.SameAuthors.{is_same_author}
-use Rattle.room_stacks.specs.Facts.SameAuthors.{one_author}
+use Rattle.room_stacks.specs.Prelude.{Author, is_same_author, one_author}
 use Rattle.room_stacks.specs.Inner.Lists.{Usable, Lists, author_at, authors_of, KeepsNumbers}
 
 pub length-authors : (lists : Lists) → length (authors_of lists) ≡ length lists

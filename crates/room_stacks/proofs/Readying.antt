@@ -1,10 +1,6 @@
 -- The collections after memory was reserved for an author.
-use Rattle.std.proofs.Common.{◌≡◌, ◌≤◌, ◌<◌, ℕ, true, List, length, map, Option, Some, None, Result, Ok, Err, OnErr, option_map, refl, sym, ap, subst, ◌∙◌, arith}
-use Rattle.std.specs.List.{IsDistinct}
-use Rattle.room_stacks.specs.declared.author.Author.{Author}
-use Rattle.room_stacks.specs.declared.deed.Deed.{Deed}
-use Rattle.room_stacks.specs.SameAuthors.{is_same_author}
-use Rattle.room_stacks.specs.Stacks.{StacksState, number, standing, redo}
+use Rattle.std.proofs.Common.{◌≡◌, ◌≤◌, ◌<◌, ℕ, true, List, length, map, Option, Some, None, Result, Ok, Err, OnErr, refl, sym, ap, subst, ◌∙◌, arith, option_map}
+use Rattle.room_stacks.specs.Prelude.{IsDistinct, Author, Deed, is_same_author, StacksState, number, standing, redo}
 use Rattle.room_stacks.specs.Inner.Kept.{AreKept, IsKept, IsReady}
 use Rattle.room_stacks.specs.Inner.Lists.{Lists, IsRising, author_at, authors_of, has_room_at, KeepsNumbers, KeepsRooms, SameStacks}
 use Rattle.room_stacks.specs.Inner.SpentIds.{Spent, AreNumbered, deeds_of}

@@ -1,15 +1,10 @@
 -- The stacks after those of one author are replaced.
-use Rattle.std.proofs.Common.{◌≡◌, Bool, true, false, cond, ℕ, zero, suc, List, [], ◌∷◌, map, slice_get, Option, Some, refl, sym, ap, ◌∙◌}
-use Rattle.std.specs.Cmp.Lexicographic.{nat_list_eq_equiv}
-use Rattle.std.specs.List.{IsDistinct}
-use Rattle.std.specs.Option.{option_map}
+use Rattle.std.proofs.Common.{◌≡◌, Bool, true, false, cond, ℕ, zero, suc, List, [], ◌∷◌, map, slice_get, Option, Some, refl, sym, ap, ◌∙◌, option_map}
 use Rattle.indexmap.specs.IndexMap.{IndexMap, with_value_at}
 use Rattle.indexmap.proofs.CallerLemmas.{updates-with_value_at}
 use Rattle.indexmap.proofs.MapLemmas.{Found-position, index-first}
 use Rattle.indexmap.proofs.RemoveLemmas.{own_first}
-use Rattle.room_stacks.specs.declared.author.Author.{Author}
-use Rattle.room_stacks.specs.SameAuthors.{is_same_author}
-use Rattle.room_stacks.specs.Facts.SameAuthors.{one_author}
+use Rattle.room_stacks.specs.Prelude.{nat_list_eq_equiv, IsDistinct, Author, is_same_author, one_author}
 use Rattle.room_stacks.specs.Inner.Lists.{Usable, Lists, author_at, authors_of, usable_at, standing_of, redo_of, has_room_of, standing_at, redo_at, has_room_at, SameStacks, KeepsRooms, IsRewritten}
 
 pair_at : (lists : Lists) (n : ℕ) (u : Usable) → slice_get (map (λ e. e.1) lists) n ≡ Some u → slice_get lists n ≡ Some (author_at (authors_of lists) n, u)

@@ -1,14 +1,11 @@
 -- A binary search among rising numbers finds the position of a number, or finds that it is absent.
+use Rattle.std.proofs.Common.{◌≡◌, ℕ, suc, ◌<◌, ◌≤◌, Bool, true, false, List, [], ◌∷◌, length, Result, Ok, Err, nat_eq, nat_lt, refl, get_or, sym, ap, ◌∙◌, arith, remove, nat_cmp}
 use Prim.Native.Nat.{zero}
-use Rattle.std.proofs.Common.{◌≡◌, ℕ, suc, ◌<◌, ◌≤◌, Bool, true, false, List, [], ◌∷◌, length, get_or, Result, Ok, Err, nat_eq, nat_lt, refl, sym, ap, ◌∙◌, arith}
 use Rattle.std.proofs.lemmas.Bool.Decides.{nat_tests}
 use Rattle.std.proofs.lemmas.List.Elements.{All-weaker, All-from_get_or}
 use Rattle.std.proofs.lemmas.List.Sorted.{searched}
-use Rattle.std.specs.List.{remove}
-use Rattle.std.specs.List.Sorted.{IsBinarySearchResult}
-use Rattle.std.specs.Ordering.{nat_cmp}
+use Rattle.room_stacks.specs.Prelude.{IsBinarySearchResult, keeps, drops, without_none}
 use Rattle.room_stacks.specs.Inner.Lists.{without, IsRising}
-use Rattle.room_stacks.specs.Facts.Rising.{keeps, drops, without_none}
 
 abbrev pub found_at : ℕ → Result ℕ ℕ
 found_at i = Ok i

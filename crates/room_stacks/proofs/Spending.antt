@@ -1,24 +1,13 @@
 -- The deed that spent an id is found by its author's number and the id.
-use Rattle.std.proofs.Common.{◌≡◌, ◌≢◌, ◌<◌, ◌≤◌, ◌&&◌, Bool, true, false, cond, ℕ, List, [], ◌∷◌, ◌++◌, length, position, Option, Some, None, refl, sym, ap, ◌∙◌, nat_eq, nat_lt, arith}
+use Rattle.std.proofs.Common.{◌≡◌, ◌≢◌, ◌<◌, ◌≤◌, ◌&&◌, Bool, true, false, cond, ℕ, List, [], ◌∷◌, ◌++◌, length, Option, Some, None, refl, nat_eq, nat_lt, sym, ap, ◌∙◌, arith, position, find, All, option_map}
 use Rattle.std.proofs.lemmas.Bool.Decides.{nat_tests}
 use Rattle.std.proofs.lemmas.List.{map-append}
 use Rattle.std.proofs.lemmas.List.Elements.{All-head, All-tail, All-push}
 use Rattle.std.proofs.lemmas.Grind.{common_steps}
 use Rattle.std.proofs.lemmas.List.Sums.{fails_before_first}
 use Rattle.std.proofs.lemmas.Map.Made.{AllPairs-from_IsDistinct}
-use Rattle.std.specs.Cmp.Lexicographic.{bytes_decides, nat_list_eq_equiv}
-use Rattle.std.specs.List.{All, IsDistinct, find, position_or_len}
-use Rattle.std.specs.Option.{option_map}
-use Rattle.std.specs.Map.{lookup}
-use Rattle.room_stacks.specs.declared.author.Author.{Author}
-use Rattle.room_stacks.specs.declared.deed.Deed.{Deed}
-use Rattle.room_stacks.specs.declared.spent_ids.Spending.{Spending}
-use Rattle.room_stacks.specs.declared.spent_ids.Work.{Work}
+use Rattle.room_stacks.specs.Prelude.{bytes_decides, nat_list_eq_equiv, IsDistinct, position_or_len, lookup, Author, Deed, Spending, Work, is_same_author, number, spends, spent, and_false, one_author}
 use Rattle.room_stacks.specs.declared.spent_ids.Work.TheVariants.{Did, Undid, Redid}
-use Rattle.room_stacks.specs.SameAuthors.{is_same_author}
-use Rattle.room_stacks.specs.Stacks.{number, spends, spent}
-use Rattle.room_stacks.specs.Facts.OneMore.{and_false}
-use Rattle.room_stacks.specs.Facts.SameAuthors.{one_author}
 use Rattle.room_stacks.specs.Inner.Lists.{author_at}
 use Rattle.room_stacks.specs.Inner.SpentIds.{AreNumbered, deed_of, deed_at, deeds_of, is_key, work_number}
 

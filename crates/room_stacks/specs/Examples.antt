@@ -1,20 +1,8 @@
--- Examples of what authors can still use, worked out by hand from docs/PROTOCOL.md ("Undo and redo"; the form of an
--- author's name under Fields).
-use Rattle.std.specs.Prelude.{◌≡◌, ◌++◌, ℕ, List, [], ◌∷◌, Some, None, true, false, codes, replicate}
-use Rattle.room_stacks.specs.Authors.{author_of}
+-- Examples of what authors can still use, worked out by hand from docs/PROTOCOL.md ("Undo and redo").
+use Rattle.std.specs.Prelude.{◌≡◌, ◌++◌, ℕ, List, [], ◌∷◌, Some, None, true, false, codes}
 use Rattle.room_stacks.specs.declared.deed.Deed.{Deed}
 use Rattle.room_stacks.specs.declared.deed.Deed.TheVariants.{Did, Undid, Redid}
 use Rattle.room_stacks.specs.Stacks.{spent, standing, is_standing, redo, top}
-
--- a name has 1 to 32 characters of a-z, 0-9 and _
-unfoldable pub authors_read : Type 0
-authors_read =
-    (author_of (codes "anna_7") ≡ Some (codes "anna_7"))
-    × (author_of (replicate 32 97) ≡ Some (replicate 32 97))
-    × (author_of (replicate 33 97) ≡ None)
-    × (author_of [] ≡ None)
-    × (author_of (codes "Anna") ≡ None)
-    × (author_of (codes "an-na") ≡ None)
 
 abbrev pub anna : List ℕ
 anna = codes "anna"

@@ -2,4 +2,3 @@
 pub mod Numbered
 pub mod OneMore
 pub mod Rising
-pub mod SameAuthors

@@ -1,5 +1,4 @@
 -- Definitions for private functions. No public contract cites them, and no definition outside this folder uses them.
-pub mod Authors
 pub mod Kept
 pub mod Lists
 pub mod SpentIds

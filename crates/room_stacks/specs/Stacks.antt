@@ -1,11 +1,9 @@
 -- The deeds of a room's authors, and what each author can still use. (The rules of a room are this project's.)
-use Rattle.std.specs.Prelude.{◌&&◌, ◌++◌, ◌-◌, ◌<◌, ℕ, Bool, true, false, not, List, [], ◌∷◌, Option, length, take, map, slice_get, nat_eq, nat_lt}
-use Rattle.std.specs.List.{All, filter, find, fold, list_any}
-use Rattle.std.specs.Option.{option_map}
-use Rattle.room_stacks.specs.declared.author.Author.{Author}
+use Rattle.std.specs.Prelude.{◌&&◌, ◌++◌, ◌-◌, ◌<◌, ℕ, Bool, true, false, not, List, [], ◌∷◌, Option, length, take, map, slice_get, nat_eq, nat_lt, filter, find, fold, All, option_map}
+use Rattle.room_interface.specs.Prelude.{list_any, is_same_author}
+use Rattle.room_interface.specs.declared.author.Author.{Author}
 use Rattle.room_stacks.specs.declared.deed.Deed.{Deed}
 use Rattle.room_stacks.specs.declared.deed.Deed.TheVariants.{Did, Undid, Redid}
-use Rattle.room_stacks.specs.SameAuthors.{is_same_author}
 
 -- the deeds of the authors, oldest first, and the author whose next deed has reserved memory
 pub record StacksState : Type 0 where

@@ -1,14 +1,13 @@
 //! The entries that each author can undo and redo.
 ghost use Rattle.std.specs.Prelude.{◌≡◌, ◌<◌, ◌++◌, [], ◌∷◌, true, IfOk, OnOk, length, position};
-ghost use Rattle.std.specs.List.{IsDistinct};
-ghost use Rattle.room_stacks.specs.SameAuthors.{is_same_author};
+ghost use Rattle.room_interface.specs.Prelude.{IsDistinct, is_same_author};
 ghost use Rattle.room_stacks.specs.Stacks.{below_top};
 ghost use Rattle.room_stacks.specs.Inner.Lists.{author_at, authors_of, standing_at, redo_at, has_room_at, without, IsRising, KeepsNumbers, SameStacks, KeepsRooms, IsRewritten};
 
-use crate::author::Author;
 use crate::author_stacks::AuthorStacks;
 use indexmap::IndexMap;
 use osm_elements::Memory;
+use room_interface::author::Author;
 use std::alloc::Allocator;
 use std::hash::{BuildHasherDefault, FoldHasher};
 use std::marker::Model;

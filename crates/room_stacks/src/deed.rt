@@ -1,5 +1,5 @@
 //! Deeds of a room's authors.
-use crate::author::Author;
+use room_interface::author::Author;
 
 /// A deed: what an author did under an id, and the number of its entry in the room's journal. Contracts model what
 /// authors did as a list of deeds. The code keeps it by ids and by authors.

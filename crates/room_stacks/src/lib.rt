@@ -8,7 +8,6 @@
 //! stacks are unchanged.
 #![tactic(auto)]
 
-pub mod author;
 mod author_lists;
 mod author_stacks;
 pub mod deed;

@@ -1,7 +1,6 @@
 //! The ids that authors spent.
-ghost use Rattle.std.specs.Prelude.{◌≡◌, ◌<◌, ◌≤◌, ◌++◌, [], ◌∷◌, None, OnOk};
+ghost use Rattle.std.specs.Prelude.{◌≡◌, ◌<◌, ◌≤◌, ◌++◌, [], ◌∷◌, None, OnOk, option_map};
 ghost use Rattle.std.specs.Map.{lookup};
-ghost use Rattle.std.specs.Option.{option_map};
 ghost use Rattle.room_stacks.specs.Inner.SpentIds.{is_key, work_number};
 
 use indexmap::IndexMap;

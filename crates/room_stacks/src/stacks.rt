@@ -4,10 +4,10 @@ ghost use Rattle.std.specs.List.Sorted.{IsStrictlyIncreasing};
 ghost use Rattle.room_stacks.specs.declared.deed.Deed.TheVariants.{Did, Undid, Redid};
 ghost use Rattle.room_stacks.specs.Stacks.{IsAboveAll, spent, standing, is_standing, redo, top};
 
-use crate::author::Author;
 use crate::author_lists::AuthorLists;
 use crate::spent_ids::{SpentIds, Work};
 use osm_elements::Memory;
+use room_interface::author::Author;
 use std::alloc::Allocator;
 use std::marker::Model;
 

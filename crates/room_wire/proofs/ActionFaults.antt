@@ -1,23 +1,13 @@
 -- The first malformed action of a group is reported with its position.
-use Rattle.std.proofs.Common.{◌≡◌, ◌⊎◌, ◌+◌, inl, inr, zero, suc, ◌∙◌, ℕ, List, ◌∷◌, codes, Bool, true, false, true≢false, Option, Some, None, Result, Ok, Err, refl, sym, ap, subst, arith}
-use Rattle.std.specs.Prelude.{IsOk}
-use Rattle.std.specs.declared.alloc.Global.{Global}
-use Rattle.std.specs.Str.{bytes_eq}
+use Rattle.std.proofs.Common.{◌≡◌, ◌⊎◌, ◌+◌, zero, suc, ℕ, List, ◌∷◌, codes, Bool, true, false, Option, Some, None, Result, Ok, Err, refl, IsOk, inl, inr, ◌∙◌, true≢false, sym, ap, subst, arith, bytes_eq, option_and_then}
 use Rattle.std.proofs.lemmas.Slice.Eq.{bytes_eq-Decides}
-use Rattle.std.specs.Option.{option_and_then}
 use Rattle.serde_json.specs.Data.{Data, Items, no_items, item, null, boolean, number, string, array, object}
 use Rattle.serde_json.specs.Find.{get, as_str}
-use Rattle.edit_actions.specs.declared.action.Action.{Action}
-use Rattle.room_wire.specs.declared.bad.Fault.{Fault}
-use Rattle.room_wire.specs.declared.bad.Fault.TheVariants.{BadActionField, BadField, BadId, Memory, NotJson, NotObject, UnknownAction, UnknownDo}
-use Rattle.room_wire.specs.declared.field.Field.{Field}
-use Rattle.room_wire.specs.Reading.{◌>>=◌, or_fault}
-use Rattle.room_wire.specs.Spelling.{action_at, action_by, actions_from, at_action, with_position}
-use Rattle.room_wire.specs.WellFormed.{AreGoodActions, IsBadAction, IsFirstBadAction, IsGoodAction, HasWord, slots}
-use Rattle.room_wire.specs.Words.{Word, is_action_word, word_text}
-use Rattle.room_wire.specs.Words as words
+use Rattle.room_wire.specs.Prelude.{Global, Action, Fault, BadActionField, BadField, BadId, Memory, NotJson, NotObject, UnknownAction, UnknownDo, Field, or_fault, action_at, action_by, actions_from, at_action, with_position, AreGoodActions, IsBadAction, IsFirstBadAction, IsGoodAction, HasWord, slots, Word, is_action_word, word_text}
+use Rattle.room_wire.specs.Reading.{◌>>=◌}
 use Rattle.room_wire.proofs.FirstFaults.{Tells, action_word_tells, none_good, one_first}
 use Rattle.room_wire.proofs.WellFormedProofs.{action_word_read}
+use Rattle.room_wire.specs.Words as words
 
 -- ---- the actions of a group
 

@@ -1,14 +1,10 @@
 -- Reading the actions of a group, action by action.
 use Rattle.std.proofs.Common.{◌≡◌, ◌+◌, ℕ, suc, List, [], ◌∷◌, ◌++◌, length, Result, Ok, Err, refl, sym, ap, append_assoc, append-nil}
-use Rattle.std.specs.declared.alloc.Global.{Global}
 use Rattle.serde_json.specs.Data.{Data, Items, no_items, item}
 use Rattle.serde_json.specs.Events.{items_len}
-use Rattle.json_values.specs.Views.{items_view}
 use Rattle.json.specs.declared.value.Value.{Value}
-use Rattle.edit_actions.specs.declared.action.Action.{Action}
-use Rattle.room_wire.specs.declared.bad.Fault.{Fault}
+use Rattle.room_wire.specs.Prelude.{Global, items_view, Action, Fault, action_at, actions_from, with_position}
 use Rattle.room_wire.specs.Reading.{◌>>=◌}
-use Rattle.room_wire.specs.Spelling.{action_at, actions_from, with_position}
 
 -- the actions that were read, followed by those of the remaining objects
 abbrev pub after_actions : List (Action Global) → Result (List (Action Global)) Fault → Result (List (Action Global)) Fault

@@ -1,15 +1,10 @@
 -- Texts of ASCII characters.
-use Rattle.std.proofs.Common.{◌<◌, ◌/◌, ◌%◌, ◌==◌, ℕ, zero, suc, ℤ, pos, negsuc, Bool, true, false, cond, List, [], ◌∷◌, Result, Ok, Err, MatchResult, refl, arith}
-use Rattle.std.specs.Result.{IsOk}
-use Rattle.std.specs.Str.{IsAscii, IsUtf8}
-use Rattle.std.specs.Fmt.{signed_decimal, decimal, digits, digits_onto, digit_glyph}
+use Rattle.std.proofs.Common.{◌<◌, ◌/◌, ◌%◌, ◌==◌, ℕ, zero, suc, ℤ, pos, negsuc, Bool, true, false, cond, List, [], ◌∷◌, Result, Ok, Err, MatchResult, refl, arith, IsAscii, IsUtf8, decimal, IsOk}
+use Rattle.std.specs.Fmt.{digits}
 use Rattle.std.proofs.lemmas.Str.{IsUtf8-from_ascii}
 use Rattle.std.proofs.lemmas.Bool.Decides.{nat_tests}
-use Rattle.osm_elements.specs.declared.name.Name.{Name}
-use Rattle.osm_elements.specs.declared.name.Kind.{Kind}
+use Rattle.room_wire.specs.Prelude.{signed_decimal, digits_onto, digit_glyph, Name, Kind, letter_of, name_text}
 use Rattle.osm_elements.specs.declared.name.Kind.TheVariants.{Node, Way, Relation}
-use Rattle.osm_elements.specs.Names.{letter_of}
-use Rattle.osm_elements.specs.NameTexts.{name_text}
 
 first_and_rest : (b : ℕ) (bs : List ℕ) → b < 128 → IsAscii bs → IsAscii (b ∷ bs)
 first_and_rest b bs h a zero = h

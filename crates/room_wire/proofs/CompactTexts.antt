@@ -1,8 +1,5 @@
 -- The compact text of a tree whose numbers are in range and whose keys rise is read as that tree.
-use Rattle.std.proofs.Common.{◌≡◌, ◌≤◌, suc, max, [], Some, refl, sym, ap, ap₂, append-nil, ◌∙◌, arith}
-use Rattle.std.specs.Option.{option_and_then}
-use Rattle.json.specs.Json as json
-use Rattle.json.specs.Tree as tree
+use Rattle.std.proofs.Common.{◌≡◌, ◌≤◌, suc, max, [], Some, refl, sym, ap, ap₂, append-nil, ◌∙◌, arith, option_and_then}
 use Rattle.json.proofs.Printed.Tokens.{tokens-print}
 use Rattle.json.proofs.Printed.Trees.{ArePrintable-json_tokens, value-json_tokens}
 use Rattle.serde_json.proofs.Texts.{print-outline}
@@ -10,6 +7,8 @@ use Rattle.serde_json.specs.Data.{Data, null, boolean, number, string, array, ob
 use Rattle.serde_json.specs.Read.{read, of_json}
 use Rattle.serde_json.specs.Written.{compact_text, outline, items_outline, members_outline}
 use Rattle.room_wire.specs.Inner.Writing.{IsReadable}
+use Rattle.json.specs.Json as json
+use Rattle.json.specs.Tree as tree
 
 -- the outline nests as deep as the tree
 mutual

@@ -1,18 +1,6 @@
 -- A written element is read back as the same element.
-use Rattle.std.proofs.Common.{◌≡◌, ℤ, Some, Ok, inl, refl, sym, ap, ◌∙◌}
-use Rattle.std.specs.declared.alloc.Global.{Global}
-use Rattle.osm_coords.specs.Latitude.{latitude_of, IsLatitude}
-use Rattle.osm_coords.specs.Longitude.{longitude_of, IsLongitude}
-use Rattle.osm_coords.specs.Written.{written}
-use Rattle.osm_elements.specs.declared.name.Name.{Name}
-use Rattle.osm_elements.specs.declared.element.Element.{Element}
-use Rattle.osm_elements.specs.declared.element.Element.TheVariants.{Node, Way, Relation}
-use Rattle.osm_elements.specs.Elements.{kind_of}
-use Rattle.edit_actions.specs.declared.action.Action.TheVariants.{Create}
-use Rattle.room_wire.specs.ReadBack.{HasId, IsWhole}
-use Rattle.room_wire.specs.Spelling.{create_at, el_at, element_at}
-use Rattle.room_wire.specs.Trees.{element_tree}
-use Rattle.room_wire.specs.WellFormed.{HasElement, HasName}
+use Rattle.std.proofs.Common.{◌≡◌, ℤ, Some, Ok, refl, inl, sym, ap, ◌∙◌}
+use Rattle.room_wire.specs.Prelude.{Global, latitude_of, IsLatitude, longitude_of, IsLongitude, written, Name, Element, Node, Way, Relation, kind_of, Create, HasId, IsWhole, create_at, el_at, element_at, element_tree, HasElement, HasName}
 use Rattle.room_wire.proofs.WellFormedProofs.{created, el_read, element_read}
 
 name_back : (name : Name) (element : Element Global) → HasId name → HasName (element_tree name element) name

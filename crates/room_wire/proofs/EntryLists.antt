@@ -1,21 +1,11 @@
 -- Reading the entries of an object, member by member.
-use Rattle.std.proofs.Common.{◌≡◌, ◌<◌, ◌≤◌, ℕ, suc, List, [], ◌∷◌, ◌++◌, length, Bor, Ordering, nat_cmp, Option, Some, None, option_map, option_and_then, Ok, Bool, cond, nat_eq, Less, Greater, nat_le, true, false, refl, sym, ap, ◌∙◌, arith, append_assoc, append-nil}
-use Rattle.std.specs.Map.{keys_of}
+use Rattle.std.proofs.Common.{◌≡◌, ◌<◌, ◌≤◌, ℕ, suc, List, [], ◌∷◌, ◌++◌, length, Option, Some, None, Ok, Bool, cond, nat_eq, nat_le, true, false, refl, sym, ap, ◌∙◌, arith, append_assoc, append-nil, Bor, Ordering, nat_cmp, option_map, option_and_then, Less, Greater}
 use Rattle.std.specs.List.Sorted.{IsStrictlySortedBy}
-use Rattle.std.specs.List.{AllByRecursion}
-use Rattle.std.specs.Cmp.Lexicographic.{slice_cmp}
-use Rattle.std.specs.Ordering.{ordering_reverse}
-use Rattle.std.specs.FinMap.Entries.{put}
 use Rattle.std.proofs.lemmas.Cmp.{nat_list_cmp_total}
 use Rattle.serde_json.specs.Data.{Data, Members, no_members, member}
 use Rattle.serde_json.specs.Events.{members_len}
-use Rattle.json_values.specs.Views.{Entry, members_view}
-use Rattle.osm_elements.specs.KeyedRows.{text_cmp}
-use Rattle.room_wire.specs.Spelling.{entry_of, entries_in, entries_of}
 use Rattle.std.proofs.lemmas.Bool.Decides.{nat_tests}
-use Rattle.osm_elements.specs.Texts.{is_long}
-use Rattle.room_wire.specs.declared.bad.Fault.{Fault}
-use Rattle.room_wire.specs.Reading.{or_fault}
+use Rattle.room_wire.specs.Prelude.{keys_of, AllByRecursion, slice_cmp, ordering_reverse, put, Entry, members_view, text_cmp, entry_of, entries_in, entries_of, is_long, Fault, or_fault}
 
 module _ {V : Type 0} (reading : Data → Option V) where
   -- the entries that were read, followed by those of the remaining members

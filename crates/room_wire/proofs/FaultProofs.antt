@@ -1,35 +1,19 @@
 -- A text has each fault exactly if it should.
-use Rattle.std.proofs.Common.{◌≡◌, ◌⊎◌, ◌+◌, inl, inr, ◌↔◌, ◌&&◌, ◌∙◌, ℕ, List, [], ◌∷◌, codes, Bool, true, false, cond, true≢false, Option, Some, None, Result, Ok, Err, is_some, nat_le, refl, sym, ap, subst, arith}
-use Rattle.std.specs.Prelude.{IsOk}
-use Rattle.std.specs.declared.alloc.Global.{Global}
-use Rattle.std.specs.Str.{bytes_eq}
+use Rattle.std.proofs.Common.{◌≡◌, ◌⊎◌, ◌+◌, ◌↔◌, ◌&&◌, ℕ, List, [], ◌∷◌, codes, Bool, true, false, cond, Option, Some, None, Result, Ok, Err, is_some, nat_le, refl, IsOk, inl, inr, ◌∙◌, true≢false, sym, ap, subst, arith, bytes_eq, option_and_then}
 use Rattle.std.proofs.lemmas.Slice.Eq.{bytes_eq-Decides}
-use Rattle.std.specs.Option.{option_and_then}
 use Rattle.std.proofs.lemmas.Bool.Decides.{nat_tests}
 use Rattle.serde_json.specs.Data.{Data, Items, no_items, null, boolean, number, string, array, object, unsigned, negative, float}
 use Rattle.serde_json.specs.Find.{get, as_object, as_str}
 use Rattle.serde_json.specs.Read.{read}
-use Rattle.edit_actions.specs.declared.action.Action.{Action}
-use Rattle.edit_groups.specs.declared.edit.Edit.TheVariants.{One, Group}
-use Rattle.room_history.specs.declared.call.Request.TheVariants as requests
-use Rattle.room_wire.specs.declared.bad.Bad.{Bad}
-use Rattle.room_wire.specs.declared.bad.Fault.{Fault}
-use Rattle.room_wire.specs.declared.bad.Fault.TheVariants.{BadActionField, BadField, BadId, Memory, NotJson, NotObject, UnknownAction, UnknownDo}
-use Rattle.room_wire.specs.declared.field.Field.{Field}
-use Rattle.room_wire.specs.declared.field.Field.TheVariants.{El, Els, Lat, Lon, Nodes, Members, Tags, Dlat, Dlon, At, Into, With, Actions, Seq}
-use Rattle.room_wire.specs.declared.field.Field.TheVariants as fields
-use Rattle.room_wire.specs.declared.incoming.Incoming.{Incoming}
-use Rattle.room_wire.specs.declared.incoming.Body.{Body}
-use Rattle.room_wire.specs.declared.incoming.Body.TheVariants as bodies
-use Rattle.room_wire.specs.Reading.{◌>>=◌, or_fault, under}
-use Rattle.room_wire.specs.Spelling.{action_by, actions_from, group_at, author_at, body_by, el_at, by_id, incoming, body_at, message_of, ordinal, seq_at, spells}
-use Rattle.room_wire.specs.Trees.{whole}
-use Rattle.room_wire.specs.WellFormed.{AreGood, AreGoodActions, IsFirstBadAction, actions_in, group_items, HasWord, IsFirstBad, IsNumber, MessageId, Slot, slot, slots}
-use Rattle.room_wire.specs.Words.{Word, is_action_word, word_text}
-use Rattle.room_wire.specs.Words as words
+use Rattle.room_wire.specs.Prelude.{Global, Action, One, Group, Bad, Fault, BadActionField, BadField, BadId, Memory, NotJson, NotObject, UnknownAction, UnknownDo, Field, El, Els, Lat, Lon, Nodes, Members, Tags, Dlat, Dlon, At, Into, With, Actions, Seq, Incoming, Body, or_fault, under, action_by, actions_from, group_at, author_at, body_by, el_at, by_id, incoming, body_at, message_of, ordinal, seq_at, spells, whole, AreGood, AreGoodActions, IsFirstBadAction, actions_in, group_items, HasWord, IsFirstBad, IsNumber, MessageId, Slot, slot, slots, Word, is_action_word, word_text}
+use Rattle.room_wire.specs.Reading.{◌>>=◌}
 use Rattle.room_wire.proofs.ActionFaults.{ActionsTell, GroupTells, actions_tell, bad_told, none_bad, none_unknown, unknown_told}
 use Rattle.room_wire.proofs.FirstFaults.{Only, Tells, action_word_tells, none_good, one_first, only_field, only_seq, step}
 use Rattle.room_wire.proofs.WellFormedProofs.{id_read, spells-body, word_read}
+use Rattle.room_interface.specs.declared.call.Request.TheVariants as requests
+use Rattle.room_wire.specs.declared.field.Field.TheVariants as fields
+use Rattle.room_wire.specs.declared.incoming.Body.TheVariants as bodies
+use Rattle.room_wire.specs.Words as words
 
 -- The fault of a result is the first bad field, or the first bad action of a group whose fields are well formed. If it
 -- has no fault, there is neither.

@@ -1,9 +1,6 @@
 -- A fault of a step is the fault of the whole.
-use Rattle.std.proofs.Common.{◌≡◌, ◌⊎◌, Option, Some, None, Result, Ok, Err, inl, inr, refl, sym, ap, ◌∙◌}
-use Rattle.std.specs.Result.{IsErr, IsErrAnd}
-use Rattle.room_wire.specs.declared.bad.Fault.{Fault}
-use Rattle.room_wire.specs.declared.bad.Fault.TheVariants.{Memory}
-use Rattle.room_wire.specs.Reading.{Gives, or_fault}
+use Rattle.std.proofs.Common.{◌≡◌, ◌⊎◌, Option, Some, None, Result, Ok, Err, refl, inl, inr, sym, ap, ◌∙◌, IsErr, IsErrAnd}
+use Rattle.room_wire.specs.Prelude.{Fault, Memory, Gives, or_fault}
 
 -- if the whole is missing when a part is missing, both have the same fault
 pub or_fault_err : {X Y : Type 0} (fault f : Fault) (part : Option X) (whole : Option Y) → or_fault fault part ≡ Err f → (part ≡ None → whole ≡ None) → or_fault fault whole ≡ Err f

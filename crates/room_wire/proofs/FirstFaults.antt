@@ -1,23 +1,12 @@
 -- The first malformed field of a message is reported.
-use Rattle.std.proofs.Common.{◌≡◌, ◌∙◌, List, [], ◌∷◌, codes, true, false, true≢false, Option, Some, None, Result, Ok, Err, refl, sym}
-use Rattle.std.specs.declared.alloc.Global.{Global}
+use Rattle.std.proofs.Common.{◌≡◌, List, [], ◌∷◌, codes, true, false, Option, Some, None, Result, Ok, Err, refl, ◌∙◌, true≢false, sym}
 use Rattle.serde_json.specs.Data.{Data}
 use Rattle.serde_json.specs.Find.{get}
-use Rattle.osm_elements.specs.declared.name.Name.{Name}
-use Rattle.osm_elements.specs.declared.name.Kind.{Kind}
+use Rattle.room_wire.specs.Prelude.{Global, Name, Kind, Element, Action, Fault, BadField, Field, El, Els, Lat, Lon, Nodes, Members, Tags, Dlat, Dlon, At, Into, With, Seq, or_fault, action_by, move_at, split_at, unglue_at, name_at, place_at, distance_at, given_tags_at, el_at, els_at, element_at, lat_at, lon_at, members_at, nodes_at, seq_from, tags_at, tags_from, AreGood, IsFirstBad, Slot, element_slots, slot, slots, Word, is_action_word, word_text}
+use Rattle.room_wire.specs.Reading.{◌>>=◌}
 use Rattle.osm_elements.specs.declared.name.Kind.TheVariants as kinds
-use Rattle.osm_elements.specs.declared.element.Element.{Element}
 use Rattle.osm_elements.specs.declared.element.Element.TheVariants as elements
-use Rattle.edit_actions.specs.declared.action.Action.{Action}
-use Rattle.edit_actions.specs.declared.action.Action.TheVariants as actions
-use Rattle.room_wire.specs.declared.bad.Fault.{Fault}
-use Rattle.room_wire.specs.declared.bad.Fault.TheVariants.{BadField}
-use Rattle.room_wire.specs.declared.field.Field.{Field}
-use Rattle.room_wire.specs.declared.field.Field.TheVariants.{El, Els, Lat, Lon, Nodes, Members, Tags, Dlat, Dlon, At, Into, With, Seq}
-use Rattle.room_wire.specs.Reading.{◌>>=◌, or_fault}
-use Rattle.room_wire.specs.Spelling.{action_by, move_at, split_at, unglue_at, name_at, place_at, distance_at, given_tags_at, el_at, els_at, element_at, lat_at, lon_at, members_at, nodes_at, seq_from, tags_at, tags_from}
-use Rattle.room_wire.specs.WellFormed.{AreGood, IsFirstBad, Slot, element_slots, slot, slots}
-use Rattle.room_wire.specs.Words.{Word, is_action_word, word_text}
+use Rattle.room_interface.specs.declared.action.Action.TheVariants as actions
 use Rattle.room_wire.specs.Words as words
 
 -- a result has the first bad field as its fault; if it has no fault, there is no bad field

@@ -1,8 +1,7 @@
 -- Facts about values that are found or read, carried from step to step.
-use Rattle.std.proofs.Common.{◌≡◌, Bool, true, false, cond, Option, Some, None, IfSome, Result, Ok, Err, IfOk, option_map, option_and_then, refl, subst}
-use Rattle.std.specs.Result.{result_ok}
-use Rattle.room_wire.specs.declared.bad.Fault.{Fault}
-use Rattle.room_wire.specs.Reading.{◌>>=◌, or_fault}
+use Rattle.std.proofs.Common.{◌≡◌, Bool, true, false, cond, Option, Some, None, IfSome, Result, Ok, Err, IfOk, refl, subst, option_map, option_and_then}
+use Rattle.room_wire.specs.Prelude.{result_ok, Fault, or_fault}
+use Rattle.room_wire.specs.Reading.{◌>>=◌}
 
 -- facts about an optional value
 pub if_map : {X Y : Type 0} (P : Y → Type 0) (f : X → Y) (o : Option X) → IfSome o (λ x. P (f x)) → IfSome (option_map f o) P

@@ -5,7 +5,6 @@ pub mod CompactTexts
 pub mod ElementBack
 pub mod Empty
 pub mod EntryLists
-pub mod ExampleProofs
 pub mod FaultProofs
 pub mod FaultsToldOn
 pub mod FirstFaults
@@ -14,7 +13,6 @@ pub mod ItemLists
 pub mod MemberPairs
 pub mod NeverMemory
 pub mod NewsBackProofs
-pub mod NewsExampleProofs
 pub mod Numerals
 pub mod Prefixes
 pub mod ReadBackProofs

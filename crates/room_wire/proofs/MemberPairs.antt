@@ -1,9 +1,7 @@
 -- A list is read as a member only if it has two items.
 use Rattle.std.proofs.Common.{◌≡◌, ◌≢◌, List, [], ◌∷◌, None, length, refl}
-use Rattle.std.specs.declared.alloc.Global.{Global}
-use Rattle.json_values.specs.Views.{items_view}
 use Rattle.json.specs.declared.value.Value.{Value}
-use Rattle.room_wire.specs.Spelling.{member_in}
+use Rattle.room_wire.specs.Prelude.{Global, items_view, member_in}
 
 pub not_two : (vs : List (Value Global)) → length vs ≢ 2 → member_in (items_view vs) ≡ None
 not_two [] h = refl

@@ -1,22 +1,12 @@
 -- No text spells the fault `Memory`.
-use Rattle.std.proofs.Common.{◌≡◌, ◌≢◌, ◌+◌, ℕ, List, Bool, true, false, cond, Option, Some, None, Result, Ok, Err, IfErr, codes, is_some, option_and_then, refl, sym, ◌∙◌}
+use Rattle.std.proofs.Common.{◌≡◌, ◌≢◌, ◌+◌, ℕ, List, Bool, true, false, cond, Option, Some, None, Result, Ok, Err, IfErr, codes, is_some, refl, sym, ◌∙◌, option_and_then, bytes_eq}
 use Rattle.serde_json.specs.Data.{Data, Items, no_items, item}
 use Rattle.serde_json.specs.Find.{get, as_str, as_object}
 use Rattle.serde_json.specs.Read.{read}
-use Rattle.room_wire.specs.Fields.{field_text}
-use Rattle.osm_elements.specs.declared.name.Kind.{Kind}
+use Rattle.room_wire.specs.Prelude.{field_text, Kind, Redo, Fault, Memory, NotJson, BadField, NotObject, BadId, UnknownDo, UnknownAction, BadActionField, Body, Change, Map, Undos, Field, El, Els, Lat, Lon, Nodes, Members, Tags, Dlat, Dlon, At, Into, With, Actions, Seq, or_fault, under, action_at, actions_at, actions_from, at_action, edit_by, group_at, with_position, spells, ordinal, word_at, message_of, by_id, incoming, id_at, body_at, body_by, action_by, create_at, retag_at, move_at, relist_way_at, relist_relation_at, split_at, join_at, merge_at, unglue_at, element_at, name_at, place_at, el_at, els_at, distance_at, lat_at, lon_at, nodes_at, members_at, tags_at, tags_from, given_tags_at, seq_at, seq_from, author_at, hello_at}
+use Rattle.room_wire.specs.Reading.{◌>>=◌}
 use Rattle.osm_elements.specs.declared.name.Kind.TheVariants as kinds
-use Rattle.room_history.specs.declared.call.Request.TheVariants.{Redo}
-use Rattle.room_wire.specs.declared.bad.Fault.{Fault}
-use Rattle.room_wire.specs.declared.bad.Fault.TheVariants.{Memory, NotJson, BadField, NotObject, BadId, UnknownDo, UnknownAction, BadActionField}
-use Rattle.room_wire.specs.declared.incoming.Body.{Body}
-use Rattle.room_wire.specs.declared.incoming.Body.TheVariants.{Change, Map, Undos}
-use Rattle.std.specs.Str.{bytes_eq}
-use Rattle.room_wire.specs.declared.field.Field.{Field}
-use Rattle.room_wire.specs.declared.field.Field.TheVariants.{El, Els, Lat, Lon, Nodes, Members, Tags, Dlat, Dlon, At, Into, With, Actions, Seq}
 use Rattle.room_wire.specs.declared.field.Field.TheVariants as fields
-use Rattle.room_wire.specs.Reading.{◌>>=◌, or_fault, under}
-use Rattle.room_wire.specs.Spelling.{action_at, actions_at, actions_from, at_action, edit_by, group_at, with_position, spells, ordinal, word_at, message_of, by_id, incoming, id_at, body_at, body_by, action_by, create_at, retag_at, move_at, relist_way_at, relist_relation_at, split_at, join_at, merge_at, unglue_at, element_at, name_at, place_at, el_at, els_at, distance_at, lat_at, lon_at, nodes_at, members_at, tags_at, tags_from, given_tags_at, seq_at, seq_from, author_at, hello_at}
 
 Fine : {X : Type 0} → Result X Fault → Type 0
 Fine r = IfErr r (λ f. f ≢ Memory)

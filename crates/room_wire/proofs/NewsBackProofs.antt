@@ -1,44 +1,18 @@
 -- Written news and welcomes are read back as the same values.
-use Rattle.std.proofs.Common.{◌≡◌, ◌≤◌, ℤ, suc, ℕ, List, [], ◌∷◌, map, true, false, cond, Option, Some, None, Result, Ok, All, IfSome, nat_le, codes, refl, ap, ◌∙◌, arith}
-use Rattle.std.specs.declared.alloc.Global.{Global}
-use Rattle.std.specs.Option.{option_and_then}
-use Rattle.std.specs.Result.{result_ok}
+use Rattle.std.proofs.Common.{◌≡◌, ◌≤◌, ℤ, suc, ℕ, List, [], ◌∷◌, map, true, false, cond, Option, Some, None, Result, Ok, All, IfSome, nat_le, codes, refl, ap, ◌∙◌, arith, option_and_then}
 use Rattle.std.proofs.lemmas.Bool.Decides.{nat_tests}
 use Rattle.std.proofs.lemmas.List.{map-id}
 use Rattle.serde_json.specs.Data.{Data, Items, object, no_members, member}
 use Rattle.serde_json.specs.Read.{read}
 use Rattle.serde_json.specs.View.{items_of}
-use Rattle.osm_coords.specs.Latitude.{latitude_of, IsLatitude}
-use Rattle.osm_coords.specs.Longitude.{longitude_of, IsLongitude}
-use Rattle.osm_coords.specs.Written.{written}
-use Rattle.osm_elements.specs.declared.name.Name.{Name}
-use Rattle.osm_elements.specs.declared.element.Element.{Element}
-use Rattle.osm_elements.specs.declared.element.Element.TheVariants.{Node, Way, Relation}
-use Rattle.osm_elements.specs.declared.map.Row.{Row}
-use Rattle.osm_elements.specs.Facts.NameTexts.{name_of_text}
-use Rattle.osm_elements.specs.Maps.{Rows, names_of}
-use Rattle.osm_elements.specs.RowPairs.{row_pair}
-use Rattle.osm_changes.specs.Changes.{are_rising}
-use Rattle.room_history.specs.declared.news.News.{News}
-use Rattle.room_history.specs.declared.news.NewsRow.{NewsRow}
-use Rattle.room_wire.specs.declared.bad.Fault.{Fault}
-use Rattle.room_wire.specs.declared.bad.Fault.TheVariants.{BadField}
-use Rattle.room_wire.specs.declared.field.Field.{Field}
-use Rattle.room_wire.specs.declared.field.Field.TheVariants as fields
-use Rattle.room_wire.specs.declared.welcome.Welcome.{Welcome}
-use Rattle.room_wire.specs.Lists.{row_at, rows_at, rows_in, rising}
-use Rattle.room_wire.specs.News.{is_gone, news_read, news_row_at, news_tree, number_at, row_tree, spells_news, told_tree, without_id}
-use Rattle.room_wire.specs.News as news
-use Rattle.room_wire.specs.NewsBack.{AreNews, IsMapRow, IsNewsRow, IsUnder, IsWelcome}
-use Rattle.room_wire.specs.ReadBack.{HasId}
-use Rattle.room_wire.specs.Reading.{◌>>=◌, or_fault, under}
-use Rattle.room_wire.specs.Spelling.{author_at, by_id, el_at, element_at, items_in}
-use Rattle.room_wire.specs.Trees.{element_tree, rows_tree, whole}
-use Rattle.room_wire.specs.Welcomes.{count_at, count_of, map_at, spells_welcome, welcome, welcome_of, welcome_tree}
-use Rattle.room_wire.specs.Welcomes as welcomes
+use Rattle.room_wire.specs.Prelude.{Global, result_ok, latitude_of, IsLatitude, longitude_of, IsLongitude, written, Name, Element, Node, Way, Relation, Row, name_of_text, Rows, names_of, are_rising, row_pair, News, NewsRow, Fault, BadField, Field, Welcome, row_at, rows_at, rows_in, rising, is_gone, news_read, news_row_at, news_tree, number_at, row_tree, spells_news, told_tree, without_id, AreNews, IsMapRow, IsNewsRow, IsUnder, IsWelcome, HasId, or_fault, under, author_at, by_id, el_at, element_at, items_in, element_tree, rows_tree, whole, count_at, count_of, map_at, spells_welcome, welcome, welcome_of, welcome_tree}
+use Rattle.room_wire.specs.Reading.{◌>>=◌}
 use Rattle.room_wire.proofs.ElementBack.{el_back, element_back}
 use Rattle.room_wire.proofs.ReadBackProofs.{three, two}
 use Rattle.room_wire.proofs.WellFormedProofs.{id_read, number_read}
+use Rattle.room_wire.specs.declared.field.Field.TheVariants as fields
+use Rattle.room_wire.specs.News as news
+use Rattle.room_wire.specs.Welcomes as welcomes
 
 -- items, each of which is read back
 items_back : {X Y : Type 0} (reading : Data → Option Y) (tree : X → Data) (back : X → Y) (P : X → Type 0) → ((x : X) → P x → reading (tree x) ≡ Some (back x)) → (xs : List X) → All P xs → items_in reading (items_of (map tree xs)) ≡ Some (map back xs)

@@ -1,31 +1,13 @@
 -- The written parts of an element are read back as the same parts.
-use Rattle.std.proofs.Common.{◌≡◌, ◌<◌, ◌^◌, ◌&&◌, ℕ, suc, ℤ, pos, negsuc, List, [], ◌∷◌, length, map, Bool, true, false, not, cond, T, Option, Some, None, Result, Ok, option_map, All, FitsSigned, nat_lt, nat_le, nat_eq, refl, sym, ap, ◌∙◌, arith}
-use Rattle.std.specs.List.{list_all}
-use Rattle.std.specs.Option.{option_and_then}
-use Rattle.std.specs.FinMap.Entries.{is_sorted}
-use Rattle.std.specs.Int.{w64}
+use Rattle.std.proofs.Common.{◌≡◌, ◌<◌, ◌^◌, ◌&&◌, ℕ, suc, ℤ, pos, negsuc, List, [], ◌∷◌, length, map, Bool, true, false, not, cond, T, Option, Some, None, Result, Ok, All, FitsSigned, nat_lt, nat_le, nat_eq, refl, sym, ap, ◌∙◌, arith, option_map, option_and_then}
 use Rattle.std.proofs.lemmas.Bool.Decides.{nat_tests}
 use Rattle.serde_json.specs.Data.{Data, string}
 use Rattle.serde_json.specs.Events.{members_len}
 use Rattle.serde_json.specs.View.{items_of}
 use Rattle.serde_json.specs.Find.{as_i64, of_integer}
-use Rattle.osm_elements.specs.declared.name.Name.{Name}
-use Rattle.osm_elements.specs.declared.name.Kind.TheVariants as kinds
-use Rattle.osm_elements.specs.Facts.NameTexts.{name_of_text, name_with-some}
-use Rattle.osm_elements.specs.NameTexts.{name_of, name_text, name_with}
-use Rattle.osm_elements.specs.Members.{AreMembers, are_members}
-use Rattle.osm_elements.specs.Nodes.{AreNodes}
-use Rattle.osm_elements.specs.KeyedRows.{text_cmp}
-use Rattle.osm_elements.specs.TagRows.{Pairs, AreTagRows}
-use Rattle.osm_elements.specs.Texts.{is_long}
-use Rattle.osm_elements.specs.KeyedValues.{is_none_or}
-use Rattle.edit_simple.specs.Tagging.{AreGiven, GivenTags}
-use Rattle.room_wire.specs.declared.bad.Fault.{Fault}
-use Rattle.room_wire.specs.ReadBack.{HasId}
+use Rattle.room_wire.specs.Prelude.{list_all, is_sorted, w64, Name, name_of_text, name_with-some, name_of, name_text, name_with, AreMembers, are_members, AreNodes, text_cmp, Pairs, AreTagRows, is_long, is_none_or, AreGiven, GivenTags, Fault, HasId, node_of, nodes_in, member_of, members_in, names_in, entries_in, entries_of, value_of, tags_of, given_of, given_tags_of, id_tree, name_tree, member_tree, entry_members, tag_members, given_tree, is_true}
 use Rattle.room_wire.specs.Reading.{◌>>=◌}
-use Rattle.room_wire.specs.Spelling.{node_of, nodes_in, member_of, members_in, names_in, entries_in, entries_of, value_of, tags_of, given_of, given_tags_of}
-use Rattle.room_wire.specs.Trees.{id_tree, name_tree, member_tree, entry_members, tag_members}
-use Rattle.room_wire.specs.WellFormed.{given_tree}
+use Rattle.osm_elements.specs.declared.name.Kind.TheVariants as kinds
 
 first_test : (a b : Bool) → T (a && b) → T a
 first_test true b p = tt
@@ -34,10 +16,6 @@ first_test false b p = p
 second_test : (a b : Bool) → T (a && b) → T b
 second_test true b p = p
 second_test false b p = absurd p
-
-pub passed : (b : Bool) → T b → b ≡ true
-passed true p = refl
-passed false p = absurd p
 
 -- the written keys and values of an object are read back
 by_tests : {V : Type 0} (a b c : Bool) (k : List ℕ) (o : Option V) (v : V) → T (not a && (not b && c)) → (T c → o ≡ Some v) → option_and_then {U = List ℕ × V} (λ key. option_map (λ value. (key, value)) o) (cond a None (cond b None (Some k))) ≡ Some (k, v)
@@ -64,7 +42,7 @@ module _ {V : Type 0} (tree : V → Data) (reading : Data → Option V) (passes 
 
   entries_back : (entries : List (List ℕ × V)) → T (nat_le (length entries) 1000 && list_all (is_entry passes) entries) → entries_of reading (entry_members tree entries) ≡ Some entries
   entries_back entries h =
-      let few : nat_le (length entries) 1000 ≡ true = passed (nat_le (length entries) 1000) (first_test (nat_le (length entries) 1000) _ h) in
+      let few : nat_le (length entries) 1000 ≡ true = is_true (nat_le (length entries) 1000) (first_test (nat_le (length entries) 1000) _ h) in
       rw (members_len-entry_members tree entries, few) (entries_in-entry_members entries (second_test (nat_le (length entries) 1000) _ h))
 
 value_back : (v : List ℕ) → T (not (is_long v)) → value_of (string v) ≡ Some v

@@ -1,16 +1,6 @@
 -- Names that rise, tested from each name to the next.
-use Rattle.std.proofs.Common.{◌≡◌, ◌&&◌, ◌+◌, ◌<◌, ◌≤◌, ℕ, zero, suc, Bool, true, false, T, List, [], ◌∷◌, length, get_or, drop, map, refl, sym, ap, ◌∙◌, arith}
-use Rattle.std.specs.Ordering.{is_lt}
-use Rattle.std.specs.declared.cmp.Ordering.{Ordering}
-use Rattle.std.specs.declared.cmp.Ordering.TheVariants.{Less, Equal, Greater}
-use Rattle.std.specs.FinMap.Entries.{below_all}
-use Rattle.osm_elements.specs.declared.name.Name.{Name}
-use Rattle.osm_elements.specs.NameOrder.{name_cmp}
-use Rattle.osm_elements.specs.Facts.Entries.{below_less}
-use Rattle.osm_elements.specs.Facts.Names.{name_cmp_total}
-use Rattle.osm_elements.specs.Facts.Tests.{first_true}
-use Rattle.osm_changes.specs.Changes.{are_rising}
-use Rattle.osm_changes.specs.Facts.SoundRows.{is_true, so}
+use Rattle.std.proofs.Common.{◌≡◌, ◌&&◌, ◌+◌, ◌<◌, ◌≤◌, ℕ, zero, suc, Bool, true, false, T, List, [], ◌∷◌, length, drop, map, refl, get_or, sym, ap, ◌∙◌, arith, is_lt, Ordering, Less, Equal, Greater}
+use Rattle.room_wire.specs.Prelude.{below_all, Name, name_cmp, below_less, name_cmp_total, first_true, is_true, so, are_rising}
 use Rattle.room_wire.specs.Inner.Rising.{is_before}
 
 -- names as the keys of pairs without values

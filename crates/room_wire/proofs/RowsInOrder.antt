@@ -1,13 +1,6 @@
 -- Rows whose names rise are in order.
-use Rattle.std.proofs.Common.{◌≡◌, ◌&&◌, true, List, [], ◌∷◌, map, sym, refl, ap₂, ◌∙◌}
-use Rattle.std.specs.FinMap.Entries.{is_sorted, below_all}
-use Rattle.osm_elements.specs.declared.name.Name.{Name}
-use Rattle.osm_elements.specs.declared.map.Row.{Row}
-use Rattle.osm_elements.specs.NameOrder.{name_cmp}
-use Rattle.osm_elements.specs.RowPairs.{row_pair}
-use Rattle.osm_elements.specs.Rows.{AreInOrder}
-use Rattle.osm_changes.specs.Changes.{are_rising}
-use Rattle.osm_changes.specs.Facts.SoundRows.{so}
+use Rattle.std.proofs.Common.{◌≡◌, ◌&&◌, true, List, [], ◌∷◌, map, refl, sym, ap₂, ◌∙◌}
+use Rattle.room_wire.specs.Prelude.{is_sorted, below_all, Name, Row, name_cmp, row_pair, AreInOrder, are_rising, so}
 
 module _ {A : Type 0} where
   below_same : (x : Name) (rows : List (Row A)) → below_all name_cmp x (map (λ y. (y, tt {0})) (map (λ r. r.name) rows)) ≡ below_all name_cmp x (map row_pair rows)

@@ -1,26 +1,11 @@
 -- The elements of a welcome are of their names' kinds.
-use Rattle.std.proofs.Common.{◌≡◌, ℕ, Bool, true, false, cond, List, ◌∷◌, Option, Some, None, IfSome, Ok, IfOk, map, option_map, option_and_then, refl, subst}
-use Rattle.std.specs.declared.alloc.Global.{Global}
-use Rattle.std.specs.Result.{result_ok}
+use Rattle.std.proofs.Common.{◌≡◌, ℕ, Bool, true, false, cond, List, ◌∷◌, Option, Some, None, IfSome, Ok, IfOk, map, refl, subst, option_map, option_and_then}
 use Rattle.serde_json.specs.Data.{Data, Items, no_items, item}
 use Rattle.serde_json.specs.Find.{get, as_array}
-use Rattle.osm_elements.specs.declared.name.Kind.{Kind}
-use Rattle.osm_elements.specs.declared.name.Kind.TheVariants as kinds
-use Rattle.osm_elements.specs.declared.map.Row.{Row}
-use Rattle.osm_elements.specs.Elements.{kind_of}
-use Rattle.osm_elements.specs.Facts.Tests.{both_true}
-use Rattle.osm_elements.specs.Maps.{Rows, is_kind}
-use Rattle.osm_elements.specs.RowPairs.{row_pair}
-use Rattle.osm_changes.specs.Changes.{are_rising}
-use Rattle.edit_simple.specs.Soundness.{are_of_kinds}
-use Rattle.room_wire.specs.declared.bad.Fault.TheVariants.{BadField}
-use Rattle.room_wire.specs.declared.field.Field.TheVariants as fields
-use Rattle.room_wire.specs.Fields.{field_text}
-use Rattle.room_wire.specs.Lists.{rising, row_at, rows_at, rows_in}
-use Rattle.room_wire.specs.News.{object_at}
-use Rattle.room_wire.specs.Spelling.{el_at, element_at, items_in, lat_at, lon_at, members_at, nodes_at, tags_at}
-use Rattle.room_wire.specs.Welcomes.{count_at, map_at, told_at}
+use Rattle.room_wire.specs.Prelude.{Global, result_ok, Kind, Row, kind_of, both_true, Rows, is_kind, are_rising, are_of_kinds, row_pair, BadField, field_text, rising, row_at, rows_at, rows_in, object_at, el_at, element_at, items_in, lat_at, lon_at, members_at, nodes_at, tags_at, count_at, map_at, told_at}
 use Rattle.room_wire.proofs.Found.{if_any, if_then, if_told, ok_any, ok_or, ok_then}
+use Rattle.osm_elements.specs.declared.name.Kind.TheVariants as kinds
+use Rattle.room_wire.specs.declared.field.Field.TheVariants as fields
 
 -- an element is of the kind with which it is read
 element_kind : (k : Kind) (d : Data) → IfOk (element_at k d) (λ v. is_kind (kind_of v) k ≡ true)

@@ -1,25 +1,15 @@
 -- The trees of replies and of news nest at most six levels deep.
 use Rattle.std.proofs.Common.{◌≤◌, ℕ, List, [], ◌∷◌, Option, Some, None, map, arith}
 use Rattle.std.proofs.Math.Nat.{max-le}
-use Rattle.std.specs.declared.alloc.Global.{Global}
 use Rattle.serde_json.specs.Data.{Data, depth, items_depth, members_depth}
 use Rattle.serde_json.specs.View.{items_of}
-use Rattle.osm_elements.specs.declared.name.Name.{Name}
-use Rattle.osm_elements.specs.declared.element.Element.{Element}
+use Rattle.room_wire.specs.Prelude.{Global, Name, Element, Pairs, News, NewsRow, Refusal, Reply, Answer, Fault, news_rows_tree, news_tree, row_tree, id_tree, member_tree, tag_members, element_tree, rows_tree, whole, map_tree, refusal_members, outcome_tree, fault_tree, tree_of}
+use Rattle.room_wire.specs.Trees.{with_position}
 use Rattle.osm_elements.specs.declared.element.Element.TheVariants as elements
-use Rattle.osm_elements.specs.TagRows.{Pairs}
-use Rattle.room_history.specs.declared.news.News.{News}
-use Rattle.room_history.specs.declared.news.NewsRow.{NewsRow}
-use Rattle.edit_simple.specs.declared.refusal.Refusal.{Refusal}
-use Rattle.edit_simple.specs.declared.refusal.Refusal.TheVariants as refusals
-use Rattle.room_history.specs.declared.reply.Reply.{Reply}
-use Rattle.room_history.specs.declared.reply.Reply.TheVariants as replies
-use Rattle.room_wire.specs.declared.answer.Answer.{Answer}
+use Rattle.room_interface.specs.declared.refusal.Refusal.TheVariants as refusals
+use Rattle.room_interface.specs.declared.reply.Reply.TheVariants as replies
 use Rattle.room_wire.specs.declared.answer.Answer.TheVariants as answers
-use Rattle.room_wire.specs.declared.bad.Fault.{Fault}
 use Rattle.room_wire.specs.declared.bad.Fault.TheVariants as faults
-use Rattle.room_wire.specs.News.{news_rows_tree, news_tree, row_tree}
-use Rattle.room_wire.specs.Trees.{id_tree, member_tree, tag_members, element_tree, rows_tree, whole, map_tree, refusal_members, with_position, outcome_tree, fault_tree, tree_of}
 
 items_are_shallow : {X : Type 0} (k : ℕ) (f : X → Data) → ((x : X) → depth (f x) ≤ k) → (xs : List X) → items_depth (items_of (map f xs)) ≤ k
 items_are_shallow k f h [] = omega arith

@@ -1,34 +1,17 @@
 -- The trees of values that are read.
-use Rattle.std.proofs.Common.{◌≡◌, ◌<◌, ◌^◌, ◌&&◌, ◌∙◌, All, FitsSigned, ℕ, ℤ, pos, negsuc, Bool, true, false, not, cond, T, List, [], ◌∷◌, length, map, Option, Some, None, IfSome, option_map, option_and_then, nat_eq, nat_le, nat_lt, refl, ap, subst, sym, arith}
-use Rattle.std.specs.FinMap.Entries as entries
-use Rattle.std.specs.Int.{w64}
-use Rattle.std.specs.List.{list_all}
-use Rattle.std.specs.Cmp.Lexicographic.{pointwise}
-use Rattle.std.specs.Fmt.{signed_decimal}
-use Rattle.std.specs.Ordering.{int_eq, is_lt}
-use Rattle.std.specs.Str.Parse.{signed_digits_value}
+use Rattle.std.proofs.Common.{◌≡◌, ◌<◌, ◌^◌, ◌&&◌, All, FitsSigned, ℕ, ℤ, pos, negsuc, Bool, true, false, not, cond, T, List, [], ◌∷◌, length, map, Option, Some, None, IfSome, nat_eq, nat_le, nat_lt, refl, ◌∙◌, ap, subst, sym, arith, option_map, option_and_then, int_eq, is_lt}
 use Rattle.std.proofs.lemmas.Bool.Decides.{nat_tests}
 use Rattle.std.proofs.lemmas.List.Elements.{All-cons, All-head, All-nil, All-tail}
 use Rattle.serde_json.specs.Data.{Data, null, boolean, number, string, array, object, unsigned, negative, float, Items, no_items, item, Members as ObjectMembers, no_members, member}
 use Rattle.serde_json.specs.Events.{members_len}
 use Rattle.serde_json.specs.Find.{as_array, as_i64, as_number, as_object, as_str, as_u64, of_integer}
 use Rattle.serde_json.specs.View.{items_of}
-use Rattle.osm_elements.specs.declared.name.Name.{Name}
-use Rattle.osm_elements.specs.declared.name.Kind.{Kind}
-use Rattle.osm_elements.specs.declared.name.Kind.TheVariants as kinds
-use Rattle.osm_elements.specs.Facts.NameTexts.{name_text-name_of}
-use Rattle.osm_elements.specs.Members.{AreMembers, are_members}
-use Rattle.osm_elements.specs.NameTexts.{id_of, if_passed, if_written, is_id, kind_of_letter, name_of, name_with, named}
-use Rattle.osm_elements.specs.KeyedRows.{text_cmp}
-use Rattle.osm_elements.specs.Texts.{is_long}
-use Rattle.osm_elements.specs.KeyedValues.{is_none_or}
-use Rattle.room_wire.specs.ReadBack.{HasId}
-use Rattle.room_wire.specs.Spelling.{entries_in, entries_of, entry_of, given_of, items_in, key_of, member_of, member_with, name_item, node_of, text_of, value_of}
-use Rattle.room_wire.specs.Trees.{entry_members, id_tree, member_tree, name_tree, whole}
-use Rattle.room_wire.specs.WellFormed.{given_tree}
+use Rattle.room_wire.specs.Prelude.{w64, list_all, pointwise, signed_decimal, signed_digits_value, Name, Kind, name_text-name_of, AreMembers, are_members, id_of, if_passed, if_written, is_id, kind_of_letter, name_of, name_with, named, text_cmp, is_long, is_none_or, HasId, entries_in, entries_of, entry_of, given_of, items_in, key_of, member_of, member_with, name_item, node_of, text_of, value_of, entry_members, id_tree, member_tree, name_tree, whole, given_tree}
 use Rattle.room_wire.proofs.Found.{if_any, if_fails, if_found, if_map, if_more, if_passes, if_then}
 use Rattle.room_wire.proofs.TreesInOrder.{AreInOrder, IsInOrder, pairs_of}
 use Rattle.room_wire.proofs.ReadBackProofs.{is_entry, members_len-entry_members}
+use Rattle.std.specs.FinMap.Entries as entries
+use Rattle.osm_elements.specs.declared.name.Kind.TheVariants as kinds
 
 -- a valid id fits an i64
 fits-is_id : (id : ℤ) → is_id id ≡ true → FitsSigned w64 id

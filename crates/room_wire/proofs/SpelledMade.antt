@@ -1,37 +1,15 @@
 -- The values of a well-formed message, and so of a message that a text spells, are as their types require.
-use Rattle.std.proofs.Common.{◌≡◌, ◌&&◌, ℕ, ℤ, pos, suc, true, cond, List, [], ◌∷◌, Option, Some, None, IfSome, IfOk, inl, inr, is_some, option_and_then, refl, ap, subst, arith}
-use Rattle.std.specs.Prelude.{int_le, neg_ℤ}
-use Rattle.std.specs.declared.alloc.Global.{Global}
+use Rattle.std.proofs.Common.{◌≡◌, ◌&&◌, ℕ, ℤ, pos, suc, true, cond, List, [], ◌∷◌, Option, Some, None, IfSome, IfOk, is_some, refl, int_le, neg_ℤ, inl, inr, ap, subst, arith, option_and_then}
 use Rattle.serde_json.specs.Data.{Data, Items, no_items, item}
 use Rattle.serde_json.specs.Read.{read}
-use Rattle.osm_coords.specs.Coordinate.{coordinate}
-use Rattle.osm_coords.specs.Latitude.{latitude}
-use Rattle.osm_coords.specs.Longitude.{longitude}
-use Rattle.osm_coords.specs.Range.{value_within}
-use Rattle.osm_elements.specs.declared.name.Name.{Name}
-use Rattle.osm_elements.specs.declared.element.Element.{Element}
-use Rattle.osm_elements.specs.declared.element.Element.TheVariants as elements
-use Rattle.osm_elements.specs.Facts.Tests.{both_true}
-use Rattle.osm_elements.specs.Made.{is_node, are_nodes, is_made}
-use Rattle.osm_elements.specs.Members.{are_members}
-use Rattle.osm_elements.specs.Nodes.{AreNodes}
-use Rattle.osm_elements.specs.TagRows.{Pairs, are_tags}
-use Rattle.edit_simple.specs.Tagging.{are_given}
-use Rattle.edit_actions.specs.declared.action.Action.{Action}
-use Rattle.edit_actions.specs.declared.action.Action.TheVariants as actions
-use Rattle.edit_actions.specs.MadeActions.{is_made_action}
-use Rattle.edit_groups.specs.declared.edit.Edit.TheVariants.{One, Group}
-use Rattle.edit_groups.specs.Groups.{are_made}
-use Rattle.room_history.specs.declared.call.Request.TheVariants as requests
-use Rattle.room_wire.specs.declared.incoming.Body.{Body}
-use Rattle.room_wire.specs.declared.incoming.Body.TheVariants as bodies
-use Rattle.room_wire.specs.Made.{is_made_body}
-use Rattle.room_wire.specs.Spelling.{message_of, spells}
-use Rattle.room_wire.specs.WellFormed.{Asks, AsksAction, AskActions, HasElement, HasTags, IsMessage}
+use Rattle.room_wire.specs.Prelude.{Global, coordinate, latitude, longitude, value_within, Name, Element, both_true, is_true, is_node, are_nodes, is_made, are_members, AreNodes, Pairs, are_tags, are_given, Action, is_made_action, are_made, One, Group, Body, is_made_body, message_of, spells, Asks, AsksAction, AskActions, HasElement, HasTags, IsMessage}
 use Rattle.room_wire.proofs.Found.{if_any, if_passes, ok_more}
-use Rattle.room_wire.proofs.ReadBackProofs.{passed}
 use Rattle.room_wire.proofs.SpelledMessages.{message_has}
 use Rattle.room_wire.proofs.TreesInOrder.{IsInOrder, read_in_order}
+use Rattle.osm_elements.specs.declared.element.Element.TheVariants as elements
+use Rattle.room_interface.specs.declared.action.Action.TheVariants as actions
+use Rattle.room_interface.specs.declared.call.Request.TheVariants as requests
+use Rattle.room_wire.specs.declared.incoming.Body.TheVariants as bodies
 
 nodes_made : (names : List Name) → AreNodes names → are_nodes names ≡ true
 nodes_made [] h = refl
@@ -47,7 +25,7 @@ in_range : (limit : ℕ) (text : List ℕ) (w : ℤ) → option_and_then (value_
 in_range limit text w is = subst (λ o. IfSome o (λ w. is_some (value_within limit w) ≡ true)) is (range_kept limit (coordinate text))
 
 tags_made : (d : Data) (tags : Pairs) → HasTags d tags → are_tags tags ≡ true
-tags_made d tags (inl (has, rows)) = passed (are_tags tags) rows
+tags_made d tags (inl (has, rows)) = is_true (are_tags tags) rows
 tags_made d tags (inr (missing, none)) = ap are_tags none
 
 element_made : (d : Data) (element : Element Global) → HasElement d element → is_made element ≡ true
@@ -55,15 +33,15 @@ element_made d (elements.Node lat lon tags) (at, on, has) =
     both_true (is_some (latitude lat)) (is_some (longitude lon) && are_tags tags) (in_range 900000000 at.0 lat at.2)
     (both_true (is_some (longitude lon)) (are_tags tags) (in_range 1800000000 on.0 lon on.2) (tags_made d tags has))
 element_made d (elements.Way nodes tags) (list, has) = both_true (are_nodes nodes) (are_tags tags) (nodes_made nodes list.1) (tags_made d tags has)
-element_made d (elements.Relation members tags) (list, has) = both_true (are_members members) (are_tags tags) (passed (are_members members) list.1) (tags_made d tags has)
+element_made d (elements.Relation members tags) (list, has) = both_true (are_members members) (are_tags tags) (is_true (are_members members) list.1) (tags_made d tags has)
 
 action_made : (d : Data) (action : Action Global) → AsksAction d action → is_made_action action ≡ true
 action_made d (actions.Create name element) asks = element_made d element asks.2
-action_made d (actions.Retag name given) asks = passed (are_given given) asks.2.1
+action_made d (actions.Retag name given) asks = is_true (are_given given) asks.2.1
 action_made d (actions.Move names dlat dlon) asks = refl
 action_made d (actions.Reverse name) asks = refl
 action_made d (actions.Nodes name list) asks = nodes_made list asks.2.1
-action_made d (actions.Members name list) asks = passed (are_members list) asks.2.1
+action_made d (actions.Members name list) asks = is_true (are_members list) asks.2.1
 action_made d (actions.Delete name) asks = refl
 action_made d (actions.Purge name) asks = refl
 action_made d (actions.Split name place into) asks = refl

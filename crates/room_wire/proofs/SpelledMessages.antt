@@ -1,7 +1,5 @@
 -- A message that a text spells is well formed in the text's tree.
-use Rattle.std.proofs.Common.{◌≡◌, ◌∙◌, ◌&&◌, ◌+◌, inl, inr, All, ℕ, suc, Bool, true, false, not, cond, List, [], ◌∷◌, length, map, Option, Some, None, IfSome, Result, Ok, Err, IfOk, codes, is_some, option_map, option_and_then, nat_le, refl, ap, subst, sym, arith}
-use Rattle.std.specs.declared.alloc.Global.{Global}
-use Rattle.std.specs.Str.{bytes_eq}
+use Rattle.std.proofs.Common.{◌≡◌, ◌&&◌, ◌+◌, All, ℕ, suc, Bool, true, false, not, cond, List, [], ◌∷◌, length, map, Option, Some, None, IfSome, Result, Ok, Err, IfOk, codes, is_some, nat_le, refl, ◌∙◌, inl, inr, ap, subst, sym, arith, option_map, option_and_then, bytes_eq}
 use Rattle.std.proofs.lemmas.Bool.Decides.{nat_tests}
 use Rattle.std.proofs.lemmas.Slice.Eq.{bytes_eq-Decides}
 use Rattle.serde_json.specs.Data.{Data, string, array, object, Items, no_items, item, Members as ObjectMembers}
@@ -9,43 +7,18 @@ use Rattle.serde_json.specs.Events.{items_len}
 use Rattle.serde_json.specs.Find.{get, as_array, as_i64, as_number, as_object, as_str, as_u64}
 use Rattle.serde_json.specs.Read.{read}
 use Rattle.serde_json.specs.View.{items_of}
-use Rattle.osm_coords.specs.Latitude.{latitude_of}
-use Rattle.osm_coords.specs.Longitude.{longitude_of}
-use Rattle.osm_elements.specs.declared.name.Name.{Name}
-use Rattle.osm_elements.specs.declared.name.Kind.{Kind}
-use Rattle.osm_elements.specs.declared.name.Kind.TheVariants as kinds
-use Rattle.osm_elements.specs.Elements.{kind_of}
-use Rattle.osm_elements.specs.NameTexts.{name_of}
-use Rattle.osm_elements.specs.TagRows.{AreTagRows}
-use Rattle.osm_elements.specs.Texts.{is_long}
-use Rattle.osm_elements.specs.KeyedValues.{is_none_or}
-use Rattle.edit_simple.specs.Tagging.{AreGiven}
-use Rattle.edit_actions.specs.declared.action.Action.{Action}
-use Rattle.edit_actions.specs.declared.action.Action.TheVariants as actions
-use Rattle.edit_groups.specs.declared.edit.Edit.{Edit}
-use Rattle.edit_groups.specs.Groups.{is_group_length}
-use Rattle.room_stacks.specs.Authors.{author_of, is_author}
-use Rattle.room_history.specs.declared.call.Request.TheVariants as requests
-use Rattle.room_wire.specs.declared.bad.Fault.{Fault}
-use Rattle.room_wire.specs.declared.bad.Fault.TheVariants.{BadField, BadId, NotObject, UnknownDo}
-use Rattle.room_wire.specs.declared.field.Field.{Field}
-use Rattle.room_wire.specs.declared.field.Field.TheVariants.{El, Els, Lat, Lon, Nodes, Members, Tags, Dlat, Dlon, At, Into, With, Actions, Seq}
-use Rattle.room_wire.specs.declared.field.Field.TheVariants as fields
-use Rattle.room_wire.specs.declared.incoming.Incoming.{Incoming}
-use Rattle.room_wire.specs.declared.incoming.Body.{Body}
-use Rattle.room_wire.specs.declared.incoming.Body.TheVariants as bodies
-use Rattle.room_wire.specs.Fields.{field_text}
-use Rattle.room_wire.specs.ReadBack.{HasId}
-use Rattle.room_wire.specs.Reading.{◌>>=◌, or_fault, under}
-use Rattle.room_wire.specs.Spelling.{action_at, actions_at, action_by, actions_from, are_objects, edit_by, group_at, group_of, with_position, word_at, author_at, body_at, body_by, by_id, distance_at, el_at, element_at, els_at, given_tags_at, given_tags_of, given_of, id_at, incoming, items_in, lat_at, lon_at, member_of, members_at, message_of, name_at, name_item, node_of, nodes_at, ordinal, place_at, place_of, seq_at, seq_from, spells, tags_at, tags_from, tags_of, text_at, value_of}
-use Rattle.room_wire.specs.Trees.{id_tree, member_tree, name_tree, tags_tree, whole}
-use Rattle.room_wire.specs.WellFormed.{Asks, AskActions, AsksAction, HasGroup, Has, HasAuthor, HasDistance, HasElement, HasGivenTags, HasMembers, HasName, HasNameAt, HasNames, HasNodes, HasPlace, HasSeq, HasTags, HasText, HasWord, IsMessage, MessageId, given_tree, given_tags_tree}
-use Rattle.room_wire.specs.Words.{Word, word_text}
-use Rattle.room_wire.specs.Words as words
+use Rattle.room_wire.specs.Prelude.{Global, latitude_of, longitude_of, Name, Kind, kind_of, name_of, AreTagRows, is_long, is_none_or, AreGiven, Action, Edit, is_group_length, author_of, is_author, Fault, BadField, BadId, NotObject, UnknownDo, Field, El, Els, Lat, Lon, Nodes, Members, Tags, Dlat, Dlon, At, Into, With, Actions, Seq, Incoming, Body, field_text, HasId, or_fault, under, action_at, actions_at, action_by, actions_from, are_objects, edit_by, group_at, group_of, with_position, word_at, author_at, body_at, body_by, by_id, distance_at, el_at, element_at, els_at, given_tags_at, given_tags_of, given_of, id_at, incoming, items_in, lat_at, lon_at, member_of, members_at, message_of, name_at, name_item, node_of, nodes_at, ordinal, place_at, place_of, seq_at, seq_from, spells, tags_at, tags_from, tags_of, text_at, value_of, id_tree, member_tree, name_tree, tags_tree, whole, Asks, AskActions, AsksAction, HasGroup, Has, HasAuthor, HasDistance, HasElement, HasGivenTags, HasMembers, HasName, HasNameAt, HasNames, HasNodes, HasPlace, HasSeq, HasTags, HasText, HasWord, IsMessage, MessageId, given_tree, given_tags_tree, Word, word_text}
+use Rattle.room_wire.specs.Reading.{◌>>=◌}
 use Rattle.room_wire.proofs.FaultProofs.{number_of_ordinal}
 use Rattle.room_wire.proofs.Found.{if_found, if_map, if_more, if_passes, if_then, ok_more, ok_or, ok_then, told_so}
 use Rattle.room_wire.proofs.TreesInOrder.{AreInOrder, IsInOrder, get_in_order, read_in_order}
 use Rattle.room_wire.proofs.SpelledForms.{IsInteger, IsNamed, IsNode, IsShort, IsSorted, array_found, given_found, integer_found, items_found, member_found, name_found, name_item_found, node_found, object_found, object_read, roles_are_short, string_found, value_found, whole_found}
+use Rattle.osm_elements.specs.declared.name.Kind.TheVariants as kinds
+use Rattle.room_interface.specs.declared.action.Action.TheVariants as actions
+use Rattle.room_interface.specs.declared.call.Request.TheVariants as requests
+use Rattle.room_wire.specs.declared.field.Field.TheVariants as fields
+use Rattle.room_wire.specs.declared.incoming.Body.TheVariants as bodies
+use Rattle.room_wire.specs.Words as words
 
 -- ---- the fields
 

@@ -1,20 +1,12 @@
 -- The parts of elements as they are written, and their trees (RFC 8259).
-use Rattle.std.proofs.Common.{◌≡◌, ◌<◌, ◌^◌, ℕ, suc, ℤ, pos, negsuc, List, [], ◌∷◌, map, codes, T, FitsSigned, option_map, refl, sym, ap, subst, arith}
-use Rattle.std.specs.Fmt.{signed_decimal}
-use Rattle.std.specs.FinMap.Entries.{is_sorted, below_all}
-use Rattle.std.specs.Int.{w64}
-use Rattle.std.specs.Ordering.{is_lt}
+use Rattle.std.proofs.Common.{◌≡◌, ◌<◌, ◌^◌, ℕ, suc, ℤ, pos, negsuc, List, [], ◌∷◌, map, codes, T, FitsSigned, refl, sym, ap, subst, arith, option_map, is_lt}
 use Rattle.json.proofs.Printed.Decimals.{IsNumber-decimal}
 use Rattle.json.specs.Token.{number as number_token}
 use Rattle.serde_json.proofs.Numbers.{number_of-decimal, number_of-negative}
 use Rattle.serde_json.specs.Data.{Data, number, string}
 use Rattle.serde_json.specs.Find.{of_integer}
-use Rattle.osm_elements.specs.declared.name.Name.{Name}
-use Rattle.osm_elements.specs.declared.element.Element.{Element}
-use Rattle.osm_elements.specs.KeyedRows.{text_cmp}
-use Rattle.osm_elements.specs.TagRows.{Pairs, AreTagRows}
+use Rattle.room_wire.specs.Prelude.{signed_decimal, is_sorted, below_all, w64, Name, Element, text_cmp, Pairs, AreTagRows, element_tree, tag_members, whole}
 use Rattle.room_wire.specs.Inner.Writing.{IsReadable, members_of, tree_tokens, under_tree}
-use Rattle.room_wire.specs.Trees.{element_tree, tag_members, whole}
 use Rattle.room_wire.proofs.Written.{first_test, is_less, object_is_readable, put_first}
 use Rattle.room_wire.proofs.Numerals.{IsNumber-negative}
 

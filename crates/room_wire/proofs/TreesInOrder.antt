@@ -1,17 +1,16 @@
 -- In the tree of a text, each object has its keys in order, each once. A number that is marked as negative is below 0
 -- and fits an i64.
-use Rattle.std.proofs.Common.{◌≡◌, ◌<◌, ◌^◌, ◌&&◌, ℕ, zero, suc, pos, negsuc, neg_ℤ, Float, Bool, true, false, cond, T, List, [], ◌∷◌, Option, Some, None, IfSome, option_map, option_and_then, nat_lt, nat_le, refl, ap, subst, sym, arith, Ordering, Less, Equal, Greater}
+use Rattle.std.proofs.Common.{◌≡◌, ◌<◌, ◌^◌, ◌&&◌, ℕ, zero, suc, pos, negsuc, neg_ℤ, Bool, true, false, cond, T, List, [], ◌∷◌, Option, Some, None, IfSome, nat_lt, nat_le, refl, Float, ap, subst, sym, arith, option_map, option_and_then, Ordering, Less, Equal, Greater}
 use Rattle.std.proofs.lemmas.Bool.Decides.{nat_tests}
-use Rattle.std.specs.Ordering.{match_ordering}
-use Rattle.std.specs.FinMap.Entries as entries
 use Rattle.std.proofs.lemmas.Cmp.{nat_list_cmp_total}
-use Rattle.json.specs.Json as json
 use Rattle.serde_json.specs.Data.{Num, unsigned, negative, float, Data, null, boolean, number, string, array, object, Items, no_items, item, Members, no_members, member, put}
 use Rattle.serde_json.specs.Find.{get, get_member}
 use Rattle.serde_json.specs.Read.{read, of_json, of_items, of_members, number_of, max_depth}
 use Rattle.json.specs.Lex.{tokens}
-use Rattle.osm_elements.specs.KeyedRows.{text_cmp}
+use Rattle.room_wire.specs.Prelude.{match_ordering, text_cmp}
 use Rattle.room_wire.proofs.Found.{if_any, if_map, if_more, if_then}
+use Rattle.std.specs.FinMap.Entries as entries
+use Rattle.json.specs.Json as json
 
 -- members as pairs of a key and a tree
 abbrev pub pairs_of : Members → List (List ℕ × Data)

@@ -1,45 +1,19 @@
 -- Every well-formed message spells itself.
-use Rattle.std.proofs.Common.{◌≡◌, ◌&&◌, ◌∙◌, ◌+◌, ℕ, ℤ, suc, List, [], ◌∷◌, length, codes, true, cond, Option, Some, None, Result, Ok, inl, inr, is_some, option_map, nat_le, refl, sym, ap, arith}
-use Rattle.std.specs.declared.alloc.Global.{Global}
-use Rattle.std.specs.Option.{option_and_then}
+use Rattle.std.proofs.Common.{◌≡◌, ◌&&◌, ◌+◌, ℕ, ℤ, suc, List, [], ◌∷◌, length, codes, true, cond, Option, Some, None, Result, Ok, is_some, nat_le, refl, ◌∙◌, inl, inr, sym, ap, arith, option_map, option_and_then}
 use Rattle.std.proofs.lemmas.Bool.Decides.{nat_tests}
 use Rattle.serde_json.specs.Data.{Data, Items, no_items, item, null, boolean, number, string, array, object}
 use Rattle.serde_json.specs.Events.{items_len}
 use Rattle.serde_json.specs.Find.{get, as_array, as_i64, as_number, as_object, as_str}
 use Rattle.serde_json.specs.Read.{read}
-use Rattle.osm_coords.specs.Latitude.{latitude_of}
-use Rattle.osm_coords.specs.Longitude.{longitude_of}
-use Rattle.osm_elements.specs.declared.name.Name.{Name}
-use Rattle.osm_elements.specs.declared.element.Element.{Element}
-use Rattle.osm_elements.specs.declared.element.Element.TheVariants as elements
-use Rattle.osm_elements.specs.Elements.{kind_of}
-use Rattle.osm_elements.specs.Facts.NameTexts.{name_of_text}
-use Rattle.osm_elements.specs.NameTexts.{name_of}
-use Rattle.osm_elements.specs.TagRows.{Pairs}
-use Rattle.edit_simple.specs.Tagging.{GivenTags}
-use Rattle.edit_actions.specs.declared.action.Action.{Action}
-use Rattle.edit_actions.specs.declared.action.Action.TheVariants as actions
-use Rattle.edit_groups.specs.declared.edit.Edit.TheVariants.{One, Group}
-use Rattle.edit_groups.specs.Groups.{is_group_length}
-use Rattle.room_stacks.specs.declared.author.Author.{Author}
-use Rattle.room_stacks.specs.Authors.{author_of}
-use Rattle.room_history.specs.declared.call.Request.TheVariants as requests
-use Rattle.room_wire.specs.declared.bad.Fault.{Fault}
-use Rattle.room_wire.specs.declared.bad.Fault.TheVariants.{BadField, UnknownDo}
-use Rattle.room_wire.specs.declared.field.Field.{Field}
-use Rattle.room_wire.specs.declared.field.Field.TheVariants.{El, Els, Lat, Lon, Nodes, Members, Tags, Dlat, Dlon, At, Into, With, Actions, Seq}
-use Rattle.room_wire.specs.declared.field.Field.TheVariants as fields
-use Rattle.room_wire.specs.declared.incoming.Incoming.{Incoming}
-use Rattle.room_wire.specs.declared.incoming.Body.{Body}
-use Rattle.room_wire.specs.declared.incoming.Body.TheVariants as bodies
-use Rattle.room_wire.specs.Fields.{field_text}
-use Rattle.room_wire.specs.Reading.{◌>>=◌, or_fault, under}
-use Rattle.room_wire.specs.Spelling.{action_at, action_by, actions_from, are_objects, group_of, author_at, body_at, body_by, create_at, distance_at, el_at, element_at, els_at, given_tags_at, given_tags_of, id_at, lat_at, lon_at, name_at, place_at, place_of, names_in, by_id, incoming, message_of, members_at, members_in, nodes_at, nodes_in, ordinal, seq_at, seq_from, spells, tags_at, tags_from, text_at}
-use Rattle.room_wire.specs.Trees.{whole}
-use Rattle.room_wire.specs.WellFormed.{Asks, AskActions, AsksAction, Has, HasAuthor, HasDistance, HasElement, HasGivenTags, HasMembers, HasName, HasNameAt, HasNames, HasNodes, HasPlace, HasSeq, HasTags, HasText, HasWord, IsMessage, IsNumber, MessageId}
-use Rattle.room_wire.specs.Words.{Word, word_text}
-use Rattle.room_wire.specs.Words as words
+use Rattle.room_wire.specs.Prelude.{Global, latitude_of, longitude_of, Name, Element, kind_of, name_of_text, name_of, Pairs, GivenTags, Action, One, Group, is_group_length, Author, author_of, Fault, BadField, UnknownDo, Field, El, Els, Lat, Lon, Nodes, Members, Tags, Dlat, Dlon, At, Into, With, Actions, Seq, Incoming, Body, field_text, or_fault, under, action_at, action_by, actions_from, are_objects, group_of, author_at, body_at, body_by, create_at, distance_at, el_at, element_at, els_at, given_tags_at, given_tags_of, id_at, lat_at, lon_at, name_at, place_at, place_of, names_in, by_id, incoming, message_of, members_at, members_in, nodes_at, nodes_in, ordinal, seq_at, seq_from, spells, tags_at, tags_from, text_at, whole, Asks, AskActions, AsksAction, Has, HasAuthor, HasDistance, HasElement, HasGivenTags, HasMembers, HasName, HasNameAt, HasNames, HasNodes, HasPlace, HasSeq, HasTags, HasText, HasWord, IsMessage, IsNumber, MessageId, Word, word_text}
+use Rattle.room_wire.specs.Reading.{◌>>=◌}
 use Rattle.room_wire.proofs.ReadBackProofs.{as_i64-of_integer, given_tags_of-given_tag_members, members_in-trees, names_in-trees, nodes_in-ids, tags_of-tag_members, three, two}
+use Rattle.osm_elements.specs.declared.element.Element.TheVariants as elements
+use Rattle.room_interface.specs.declared.action.Action.TheVariants as actions
+use Rattle.room_interface.specs.declared.call.Request.TheVariants as requests
+use Rattle.room_wire.specs.declared.field.Field.TheVariants as fields
+use Rattle.room_wire.specs.declared.incoming.Body.TheVariants as bodies
+use Rattle.room_wire.specs.Words as words
 
 pub number_read : (n : ℕ) → IsNumber n → ordinal (whole n) ≡ Some n
 number_read n h =

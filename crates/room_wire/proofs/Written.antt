@@ -1,9 +1,6 @@
 -- Arrays and objects that are written token by token (RFC 8259).
-use Rattle.std.proofs.Common.{◌≡◌, ◌<◌, ◌≤◌, ◌+◌, ◌++◌, ℕ, zero, suc, List, [], ◌∷◌, length, get_or, take, drop, map, All, T, Bool, true, false, ◌&&◌, Some, Ordering, Less, Equal, Greater, nat_cmp, option_map, refl, sym, ap, append_assoc, append-nil, subst, ◌∙◌, arith}
+use Rattle.std.proofs.Common.{◌≡◌, ◌<◌, ◌≤◌, ◌+◌, ◌++◌, ℕ, zero, suc, List, [], ◌∷◌, length, take, drop, map, All, T, Bool, true, false, ◌&&◌, Some, refl, get_or, sym, ap, append_assoc, append-nil, subst, ◌∙◌, arith, Ordering, Less, Equal, Greater, nat_cmp, option_map, is_lt}
 use Rattle.std.proofs.lemmas.List.{drop_more, take_all}
-use Rattle.std.specs.Ordering.{is_lt, ordering_reverse}
-use Rattle.std.specs.Cmp.Lexicographic.{slice_cmp}
-use Rattle.std.specs.FinMap.Entries.{is_sorted, below_all}
 use Rattle.std.proofs.lemmas.Cmp.{nat_list_cmp_total}
 use Rattle.json.specs.Token.{Token, begin_object, end_object, key}
 use Rattle.json.specs.Tree.{ItemsHaveNumbers, MembersHaveNumbers, items_tokens, members_tokens as json_members_tokens}
@@ -11,7 +8,7 @@ use Rattle.serde_json.specs.Data.{Data, array, object, member, put}
 use Rattle.serde_json.specs.Read.{of_json, of_items, of_members}
 use Rattle.serde_json.specs.View.{items_of}
 use Rattle.serde_json.specs.Written.{outline, items_outline, members_outline}
-use Rattle.osm_elements.specs.KeyedRows.{text_cmp}
+use Rattle.room_wire.specs.Prelude.{ordering_reverse, slice_cmp, is_sorted, below_all, text_cmp}
 use Rattle.room_wire.specs.Inner.Writing.{IsReadable, members_of, members_tokens, tree_tokens}
 
 -- ---- tokens

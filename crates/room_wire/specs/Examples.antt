@@ -1,33 +1,32 @@
 -- Worked examples for the definitions of messages, replies and elements.
 use Rattle.std.specs.Prelude.{◌≡◌, ℕ, pos, negsuc, [], ◌∷◌, Option, Some, None, Result, Ok, Err, codes}
-use Rattle.std.specs.declared.alloc.Global.{Global}
+use Rattle.serde_json.specs.Data.{Data}
+use Rattle.serde_json.specs.Written.{compact_text}
+use Rattle.room_interface.specs.Prelude.{Global, named}
 use Rattle.osm_elements.specs.declared.name.Name.{Name}
-use Rattle.osm_elements.specs.declared.name.Kind.TheVariants as kinds
 use Rattle.osm_elements.specs.declared.element.Element.{Element}
 use Rattle.osm_elements.specs.declared.element.Element.TheVariants.{Node, Way, Relation}
-use Rattle.osm_elements.specs.NameTexts.{named}
-use Rattle.edit_actions.specs.declared.action.Action.TheVariants as actions
-use Rattle.edit_groups.specs.declared.edit.Edit.TheVariants.{One, Group}
-use Rattle.edit_simple.specs.declared.refusal.Refusal.{Refusal}
-use Rattle.edit_simple.specs.declared.refusal.Refusal.TheVariants as refusals
-use Rattle.edit_actions.specs.declared.action.Action.TheVariants.{Create, Delete}
-use Rattle.room_history.specs.declared.call.Request.TheVariants.{Do, Undo, Redo}
-use Rattle.room_history.specs.declared.reply.Reply.{Reply}
-use Rattle.room_history.specs.declared.reply.Reply.TheVariants as replies
+use Rattle.room_interface.specs.declared.edit.Edit.TheVariants.{One, Group}
+use Rattle.room_interface.specs.declared.refusal.Refusal.{Refusal}
+use Rattle.room_interface.specs.declared.action.Action.TheVariants.{Create, Delete}
+use Rattle.room_interface.specs.declared.call.Request.TheVariants.{Do, Undo, Redo}
+use Rattle.room_interface.specs.declared.reply.Reply.{Reply}
 use Rattle.room_wire.specs.declared.field.Field.TheVariants.{El, Els, Lat, Nodes, Members, Tags, Dlat, Dlon, At, Into, With, Actions, Seq}
-use Rattle.room_wire.specs.declared.field.Field.TheVariants as fields
 use Rattle.room_wire.specs.declared.bad.Bad.{Bad}
 use Rattle.room_wire.specs.declared.bad.Fault.{Fault}
 use Rattle.room_wire.specs.declared.bad.Fault.TheVariants.{NotJson, NotObject, BadId, UnknownDo, UnknownAction, BadField, BadActionField}
 use Rattle.room_wire.specs.declared.incoming.Incoming.{Incoming}
 use Rattle.room_wire.specs.declared.incoming.Body.{Body}
 use Rattle.room_wire.specs.declared.incoming.Body.TheVariants.{Hello, Change, Get, Map, Undos}
-use Rattle.room_wire.specs.declared.answer.Answer.TheVariants as answers
-use Rattle.serde_json.specs.Data.{Data}
-use Rattle.serde_json.specs.Written.{compact_text}
 use Rattle.room_wire.specs.Asked.{to_value}
 use Rattle.room_wire.specs.Spelling.{spells}
 use Rattle.room_wire.specs.Trees.{tree_of, element_tree, rows_tree}
+use Rattle.osm_elements.specs.declared.name.Kind.TheVariants as kinds
+use Rattle.room_interface.specs.declared.action.Action.TheVariants as actions
+use Rattle.room_interface.specs.declared.refusal.Refusal.TheVariants as refusals
+use Rattle.room_interface.specs.declared.reply.Reply.TheVariants as replies
+use Rattle.room_wire.specs.declared.field.Field.TheVariants as fields
+use Rattle.room_wire.specs.declared.answer.Answer.TheVariants as answers
 
 abbrev pub n-1 : Name
 n-1 = named kinds.Node (negsuc 0) tt

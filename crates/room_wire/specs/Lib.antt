@@ -7,6 +7,7 @@ pub mod Made
 pub mod News
 pub mod NewsBack
 pub mod NewsExamples
+pub mod Prelude
 pub mod ReadBack
 pub mod Reading
 pub mod Spelling

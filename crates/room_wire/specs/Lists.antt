@@ -1,13 +1,10 @@
 -- Arrays of rows whose names rise (RFC 8259, section 5: arrays).
-use Rattle.std.specs.Prelude.{List, map, Option, Some, None, Result, Ok, if◌then◌else◌}
-use Rattle.std.specs.Option.{option_and_then}
-use Rattle.std.specs.Result.{result_ok}
-use Rattle.std.specs.declared.alloc.Global.{Global}
+use Rattle.std.specs.Prelude.{List, map, Option, Some, None, Result, Ok, if◌then◌else◌, option_and_then}
 use Rattle.serde_json.specs.Data.{Data, Items}
 use Rattle.serde_json.specs.Find.{get, as_array}
+use Rattle.room_interface.specs.Prelude.{result_ok, Global, are_rising}
 use Rattle.osm_elements.specs.declared.name.Name.{Name}
 use Rattle.osm_elements.specs.declared.map.Row.{Row}
-use Rattle.osm_changes.specs.Changes.{are_rising}
 use Rattle.room_wire.specs.declared.bad.Fault.{Fault}
 use Rattle.room_wire.specs.declared.bad.Fault.TheVariants.{BadField, Memory}
 use Rattle.room_wire.specs.declared.field.Field.{Field}

@@ -1,6 +1,6 @@
 -- The values that a message asks for are as their types require.
 use Rattle.std.specs.Prelude.{Bool, true}
-use Rattle.room_history.specs.LegalJournals.{is_made_request}
+use Rattle.room_interface.specs.MadeCalls.{is_made_request}
 use Rattle.room_wire.specs.declared.incoming.Body.{Body}
 use Rattle.room_wire.specs.declared.incoming.Body.TheVariants.{Hello, Change, Get, Map, Undos}
 

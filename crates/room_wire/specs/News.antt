@@ -1,6 +1,5 @@
 -- The tree of news, and the news that a text spells. The members of news are this project's (RFC 8259: the tree).
-use Rattle.std.specs.Prelude.{ℕ, Bool, true, false, List, map, Option, Some, None, Result, Ok, Err, codes, is_some, unwrap_or, if◌then◌else◌}
-use Rattle.std.specs.Option.{option_and_then}
+use Rattle.std.specs.Prelude.{ℕ, Bool, true, false, List, map, Option, Some, None, Result, Ok, Err, codes, is_some, unwrap_or, if◌then◌else◌, option_and_then}
 use Rattle.std.specs.declared.alloc.Global.{Global}
 use Rattle.serde_json.specs.Data.{Data, boolean, string, array, object, no_members, member}
 use Rattle.serde_json.specs.Find.{get, as_bool, as_object}
@@ -8,10 +7,9 @@ use Rattle.serde_json.specs.Read.{read}
 use Rattle.serde_json.specs.View.{items_of}
 use Rattle.osm_elements.specs.declared.name.Name.{Name}
 use Rattle.osm_elements.specs.declared.element.Element.{Element}
-use Rattle.room_history.specs.declared.news.News.{News}
-use Rattle.room_history.specs.declared.news.NewsRow.{NewsRow}
+use Rattle.room_interface.specs.declared.news.News.{News}
+use Rattle.room_interface.specs.declared.news.NewsRow.{NewsRow}
 use Rattle.room_wire.specs.declared.field.Field.{Field}
-use Rattle.room_wire.specs.declared.field.Field.TheVariants as fields
 use Rattle.room_wire.specs.declared.bad.Fault.{Fault}
 use Rattle.room_wire.specs.declared.bad.Fault.TheVariants.{NotJson, NotObject, BadField}
 use Rattle.room_wire.specs.declared.bad.Bad.{Bad}
@@ -20,6 +18,7 @@ use Rattle.room_wire.specs.Reading.{◌>>=◌, or_fault, under}
 use Rattle.room_wire.specs.Lists.{row_at, rows_at}
 use Rattle.room_wire.specs.Spelling.{author_at, el_at, ordinal}
 use Rattle.room_wire.specs.Trees.{element_tree, name_tree, whole}
+use Rattle.room_wire.specs.declared.field.Field.TheVariants as fields
 
 -- a changed name, with its current element or gone
 abbrev pub gone_tree : Name → Data

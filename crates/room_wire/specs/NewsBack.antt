@@ -1,13 +1,10 @@
 -- The premises under which written news and welcomes are read back as the same values.
 use Rattle.std.specs.Prelude.{◌≡◌, ◌≤◌, All, IfSome, map, true}
+use Rattle.room_interface.specs.Prelude.{kind_of, names_of, are_rising, is_author}
 use Rattle.osm_elements.specs.declared.name.Name.{Name}
 use Rattle.osm_elements.specs.declared.element.Element.{Element}
-use Rattle.osm_elements.specs.Elements.{kind_of}
-use Rattle.osm_elements.specs.Maps.{names_of}
-use Rattle.osm_changes.specs.Changes.{are_rising}
-use Rattle.room_stacks.specs.Authors.{is_author}
-use Rattle.room_history.specs.declared.news.News.{News}
-use Rattle.room_history.specs.declared.news.NewsRow.{NewsRow}
+use Rattle.room_interface.specs.declared.news.News.{News}
+use Rattle.room_interface.specs.declared.news.NewsRow.{NewsRow}
 use Rattle.room_wire.specs.declared.welcome.Welcome.{Welcome}
 use Rattle.room_wire.specs.ReadBack.{HasId, IsWhole}
 use Rattle.room_wire.specs.WellFormed.{IsNumber}

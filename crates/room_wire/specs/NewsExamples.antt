@@ -1,19 +1,18 @@
 -- Worked examples for the definitions of news and welcomes.
 use Rattle.std.specs.Prelude.{◌≡◌, ℕ, pos, negsuc, [], ◌∷◌, Some, None, Result, Ok, Err, codes}
-use Rattle.std.specs.declared.alloc.Global.{Global}
-use Rattle.osm_elements.specs.declared.name.Name.{Name}
-use Rattle.osm_elements.specs.declared.name.Kind.TheVariants as kinds
-use Rattle.osm_elements.specs.declared.element.Element.TheVariants.{Way, Relation}
-use Rattle.osm_elements.specs.NameTexts.{named}
-use Rattle.room_history.specs.declared.news.News.{News}
 use Rattle.serde_json.specs.Written.{compact_text}
+use Rattle.room_interface.specs.Prelude.{Global, named}
+use Rattle.osm_elements.specs.declared.name.Name.{Name}
+use Rattle.osm_elements.specs.declared.element.Element.TheVariants.{Way, Relation}
+use Rattle.room_interface.specs.declared.news.News.{News}
 use Rattle.room_wire.specs.declared.bad.Bad.{Bad}
 use Rattle.room_wire.specs.declared.bad.Fault.{Fault}
 use Rattle.room_wire.specs.declared.bad.Fault.TheVariants.{NotJson, NotObject, BadId, BadField}
-use Rattle.room_wire.specs.declared.field.Field.TheVariants as fields
 use Rattle.room_wire.specs.Examples.{n-1, w1, greenwich}
 use Rattle.room_wire.specs.News.{news_tree, spells_news}
 use Rattle.room_wire.specs.Welcomes.{spells_welcome}
+use Rattle.osm_elements.specs.declared.name.Kind.TheVariants as kinds
+use Rattle.room_wire.specs.declared.field.Field.TheVariants as fields
 
 abbrev pub n-2 : Name
 n-2 = named kinds.Node (negsuc 1) tt

@@ -1,14 +1,9 @@
 -- The premises under which a written element is read back as the same element (OpenStreetMap wiki, "Elements").
 use Rattle.std.specs.Prelude.{All, FitsSigned, ℕ, List}
-use Rattle.std.specs.Int.{w64}
-use Rattle.osm_coords.specs.Latitude.{IsLatitude}
-use Rattle.osm_coords.specs.Longitude.{IsLongitude}
+use Rattle.room_interface.specs.Prelude.{w64, IsLatitude, IsLongitude, AreMembers, AreNodes, AreTagRows}
 use Rattle.osm_elements.specs.declared.name.Name.{Name}
 use Rattle.osm_elements.specs.declared.element.Element.{Element}
 use Rattle.osm_elements.specs.declared.element.Element.TheVariants.{Node, Way, Relation}
-use Rattle.osm_elements.specs.Members.{AreMembers}
-use Rattle.osm_elements.specs.Nodes.{AreNodes}
-use Rattle.osm_elements.specs.TagRows.{AreTagRows}
 
 -- the id of a name is an i64
 abbrev pub HasId : Name → Type 0

@@ -1,36 +1,22 @@
 -- The meaning of a message, by cases of its text's tree. The words and fields are this project's (RFC 8259: the tree).
-use Rattle.std.specs.Prelude.{ℕ, ℤ, Bool, true, ◌&&◌, ◌+◌, List, [], ◌∷◌, length, Option, Some, None, Result, Ok, Err, codes, is_some, nat_le, nat_eq, if◌then◌else◌}
-use Rattle.std.specs.Option.{option_and_then, option_map}
-use Rattle.std.specs.Str.{bytes_eq}
-use Rattle.std.specs.declared.alloc.Global.{Global}
+use Rattle.std.specs.Prelude.{ℕ, ℤ, Bool, true, ◌&&◌, ◌+◌, List, [], ◌∷◌, length, Option, Some, None, Result, Ok, Err, codes, is_some, nat_le, nat_eq, if◌then◌else◌, option_and_then, option_map, bytes_eq}
 use Rattle.serde_json.specs.Data.{Data, Items, no_items, item, Members as ObjectMembers, no_members, member}
 use Rattle.serde_json.specs.Events.{items_len, members_len}
 use Rattle.serde_json.specs.Find.{get, as_null, as_str, as_number, as_array, as_object, as_u64, as_i64}
 use Rattle.serde_json.specs.Read.{read}
+use Rattle.room_interface.specs.Prelude.{Global, name_of, name_with, Pairs, is_long, GivenTags, is_group_length, author_of}
 use Rattle.osm_coords.specs.Latitude.{latitude_of}
 use Rattle.osm_coords.specs.Longitude.{longitude_of}
 use Rattle.osm_elements.specs.declared.fault.TextFault.{TextFault}
-use Rattle.osm_elements.specs.declared.fault.TextFault.TheVariants as text_faults
 use Rattle.osm_elements.specs.declared.name.Name.{Name}
 use Rattle.osm_elements.specs.declared.name.Kind.{Kind}
-use Rattle.osm_elements.specs.declared.name.Kind.TheVariants as kinds
 use Rattle.osm_elements.specs.declared.element.Element.{Element}
-use Rattle.osm_elements.specs.declared.element.Element.TheVariants as elements
-use Rattle.osm_elements.specs.NameTexts.{name_of, name_with}
-use Rattle.osm_elements.specs.TagRows.{Pairs}
-use Rattle.osm_elements.specs.Texts.{is_long}
-use Rattle.edit_simple.specs.Tagging.{GivenTags}
-use Rattle.edit_actions.specs.declared.action.Action.{Action}
-use Rattle.edit_actions.specs.declared.action.Action.TheVariants as actions
-use Rattle.edit_groups.specs.declared.edit.Edit.{Edit}
-use Rattle.edit_groups.specs.declared.edit.Edit.TheVariants.{One, Group}
-use Rattle.edit_groups.specs.Groups.{is_group_length}
-use Rattle.room_stacks.specs.declared.author.Author.{Author}
-use Rattle.room_stacks.specs.Authors.{author_of}
-use Rattle.room_history.specs.declared.call.Request.TheVariants as requests
+use Rattle.room_interface.specs.declared.action.Action.{Action}
+use Rattle.room_interface.specs.declared.edit.Edit.{Edit}
+use Rattle.room_interface.specs.declared.edit.Edit.TheVariants.{One, Group}
+use Rattle.room_interface.specs.declared.author.Author.{Author}
 use Rattle.room_wire.specs.declared.field.Field.{Field}
 use Rattle.room_wire.specs.declared.field.Field.TheVariants.{El, Els, Lat, Lon, Nodes, Members, Tags, Dlat, Dlon, At, Into, With, Actions, Seq}
-use Rattle.room_wire.specs.declared.field.Field.TheVariants as fields
 use Rattle.room_wire.specs.declared.bad.Fault.{Fault}
 use Rattle.room_wire.specs.declared.bad.Fault.TheVariants.{NotJson, NotObject, BadId, UnknownDo, BadField, UnknownAction, BadActionField, Memory}
 use Rattle.room_wire.specs.declared.bad.Bad.{Bad}
@@ -39,6 +25,12 @@ use Rattle.room_wire.specs.declared.incoming.Body.{Body}
 use Rattle.room_wire.specs.declared.incoming.Body.TheVariants.{Hello, Change, Get, Map, Undos}
 use Rattle.room_wire.specs.Fields.{field_text}
 use Rattle.room_wire.specs.Reading.{◌>>=◌, or_fault, under}
+use Rattle.osm_elements.specs.declared.fault.TextFault.TheVariants as text_faults
+use Rattle.osm_elements.specs.declared.name.Kind.TheVariants as kinds
+use Rattle.osm_elements.specs.declared.element.Element.TheVariants as elements
+use Rattle.room_interface.specs.declared.action.Action.TheVariants as actions
+use Rattle.room_interface.specs.declared.call.Request.TheVariants as requests
+use Rattle.room_wire.specs.declared.field.Field.TheVariants as fields
 
 -- a whole number in 1..=9007199254740991 (RFC 8259, section 6: integers up to 2^53 - 1 have the same value for every
 -- reader)

@@ -3,22 +3,21 @@ use Rattle.std.specs.Prelude.{◌≡◌, ℕ, List, [], ◌∷◌, map, Option, 
 use Rattle.serde_json.specs.Data.{Data, number, string, array, object, unsigned, no_items, item, Members, no_members, member}
 use Rattle.serde_json.specs.Find.{of_integer}
 use Rattle.serde_json.specs.View.{items_of}
+use Rattle.room_interface.specs.Prelude.{name_text, Pairs}
 use Rattle.osm_coords.specs.Written.{written}
 use Rattle.osm_elements.specs.declared.name.Name.{Name}
 use Rattle.osm_elements.specs.declared.element.Element.{Element}
-use Rattle.osm_elements.specs.declared.element.Element.TheVariants as elements
-use Rattle.osm_elements.specs.NameTexts.{name_text}
-use Rattle.osm_elements.specs.TagRows.{Pairs}
-use Rattle.edit_simple.specs.declared.refusal.Refusal.{Refusal}
-use Rattle.edit_simple.specs.declared.refusal.Refusal.TheVariants as refusals
-use Rattle.room_history.specs.declared.reply.Reply.{Reply}
-use Rattle.room_history.specs.declared.reply.Reply.TheVariants as replies
+use Rattle.room_interface.specs.declared.refusal.Refusal.{Refusal}
+use Rattle.room_interface.specs.declared.reply.Reply.{Reply}
 use Rattle.room_wire.specs.declared.answer.Answer.{Answer}
-use Rattle.room_wire.specs.declared.answer.Answer.TheVariants as answers
 use Rattle.room_wire.specs.declared.bad.Fault.{Fault}
-use Rattle.room_wire.specs.declared.bad.Fault.TheVariants as faults
 use Rattle.room_wire.specs.declared.field.Field.{Field}
 use Rattle.room_wire.specs.Fields.{field_text}
+use Rattle.osm_elements.specs.declared.element.Element.TheVariants as elements
+use Rattle.room_interface.specs.declared.refusal.Refusal.TheVariants as refusals
+use Rattle.room_interface.specs.declared.reply.Reply.TheVariants as replies
+use Rattle.room_wire.specs.declared.answer.Answer.TheVariants as answers
+use Rattle.room_wire.specs.declared.bad.Fault.TheVariants as faults
 
 abbrev pub whole : ℕ → Data
 whole n = number (unsigned n)

@@ -1,13 +1,9 @@
 -- The tree of a welcome, and the welcome that a text spells. The members are this project's (RFC 8259: the tree).
-use Rattle.std.specs.Prelude.{ℕ, List, map, Option, Some, None, Result, Ok, nat_le, if◌then◌else◌}
-use Rattle.std.specs.Option.{option_and_then}
-use Rattle.std.specs.declared.alloc.Global.{Global}
+use Rattle.std.specs.Prelude.{ℕ, List, map, Option, Some, None, Result, Ok, nat_le, if◌then◌else◌, option_and_then}
 use Rattle.serde_json.specs.Data.{Data}
 use Rattle.serde_json.specs.Find.{get, as_number, as_u64}
 use Rattle.serde_json.specs.Read.{read}
-use Rattle.osm_elements.specs.Maps.{Rows}
-use Rattle.osm_elements.specs.RowPairs.{row_pair}
-use Rattle.room_wire.specs.declared.field.Field.TheVariants as fields
+use Rattle.room_interface.specs.Prelude.{Global, Rows, row_pair}
 use Rattle.room_wire.specs.declared.bad.Fault.{Fault}
 use Rattle.room_wire.specs.declared.bad.Fault.TheVariants.{BadField}
 use Rattle.room_wire.specs.declared.bad.Bad.{Bad}
@@ -18,6 +14,7 @@ use Rattle.room_wire.specs.Spelling.{with_id}
 use Rattle.room_wire.specs.Lists.{row_at, rows_at}
 use Rattle.room_wire.specs.News.{object_at}
 use Rattle.room_wire.specs.Trees.{map_tree}
+use Rattle.room_wire.specs.declared.field.Field.TheVariants as fields
 
 -- a welcome is written as the reply to a `map`
 abbrev pub welcome_tree : Welcome → Data

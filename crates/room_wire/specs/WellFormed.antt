@@ -1,42 +1,34 @@
 -- Well-formed messages, and the first malformed field of any other message. The words and fields are this project's.
 use Rattle.std.specs.Prelude.{zero, suc, ◌≡◌, ◌≤◌, ◌⊎◌, All, FitsSigned, ℕ, ℤ, Bool, true, false, List, [], ◌∷◌, length, map, Option, Some, None, Result, Ok, Err, codes, is_ok}
-use Rattle.std.specs.Int.{w64}
-use Rattle.std.specs.declared.alloc.Global.{Global}
 use Rattle.serde_json.specs.Data.{Data, null, number, string, array, object, Items, no_items, item}
 use Rattle.serde_json.specs.Find.{get, of_integer}
 use Rattle.serde_json.specs.View.{items_of}
+use Rattle.room_interface.specs.Prelude.{w64, Global, kind_of, AreMembers, AreNodes, AreTagRows, Pairs, AreGiven, GivenTags, is_group_length, is_author}
 use Rattle.osm_coords.specs.Latitude.{latitude_of}
 use Rattle.osm_coords.specs.Longitude.{longitude_of}
 use Rattle.osm_elements.specs.declared.name.Name.{Name}
 use Rattle.osm_elements.specs.declared.name.Kind.{Kind}
-use Rattle.osm_elements.specs.declared.name.Kind.TheVariants as kinds
 use Rattle.osm_elements.specs.declared.element.Element.{Element}
-use Rattle.osm_elements.specs.declared.element.Element.TheVariants as elements
-use Rattle.osm_elements.specs.Elements.{kind_of}
-use Rattle.osm_elements.specs.Members.{AreMembers}
-use Rattle.osm_elements.specs.Nodes.{AreNodes}
-use Rattle.osm_elements.specs.TagRows.{AreTagRows, Pairs}
-use Rattle.edit_simple.specs.Tagging.{AreGiven, GivenTags}
-use Rattle.edit_actions.specs.declared.action.Action.{Action}
-use Rattle.edit_actions.specs.declared.action.Action.TheVariants as actions
-use Rattle.edit_groups.specs.declared.edit.Edit.TheVariants.{One, Group}
-use Rattle.edit_groups.specs.Groups.{is_group_length}
-use Rattle.room_stacks.specs.declared.author.Author.{Author}
-use Rattle.room_stacks.specs.Authors.{is_author}
-use Rattle.room_history.specs.declared.call.Request.TheVariants as requests
+use Rattle.room_interface.specs.declared.action.Action.{Action}
+use Rattle.room_interface.specs.declared.edit.Edit.TheVariants.{One, Group}
+use Rattle.room_interface.specs.declared.author.Author.{Author}
 use Rattle.room_wire.specs.declared.bad.Fault.{Fault}
 use Rattle.room_wire.specs.declared.bad.Fault.TheVariants.{BadField, UnknownDo}
 use Rattle.room_wire.specs.declared.field.Field.{Field}
 use Rattle.room_wire.specs.declared.field.Field.TheVariants.{El, Els, Lat, Lon, Nodes, Members, Tags, Dlat, Dlon, At, Into, With, Actions, Seq}
-use Rattle.room_wire.specs.declared.field.Field.TheVariants as fields
 use Rattle.room_wire.specs.declared.incoming.Incoming.{Incoming}
 use Rattle.room_wire.specs.declared.incoming.Body.{Body}
-use Rattle.room_wire.specs.declared.incoming.Body.TheVariants as bodies
 use Rattle.room_wire.specs.Fields.{field_text}
 use Rattle.room_wire.specs.ReadBack.{HasId}
 use Rattle.room_wire.specs.Spelling.{author_at, distance_at, el_at, els_at, given_tags_at, group_at, lat_at, lon_at, members_at, name_at, nodes_at, place_at, seq_at, tags_at}
 use Rattle.room_wire.specs.Trees.{entry_members, members_tree, name_tree, nodes_tree, tags_tree, whole}
 use Rattle.room_wire.specs.Words.{Word, is_action_word, word_text}
+use Rattle.osm_elements.specs.declared.name.Kind.TheVariants as kinds
+use Rattle.osm_elements.specs.declared.element.Element.TheVariants as elements
+use Rattle.room_interface.specs.declared.action.Action.TheVariants as actions
+use Rattle.room_interface.specs.declared.call.Request.TheVariants as requests
+use Rattle.room_wire.specs.declared.field.Field.TheVariants as fields
+use Rattle.room_wire.specs.declared.incoming.Body.TheVariants as bodies
 use Rattle.room_wire.specs.Words as words
 
 -- the `do` of a message is this word

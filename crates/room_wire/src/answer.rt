@@ -3,7 +3,7 @@ use crate::bad::Fault;
 use osm_elements::element::Element;
 use osm_elements::map::Rows;
 use osm_elements::name::Name;
-use room_history::reply::Reply;
+use room_interface::reply::Reply;
 use std::alloc::Global;
 
 /// The answer to a message, with the values that its reply shows.

@@ -1,18 +1,15 @@
 //! What a message asks of its room, and the answer to it.
-ghost use Rattle.std.specs.Prelude.{◌≡◌};
-ghost use Rattle.std.specs.Option.{option_copied};
-ghost use Rattle.std.specs.declared.alloc.Global.{Global};
-ghost use Rattle.room_history.specs.declared.ask.RoomCall.{RoomCall};
-ghost use Rattle.room_wire.specs.Asked.{answer_to, asked, found_answer, name_asked};
+ghost use Rattle.std.specs.Prelude.{◌≡◌, option_copied};
+ghost use Rattle.room_wire.specs.Asked.{answer_to, asked, found_answer};
 ghost use Rattle.room_wire.specs.Trees.{AreToldAlike};
 
 use crate::answer::Answer;
 use crate::incoming::Body;
 use osm_elements::element::Element;
 use osm_elements::name::Name;
-use room_history::ask::{RoomCall, RoomReply};
-use room_history::call::Call;
-use room_stacks::author::Author;
+use room_interface::ask::{RoomCall, RoomReply};
+use room_interface::author::Author;
+use room_interface::call::Call;
 use std::alloc::Global;
 
 impl Body {
@@ -34,16 +31,6 @@ impl Body {
     }
 }
 
-/// Returns the name whose element is asked for, or `None` if the call asks for something else.
-pub fn name_asked(call: &RoomCall<Global>) -> Option<Name>
-    ensures { result ≡ name_asked call.now }
-{
-    match call {
-        RoomCall::Get(name) => Some(*name),
-        _ => None,
-    }
-}
-
 impl<'a> Answer<'a> {
     /// Returns the answer to a request for the element of a name, whether it was found or not.
     pub fn found(name: Name, element: Option<&'a Element<Global>>) -> Answer<'a>
@@ -55,19 +42,14 @@ impl<'a> Answer<'a> {
         }
     }
 
-    /// Returns the answer to a call, from the room's reply to it.
-    ///
-    /// `name` is the name whose element was asked for, if any (see [`name_asked`]). The answer is `Memory` if the room
-    /// ran out of memory, or if the reply is not of the call's form.
-    pub fn to(name: Option<Name>, reply: &'a RoomReply<Global>) -> Answer<'a>
-        ensures { (call : RoomCall Global) → name_asked call ≡ name → AreToldAlike result (answer_to call reply.now) }
+    /// Returns the answer to a message, from the room's reply to the message's call. It is `Memory` if the room ran out
+    /// of memory, or if the reply has news, which no message asks for.
+    pub fn to(reply: &'a RoomReply<Global>) -> Answer<'a>
+        ensures { AreToldAlike result (answer_to reply.now) }
     {
         match reply {
             RoomReply::Take(reply) => Answer::Reply(reply),
-            RoomReply::Get(Ok(found)) => match name {
-                Some(name) => Answer::found(name, found.as_ref()),
-                None => Answer::Memory,
-            },
+            RoomReply::Get(name, Ok(found)) => Answer::found(*name, found.as_ref()),
             RoomReply::Rows(Ok((front, rows))) => Answer::Map {
                 rows,
                 front: *front,

@@ -1,7 +1,6 @@
 //! Writing elements (OpenStreetMap wiki, "Elements").
-ghost use Rattle.std.specs.Prelude.{◌≡◌, true, OnOk};
+ghost use Rattle.std.specs.Prelude.{◌≡◌, true, OnOk, IsAscii};
 ghost use Rattle.serde_json.specs.Data.{boolean, string};
-ghost use Rattle.std.specs.Str.{IsAscii};
 ghost use Rattle.osm_elements.specs.Members.{member_pair};
 ghost use Rattle.room_wire.specs.Inner.Writing.{Tells, part_tree};
 ghost use Rattle.room_wire.specs.ReadBack.{HasId};

@@ -1,10 +1,9 @@
 //! The fields of messages.
-ghost use Rattle.std.specs.Prelude.{◌≡◌};
-ghost use Rattle.std.specs.Option.{option_and_then, option_map};
+ghost use Rattle.std.specs.Prelude.{◌≡◌, option_and_then, option_map};
+ghost use Rattle.serde_json.specs.Find.{as_array, get};
 ghost use Rattle.json_values.specs.Views.{items_view, view};
 ghost use Rattle.room_wire.specs.Fields.{field_text};
 ghost use Rattle.room_wire.specs.Spelling.{text_at};
-ghost use Rattle.serde_json.specs.Find.{as_array, get};
 
 use crate::field::Field;
 use json_values::{Value, look};

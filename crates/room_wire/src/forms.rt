@@ -1,14 +1,12 @@
 //! The fields of a message, each read by its form.
-ghost use Rattle.std.specs.Prelude.{◌≡◌, IfSome};
-ghost use Rattle.std.specs.Option.{option_map};
-ghost use Rattle.std.specs.Result.{result_map_both};
-ghost use Rattle.room_wire.specs.News.{object_at};
+ghost use Rattle.std.specs.Prelude.{◌≡◌, IfSome, option_map};
+ghost use Rattle.room_interface.specs.Prelude.{result_map_both, name_with};
 ghost use Rattle.json_values.specs.Views.{items_view, view};
+ghost use Rattle.room_wire.specs.News.{object_at};
 ghost use Rattle.room_wire.specs.Reading.{Gives, or_fault};
 ghost use Rattle.room_wire.specs.Spelling.{text_at, name_at, author_at, el_at, place_of, place_at, name_item, names_in, els_at, distance_at, lat_at, lon_at, node_of, nodes_in, nodes_at, member_with, member_in, member_of, members_in, members_at, text_of, seq_at, fault_in};
-ghost use Rattle.osm_elements.specs.NameTexts.{name_with};
-ghost use Rattle.osm_elements.specs.declared.name.Kind.TheVariants as kind;
 ghost use Rattle.room_wire.specs.declared.bad.Fault.TheVariants.{BadField};
+ghost use Rattle.osm_elements.specs.declared.name.Kind.TheVariants as kind;
 ghost use Rattle.room_wire.specs.declared.field.Field.TheVariants as field;
 
 use crate::bad::Fault;
@@ -25,7 +23,7 @@ use osm_elements::names::Names;
 use osm_elements::nodes::Nodes;
 use osm_elements::shared::Shared;
 use osm_elements::text::Text;
-use room_stacks::author::Author;
+use room_interface::author::Author;
 use std::alloc::Global;
 
 // Reads the name of the element that a message is about.

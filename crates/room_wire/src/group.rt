@@ -1,9 +1,8 @@
 //! Reading the actions of a group from a message.
 ghost use Rattle.std.specs.Prelude.{◌≡◌, ◌&&◌, true, length, IfOk};
-ghost use Rattle.std.specs.Result.{result_map_both};
 ghost use Rattle.serde_json.specs.Events.{items_len};
+ghost use Rattle.room_interface.specs.Prelude.{result_map_both, is_group_length};
 ghost use Rattle.json_values.specs.Views.{items_view, view};
-ghost use Rattle.edit_groups.specs.Groups.{is_group_length};
 ghost use Rattle.room_wire.specs.Reading.{Gives};
 ghost use Rattle.room_wire.specs.Spelling.{action_at, actions_at, actions_from, are_objects, at_action, group_at, with_position};
 
@@ -11,9 +10,9 @@ use crate::bad::Fault;
 use crate::field::Field;
 use crate::fields::items_at;
 use crate::read::action_of;
-use edit_actions::action::Action;
-use edit_groups::actions::{Actions, MOST_ACTIONS};
 use json_values::{Value, look};
+use room_interface::action::Action;
+use room_interface::actions::{Actions, MOST_ACTIONS};
 use std::alloc::{AllocError, Global};
 
 // Reads the group that a message asks for.

@@ -1,7 +1,7 @@
 //! Messages to a room.
 use osm_elements::name::Name;
-use room_history::call::Request;
-use room_stacks::author::Author;
+use room_interface::author::Author;
+use room_interface::call::Request;
 use std::alloc::Global;
 
 /// What a message asks for.

@@ -1,11 +1,13 @@
 //! Laws about the definitions, each the contract of a function that does nothing.
 ghost use Rattle.std.specs.Prelude.{◌≡◌, ◌≢◌, ◌≤◌, ◌↔◌, List, ℕ, None, Some, Ok, Err, IfErr, IfOk, IsOk, is_some, true};
-ghost use Rattle.std.specs.declared.alloc.Global.{Global};
-ghost use Rattle.osm_elements.specs.Elements.{kind_of};
+ghost use Rattle.serde_json.specs.Data.{Data};
+ghost use Rattle.serde_json.specs.Find.{as_object};
+ghost use Rattle.serde_json.specs.Read.{read};
+ghost use Rattle.room_interface.specs.Prelude.{Global, kind_of};
 ghost use Rattle.osm_elements.specs.declared.name.Name.{Name};
 ghost use Rattle.osm_elements.specs.declared.element.Element.{Element};
-ghost use Rattle.edit_actions.specs.declared.action.Action.TheVariants.{Create};
-ghost use Rattle.room_history.specs.declared.news.News.{News};
+ghost use Rattle.room_interface.specs.declared.action.Action.TheVariants.{Create};
+ghost use Rattle.room_interface.specs.declared.news.News.{News};
 ghost use Rattle.room_wire.specs.declared.welcome.Welcome.{Welcome};
 ghost use Rattle.room_wire.specs.News.{news_tree, spells_news};
 ghost use Rattle.room_wire.specs.Made.{is_made_body};
@@ -19,9 +21,6 @@ ghost use Rattle.room_wire.specs.Trees.{element_tree, whole};
 ghost use Rattle.room_wire.specs.WellFormed.{AreGood, AreGoodActions, HasWord, IsFirstBad, IsFirstBadAction, IsMessage, MessageId, group_items, slots};
 ghost use Rattle.room_wire.specs.Words.{Word};
 ghost use Rattle.room_wire.specs.declared.incoming.Incoming.{Incoming};
-ghost use Rattle.serde_json.specs.Data.{Data};
-ghost use Rattle.serde_json.specs.Find.{as_object};
-ghost use Rattle.serde_json.specs.Read.{read};
 ghost use Rattle.room_wire.specs.Examples.{reads_messages, tells_no_id, tells_an_id, writes_replies, writes_elements};
 ghost use Rattle.room_wire.specs.NewsExamples.{writes_news, reads_news, tells_bad_news, reads_welcomes, tells_bad_welcomes};
 

@@ -1,10 +1,8 @@
 //! Reading an array of rows whose names rise.
-ghost use Rattle.std.specs.Prelude.{◌≡◌, true, map, IfOk};
-ghost use Rattle.std.specs.Result.{result_map_both, result_ok};
-ghost use Rattle.std.specs.Option.{option_and_then, option_map};
+ghost use Rattle.std.specs.Prelude.{◌≡◌, true, map, IfOk, option_and_then, option_map};
 ghost use Rattle.serde_json.specs.Find.{as_array, get};
+ghost use Rattle.room_interface.specs.Prelude.{result_map_both, result_ok, are_rising};
 ghost use Rattle.json_values.specs.Views.{items_view, view};
-ghost use Rattle.osm_changes.specs.Changes.{are_rising};
 ghost use Rattle.room_wire.specs.declared.bad.Fault.TheVariants.{BadField};
 ghost use Rattle.room_wire.specs.Fields.{field_text};
 ghost use Rattle.room_wire.specs.Lists.{in_list, row_at, rows_at, rows_in};

@@ -15,7 +15,7 @@ use crate::numbers::ordinal;
 use crate::read::parse;
 use json_values::{Scratch, Value, look};
 use osm_elements::map::Row;
-use room_history::news::{News, NewsRow, NewsRows};
+use room_interface::news::{News, NewsRow, NewsRows};
 use std::alloc::Global;
 
 /// Reads a JSON text as news (RFC 8259), or returns its first fault, under the id 0.

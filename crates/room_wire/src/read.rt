@@ -1,10 +1,10 @@
 //! Reading messages from their texts.
 ghost use Rattle.std.specs.Prelude.{◌≡◌, ◌⊎◌, ◌<◌, length, Some, None, Err, IfOk, OnOk, IfErr, is_some, true};
-ghost use Rattle.std.specs.Result.{result_map_both};
-ghost use Rattle.json_values.specs.Views.{view};
 ghost use Rattle.serde_json.specs.Data.{Data};
 ghost use Rattle.serde_json.specs.Find.{as_object};
 ghost use Rattle.serde_json.specs.Read.{read};
+ghost use Rattle.room_interface.specs.Prelude.{result_map_both};
+ghost use Rattle.json_values.specs.Views.{view};
 ghost use Rattle.room_wire.specs.declared.bad.Fault.TheVariants.{Memory, NotJson, NotObject};
 ghost use Rattle.room_wire.specs.Reading.{Gives, GivesMessage, under};
 ghost use Rattle.room_wire.specs.Spelling.{spells, incoming, id_at, body_at, body_by, edit_by, hello_at, word_at, action_at, action_by, element_at};
@@ -20,13 +20,13 @@ use crate::group::group_of;
 use crate::incoming::{Body, Incoming};
 use crate::numbers::ordinal;
 use crate::tag_forms::{given_tags_of, tags_of};
-use edit_actions::action::Action;
-use edit_actions::each_action;
-use edit_groups::edit::Edit;
 use json_values::{Scratch, Value, look, read_object};
 use osm_elements::element::Element;
 use osm_elements::name::Kind;
-use room_history::call::Request;
+use room_interface::action::Action;
+use room_interface::call::Request;
+use room_interface::each_action;
+use room_interface::edit::Edit;
 use std::alloc::Global;
 
 // Reads the action of a word, with the action's fields.

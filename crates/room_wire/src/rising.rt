@@ -1,11 +1,11 @@
 //! Rows whose names rise.
 ghost use Rattle.std.specs.Prelude.{◌≡◌, map};
-ghost use Rattle.osm_changes.specs.Changes.{are_rising};
+ghost use Rattle.osm_elements.specs.Maps.{are_rising};
 ghost use Rattle.room_wire.specs.Inner.Rising.{is_before};
 
 use osm_elements::map::Row;
 use osm_elements::name::Name;
-use room_history::news::NewsRow;
+use room_interface::news::NewsRow;
 use std::alloc::Allocator;
 use std::cmp::Ordering;
 

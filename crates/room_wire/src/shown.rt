@@ -12,7 +12,7 @@ use osm_elements::Memory;
 use osm_elements::element::Element;
 use osm_elements::map::{OsmMap, Row, Rows};
 use osm_elements::name::Name;
-use room_history::news::{NewsRow, NewsRows};
+use room_interface::news::{NewsRow, NewsRows};
 use std::alloc::Global;
 
 // The value of a member of a reply or of news.

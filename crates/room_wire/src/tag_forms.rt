@@ -1,10 +1,9 @@
 //! Reading the tags of an element, and the values that a retag gives to keys.
 ghost use Rattle.std.specs.Prelude.{◌≡◌, ◌≢◌, ◌<◌, [], length, OnOk, IfErr};
-ghost use Rattle.std.specs.FinMap.Entries.{put};
+ghost use Rattle.room_interface.specs.Prelude.{put, text_cmp};
 ghost use Rattle.json_values.specs.Views.{members_view, view};
 ghost use Rattle.room_wire.specs.Reading.{Gives, or_fault};
 ghost use Rattle.room_wire.specs.Spelling.{key_of, value_of, given_of, entry_of, tags_of, tags_at, given_tags_of, given_tags_at, text_of};
-ghost use Rattle.osm_elements.specs.KeyedRows.{text_cmp};
 ghost use Rattle.room_wire.specs.declared.bad.Fault.TheVariants.{BadField, Memory};
 ghost use Rattle.room_wire.specs.declared.field.Field.TheVariants as field;
 
@@ -12,12 +11,12 @@ use crate::bad::Fault;
 use crate::field::Field;
 use crate::fields::value_at;
 use crate::forms::{fault_in, text_of};
-use edit_simple::retag::Retag;
 use json_values::Value;
 use json_values::look::{self, Members};
 use osm_elements::shared_tags::SharedTags;
 use osm_elements::tags::{MOST_TAGS, Tags};
 use osm_elements::text::Text;
+use room_interface::retag::Retag;
 use std::alloc::Global;
 
 // Reads the tags of an element, which may be missing.

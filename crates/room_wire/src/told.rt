@@ -1,9 +1,8 @@
 //! Writing JSON token by token: values, arrays and objects (RFC 8259).
 ghost use Rattle.std.specs.Prelude.{◌≡◌, ◌∷◌, T, map, OnOk};
-ghost use Rattle.std.specs.FinMap.Entries.{is_sorted};
 ghost use Rattle.serde_json.specs.Data.{array, object};
 ghost use Rattle.serde_json.specs.View.{items_of};
-ghost use Rattle.osm_elements.specs.KeyedRows.{text_cmp};
+ghost use Rattle.room_interface.specs.Prelude.{is_sorted, text_cmp};
 ghost use Rattle.room_wire.specs.Inner.Writing.{Tells, TellsMember, TellsMembers, members_of};
 
 use json::Writer;

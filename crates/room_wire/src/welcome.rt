@@ -1,8 +1,7 @@
 //! Reading welcomes.
 ghost use Rattle.std.specs.Prelude.{◌≡◌, ◌<◌, length, true, IfErr, IfOk};
+ghost use Rattle.room_interface.specs.Prelude.{AreInOrder, are_of_kinds};
 ghost use Rattle.json_values.specs.Views.{view};
-ghost use Rattle.osm_elements.specs.Rows.{AreInOrder};
-ghost use Rattle.edit_simple.specs.Soundness.{are_of_kinds};
 ghost use Rattle.room_wire.specs.declared.bad.Fault.TheVariants.{Memory};
 ghost use Rattle.room_wire.specs.Reading.{Gives, GivesUnder, under};
 ghost use Rattle.room_wire.specs.Welcomes.{count_at, map_at, spells_welcome, told_at, welcome};

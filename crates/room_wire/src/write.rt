@@ -1,12 +1,9 @@
 //! Writing replies.
 ghost use Rattle.std.specs.Prelude.{◌≡◌, ◌∷◌, T, Some, codes, map, IfOk, OnOk};
-ghost use Rattle.std.specs.Ordering.{is_lt};
-ghost use Rattle.std.specs.declared.alloc.Global.{Global};
-ghost use Rattle.std.specs.FinMap.Entries.{is_sorted};
 ghost use Rattle.serde_json.specs.Data.{object, string, member};
 ghost use Rattle.serde_json.specs.Read.{read};
 ghost use Rattle.serde_json.specs.Written.{compact_text};
-ghost use Rattle.osm_elements.specs.KeyedRows.{text_cmp};
+ghost use Rattle.room_interface.specs.Prelude.{is_lt, Global, is_sorted, text_cmp};
 ghost use Rattle.room_wire.specs.Inner.Writing.{Tells, members_of, shown_tree, under_tree};
 ghost use Rattle.room_wire.specs.Trees.{tree_of, outcome_tree, fault_tree, refusal_members, ok_tree, no_tree, bare, about, bad_field, whole, with_action, with_position};
 
@@ -16,12 +13,12 @@ use crate::field::Field;
 use crate::json_text::Json;
 use crate::shown::Shown;
 use crate::told::{write_object, write_object_from};
-use edit_simple::refusal::Refusal;
 use json::Writer;
 use osm_elements::Memory;
 use osm_elements::name::Name;
 use osm_elements::text::Text;
-use room_history::reply::Reply;
+use room_interface::refusal::Refusal;
+use room_interface::reply::Reply;
 use std::alloc::Global;
 
 /// Returns the text of the reply to the message with this id: `{"id":ID,"ok":O}` if the message was accepted, and

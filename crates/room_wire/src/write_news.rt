@@ -14,7 +14,7 @@ use crate::welcome::Welcome;
 use crate::write::reply_text;
 use json::Writer;
 use osm_elements::Memory;
-use room_history::news::News;
+use room_interface::news::News;
 use std::alloc::Global;
 
 /// Returns the text of news: `{"news":{"by":AUTHOR,"rows":[ROW,..],"seq":SEQ}}`, with the rows in order.

@@ -22,15 +22,17 @@ from editor_cases.shared import (
     NOW,
     NOW_VERSION,
     opened,
+    put_in,
     taken,
     TOR,
+    version_of,
 )
 from collections.abc import Callable
 from typing import Any
 
 if HAS_ALL:
     from maproom.osm_api import uploads
-    from maproom.osm_api.connection import Accepted, News, Refusal, Welcome
+    from maproom.osm_api.connection import Accepted, Answer, News, Refusal, Welcome
     from maproom.osm_api.errors import ApiError
     from maproom.osm_api.ledger import Known, Ledger
     from maproom.osm_api.memory_room import MemoryRoom
@@ -43,7 +45,7 @@ def limits_of_preferences() -> None:
     """A mapper has 150 preferences at most, and each has a key and a value of at most 255 characters."""
     kept = Preferences()
 
-    def refusal(key: str, value: bytes) -> str:
+    def refusal(key: str, value: bytes) -> str | None:
         try:
             kept.put("lina", key, value)
         except ApiError as fault:
@@ -92,7 +94,8 @@ async def an_upload_is_one_group() -> None:
         await bridge.ask("POST", "undo"),
         (409, "The upload cannot be undone: entry 4 of bob changed n1 since, and has to be undone first"),
     )
-    want(room.take_back("lina", 3).why, "conflict")
+    refused = room.take_back("lina", 3)
+    want(isinstance(refused, Refusal) and refused.why, "conflict")
     want(room.take_back("bob", 4), Accepted(5, 4))
     want(room.take_back("lina", 3), Accepted(6, 3))
     want(await bridge.ask("POST", "undo"), (409, "The last upload was undone by another program already"))
@@ -106,12 +109,13 @@ async def the_lowest_names_are_taken() -> None:
     with folder() as place:
         with opened(place / "l") as ledger:
             ledger.set({f"n{-2**63}": Known(NOW_VERSION, NOW, 1, "bob", "gone")})
-        for of_bob, of_lina in [
+        names: list[tuple[list[int], list[int]]] = [
             ([-(2**63)], [-1]),
             ([low, low - 2], [-2]),
             ([low + 1], [low - 1, low - 3]),
             ([], [low - 4]),
-        ]:
+        ]
+        for of_bob, of_lina in names:
             bridge = Bridge(room, place / "l")
             for number in of_bob:
                 taken(room.group("bob", [{"do": "create", **node(f"n{number}")}]))
@@ -208,7 +212,7 @@ async def versions_are_those_of_the_upload() -> None:
             await bridge.upload(changeset, modified("n1", 4, reported)),
             (409, f"Version mismatch: Provided {reported}, server had: {bridge.map.version('n1')} of Node 1"),
         )
-        want(bridge.map.version("n1") > reported, True)
+        want(version_of(bridge, "n1") > reported, True)
         want(
             await bridge.upload(changeset, modified("n2", 4)),
             (200, [f'<node old_id="2" new_id="2" new_version="{NOW_VERSION + 1}"/>']),
@@ -385,19 +389,19 @@ async def a_full_journal_is_said() -> None:
 async def a_server_restarts_during_an_upload() -> None:
     """If the server was restarted before its answer or its news came, the map shows whether the group is in it. Then
     it is not sent again, and otherwise it is, also if somebody has given the name of a new element to another one."""
-    kinds = ((True, {}), (False, {}), (False, by_name([node("n-1", 9)])))
+    kinds: list[tuple[bool, dict[str, Any]]] = [(True, {}), (False, {}), (False, by_name([node("n-1", 9)]))]
     for is_answered, (is_saved, others) in itertools.product((False, True), kinds):
         room = MemoryRoom([node("n1")])
         bridge, send = Bridge(room), room.send_group
 
         async def send_and_restart(author: str, actions: list[Any], announce: Callable[..., Any]) -> Any:
-            room.send_group = send
+            put_in(room, send_group=send)
             saved = dict(room.elements)
             answer = await send(author, actions, announce)
             room.restart(None if is_saved else saved | others)
             return answer if is_answered else Refusal("unknown")
 
-        room.send_group = send_and_restart
+        put_in(room, send_group=send_and_restart)
         want(
             await bridge.upload(await bridge.open(), CREATE + modified("n1", 3)),
             (
@@ -425,10 +429,10 @@ async def a_restarted_server_stays_away() -> None:
             saved = dict(room.elements)
             await send(author, actions, announce)
             room.restart(None if is_saved else saved)
-            room.send_group, room.catch_up = send, asyncio.Event().wait
+            put_in(room, send_group=send, catch_up=asyncio.Event().wait)
             return Refusal("unknown")
 
-        room.send_group = send_and_restart
+        put_in(room, send_group=send_and_restart)
         want(
             await bridge.upload(changeset, modified("n1", 3)),
             (
@@ -437,7 +441,7 @@ async def a_restarted_server_stays_away() -> None:
                 "data to see whether the room has the upload.",
             ),
         )
-        room.catch_up = catch_up
+        put_in(room, catch_up=catch_up)
         status, text = await bridge.ask("GET", "0.6/node/1")
         want((status, f'lat="{3 if is_saved else 1}.0000000"' in text), (200, True))
         want((len(room.groups), bridge.ledger.pending), (1, {}))
@@ -454,7 +458,7 @@ async def a_restart_after_changes_alone() -> None:
         room.restart()
         return Refusal("unknown")
 
-    room.send_group = send_and_restart
+    put_in(room, send_group=send_and_restart)
     want(
         await bridge.upload(await bridge.open(), modified("n1", 3)),
         (200, [f'<node old_id="1" new_id="1" new_version="{NOW_VERSION + 1}"/>']),
@@ -470,15 +474,15 @@ async def a_restart_hides_nothing() -> None:
     bridge, send = Bridge(room), room.send_group
 
     async def send_and_restart(author: str, actions: list[Any], announce: Callable[..., Any]) -> Any:
-        room.send_group = send
+        put_in(room, send_group=send)
         await send(author, actions, announce)
         room.restart({**room.elements, "n1": node("n1", 9)})
         return Refusal("unknown")
 
-    room.send_group = send_and_restart
+    put_in(room, send_group=send_and_restart)
     changeset = await bridge.open()
     status, rows = await bridge.upload(changeset, CREATE + modified("n1", 3))
-    present = bridge.map.version("n1")
+    present = version_of(bridge, "n1")
     want((status, rows), (200, [*CREATED, f'<node old_id="1" new_id="1" new_version="{present - 1}"/>']))
     want((await bridge.upload(changeset, modified("n1", 4, present - 1)))[0], 409)
 
@@ -517,7 +521,7 @@ async def a_killed_bridge_asks_the_room() -> None:
                     (200, [*CREATED, f'<node old_id="1" new_id="1" new_version="{NOW_VERSION + 1}"/>']),
                 )
                 reported = int(rows[2].split('new_version="')[1].split('"')[0])  # bob changed this one since
-                want(reported, second.map.version("n2") - 1)
+                want(reported, version_of(second, "n2") - 1)
                 want((room.seq, len(room.groups)), (2, 1))
                 want((await second.ask("POST", "undo"))[0], 409)
                 want(room.take_back("bob", 2), Accepted(3, 2))
@@ -626,12 +630,12 @@ async def an_upload_that_was_not_sent_is_dropped() -> None:
     room = MemoryRoom([node("n1")])
     bridge, send = Bridge(room, seconds=0.1), room.send_group
 
-    async def waits_for_a_session(author: str, actions: list[dict[str, Any]], announce: Callable[..., Any]) -> Accepted:
+    async def waits_for_a_session(author: str, actions: list[dict[str, Any]], announce: Callable[..., Any]) -> Answer:
         if author == "lina":
             await asyncio.sleep(0.2)
         return await send(author, actions, announce)
 
-    room.send_group = waits_for_a_session
+    put_in(room, send_group=waits_for_a_session)
     want((await bridge.upload(await bridge.open(), modified("n1", 3)))[0], 503)
     changeset = await bridge.open(author="bob")
     want((await bridge.upload(changeset, modified("n1", 4), author="bob"))[0], 200)

@@ -21,6 +21,7 @@ from editor_cases.shared import (
     NOT_UNDONE,
     NOW_VERSION,
     overtaken,
+    put_in,
     relation,
     retags,
     step,
@@ -363,7 +364,9 @@ async def undo_before_a_refused_one() -> None:
 async def a_repair_is_overtaken() -> None:
     """If another changes a detail that a repair writes, the repair is undone and made anew, and that detail stays the
     other's. A change of another detail is in nobody's way."""
-    for tags, wanted, entries in (({"a": "7"}, {"a": "7"}, 7), ({"b": "7"}, {"a": "1", "b": "7"}, 5)):
+    details: list[tuple[dict[str, Any], dict[str, Any], int]]
+    details = [({"a": "7"}, {"a": "7"}, 7), ({"b": "7"}, {"a": "1", "b": "7"}, 5)]
+    for tags, wanted, entries in details:
         room = MemoryRoom([node("n1"), node("n2", a="1")])
         bridge = Bridge(room)
         answer = await repaired_with(room, bridge, lambda: taken(room.group("carl", [retags("n2", **tags)])))
@@ -410,7 +413,7 @@ async def a_repair_cannot_be_undone_either() -> None:
             taken(room.group("carl", [retags("n2", a="7")]))
             room.after_group = dora_goes_on
 
-        room.send_group = without_memory
+        put_in(room, send_group=without_memory)
         answer = await repaired_with(room, bridge, carl_is_quicker)
         n2 = node("n2", 3 if is_without_memory else 1, a="7", b="9")
         want(room.elements, by_name([node("n1", 3.0000001, name="Tor"), n2]))
@@ -486,7 +489,7 @@ async def a_repair_is_refused() -> None:
                 return Refusal("memory", {"action": 0})
             return await send(author, actions, announce)
 
-        room.send_group = without_memory
+        put_in(room, send_group=without_memory)
         answer = await repaired_with(room, bridge)
         if count == 1:
             want(answer, (409, MISMATCH.format(NOW_VERSION, NOW_VERSION + 3)))
@@ -562,7 +565,7 @@ async def a_server_restarts_while_an_upload_is_taken_back() -> None:
             room.restart(None if is_saved else by_name([node("n1", name="Tor"), node("n2", a="1")]))
             return Refusal("not_sent")
 
-        room.undo = restart
+        put_in(room, undo=restart)
         status, text = await overtaken(bridge, TAGGED, TOR)
         want((status, text.startswith("Version mismatch: Provided")), (409, True))
         want(room.elements, by_name([node("n1", name="Tor"), node("n2", a="1")]))

@@ -24,11 +24,13 @@ from editor_cases.shared import (
     NOW,
     NOW_VERSION,
     overtaken,
+    put_in,
     relation,
     retags,
     step,
     taken,
     TOR,
+    version_of,
     way,
 )
 from collections.abc import Callable
@@ -38,7 +40,7 @@ from asyncio.locks import Event
 if HAS_ALL:
     from maproom.osm_api.connection import News, Refusal, Welcome
     from maproom.osm_api import elements, room_map as maps, taking_back
-    from maproom.osm_api.connection import Accepted
+    from maproom.osm_api.connection import Accepted, Answer
     from maproom.osm_api.ledger import Ledger
     from maproom.osm_api.memory_room import MemoryRoom
     from maproom.osm_api.repair import plan_repair
@@ -90,7 +92,7 @@ async def two_programs_take_back() -> None:
     lina, mika = Bridge(room), Bridge(room, author="mika")
     send, undo, is_there, changeset = room.send_group, room.undo, asyncio.Event(), await mika.open()
 
-    async def send_together(author: str, actions: list[dict[str, Any]], announce: Callable[..., Any]) -> Accepted:
+    async def send_together(author: str, actions: list[dict[str, Any]], announce: Callable[..., Any]) -> Answer:
         if author == "mika":
             await is_there.wait()
             return await send(author, actions, announce)
@@ -106,7 +108,7 @@ async def two_programs_take_back() -> None:
             await asyncio.wait({second})
         return await undo(author, seq)
 
-    room.send_group, room.undo = send_together, undo_in_order
+    put_in(room, send_group=send_together, undo=undo_in_order)
     with Times(30, 30):
         second = asyncio.create_task(mika.upload(changeset, modified("n2", 4)))
         await asyncio.sleep(0.01)
@@ -281,7 +283,7 @@ async def racing_editors_lose_nothing() -> None:
     there is nothing."""
     room, chance = MemoryRoom([node(f"n{number}", count="0") for number in range(1, 6)]), random.Random(4)
     bridge, counts = Bridge(room), {f"n{number}": 0 for number in range(1, 6)}
-    tally: dict[str, Any] = {}
+    tally: dict[int, int] = {}
 
     async def news_are_late() -> None:
         room.holds_news = chance.random() < 0.7
@@ -326,7 +328,7 @@ class Line:
         self.memory, self.chance, self.most = room, chance, most
         self.held: list[Any] = []
 
-    def __getattr__(self, name: str) -> bool | dict[int, str]:
+    def __getattr__(self, name: str) -> Any:
         return getattr(self.memory, name)
 
     def subscribe(self, listener: RoomMap) -> None:
@@ -366,7 +368,7 @@ class Line:
         await self.pause()
         return answer
 
-    async def undo(self, author: str, seq: int) -> Accepted:
+    async def undo(self, author: str, seq: int) -> Answer:
         """Undoes an entry late, and gives the answer."""
         await self.pause(10)
         answer = await self.memory.undo(author, seq)
@@ -392,7 +394,7 @@ async def racing_programs_lose_nothing() -> None:
             for name in chosen:
                 row = bridge.map.elements[name]
                 steps += step(
-                    "modify", {**row, "tags": {"count": str(int(row["tags"]["count"]) + 1)}}, bridge.map.version(name)
+                    "modify", {**row, "tags": {"count": str(int(row["tags"]["count"]) + 1)}}, version_of(bridge, name)
                 )
             await asyncio.sleep(chance.random() / 200)
             status, text = await bridge.upload(changeset, steps, author=author)
@@ -444,6 +446,7 @@ def a_repair_is_an_undo() -> None:
         for _ in range(chance.randint(0, 3)):
             room.group("bob", chance_actions(chance, room, 1))
         did, other = watch.step(1), MemoryRoom(list(room.elements.values()))
+        assert did is not None
         repair = plan_repair(did.before, did.after, view)
         if repair.actions:
             want((turn, group, other.group("lina", repair.actions)), (turn, group, Accepted(1)))

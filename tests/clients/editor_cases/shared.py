@@ -99,6 +99,12 @@ def opened(path: Path) -> Iterator[Ledger]:
         ledger.close()
 
 
+def put_in(room: object, **functions: object) -> None:
+    """Puts functions in the place of methods of a room, by their names."""
+    for name, function in functions.items():
+        setattr(room, name, function)
+
+
 class Bridge:
     """The calls over a room in memory, without HTTP."""
 
@@ -157,6 +163,13 @@ def modified(name: str, lat: float, version: int | None = NOW_VERSION, text: str
 
 CREATE = '<create><node id="-1" lat="5" lon="5"/></create>'
 CREATED = [f'<node old_id="-1" new_id="{10**15 + 1}" new_version="1"/>']
+
+
+def version_of(bridge: Bridge, name: str) -> int:
+    """The version of an element, which is on the map."""
+    version = bridge.map.version(name)
+    assert version is not None
+    return version
 
 
 def step(word: str, row: dict[str, Any], version: int = NOW_VERSION) -> str:

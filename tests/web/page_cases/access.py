@@ -1,4 +1,7 @@
 """Cases: fingers, phones, keys alone, and a screen reader."""
+from __future__ import annotations
+
+from lib.browser import Page
 from lib.cases import want
 from lib.map_pages import at_node, opened, pause, settled, url_of
 from lib.talk import serving
@@ -7,7 +10,7 @@ from page_cases.opening import base_of, browsing, page_case, pages, village
 
 
 @page_case
-def fingers():
+def fingers() -> None:
     """Two fingers zoom; a tap of two fingers and the right button make nothing; a long press opens a menu, and a tap
     draws and selects."""
     with pages("anna") as (_, _, anna):
@@ -55,7 +58,7 @@ def fingers():
 
 
 @page_case
-def a_phone():
+def a_phone() -> None:
     """On a phone the map has the room, details are a sheet that is opened and closed, targets are large, and a refusal
     is in sight, also while the sheet is open. A bar with what is selected opens the sheet, which leaves it in sight."""
     with pages("anna") as (_, _, anna):
@@ -97,7 +100,7 @@ def a_phone():
 
 
 @page_case
-def narrow_and_wide():
+def narrow_and_wide() -> None:
     """At each width nothing is wider than the window, each button can be hit, and each field has a name."""
     with pages("anna") as (_, _, anna):
         for width, height in ((700, 500), (821, 600), (1920, 1080)):
@@ -115,7 +118,7 @@ def narrow_and_wide():
 
 
 @page_case
-def by_keys_alone():
+def by_keys_alone() -> None:
     """With keys alone a page is filled in, a node is made, tagged and untagged, and a way is drawn; the focus is
     seen, and the middle of the map is marked."""
     with serving(workers=1, sessions=9, base=base_of(village())) as server, browsing() as (files, chrome):
@@ -144,7 +147,7 @@ def by_keys_alone():
         page.end()
 
 
-def tagged_by_keys(page):
+def tagged_by_keys(page: Page) -> None:
     """Gives the node that was made a tag, undoes it, and redoes it."""
     page.get("$('selected').querySelector('input').focus()")
     page.ask("Input.insertText", text="natural")
@@ -162,7 +165,7 @@ def tagged_by_keys(page):
     settled(page)
 
 
-def tabs_to(page, name):
+def tabs_to(page: Page, name: str) -> None:
     """Presses Tab until an element has the focus."""
     for _ in range(60):
         if page.get("document.activeElement.id") == name:
@@ -172,7 +175,7 @@ def tabs_to(page, name):
 
 
 @page_case
-def for_a_screen_reader():
+def for_a_screen_reader() -> None:
     """Each tool and field has a name in the tree of a screen reader, and what others change is said politely."""
     with pages("anna") as (_, zoe, anna):
         for name in ("w1", "n2", "r1"):

@@ -1,23 +1,27 @@
 """Cases: silent and broken connections, restarts of the server, and what was not done."""
-import contextlib
+from __future__ import annotations
 
+import contextlib
+from collections.abc import Iterator
+
+from lib.browser import Page
 from lib.cases import want
 from lib.map_pages import at_node, connect, opened, settled, url_of
 from lib.proxy import Proxy
 from lib.talk import serving
 from page_cases.looking import at, at_once, close_not_done, comes, draw, draw_unanswered, names_of, new_names
 from page_cases.looking import not_done, overlay_pixels, press_button, row, small_targets, tagged
-from page_cases.opening import base_of, browsing, linked, page_case, pages, village
+from page_cases.opening import Link, base_of, browsing, linked, page_case, pages, village
 
 
 @page_case
-def a_silent_connection():
+def a_silent_connection() -> None:
     """What is not answered is counted as not saved; the page notices that the connection is dead, and what was done
     comes through afterwards, once."""
     with serving(workers=4, sessions=20, base=base_of(village())) as server, Proxy(
         server.port
     ) as proxy, browsing() as (files, chrome):
-        silent = []
+        silent: list[bool] = []
         proxy.hold = lambda data: b"" if silent else data  # before the page connects
         anna = opened(chrome, url_of(files, proxy.url, "anna"))
         want(anna.get("Session.heartbeat"), 30_000)
@@ -51,7 +55,7 @@ def a_silent_connection():
 
 
 @page_case
-def before_and_after_a_session():
+def before_and_after_a_session() -> None:
     """Without a session nothing can be drawn, and the panels say nothing of a room. A drawing outlives the session: it
     is there again in the same room, and goes for another one if the mapper agrees."""
     with serving(workers=4, sessions=20, base=base_of(village())) as server, browsing() as (files, chrome):
@@ -96,11 +100,11 @@ def before_and_after_a_session():
 
 
 @page_case
-def what_survives_a_restart():
+def what_survives_a_restart() -> None:
     """A drawing and typed tags outlive a server that is restarted; what was sent and not answered is reported."""
     with contextlib.ExitStack() as kept:
         first = kept.enter_context(serving(workers=4, sessions=20, base=base_of(village())))
-        silent = []
+        silent: list[bool] = []
         proxy = kept.enter_context(Proxy(first.port, lambda data: b"" if silent else data))
         files, chrome = kept.enter_context(browsing())
         anna = connect(opened(chrome, url_of(files, proxy.url, "anna")))
@@ -139,7 +143,7 @@ TO_PERHAPS_ANOTHER = "The connection broke before this was sent. It was not done
 
 
 @contextlib.contextmanager
-def restarted(page, link, *rooms):
+def restarted(page: Page, link: Link, *rooms: str) -> Iterator[Page]:
     """Stops the server of a page, and starts another one with the same map, perhaps with other rooms."""
     link.server.stop()
     link.is_cut = True
@@ -152,11 +156,12 @@ def restarted(page, link, *rooms):
 
 
 @page_case
-def drawings_that_are_not_answered():
+def drawings_that_are_not_answered() -> None:
     """Before a mapper's first saved change, nobody can ask what the server did. So a drawing that was sent and not
     answered comes back. What was drawn after it is sent later, and is saved. An undo is not done then."""
     with serving(workers=4, sessions=20, base=base_of(village())) as server, browsing() as (files, chrome):
-        silent, cut = [], []
+        silent: list[bool] = []
+        cut: list[bool] = []
         with Proxy(server.port, lambda data: None if cut else b"" if silent else data) as proxy:
             anna = connect(opened(chrome, url_of(files, proxy.url, "anna")))
             zoe = server.session("zoe")
@@ -188,7 +193,7 @@ def drawings_that_are_not_answered():
 
 
 @page_case
-def drawings_that_a_restart_gives_back():
+def drawings_that_a_restart_gives_back() -> None:
     """If the server is restarted, drawings that are not saved come back, one after the other, with their presets:
     first the one that was sent. An undo that was not sent is not done. What is drawn then is saved."""
     with linked() as (_, anna, link):
@@ -214,7 +219,7 @@ def drawings_that_a_restart_gives_back():
 
 
 @page_case
-def drawings_that_are_saved_one_after_the_other():
+def drawings_that_are_saved_one_after_the_other() -> None:
     """If several drawings come back, Enter says first that one was saved, and then that the next came back. The next
     one waits for the answer. If the answer is a refusal, the same drawing comes back first."""
     with linked() as (_, anna, link):
@@ -247,7 +252,7 @@ def drawings_that_are_saved_one_after_the_other():
 
 
 @page_case
-def changes_that_a_restart_drops():
+def changes_that_a_restart_drops() -> None:
     """If the server is restarted, each change that was not sent is listed with its text and its reason, and the page
     does not say that all is saved, until the mapper closes the list. Nothing keeps the mapper from leaving."""
     with linked() as (_, anna, link):
@@ -294,7 +299,7 @@ def changes_that_a_restart_drops():
 
 
 @page_case
-def changes_that_waited_and_are_refused():
+def changes_that_waited_and_are_refused() -> None:
     """If a change waited for a connection and is refused then, the list has it for every reason, together with those of
     the same reason. A change that is refused over a connection is only reported. Neither is a change listed that
     somebody else has made already."""
@@ -338,7 +343,7 @@ def changes_that_waited_and_are_refused():
 
 
 @page_case
-def undos_that_a_restart_drops():
+def undos_that_a_restart_drops() -> None:
     """An undo and a redo that were not sent are listed with what they were about, if that was known. A change that was
     sent and not answered is listed as one of which nobody knows."""
     with linked() as (_, anna, link):
@@ -359,7 +364,7 @@ def undos_that_a_restart_drops():
 
 
 @page_case
-def what_comes_back_is_not_listed():
+def what_comes_back_is_not_listed() -> None:
     """Drawings and typed tags that the mapper has back after a refusal are not listed, but count as not saved. Typed
     tags of an element that is gone are listed."""
     with linked() as (zoe, anna, link):
@@ -381,7 +386,7 @@ def what_comes_back_is_not_listed():
 
 
 @page_case
-def a_session_that_ends_before_all_is_saved():
+def a_session_that_ends_before_all_is_saved() -> None:
     """If a session ends by itself, the changes that waited are listed. Whoever leaves has agreed to drop them."""
     with linked() as (_, anna, link):
         link.cut(anna)
@@ -409,7 +414,7 @@ def a_session_that_ends_before_all_is_saved():
 
 
 @page_case
-def a_long_list_of_what_was_not_done():
+def a_long_list_of_what_was_not_done() -> None:
     """Twenty changes that were not done are a short list that scrolls, next to the map on a screen and on a phone."""
     with pages("anna") as (_, _, anna):
         anna.get(
@@ -433,7 +438,7 @@ def a_long_list_of_what_was_not_done():
 
 
 @page_case
-def leaving_before_all_is_saved():
+def leaving_before_all_is_saved() -> None:
     """Whoever leaves while changes wait for the connection keeps the drawings among them, can connect again, and saves
     them one after the other."""
     with linked() as (_, anna, link):

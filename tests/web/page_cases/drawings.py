@@ -1,4 +1,6 @@
 """Cases: what is drawn joins what is there, and nothing loose is left."""
+from __future__ import annotations
+
 import json
 
 from lib.cases import want
@@ -10,7 +12,7 @@ from page_cases.opening import a_node, base_of, browsing, linked, page_case, pag
 
 
 @page_case
-def a_line_joins_nodes_that_are_not_shown():
+def a_line_joins_nodes_that_are_not_shown() -> None:
     """A line that is drawn onto an existing node takes it, also where the zoom does not show it."""
     with pages("anna") as (_, _, anna):
         anna.get("page.view.map.setZoom(16, { animate: false }), 0")
@@ -23,7 +25,7 @@ def a_line_joins_nodes_that_are_not_shown():
 
 
 @page_case
-def a_line_joins_a_line():
+def a_line_joins_a_line() -> None:
     """A line that is drawn onto a segment becomes a part of it, and one that crosses two lines at their crossing of
     both; all of it is undone at once."""
     with pages("anna") as (_, _, anna):
@@ -44,7 +46,7 @@ def a_line_joins_a_line():
 
 
 @page_case
-def two_joints_on_one_segment():
+def two_joints_on_one_segment() -> None:
     """A line that joins the same segment twice has its nodes there in the order in which they lie."""
     with pages("anna") as (_, _, anna):
         draw(anna, at(anna, 47.6, 8.2009), at(anna, 47.6002, 8.2008), at(anna, 47.6, 8.2007))
@@ -53,7 +55,7 @@ def two_joints_on_one_segment():
 
 
 @page_case
-def a_line_goes_on_at_either_end():
+def a_line_goes_on_at_either_end() -> None:
     """A way that is selected goes on where a line begins at its end, and by its buttons at its end and its start."""
     with pages("anna") as (_, _, anna):
         anna.get("page.select('w1')")
@@ -70,12 +72,12 @@ def a_line_goes_on_at_either_end():
 
 
 @page_case
-def a_way_that_changes_while_it_goes_on():
+def a_way_that_changes_while_it_goes_on() -> None:
     """A drawing that goes on with a way stays at its end: others turn the way, or split it, so that the drawing becomes
     a way of its own. If that happens while it cannot be sent, it comes back, and nothing loose is left."""
     with linked() as (zoe, anna, link):
 
-        def go_on(way, at_start, node):
+        def go_on(way: str, at_start: bool, node: str) -> None:
             anna.get(f"page.tools.goOn('{way}', {json.dumps(at_start)})")
             x, y = at_node(anna, node)
             anna.click_at(x + 30, y + 40)
@@ -120,7 +122,7 @@ def a_way_that_changes_while_it_goes_on():
 
 
 @page_case
-def a_way_that_comes_back_to_itself():
+def a_way_that_comes_back_to_itself() -> None:
     """A way that goes on to one of its own segments has the new node there, too."""
     with pages("anna") as (_, _, anna):
         anna.get("page.tools.goOn('w1', false), page.fit()")
@@ -132,7 +134,7 @@ def a_way_that_comes_back_to_itself():
 
 
 @page_case
-def a_point_on_a_line():
+def a_point_on_a_line() -> None:
     """A point on a line becomes a part of it in its place, and none is made where a node is."""
     with pages("anna") as (_, _, anna):
         anna.click("#point")
@@ -152,7 +154,7 @@ def a_point_on_a_line():
 
 
 @page_case
-def no_loose_nodes():
+def no_loose_nodes() -> None:
     """A deleted building takes its corners along, and the page says so; a node that something else needs stays."""
     with pages("anna") as (_, _, anna):
         anna.get("page.select('w2')")
@@ -172,7 +174,7 @@ def no_loose_nodes():
 
 
 @page_case
-def a_drawing_is_local():
+def a_drawing_is_local() -> None:
     """What is drawn goes out when it is finished: Escape, wherever the focus is, leaves nothing behind."""
     with pages("anna") as (_, _, anna):
         draw(anna, at(anna, 47.6006, 8.2002), at(anna, 47.6007, 8.2003), finish=None)
@@ -184,10 +186,10 @@ def a_drawing_is_local():
 
 
 @page_case
-def a_connection_that_is_lost_while_drawing():
+def a_connection_that_is_lost_while_drawing() -> None:
     """If the connection is lost while something is drawn, nothing of it is in the room, and the drawing goes on."""
     with serving(workers=4, sessions=20, base=base_of(village())) as server, browsing() as (files, chrome):
-        cut = []
+        cut: list[bool] = []
         with Proxy(server.port, lambda data: None if cut else data) as proxy:
             anna = connect(opened(chrome, url_of(files, proxy.url, "anna")))
             zoe = server.session("zoe")
@@ -210,7 +212,7 @@ def a_connection_that_is_lost_while_drawing():
 
 
 @page_case
-def finishing_a_drawing():
+def finishing_a_drawing() -> None:
     """A double click and Enter finish, Backspace removes the last point, a band follows the pointer, Delete deletes."""
     with pages("anna") as (_, _, anna):
         x, y = at(anna, 47.6006, 8.2002)
@@ -244,7 +246,7 @@ def finishing_a_drawing():
 
 
 @page_case
-def an_area_is_closed():
+def an_area_is_closed() -> None:
     """An area has its first node last; what it is can be said while it is drawn."""
     with pages("anna") as (_, _, anna):
         anna.click("#area")
@@ -258,7 +260,7 @@ def an_area_is_closed():
 
 
 @page_case
-def an_unglued_node_comes_first():
+def an_unglued_node_comes_first() -> None:
     """After an unglue a drag moves the new node, though the old one lies at the same place."""
     with pages("anna") as (_, _, anna):
         draw(anna, at_node(anna, "n2"), at(anna, 47.6004, 8.2007))
@@ -276,16 +278,19 @@ def an_unglued_node_comes_first():
 
 
 @page_case
-def a_node_that_moved_in_its_list():
+def a_node_that_moved_in_its_list() -> None:
     """A split and an unglue are at the node that is selected, wherever in the list of its way it is by then. The
     buttons for the node follow its ways."""
     with pages("anna") as (_, zoe, anna):
         draw(anna, at_node(anna, "n2"), at(anna, 47.6004, 8.2007))
-        put_before = lambda name, *nodes: (
-            "page.perform('put a node into a line', () => ["
-            f"{{ do: 'create', el: '{name}', lat: '47.6', lon: '8.2002', tags: {{}} }},"
-            f"{{ do: 'nodes', el: 'w1', nodes: {json.dumps(nodes)} }}])"
-        )
+
+        def put_before(name: str, *nodes: int) -> str:
+            return (
+                "page.perform('put a node into a line', () => ["
+                f"{{ do: 'create', el: '{name}', lat: '47.6', lon: '8.2002', tags: {{}} }},"
+                f"{{ do: 'nodes', el: 'w1', nodes: {json.dumps(nodes)} }}])"
+            )
+
         anna.get("page.select('n2')")
         at_once(anna, put_before("n71", 1, 71, 2, 3), press_button("Unglue w1"))
         settled(anna)
@@ -320,7 +325,7 @@ UNLISTED = """(() => {
 
 
 @page_case
-def former_nodes_of_a_way():
+def former_nodes_of_a_way() -> None:
     """The first entry after the welcome comes before the page has listed the ways of each node. It adds a node and
     takes another out of a way: no way has that node any more, and once the way is deleted, it can be deleted, too."""
     with pages("anna") as (_, other, anna):
@@ -337,7 +342,7 @@ def former_nodes_of_a_way():
 
 
 @page_case
-def ids_that_are_rounded():
+def ids_that_are_rounded() -> None:
     """A way whose ids of nodes JavaScript rounds loses no node and gets no other one: the page refuses to change it. If
     it is deleted, a node stays whose id the rounded one is."""
     large = 2**53 + 1

@@ -1,17 +1,23 @@
 """Case: two mappers map a village."""
+from __future__ import annotations
+
 import json
 import math
 import tempfile
+from collections.abc import Mapping
+from typing import Any
 
+from lib.browser import Page
 from lib.cases import TOP, want
 from lib.map_pages import connect, opened, pause, settled, url_of
 from lib.programs import run
+from lib.serving import Session
 from lib.talk import serving
 from page_cases.looking import at, comes, new_names, row
 from page_cases.opening import browsing, page_case
 
 
-def faults_of(rows):
+def faults_of(rows: Mapping[str, Any]) -> dict[str, object]:
     """What a validator would say of a map: two nodes at one place, ends of roads that lie within a metre of a road and
     are not joined to it, and nodes without a tag and a use."""
     nodes = {int(name[1:]): (float(each["lat"]), float(each["lon"])) for name, each in rows.items() if name[0] == "n"}
@@ -21,7 +27,10 @@ def faults_of(rows):
     used |= {int(name[1:]) for each in rows.values() for name, _ in each.get("members", ()) if name[0] == "n"}
     loose = [number for number in nodes if number not in used and not rows[f"n{number}"]["tags"]]
     doubles = len(nodes) - len(set(nodes.values()))
-    metre = lambda place: (place[0] * 111_320, place[1] * 111_320 * math.cos(math.radians(place[0])))
+
+    def metre(place: tuple[float, float]) -> tuple[float, float]:
+        return place[0] * 111_320, place[1] * 111_320 * math.cos(math.radians(place[0]))
+
     ends = [(number, road) for road in roads for number in (road[0], road[-1])]
     apart = [
         number
@@ -37,7 +46,7 @@ def faults_of(rows):
     return {"doubles": doubles, "loose": loose, "apart": apart}
 
 
-def distance(at_place, one, other):
+def distance(at_place: tuple[float, float], one: tuple[float, float], other: tuple[float, float]) -> float:
     """How far a place is from a segment."""
     across, up = other[0] - one[0], other[1] - one[1]
     part = ((at_place[0] - one[0]) * across + (at_place[1] - one[1]) * up) / ((across**2 + up**2) or 1)
@@ -46,7 +55,7 @@ def distance(at_place, one, other):
 
 
 @page_case
-def a_mapping_evening():
+def a_mapping_evening() -> None:
     """A street with two crossings and three buildings with addresses is drawn onto the hamlet while another mapper is
     at work; one crossing is undone; the export is free of what a validator looks for."""
     base = run("python3", f"{TOP}/clients/osm_to_base", f"{TOP}/docs/hamlet.osm").output.decode()
@@ -68,7 +77,7 @@ def a_mapping_evening():
         lina.end()
 
 
-def street_with_buildings(lina, bob):
+def street_with_buildings(lina: Page, bob: Session) -> None:
     """The evening's work."""
     lina.click("#line")
     lina.get("$('preset').value = 'Street'")
@@ -97,7 +106,7 @@ def street_with_buildings(lina, bob):
     lina.wait(f"page.elements.get('{street}').nodes.length === 5")
 
 
-def a_house(page, lat, lon, number):
+def a_house(page: Page, lat: float, lon: float, number: str) -> None:
     """A building with an address."""
     settled(page).click("#area")
     page.get("$('preset').value = 'House'")

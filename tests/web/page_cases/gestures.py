@@ -1,4 +1,6 @@
 """Cases: refusals, typed tags, members, and gestures as groups of actions."""
+from __future__ import annotations
+
 from lib.cases import want
 from lib.fake_rooms import FakeRoom
 from lib.map_pages import at_node, connect, opened, pause, settled, url_of
@@ -7,7 +9,7 @@ from page_cases.opening import browsing, linked, page_case, pages, village
 
 
 @page_case
-def what_a_refusal_gives_way_to():
+def what_a_refusal_gives_way_to() -> None:
     """What is saved later does not hide a refusal, and a second one is said with it. They stay until they are closed,
     or until the mapper does something else."""
     with pages("anna") as (_, _, anna):
@@ -35,7 +37,7 @@ def what_a_refusal_gives_way_to():
 
 
 @page_case
-def what_is_done_without_a_connection():
+def what_is_done_without_a_connection() -> None:
     """What is done while there is no connection waits, and fits the map that comes then and what was done before it:
     nodes that two mappers put into one line are all in it, and a node is where it was put, also if it moved."""
     with linked() as (zoe, anna, link):
@@ -56,7 +58,7 @@ def what_is_done_without_a_connection():
 
 
 @page_case
-def members_that_change_at_once():
+def members_that_change_at_once() -> None:
     """Members that are picked, get a role or are removed one right after the other all are, and others that somebody
     adds meanwhile stay, too."""
     with linked() as (zoe, anna, link):
@@ -83,7 +85,7 @@ def members_that_change_at_once():
 
 
 @page_case
-def a_role_that_is_typed_while_members_change():
+def a_role_that_is_typed_while_members_change() -> None:
     """A role that is typed stays with its member and keeps the focus when somebody takes out another member, and is
     saved when the field loses the focus."""
     with pages("anna") as (_, zoe, anna):
@@ -103,7 +105,7 @@ def a_role_that_is_typed_while_members_change():
 
 
 @page_case
-def typed_tags():
+def typed_tags() -> None:
     """Typed tags stay with their element when something else is selected and when news of it come; a tag that was
     removed and not saved does not come back."""
     with pages("anna") as (_, zoe, anna):
@@ -135,7 +137,7 @@ def typed_tags():
 
 
 @page_case
-def typing_while_an_answer_comes():
+def typing_while_an_answer_comes() -> None:
     """An answer takes neither what somebody types meanwhile nor the focus: in a tag that is being saved, after another
     gesture, and when the connection comes back. What was saved is not typed any more."""
     with linked() as (zoe, anna, link):
@@ -180,12 +182,13 @@ def typing_while_an_answer_comes():
 
 
 @page_case
-def one_gesture_is_one_group():
+def one_gesture_is_one_group() -> None:
     """A gesture of several actions goes out as one group, and as single actions if the server knows no groups."""
     with FakeRoom(village()) as room, browsing() as (files, chrome):
         anna = connect(opened(chrome, url_of(files, room.url, "anna")))
         draw(anna, at(anna, 47.6003, 8.2015), at(anna, 47.6, 8.2008), finish=None)
-        room.rows_of_group = lambda actions: [{"el": "n-9", "lat": "47.6000000", "lon": "8.2000000", "tags": {}}]
+        made = [{"el": "n-9", "lat": "47.6000000", "lon": "8.2000000", "tags": {}}]
+        setattr(room, "rows_of_group", lambda actions: made)
         anna.press("Enter")
         anna.wait("page.elements.has('n-9')")
         groups = [message for message in room.heard if message["do"] == "group"]
@@ -196,7 +199,7 @@ def one_gesture_is_one_group():
 
 
 @page_case
-def a_gesture_that_is_refused():
+def a_gesture_that_is_refused() -> None:
     """If one action of a gesture is refused, nothing of it stays, and the drawing comes back."""
     with pages("anna") as (_, zoe, anna):
         anna.get("page.session.hasGroups = false")
@@ -219,7 +222,7 @@ def a_gesture_that_is_refused():
 
 
 @page_case
-def names_that_others_took():
+def names_that_others_took() -> None:
     """Two pages that give the same new name both get their element."""
     with pages("anna", "bob") as (_, zoe, anna, bob):
         anna.get("page.session.newName = function (kind) { return `${kind}-${this.tries = (this.tries ?? 0) + 1}`; }")

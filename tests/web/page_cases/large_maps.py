@@ -1,15 +1,20 @@
 """Cases: a large map, and how soon it is seen."""
+from __future__ import annotations
+
 import functools
 import json
 import statistics
+from collections.abc import Iterator
+from argparse import ArgumentParser
 
-from lib.browser import browser
+from lib.browser import Page, browser
 from lib.cases import TOP, given, want
 from lib.map_pages import connect, opened, url_of
 from lib.others import chromium
 from lib.page_files import PageFiles
+from lib.serving import Server, Session
 from lib.talk import serving
-from page_cases.opening import a_node, base_of, browsing, page_case
+from page_cases.opening import Row, a_node, base_of, browsing, page_case
 
 
 # How many elements the large map has, and how many milliseconds its parts may take on a machine that others use, too.
@@ -20,10 +25,13 @@ MOST_PAINTED = 4000
 MOST_HEAP = 70_000_000
 
 
-def large_map():
+def large_map() -> Iterator[Row]:
     """The rows of a large map: for each nine nodes a way of them, in parallel lines."""
     ways = LARGE // 10
-    place = lambda number: (47 + number % 90 * 0.002, 8 + number // 90 * 0.002)
+
+    def place(number: int) -> tuple[float, float]:
+        return 47 + number % 90 * 0.002, 8 + number // 90 * 0.002
+
     for number in range(ways):
         lat, lon = place(number)
         for step in range(9):
@@ -61,16 +69,17 @@ FRAMES = """(async () => {
 
 
 @functools.lru_cache(maxsize=None)
-def a_large_base():
+def a_large_base() -> str:
     """A large map to begin with: that of `--base`, or one that is made."""
     if not given.base:
         return base_of(list(large_map()))
     with open(given.base, encoding="utf-8") as file:
-        return file.readline()
+        line: str = file.readline()
+    return line
 
 
 @page_case
-def a_large_map():
+def a_large_map() -> None:
     """A map of 72,000 elements: how long it takes to show it, to draw it, to take news and to find, and how much memory
     it needs; all ways are drawn at every zoom."""
     rows = json.loads(a_large_base())["ok"]["map"]
@@ -107,13 +116,14 @@ DRAWN_WAYS = """page.view.drawn.ways
     === [...page.shapes.ways.values()].filter((way) => doMeet(way, page.view.painted.box)).length"""
 
 
-def time_of_news(page, bob, node, seq):
+def time_of_news(page: Page, bob: Session, node: str, seq: int) -> float:
     """How many milliseconds of script a page needs for the news that a node was moved and tagged."""
     move = {"do": "move", "els": [node], "dlat": 100, "dlon": 0}
     tag = {"do": "retag", "el": node, "tags": {"natural": "shrub", "ref": str(seq)}}
     bob.ask({"id": seq + 1, "do": "group", "actions": [move, tag]})
     page.wait(f"page.session.room.seq === {seq} && page.view.stale.length === 0")
-    return page.get("page.timings.news + page.view.lastRepaint")
+    took: float = page.get("page.timings.news + page.view.lastRepaint")
+    return took
 
 
 # Notes when Connect is clicked, and when the frame was on the screen that took longest.
@@ -130,7 +140,7 @@ PAINTED = """(() => {
 })()"""
 
 
-def time_to_see(server, folder):
+def time_to_see(server: Server, folder: str) -> float:
     """How many milliseconds after the click on Connect the page of a folder shows its map."""
     with PageFiles(folder=folder) as files, browser(chromium()) as chrome:
         page = chrome.open(url_of(files, server.port, "anna"))
@@ -139,11 +149,12 @@ def time_to_see(server, folder):
         page.click("#connect", "Connect")
         page.wait("window.painted && document.getElementById('figures').textContent !== ''")
         page.get("new Promise((done) => setTimeout(done, 300))")
-        return page.get("window.painted")
+        painted: float = page.get("window.painted")
+        return painted
 
 
 @page_case
-def how_soon_a_map_is_seen():
+def how_soon_a_map_is_seen() -> None:
     """How long it takes from the click on Connect to the frame with a map of 72,000 elements: the median of `--rounds`,
     and with `--beside` that of another page, opened in turn."""
     folders = [folder for folder in (given.beside, f"{TOP}/clients/page") if folder]
@@ -155,8 +166,8 @@ def how_soon_a_map_is_seen():
     want(took < MOST_PAINTED * given.slow, True)
 
 
-def options(words):
+def options(words: ArgumentParser) -> None:
     """The words for large maps."""
     words.add_argument("--base", metavar="FILE", help="the large map, as bench/serve takes it, else one that is made")
-    words.add_argument("--beside", metavar="FOLDER", help="a folder with another map.html to measure in turn")
+    words.add_argument("--beside", metavar="FOLDER", help="a folder with another map.html to measure, alternating")
     words.add_argument("--rounds", type=int, default=1, help="how often it is measured how soon a map is seen, else 1")

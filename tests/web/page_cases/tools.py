@@ -1,15 +1,18 @@
 """Cases: each tool, the window, names on the map, and areas."""
+from __future__ import annotations
+
 import math
 
+from lib.browser import Page
 from lib.cases import TOP, want
 from lib.map_pages import at_node, connect, opened, settled, url_of
 from lib.programs import run
 from lib.talk import serving
 from page_cases.looking import at, comes, row
-from page_cases.opening import a_node, browsing, page_case, pages
+from page_cases.opening import Row, a_node, browsing, page_case, pages
 
 
-def tags_and_nodes(anna):
+def tags_and_nodes(anna: Page) -> None:
     """Tags by fields, by a preset, and the nodes of a way."""
     anna.fill("#find", "path")
     anna.click("#found button", "w1")
@@ -35,7 +38,7 @@ def tags_and_nodes(anna):
 
 
 @page_case
-def a_list_of_nodes_that_others_change():
+def a_list_of_nodes_that_others_change() -> None:
     """A typed list of nodes is not saved over what somebody else put into the way meanwhile. It stays in its field
     until the way is selected again."""
     with pages("anna") as (_, zoe, anna):
@@ -57,7 +60,7 @@ def a_list_of_nodes_that_others_change():
         anna.end()
 
 
-def parts_and_members(anna):
+def parts_and_members(anna: Page) -> None:
     """A split, a join of the parts, and members that are picked on the map."""
     anna.get("page.select('n2')")
     anna.click("#selected button", "Split w1 here")
@@ -77,9 +80,9 @@ def parts_and_members(anna):
     comes(anna, "r1", "members", [["w3", "part"]])
 
 
-def nodes_of_a_way(anna):
+def nodes_of_a_way(anna: Page) -> None:
     """A merge by a drag, a purge, a move by numbers, and numbers that are none."""
-    anna.drag_onto("n3", "n2")
+    drag_onto(anna, "n3", "n2")
     comes(anna, "w1", "nodes", [4, 2, 1])
     anna.get("page.select('n2')")
     fill_in(anna, "Latitude", "47,6001")
@@ -95,21 +98,21 @@ def nodes_of_a_way(anna):
     comes(anna, "r1", "members", [])
 
 
-def fill_in(page, label, text):
+def drag_onto(page: Page, name: str, other: str) -> None:
+    """Drags a node onto another one."""
+    page.get(f"page.fit(), page.select('{name}')")
+    page.drag(at_node(page, name), at_node(page, other))
+
+
+def fill_in(page: Page, label: str, text: str) -> None:
     """Fills in a field of what is selected, by its label."""
     page.fill(f"#selected [data-field='{label}']", text)
 
 
 @page_case
-def each_tool():
+def each_tool() -> None:
     """Each tool of the page changes the map as it should, and the page follows."""
     with pages("anna") as (_, zoe, anna):
-
-        def drag_onto(name, other):
-            anna.get(f"page.fit(), page.select('{name}')")
-            anna.drag(at_node(anna, name), at_node(anna, other))
-
-        anna.drag_onto = drag_onto
         for use in (tags_and_nodes, parts_and_members, nodes_of_a_way):
             use(anna)
             settled(anna)
@@ -118,7 +121,7 @@ def each_tool():
 
 
 @page_case
-def several_and_moves():
+def several_and_moves() -> None:
     """Several are selected by shift and by a box; a building is moved by a drag and by keys, and is deleted."""
     with pages("anna") as (_, _, anna):
         anna.click_at(*at(anna, 47.60072, 8.20115))
@@ -151,7 +154,7 @@ def several_and_moves():
 
 
 @page_case
-def the_window():
+def the_window() -> None:
     """The wheel and a double click zoom round the pointer, a drag moves the map, and a click selects what was clicked,
     also inside a building; names and what lies under the pointer are shown."""
     with pages("anna") as (_, _, anna):
@@ -198,7 +201,7 @@ HIDING = """(() => {
 
 
 @page_case
-def where_names_are_written():
+def where_names_are_written() -> None:
     """The names on the map hide no node with tags and no end of a line; that of a small building is next to it."""
     base = run("python3", f"{TOP}/clients/osm_to_base", f"{TOP}/docs/hamlet.osm").output.decode()
     with serving("hamlet", workers=4, sessions=20, base=base) as server, browsing() as (files, chrome):
@@ -230,7 +233,7 @@ COLOUR = """(({ x, y }) => {
 WATER, GREEN, NOTHING = "196,222,242,255", "213,232,200,255", "0,0,0,0"
 
 
-def lake():
+def lake() -> list[Row]:
     """A lake of two open ways, which have no tags, with an island, and its relation."""
     corners = [
         (47.6, 8.2),
@@ -252,11 +255,14 @@ def lake():
 
 
 @page_case
-def multipolygons():
+def multipolygons() -> None:
     """The area of a multipolygon has the colour of its relation's tags, and its name. Holes have none. This follows
     changes of its nodes, ways, members and tags. A hole shows an area that is in it."""
     with pages("anna", rows=lake()) as (_, zoe, anna):
-        colour = lambda lat, lon: f"{COLOUR}({{ x: Mercator.x({lon}), y: Mercator.y({lat}) }})"
+
+        def colour(lat: float, lon: float) -> str:
+            return f"{COLOUR}({{ x: Mercator.x({lon}), y: Mercator.y({lat}) }})"
+
         water, island, shore = colour(47.6005, 8.2005), colour(47.6015, 8.202), colour(47.6015, 8.2045)
         want([anna.get(place) for place in (water, island, shore)], [WATER, NOTHING, NOTHING])
         want(anna.get("[...labelsIn(page, page.view.box(), 17)].map(({ text }) => text)"), ["Weiher"])

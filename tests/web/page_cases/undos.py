@@ -1,4 +1,6 @@
 """Cases: undo, redo, conflicts, and what others do."""
+from __future__ import annotations
+
 import urllib.parse
 
 from lib.cases import want
@@ -10,7 +12,7 @@ from page_cases.opening import base_of, browsing, linked, page_case, pages, vill
 
 
 @page_case
-def a_link_that_connects():
+def a_link_that_connects() -> None:
     """A link with `connect` joins the room at once; any other fills in its fields alone."""
     with serving(workers=4, sessions=90, base=base_of(village())) as server, browsing() as (files, chrome):
         anna = opened(chrome, url_of(files, server.port, "anna", connect="now"))
@@ -23,7 +25,7 @@ def a_link_that_connects():
 
 
 @page_case
-def two_pages_and_a_third_client():
+def two_pages_and_a_third_client() -> None:
     """Each sees at once what the others do; a conflict is told in a sentence and shown, and goes when it is gone; an
     undo is told as one; a redo."""
     with pages("anna", "bob") as (_, zoe, anna, bob):
@@ -66,7 +68,7 @@ def two_pages_and_a_third_client():
 
 
 @page_case
-def quick_undos():
+def quick_undos() -> None:
     """An undo means what was done last, also if that is not answered yet. If it is refused, nothing older is undone.
     Several undos and redos at once take one after the other, and each says which. The lists are right at once."""
     with linked() as (_, anna, link):
@@ -110,7 +112,7 @@ def quick_undos():
 
 
 @page_case
-def what_is_taken_back_is_said():
+def what_is_taken_back_is_said() -> None:
     """Each undo says what it undoes, also after a reload; it undoes a whole gesture."""
     with pages("anna") as (server, _, anna):
         draw(anna, at(anna, 47.6003, 8.2015), at(anna, 47.6, 8.2008))
@@ -133,7 +135,7 @@ def what_is_taken_back_is_said():
 
 
 @page_case
-def what_was_made_before():
+def what_was_made_before() -> None:
     """Entries of an earlier session, of which nothing is known, are one line, and are undone one by one from the last.
     Each undo shows what its entry did."""
     with pages() as (server, zoe), browsing() as (files, chrome):
@@ -155,7 +157,7 @@ def what_was_made_before():
 
 
 @page_case
-def people():
+def people() -> None:
     """Who changed what and where can be gone to; a link fills in room and address; the last room is remembered."""
     with pages("anna", tiles="http://127.0.0.1:9/{z}/{x}/{y}.png", credit="test") as (server, zoe, anna):
         zoe.ask({"id": 4, "do": "create", "el": "n99", "lat": "47.9", "lon": "8.9", "tags": {"natural": "tree"}})

@@ -1,8 +1,11 @@
 """Cases: find, tiles, links to the page, its addresses, and what is refused when it connects."""
+from __future__ import annotations
+
 import contextlib
 import tempfile
 import time
 import urllib.parse
+from collections.abc import Iterator
 
 from lib.browser import browser
 from lib.cases import TOP, case_if, want
@@ -16,7 +19,7 @@ from page_cases.opening import a_node, base_of, browsing, is_ready, page_case, p
 
 
 @page_case
-def find_what_is_there():
+def find_what_is_there() -> None:
     """Find has towns first, says how many there are, and shows more of them. It knows a name that another gives."""
     rows = [a_node(number, 47.6 + number / 1e4, 8.2, shop="bakery", name=f"Rome {number}") for number in range(1, 80)]
     rows.append(a_node(90, 47.65, 8.2, place="town", name="New Rome"))
@@ -35,7 +38,7 @@ def find_what_is_there():
 
 
 @page_case
-def tiles_and_credit():
+def tiles_and_credit() -> None:
     """There are no tiles until somebody chooses them; the data's credit is always there, the tiles' with them."""
     with serving(workers=2, sessions=9, base=base_of(village())) as server, browsing() as (files, chrome):
         anna = connect(opened(chrome, url_of(files, server.port, "anna")))
@@ -60,7 +63,7 @@ def tiles_and_credit():
 
 
 @page_case
-def without_leaflet():
+def without_leaflet() -> None:
     """If Leaflet is nowhere, one sentence says so."""
     nowhere = "--host-resolver-rules=MAP * ~NOTFOUND, EXCLUDE 127.0.0.1"
     with PageFiles(has_leaflet=False) as files, browser(chromium(), nowhere) as chrome:
@@ -70,7 +73,7 @@ def without_leaflet():
 
 
 @page_case
-def what_is_refused_at_the_door():
+def what_is_refused_at_the_door() -> None:
     """A room that is not there, addresses that are none, a server that is not there, and what a proxy refuses each
     have a sentence of their own."""
     statuses = {"/wrong": 404, "/secret": 401, "/full": 429, "/ending": 502}
@@ -122,7 +125,7 @@ FOR_ALL = "It fills in the address and the room; everybody gives a name of their
 
 
 @page_case
-def a_link_that_works_here_alone():
+def a_link_that_works_here_alone() -> None:
     """Share copies the link in any case. If it works on this computer alone, the page says so, and why: the page is a
     file or comes from this computer, or the address of the server means this computer."""
     far = ("maps.example.org", "192.0.2.7")
@@ -170,7 +173,7 @@ def a_link_that_works_here_alone():
 
 
 @page_case
-def a_page_from_a_file():
+def a_page_from_a_file() -> None:
     """Opened as a file the page works, with Leaflet of the system, and says what a server that refuses it wants."""
     with PageFiles(statuses={"/hamlet": 403}) as files, browser(chromium()) as chrome, serving(
         workers=2, sessions=9, base=base_of(village())
@@ -189,7 +192,7 @@ tls_case = case_if(lambda: is_ready() and is_there("openssl", "version"))
 
 
 @contextlib.contextmanager
-def a_certificate():
+def a_certificate() -> Iterator[tuple[str, str]]:
     """The files of a key and of a certificate that nobody vouches for."""
     with tempfile.TemporaryDirectory() as folder:
         key, certificate = f"{folder}/key.pem", f"{folder}/certificate.pem"
@@ -199,7 +202,7 @@ def a_certificate():
 
 
 @tls_case
-def a_leaflet_with_another_checksum():
+def a_leaflet_with_another_checksum() -> None:
     """What another place hands out as Leaflet is not run if it is not what the page expects."""
     with a_certificate() as names, PageFiles() as far, PageFiles(has_leaflet=False) as files:
         far.use_tls(*names)
@@ -212,7 +215,7 @@ def a_leaflet_with_another_checksum():
 
 
 @tls_case
-def a_page_from_elsewhere():
+def a_page_from_elsewhere() -> None:
     """If the browser does not say why it cannot reach a host of another site, the page claims nothing, and names the
     page of that host. Of its own host it knows that no server answers."""
     with a_certificate() as names, PageFiles() as far, PageFiles() as files, browser(chromium()) as chrome:
@@ -234,7 +237,7 @@ def a_page_from_elsewhere():
 
 
 @tls_case
-def the_address_behind_a_proxy():
+def the_address_behind_a_proxy() -> None:
     """From https:// the page asks at the path of the room, where a proxy has it, and not where the page itself is."""
     with a_certificate() as names, serving(workers=2, sessions=9, base=base_of(village())) as server, PageFiles(
         rooms={"/paris": server.port}
@@ -250,7 +253,7 @@ def the_address_behind_a_proxy():
 
 
 @page_case
-def more_than_are_served():
+def more_than_are_served() -> None:
     """A page that has to wait for a worker says so, and is served once one is free."""
     with serving(workers=1, sessions=9, base=base_of(village())) as server, browsing() as (files, chrome):
         other = server.session("zoe")
@@ -264,7 +267,7 @@ def more_than_are_served():
 
 
 @page_case
-def a_map_that_takes_long():
+def a_map_that_takes_long() -> None:
     """A page whose map does not come in time says so, and waits longer at its next attempt, until the map is there."""
     with FakeRoom(village()) as room, browsing() as (files, chrome):
         room.before = lambda message: time.sleep(1.6) if message["do"] == "hello" else None

@@ -70,8 +70,9 @@ def arguments() -> argparse.Namespace:
     parser = argparse.ArgumentParser(usage=usage, description=__doc__, formatter_class=layout)
     parser.add_argument("--map", action="store_true", help="print the map at the end, as map_to_osm and --base read it")
     parser.add_argument("--follow", action="store_true", help="stay, and print each change as a line of JSON")
-    for name in ("url", "room", "name"):
-        parser.add_argument(name, metavar=name.upper())
+    parser.add_argument("url", metavar="URL", help="the server's address, such as ws://127.0.0.1:9001")
+    parser.add_argument("room", metavar="ROOM", help="the room to join")
+    parser.add_argument("name", metavar="NAME", help="the author of the messages")
     parser.add_argument("message", metavar="MESSAGE", nargs="*", type=message_of, help="a message without its id")
     return parser.parse_args()
 

@@ -10,9 +10,9 @@ rooms.map for nginx, which sends /ROOM and /ROOM/api to the processes of the roo
 
 `move` moves a room to another machine, and reports each step on standard error. It closes the room in nginx, stops its
 services, and copies what its keeper saved, and ROOM.env with the new addresses. Then it starts the services on the new
-machine, and opens the room again when its keeper is connected there. No change is lost that the room answered: the
-room has no clients when its keeper stops, and its server stops only if the keeper saved everything. If a step fails,
-the room goes on where it was. ssh has to log in without a question, and gives up a silent machine.
+machine, and opens the room again when its keeper is connected there. No change is lost that the room answered. The room
+has no clients when its keeper stops, and its server stops only if the keeper saved everything. If a step fails, the
+room goes on where it was. ssh has to log in without a question, and gives up a silent machine.
 """
 from __future__ import annotations
 
@@ -349,8 +349,10 @@ def arguments() -> argparse.Namespace:
     moving = does.add_parser("move", parents=[shared], help="move a room to another machine")
     for each in (writing, moving):
         each.add_argument("list", metavar="LIST", help="the list of the rooms")
-    for name in ("room", "machine", "port", "api"):
-        moving.add_argument(name, metavar=name.upper())
+    moving.add_argument("room", metavar="ROOM", help="the room to move")
+    moving.add_argument("machine", metavar="MACHINE", help="the IP address of its new machine")
+    moving.add_argument("port", metavar="PORT", help="the port of its server there")
+    moving.add_argument("api", metavar="API", help="the port of its editors' API there, or `-` if it has none")
     moving.add_argument(
         "--remote",
         default=SSH,

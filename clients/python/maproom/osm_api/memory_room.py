@@ -57,10 +57,10 @@ class MemoryRoom:
         self.groups: list[list[Action]] = []
         self.holds_news = False
         # awaited before a group is applied, and after it, before its answer
-        self.before_group: Callable[[], Awaitable[None]] | None = None
-        self.after_group: Callable[[], Awaitable[None]] | None = None
+        self.before_group: Callable[[], Awaitable[object]] | None = None
+        self.after_group: Callable[[], Awaitable[object]] | None = None
         # awaited before an undo is applied
-        self.before_undo: Callable[[], Awaitable[None]] | None = None
+        self.before_undo: Callable[[], Awaitable[object]] | None = None
         self._redo: dict[str, list[JournalEntry]] = {}
         self._listeners: list[Listener] = []
         self._held: list[News] = []

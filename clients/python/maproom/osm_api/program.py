@@ -89,7 +89,7 @@ def arguments() -> argparse.Namespace:
         "--public-url",
         default="",
         metavar="URL",
-        help="the URL that the program's page shows to mappers, if it is behind a proxy",
+        help="the URL that the program's page shows to mappers, if a proxy is in front of it",
     )
     parser.add_argument(
         "--patience", type=seconds_of, default=60, metavar="SECONDS", help="how long a request waits for the room (60)"

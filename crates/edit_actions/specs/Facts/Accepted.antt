@@ -1,38 +1,10 @@
 -- Facts about accepted actions.
-use Rattle.std.proofs.Common.{◌≡◌, ◌≢◌, true, not, None, reverse, if◌then◌else◌}
-use Rattle.std.specs.List.{filter}
-use Rattle.std.specs.FinMap.Entries.{is_sorted-where_key}
-use Rattle.osm_elements.specs.Maps.{Rows, rows_but}
-use Rattle.osm_elements.specs.NameOrder.{name_cmp}
-use Rattle.osm_elements.specs.Rows.{AreInOrder}
-use Rattle.osm_elements.specs.Facts.Dropped.{AreInOrder-rows_but}
-use Rattle.osm_elements.specs.Facts.Rows.{AreInOrder-put_row}
+use Rattle.std.specs.Prelude.{◌≡◌, ◌≢◌, true, not, None, reverse, if◌then◌else◌, filter}
+use Rattle.edit_topology.specs.Prelude.{is_sorted-where_key, Rows, rows_but, name_cmp, AreInOrder, AreInOrder-rows_but, AreInOrder-put_row, is_sound, changed-differences, sound_in_order, is_moved, moved_by, at_name, with_tags, with_nodes, with_members, each_row, goes, what_is_left, retagged, AreInOrder-each_row, create_accepted, delete_accepted, move_accepted, purge_accepted, reverse_accepted, nodes_accepted, members_accepted, retag_accepted, join_row, join_accepted, merge_row, merge_accepted, split_row, split_off, split_accepted, AreInOrder-after_unglue, unglue_accepted, is_made_action}
 use Rattle.osm_changes.specs.Changes.{changed}
-use Rattle.osm_changes.specs.Sound.{is_sound}
-use Rattle.osm_changes.specs.Facts.Changing.{changed-differences}
-use Rattle.osm_changes.specs.Facts.SoundRows.{sound_in_order}
-use Rattle.edit_simple.specs.Move.{is_moved, moved_by}
-use Rattle.edit_simple.specs.Contents.{at_name, with_tags, with_nodes, with_members, each_row}
-use Rattle.edit_simple.specs.Purge.{goes, what_is_left}
-use Rattle.edit_simple.specs.Tagging.{retagged}
-use Rattle.edit_simple.specs.Facts.EachRow.{AreInOrder-each_row}
-use Rattle.edit_simple.specs.Facts.Creating.{create_accepted}
-use Rattle.edit_simple.specs.Facts.Deleting.{delete_accepted}
-use Rattle.edit_simple.specs.Facts.Moving.{move_accepted}
-use Rattle.edit_simple.specs.Facts.Purging.{purge_accepted}
-use Rattle.edit_simple.specs.Facts.Relisting.{reverse_accepted, nodes_accepted, members_accepted}
-use Rattle.edit_simple.specs.Facts.Retagging.{retag_accepted}
-use Rattle.edit_topology.specs.Join.{join_row}
-use Rattle.edit_topology.specs.Facts.Joining.{join_accepted}
-use Rattle.edit_topology.specs.Merge.{merge_row}
-use Rattle.edit_topology.specs.Facts.Merging.{merge_accepted}
-use Rattle.edit_topology.specs.Split.{split_row, split_off}
-use Rattle.edit_topology.specs.Facts.Splitting.{split_accepted}
-use Rattle.edit_topology.specs.Facts.Ungluing.{AreInOrder-after_unglue, unglue_accepted}
-use Rattle.edit_actions.specs.declared.action.Action.{Action}
-use Rattle.edit_actions.specs.declared.action.Action.TheVariants.{Create, Retag, Move, Reverse, Nodes, Members, Delete, Purge, Split, Join, Merge, Unglue}
+use Rattle.room_interface.specs.declared.action.Action.{Action}
+use Rattle.room_interface.specs.declared.action.Action.TheVariants.{Create, Retag, Move, Reverse, Nodes, Members, Delete, Purge, Split, Join, Merge, Unglue}
 use Rattle.edit_actions.specs.After.{after, changes}
-use Rattle.edit_actions.specs.MadeActions.{is_made_action}
 use Rattle.edit_actions.specs.Refusals.{refusal}
 
 module _ {A : Type 0} where

@@ -1,19 +1,14 @@
 -- Conditions under which an action is accepted alike in a map that agrees at its footprint.
-use Rattle.std.proofs.Common.{◌≡◌, true, false, Option, None, sym, ap, ◌∙◌}
+use Rattle.std.proofs.Common.{sym, ap, ◌∙◌}
+use Rattle.std.specs.Prelude.{◌≡◌, true, false, Option, None}
+use Rattle.edit_actions.specs.Prelude.{Rows, row_at, half_at, half, is_sound, first_that_holds, after, changes, checks, refusal}
+use Rattle.osm_changes.specs.Cells.{has}
 use Rattle.osm_elements.specs.declared.name.Name.{Name}
 use Rattle.osm_elements.specs.declared.element.Element.{Element}
-use Rattle.osm_elements.specs.Maps.{Rows}
-use Rattle.osm_elements.specs.Rows.{row_at}
 use Rattle.osm_changes.specs.declared.cell.Cell.{Cell}
 use Rattle.osm_changes.specs.declared.part.Part.{Part}
 use Rattle.osm_changes.specs.declared.part.Part.TheVariants.{Tags, Rest}
-use Rattle.osm_changes.specs.Cells.{half_at, has}
-use Rattle.osm_changes.specs.Halves.{half}
-use Rattle.osm_changes.specs.Sound.{is_sound}
-use Rattle.edit_simple.specs.Checks.{first_that_holds}
-use Rattle.edit_actions.specs.declared.action.Action.{Action}
-use Rattle.edit_actions.specs.After.{after, changes}
-use Rattle.edit_actions.specs.Refusals.{checks, refusal}
+use Rattle.room_interface.specs.declared.action.Action.{Action}
 use Rattle.edit_footprint.specs.Agreement.{Agree}
 use Rattle.edit_footprint.specs.Footprints.{footprint_of, footprint}
 use Rattle.edit_footprint.specs.Locality.{AcceptedAlike}

@@ -1,19 +1,13 @@
 -- Facts about two maps that agree at the footprint of an action on the first.
-use Rattle.std.proofs.Common.{◌≡◌, ◌≢◌, Bool, true, false, sym, ap, ◌∙◌, refl}
+use Rattle.std.proofs.Common.{sym, ap, ◌∙◌}
+use Rattle.std.specs.Prelude.{◌≡◌, ◌≢◌, Bool, true, false, refl}
 use Rattle.std.proofs.lemmas.Bool.{false_from_ne_true}
+use Rattle.edit_actions.specs.Prelude.{Rows, is_among, is_present, row_at, row_references, users, rest_at, half, is_sound, same_whole, same_presence, sound_in_order, after}
+use Rattle.osm_changes.specs.Cells.{has}
 use Rattle.osm_elements.specs.declared.name.Name.{Name}
-use Rattle.osm_elements.specs.Maps.{Rows, is_among, is_present}
-use Rattle.osm_elements.specs.Rows.{row_at}
-use Rattle.osm_refs.specs.References.{row_references, users}
 use Rattle.osm_changes.specs.declared.part.Part.{Part}
 use Rattle.osm_changes.specs.declared.part.Part.TheVariants.{Tags, Rest}
-use Rattle.osm_changes.specs.Cells.{rest_at, has}
-use Rattle.osm_changes.specs.Halves.{half}
-use Rattle.osm_changes.specs.Sound.{is_sound}
-use Rattle.osm_changes.specs.Facts.Halves.{same_whole, same_presence}
-use Rattle.osm_changes.specs.Facts.SoundRows.{sound_in_order}
-use Rattle.edit_actions.specs.declared.action.Action.{Action}
-use Rattle.edit_actions.specs.After.{after}
+use Rattle.room_interface.specs.declared.action.Action.{Action}
 use Rattle.edit_footprint.specs.Agreement.{Agree}
 use Rattle.edit_footprint.specs.Footprints.{subjects, footprint}
 use Rattle.edit_footprint.specs.Facts.Footprints.{subjects_inside, halves_outside, namers_outside}

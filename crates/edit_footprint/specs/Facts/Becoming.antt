@@ -1,28 +1,11 @@
 -- The map after an action, row by row, from what the action reads of the map before.
-use Rattle.std.proofs.Common.{◌≡◌, Option, Some, None, reverse, cond}
-use Rattle.std.specs.Option.{option_map}
+use Rattle.std.specs.Prelude.{◌≡◌, Option, Some, None, reverse, cond, option_map}
+use Rattle.edit_actions.specs.Prelude.{Rows, is_same, row_at, row_at-rows_but, row_at-put_row, with_tags, with_nodes, with_members, at_name, goes, what_is_left, row_at-each_row, moves, row_at-after_purge, row_at-each_but, join_row, merge_row, split_row, split_off, row_at-after_split, unglue_row, row_at-after_unglue, row_standing, after}
 use Rattle.osm_elements.specs.declared.name.Name.{Name}
 use Rattle.osm_elements.specs.declared.element.Element.{Element}
-use Rattle.osm_elements.specs.Maps.{Rows, is_same}
-use Rattle.osm_elements.specs.Rows.{row_at}
-use Rattle.osm_elements.specs.Facts.Dropped.{row_at-rows_but}
-use Rattle.osm_elements.specs.Facts.Rows.{row_at-put_row}
-use Rattle.edit_simple.specs.Contents.{with_tags, with_nodes, with_members, at_name}
-use Rattle.edit_simple.specs.Purge.{goes, what_is_left}
 use Rattle.edit_simple.specs.Tagging.{retagged}
-use Rattle.edit_simple.specs.Facts.EachRow.{row_at-each_row}
-use Rattle.edit_simple.specs.Move.{moves}
-use Rattle.edit_simple.specs.Facts.Purging.{row_at-after_purge}
-use Rattle.edit_topology.specs.Facts.EachBut.{row_at-each_but}
-use Rattle.edit_topology.specs.Join.{join_row}
-use Rattle.edit_topology.specs.Merge.{merge_row}
-use Rattle.edit_topology.specs.Split.{split_row, split_off}
-use Rattle.edit_topology.specs.Facts.Splitting.{row_at-after_split}
-use Rattle.edit_topology.specs.Facts.Ungluing.{unglue_row, row_at-after_unglue}
-use Rattle.edit_topology.specs.Unglue.{row_standing}
-use Rattle.edit_actions.specs.declared.action.Action.{Action}
-use Rattle.edit_actions.specs.declared.action.Action.TheVariants.{Create, Retag, Move, Reverse, Nodes, Members, Delete, Purge, Split, Join, Merge, Unglue}
-use Rattle.edit_actions.specs.After.{after}
+use Rattle.room_interface.specs.declared.action.Action.{Action}
+use Rattle.room_interface.specs.declared.action.Action.TheVariants.{Create, Retag, Move, Reverse, Nodes, Members, Delete, Purge, Split, Join, Merge, Unglue}
 
 module _ {A : Type 0} where
   -- the row at y after an action; m is the map that the action reads

@@ -1,14 +1,10 @@
 -- The cells of a list.
-use Rattle.std.proofs.Common.{◌≡◌, ◌||◌, Bool, true, false, T, List, [], ◌∷◌, map, refl, ap, ◌∙◌}
-use Rattle.std.specs.Ordering.{is_eq}
-use Rattle.std.specs.FinMap.Entries.{below_all}
+use Rattle.std.proofs.Common.{ap, ◌∙◌}
+use Rattle.std.specs.Prelude.{◌≡◌, ◌||◌, Bool, true, false, T, List, [], ◌∷◌, map, refl}
+use Rattle.osm_changes.specs.Prelude.{is_eq, below_all, is_among, rest_at, cell_cmp, is_same_cell, IsRising, has, is_same_cell-itself, rest_rest, bare_rows, less}
+use Rattle.rising_lists.specs.Facts.Sorted.{first, second}
 use Rattle.osm_elements.specs.declared.name.Name.{Name}
-use Rattle.osm_elements.specs.Maps.{is_among}
 use Rattle.osm_changes.specs.declared.cell.Cell.{Cell}
-use Rattle.osm_changes.specs.Cells.{rest_at, cell_cmp, is_same_cell, IsRising, has}
-use Rattle.osm_changes.specs.Facts.Cells.{is_same_cell-itself, rest_rest}
-use Rattle.rising_lists.specs.Rising.{bare_rows}
-use Rattle.rising_lists.specs.Facts.Sorted.{first, second, less}
 
 -- a list has its first cell, and keeps its cells when it gets longer
 pub has-own : (c : Cell) (cs : List Cell) → has (c ∷ cs) c ≡ true

@@ -1,19 +1,11 @@
 -- Two actions, accepted in sequence, commute if their footprints share no cell.
-use Rattle.std.proofs.Common.{◌≡◌, Bool, true, false, None, refl, sym, ap, ◌∙◌}
+use Rattle.std.proofs.Common.{sym, ap, ◌∙◌}
+use Rattle.std.specs.Prelude.{◌≡◌, Bool, true, false, None, refl}
 use Rattle.std.proofs.lemmas.Bool.{false_from_ne_true}
-use Rattle.osm_elements.specs.Maps.{Rows}
-use Rattle.osm_elements.specs.Rows.{row_at}
-use Rattle.osm_elements.specs.Facts.Rows.{same_rows}
+use Rattle.edit_actions.specs.Prelude.{Rows, row_at, same_rows, tags_at, rest_at, half_at, is_sound, same_whole, sound_in_order, after, is_made_action, refusal, accepted_keeps_sound}
+use Rattle.osm_changes.specs.Cells.{has}
 use Rattle.osm_changes.specs.declared.cell.Cell.{Cell}
-use Rattle.osm_changes.specs.Cells.{tags_at, rest_at, has, half_at}
-use Rattle.osm_changes.specs.Sound.{is_sound}
-use Rattle.osm_changes.specs.Facts.Halves.{same_whole}
-use Rattle.osm_changes.specs.Facts.SoundRows.{sound_in_order}
-use Rattle.edit_actions.specs.declared.action.Action.{Action}
-use Rattle.edit_actions.specs.After.{after}
-use Rattle.edit_actions.specs.MadeActions.{is_made_action}
-use Rattle.edit_actions.specs.Refusals.{refusal}
-use Rattle.edit_actions.specs.Facts.Accepted.{accepted_keeps_sound}
+use Rattle.room_interface.specs.declared.action.Action.{Action}
 use Rattle.edit_footprint.specs.Agreement.{Agree}
 use Rattle.edit_footprint.specs.Commutation.{ChangePlaces}
 use Rattle.edit_footprint.specs.Footprints.{footprint, meets}

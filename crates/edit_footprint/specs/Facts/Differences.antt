@@ -1,13 +1,8 @@
 -- Maps with the same differences.
-use Rattle.std.proofs.Common.{◌≡◌, Bool, true, false, not, List, [], ◌∷◌, map, refl, sym, ap, ◌∙◌}
-use Rattle.osm_elements.specs.Maps.{Rows}
+use Rattle.std.proofs.Common.{sym, ap, ◌∙◌}
+use Rattle.std.specs.Prelude.{◌≡◌, Bool, true, false, not, List, [], ◌∷◌, map, refl}
+use Rattle.osm_changes.specs.Prelude.{Rows, has, IsRising, half_at, differing, change_at, differences, half_after, are_same_halves, same_rising, has-differing, IsRising-differing, half_after-differences, same_itself}
 use Rattle.osm_changes.specs.declared.cell.Cell.{Cell}
-use Rattle.osm_changes.specs.Cells.{has, IsRising, half_at}
-use Rattle.osm_changes.specs.Changes.{differing, change_at, differences, half_after}
-use Rattle.osm_changes.specs.Halves.{are_same_halves}
-use Rattle.osm_changes.specs.Facts.Cells.{same_rising}
-use Rattle.osm_changes.specs.Facts.Changing.{has-differing, IsRising-differing, half_after-differences}
-use Rattle.osm_changes.specs.Facts.Halves.{same_itself}
 use Rattle.edit_footprint.specs.Facts.CellSets.{has-own, has-more}
 
 -- functions that agree at the cells of a list give the same list

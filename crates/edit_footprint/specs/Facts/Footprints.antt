@@ -1,24 +1,14 @@
 -- Facts about the footprint of any action. It rises. It has the subjects, and both cells of the node that an unglue
 -- takes from its way. A cell outside keeps its half. The same rows refer to a name whose rest is outside.
-use Rattle.std.proofs.Common.{◌≡◌, ◌&&◌, ◌||◌, Bool, true, false, not, List, [], ◌∷◌, ◌++◌, map, refl, sym, ap, ◌∙◌}
+use Rattle.std.proofs.Common.{sym, ap, ◌∙◌}
+use Rattle.std.specs.Prelude.{◌≡◌, ◌&&◌, ◌||◌, Bool, true, false, not, List, [], ◌∷◌, ◌++◌, map, refl, flat_map, option_to_list}
 use Rattle.std.proofs.lemmas.Bool.{or_parts, true_from_ne_false}
-use Rattle.std.specs.List.{flat_map}
-use Rattle.std.specs.Option.{option_to_list}
+use Rattle.edit_actions.specs.Prelude.{Rows, is_among, row_at, is_among-append, row_references, is_among-passing, rest_at, both_at, is_same_cell, half_at, differing, change_at, changed_cells, not_differing, cells-differences, same_cells, has-append, has-cell_set, IsRising-cell_set, after, changes, names_but}
+use Rattle.osm_changes.specs.Cells.{IsRising, has}
 use Rattle.osm_elements.specs.declared.name.Name.{Name}
-use Rattle.osm_elements.specs.Maps.{Rows, is_among}
-use Rattle.osm_elements.specs.Rows.{row_at}
-use Rattle.osm_elements.specs.Facts.Among.{is_among-append}
-use Rattle.osm_refs.specs.References.{row_references}
-use Rattle.osm_refs.specs.Facts.RisingNames.{is_among-passing}
 use Rattle.osm_changes.specs.declared.cell.Cell.{Cell}
 use Rattle.osm_changes.specs.declared.change.Change.{Change}
-use Rattle.osm_changes.specs.Cells.{rest_at, both_at, is_same_cell, half_at, IsRising, has}
-use Rattle.osm_changes.specs.Changes.{differing, change_at, changed_cells}
-use Rattle.osm_changes.specs.Facts.Changing.{not_differing, cells-differences}
-use Rattle.osm_changes.specs.Facts.Cells.{same_cells, has-append, has-cell_set, IsRising-cell_set}
-use Rattle.edit_actions.specs.declared.action.Action.{Action}
-use Rattle.edit_actions.specs.After.{after, changes}
-use Rattle.osm_refs.specs.Rising.{names_but}
+use Rattle.room_interface.specs.declared.action.Action.{Action}
 use Rattle.edit_footprint.specs.Footprints.{half_references, subjects, begun_or_ceased, unglued_from, footprint_of, footprint}
 use Rattle.edit_footprint.specs.Facts.Halves.{references_by_half}
 use Rattle.edit_footprint.specs.Facts.CellSets.{has-rests}

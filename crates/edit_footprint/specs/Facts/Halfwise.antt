@@ -1,34 +1,18 @@
 -- Rewrites in which each new half depends only on its old half, and rewrites that keep the tags.
-use Rattle.std.proofs.Common.{◌≡◌, ◌+◌, ℤ, ℕ, Bool, true, false, not, List, Option, Some, None, reverse, set, take, refl, sym, ap, ◌∙◌, cond}
-use Rattle.std.specs.Prelude.{◌+ℤ◌}
-use Rattle.std.specs.List.{filter}
-use Rattle.std.specs.Option.{option_map}
+use Rattle.std.proofs.Common.{sym, ap, ◌∙◌}
+use Rattle.std.specs.Prelude.{◌≡◌, ◌+◌, ℤ, ℕ, Bool, true, false, not, List, Option, Some, None, reverse, set, take, refl, cond, ◌+ℤ◌, filter, option_map}
+use Rattle.edit_topology.specs.Prelude.{tags_of, Rows, is_same, row_at, Pairs, half_in, half, rest_of, nodes_of, row_tags, with_tags, with_nodes, with_members, at_name, is_moved, moved_by, moves, goes, without, what_is_left, retagged, both_tags, end_to_end, joined_members, lengthened, join_row, merged_nodes, united, merge_row, renamed_members, split_members, split_row, split_off, row_standing}
 use Rattle.osm_elements.specs.declared.name.Name.{Name}
 use Rattle.osm_elements.specs.declared.element.Element.{Element}
 use Rattle.osm_elements.specs.declared.element.Element.TheVariants.{Node, Way, Relation}
-use Rattle.osm_elements.specs.Elements.{tags_of}
-use Rattle.osm_elements.specs.Maps.{Rows, is_same}
-use Rattle.osm_elements.specs.Rows.{row_at}
-use Rattle.osm_elements.specs.TagRows.{Pairs}
 use Rattle.osm_changes.specs.declared.half.Half.{Half}
-use Rattle.osm_changes.specs.declared.half.Half.TheVariants as halves
 use Rattle.osm_changes.specs.declared.part.Part.{Part}
 use Rattle.osm_changes.specs.declared.part.Part.TheVariants.{Tags, Rest}
-use Rattle.osm_changes.specs.Halves.{half_in, half, rest_of}
-use Rattle.edit_simple.specs.Contents.{nodes_of, row_tags, with_tags, with_nodes, with_members, at_name}
-use Rattle.edit_simple.specs.Move.{is_moved, moved_by, moves}
-use Rattle.edit_simple.specs.Purge.{goes, without, what_is_left}
-use Rattle.edit_simple.specs.Tagging.{retagged}
-use Rattle.edit_topology.specs.BothTags.{both_tags}
-use Rattle.edit_topology.specs.Join.{end_to_end, joined_members, lengthened, join_row}
-use Rattle.edit_topology.specs.Merge.{merged_nodes, united, merge_row}
-use Rattle.edit_topology.specs.Renaming.{renamed_members}
-use Rattle.edit_topology.specs.Split.{split_members, split_row, split_off}
-use Rattle.edit_topology.specs.Unglue.{row_standing}
-use Rattle.edit_actions.specs.declared.action.Action.{Action}
-use Rattle.edit_actions.specs.declared.action.Action.TheVariants as actions
+use Rattle.room_interface.specs.declared.action.Action.{Action}
 use Rattle.edit_footprint.specs.Facts.Becoming.{becomes}
 use Rattle.edit_footprint.specs.Facts.Halves.{tags_in}
+use Rattle.osm_changes.specs.declared.half.Half.TheVariants as halves
+use Rattle.room_interface.specs.declared.action.Action.TheVariants as actions
 
 some_inside : {X : Type 0} (x y : X) → Some x ≡ Some y → x ≡ y
 some_inside x y e = cc

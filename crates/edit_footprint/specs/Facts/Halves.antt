@@ -1,16 +1,14 @@
 -- What the halves of a row determine: its references, nodes, members and tags.
-use Rattle.std.proofs.Common.{◌≡◌, ℕ, List, [], Option, Some, None, refl, sym, ap, ◌∙◌}
+use Rattle.std.proofs.Common.{sym, ap, ◌∙◌}
+use Rattle.std.specs.Prelude.{◌≡◌, ℕ, List, [], Option, Some, None, refl}
+use Rattle.edit_actions.specs.Prelude.{Pairs, row_references, half, nodes_of, members_of, row_tags}
 use Rattle.osm_elements.specs.declared.name.Name.{Name}
 use Rattle.osm_elements.specs.declared.element.Element.{Element}
 use Rattle.osm_elements.specs.declared.element.Element.TheVariants.{Node, Way, Relation}
-use Rattle.osm_elements.specs.TagRows.{Pairs}
-use Rattle.osm_refs.specs.References.{row_references}
 use Rattle.osm_changes.specs.declared.half.Half.{Half}
 use Rattle.osm_changes.specs.declared.half.Half.TheVariants.{Tags, Members}
-use Rattle.osm_changes.specs.declared.part.Part.TheVariants as parts
-use Rattle.osm_changes.specs.Halves.{half}
-use Rattle.edit_simple.specs.Contents.{nodes_of, members_of, row_tags}
 use Rattle.edit_footprint.specs.Footprints.{half_references, half_nodes}
+use Rattle.osm_changes.specs.declared.part.Part.TheVariants as parts
 
 module _ {A : Type 0} where
   -- the references of a row are those of its rest

@@ -1,20 +1,15 @@
 -- The holders after an entry becomes active or ceases to be, and the uniqueness of the first entry after a number.
-use Rattle.std.proofs.Common.{◌≡◌, ◌||◌, ℕ, Bool, true, false, not, cond, T, List, [], ◌∷◌, ◌++◌, Option, Some, None, refl, sym, ap, subst, ◌∙◌, arith}
-use Rattle.std.specs.Ordering.{is_lt, nat_cmp}
-use Rattle.std.specs.FinMap.Entries.{put, is_sorted}
+use Rattle.std.proofs.Common.{sym, ap, subst, ◌∙◌, arith}
+use Rattle.std.specs.Prelude.{◌≡◌, ◌||◌, ℕ, Bool, true, false, not, cond, T, List, [], ◌∷◌, ◌++◌, Option, Some, None, refl}
+use Rattle.osm_changes.specs.Prelude.{is_lt, nat_cmp, put, is_sorted, name_cmp, second, cell_cmp, is_same_cell, has, IsRising, cell_cmp_total, cell_cmp-IsAntisymmetric, same_cells, has_none, but}
+use Rattle.rising_lists.specs.Rising.{is_among}
 use Rattle.osm_elements.specs.declared.name.Name.{Name}
-use Rattle.osm_elements.specs.NameOrder.{name_cmp}
-use Rattle.osm_elements.specs.Facts.Entries.{second}
 use Rattle.osm_changes.specs.declared.cell.Cell.{Cell}
-use Rattle.osm_changes.specs.Cells.{cell_cmp, is_same_cell, has, IsRising}
-use Rattle.osm_changes.specs.Facts.Cells.{cell_cmp_total, cell_cmp-IsAntisymmetric, same_cells}
-use Rattle.rising_lists.specs.Lists.{has_none}
-use Rattle.rising_lists.specs.Rising.{is_among, but}
-use Rattle.rising_lists.specs.Facts.Tables as tables
 use Rattle.edit_footprint.specs.Facts.Meeting.{neither_less}
 use Rattle.edit_footprint.specs.Facts.CellSets.{first_not_among_rest}
 use Rattle.edit_footprint.specs.Facts.Numbers.{but-last, but-none, not_among}
 use Rattle.edit_footprint.specs.Holding.{Held, AreHeld, holding, IsNext, HoldsOnly, standing, fallen, Meets, IsFirstAfter}
+use Rattle.rising_lists.specs.Facts.Tables as tables
 
 -- holders of which each cell has the same numbers are equal
 pub same_holders : (one two : Held) → AreHeld one → AreHeld two → ((c : Cell) → holding one c ≡ holding two c) → one ≡ two

@@ -1,17 +1,11 @@
 -- An action changes nothing outside its footprint.
-use Rattle.std.proofs.Common.{◌≡◌, true, Option, Some, None, refl, sym, ◌∙◌}
+use Rattle.std.proofs.Common.{sym, ◌∙◌}
+use Rattle.std.specs.Prelude.{◌≡◌, true, Option, Some, None, refl}
+use Rattle.edit_actions.specs.Prelude.{Rows, is_among, AreInOrder, row_at, row_references, refers_to, users, is_sound, sound_in_order, passes_at, rising_names, among_rows, after, AreInOrder-after}
 use Rattle.osm_elements.specs.declared.name.Name.{Name}
 use Rattle.osm_elements.specs.declared.element.Element.{Element}
-use Rattle.osm_elements.specs.Maps.{Rows, is_among}
-use Rattle.osm_elements.specs.Rows.{AreInOrder, row_at}
-use Rattle.osm_refs.specs.References.{row_references, refers_to, users}
 use Rattle.osm_refs.specs.Facts.RisingNames.{same_rising}
-use Rattle.osm_changes.specs.Sound.{is_sound}
-use Rattle.osm_changes.specs.Facts.SoundRows.{sound_in_order}
-use Rattle.osm_changes.specs.Facts.PassingRows.{passes_at, rising_names, among_rows}
-use Rattle.edit_actions.specs.declared.action.Action.{Action}
-use Rattle.edit_actions.specs.After.{after}
-use Rattle.edit_actions.specs.Facts.Accepted.{AreInOrder-after}
+use Rattle.room_interface.specs.declared.action.Action.{Action}
 use Rattle.edit_footprint.specs.Locality.{LeavesTheRest}
 use Rattle.edit_footprint.specs.Facts.Footprints.{halves_outside, namers_outside}
 

@@ -1,10 +1,8 @@
 -- Every action looks only at its footprint.
-use Rattle.std.proofs.Common.{◌≡◌, true, None}
-use Rattle.osm_elements.specs.Maps.{Rows}
-use Rattle.osm_changes.specs.Sound.{is_sound}
-use Rattle.edit_actions.specs.declared.action.Action.{Action}
-use Rattle.edit_actions.specs.declared.action.Action.TheVariants.{Create, Retag, Move, Reverse, Nodes, Members, Delete, Purge, Split, Join, Merge, Unglue}
-use Rattle.edit_actions.specs.Refusals.{refusal}
+use Rattle.std.specs.Prelude.{◌≡◌, true, None}
+use Rattle.edit_actions.specs.Prelude.{Rows, is_sound, refusal}
+use Rattle.room_interface.specs.declared.action.Action.{Action}
+use Rattle.room_interface.specs.declared.action.Action.TheVariants.{Create, Retag, Move, Reverse, Nodes, Members, Delete, Purge, Split, Join, Merge, Unglue}
 use Rattle.edit_footprint.specs.Agreement.{Agree}
 use Rattle.edit_footprint.specs.Footprints.{footprint}
 use Rattle.edit_footprint.specs.Locality.{AcceptedAlike}

@@ -1,20 +1,9 @@
 -- The meaning of a meeting of two footprints.
-use Rattle.std.proofs.Common.{◌≡◌, ◌||◌, Bool, true, false, T, List, [], ◌∷◌, Option, Some, None, refl, sym, ap, ◌∙◌, cond}
-use Rattle.std.specs.List.{find}
-use Rattle.std.specs.Option.{option_map}
-use Rattle.std.specs.Ordering.{is_lt, ordering_then, ordering_reverse, nat_cmp}
-use Rattle.std.specs.Cmp.{tied_itself}
-use Rattle.std.specs.FinMap.Entries.{below_all}
-use Rattle.std.specs.declared.cmp.Ordering.{Ordering}
-use Rattle.std.specs.declared.cmp.Ordering.TheVariants.{Less, Equal, Greater}
+use Rattle.std.proofs.Common.{sym, ap, ◌∙◌}
+use Rattle.std.specs.Prelude.{◌≡◌, ◌||◌, Bool, true, false, T, List, [], ◌∷◌, Option, Some, None, refl, cond, find, option_map}
+use Rattle.osm_changes.specs.Prelude.{is_lt, ordering_then, ordering_reverse, nat_cmp, tied_itself, below_all, Ordering, Less, Equal, Greater, name_cmp, first, second, name_cmp_total, name_cmp-IsAntisymmetric, part_rank, cell_cmp, is_same_cell, has, IsRising, same_cells, bare_rows}
 use Rattle.osm_elements.specs.declared.name.Name.{Name}
-use Rattle.osm_elements.specs.NameOrder.{name_cmp}
-use Rattle.osm_elements.specs.Facts.Entries.{first, second}
-use Rattle.osm_elements.specs.Facts.Names.{name_cmp_total, name_cmp-IsAntisymmetric}
 use Rattle.osm_changes.specs.declared.cell.Cell.{Cell}
-use Rattle.osm_changes.specs.Cells.{part_rank, cell_cmp, is_same_cell, has, IsRising}
-use Rattle.osm_changes.specs.Facts.Cells.{same_cells}
-use Rattle.rising_lists.specs.Rising.{bare_rows}
 use Rattle.edit_footprint.specs.Footprints.{meets, Shares}
 use Rattle.edit_footprint.specs.Facts.CellSets.{has-own, has-more}
 

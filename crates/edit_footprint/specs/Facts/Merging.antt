@@ -1,30 +1,15 @@
 -- A merge looks only at its footprint.
-use Rattle.std.proofs.Common.{◌≡◌, ◌&&◌, Bool, true, false, List, [], Option, Some, None, length, nat_lt, refl, sym, ap, ◌∙◌, cond}
+use Rattle.std.proofs.Common.{sym, ap, ◌∙◌}
+use Rattle.std.specs.Prelude.{◌≡◌, ◌&&◌, Bool, true, false, List, [], Option, Some, None, length, nat_lt, refl, cond, option_map}
 use Rattle.std.proofs.lemmas.Bool.{and_left}
-use Rattle.std.specs.Option.{option_map}
+use Rattle.edit_actions.specs.Prelude.{Rows, is_same, is_among, row_at, same_either_way, row_references, rest_at, half, sound_in_order, nodes_of, row_tags, with_nodes, with_tags, with_members, at_name, nones, no_least, both_tags, merged_nodes, shrunk, united, merge_row, after_merge, renamed_members, merge_changes, row_at-each_but, merges, merge_leaves, checks}
+use Rattle.osm_changes.specs.Cells.{has}
 use Rattle.osm_elements.specs.declared.name.Name.{Name}
 use Rattle.osm_elements.specs.declared.element.Element.{Element}
-use Rattle.osm_elements.specs.Maps.{Rows, is_same, is_among}
-use Rattle.osm_elements.specs.Rows.{row_at}
-use Rattle.osm_elements.specs.Facts.Dropped.{same_either_way}
-use Rattle.osm_refs.specs.References.{row_references}
 use Rattle.osm_changes.specs.declared.part.Part.TheVariants.{Tags, Rest}
-use Rattle.osm_changes.specs.Cells.{rest_at, has}
-use Rattle.osm_changes.specs.Halves.{half}
-use Rattle.osm_changes.specs.Facts.SoundRows.{sound_in_order}
-use Rattle.edit_simple.specs.declared.refusal.Refusal.TheVariants.{TooFew}
-use Rattle.edit_simple.specs.Contents.{nodes_of, row_tags, with_nodes, with_tags, with_members, at_name}
-use Rattle.edit_simple.specs.Facts.Checked.{nones, no_least}
-use Rattle.edit_topology.specs.BothTags.{both_tags}
-use Rattle.edit_topology.specs.Merge.{merged_nodes, shrunk, united, merge_row, after_merge}
-use Rattle.edit_topology.specs.Renaming.{renamed_members}
-use Rattle.edit_topology.specs.Facts.Changing.{merge_changes}
-use Rattle.edit_topology.specs.Facts.EachBut.{row_at-each_but}
-use Rattle.edit_topology.specs.Facts.Merging.{merges}
-use Rattle.edit_topology.specs.Facts.Staying.{merge_leaves}
-use Rattle.edit_actions.specs.declared.action.Action.{Action}
-use Rattle.edit_actions.specs.declared.action.Action.TheVariants.{Merge}
-use Rattle.edit_actions.specs.Refusals.{checks}
+use Rattle.room_interface.specs.declared.refusal.Refusal.TheVariants.{TooFew}
+use Rattle.room_interface.specs.declared.action.Action.{Action}
+use Rattle.room_interface.specs.declared.action.Action.TheVariants.{Merge}
 use Rattle.edit_footprint.specs.Footprints.{footprint}
 use Rattle.edit_footprint.specs.Facts.AcceptedAlike.{IsLocal, accepted_alike}
 use Rattle.edit_footprint.specs.Facts.Agreeing.{same_row_of_subject, not_named}

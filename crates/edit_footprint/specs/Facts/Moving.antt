@@ -1,40 +1,18 @@
 -- A move looks only at its footprint.
-use Rattle.std.proofs.Common.{◌≡◌, ◌&&◌, ◌||◌, ℤ, pos, Bool, true, false, not, List, [], ◌∷◌, Option, Some, None, length, nat_eq, refl, sym, ap, ◌∙◌, cond}
+use Rattle.std.proofs.Common.{sym, ap, ◌∙◌}
+use Rattle.std.specs.Prelude.{◌≡◌, ◌&&◌, ◌||◌, ℤ, pos, Bool, true, false, not, List, [], ◌∷◌, Option, Some, None, length, nat_eq, refl, cond, filter, option_map}
 use Rattle.std.proofs.lemmas.Bool.{or_from, false_from_ne_true, and_left, and_right}
-use Rattle.std.specs.List.{filter, list_any}
-use Rattle.std.specs.Option.{option_map}
-use Rattle.std.specs.Ordering.{int_eq}
+use Rattle.edit_actions.specs.Prelude.{list_any, int_eq, is_node, Rows, is_same, is_among, is_present, is_absent, row_at, Pairs, first_true, row_references, rest_at, half, rest_of, is_sound, same_whole, same_presence, sound_in_order, is_moved, moved_by, is_out_of_range, left_range, moves, nodes_of, nones, not_so, no_least, node_there, or_right, second_false, is_among_own, elsewhere, all_present, none_named, after, checks, refusal}
+use Rattle.osm_changes.specs.Cells.{has}
 use Rattle.osm_elements.specs.declared.name.Name.{Name}
 use Rattle.osm_elements.specs.declared.element.Element.{Element}
-use Rattle.osm_elements.specs.declared.element.Element.TheVariants as elements
-use Rattle.osm_elements.specs.Made.{is_node}
-use Rattle.osm_elements.specs.Maps.{Rows, is_same, is_among, is_present, is_absent}
-use Rattle.osm_elements.specs.Rows.{row_at}
-use Rattle.osm_elements.specs.TagRows.{Pairs}
-use Rattle.osm_elements.specs.Facts.Tests.{first_true}
-use Rattle.osm_refs.specs.References.{row_references}
 use Rattle.osm_changes.specs.declared.half.Half.{Half}
 use Rattle.osm_changes.specs.declared.half.Half.TheVariants.{Place}
 use Rattle.osm_changes.specs.declared.part.Part.TheVariants.{Tags, Rest}
-use Rattle.osm_changes.specs.Cells.{rest_at, has}
-use Rattle.osm_changes.specs.Halves.{half, rest_of}
-use Rattle.osm_changes.specs.Sound.{is_sound}
-use Rattle.osm_changes.specs.Facts.Halves.{same_whole, same_presence}
-use Rattle.osm_changes.specs.Facts.SoundRows.{sound_in_order}
-use Rattle.edit_simple.specs.declared.refusal.Refusal.{Refusal}
-use Rattle.edit_simple.specs.declared.refusal.Refusal.TheVariants.{Absent, OutOfRange, Nothing}
-use Rattle.edit_simple.specs.Move.{is_moved, moved_by, is_out_of_range, left_range, moves}
-use Rattle.edit_simple.specs.Contents.{nodes_of}
-use Rattle.edit_simple.specs.Facts.Checked.{nones, not_so, no_least}
-use Rattle.edit_simple.specs.Facts.Kinds.{node_there}
-use Rattle.edit_simple.specs.Facts.Lists.{or_right, second_false, is_among_own}
-use Rattle.edit_simple.specs.Facts.Moving.{elsewhere}
-use Rattle.edit_simple.specs.Facts.Relisting.{all_present}
-use Rattle.edit_topology.specs.Facts.Fitting.{none_named}
-use Rattle.edit_actions.specs.declared.action.Action.{Action}
-use Rattle.edit_actions.specs.declared.action.Action.TheVariants.{Move}
-use Rattle.edit_actions.specs.After.{after}
-use Rattle.edit_actions.specs.Refusals.{checks, refusal}
+use Rattle.room_interface.specs.declared.refusal.Refusal.{Refusal}
+use Rattle.room_interface.specs.declared.refusal.Refusal.TheVariants.{Absent, OutOfRange, Nothing}
+use Rattle.room_interface.specs.declared.action.Action.{Action}
+use Rattle.room_interface.specs.declared.action.Action.TheVariants.{Move}
 use Rattle.edit_footprint.specs.Footprints.{footprint}
 use Rattle.edit_footprint.specs.Facts.AcceptedAlike.{IsLocal, accepted_alike}
 use Rattle.edit_footprint.specs.Facts.Agreeing.{same_subject}
@@ -45,6 +23,7 @@ use Rattle.edit_footprint.specs.Facts.Halfwise.{keeps_moved, keeps_if, tags_kept
 use Rattle.edit_footprint.specs.Facts.Halves.{same_nodes_of}
 use Rattle.edit_footprint.specs.Facts.Naming.{named_there, none_of_nodes}
 use Rattle.edit_footprint.specs.Facts.NonePassing.{none_of_list, none_of_map}
+use Rattle.osm_elements.specs.declared.element.Element.TheVariants as elements
 
 -- tests that agree on each name of a list
 any_alike : (p q : Name → Bool) (list : List Name) → ((e : Name) → is_among list e ≡ true → p e ≡ q e) → list_any p list ≡ list_any q list

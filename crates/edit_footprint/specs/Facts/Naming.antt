@@ -1,14 +1,9 @@
 -- The names that rows refer to.
-use Rattle.std.proofs.Common.{◌≡◌, true, false, Option, Some, None, refl}
+use Rattle.std.specs.Prelude.{◌≡◌, true, false, Option, Some, None, refl}
+use Rattle.edit_actions.specs.Prelude.{Rows, is_among, is_present, row_at, row_references, is_sound, nodes_of, fine}
 use Rattle.osm_elements.specs.declared.name.Name.{Name}
 use Rattle.osm_elements.specs.declared.element.Element.{Element}
 use Rattle.osm_elements.specs.declared.element.Element.TheVariants.{Node, Way, Relation}
-use Rattle.osm_elements.specs.Maps.{Rows, is_among, is_present}
-use Rattle.osm_elements.specs.Rows.{row_at}
-use Rattle.osm_refs.specs.References.{row_references}
-use Rattle.osm_changes.specs.Sound.{is_sound}
-use Rattle.edit_simple.specs.Contents.{nodes_of}
-use Rattle.edit_simple.specs.Facts.Rewriting.{fine}
 
 module _ {A : Type 0} where
   -- a sound map has each name that a row refers to

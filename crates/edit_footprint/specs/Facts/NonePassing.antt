@@ -1,12 +1,9 @@
 -- Lists and maps in which nothing passes a test.
-use Rattle.std.proofs.Common.{◌≡◌, Bool, true, false, List, [], ◌∷◌, Option, Some, None, refl, sym, ap, ◌∙◌, cond}
-use Rattle.std.specs.List.{filter}
+use Rattle.std.proofs.Common.{sym, ap, ◌∙◌}
+use Rattle.std.specs.Prelude.{◌≡◌, Bool, true, false, List, [], ◌∷◌, Option, Some, None, refl, cond, filter}
+use Rattle.edit_actions.specs.Prelude.{Rows, is_same, is_among, names_of, AreInOrder, row_at, or_right, is_among_own, passes_at, among_rows}
 use Rattle.osm_elements.specs.declared.name.Name.{Name}
 use Rattle.osm_elements.specs.declared.element.Element.{Element}
-use Rattle.osm_elements.specs.Maps.{Rows, is_same, is_among, names_of}
-use Rattle.osm_elements.specs.Rows.{AreInOrder, row_at}
-use Rattle.edit_simple.specs.Facts.Lists.{or_right, is_among_own}
-use Rattle.osm_changes.specs.Facts.PassingRows.{passes_at, among_rows}
 
 pub none_of_list : (p : Name → Bool) (names : List Name) → ((e : Name) → is_among names e ≡ true → p e ≡ false) → filter p names ≡ []
 none_of_list p [] h = refl

@@ -1,13 +1,10 @@
 -- Rising numbers: one appended, one removed, and the first above a number.
-use Rattle.std.proofs.Common.{◌≡◌, ◌||◌, ◌<◌, ◌≤◌, ℕ, Bool, true, false, not, cond, T, List, [], ◌∷◌, ◌++◌, Some, None, nat_eq, nat_lt, refl, sym, ap, subst, ◌∙◌, arith}
+use Rattle.std.proofs.Common.{sym, ap, subst, ◌∙◌, arith}
+use Rattle.std.specs.Prelude.{◌≡◌, ◌||◌, ◌<◌, ◌≤◌, ℕ, Bool, true, false, not, cond, T, List, [], ◌∷◌, ◌++◌, Some, None, nat_eq, nat_lt, refl, find}
 use Rattle.std.proofs.lemmas.Bool.Decides.{nat_tests}
-use Rattle.std.specs.List.{find}
-use Rattle.std.specs.Cmp.{nat_cmp_is, Equal-is}
-use Rattle.std.specs.Ordering.{is_lt, is_eq, nat_cmp}
-use Rattle.std.specs.FinMap.{nat_cmp-IsAntisymmetric}
-use Rattle.std.specs.FinMap.Entries.{below_all}
-use Rattle.std.specs.declared.cmp.Ordering.TheVariants.{Less, Equal, Greater}
-use Rattle.rising_lists.specs.Rising.{IsRising, bare_rows, is_among, but}
+use Rattle.edit_actions.specs.Prelude.{nat_cmp_is, Equal-is, is_lt, is_eq, nat_cmp, nat_cmp-IsAntisymmetric, below_all, Less, Equal, Greater, bare_rows}
+use Rattle.rising_lists.specs.Rising.{IsRising, but}
+use Rattle.rising_lists.specs.Rising.{is_among}
 use Rattle.rising_lists.specs.Facts.Sorted.{both, first, second}
 
 pub less : (a b : ℕ) → a < b → nat_cmp a b ≡ Less

@@ -1,34 +1,16 @@
 -- Actions that change one row look only at their footprints: retag, reverse, create, delete, `nodes` and `members`.
-use Rattle.std.proofs.Common.{◌≡◌, ◌&&◌, ℕ, Bool, true, false, not, List, [], Option, Some, None, map, reverse, refl, ap, ◌∙◌, cond}
-use Rattle.std.specs.List.{filter}
-use Rattle.std.specs.Option.{option_map}
+use Rattle.std.proofs.Common.{ap, ◌∙◌}
+use Rattle.std.specs.Prelude.{◌≡◌, ◌&&◌, ℕ, Bool, true, false, not, List, [], Option, Some, None, map, reverse, refl, cond, filter, option_map}
+use Rattle.edit_actions.specs.Prelude.{Rows, is_same, is_among, is_present, is_absent, row_at, Pairs, same_either_way, is_eq-name_cmp_itself, references, row_references, tags_at, rest_at, half, same_presence, is_missing, is_way, is_relation, with_tags, with_nodes, with_members, at_name, GivenTags, nones, not_so, from_false, no_least, way_there, relation_there, none_left, all_present, after, checks}
+use Rattle.osm_changes.specs.Cells.{has}
 use Rattle.osm_elements.specs.declared.name.Name.{Name}
 use Rattle.osm_elements.specs.declared.element.Element.{Element}
-use Rattle.osm_elements.specs.declared.element.Element.TheVariants as elements
-use Rattle.osm_elements.specs.Maps.{Rows, is_same, is_among, is_present, is_absent}
-use Rattle.osm_elements.specs.Rows.{row_at}
-use Rattle.osm_elements.specs.TagRows.{Pairs}
-use Rattle.osm_elements.specs.Facts.Dropped.{same_either_way}
-use Rattle.osm_elements.specs.Facts.Rows.{is_eq-name_cmp_itself}
-use Rattle.osm_refs.specs.References.{references, row_references}
 use Rattle.osm_changes.specs.declared.part.Part.TheVariants.{Tags, Rest}
-use Rattle.osm_changes.specs.Cells.{tags_at, rest_at, has}
-use Rattle.osm_changes.specs.Halves.{half}
-use Rattle.osm_changes.specs.Facts.Halves.{same_presence}
-use Rattle.edit_simple.specs.declared.refusal.Refusal.{Refusal}
-use Rattle.edit_simple.specs.declared.refusal.Refusal.TheVariants.{Absent, WrongKind}
-use Rattle.edit_simple.specs.Create.{is_missing}
-use Rattle.edit_simple.specs.Kinds.{is_way, is_relation}
-use Rattle.edit_simple.specs.Contents.{with_tags, with_nodes, with_members, at_name}
-use Rattle.edit_simple.specs.Tagging.{GivenTags, retagged}
-use Rattle.edit_simple.specs.Facts.Checked.{nones, not_so, from_false, no_least}
-use Rattle.edit_simple.specs.Facts.Kinds.{way_there, relation_there}
-use Rattle.edit_simple.specs.Facts.Lists.{none_left}
-use Rattle.edit_simple.specs.Facts.Relisting.{all_present}
-use Rattle.edit_actions.specs.declared.action.Action.{Action}
-use Rattle.edit_actions.specs.declared.action.Action.TheVariants.{Create, Retag, Reverse, Nodes, Members, Delete}
-use Rattle.edit_actions.specs.After.{after}
-use Rattle.edit_actions.specs.Refusals.{checks}
+use Rattle.room_interface.specs.declared.refusal.Refusal.{Refusal}
+use Rattle.room_interface.specs.declared.refusal.Refusal.TheVariants.{Absent, WrongKind}
+use Rattle.edit_simple.specs.Tagging.{retagged}
+use Rattle.room_interface.specs.declared.action.Action.{Action}
+use Rattle.room_interface.specs.declared.action.Action.TheVariants.{Create, Retag, Reverse, Nodes, Members, Delete}
 use Rattle.edit_footprint.specs.Footprints.{subjects}
 use Rattle.edit_footprint.specs.Facts.AcceptedAlike.{IsLocal, Keeps, accepted_alike}
 use Rattle.edit_footprint.specs.Facts.Agreeing.{same_subject, same_row_of_subject, same_users_of_subject, still_there}
@@ -37,6 +19,7 @@ use Rattle.edit_footprint.specs.Facts.Halfwise.{KeepsTags, keeps_nodes, keeps_me
 use Rattle.edit_footprint.specs.Facts.Halves.{same_nodes_of, same_members_of, same_row_tags}
 use Rattle.edit_footprint.specs.Facts.NonePassing.{none_of_list}
 use Rattle.edit_footprint.specs.Facts.Subjects.{alone, either, another}
+use Rattle.osm_elements.specs.declared.element.Element.TheVariants as elements
 
 module _ {A : Type 0} where
   -- a row other than the rewritten one is unchanged

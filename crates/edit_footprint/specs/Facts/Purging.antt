@@ -1,27 +1,16 @@
 -- A purge looks only at its footprint.
-use Rattle.std.proofs.Common.{◌≡◌, ◌≢◌, ◌||◌, ℕ, Bool, true, false, not, List, [], ◌∷◌, Option, Some, None, is_some, length, nat_lt, map, refl, sym, ap, ◌∙◌, cond}
+use Rattle.std.proofs.Common.{sym, ap, ◌∙◌}
+use Rattle.std.specs.Prelude.{◌≡◌, ◌≢◌, ◌||◌, ℕ, Bool, true, false, not, List, [], ◌∷◌, Option, Some, None, is_some, length, nat_lt, map, refl, cond, filter, option_map}
 use Rattle.std.proofs.lemmas.Bool.{and_left, or_from, or_parts, false_from_ne_true, true_from_ne_false}
-use Rattle.std.specs.List.{filter}
-use Rattle.std.specs.Option.{option_map}
+use Rattle.edit_actions.specs.Prelude.{Rows, is_same, is_among, row_at, same_either_way, row_references, rest_at, half, is_sound, nodes_of, with_nodes, with_members, without, falls_short, goes, what_is_left, after_purge, is_among_own, without_none, row_at-after_purge, x_goes, is_gone, purge_sound, checks}
+use Rattle.osm_changes.specs.Cells.{has}
 use Rattle.osm_elements.specs.declared.name.Name.{Name}
 use Rattle.osm_elements.specs.declared.element.Element.{Element}
 use Rattle.osm_elements.specs.declared.element.Element.TheVariants.{Node, Way, Relation}
-use Rattle.osm_elements.specs.Maps.{Rows, is_same, is_among}
-use Rattle.osm_elements.specs.Rows.{row_at}
-use Rattle.osm_elements.specs.Facts.Dropped.{same_either_way}
-use Rattle.osm_refs.specs.References.{row_references}
 use Rattle.osm_changes.specs.declared.part.Part.{Part}
 use Rattle.osm_changes.specs.declared.part.Part.TheVariants.{Tags, Rest}
-use Rattle.osm_changes.specs.Cells.{rest_at, has}
-use Rattle.osm_changes.specs.Halves.{half}
-use Rattle.osm_changes.specs.Sound.{is_sound}
-use Rattle.edit_simple.specs.Contents.{nodes_of, with_nodes, with_members}
-use Rattle.edit_simple.specs.Purge.{without, falls_short, goes, what_is_left, after_purge}
-use Rattle.edit_simple.specs.Facts.Lists.{is_among_own}
-use Rattle.edit_simple.specs.Facts.Purging.{without_none, row_at-after_purge, x_goes, is_gone, purge_sound}
-use Rattle.edit_actions.specs.declared.action.Action.{Action}
-use Rattle.edit_actions.specs.declared.action.Action.TheVariants.{Purge}
-use Rattle.edit_actions.specs.Refusals.{checks}
+use Rattle.room_interface.specs.declared.action.Action.{Action}
+use Rattle.room_interface.specs.declared.action.Action.TheVariants.{Purge}
 use Rattle.edit_footprint.specs.Footprints.{footprint}
 use Rattle.edit_footprint.specs.Facts.AcceptedAlike.{IsLocal, accepted_alike}
 use Rattle.edit_footprint.specs.Facts.Agreeing.{same_row_of_subject, not_named}

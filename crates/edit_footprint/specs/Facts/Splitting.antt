@@ -1,28 +1,15 @@
 -- A split looks only at its footprint.
-use Rattle.std.proofs.Common.{◌≡◌, ◌&&◌, ◌+◌, ℕ, Bool, true, false, [], Option, Some, None, length, nat_lt, take, refl, sym, ap, ◌∙◌, cond}
+use Rattle.std.proofs.Common.{sym, ap, ◌∙◌}
+use Rattle.std.specs.Prelude.{◌≡◌, ◌&&◌, ◌+◌, ℕ, Bool, true, false, [], Option, Some, None, length, nat_lt, take, refl, cond, option_map}
 use Rattle.std.proofs.lemmas.Bool.{and_left, and_right}
-use Rattle.std.specs.Option.{option_map}
+use Rattle.edit_actions.specs.Prelude.{Rows, is_same, is_among, row_at, row_references, refers_to, rest_at, half, most_members, sound_in_order, members_of, with_nodes, with_members, at_name, nones, no_least, split_members, overfull, split_row, split_off, after_split, split_changes, overfull_are_users, splits, row_at-after_split, split_leaves, checks}
+use Rattle.osm_changes.specs.Cells.{has}
 use Rattle.osm_elements.specs.declared.name.Name.{Name}
 use Rattle.osm_elements.specs.declared.element.Element.{Element}
-use Rattle.osm_elements.specs.Maps.{Rows, is_same, is_among}
-use Rattle.osm_elements.specs.Rows.{row_at}
-use Rattle.osm_refs.specs.References.{row_references, refers_to}
 use Rattle.osm_changes.specs.declared.part.Part.TheVariants.{Tags, Rest}
-use Rattle.osm_changes.specs.Cells.{rest_at, has}
-use Rattle.osm_changes.specs.Halves.{half}
-use Rattle.osm_changes.specs.Sound.{most_members}
-use Rattle.osm_changes.specs.Facts.SoundRows.{sound_in_order}
-use Rattle.edit_simple.specs.declared.refusal.Refusal.TheVariants.{TooMany}
-use Rattle.edit_simple.specs.Contents.{members_of, with_nodes, with_members, at_name}
-use Rattle.edit_simple.specs.Facts.Checked.{nones, no_least}
-use Rattle.edit_topology.specs.Split.{split_members, overfull, split_row, split_off, after_split}
-use Rattle.edit_topology.specs.Facts.Changing.{split_changes}
-use Rattle.edit_topology.specs.Facts.Refusing.{overfull_are_users}
-use Rattle.edit_topology.specs.Facts.Splitting.{splits, row_at-after_split}
-use Rattle.edit_topology.specs.Facts.Staying.{split_leaves}
-use Rattle.edit_actions.specs.declared.action.Action.{Action}
-use Rattle.edit_actions.specs.declared.action.Action.TheVariants.{Split}
-use Rattle.edit_actions.specs.Refusals.{checks}
+use Rattle.room_interface.specs.declared.refusal.Refusal.TheVariants.{TooMany}
+use Rattle.room_interface.specs.declared.action.Action.{Action}
+use Rattle.room_interface.specs.declared.action.Action.TheVariants.{Split}
 use Rattle.edit_footprint.specs.Footprints.{footprint}
 use Rattle.edit_footprint.specs.Facts.AcceptedAlike.{IsLocal, accepted_alike}
 use Rattle.edit_footprint.specs.Facts.Agreeing.{same_row_of_subject, not_named}

@@ -1,14 +1,13 @@
 -- The cells that are subjects of an action, and the cells that are not.
-use Rattle.std.proofs.Common.{◌≡◌, true, false, List, [], ◌∷◌, ◌++◌, sym, ap, ◌∙◌}
+use Rattle.std.proofs.Common.{sym, ap, ◌∙◌}
+use Rattle.std.specs.Prelude.{◌≡◌, true, false, List, [], ◌∷◌, ◌++◌}
 use Rattle.std.proofs.lemmas.Bool.{false_from_ne_true}
+use Rattle.osm_changes.specs.Prelude.{Rows, is_same, same_names, tags_at, rest_at, both_at, has}
 use Rattle.osm_elements.specs.declared.name.Name.{Name}
-use Rattle.osm_elements.specs.Maps.{Rows, is_same}
-use Rattle.osm_elements.specs.Facts.Rows.{same_names}
 use Rattle.osm_changes.specs.declared.cell.Cell.{Cell}
 use Rattle.osm_changes.specs.declared.part.Part.{Part}
 use Rattle.osm_changes.specs.declared.part.Part.TheVariants.{Tags, Rest}
-use Rattle.osm_changes.specs.Cells.{tags_at, rest_at, both_at, has}
-use Rattle.edit_actions.specs.declared.action.Action.{Action}
+use Rattle.room_interface.specs.declared.action.Action.{Action}
 use Rattle.edit_footprint.specs.Footprints.{subjects, footprint}
 use Rattle.edit_footprint.specs.Facts.CellSets.{has-own, has-more}
 use Rattle.edit_footprint.specs.Facts.Footprints.{no_subject}

@@ -1,31 +1,16 @@
 -- An unglue looks only at its footprint.
-use Rattle.std.proofs.Common.{◌≡◌, ◌||◌, ℕ, Bool, true, false, List, [], ◌∷◌, map, set, Some, None, refl, sym, ap, ◌∙◌, cond}
+use Rattle.std.proofs.Common.{sym, ap, ◌∙◌}
+use Rattle.std.specs.Prelude.{◌≡◌, ◌||◌, ℕ, Bool, true, false, List, [], ◌∷◌, map, set, Some, None, refl, cond, find, flat_map, slice_get, option_and_then, option_map, option_to_list}
 use Rattle.std.proofs.lemmas.Bool.{true_from_ne_false}
-use Rattle.std.specs.List.{find, flat_map, slice_get}
-use Rattle.std.specs.Option.{option_and_then, option_map, option_to_list}
+use Rattle.edit_actions.specs.Prelude.{Rows, is_same, row_at, tags_at, rest_at, both_at, is_same_cell, half_at, differing, change_at, cell_of, half, is_sound, not_differing, same_cells, same_whole, nodes_of, with_nodes, row_standing, after_unglue, unglue_changes, unglue_leaves, Unglues, unglues, row_standing_is, unglue_row, row_at-after_unglue, not_new, after, changes, checks, refusal}
+use Rattle.osm_changes.specs.Cells.{has}
 use Rattle.osm_elements.specs.declared.name.Name.{Name}
-use Rattle.osm_elements.specs.Maps.{Rows, is_same}
-use Rattle.osm_elements.specs.Rows.{row_at}
 use Rattle.osm_changes.specs.declared.cell.Cell.{Cell}
 use Rattle.osm_changes.specs.declared.change.Change.{Change}
 use Rattle.osm_changes.specs.declared.part.Part.{Part}
 use Rattle.osm_changes.specs.declared.part.Part.TheVariants.{Tags, Rest}
-use Rattle.osm_changes.specs.Cells.{tags_at, rest_at, both_at, is_same_cell, half_at, has}
-use Rattle.osm_changes.specs.Changes.{differing, change_at, cell_of}
-use Rattle.osm_changes.specs.Halves.{half}
-use Rattle.osm_changes.specs.Sound.{is_sound}
-use Rattle.osm_changes.specs.Facts.Changing.{not_differing}
-use Rattle.osm_changes.specs.Facts.Cells.{same_cells}
-use Rattle.osm_changes.specs.Facts.Halves.{same_whole}
-use Rattle.edit_simple.specs.Contents.{nodes_of, with_nodes}
-use Rattle.edit_topology.specs.Unglue.{row_standing, after_unglue}
-use Rattle.edit_topology.specs.Facts.Changing.{unglue_changes}
-use Rattle.edit_topology.specs.Facts.Staying.{unglue_leaves}
-use Rattle.edit_topology.specs.Facts.Ungluing.{Unglues, unglues, row_standing_is, unglue_row, row_at-after_unglue, not_new}
-use Rattle.edit_actions.specs.declared.action.Action.{Action}
-use Rattle.edit_actions.specs.declared.action.Action.TheVariants.{Unglue}
-use Rattle.edit_actions.specs.After.{after, changes}
-use Rattle.edit_actions.specs.Refusals.{checks, refusal}
+use Rattle.room_interface.specs.declared.action.Action.{Action}
+use Rattle.room_interface.specs.declared.action.Action.TheVariants.{Unglue}
 use Rattle.edit_footprint.specs.Footprints.{half_nodes, half_before, footprint}
 use Rattle.edit_footprint.specs.Facts.AcceptedAlike.{IsLocal, accepted_alike}
 use Rattle.edit_footprint.specs.Facts.Agreeing.{same_row_of_subject}

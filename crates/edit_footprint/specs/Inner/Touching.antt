@@ -1,10 +1,8 @@
 -- The names that changes touch, collected change by change.
-use Rattle.std.specs.Prelude.{◌++◌, List}
-use Rattle.std.specs.List.{flat_map}
+use Rattle.std.specs.Prelude.{◌++◌, List, flat_map}
+use Rattle.edit_actions.specs.Prelude.{name_set, names_but}
 use Rattle.osm_elements.specs.declared.name.Name.{Name}
-use Rattle.osm_elements.specs.Maps.{name_set}
 use Rattle.osm_changes.specs.declared.change.Change.{Change}
-use Rattle.osm_refs.specs.Rising.{names_but}
 use Rattle.edit_footprint.specs.Footprints.{half_references}
 
 module _ {A : Type 0} where

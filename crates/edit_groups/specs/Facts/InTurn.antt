@@ -1,34 +1,17 @@
 -- Actions in order: the map after them stays in order and sound, cells that no action touches are unchanged, and maps
 -- that agree at all touched cells agree after each action.
-use Rattle.std.proofs.Common.{◌≡◌, ◌&&◌, ◌||◌, ◌+◌, ℕ, Bool, true, false, List, [], ◌∷◌, ◌++◌, Option, Some, None, refl, sym, ap, ◌∙◌}
+use Rattle.std.proofs.Common.{sym, ap, ◌∙◌}
+use Rattle.std.specs.Prelude.{◌≡◌, ◌&&◌, ◌||◌, ◌+◌, ℕ, Bool, true, false, List, [], ◌∷◌, ◌++◌, Option, Some, None, refl}
 use Rattle.std.proofs.lemmas.Bool.{or_parts, and_parts}
+use Rattle.edit_footprint.specs.Prelude.{Rows, is_among, AreInOrder, row_at, row_references, refers_to, users, rest_at, half_at, has-append, sound_in_order, is_sound, rising_names, after, AreInOrder-after, accepted_keeps_sound, is_made_action, are_made, refusal, Agree, footprint, AcceptedAlike, same_after, halves_outside, namers_outside, same_references, is_among-users, locality}
+use Rattle.osm_changes.specs.Cells.{has}
 use Rattle.osm_elements.specs.declared.name.Name.{Name}
-use Rattle.osm_elements.specs.Maps.{Rows, is_among}
-use Rattle.osm_elements.specs.Rows.{AreInOrder, row_at}
-use Rattle.osm_refs.specs.References.{row_references, refers_to, users}
 use Rattle.osm_refs.specs.Facts.RisingNames.{same_rising}
 use Rattle.osm_changes.specs.declared.cell.Cell.{Cell}
-use Rattle.osm_changes.specs.Cells.{rest_at, half_at, has}
-use Rattle.osm_changes.specs.Facts.Cells.{has-append}
-use Rattle.osm_changes.specs.Facts.SoundRows.{sound_in_order}
-use Rattle.osm_changes.specs.Sound.{is_sound}
-use Rattle.edit_simple.specs.declared.refusal.Refusal.{Refusal}
-use Rattle.osm_changes.specs.Facts.PassingRows.{rising_names}
-use Rattle.edit_actions.specs.declared.action.Action.{Action}
-use Rattle.edit_actions.specs.After.{after}
-use Rattle.edit_actions.specs.Facts.Accepted.{AreInOrder-after, accepted_keeps_sound}
-use Rattle.edit_actions.specs.MadeActions.{is_made_action}
-use Rattle.edit_actions.specs.Refusals.{refusal}
-use Rattle.edit_footprint.specs.Agreement.{Agree}
-use Rattle.edit_footprint.specs.Footprints.{footprint}
-use Rattle.edit_footprint.specs.Locality.{AcceptedAlike}
-use Rattle.edit_footprint.specs.Facts.Differences.{same_after}
-use Rattle.edit_footprint.specs.Facts.Footprints.{halves_outside, namers_outside}
-use Rattle.edit_footprint.specs.Facts.Halves.{same_references}
-use Rattle.edit_footprint.specs.Facts.Leaving.{is_among-users}
-use Rattle.edit_footprint.specs.Facts.Locality.{locality}
-use Rattle.edit_groups.specs.declared.refusal.EditRefusal.{EditRefusal}
-use Rattle.edit_groups.specs.Groups.{after_all, refused_at, first_refused, touched, are_made}
+use Rattle.room_interface.specs.declared.refusal.Refusal.{Refusal}
+use Rattle.room_interface.specs.declared.action.Action.{Action}
+use Rattle.room_interface.specs.declared.edit_refusal.EditRefusal.{EditRefusal}
+use Rattle.edit_groups.specs.Groups.{after_all, refused_at, first_refused, touched}
 
 -- a cell of one list is in both lists together
 pub in_first : (c : Cell) (one two : List Cell) → has one c ≡ true → has (one ++ two) c ≡ true

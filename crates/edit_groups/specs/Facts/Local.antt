@@ -1,35 +1,25 @@
 -- An edit changes and looks at nothing outside its footprint, and keeps the map sound.
-use Rattle.std.proofs.Common.{◌≡◌, ◌≢◌, ℕ, Bool, true, false, not, cond, List, [], ◌∷◌, ◌++◌, Option, Some, None, map, refl, sym, ap, ◌∙◌}
-use Rattle.std.specs.List.{filter}
+use Rattle.std.proofs.Common.{sym, ap, ◌∙◌}
+use Rattle.std.specs.Prelude.{◌≡◌, ◌≢◌, ℕ, Bool, true, false, not, cond, List, [], ◌∷◌, ◌++◌, Option, Some, None, map, refl, filter}
+use Rattle.edit_footprint.specs.Prelude.{Rows, name_set, names_of, AreInOrder, cell_set, cells_of, rest_at, half_at, change_at, differences, has-cell_set, IsRising-cell_set, changed-differences, same_itself, are_same_halves, sound_in_order, is_sound, Agree, same_differences, is_made_edit, are_made}
+use Rattle.osm_drafts.specs.Prelude.{has, IsRising, changed}
 use Rattle.osm_elements.specs.declared.name.Name.{Name}
-use Rattle.osm_elements.specs.Maps.{Rows, name_set, names_of}
-use Rattle.osm_elements.specs.Rows.{AreInOrder}
 use Rattle.osm_changes.specs.declared.cell.Cell.{Cell}
 use Rattle.osm_changes.specs.declared.change.Change.{Change}
-use Rattle.osm_changes.specs.Cells.{cell_set, cells_of, rest_at, has, half_at, IsRising}
-use Rattle.osm_changes.specs.Changes.{changed, change_at, differences}
-use Rattle.osm_changes.specs.Facts.Cells.{has-cell_set, IsRising-cell_set}
-use Rattle.osm_changes.specs.Facts.Changing.{changed-differences}
-use Rattle.osm_changes.specs.Facts.Halves.{same_itself}
-use Rattle.osm_changes.specs.Halves.{are_same_halves}
-use Rattle.osm_changes.specs.Facts.SoundRows.{sound_in_order}
-use Rattle.osm_changes.specs.Sound.{is_sound}
-use Rattle.edit_simple.specs.declared.refusal.Refusal.{Refusal}
-use Rattle.edit_actions.specs.declared.action.Action.{Action}
+use Rattle.room_interface.specs.declared.refusal.Refusal.{Refusal}
+use Rattle.room_interface.specs.declared.action.Action.{Action}
+use Rattle.room_interface.specs.declared.edit.Edit.{Edit}
+use Rattle.room_interface.specs.declared.edit.Edit.TheVariants.{One, Group}
+use Rattle.edit_groups.specs.Edits.{after, changes, refused_alone, refusal, footprint}
+use Rattle.room_interface.specs.declared.edit_refusal.EditRefusal.{EditRefusal}
+use Rattle.edit_groups.specs.Groups.{after_all, first_refused, nothing_changed, refused_or, group_changes, group_refusal, touched}
+use Rattle.edit_groups.specs.Laws.{LeavesTheRest, AcceptedAlike}
+use Rattle.edit_groups.specs.Facts.InTurn.{AreInOrder-after_all, sound_after_all, half_untouched, users_untouched, agree_at_fewer, InTurnAlike, in_turn_alike}
 use Rattle.edit_actions.specs.Facts.Accepted as accepted
 use Rattle.edit_actions.specs.Refusals as of_actions
-use Rattle.edit_footprint.specs.Agreement.{Agree}
-use Rattle.edit_footprint.specs.Facts.Differences.{same_differences}
 use Rattle.edit_footprint.specs.Facts.Footprints as cells_of
 use Rattle.edit_footprint.specs.Facts.Leaving as leaving
 use Rattle.edit_footprint.specs.Facts.Locality as local
-use Rattle.edit_groups.specs.declared.edit.Edit.{Edit}
-use Rattle.edit_groups.specs.declared.edit.Edit.TheVariants.{One, Group}
-use Rattle.edit_groups.specs.Edits.{after, changes, refused_alone, refusal, footprint, is_made_edit}
-use Rattle.edit_groups.specs.declared.refusal.EditRefusal.{EditRefusal}
-use Rattle.edit_groups.specs.Groups.{after_all, first_refused, nothing_changed, refused_or, group_changes, group_refusal, touched, are_made}
-use Rattle.edit_groups.specs.Laws.{LeavesTheRest, AcceptedAlike}
-use Rattle.edit_groups.specs.Facts.InTurn.{AreInOrder-after_all, sound_after_all, half_untouched, users_untouched, agree_at_fewer, InTurnAlike, in_turn_alike}
 
 module _ {A : Type 0} where
   -- from an edit of one action to the action

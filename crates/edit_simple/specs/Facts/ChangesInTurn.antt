@@ -1,13 +1,11 @@
 -- The changes of rising names, made name by name.
-use Rattle.std.proofs.Common.{◌≡◌, ◌<◌, ℕ, List, ◌++◌, Option, length, take, get_or, sym, subst}
+use Rattle.std.proofs.Common.{sym, subst}
+use Rattle.std.specs.Prelude.{◌≡◌, ◌<◌, ℕ, List, ◌++◌, Option, length, take, get_or}
+use Rattle.osm_drafts.specs.Prelude.{Rows, row_at, row_changes, rows_changes, AreChanges, next_name_fits}
 use Rattle.osm_elements.specs.declared.name.Name.{Name}
 use Rattle.osm_elements.specs.declared.element.Element.{Element}
-use Rattle.osm_elements.specs.Maps.{Rows}
-use Rattle.osm_elements.specs.Rows.{row_at}
 use Rattle.osm_refs.specs.Rising.{IsRising}
 use Rattle.osm_changes.specs.declared.change.Change.{Change}
-use Rattle.osm_changes.specs.Changes.{row_changes, rows_changes, AreChanges}
-use Rattle.osm_changes.specs.Facts.RowChanges.{next_name_fits}
 
 module _ {A : Type 0} (m : Rows A) (after : Name → Option (Element A)) where
   -- the changes of the next name can follow those of the earlier names

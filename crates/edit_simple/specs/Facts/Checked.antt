@@ -1,9 +1,9 @@
 -- The facts that follow if no check holds.
-use Rattle.std.proofs.Common.{◌≡◌, Bool, true, false, not, List, [], ◌∷◌, ◌++◌, Option, Some, None, Result, Ok, Err, IfErr, refl, sym, ap, subst}
+use Rattle.std.proofs.Common.{sym, ap, subst}
+use Rattle.std.specs.Prelude.{◌≡◌, Bool, true, false, not, List, [], ◌∷◌, ◌++◌, Option, Some, None, Result, Ok, Err, IfErr, refl, IsErr, IsErrAnd}
 use Rattle.std.specs.Bool.{then_some}
-use Rattle.std.specs.Result.{IsErr, IsErrAnd}
 use Rattle.osm_elements.specs.declared.name.Name.{Name}
-use Rattle.edit_simple.specs.declared.refusal.Refusal.{Refusal}
+use Rattle.room_interface.specs.declared.refusal.Refusal.{Refusal}
 use Rattle.edit_simple.specs.Checks.{first_that_holds, the_least}
 use Rattle.edit_simple.specs.Plans.{IsNamed}
 

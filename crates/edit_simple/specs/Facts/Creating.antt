@@ -1,21 +1,12 @@
 -- An accepted create keeps a sound map sound, and changes it.
-use Rattle.std.proofs.Common.{◌≡◌, ◌≢◌, Bool, true, false, not, ◌&&◌, ◌||◌, Some, None, is_some, length, nat_le, refl, sym, ap, subst, ◌∙◌, cond}
-use Rattle.std.specs.List.{filter}
-use Rattle.std.specs.Option.{unwrap_or}
+use Rattle.std.proofs.Common.{sym, ap, subst, ◌∙◌}
+use Rattle.std.specs.Prelude.{◌≡◌, ◌≢◌, Bool, true, false, not, ◌&&◌, ◌||◌, Some, None, is_some, length, nat_le, refl, cond, filter, unwrap_or}
+use Rattle.osm_drafts.specs.Prelude.{kind_of, is_made, Rows, is_same, is_kind, is_present, row_at, put_row, same_names, is_eq-name_cmp_itself, row_at-put_row, AreInOrder-put_row, both_true, references, is_sound, is_of_length, most_nodes, most_members, sound_in_order}
 use Rattle.osm_elements.specs.declared.name.Name.{Name}
 use Rattle.osm_elements.specs.declared.element.Element.{Element}
 use Rattle.osm_elements.specs.declared.element.Element.TheVariants.{Node, Way, Relation}
-use Rattle.osm_elements.specs.Elements.{kind_of}
-use Rattle.osm_elements.specs.Made.{is_made}
-use Rattle.osm_elements.specs.Maps.{Rows, is_same, is_kind, is_present}
-use Rattle.osm_elements.specs.Rows.{row_at, put_row}
-use Rattle.osm_elements.specs.Facts.Rows.{same_names, is_eq-name_cmp_itself, row_at-put_row, AreInOrder-put_row}
-use Rattle.osm_elements.specs.Facts.Tests.{both_true}
-use Rattle.osm_refs.specs.References.{references}
-use Rattle.osm_changes.specs.Sound.{is_sound, is_of_length, most_nodes, most_members}
-use Rattle.osm_changes.specs.Facts.SoundRows.{sound_in_order}
-use Rattle.edit_simple.specs.declared.refusal.Refusal.{Refusal}
-use Rattle.edit_simple.specs.declared.refusal.Refusal.TheVariants.{Absent, Present, WrongKind, TooFew, TooMany}
+use Rattle.room_interface.specs.declared.refusal.Refusal.{Refusal}
+use Rattle.room_interface.specs.declared.refusal.Refusal.TheVariants.{Absent, Present, WrongKind, TooFew, TooMany}
 use Rattle.edit_simple.specs.Checks.{first_that_holds}
 use Rattle.edit_simple.specs.Create.{is_too_short, is_too_long, is_missing, create_checks, after_create}
 use Rattle.edit_simple.specs.Facts.Checked.{nones, not_so, from_false, no_least}

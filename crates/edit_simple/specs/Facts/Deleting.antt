@@ -1,17 +1,11 @@
 -- An accepted delete keeps a sound map sound, and changes it.
-use Rattle.std.proofs.Common.{◌≡◌, ◌≢◌, Bool, true, false, not, [], ◌∷◌, Some, None, is_some, refl, sym, ap, ◌∙◌, cond}
-use Rattle.std.specs.List.{filter}
+use Rattle.std.proofs.Common.{sym, ap, ◌∙◌}
+use Rattle.std.specs.Prelude.{◌≡◌, ◌≢◌, Bool, true, false, not, [], ◌∷◌, Some, None, is_some, refl, cond, filter}
+use Rattle.osm_drafts.specs.Prelude.{Rows, is_same, is_among, is_present, is_absent, names_of, rows_but, row_at, same_names, is_eq-name_cmp_itself, row_at-rows_but, AreInOrder-rows_but, references, refers_to, users, is_sound, found_passes, none_passes, sound_in_order}
 use Rattle.osm_elements.specs.declared.name.Name.{Name}
 use Rattle.osm_elements.specs.declared.element.Element.{Element}
-use Rattle.osm_elements.specs.Maps.{Rows, is_same, is_among, is_present, is_absent, names_of, rows_but}
-use Rattle.osm_elements.specs.Rows.{row_at}
-use Rattle.osm_elements.specs.Facts.Rows.{same_names, is_eq-name_cmp_itself}
-use Rattle.osm_elements.specs.Facts.Dropped.{row_at-rows_but, AreInOrder-rows_but}
-use Rattle.osm_refs.specs.References.{references, refers_to, users}
-use Rattle.osm_changes.specs.Sound.{is_sound}
-use Rattle.osm_changes.specs.Facts.SoundRows.{found_passes, none_passes, sound_in_order}
-use Rattle.edit_simple.specs.declared.refusal.Refusal.{Refusal}
-use Rattle.edit_simple.specs.declared.refusal.Refusal.TheVariants.{Absent, InUse}
+use Rattle.room_interface.specs.declared.refusal.Refusal.{Refusal}
+use Rattle.room_interface.specs.declared.refusal.Refusal.TheVariants.{Absent, InUse}
 use Rattle.edit_simple.specs.Checks.{first_that_holds}
 use Rattle.edit_simple.specs.Delete.{delete_checks, after_delete}
 use Rattle.edit_simple.specs.Facts.Checked.{nones, not_so, from_false, no_least}

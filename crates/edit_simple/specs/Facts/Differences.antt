@@ -1,17 +1,10 @@
 -- Changes that are the differences of two maps.
-use Rattle.std.proofs.Common.{◌≡◌, ◌≢◌, Bool, true, false, not, ◌||◌, [], ◌∷◌, append-nil, Option, Some, None, refl, sym, ap, ◌∙◌, cond}
-use Rattle.std.specs.Option.{option_map}
+use Rattle.std.proofs.Common.{append-nil, sym, ap, ◌∙◌}
+use Rattle.std.specs.Prelude.{◌≡◌, ◌≢◌, Bool, true, false, not, ◌||◌, [], ◌∷◌, Option, Some, None, refl, cond, option_map}
+use Rattle.osm_drafts.specs.Prelude.{Rows, is_same, row_at, same_names, is_eq-name_cmp_itself, is_same_row, row_changes, rows_changes, differences, differing_are, differences-rows, same_row, equal_row}
 use Rattle.osm_elements.specs.declared.name.Name.{Name}
 use Rattle.osm_elements.specs.declared.element.Element.{Element}
-use Rattle.osm_elements.specs.Maps.{Rows, is_same}
-use Rattle.osm_elements.specs.Rows.{row_at}
-use Rattle.osm_elements.specs.Facts.Rows.{same_names, is_eq-name_cmp_itself}
 use Rattle.osm_elements.specs.Facts.Dropped.{same_either_way}
-use Rattle.osm_changes.specs.SameRows.{is_same_row}
-use Rattle.osm_changes.specs.Changes.{row_changes, rows_changes, differences}
-use Rattle.osm_changes.specs.Facts.DifferingRows.{differing_are}
-use Rattle.osm_changes.specs.Facts.RowChanges.{differences-rows}
-use Rattle.osm_changes.specs.Facts.SameElements.{same_row, told_same_row}
 use Rattle.edit_simple.specs.Contents.{each_row, at_name}
 use Rattle.edit_simple.specs.Facts.EachRow.{row_at-each_row}
 
@@ -32,7 +25,7 @@ module _ {A : Type 0} where
   apart_rows o p apart = by (is_same_row o p) refl
     where
       by : (b : Bool) → is_same_row o p ≡ b → b ≡ false
-      by true e = absurd (apart (sym (told_same_row o p e)))
+      by true e = absurd (apart (sym (equal_row o p e)))
       by false e = refl
 
   -- the change of one element

@@ -1,14 +1,9 @@
 -- Maps with every element replaced.
-use Rattle.std.proofs.Common.{◌≡◌, Bool, true, false, ◌&&◌, T, [], ◌∷◌, Some, refl, sym, ap, subst, ◌∙◌, cond}
-use Rattle.std.specs.Option.{option_map}
-use Rattle.std.specs.Ordering.{is_eq, is_lt}
-use Rattle.std.specs.FinMap.Entries.{find, is_sorted, below_all}
+use Rattle.std.proofs.Common.{sym, ap, subst, ◌∙◌}
+use Rattle.std.specs.Prelude.{◌≡◌, Bool, true, false, ◌&&◌, T, [], ◌∷◌, Some, refl, cond, option_map}
+use Rattle.room_interface.specs.Prelude.{is_eq, is_lt, is_sorted, below_all, find, name_cmp, Rows, AreInOrder, row_at, same_names, row_at_is_find}
 use Rattle.osm_elements.specs.declared.name.Name.{Name}
 use Rattle.osm_elements.specs.declared.element.Element.{Element}
-use Rattle.osm_elements.specs.NameOrder.{name_cmp}
-use Rattle.osm_elements.specs.Maps.{Rows}
-use Rattle.osm_elements.specs.Rows.{AreInOrder, row_at}
-use Rattle.osm_elements.specs.Facts.Rows.{same_names, row_at_is_find}
 use Rattle.edit_simple.specs.Contents.{each_row}
 
 module _ {A : Type 0} where

@@ -1,17 +1,9 @@
 -- The least user of a name is the first that a search of the rows finds.
-use Rattle.std.proofs.Common.{◌≡◌, Bool, true, false, T, [], ◌∷◌, Option, Some, None, refl, sym, ap, ◌∙◌, cond, slice_get}
-use Rattle.std.specs.List.{filter}
-use Rattle.std.specs.Ordering.{ord_min, is_lt, ordering_reverse}
-use Rattle.std.specs.FinMap.Entries.{is_sorted, below_all}
-use Rattle.std.specs.declared.cmp.Ordering.{Ordering}
-use Rattle.std.specs.declared.cmp.Ordering.TheVariants.{Less, Equal, Greater}
+use Rattle.std.proofs.Common.{sym, ap, ◌∙◌}
+use Rattle.std.specs.Prelude.{◌≡◌, Bool, true, false, T, [], ◌∷◌, Option, Some, None, refl, cond, slice_get, filter}
+use Rattle.room_interface.specs.Prelude.{ord_min, is_lt, ordering_reverse, is_sorted, below_all, Ordering, Less, Equal, Greater, name_cmp, name_cmp_total, AreInOrder, first, second, Rows, lesser, least, names_of}
 use Rattle.osm_elements.specs.declared.name.Name.{Name}
 use Rattle.osm_elements.specs.declared.element.Element.{Element}
-use Rattle.osm_elements.specs.NameOrder.{name_cmp}
-use Rattle.osm_elements.specs.Facts.Names.{name_cmp_total}
-use Rattle.osm_elements.specs.Rows.{AreInOrder}
-use Rattle.osm_elements.specs.Facts.Entries.{first, second}
-use Rattle.osm_elements.specs.Maps.{Rows, lesser, least, names_of}
 use Rattle.edit_simple.specs.Facts.LeastNames.{min_assoc}
 
 less : (r : Ordering) → T (is_lt r) → r ≡ Less

@@ -1,18 +1,14 @@
 -- The rows of a sound map at names of a kind.
-use Rattle.std.proofs.Common.{◌≡◌, ℕ, ℤ, true, List, Option, Some, None, is_some, refl, ◌∙◌}
+use Rattle.std.proofs.Common.{◌∙◌}
+use Rattle.std.specs.Prelude.{◌≡◌, ℕ, ℤ, true, List, Option, Some, None, is_some, refl}
+use Rattle.osm_drafts.specs.Prelude.{kind_of, is_node, Rows, is_kind, is_present, row_at, Pairs, is_sound}
 use Rattle.osm_elements.specs.declared.name.Name.{Name}
 use Rattle.osm_elements.specs.declared.name.Kind.{Kind}
-use Rattle.osm_elements.specs.declared.name.Kind.TheVariants as kinds
 use Rattle.osm_elements.specs.declared.element.Element.{Element}
 use Rattle.osm_elements.specs.declared.element.Element.TheVariants.{Node, Way, Relation}
-use Rattle.osm_elements.specs.Elements.{kind_of}
-use Rattle.osm_elements.specs.Made.{is_node}
-use Rattle.osm_elements.specs.Maps.{Rows, is_kind, is_present}
-use Rattle.osm_elements.specs.Rows.{row_at}
-use Rattle.osm_elements.specs.TagRows.{Pairs}
-use Rattle.osm_changes.specs.Sound.{is_sound}
 use Rattle.edit_simple.specs.Kinds.{is_way, is_relation}
 use Rattle.edit_simple.specs.Facts.Rewriting.{fine}
+use Rattle.osm_elements.specs.declared.name.Kind.TheVariants as kinds
 
 pub told_kind : (k j : Kind) → is_kind k j ≡ true → k ≡ j
 told_kind kinds.Node kinds.Node e = refl

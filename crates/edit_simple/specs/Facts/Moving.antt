@@ -1,25 +1,14 @@
 -- An accepted move keeps a sound map sound, and changes it.
-use Rattle.std.proofs.Common.{◌≡◌, ◌≢◌, ℤ, pos, ◌+ℤ◌, ◌-ℤ◌, Bool, true, false, not, ◌&&◌, ◌||◌, List, [], ◌∷◌, Option, Some, None, is_some, length, nat_eq, refl, sym, ap, ◌∙◌, cond}
+use Rattle.std.proofs.Common.{sym, ap, ◌∙◌}
+use Rattle.std.specs.Prelude.{◌≡◌, ◌≢◌, ℤ, pos, ◌+ℤ◌, Bool, true, false, not, ◌&&◌, ◌||◌, List, [], ◌∷◌, Option, Some, None, is_some, length, nat_eq, refl, cond, ◌-ℤ◌, filter, option_map}
 use Rattle.std.proofs.Math.IntN.{+ℤ-neg_ℤ_cancel, +ℤ_comm, +ℤ_idl}
-use Rattle.std.specs.List.{filter, list_any}
-use Rattle.std.specs.Option.{option_map}
-use Rattle.std.specs.Ordering.{int_eq}
-use Rattle.osm_coords.specs.Latitude.{latitude}
-use Rattle.osm_coords.specs.Longitude.{longitude}
+use Rattle.osm_drafts.specs.Prelude.{list_any, int_eq, latitude, longitude, is_node, are_nodes, Rows, is_among, is_present, row_at, Pairs, are_tags, both_true, first_true, second_true, is_sound, found_passes, none_passes, sound_in_order}
 use Rattle.osm_elements.specs.declared.name.Name.{Name}
 use Rattle.osm_elements.specs.declared.name.Kind.{Kind}
-use Rattle.osm_elements.specs.declared.name.Kind.TheVariants as kinds
 use Rattle.osm_elements.specs.declared.element.Element.{Element}
 use Rattle.osm_elements.specs.declared.element.Element.TheVariants.{Node, Way, Relation}
-use Rattle.osm_elements.specs.Made.{is_node, are_nodes}
-use Rattle.osm_elements.specs.Maps.{Rows, is_among, is_present}
-use Rattle.osm_elements.specs.Rows.{row_at}
-use Rattle.osm_elements.specs.TagRows.{Pairs, are_tags}
-use Rattle.osm_elements.specs.Facts.Tests.{both_true, first_true, second_true}
-use Rattle.osm_changes.specs.Sound.{is_sound}
-use Rattle.osm_changes.specs.Facts.SoundRows.{found_passes, none_passes, sound_in_order}
-use Rattle.edit_simple.specs.declared.refusal.Refusal.{Refusal}
-use Rattle.edit_simple.specs.declared.refusal.Refusal.TheVariants.{WrongKind, OutOfRange, Nothing}
+use Rattle.room_interface.specs.declared.refusal.Refusal.{Refusal}
+use Rattle.room_interface.specs.declared.refusal.Refusal.TheVariants.{WrongKind, OutOfRange, Nothing}
 use Rattle.edit_simple.specs.Checks.{first_that_holds}
 use Rattle.edit_simple.specs.Kinds.{is_way, is_relation}
 use Rattle.edit_simple.specs.Move.{is_moved, moved_by, moves, is_out_of_range, left_range, move_checks, after_move}
@@ -30,6 +19,7 @@ use Rattle.edit_simple.specs.Facts.Kinds.{node_there, way_there}
 use Rattle.edit_simple.specs.Facts.Lists.{or_left, or_right, first_false, second_false, is_among_own, none_left}
 use Rattle.edit_simple.specs.Facts.Relisting.{all_present}
 use Rattle.edit_simple.specs.Facts.Rewriting.{Fine, fine, each_stays_sound, each_rewrites, differs}
+use Rattle.osm_elements.specs.declared.name.Kind.TheVariants as kinds
 
 -- if a sum is equal to its first part, the second part is 0
 pub no_distance : (z d : ℤ) → z +ℤ d ≡ z → d ≡ pos 0

@@ -1,27 +1,12 @@
 -- An accepted purge keeps a sound map sound, and changes it.
-use Rattle.std.proofs.Common.{◌≡◌, ◌≢◌, ◌≤◌, ℕ, Bool, true, false, not, ◌&&◌, ◌||◌, List, [], ◌∷◌, Some, None, is_some, length, map, nat_lt, nat_le, refl, sym, ap, subst, ◌∙◌, cond, arith}
+use Rattle.std.proofs.Common.{sym, ap, subst, ◌∙◌, arith}
+use Rattle.std.specs.Prelude.{◌≡◌, ◌≢◌, ◌≤◌, ℕ, Bool, true, false, not, ◌&&◌, ◌||◌, List, [], ◌∷◌, Some, None, is_some, length, map, nat_lt, nat_le, refl, cond, filter, option_map}
 use Rattle.std.proofs.lemmas.Bool.Decides.{nat_tests}
-use Rattle.std.specs.List.{filter, list_all}
-use Rattle.std.specs.Option.{option_map}
-use Rattle.std.specs.FinMap.Entries.{find-where_key, is_sorted-where_key}
+use Rattle.osm_drafts.specs.Prelude.{list_all, find-where_key, is_sorted-where_key, name_cmp, is_node, are_nodes, Rows, is_same, is_among, is_present, is_absent, are_members, row_at, are_tags, is_long, name_cmp-IsAntisymmetric, same_names, is_eq-name_cmp_itself, row_at_is_find, both_true, first_true, second_true, is_among-passing, is_sound, most_nodes, most_members, sound_in_order}
 use Rattle.osm_elements.specs.declared.name.Name.{Name}
 use Rattle.osm_elements.specs.declared.element.Element.{Element}
-use Rattle.osm_elements.specs.declared.element.Element.TheVariants as elements
-use Rattle.osm_elements.specs.NameOrder.{name_cmp}
-use Rattle.osm_elements.specs.Made.{is_node, are_nodes}
-use Rattle.osm_elements.specs.Maps.{Rows, is_same, is_among, is_present, is_absent}
-use Rattle.osm_elements.specs.Members.{are_members}
-use Rattle.osm_elements.specs.Rows.{row_at}
-use Rattle.osm_elements.specs.TagRows.{are_tags}
-use Rattle.osm_elements.specs.Texts.{is_long}
-use Rattle.osm_elements.specs.Facts.Names.{name_cmp-IsAntisymmetric}
-use Rattle.osm_elements.specs.Facts.Rows.{same_names, is_eq-name_cmp_itself, row_at_is_find}
-use Rattle.osm_elements.specs.Facts.Tests.{both_true, first_true, second_true}
-use Rattle.osm_refs.specs.Facts.RisingNames.{is_among-passing}
-use Rattle.osm_changes.specs.Sound.{is_sound, most_nodes, most_members}
-use Rattle.osm_changes.specs.Facts.SoundRows.{sound_in_order}
-use Rattle.edit_simple.specs.declared.refusal.Refusal.{Refusal}
-use Rattle.edit_simple.specs.declared.refusal.Refusal.TheVariants.{Absent}
+use Rattle.room_interface.specs.declared.refusal.Refusal.{Refusal}
+use Rattle.room_interface.specs.declared.refusal.Refusal.TheVariants.{Absent}
 use Rattle.edit_simple.specs.Checks.{first_that_holds}
 use Rattle.edit_simple.specs.Contents.{nodes_of}
 use Rattle.edit_simple.specs.Purge.{without, falls_short, goes, what_is_left, purge_checks, after_purge}
@@ -30,6 +15,7 @@ use Rattle.edit_simple.specs.Facts.EachRow.{AreInOrder-each_row, row_at-each_row
 use Rattle.edit_simple.specs.Facts.Kinds.{node_there}
 use Rattle.edit_simple.specs.Facts.Lists.{or_left, or_right, second_false, at_least, is_among_own, all_listed}
 use Rattle.edit_simple.specs.Facts.Rewriting.{Fine, fine, Rewrites, stays_sound, rewritten, still_there, differ_at}
+use Rattle.osm_elements.specs.declared.element.Element.TheVariants as elements
 
 -- ---- filtered lists
 

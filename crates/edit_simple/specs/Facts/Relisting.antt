@@ -1,22 +1,12 @@
 -- An accepted reverse, nodes or members keeps a sound map sound, and changes it.
-use Rattle.std.proofs.Common.{◌≡◌, ◌≢◌, ℕ, true, false, not, ◌&&◌, List, [], Some, None, length, map, nat_lt, nat_le, reverse, sym, ap, ◌∙◌}
+use Rattle.std.proofs.Common.{sym, ap, ◌∙◌}
+use Rattle.std.specs.Prelude.{◌≡◌, ◌≢◌, ℕ, true, false, not, ◌&&◌, List, [], Some, None, length, map, nat_lt, nat_le, reverse, ⊤, filter}
 use Rattle.std.proofs.lemmas.List.{length-reverse}
-use Rattle.std.specs.Prelude.{⊤}
-use Rattle.std.specs.List.{filter}
+use Rattle.osm_drafts.specs.Prelude.{is_node, are_nodes, Rows, is_among, is_present, is_absent, are_members, row_at, Pairs, are_tags, both_true, first_true, second_true, are_same_names, are_same_members, are_same_tags, is_sound, most_nodes, most_members, same_element}
 use Rattle.osm_elements.specs.declared.name.Name.{Name}
 use Rattle.osm_elements.specs.declared.element.Element.{Element}
-use Rattle.osm_elements.specs.declared.element.Element.TheVariants as elements
-use Rattle.osm_elements.specs.Made.{is_node, are_nodes}
-use Rattle.osm_elements.specs.Maps.{Rows, is_among, is_present, is_absent}
-use Rattle.osm_elements.specs.Members.{are_members}
-use Rattle.osm_elements.specs.Rows.{row_at}
-use Rattle.osm_elements.specs.TagRows.{Pairs, are_tags}
-use Rattle.osm_elements.specs.Facts.Tests.{both_true, first_true, second_true}
-use Rattle.osm_changes.specs.SameRows.{are_same_names, are_same_members, are_same_tags}
-use Rattle.osm_changes.specs.Sound.{is_sound, most_nodes, most_members}
-use Rattle.osm_changes.specs.Facts.SameElements.{same_element}
-use Rattle.edit_simple.specs.declared.refusal.Refusal.{Refusal}
-use Rattle.edit_simple.specs.declared.refusal.Refusal.TheVariants.{Absent, WrongKind, TooFew, TooMany, Nothing}
+use Rattle.room_interface.specs.declared.refusal.Refusal.{Refusal}
+use Rattle.room_interface.specs.declared.refusal.Refusal.TheVariants.{Absent, WrongKind, TooFew, TooMany, Nothing}
 use Rattle.edit_simple.specs.Checks.{first_that_holds, the_least}
 use Rattle.edit_simple.specs.Kinds.{is_way, is_relation}
 use Rattle.edit_simple.specs.Contents.{nodes_of, members_of, with_nodes, with_members}
@@ -27,6 +17,7 @@ use Rattle.edit_simple.specs.Facts.Checked.{nones, not_so, from_false, no_least}
 use Rattle.edit_simple.specs.Facts.Kinds.{way_there, relation_there}
 use Rattle.edit_simple.specs.Facts.Lists.{at_least, all_listed, all_from, none_left, is_among-reverse}
 use Rattle.edit_simple.specs.Facts.Rewriting.{Fine, one_stays_sound, one_differs}
+use Rattle.osm_elements.specs.declared.element.Element.TheVariants as elements
 
 -- a list passes the test of equality with itself
 pub same_nodes_itself : (list : List Name) → are_same_names list list ≡ true

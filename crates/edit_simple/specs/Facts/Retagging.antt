@@ -1,36 +1,17 @@
 -- An accepted retag keeps a sound map sound, and changes it.
-use Rattle.std.proofs.Common.{◌≡◌, ◌≢◌, ℕ, Bool, true, false, not, ◌&&◌, T, List, [], ◌∷◌, Option, Some, None, is_some, length, nat_lt, nat_le, refl, sym, ap, ◌∙◌}
-use Rattle.std.specs.Bool.{passes}
-use Rattle.std.specs.Prelude.{⊤}
-use Rattle.std.specs.List.{filter, list_all}
-use Rattle.std.specs.Ordering.{is_eq}
-use Rattle.std.specs.Cmp.Lexicographic.{nat_list_cmp_total}
-use Rattle.std.specs.FinMap.Entries.{put, is_sorted, is_sorted-put, is_sorted-where_key}
-use Rattle.osm_coords.specs.Latitude.{latitude}
-use Rattle.osm_coords.specs.Longitude.{longitude}
+use Rattle.std.proofs.Common.{sym, ap, ◌∙◌}
+use Rattle.std.specs.Prelude.{◌≡◌, ◌≢◌, ℕ, Bool, true, false, not, ◌&&◌, T, List, [], ◌∷◌, Option, Some, None, is_some, length, nat_lt, nat_le, refl, ⊤, filter}
+use Rattle.osm_drafts.specs.Prelude.{passes, list_all, is_eq, nat_list_cmp_total, put, is_sorted, is_sorted-put, is_sorted-where_key, latitude, longitude, tags_of, is_short, are_nodes, is_made, Rows, is_present, is_absent, are_members, row_at, text_cmp, Pairs, is_tag, are_tags, sorted_rows, each_row-put, each_row-filter, both_true, first_true, second_true, is_true, are_same_tags, are_same_names, is_sound, same_element}
 use Rattle.osm_elements.specs.declared.name.Name.{Name}
 use Rattle.osm_elements.specs.declared.element.Element.{Element}
 use Rattle.osm_elements.specs.declared.element.Element.TheVariants.{Node, Way, Relation}
-use Rattle.osm_elements.specs.Elements.{tags_of}
-use Rattle.osm_elements.specs.KeyedValues.{is_short}
-use Rattle.osm_elements.specs.Made.{are_nodes, is_made}
-use Rattle.osm_elements.specs.Maps.{Rows, is_present, is_absent}
-use Rattle.osm_elements.specs.Members.{are_members}
-use Rattle.osm_elements.specs.Rows.{row_at}
-use Rattle.osm_elements.specs.KeyedRows.{text_cmp}
-use Rattle.osm_elements.specs.TagRows.{Pairs, is_tag, are_tags}
-use Rattle.osm_elements.specs.Facts.KeyedRows.{sorted_rows, each_row-put, each_row-filter}
-use Rattle.osm_elements.specs.Facts.Tests.{both_true, first_true, second_true}
-use Rattle.osm_changes.specs.SameRows.{are_same_tags, are_same_names}
-use Rattle.osm_changes.specs.Sound.{is_sound}
-use Rattle.osm_changes.specs.Facts.SameElements.{same_element}
-use Rattle.osm_changes.specs.Facts.SoundRows.{is_true}
-use Rattle.edit_simple.specs.declared.refusal.Refusal.{Refusal}
-use Rattle.edit_simple.specs.declared.refusal.Refusal.TheVariants.{Absent, TooMany, Nothing}
+use Rattle.room_interface.specs.declared.refusal.Refusal.{Refusal}
+use Rattle.room_interface.specs.declared.refusal.Refusal.TheVariants.{Absent, TooMany, Nothing}
 use Rattle.edit_simple.specs.Checks.{first_that_holds}
 use Rattle.edit_simple.specs.Contents.{row_tags, with_tags}
 use Rattle.edit_simple.specs.Retag.{retag_checks, after_retag}
-use Rattle.edit_simple.specs.Tagging.{GivenTags, tagged, retagged, is_given, are_given, most_tags}
+use Rattle.room_interface.specs.GivenTags.{GivenTags, is_given, are_given}
+use Rattle.edit_simple.specs.Tagging.{tagged, retagged, most_tags}
 use Rattle.edit_simple.specs.Facts.Checked.{nones, not_so, from_false}
 use Rattle.edit_simple.specs.Facts.Lists.{at_least}
 use Rattle.edit_simple.specs.Facts.Rewriting.{Fine, one_stays_sound, one_differs}

@@ -1,18 +1,9 @@
 -- A map whose rows are computed from those of another map: when it is sound, and when it differs.
-use Rattle.std.proofs.Common.{◌≡◌, ◌≢◌, Bool, true, false, ◌&&◌, Option, Some, None, is_some, refl, sym, ap, ◌∙◌, cond}
-use Rattle.std.specs.List.{list_all}
-use Rattle.std.specs.Option.{option_map, unwrap_or}
+use Rattle.std.proofs.Common.{sym, ap, ◌∙◌}
+use Rattle.std.specs.Prelude.{◌≡◌, ◌≢◌, Bool, true, false, ◌&&◌, Option, Some, None, is_some, refl, cond, option_map, unwrap_or}
+use Rattle.osm_drafts.specs.Prelude.{list_all, kind_of, is_made, Rows, is_same, is_among, is_kind, is_present, AreInOrder, row_at, same_names, is_eq-name_cmp_itself, both_true, first_true, second_true, references, is_sound, is_sound_row, is_of_length, sound_row, sound_in_order, sound_from_rows}
 use Rattle.osm_elements.specs.declared.name.Name.{Name}
 use Rattle.osm_elements.specs.declared.element.Element.{Element}
-use Rattle.osm_elements.specs.Elements.{kind_of}
-use Rattle.osm_elements.specs.Made.{is_made}
-use Rattle.osm_elements.specs.Maps.{Rows, is_same, is_among, is_kind, is_present}
-use Rattle.osm_elements.specs.Rows.{AreInOrder, row_at}
-use Rattle.osm_elements.specs.Facts.Rows.{same_names, is_eq-name_cmp_itself}
-use Rattle.osm_elements.specs.Facts.Tests.{both_true, first_true, second_true}
-use Rattle.osm_refs.specs.References.{references}
-use Rattle.osm_changes.specs.Sound.{is_sound, is_sound_row, is_of_length}
-use Rattle.osm_changes.specs.Facts.SoundRows.{sound_row, sound_in_order, sound_from_rows}
 use Rattle.edit_simple.specs.Contents.{each_row, at_name}
 use Rattle.edit_simple.specs.Facts.EachRow.{AreInOrder-each_row, row_at-each_row}
 use Rattle.edit_simple.specs.Facts.Lists.{all_listed, all_from}

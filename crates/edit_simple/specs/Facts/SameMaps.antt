@@ -1,28 +1,14 @@
 -- An action that is refused with `Nothing` would leave the map the same.
-use Rattle.std.proofs.Common.{◌≡◌, ◌≢◌, ℕ, ℤ, pos, Bool, true, false, not, ◌&&◌, ◌||◌, List, [], ◌∷◌, Option, Some, None, length, nat_eq, nat_lt, reverse, refl, sym, ap, ◌∙◌, cond, map, arith}
+use Rattle.std.proofs.Common.{sym, ap, ◌∙◌, arith}
+use Rattle.std.specs.Prelude.{◌≡◌, ◌≢◌, ℕ, ℤ, pos, Bool, true, false, not, ◌&&◌, ◌||◌, List, [], ◌∷◌, Option, Some, None, length, nat_eq, nat_lt, reverse, refl, cond, map, ⊤, filter, option_map}
 use Rattle.std.proofs.lemmas.Bool.Decides.{nat_tests}
 use Rattle.std.proofs.Math.IntN.{+ℤ_idr}
-use Rattle.std.specs.Bool.{then_some}
-use Rattle.std.specs.FinMap.{int_cmp-IsAntisymmetric}
-use Rattle.std.specs.List.{filter}
-use Rattle.std.specs.Option.{option_map}
-use Rattle.std.specs.Ordering.{int_cmp, int_eq}
-use Rattle.std.specs.Prelude.{⊤}
+use Rattle.osm_drafts.specs.Prelude.{then_some, int_cmp-IsAntisymmetric, int_cmp, int_eq, is_node, Rows, is_same, is_absent, lesser, least, row_at, Pairs, same, same_names, same_rows, both_true, first_true, second_true, are_same_names, are_same_members, are_same_tags, is_sound, most_nodes, most_members, equal_row, sound_in_order}
 use Rattle.osm_elements.specs.declared.name.Name.{Name}
 use Rattle.osm_elements.specs.declared.element.Element.{Element}
 use Rattle.osm_elements.specs.declared.element.Element.TheVariants.{Node, Way, Relation}
-use Rattle.osm_elements.specs.Made.{is_node}
-use Rattle.osm_elements.specs.Maps.{Rows, is_same, is_absent, lesser, least}
-use Rattle.osm_elements.specs.Rows.{row_at}
-use Rattle.osm_elements.specs.TagRows.{Pairs}
-use Rattle.osm_elements.specs.Facts.Rows.{same, same_names, same_rows}
-use Rattle.osm_elements.specs.Facts.Tests.{both_true, first_true, second_true}
-use Rattle.osm_changes.specs.SameRows.{are_same_names, are_same_members, are_same_tags}
-use Rattle.osm_changes.specs.Sound.{is_sound, most_nodes, most_members}
-use Rattle.osm_changes.specs.Facts.SameElements.{told_same_row}
-use Rattle.osm_changes.specs.Facts.SoundRows.{sound_in_order}
-use Rattle.edit_simple.specs.declared.refusal.Refusal.{Refusal}
-use Rattle.edit_simple.specs.declared.refusal.Refusal.TheVariants.{Absent, WrongKind, OutOfRange, TooFew, TooMany, Nothing}
+use Rattle.room_interface.specs.declared.refusal.Refusal.{Refusal}
+use Rattle.room_interface.specs.declared.refusal.Refusal.TheVariants.{Absent, WrongKind, OutOfRange, TooFew, TooMany, Nothing}
 use Rattle.edit_simple.specs.Checks.{first_that_holds, the_least}
 use Rattle.edit_simple.specs.Contents.{row_tags, nodes_of, members_of, with_tags, with_nodes, with_members, each_row, at_name}
 use Rattle.edit_simple.specs.Kinds.{is_way, is_relation}
@@ -31,7 +17,8 @@ use Rattle.edit_simple.specs.Move.{is_moved, moved_by, left_range, move_checks, 
 use Rattle.edit_simple.specs.Nodes.{nodes_checks, after_nodes}
 use Rattle.edit_simple.specs.Retag.{retag_checks, after_retag}
 use Rattle.edit_simple.specs.Reverse.{reverse_checks, after_reverse}
-use Rattle.edit_simple.specs.Tagging.{GivenTags, retagged, most_tags}
+use Rattle.room_interface.specs.GivenTags.{GivenTags}
+use Rattle.edit_simple.specs.Tagging.{retagged, most_tags}
 use Rattle.edit_simple.specs.Facts.EachRow.{AreInOrder-each_row, row_at-each_row}
 
 -- ---- checks with another refusal do not hold
@@ -52,13 +39,13 @@ last_holds false y e = absurd (cc)
 -- ---- the tests of equality are exact
 
 told_tags : (p q : Pairs) → are_same_tags p q ≡ true → p ≡ q
-told_tags p q e = ap (row_tags {A = ⊤}) (told_same_row {A = ⊤} (Some (Way [] p)) (Some (Way [] q)) (both_true (are_same_names [] []) (are_same_tags p q) refl e))
+told_tags p q e = ap (row_tags {A = ⊤}) (equal_row {A = ⊤} (Some (Way [] p)) (Some (Way [] q)) (both_true (are_same_names [] []) (are_same_tags p q) refl e))
 
 told_nodes : (p q : List Name) → are_same_names p q ≡ true → p ≡ q
-told_nodes p q e = ap (nodes_of {A = ⊤}) (told_same_row {A = ⊤} (Some (Way p [])) (Some (Way q [])) (both_true (are_same_names p q) (are_same_tags [] []) e refl))
+told_nodes p q e = ap (nodes_of {A = ⊤}) (equal_row {A = ⊤} (Some (Way p [])) (Some (Way q [])) (both_true (are_same_names p q) (are_same_tags [] []) e refl))
 
 told_members : (p q : List (Name × List ℕ)) → are_same_members p q ≡ true → p ≡ q
-told_members p q e = ap (members_of {A = ⊤}) (told_same_row {A = ⊤} (Some (Relation p [])) (Some (Relation q [])) (both_true (are_same_members p q) (are_same_tags [] []) e refl))
+told_members p q e = ap (members_of {A = ⊤}) (equal_row {A = ⊤} (Some (Relation p [])) (Some (Relation q [])) (both_true (are_same_members p q) (are_same_tags [] []) e refl))
 
 told_zero : (z : ℤ) → int_eq z (pos 0) ≡ true → z ≡ pos 0
 told_zero z e = int_cmp-IsAntisymmetric z (pos 0) (same (int_cmp z (pos 0)) e)

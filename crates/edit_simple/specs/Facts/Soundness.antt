@@ -1,37 +1,19 @@
 -- The sound rows of a map, and the first row that is not sound.
-use Rattle.std.proofs.Common.{◌≡◌, ◌&&◌, ◌++◌, ℕ, Bool, true, false, not, List, [], ◌∷◌, Some, None, is_some, length, nat_le, nat_lt, refl, sym, ap, subst, ◌∙◌, cond, arith}
+use Rattle.std.proofs.Common.{sym, ap, subst, ◌∙◌, arith}
+use Rattle.std.specs.Prelude.{◌≡◌, ◌&&◌, ◌++◌, ℕ, Bool, true, false, not, List, [], ◌∷◌, Some, None, is_some, length, nat_le, nat_lt, refl, cond, filter}
 use Rattle.std.proofs.lemmas.Bool.Decides.{nat_tests}
-use Rattle.std.specs.Bool.{then_some}
-use Rattle.std.specs.Cmp.{tied_itself}
-use Rattle.std.specs.declared.cmp.Ordering.{Ordering}
-use Rattle.std.specs.declared.cmp.Ordering.TheVariants.{Less, Equal, Greater}
-use Rattle.std.specs.FinMap.Entries.{below_all, is_sorted}
-use Rattle.std.specs.List.{filter, list_all}
-use Rattle.std.specs.Ordering.{is_eq, is_lt, ordering_reverse}
+use Rattle.osm_drafts.specs.Prelude.{then_some, tied_itself, Ordering, Less, Equal, Greater, below_all, is_sorted, list_all, is_eq, is_lt, ordering_reverse, kind_of, is_made, name_cmp, Rows, is_kind, is_present, is_same, are_of_kinds, AreInOrder, row_at, below_less, find_below, first, second, later_differs, name_cmp_total, is_eq-name_cmp_itself, row_at_is_find, same_names, both_true, first_true, second_true, is_true, references, is_of_length, is_sound, is_sound_row, most_members, most_nodes, sound_row}
 use Rattle.osm_elements.specs.declared.name.Name.{Name}
 use Rattle.osm_elements.specs.declared.element.Element.{Element}
 use Rattle.osm_elements.specs.declared.element.Element.TheVariants.{Node, Way, Relation}
-use Rattle.osm_elements.specs.Elements.{kind_of}
-use Rattle.osm_elements.specs.Made.{is_made}
-use Rattle.osm_elements.specs.NameOrder.{name_cmp}
-use Rattle.osm_elements.specs.Maps.{Rows, is_kind, is_present, is_same}
-use Rattle.osm_elements.specs.Rows.{AreInOrder, row_at}
-use Rattle.osm_elements.specs.Facts.Entries.{below_less, find_below, first, second}
-use Rattle.osm_elements.specs.Facts.MadeMaps.{later_differs}
-use Rattle.osm_elements.specs.Facts.Names.{name_cmp_total}
-use Rattle.osm_elements.specs.Facts.Rows.{is_eq-name_cmp_itself, row_at_is_find, same_names}
-use Rattle.osm_elements.specs.Facts.Tests.{both_true, first_true, second_true}
-use Rattle.osm_refs.specs.References.{references}
-use Rattle.osm_changes.specs.Sound.{is_of_length, is_sound, is_sound_row, most_members, most_nodes}
-use Rattle.osm_changes.specs.Facts.SoundRows.{is_true, sound_row}
-use Rattle.edit_simple.specs.declared.refusal.Refusal.{Refusal}
-use Rattle.edit_simple.specs.declared.refusal.Refusal.TheVariants.{Absent, TooFew, TooMany}
+use Rattle.room_interface.specs.declared.refusal.Refusal.{Refusal}
+use Rattle.room_interface.specs.declared.refusal.Refusal.TheVariants.{Absent, TooFew, TooMany}
 use Rattle.edit_simple.specs.Checks.{first_that_holds, the_least}
 use Rattle.edit_simple.specs.Create.{is_missing, is_too_long, is_too_short, list_checks}
 use Rattle.edit_simple.specs.Facts.Checked.{no_least, nones, not_so}
 use Rattle.edit_simple.specs.Facts.Creating.{long_enough}
 use Rattle.edit_simple.specs.Facts.Lists.{all_from, none_left}
-use Rattle.edit_simple.specs.Soundness.{IsFirstUnsound, are_of_kinds}
+use Rattle.edit_simple.specs.Soundness.{IsFirstUnsound}
 
 at_most : (n k : ℕ) → nat_le n k ≡ true → nat_lt k n ≡ false
 at_most n k e = grind (arith, nat_tests)

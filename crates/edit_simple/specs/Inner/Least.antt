@@ -1,8 +1,7 @@
 -- The least name of a list, found name by name.
 use Rattle.std.specs.Prelude.{Option, Some, None}
-use Rattle.std.specs.Ordering.{ord_min}
+use Rattle.room_interface.specs.Prelude.{ord_min, name_cmp}
 use Rattle.osm_elements.specs.declared.name.Name.{Name}
-use Rattle.osm_elements.specs.NameOrder.{name_cmp}
 
 -- the lesser of two names, or the second if there is no first
 abbrev pub lesser_of : Option Name → Name → Name

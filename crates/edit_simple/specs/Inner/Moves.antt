@@ -1,17 +1,13 @@
 -- Moves, node by node.
-use Rattle.std.specs.Prelude.{◌≡◌, ◌⊎◌, ◌&&◌, ℤ, pos, Bool, true, false, List, [], Option, Some, None, Result, MatchResult}
-use Rattle.std.specs.List.{filter, list_all}
-use Rattle.std.specs.Ordering.{int_eq}
+use Rattle.std.specs.Prelude.{◌≡◌, ◌⊎◌, ◌&&◌, ℤ, pos, Bool, true, false, List, [], Option, Some, None, Result, MatchResult, filter}
+use Rattle.osm_drafts.specs.Prelude.{list_all, int_eq, Rows, least, row_at, rows_changes}
 use Rattle.osm_elements.specs.declared.name.Name.{Name}
 use Rattle.osm_elements.specs.declared.element.Element.{Element}
 use Rattle.osm_elements.specs.declared.element.Element.TheVariants.{Node, Way, Relation}
-use Rattle.osm_elements.specs.Maps.{Rows, least}
-use Rattle.osm_elements.specs.Rows.{row_at}
 use Rattle.osm_refs.specs.Rising.{IsRising}
 use Rattle.osm_changes.specs.declared.change.Change.{Change}
-use Rattle.osm_changes.specs.Changes.{rows_changes}
-use Rattle.edit_simple.specs.declared.refusal.Refusal.{Refusal}
-use Rattle.edit_simple.specs.declared.refusal.Refusal.TheVariants.{OutOfRange, Memory}
+use Rattle.room_interface.specs.declared.refusal.Refusal.{Refusal}
+use Rattle.room_interface.specs.declared.refusal.Refusal.TheVariants.{OutOfRange, Memory}
 use Rattle.edit_simple.specs.Inner.Moving.{row_leaves, moved_row}
 
 module _ {A : Type 0} where

@@ -1,12 +1,8 @@
 -- Purges, name by name.
-use Rattle.std.specs.Prelude.{not, List, [], ◌∷◌, Option, None, if◌then◌else◌}
-use Rattle.std.specs.List.{filter, flat_map}
-use Rattle.std.specs.Option.{option_map}
+use Rattle.std.specs.Prelude.{not, List, [], ◌∷◌, Option, None, if◌then◌else◌, filter, flat_map, option_map}
+use Rattle.osm_drafts.specs.Prelude.{Rows, is_among, row_at, Table, users_in}
 use Rattle.osm_elements.specs.declared.name.Name.{Name}
 use Rattle.osm_elements.specs.declared.element.Element.{Element}
-use Rattle.osm_elements.specs.Maps.{Rows, is_among}
-use Rattle.osm_elements.specs.Rows.{row_at}
-use Rattle.osm_refs.specs.Tables.{Table, users_in}
 use Rattle.edit_simple.specs.Contents.{nodes_of, with_nodes, with_members}
 use Rattle.edit_simple.specs.Purge.{without, falls_short}
 

@@ -1,10 +1,6 @@
 -- A retag in two passes: the first removes tags, and the second sets values.
-use Rattle.std.specs.Prelude.{ℕ, List, Option, Some, None}
-use Rattle.std.specs.List.{fold}
-use Rattle.std.specs.FinMap.Entries.{put}
-use Rattle.osm_elements.specs.KeyedRows.{text_cmp, without_key}
-use Rattle.osm_elements.specs.TagRows.{Pairs}
-use Rattle.edit_simple.specs.Tagging.{GivenTags}
+use Rattle.std.specs.Prelude.{ℕ, List, Option, Some, None, fold}
+use Rattle.room_interface.specs.Prelude.{put, text_cmp, without_key, Pairs, GivenTags}
 
 -- the tags after the first pass for one key
 abbrev pub removed : Pairs → List ℕ → Option (List ℕ) → Pairs

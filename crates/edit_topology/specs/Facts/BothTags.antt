@@ -1,28 +1,11 @@
 -- The united tags of two elements are valid tags. An element's tags united with themselves are unchanged.
-use Rattle.std.proofs.Common.{◌≡◌, ℕ, Bool, true, false, not, ◌&&◌, T, List, [], ◌∷◌, Option, Some, None, length, nat_lt, refl, sym, ap, ◌∙◌, cond}
-use Rattle.std.specs.FinMap.{nat_cmp-IsAntisymmetric, slice_cmp-IsAntisymmetric}
-use Rattle.std.specs.FinMap.Entries.{put, is_sorted, below_all, is_sorted-put, find-put, same_entries}
-use Rattle.std.specs.Cmp.{tied_itself}
-use Rattle.std.specs.Cmp.Lexicographic.{nat_list_cmp_total}
-use Rattle.std.specs.List as lists
-use Rattle.std.specs.Option.{option_map}
-use Rattle.std.specs.Ordering.{is_eq}
+use Rattle.std.proofs.Common.{sym, ap, ◌∙◌}
+use Rattle.std.specs.Prelude.{◌≡◌, ℕ, Bool, true, false, not, ◌&&◌, T, List, [], ◌∷◌, Option, Some, None, length, nat_lt, refl, cond, option_map}
+use Rattle.edit_simple.specs.Prelude.{nat_cmp-IsAntisymmetric, slice_cmp-IsAntisymmetric, put, is_sorted, below_all, is_sorted-put, find-put, same_entries, tied_itself, nat_list_cmp_total, is_eq, Rows, row_at, text_cmp, value_at, Pairs, is_tag, are_tags, is_same_text, first, second, find_below, same, first_true, second_true, is_sound, row_tags, most_tags, tags_put, tags_from, tags_sorted, tags_all, same_tags_itself, made_tags, fine}
 use Rattle.osm_elements.specs.declared.name.Name.{Name}
 use Rattle.osm_elements.specs.declared.element.Element.{Element}
-use Rattle.osm_elements.specs.Maps.{Rows}
-use Rattle.osm_elements.specs.Rows.{row_at}
-use Rattle.osm_elements.specs.KeyedRows.{text_cmp, value_at}
-use Rattle.osm_elements.specs.TagRows.{Pairs, is_tag, are_tags}
-use Rattle.osm_elements.specs.Texts.{is_same_text}
-use Rattle.osm_elements.specs.Facts.Entries.{first, second, find_below}
-use Rattle.osm_elements.specs.Facts.Rows.{same}
-use Rattle.osm_elements.specs.Facts.Tests.{first_true, second_true}
-use Rattle.osm_changes.specs.Sound.{is_sound}
-use Rattle.edit_simple.specs.Contents.{row_tags}
-use Rattle.edit_simple.specs.Tagging.{most_tags}
-use Rattle.edit_simple.specs.Facts.Retagging.{tags_put, tags_from, tags_sorted, tags_all, same_tags_itself, made_tags}
-use Rattle.edit_simple.specs.Facts.Rewriting.{fine}
 use Rattle.edit_topology.specs.BothTags.{both_tags, is_another, conflict}
+use Rattle.std.specs.List as lists
 
 -- ---- united tags are tags
 

@@ -1,21 +1,11 @@
 -- The rows that an accepted split, join or merge changes in addition to its subjects', and the way that an unglue
 -- changes.
-use Rattle.std.proofs.Common.{◌≡◌, ◌≢◌, ◌+◌, ◌++◌, ℕ, Bool, true, false, ◌||◌, List, [], ◌∷◌, Option, Some, None, is_some, take, map, refl, sym, ap, ◌∙◌, cond}
-use Rattle.std.specs.Option.{option_map}
+use Rattle.std.proofs.Common.{sym, ap, ◌∙◌}
+use Rattle.std.specs.Prelude.{◌≡◌, ◌≢◌, ◌+◌, ◌++◌, ℕ, Bool, true, false, ◌||◌, List, [], ◌∷◌, Option, Some, None, is_some, take, map, refl, cond, option_map}
+use Rattle.edit_simple.specs.Prelude.{is_node, Rows, is_same, is_among, is_present, row_at, same_names, is_eq-name_cmp_itself, references, row_references, is_sound, first_that_holds, with_nodes, with_members, told_way, or_left, or_right, all_listed, fine}
 use Rattle.osm_elements.specs.declared.name.Name.{Name}
 use Rattle.osm_elements.specs.declared.element.Element.{Element}
 use Rattle.osm_elements.specs.declared.element.Element.TheVariants.{Node, Way, Relation}
-use Rattle.osm_elements.specs.Made.{is_node}
-use Rattle.osm_elements.specs.Maps.{Rows, is_same, is_among, is_present}
-use Rattle.osm_elements.specs.Rows.{row_at}
-use Rattle.osm_elements.specs.Facts.Rows.{same_names, is_eq-name_cmp_itself}
-use Rattle.osm_refs.specs.References.{references, row_references}
-use Rattle.osm_changes.specs.Sound.{is_sound}
-use Rattle.edit_simple.specs.Checks.{first_that_holds}
-use Rattle.edit_simple.specs.Contents.{with_nodes, with_members}
-use Rattle.edit_simple.specs.Facts.Kinds.{told_way}
-use Rattle.edit_simple.specs.Facts.Lists.{or_left, or_right, all_listed}
-use Rattle.edit_simple.specs.Facts.Rewriting.{fine}
 use Rattle.edit_topology.specs.Join.{join_checks, after_join, join_row}
 use Rattle.edit_topology.specs.Merge.{merge_checks, after_merge, merge_row}
 use Rattle.edit_topology.specs.Split.{split_members, split_checks, after_split, split_row, split_off}

@@ -1,17 +1,9 @@
 -- A map from which one row is removed, and in which every other row is rewritten.
-use Rattle.std.proofs.Common.{◌≡◌, ◌≢◌, Bool, true, false, Some, None, is_some, sym, ap, ◌∙◌, cond}
-use Rattle.std.specs.Option.{option_map}
+use Rattle.std.proofs.Common.{sym, ap, ◌∙◌}
+use Rattle.std.specs.Prelude.{◌≡◌, ◌≢◌, Bool, true, false, Some, None, is_some, cond, option_map}
+use Rattle.edit_simple.specs.Prelude.{Rows, is_same, is_present, rows_but, row_at, is_eq-name_cmp_itself, row_at-rows_but, AreInOrder-rows_but, is_sound, sound_in_order, each_row, AreInOrder-each_row, row_at-each_row, Fine, Rewrites, stays_sound, rewritten, still_there, differ_at}
 use Rattle.osm_elements.specs.declared.name.Name.{Name}
 use Rattle.osm_elements.specs.declared.element.Element.{Element}
-use Rattle.osm_elements.specs.Maps.{Rows, is_same, is_present, rows_but}
-use Rattle.osm_elements.specs.Rows.{row_at}
-use Rattle.osm_elements.specs.Facts.Rows.{is_eq-name_cmp_itself}
-use Rattle.osm_elements.specs.Facts.Dropped.{row_at-rows_but, AreInOrder-rows_but}
-use Rattle.osm_changes.specs.Sound.{is_sound}
-use Rattle.osm_changes.specs.Facts.SoundRows.{sound_in_order}
-use Rattle.edit_simple.specs.Contents.{each_row}
-use Rattle.edit_simple.specs.Facts.EachRow.{AreInOrder-each_row, row_at-each_row}
-use Rattle.edit_simple.specs.Facts.Rewriting.{Fine, Rewrites, stays_sound, rewritten, still_there, differ_at}
 use Rattle.edit_topology.specs.Facts.Fitting.{same_fine}
 
 module _ {A : Type 0} where

@@ -1,19 +1,10 @@
 -- Lists that a way or a relation may have in a map.
-use Rattle.std.proofs.Common.{◌≡◌, ℕ, ℤ, Bool, true, false, not, ◌&&◌, List, [], Some, length, map, nat_le, refl, subst}
-use Rattle.std.specs.List.{filter}
+use Rattle.std.proofs.Common.{subst}
+use Rattle.std.specs.Prelude.{◌≡◌, ℕ, ℤ, Bool, true, false, not, ◌&&◌, List, [], Some, length, map, nat_le, refl, filter}
+use Rattle.edit_simple.specs.Prelude.{are_nodes, Rows, is_among, is_present, names_of, are_members, row_at, Pairs, are_tags, both_true, first_true, second_true, most_nodes, most_members, found_passes, none_passes, names_of_none, Fine}
 use Rattle.osm_elements.specs.declared.name.Name.{Name}
 use Rattle.osm_elements.specs.declared.element.Element.{Element}
 use Rattle.osm_elements.specs.declared.element.Element.TheVariants.{Node, Way, Relation}
-use Rattle.osm_elements.specs.Made.{are_nodes}
-use Rattle.osm_elements.specs.Maps.{Rows, is_among, is_present, names_of}
-use Rattle.osm_elements.specs.Members.{are_members}
-use Rattle.osm_elements.specs.Rows.{row_at}
-use Rattle.osm_elements.specs.TagRows.{Pairs, are_tags}
-use Rattle.osm_elements.specs.Facts.Tests.{both_true, first_true, second_true}
-use Rattle.osm_changes.specs.Sound.{most_nodes, most_members}
-use Rattle.osm_changes.specs.Facts.SoundRows.{found_passes, none_passes}
-use Rattle.edit_simple.specs.Facts.Deleting.{names_of_none}
-use Rattle.edit_simple.specs.Facts.Rewriting.{Fine}
 use Rattle.edit_topology.specs.Facts.Lists.{from_not}
 
 module _ {A : Type 0} where

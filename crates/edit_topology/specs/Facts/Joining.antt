@@ -1,33 +1,13 @@
 -- An accepted join keeps a sound map sound, and changes it.
-use Rattle.std.proofs.Common.{◌≡◌, ◌≢◌, ◌≤◌, ◌&&◌, ℕ, Bool, true, false, not, ◌||◌, List, [], ◌∷◌, Option, Some, None, length, nat_lt, nat_le, drop, map, refl, sym, ap, subst, ◌∙◌, cond, arith, length-append}
+use Rattle.std.proofs.Common.{sym, ap, subst, ◌∙◌, arith, length-append}
+use Rattle.std.specs.Prelude.{◌≡◌, ◌≢◌, ◌≤◌, ◌&&◌, ℕ, Bool, true, false, not, ◌||◌, List, [], ◌∷◌, Option, Some, None, length, nat_lt, nat_le, drop, map, refl, cond, filter, zip}
 use Rattle.std.proofs.lemmas.List.{length-map}
-use Rattle.std.specs.List.{filter, zip}
+use Rattle.edit_simple.specs.Prelude.{tags_of, is_node, Rows, is_same, is_among, is_present, is_absent, are_members, row_at, Pairs, are_tags, is_long, is_same_text, is_among-append, same_either_way, same_names, both_true, first_true, second_true, is_sound, most_nodes, most_members, first_that_holds, is_way, nodes_of, row_tags, with_tags, with_members, at_name, most_tags, Nones, nones, not_so, from_false, told_way, way_there, or_right, at_least, all_listed, all_from, fine_tagged, made_tags, Fine, fine, at_one}
 use Rattle.osm_elements.specs.declared.name.Name.{Name}
 use Rattle.osm_elements.specs.declared.element.Element.{Element}
 use Rattle.osm_elements.specs.declared.element.Element.TheVariants.{Node, Way, Relation}
-use Rattle.osm_elements.specs.Elements.{tags_of}
-use Rattle.osm_elements.specs.Made.{is_node}
-use Rattle.osm_elements.specs.Maps.{Rows, is_same, is_among, is_present, is_absent}
-use Rattle.osm_elements.specs.Members.{are_members}
-use Rattle.osm_elements.specs.Rows.{row_at}
-use Rattle.osm_elements.specs.TagRows.{Pairs, are_tags}
-use Rattle.osm_elements.specs.Texts.{is_long, is_same_text}
-use Rattle.osm_elements.specs.Facts.Among.{is_among-append}
-use Rattle.osm_elements.specs.Facts.Dropped.{same_either_way}
-use Rattle.osm_elements.specs.Facts.Rows.{same_names}
-use Rattle.osm_elements.specs.Facts.Tests.{both_true, first_true, second_true}
-use Rattle.osm_changes.specs.Sound.{is_sound, most_nodes, most_members}
-use Rattle.edit_simple.specs.declared.refusal.Refusal.{Refusal}
-use Rattle.edit_simple.specs.declared.refusal.Refusal.TheVariants.{Absent, WrongKind, Same, TooMany}
-use Rattle.edit_simple.specs.Checks.{first_that_holds}
-use Rattle.edit_simple.specs.Kinds.{is_way}
-use Rattle.edit_simple.specs.Contents.{nodes_of, row_tags, with_tags, with_members, at_name}
-use Rattle.edit_simple.specs.Tagging.{most_tags}
-use Rattle.edit_simple.specs.Facts.Checked.{Nones, nones, not_so, from_false}
-use Rattle.edit_simple.specs.Facts.Kinds.{told_way, way_there}
-use Rattle.edit_simple.specs.Facts.Lists.{or_right, at_least, all_listed, all_from}
-use Rattle.edit_simple.specs.Facts.Retagging.{fine_tagged, made_tags}
-use Rattle.edit_simple.specs.Facts.Rewriting.{Fine, fine, at_one}
+use Rattle.room_interface.specs.declared.refusal.Refusal.{Refusal}
+use Rattle.room_interface.specs.declared.refusal.Refusal.TheVariants.{Absent, WrongKind, Same, TooMany}
 use Rattle.edit_topology.specs.BothTags.{both_tags}
 use Rattle.edit_topology.specs.Join.{end_to_end, goes_on, kept_members, joined_members, join_checks, after_join, lengthened, join_row}
 use Rattle.edit_topology.specs.Renaming.{renamed}

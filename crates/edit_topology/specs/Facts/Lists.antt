@@ -1,11 +1,10 @@
 -- Parts of lists of names, and tests over them.
-use Rattle.std.proofs.Common.{◌≡◌, ◌≤◌, ℕ, zero, suc, Bool, true, false, not, ◌||◌, List, [], ◌∷◌, nat_lt, nat_le, take, drop, refl, sym, ap, ◌∙◌, arith}
+use Rattle.std.proofs.Common.{sym, ap, ◌∙◌, arith}
+use Rattle.std.specs.Prelude.{◌≡◌, ◌≤◌, ℕ, zero, suc, Bool, true, false, not, ◌||◌, List, [], ◌∷◌, nat_lt, nat_le, take, drop, refl}
 use Rattle.std.proofs.lemmas.Bool.Decides.{nat_tests}
+use Rattle.edit_simple.specs.Prelude.{is_same, is_among, same_names, or_right}
 use Rattle.osm_elements.specs.declared.name.Name.{Name}
 use Rattle.osm_elements.specs.declared.name.Kind.{Kind}
-use Rattle.osm_elements.specs.Maps.{is_same, is_among}
-use Rattle.osm_elements.specs.Facts.Rows.{same_names}
-use Rattle.edit_simple.specs.Facts.Lists.{or_right}
 
 pub from_not : (b : Bool) → not b ≡ true → b ≡ false
 from_not true e = absurd (cc)

@@ -1,28 +1,13 @@
 -- An accepted merge keeps a sound map sound, and changes it.
-use Rattle.std.proofs.Common.{◌≡◌, ◌≢◌, ◌≤◌, suc, ℕ, Bool, true, false, ◌&&◌, ◌||◌, not, List, [], ◌∷◌, Some, None, length, nat_lt, nat_le, map, refl, sym, ap, ◌∙◌, cond, arith}
+use Rattle.std.proofs.Common.{sym, ap, ◌∙◌, arith}
+use Rattle.std.specs.Prelude.{◌≡◌, ◌≢◌, ◌≤◌, suc, ℕ, Bool, true, false, ◌&&◌, ◌||◌, not, List, [], ◌∷◌, Some, None, length, nat_lt, nat_le, map, refl, cond}
 use Rattle.std.proofs.lemmas.List.{length-map}
-use Rattle.std.specs.List.{dedup_from}
+use Rattle.edit_simple.specs.Prelude.{dedup_from, tags_of, is_node, Rows, is_same, is_among, is_present, is_absent, row_at, Pairs, same_either_way, same_names, both_true, first_true, second_true, is_sound, most_nodes, most_members, first_that_holds, nodes_of, row_tags, with_nodes, with_tags, with_members, at_name, most_tags, Nones, nones, not_so, from_false, no_least, or_right, at_least, all_listed, all_from, fine_tagged, made_tags, Fine, fine, at_one}
 use Rattle.osm_elements.specs.declared.name.Name.{Name}
 use Rattle.osm_elements.specs.declared.element.Element.{Element}
 use Rattle.osm_elements.specs.declared.element.Element.TheVariants.{Node, Way, Relation}
-use Rattle.osm_elements.specs.Elements.{tags_of}
-use Rattle.osm_elements.specs.Made.{is_node}
-use Rattle.osm_elements.specs.Maps.{Rows, is_same, is_among, is_present, is_absent}
-use Rattle.osm_elements.specs.Rows.{row_at}
-use Rattle.osm_elements.specs.TagRows.{Pairs}
-use Rattle.osm_elements.specs.Facts.Dropped.{same_either_way}
-use Rattle.osm_elements.specs.Facts.Rows.{same_names}
-use Rattle.osm_elements.specs.Facts.Tests.{both_true, first_true, second_true}
-use Rattle.osm_changes.specs.Sound.{is_sound, most_nodes, most_members}
-use Rattle.edit_simple.specs.declared.refusal.Refusal.{Refusal}
-use Rattle.edit_simple.specs.declared.refusal.Refusal.TheVariants.{Absent, WrongKind, Same, TooFew, TooMany}
-use Rattle.edit_simple.specs.Checks.{first_that_holds}
-use Rattle.edit_simple.specs.Contents.{nodes_of, row_tags, with_nodes, with_tags, with_members, at_name}
-use Rattle.edit_simple.specs.Tagging.{most_tags}
-use Rattle.edit_simple.specs.Facts.Checked.{Nones, nones, not_so, from_false, no_least}
-use Rattle.edit_simple.specs.Facts.Lists.{or_right, at_least, all_listed, all_from}
-use Rattle.edit_simple.specs.Facts.Retagging.{fine_tagged, made_tags}
-use Rattle.edit_simple.specs.Facts.Rewriting.{Fine, fine, at_one}
+use Rattle.room_interface.specs.declared.refusal.Refusal.{Refusal}
+use Rattle.room_interface.specs.declared.refusal.Refusal.TheVariants.{Absent, WrongKind, Same, TooFew, TooMany}
 use Rattle.edit_topology.specs.BothTags.{both_tags}
 use Rattle.edit_topology.specs.Merge.{without_doubled, merged_nodes, shrunk, merge_checks, after_merge, merge_row}
 use Rattle.edit_topology.specs.Renaming.{renamed, renamed_members}

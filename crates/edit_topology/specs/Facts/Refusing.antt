@@ -1,18 +1,10 @@
 -- A split is refused as `TooMany` only for users of the way.
-use Rattle.std.proofs.Common.{◌≡◌, Bool, true, false, ◌&&◌, [], ◌∷◌, Some, length, map, nat_lt, refl, ap, ◌∙◌, cond}
-use Rattle.std.specs.FinMap.Entries.{is_sorted}
-use Rattle.std.specs.List.{filter, list_all}
+use Rattle.std.proofs.Common.{ap, ◌∙◌}
+use Rattle.std.specs.Prelude.{◌≡◌, Bool, true, false, ◌&&◌, [], ◌∷◌, Some, length, map, nat_lt, refl, cond, filter}
+use Rattle.edit_simple.specs.Prelude.{is_sorted, list_all, kind_of, is_made, Rows, is_among, is_kind, is_present, names_of, name_cmp, first_true, second_true, references, refers_to, is_sound, is_sound_row, is_of_length, most_members, members_of}
 use Rattle.osm_elements.specs.declared.name.Name.{Name}
 use Rattle.osm_elements.specs.declared.element.Element.{Element}
 use Rattle.osm_elements.specs.declared.element.Element.TheVariants.{Node, Way, Relation}
-use Rattle.osm_elements.specs.Elements.{kind_of}
-use Rattle.osm_elements.specs.Made.{is_made}
-use Rattle.osm_elements.specs.Maps.{Rows, is_among, is_kind, is_present, names_of}
-use Rattle.osm_elements.specs.NameOrder.{name_cmp}
-use Rattle.osm_elements.specs.Facts.Tests.{first_true, second_true}
-use Rattle.osm_refs.specs.References.{references, refers_to}
-use Rattle.osm_changes.specs.Sound.{is_sound, is_sound_row, is_of_length, most_members}
-use Rattle.edit_simple.specs.Contents.{members_of}
 use Rattle.edit_topology.specs.Split.{split_members, overfull}
 use Rattle.edit_topology.specs.Facts.Lists.{not_more}
 use Rattle.edit_topology.specs.Facts.Staying.{split_members_same}

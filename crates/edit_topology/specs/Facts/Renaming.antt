@@ -1,9 +1,8 @@
 -- Lists in which one name replaces another.
-use Rattle.std.proofs.Common.{◌≡◌, ℕ, Bool, true, false, not, ◌&&◌, ◌||◌, List, [], ◌∷◌, map, refl, sym, ap, ◌∙◌, cond}
+use Rattle.std.proofs.Common.{sym, ap, ◌∙◌}
+use Rattle.std.specs.Prelude.{◌≡◌, ℕ, Bool, true, false, not, ◌&&◌, ◌||◌, List, [], ◌∷◌, map, refl, cond}
+use Rattle.edit_simple.specs.Prelude.{is_same, is_among, are_members, is_long}
 use Rattle.osm_elements.specs.declared.name.Name.{Name}
-use Rattle.osm_elements.specs.Maps.{is_same, is_among}
-use Rattle.osm_elements.specs.Members.{are_members}
-use Rattle.osm_elements.specs.Texts.{is_long}
 use Rattle.edit_topology.specs.Renaming.{renamed, renamed_members}
 
 -- the old name is gone

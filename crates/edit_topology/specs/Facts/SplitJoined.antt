@@ -1,31 +1,13 @@
 -- A join of both parts of a split way gives the way that was split.
-use Rattle.std.proofs.Common.{◌≡◌, ◌+◌, ◌++◌, ℕ, zero, suc, Bool, true, false, not, ◌&&◌, List, [], ◌∷◌, Option, Some, None, is_some, length, nat_lt, nat_le, take, drop, map, refl, sym, ap, ◌∙◌, cond, add-one, arith}
+use Rattle.std.proofs.Common.{sym, ap, ◌∙◌, add-one, arith}
+use Rattle.std.specs.Prelude.{◌≡◌, ◌+◌, ◌++◌, ℕ, zero, suc, Bool, true, false, not, ◌&&◌, List, [], ◌∷◌, Option, Some, None, is_some, length, nat_lt, nat_le, take, drop, map, refl, cond, slice_get, option_map, unwrap_or}
 use Rattle.std.proofs.lemmas.Bool.Decides.{nat_tests}
-use Rattle.std.specs.Bool.{then_some}
-use Rattle.std.specs.List.{last_or, slice_get, list_all}
-use Rattle.std.specs.Option.{option_eq, option_map, unwrap_or}
-use Rattle.std.specs.FinMap.Entries.{is_sorted}
+use Rattle.edit_simple.specs.Prelude.{then_some, last_or, list_all, option_eq, is_sorted, Rows, is_same, is_among, is_present, is_absent, row_at, text_cmp, Pairs, is_tag, are_tags, is_same_text, same_names, is_eq-name_cmp_itself, same_rows, both_true, first_true, second_true, is_sound, most_nodes, sound_in_order, first_that_holds, is_way, nodes_of, row_tags, with_nodes, with_members, most_tags, Nones, made_tags, Fine, fine}
 use Rattle.osm_elements.specs.declared.name.Name.{Name}
 use Rattle.osm_elements.specs.declared.element.Element.{Element}
 use Rattle.osm_elements.specs.declared.element.Element.TheVariants.{Node, Way, Relation}
-use Rattle.osm_elements.specs.Maps.{Rows, is_same, is_among, is_present, is_absent}
-use Rattle.osm_elements.specs.Rows.{row_at}
-use Rattle.osm_elements.specs.KeyedRows.{text_cmp}
-use Rattle.osm_elements.specs.TagRows.{Pairs, is_tag, are_tags}
-use Rattle.osm_elements.specs.Texts.{is_same_text}
-use Rattle.osm_elements.specs.Facts.Rows.{same_names, is_eq-name_cmp_itself, same_rows}
-use Rattle.osm_elements.specs.Facts.Tests.{both_true, first_true, second_true}
-use Rattle.osm_changes.specs.Sound.{is_sound, most_nodes}
-use Rattle.osm_changes.specs.Facts.SoundRows.{sound_in_order}
-use Rattle.edit_simple.specs.declared.refusal.Refusal.{Refusal}
-use Rattle.edit_simple.specs.declared.refusal.Refusal.TheVariants.{Absent, WrongKind, Same, NotEndToEnd, TagConflict, TooMany}
-use Rattle.edit_simple.specs.Checks.{first_that_holds}
-use Rattle.edit_simple.specs.Kinds.{is_way}
-use Rattle.edit_simple.specs.Contents.{nodes_of, row_tags, with_nodes, with_members}
-use Rattle.edit_simple.specs.Tagging.{most_tags}
-use Rattle.edit_simple.specs.Facts.Checked.{Nones}
-use Rattle.edit_simple.specs.Facts.Retagging.{made_tags}
-use Rattle.edit_simple.specs.Facts.Rewriting.{Fine, fine}
+use Rattle.room_interface.specs.declared.refusal.Refusal.{Refusal}
+use Rattle.room_interface.specs.declared.refusal.Refusal.TheVariants.{Absent, WrongKind, Same, NotEndToEnd, TagConflict, TooMany}
 use Rattle.edit_topology.specs.BothTags.{both_tags, conflict}
 use Rattle.edit_topology.specs.Join.{meet_end_to_end, end_to_end, goes_on, kept_members, joined_members, join_checks, after_join, lengthened, join_row}
 use Rattle.edit_topology.specs.Renaming.{renamed_members}

@@ -1,35 +1,18 @@
 -- An accepted split keeps a sound map sound, and changes it.
-use Rattle.std.proofs.Common.{◌≡◌, ◌≢◌, ◌≤◌, ◌+◌, ◌-◌, ◌++◌, min, ℕ, Bool, true, false, not, ◌&&◌, ◌||◌, List, [], ◌∷◌, Some, None, is_some, length, nat_lt, nat_le, take, drop, map, refl, sym, ap, subst, ◌∙◌, cond, arith, length-drop}
+use Rattle.std.proofs.Common.{sym, ap, subst, ◌∙◌, arith, length-drop}
+use Rattle.std.specs.Prelude.{◌≡◌, ◌≢◌, ◌≤◌, ◌+◌, ◌-◌, ◌++◌, min, ℕ, Bool, true, false, not, ◌&&◌, ◌||◌, List, [], ◌∷◌, Some, None, is_some, length, nat_lt, nat_le, take, drop, map, refl, cond, option_map, unwrap_or}
 use Rattle.std.proofs.lemmas.Bool.Decides.{nat_tests}
 use Rattle.std.proofs.lemmas.List.{length-take}
-use Rattle.std.specs.Option.{option_map, unwrap_or}
+use Rattle.edit_simple.specs.Prelude.{is_node, Rows, is_same, is_among, is_kind, is_present, is_absent, are_members, row_at, Pairs, is_long, same_names, is_eq-name_cmp_itself, row_at-put_row, AreInOrder-put_row, both_true, first_true, second_true, is_sound, most_nodes, most_members, sound_in_order, first_that_holds, is_way, nodes_of, members_of, row_tags, with_nodes, with_members, each_row, at_name, Nones, nones, not_so, from_false, no_least, AreInOrder-each_row, row_at-each_row, told_way, way_there, at_least, all_listed, all_from, Fine, fine, Rewrites, stays_sound, rewritten, still_there, at_one, differ_at}
 use Rattle.osm_elements.specs.declared.name.Name.{Name}
-use Rattle.osm_elements.specs.declared.name.Kind.TheVariants as kinds
 use Rattle.osm_elements.specs.declared.element.Element.{Element}
 use Rattle.osm_elements.specs.declared.element.Element.TheVariants.{Node, Way, Relation}
-use Rattle.osm_elements.specs.Made.{is_node}
-use Rattle.osm_elements.specs.Maps.{Rows, is_same, is_among, is_kind, is_present, is_absent}
-use Rattle.osm_elements.specs.Members.{are_members}
-use Rattle.osm_elements.specs.Rows.{row_at}
-use Rattle.osm_elements.specs.TagRows.{Pairs}
-use Rattle.osm_elements.specs.Texts.{is_long}
-use Rattle.osm_elements.specs.Facts.Rows.{same_names, is_eq-name_cmp_itself, row_at-put_row, AreInOrder-put_row}
-use Rattle.osm_elements.specs.Facts.Tests.{both_true, first_true, second_true}
-use Rattle.osm_changes.specs.Sound.{is_sound, most_nodes, most_members}
-use Rattle.osm_changes.specs.Facts.SoundRows.{sound_in_order}
-use Rattle.edit_simple.specs.declared.refusal.Refusal.{Refusal}
-use Rattle.edit_simple.specs.declared.refusal.Refusal.TheVariants.{Absent, Present, WrongKind, BadPosition, TooMany}
-use Rattle.edit_simple.specs.Checks.{first_that_holds}
-use Rattle.edit_simple.specs.Kinds.{is_way}
-use Rattle.edit_simple.specs.Contents.{nodes_of, members_of, row_tags, with_nodes, with_members, each_row, at_name}
-use Rattle.edit_simple.specs.Facts.Checked.{Nones, nones, not_so, from_false, no_least}
-use Rattle.edit_simple.specs.Facts.EachRow.{AreInOrder-each_row, row_at-each_row}
-use Rattle.edit_simple.specs.Facts.Kinds.{told_way, way_there}
-use Rattle.edit_simple.specs.Facts.Lists.{at_least, all_listed, all_from}
-use Rattle.edit_simple.specs.Facts.Rewriting.{Fine, fine, Rewrites, stays_sound, rewritten, still_there, at_one, differ_at}
+use Rattle.room_interface.specs.declared.refusal.Refusal.{Refusal}
+use Rattle.room_interface.specs.declared.refusal.Refusal.TheVariants.{Absent, Present, WrongKind, BadPosition, TooMany}
 use Rattle.edit_topology.specs.Split.{is_inside, split_members, overfull, split_checks, after_split, split_row, split_off}
 use Rattle.edit_topology.specs.Facts.Fitting.{FitsWay, way_fits, relation_fits, fine_node, fine_way, fine_relation, same_fine, none_named}
 use Rattle.edit_topology.specs.Facts.Lists.{or_cases, still_short, drop_within, take_within}
+use Rattle.osm_elements.specs.declared.name.Kind.TheVariants as kinds
 
 -- ---- the two lists
 

@@ -1,14 +1,10 @@
 -- The rows that a split, a join, a merge or an unglue leaves unchanged.
-use Rattle.std.proofs.Common.{◌≡◌, ◌+◌, ◌++◌, ℕ, false, List, [], ◌∷◌, Option, Some, None, take, map, set, refl, ap, ◌∙◌, cond}
-use Rattle.std.specs.Option.{option_map}
+use Rattle.std.proofs.Common.{ap, ◌∙◌}
+use Rattle.std.specs.Prelude.{◌≡◌, ◌+◌, ◌++◌, ℕ, false, List, [], ◌∷◌, Option, Some, None, take, map, set, refl, cond, option_map}
+use Rattle.edit_simple.specs.Prelude.{Rows, is_same, is_among, row_at, same_either_way, references, row_references, with_nodes, with_members}
 use Rattle.osm_elements.specs.declared.name.Name.{Name}
 use Rattle.osm_elements.specs.declared.element.Element.{Element}
 use Rattle.osm_elements.specs.declared.element.Element.TheVariants.{Node, Way, Relation}
-use Rattle.osm_elements.specs.Maps.{Rows, is_same, is_among}
-use Rattle.osm_elements.specs.Rows.{row_at}
-use Rattle.osm_elements.specs.Facts.Dropped.{same_either_way}
-use Rattle.osm_refs.specs.References.{references, row_references}
-use Rattle.edit_simple.specs.Contents.{with_nodes, with_members}
 use Rattle.edit_topology.specs.Join.{kept_members, joined_members, after_join, lengthened, join_row}
 use Rattle.edit_topology.specs.Merge.{without_doubled, merged_nodes, after_merge, united, merge_row}
 use Rattle.edit_topology.specs.Renaming.{renamed, renamed_members}

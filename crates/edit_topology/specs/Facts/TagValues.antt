@@ -1,20 +1,10 @@
 -- The value that united tags have at a key, and the meaning of a conflict.
-use Rattle.std.proofs.Common.{◌≡◌, ◌≢◌, ℕ, Bool, true, false, not, T, List, [], ◌∷◌, Option, Some, None, refl, sym, ap, subst, ◌∙◌, cond}
-use Rattle.std.specs.Cmp.{tied_itself}
-use Rattle.std.specs.Cmp.Lexicographic.{nat_list_cmp_total}
-use Rattle.std.specs.List as lists
-use Rattle.std.specs.Option.{option_map, option_or, unwrap_or}
-use Rattle.std.specs.Ordering.{is_eq, is_lt}
-use Rattle.std.specs.declared.cmp.Ordering.TheVariants.{Less}
-use Rattle.std.specs.FinMap.Entries.{put, is_sorted, below_all, find-put}
-use Rattle.osm_elements.specs.KeyedRows.{text_cmp, value_at}
-use Rattle.osm_elements.specs.TagRows.{Pairs, are_tags}
-use Rattle.osm_elements.specs.Texts.{is_same_text}
-use Rattle.osm_elements.specs.Facts.Entries.{both, first, second, find_below, below_less}
-use Rattle.osm_changes.specs.Facts.SameElements.{same_texts}
-use Rattle.edit_simple.specs.Facts.Retagging.{tags_sorted}
+use Rattle.std.proofs.Common.{sym, ap, subst, ◌∙◌}
+use Rattle.std.specs.Prelude.{◌≡◌, ◌≢◌, ℕ, Bool, true, false, not, T, List, [], ◌∷◌, Option, Some, None, refl, cond, option_map, unwrap_or}
+use Rattle.edit_simple.specs.Prelude.{tied_itself, nat_list_cmp_total, option_or, is_eq, is_lt, Less, put, is_sorted, below_all, find-put, text_cmp, value_at, Pairs, are_tags, is_same_text, both, first, second, find_below, below_less, same_texts, tags_sorted}
 use Rattle.edit_topology.specs.BothTags.{both_tags, is_another, conflict, HasTwo}
 use Rattle.edit_topology.specs.Facts.BothTags.{same_keys, same_text_itself, later}
+use Rattle.std.specs.List as lists
 
 -- the value at each key is the others', or else the tags' own
 values_both : (others tags : Pairs) → T (is_sorted text_cmp others) → (key : List ℕ) → value_at (both_tags tags others) key ≡ option_or (value_at others key) (value_at tags key)

@@ -1,32 +1,16 @@
 -- The facts of an accepted unglue, the rows after it, and that it keeps a sound map sound and changes it.
-use Rattle.std.proofs.Common.{◌≡◌, ◌≢◌, ℕ, ℤ, zero, suc, Bool, true, false, not, ◌&&◌, ◌||◌, List, [], ◌∷◌, Some, None, is_some, length, set, nat_lt, nat_le, refl, sym, ap, subst, ◌∙◌, cond, arith, length-set}
+use Rattle.std.proofs.Common.{sym, ap, subst, ◌∙◌, arith, length-set}
+use Rattle.std.specs.Prelude.{◌≡◌, ◌≢◌, ℕ, ℤ, zero, suc, Bool, true, false, not, ◌&&◌, ◌||◌, List, [], ◌∷◌, Some, None, is_some, length, set, nat_lt, nat_le, refl, cond, option_and_then, option_map, unwrap_or, slice_get}
 use Rattle.std.proofs.lemmas.Bool.Decides.{nat_tests}
-use Rattle.std.specs.List.{slice_get}
-use Rattle.std.specs.Option.{option_and_then, option_map, unwrap_or}
+use Rattle.edit_simple.specs.Prelude.{is_node, Rows, is_same, is_among, is_kind, is_present, is_absent, row_at, AreInOrder, Pairs, same_names, is_eq-name_cmp_itself, is_sound, most_nodes, row_at-with_row, AreInOrder-with_row, sound_in_order, first_that_holds, is_way, nodes_of, with_nodes, each_row, at_name, Nones, nones, not_so, from_false, AreInOrder-each_row, row_at-each_row, way_there, node_there, told_node, all_listed, all_from, or_right, is_among_own, Fine, fine, fine_in, stays_sound, rewritten, still_there, differ_at}
 use Rattle.osm_elements.specs.declared.name.Name.{Name}
-use Rattle.osm_elements.specs.declared.name.Kind.TheVariants as kinds
 use Rattle.osm_elements.specs.declared.element.Element.{Element}
 use Rattle.osm_elements.specs.declared.element.Element.TheVariants.{Node, Way, Relation}
-use Rattle.osm_elements.specs.Made.{is_node}
-use Rattle.osm_elements.specs.Maps.{Rows, is_same, is_among, is_kind, is_present, is_absent}
-use Rattle.osm_elements.specs.Rows.{row_at, AreInOrder}
-use Rattle.osm_elements.specs.TagRows.{Pairs}
-use Rattle.osm_elements.specs.Facts.Rows.{same_names, is_eq-name_cmp_itself}
-use Rattle.osm_changes.specs.Sound.{is_sound, most_nodes}
-use Rattle.osm_changes.specs.Facts.Changing.{row_at-with_row, AreInOrder-with_row}
-use Rattle.osm_changes.specs.Facts.SoundRows.{sound_in_order}
-use Rattle.edit_simple.specs.declared.refusal.Refusal.{Refusal}
-use Rattle.edit_simple.specs.declared.refusal.Refusal.TheVariants.{Absent, Present, WrongKind, BadPosition}
-use Rattle.edit_simple.specs.Checks.{first_that_holds}
-use Rattle.edit_simple.specs.Kinds.{is_way}
-use Rattle.edit_simple.specs.Contents.{nodes_of, with_nodes, each_row, at_name}
-use Rattle.edit_simple.specs.Facts.Checked.{Nones, nones, not_so, from_false}
-use Rattle.edit_simple.specs.Facts.EachRow.{AreInOrder-each_row, row_at-each_row}
-use Rattle.edit_simple.specs.Facts.Kinds.{way_there, node_there, told_node}
-use Rattle.edit_simple.specs.Facts.Lists.{all_listed, all_from, or_right, is_among_own}
-use Rattle.edit_simple.specs.Facts.Rewriting.{Fine, fine, fine_in, stays_sound, rewritten, still_there, differ_at}
+use Rattle.room_interface.specs.declared.refusal.Refusal.{Refusal}
+use Rattle.room_interface.specs.declared.refusal.Refusal.TheVariants.{Absent, Present, WrongKind, BadPosition}
 use Rattle.edit_topology.specs.Facts.Fitting.{FitsWay, way_fits, fine_way, same_fine}
 use Rattle.edit_topology.specs.Unglue.{row_standing, unglue_checks, after_unglue}
+use Rattle.osm_elements.specs.declared.name.Kind.TheVariants as kinds
 
 -- ---- lists with one entry replaced
 

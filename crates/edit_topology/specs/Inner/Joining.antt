@@ -1,17 +1,11 @@
 -- A join, check by check and row by row.
-use Rattle.std.specs.Prelude.{not, List, [], ◌∷◌, Option, Some, None, length, nat_lt, if◌then◌else◌}
-use Rattle.std.specs.Bool.{then_some}
-use Rattle.std.specs.Option.{option_map}
+use Rattle.std.specs.Prelude.{not, List, [], ◌∷◌, Option, Some, None, length, nat_lt, if◌then◌else◌, option_map}
+use Rattle.edit_simple.specs.Prelude.{then_some, Rows, is_same, row_at, most_nodes, is_way, nodes_of, row_tags, with_members}
 use Rattle.osm_elements.specs.declared.name.Name.{Name}
 use Rattle.osm_elements.specs.declared.element.Element.{Element}
 use Rattle.osm_elements.specs.declared.element.Element.TheVariants.{Way}
-use Rattle.osm_elements.specs.Maps.{Rows, is_same}
-use Rattle.osm_elements.specs.Rows.{row_at}
-use Rattle.osm_changes.specs.Sound.{most_nodes}
-use Rattle.edit_simple.specs.declared.refusal.Refusal.{Refusal}
-use Rattle.edit_simple.specs.declared.refusal.Refusal.TheVariants.{WrongKind, Same, NotEndToEnd, TooMany}
-use Rattle.edit_simple.specs.Kinds.{is_way}
-use Rattle.edit_simple.specs.Contents.{nodes_of, row_tags, with_members}
+use Rattle.room_interface.specs.declared.refusal.Refusal.{Refusal}
+use Rattle.room_interface.specs.declared.refusal.Refusal.TheVariants.{WrongKind, Same, NotEndToEnd, TooMany}
 use Rattle.edit_topology.specs.BothTags.{both_tags}
 use Rattle.edit_topology.specs.Join.{meet_end_to_end, end_to_end, joined_members}
 

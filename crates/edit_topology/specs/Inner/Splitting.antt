@@ -1,12 +1,9 @@
 -- A split, row by row.
 use Rattle.std.specs.Prelude.{◌+◌, ℕ, Bool, true, false, List, [], ◌∷◌, Option, Some, None, length, take, drop, count_by, nat_lt, if◌then◌else◌}
+use Rattle.edit_simple.specs.Prelude.{Rows, is_same, row_at, most_members, nodes_of, members_of, row_tags, with_nodes, with_members}
 use Rattle.osm_elements.specs.declared.name.Name.{Name}
 use Rattle.osm_elements.specs.declared.element.Element.{Element}
 use Rattle.osm_elements.specs.declared.element.Element.TheVariants.{Node, Way, Relation}
-use Rattle.osm_elements.specs.Maps.{Rows, is_same}
-use Rattle.osm_elements.specs.Rows.{row_at}
-use Rattle.osm_changes.specs.Sound.{most_members}
-use Rattle.edit_simple.specs.Contents.{nodes_of, members_of, row_tags, with_nodes, with_members}
 use Rattle.edit_topology.specs.Split.{split_members}
 
 -- how many members name w

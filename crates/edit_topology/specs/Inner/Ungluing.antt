@@ -1,16 +1,10 @@
 -- An unglue, part by part.
-use Rattle.std.specs.Prelude.{ℕ, not, List, [], ◌∷◌, Option}
-use Rattle.std.specs.Bool.{then_some}
-use Rattle.std.specs.List.{slice_get}
-use Rattle.std.specs.Option.{option_and_then}
+use Rattle.std.specs.Prelude.{ℕ, not, List, [], ◌∷◌, Option, option_and_then, slice_get}
+use Rattle.edit_simple.specs.Prelude.{then_some, is_node, Rows, is_present, is_absent, row_at, is_way}
 use Rattle.osm_elements.specs.declared.name.Name.{Name}
 use Rattle.osm_elements.specs.declared.element.Element.{Element}
-use Rattle.osm_elements.specs.Made.{is_node}
-use Rattle.osm_elements.specs.Maps.{Rows, is_present, is_absent}
-use Rattle.osm_elements.specs.Rows.{row_at}
-use Rattle.edit_simple.specs.declared.refusal.Refusal.{Refusal}
-use Rattle.edit_simple.specs.declared.refusal.Refusal.TheVariants.{Absent, Present, WrongKind}
-use Rattle.edit_simple.specs.Kinds.{is_way}
+use Rattle.room_interface.specs.declared.refusal.Refusal.{Refusal}
+use Rattle.room_interface.specs.declared.refusal.Refusal.TheVariants.{Absent, Present, WrongKind}
 
 module _ {A : Type 0} where
   -- the checks that need only the names, which come before the check of the position

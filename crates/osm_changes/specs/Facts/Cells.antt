@@ -1,36 +1,26 @@
 -- The order of cells, and lists of cells that rise, each once. The cells in such a list determine it.
-use Rattle.std.proofs.Common.{◌≡◌, ◌||◌, ◌&&◌, Bool, true, false, T, List, [], ◌∷◌, ◌++◌, refl, sym, ap, subst, ◌∙◌}
+use Rattle.std.proofs.Common.{sym, ap, subst, ◌∙◌}
+use Rattle.std.specs.Prelude.{◌≡◌, ◌||◌, ◌&&◌, Bool, true, false, T, List, [], ◌∷◌, ◌++◌, refl, filter, fold}
 use Rattle.std.proofs.lemmas.Cmp.{on_total, then_total, nat_cmp_total}
 use Rattle.std.proofs.lemmas.List.Folds.{list_any-append}
-use Rattle.std.specs.Cmp.{IsTotalOrder, tied_itself}
-use Rattle.std.specs.FinMap.{IsAntisymmetric, nat_cmp-IsAntisymmetric}
-use Rattle.std.specs.FinMap.Entries.{below_all}
-use Rattle.std.specs.List.{filter, fold}
-use Rattle.std.specs.Ordering.{is_eq, is_lt, nat_cmp, ordering_then}
-use Rattle.std.specs.declared.cmp.Ordering.{Ordering}
-use Rattle.std.specs.declared.cmp.Ordering.TheVariants.{Less, Equal, Greater}
+use Rattle.osm_refs.specs.Prelude.{IsTotalOrder, tied_itself, IsAntisymmetric, nat_cmp-IsAntisymmetric, below_all, is_eq, is_lt, nat_cmp, ordering_then, Ordering, Less, Equal, Greater, name_cmp, is_same, is_among, name_cmp_total, name_cmp-IsAntisymmetric, same, bare_rows, with_value}
 use Rattle.osm_elements.specs.declared.name.Name.{Name}
-use Rattle.osm_elements.specs.NameOrder.{name_cmp}
-use Rattle.osm_elements.specs.Maps.{is_same, is_among}
-use Rattle.osm_elements.specs.Facts.Names.{name_cmp_total, name_cmp-IsAntisymmetric}
-use Rattle.osm_elements.specs.Facts.Rows.{same}
-use Rattle.osm_refs.specs.Rising as names
-use Rattle.rising_lists.specs.Rising.{bare_rows, with_value}
-use Rattle.rising_lists.specs.Facts.Rising as rising
 use Rattle.rising_lists.specs.Facts.Sorted.{both, first, second}
 use Rattle.osm_changes.specs.declared.part.Part.{Part}
 use Rattle.osm_changes.specs.declared.part.Part.TheVariants.{Tags, Rest}
 use Rattle.osm_changes.specs.Cells.{Cell, tags_at, rest_at, cells_of, part_rank, cell_cmp, is_same_cell, has, cell_set, IsRising}
+use Rattle.osm_refs.specs.Rising as names
+use Rattle.rising_lists.specs.Facts.Rising as rising
 
 pub cell_cmp_total : IsTotalOrder cell_cmp
 cell_cmp_total = then_total (on_total (λ (c : Cell). c.name) name_cmp_total)
     (on_total (λ (c : Cell). part_rank c.part) nat_cmp_total)
 
-rank_told : (p q : Part) → part_rank p ≡ part_rank q → p ≡ q
-rank_told Tags Tags e = refl
-rank_told Tags Rest e = absurd (cc)
-rank_told Rest Tags e = absurd (cc)
-rank_told Rest Rest e = refl
+equal_rank : (p q : Part) → part_rank p ≡ part_rank q → p ≡ q
+equal_rank Tags Tags e = refl
+equal_rank Tags Rest e = absurd (cc)
+equal_rank Rest Tags e = absurd (cc)
+equal_rank Rest Rest e = refl
 
 then_equal : (o p : Ordering) → ordering_then o p ≡ Equal → (o ≡ Equal) × (p ≡ Equal)
 then_equal Less p e = absurd (cc)
@@ -41,7 +31,7 @@ pub cell_cmp-IsAntisymmetric : IsAntisymmetric cell_cmp
 cell_cmp-IsAntisymmetric c d e =
     let both = then_equal (name_cmp c.name d.name) (nat_cmp (part_rank c.part) (part_rank d.part)) e in
     let names = name_cmp-IsAntisymmetric c.name d.name both.0 in
-    let parts = rank_told c.part d.part (nat_cmp-IsAntisymmetric (part_rank c.part) (part_rank d.part) both.1) in
+    let parts = equal_rank c.part d.part (nat_cmp-IsAntisymmetric (part_rank c.part) (part_rank d.part) both.1) in
     λ i. record { name = names i; part = parts i }
 
 pub same_cells : (c d : Cell) → is_same_cell c d ≡ true → c ≡ d

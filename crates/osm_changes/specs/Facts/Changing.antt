@@ -1,16 +1,11 @@
 -- Cells at which two maps differ, halves and rows after changes, and that the changes between two maps lead there and
 -- back.
-use Rattle.std.proofs.Common.{◌≡◌, ◌||◌, ◌&&◌, Bool, true, false, not, List, [], ◌∷◌, ◌++◌, Option, Some, None, is_some, map, refl, sym, ap, ◌∙◌, cond}
+use Rattle.std.proofs.Common.{sym, ap, ◌∙◌}
+use Rattle.std.specs.Prelude.{◌≡◌, ◌||◌, ◌&&◌, Bool, true, false, not, List, [], ◌∷◌, ◌++◌, Option, Some, None, is_some, map, refl, cond, fold}
 use Rattle.std.proofs.lemmas.List.Folds.{fold-map}
-use Rattle.std.specs.List.{fold}
+use Rattle.osm_refs.specs.Prelude.{AreInOrder, row_at, is_among-name_set, is_among-append, is_among-names_of, row_at-rows_but, AreInOrder-rows_but, same_names, row_at-put_row, AreInOrder-put_row, same_rows, Rows, is_same, is_among, is_present, name_set, names_of, IsRising-name_set}
 use Rattle.osm_elements.specs.declared.name.Name.{Name}
 use Rattle.osm_elements.specs.declared.element.Element.{Element}
-use Rattle.osm_elements.specs.Rows.{AreInOrder, row_at}
-use Rattle.osm_elements.specs.Facts.Among.{is_among-name_set, is_among-append, is_among-names_of}
-use Rattle.osm_elements.specs.Facts.Dropped.{row_at-rows_but, AreInOrder-rows_but}
-use Rattle.osm_elements.specs.Facts.Rows.{same_names, row_at-put_row, AreInOrder-put_row, same_rows}
-use Rattle.osm_elements.specs.Maps.{Rows, is_same, is_among, is_present, name_set, names_of}
-use Rattle.osm_refs.specs.Facts.RisingNames.{IsRising-name_set}
 use Rattle.osm_changes.specs.declared.cell.Cell.{Cell}
 use Rattle.osm_changes.specs.declared.change.Change.{Change}
 use Rattle.osm_changes.specs.declared.half.Half.{Half}
@@ -23,7 +18,7 @@ use Rattle.osm_changes.specs.Changes.{differing, change_at, differences, cell_of
 use Rattle.osm_changes.specs.Inner.Applying.{row_in, rows_after}
 use Rattle.osm_changes.specs.Halves.{half, row_of, are_same_halves}
 use Rattle.osm_changes.specs.Facts.Cells.{same_cells, other_cell, has-cells_of, has-passing, IsRising-filter, IsRising-cells_of}
-use Rattle.osm_changes.specs.Facts.Halves.{row_of-halves, told_same_halves}
+use Rattle.osm_changes.specs.Facts.Halves.{row_of-halves, equal_halves}
 
 module _ {A : Type 0} where
   pub row_at-with_row : (m : Rows A) (y : Name) (o : Option (Element A)) (x : Name)
@@ -66,7 +61,7 @@ module _ {A : Type 0} where
   not_differing m n c h = by (are_same_halves (half_at m c) (half_at n c)) refl (sym (has-differing m n c) ∙ h)
     where
       by : (b : Bool) → are_same_halves (half_at m c) (half_at n c) ≡ b → not b ≡ false → half_at m c ≡ half_at n c
-      by true e f = told_same_halves (half_at m c) (half_at n c) e
+      by true e f = equal_halves (half_at m c) (half_at n c) e
       by false e f = absurd (cc)
 
   pub IsRising-differing : (m n : Rows A) → IsRising (differing m n)
@@ -114,10 +109,10 @@ module _ {A : Type 0} where
       ∙ chosen (has (differing m n) c) (half_at m c) (half_at n c) (λ e. sym (not_differing m n c e))
 
   -- a half of a name without changes stays
-  untold : (cs : List (Change A)) (x : Name) (p : Part) (h : Option (Half A))
+  not_entered : (cs : List (Change A)) (x : Name) (p : Part) (h : Option (Half A))
       → is_among (map (λ (d : Change A). d.name) cs) x ≡ false → half_after cs (record { name = x; part = p }) h ≡ h
-  untold [] x p h e = refl
-  untold (d ∷ ds) x p h e = by (is_same x d.name) refl e (untold ds x p h)
+  not_entered [] x p h e = refl
+  not_entered (d ∷ ds) x p h e = by (is_same x d.name) refl e (not_entered ds x p h)
     where
       by : (b : Bool) → is_same x d.name ≡ b → (b || is_among (map (λ (d : Change A). d.name) ds) x) ≡ false
           → (is_among (map (λ (d : Change A). d.name) ds) x ≡ false
@@ -163,8 +158,8 @@ module _ {A : Type 0} where
       by : (b : Bool) → is_among (map (λ (d : Change A). d.name) cs) x ≡ b
           → cond b (row_after cs x (row_at m x)) (row_at m x) ≡ row_after cs x (row_at m x)
       by true e = refl
-      by false e = sym ((λ i. row_of (untold cs x Tags (half Tags (row_at m x)) e i)
-          (untold cs x Rest (half Rest (row_at m x)) e i)) ∙ row_of-halves (row_at m x))
+      by false e = sym ((λ i. row_of (not_entered cs x Tags (half Tags (row_at m x)) e i)
+          (not_entered cs x Rest (half Rest (row_at m x)) e i)) ∙ row_of-halves (row_at m x))
 
   -- a name without changes keeps its row
   pub kept : (m : Rows A) (cs : List (Change A)) (x : Name) → is_among (changed_names cs) x ≡ false

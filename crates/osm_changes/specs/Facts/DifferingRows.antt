@@ -1,12 +1,9 @@
 -- The names at which two maps differ, and the changes between the maps, made name by name.
-use Rattle.std.proofs.Common.{◌≡◌, ◌&&◌, ◌||◌, Bool, true, false, not, List, ◌++◌, Option, Some, None, is_some, refl, sym, ap, ◌∙◌}
+use Rattle.std.proofs.Common.{sym, ap, ◌∙◌}
+use Rattle.std.specs.Prelude.{◌≡◌, ◌&&◌, ◌||◌, Bool, true, false, not, List, ◌++◌, Option, Some, None, is_some, refl}
+use Rattle.osm_refs.specs.Prelude.{Rows, is_among, is_present, name_set, names_of, row_at, is_among-name_set, is_among-append, is_among-names_of, is_among-passing, same_rising, IsRising-filter, IsRising-name_set, IsRising}
 use Rattle.osm_elements.specs.declared.name.Name.{Name}
 use Rattle.osm_elements.specs.declared.element.Element.{Element}
-use Rattle.osm_elements.specs.Maps.{Rows, is_among, is_present, name_set, names_of}
-use Rattle.osm_elements.specs.Rows.{row_at}
-use Rattle.osm_elements.specs.Facts.Among.{is_among-name_set, is_among-append, is_among-names_of}
-use Rattle.osm_refs.specs.Facts.RisingNames.{is_among-passing, same_rising, IsRising-filter, IsRising-name_set}
-use Rattle.osm_refs.specs.Rising.{IsRising}
 use Rattle.osm_changes.specs.SameRows.{is_same_row}
 use Rattle.osm_changes.specs.Changes.{rows_changes, differences}
 use Rattle.osm_changes.specs.Facts.RowChanges.{differing_names, others_of, rows_changes-others, differences-rows, same-rows_changes}

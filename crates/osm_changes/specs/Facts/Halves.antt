@@ -1,15 +1,15 @@
 -- Rows and their halves, and the tests of equality on halves.
-use Rattle.std.proofs.Common.{◌≡◌, ◌≢◌, true, false, Option, Some, None, is_some, refl, sym, ap, ◌∙◌}
-use Rattle.std.specs.Ordering.{int_eq}
+use Rattle.std.proofs.Common.{sym, ap, ◌∙◌}
+use Rattle.std.specs.Prelude.{◌≡◌, ◌≢◌, true, false, Option, Some, None, is_some, refl}
+use Rattle.osm_refs.specs.Prelude.{int_eq, both_true, first_true, second_true}
 use Rattle.osm_elements.specs.declared.element.Element.{Element}
 use Rattle.osm_elements.specs.declared.element.Element.TheVariants.{Node, Way, Relation}
-use Rattle.osm_elements.specs.Facts.Tests.{both_true, first_true, second_true}
 use Rattle.osm_changes.specs.declared.half.Half.{Half}
 use Rattle.osm_changes.specs.declared.half.Half.TheVariants.{Tags, Place, Nodes, Members}
 use Rattle.osm_changes.specs.declared.part.Part.{Part}
-use Rattle.osm_changes.specs.declared.part.Part.TheVariants as parts
 use Rattle.osm_changes.specs.Halves.{half, row_of, is_same_half, are_same_halves}
 use Rattle.osm_changes.specs.Facts.SameElements.{same_ints, same_tags, same_members, same_name_lists, int_itself, names_itself, tags_itself, members_itself}
+use Rattle.osm_changes.specs.declared.part.Part.TheVariants as parts
 
 module _ {A : Type 0} where
   -- a row is the row of its halves
@@ -34,32 +34,32 @@ module _ {A : Type 0} where
 
   -- ---- the tests of equality
 
-  told : (h k : Half A) → is_same_half h k ≡ true → h ≡ k
-  told (Tags t) (Tags u) e = ap Tags (same_tags t u e)
-  told (Place lat lon) (Place lat2 lon2) e =
+  entered : (h k : Half A) → is_same_half h k ≡ true → h ≡ k
+  entered (Tags t) (Tags u) e = ap Tags (same_tags t u e)
+  entered (Place lat lon) (Place lat2 lon2) e =
       let lats = same_ints lat lat2 (first_true (int_eq lat lat2) (int_eq lon lon2) e) in
       let lons = same_ints lon lon2 (second_true (int_eq lat lat2) (int_eq lon lon2) e) in
       λ i. Place (lats i) (lons i)
-  told (Nodes l) (Nodes k) e = ap Nodes (same_name_lists l k e)
-  told (Members l) (Members k) e = ap Members (same_members l k e)
-  told (Tags t) (Place lat lon) e = absurd (cc)
-  told (Tags t) (Nodes l) e = absurd (cc)
-  told (Tags t) (Members l) e = absurd (cc)
-  told (Place lat lon) (Tags t) e = absurd (cc)
-  told (Place lat lon) (Nodes l) e = absurd (cc)
-  told (Place lat lon) (Members l) e = absurd (cc)
-  told (Nodes l) (Tags t) e = absurd (cc)
-  told (Nodes l) (Place lat lon) e = absurd (cc)
-  told (Nodes l) (Members k) e = absurd (cc)
-  told (Members l) (Tags t) e = absurd (cc)
-  told (Members l) (Place lat lon) e = absurd (cc)
-  told (Members l) (Nodes k) e = absurd (cc)
+  entered (Nodes l) (Nodes k) e = ap Nodes (same_name_lists l k e)
+  entered (Members l) (Members k) e = ap Members (same_members l k e)
+  entered (Tags t) (Place lat lon) e = absurd (cc)
+  entered (Tags t) (Nodes l) e = absurd (cc)
+  entered (Tags t) (Members l) e = absurd (cc)
+  entered (Place lat lon) (Tags t) e = absurd (cc)
+  entered (Place lat lon) (Nodes l) e = absurd (cc)
+  entered (Place lat lon) (Members l) e = absurd (cc)
+  entered (Nodes l) (Tags t) e = absurd (cc)
+  entered (Nodes l) (Place lat lon) e = absurd (cc)
+  entered (Nodes l) (Members k) e = absurd (cc)
+  entered (Members l) (Tags t) e = absurd (cc)
+  entered (Members l) (Place lat lon) e = absurd (cc)
+  entered (Members l) (Nodes k) e = absurd (cc)
 
-  pub told_same_halves : (h k : Option (Half A)) → are_same_halves h k ≡ true → h ≡ k
-  told_same_halves None None e = refl
-  told_same_halves None (Some k) e = absurd (cc)
-  told_same_halves (Some h) None e = absurd (cc)
-  told_same_halves (Some h) (Some k) e = ap Some (told h k e)
+  pub equal_halves : (h k : Option (Half A)) → are_same_halves h k ≡ true → h ≡ k
+  equal_halves None None e = refl
+  equal_halves None (Some k) e = absurd (cc)
+  equal_halves (Some h) None e = absurd (cc)
+  equal_halves (Some h) (Some k) e = ap Some (entered h k e)
 
   itself : (h : Half A) → is_same_half h h ≡ true
   itself (Tags t) = tags_itself t

@@ -1,17 +1,9 @@
 -- The names of the rows that pass a test.
-use Rattle.std.proofs.Common.{◌≡◌, ◌||◌, Bool, true, false, T, [], ◌∷◌, Option, Some, None, refl, sym, ap, ◌∙◌, cond}
-use Rattle.std.specs.List.{filter}
-use Rattle.std.specs.Ordering.{is_lt}
-use Rattle.std.specs.FinMap.Entries.{is_sorted, below_all}
+use Rattle.std.proofs.Common.{sym, ap, ◌∙◌}
+use Rattle.std.specs.Prelude.{◌≡◌, ◌||◌, Bool, true, false, T, [], ◌∷◌, Option, Some, None, refl, cond, filter}
+use Rattle.osm_refs.specs.Prelude.{is_lt, is_sorted, below_all, Rows, is_same, is_among, names_of, name_cmp, AreInOrder, row_at, both, first, second, find_below, same_names, row_at_is_find, IsRising, bare_rows}
 use Rattle.osm_elements.specs.declared.name.Name.{Name}
 use Rattle.osm_elements.specs.declared.element.Element.{Element}
-use Rattle.osm_elements.specs.Maps.{Rows, is_same, is_among, names_of}
-use Rattle.osm_elements.specs.NameOrder.{name_cmp}
-use Rattle.osm_elements.specs.Rows.{AreInOrder, row_at}
-use Rattle.osm_elements.specs.Facts.Entries.{both, first, second, find_below}
-use Rattle.osm_elements.specs.Facts.Rows.{same_names, row_at_is_find}
-use Rattle.osm_refs.specs.Rising.{IsRising}
-use Rattle.rising_lists.specs.Rising.{bare_rows}
 
 module _ {A : Type 0} where
   -- the row is there and passes

@@ -1,18 +1,12 @@
 -- The changes of one row, of several rows, and between two maps, row by row.
-use Rattle.std.proofs.Common.{◌≡◌, ◌≢◌, ◌<◌, ◌+◌, ◌||◌, ℕ, zero, suc, Bool, true, false, not, cond, T, All, List, [], ◌∷◌, ◌++◌, Option, length, map, take, get_or, refl, sym, ap, subst, ◌∙◌}
+use Rattle.std.proofs.Common.{sym, ap, subst, ◌∙◌}
+use Rattle.std.specs.Prelude.{◌≡◌, ◌≢◌, ◌<◌, ◌+◌, ◌||◌, ℕ, zero, suc, Bool, true, false, not, cond, T, All, List, [], ◌∷◌, ◌++◌, Option, length, map, take, refl, get_or, filter, flat_map}
 use Rattle.std.proofs.lemmas.Grind.{flat_map-append}
 use Rattle.std.proofs.lemmas.List.{take_more, append-nil, map-id}
 use Rattle.std.proofs.lemmas.List.Elements.{All-nil, All-cons}
-use Rattle.std.specs.FinMap.Entries.{below_all}
-use Rattle.std.specs.List.{filter, flat_map}
-use Rattle.std.specs.Ordering.{is_lt}
+use Rattle.osm_refs.specs.Prelude.{below_all, is_lt, name_cmp, row_at, is_eq-name_cmp_itself, Rows, is_same, is_among, name_set, names_of, are_rising, bare_rows}
 use Rattle.osm_elements.specs.declared.name.Name.{Name}
 use Rattle.osm_elements.specs.declared.element.Element.{Element}
-use Rattle.osm_elements.specs.NameOrder.{name_cmp}
-use Rattle.osm_elements.specs.Rows.{row_at}
-use Rattle.osm_elements.specs.Facts.Rows.{is_eq-name_cmp_itself}
-use Rattle.osm_elements.specs.Maps.{Rows, is_same, is_among, name_set, names_of}
-use Rattle.rising_lists.specs.Rising.{bare_rows}
 use Rattle.rising_lists.specs.Facts.Sorted.{both, first, second}
 use Rattle.osm_changes.specs.declared.cell.Cell.{Cell}
 use Rattle.osm_changes.specs.declared.change.Change.{Change}
@@ -20,11 +14,11 @@ use Rattle.osm_changes.specs.declared.part.Part.{Part}
 use Rattle.osm_changes.specs.declared.part.Part.TheVariants.{Tags, Rest}
 use Rattle.osm_changes.specs.SameRows.{is_same_row}
 use Rattle.osm_changes.specs.Cells.{cells_of, cell_cmp, half_at, tags_at, rest_at, IsRising}
-use Rattle.osm_changes.specs.Changes.{are_rising, differences, change_at, half_change, differs, row_changes, rows_changes, changed_cells, AreChanges}
+use Rattle.osm_changes.specs.Changes.{differences, change_at, half_change, differs, row_changes, rows_changes, changed_cells, AreChanges}
 use Rattle.osm_changes.specs.Halves.{half, are_same_halves}
 use Rattle.osm_changes.specs.Facts.Cells.{lesser_cell, tags_first}
 use Rattle.osm_changes.specs.Facts.Halves.{same_itself, not_same_halves}
-use Rattle.osm_changes.specs.Facts.SameElements.{told_same_row}
+use Rattle.osm_changes.specs.Facts.SameElements.{equal_row}
 
 -- a list contains its first name, and all names of its tail
 own : (x : Name) (xs : List Name) → is_among (x ∷ xs) x ≡ true
@@ -186,7 +180,7 @@ module _ {A : Type 0} where
 
   -- a row that stays has no change
   stays : (x : Name) (o q : Option (Element A)) → is_same_row o q ≡ true → row_changes x o q ≡ []
-  stays x o q e = ap (row_changes x o) (sym (told_same_row o q e))
+  stays x o q e = ap (row_changes x o) (sym (equal_row o q e))
       ∙ (λ i. none (same_itself (half Tags o) i) (same_itself (half Rest o) i))
     where
       none : Bool → Bool → List (Change A)

@@ -1,18 +1,11 @@
 -- The tests of equality are exact: they pass equal values, and no others.
-use Rattle.std.proofs.Common.{◌≡◌, ◌&&◌, Bool, true, ℕ, ℤ, List, [], ◌∷◌, Option, Some, None, refl, sym, ap, arith, nat_eq}
+use Rattle.std.proofs.Common.{sym, ap, arith}
+use Rattle.std.specs.Prelude.{◌≡◌, ◌&&◌, Bool, true, ℕ, ℤ, List, [], ◌∷◌, Option, Some, None, refl, nat_eq}
 use Rattle.std.proofs.lemmas.Bool.Decides.{nat_tests}
-use Rattle.std.specs.Cmp.{tied_itself, int_cmp_total}
-use Rattle.std.specs.Ordering.{is_eq, int_eq, int_cmp}
-use Rattle.std.specs.Cmp.Lexicographic.{pointwise, same_text}
-use Rattle.std.specs.FinMap.{int_cmp-IsAntisymmetric}
+use Rattle.osm_refs.specs.Prelude.{tied_itself, int_cmp_total, is_eq, int_eq, int_cmp, pointwise, same_text, int_cmp-IsAntisymmetric, same, same_names, is_eq-name_cmp_itself, Pairs, is_same_text, both_true, first_true, second_true, is_same}
 use Rattle.osm_elements.specs.declared.name.Name.{Name}
 use Rattle.osm_elements.specs.declared.element.Element.{Element}
 use Rattle.osm_elements.specs.declared.element.Element.TheVariants.{Node, Way, Relation}
-use Rattle.osm_elements.specs.Facts.Rows.{same, same_names, is_eq-name_cmp_itself}
-use Rattle.osm_elements.specs.TagRows.{Pairs}
-use Rattle.osm_elements.specs.Texts.{is_same_text}
-use Rattle.osm_elements.specs.Facts.Tests.{both_true, first_true, second_true}
-use Rattle.osm_elements.specs.Maps.{is_same}
 use Rattle.osm_changes.specs.SameRows.{are_same_names, are_same_members, are_same_tags, is_same_element, is_same_row}
 
 pub same_ints : (y z : ℤ) → int_eq y z ≡ true → y ≡ z
@@ -20,12 +13,12 @@ same_ints y z e = int_cmp-IsAntisymmetric y z (same (int_cmp y z) e)
 
 same_lists : {X : Type 0} (E : X → X → Bool) → ((x y : X) → E x y ≡ true → x ≡ y) → (xs ys : List X)
     → pointwise E xs ys ≡ true → xs ≡ ys
-same_lists E told [] [] e = refl
-same_lists E told [] (y ∷ ys) e = absurd (cc)
-same_lists E told (x ∷ xs) [] e = absurd (cc)
-same_lists E told (x ∷ xs) (y ∷ ys) e =
-    let head = told x y (first_true (E x y) (pointwise E xs ys) e) in
-    let tail = same_lists E told xs ys (second_true (E x y) (pointwise E xs ys) e) in
+same_lists E entered [] [] e = refl
+same_lists E entered [] (y ∷ ys) e = absurd (cc)
+same_lists E entered (x ∷ xs) [] e = absurd (cc)
+same_lists E entered (x ∷ xs) (y ∷ ys) e =
+    let head = entered x y (first_true (E x y) (pointwise E xs ys) e) in
+    let tail = same_lists E entered xs ys (second_true (E x y) (pointwise E xs ys) e) in
     λ i. head i ∷ tail i
 
 pub same_name_lists : (xs ys : List Name) → are_same_names xs ys ≡ true → xs ≡ ys
@@ -35,19 +28,19 @@ pub same_texts : (s t : List ℕ) → is_same_text s t ≡ true → s ≡ t
 same_texts s t e = same_text s t (sym e)
 
 pub same_tags : (p q : Pairs) → are_same_tags p q ≡ true → p ≡ q
-same_tags p q e = same_lists _ told p q e
+same_tags p q e = same_lists _ entered p q e
   where
-    told : (x y : List ℕ × List ℕ) → (is_same_text x.0 y.0 && is_same_text x.1 y.1) ≡ true → x ≡ y
-    told x y h =
+    entered : (x y : List ℕ × List ℕ) → (is_same_text x.0 y.0 && is_same_text x.1 y.1) ≡ true → x ≡ y
+    entered x y h =
         let key = same_texts x.0 y.0 (first_true (is_same_text x.0 y.0) (is_same_text x.1 y.1) h) in
         let value = same_texts x.1 y.1 (second_true (is_same_text x.0 y.0) (is_same_text x.1 y.1) h) in
         λ i. (key i, value i)
 
 pub same_members : (p q : List (Name × List ℕ)) → are_same_members p q ≡ true → p ≡ q
-same_members p q e = same_lists _ told p q e
+same_members p q e = same_lists _ entered p q e
   where
-    told : (x y : Name × List ℕ) → (is_same x.0 y.0 && is_same_text x.1 y.1) ≡ true → x ≡ y
-    told x y h =
+    entered : (x y : Name × List ℕ) → (is_same x.0 y.0 && is_same_text x.1 y.1) ≡ true → x ≡ y
+    entered x y h =
         let name = same_names x.0 y.0 (first_true (is_same x.0 y.0) (is_same_text x.1 y.1) h) in
         let role = same_texts x.1 y.1 (second_true (is_same x.0 y.0) (is_same_text x.1 y.1) h) in
         λ i. (name i, role i)
@@ -77,17 +70,17 @@ module _ {A : Type 0} where
       let both = same_tags tags tags2 (second_true (are_same_names nodes nodes2) (are_same_tags tags tags2) e) in
       λ i. Way (lists i) (both i)
 
-  pub told_same_row : (o p : Option (Element A)) → is_same_row o p ≡ true → o ≡ p
-  told_same_row None None e = refl
-  told_same_row None (Some w) e = absurd (cc)
-  told_same_row (Some v) None e = absurd (cc)
-  told_same_row (Some v) (Some w) e = ap Some (same_elements v w e)
+  pub equal_row : (o p : Option (Element A)) → is_same_row o p ≡ true → o ≡ p
+  equal_row None None e = refl
+  equal_row None (Some w) e = absurd (cc)
+  equal_row (Some v) None e = absurd (cc)
+  equal_row (Some v) (Some w) e = ap Some (same_elements v w e)
 
 -- ---- each value is equal to itself
 
 list_itself : {X : Type 0} (E : X → X → Bool) → ((x : X) → E x x ≡ true) → (xs : List X) → pointwise E xs xs ≡ true
-list_itself E told [] = refl
-list_itself E told (x ∷ xs) = both_true (E x x) (pointwise E xs xs) (told x) (list_itself E told xs)
+list_itself E entered [] = refl
+list_itself E entered (x ∷ xs) = both_true (E x x) (pointwise E xs xs) (entered x) (list_itself E entered xs)
 
 number_itself : (n : ℕ) → nat_eq n n ≡ true
 number_itself n = grind (arith, nat_tests)

@@ -1,25 +1,11 @@
 -- A map is sound if and only if each row that a look-up finds is sound.
-use Rattle.std.proofs.Common.{◌≡◌, Bool, true, false, not, ◌&&◌, T, [], ◌∷◌, Some, None, refl, sym, ap, ◌∙◌, cond}
-use Rattle.std.specs.List.{filter, list_all}
-use Rattle.std.specs.Ordering.{is_eq}
-use Rattle.std.specs.FinMap.Entries.{find, is_sorted, below_all}
+use Rattle.std.proofs.Common.{sym, ap, ◌∙◌}
+use Rattle.std.specs.Prelude.{◌≡◌, Bool, true, false, not, ◌&&◌, T, [], ◌∷◌, Some, None, refl, cond, filter}
+use Rattle.osm_refs.specs.Prelude.{list_all, is_eq, is_sorted, below_all, find, name_cmp, AreInOrder, row_at, first, second, find_below, same_names, is_eq-name_cmp_itself, row_at_is_find, Rows, so, both_true, first_true, second_true}
 use Rattle.osm_elements.specs.declared.name.Name.{Name}
 use Rattle.osm_elements.specs.declared.element.Element.{Element}
-use Rattle.osm_elements.specs.NameOrder.{name_cmp}
-use Rattle.osm_elements.specs.Rows.{AreInOrder, row_at}
-use Rattle.osm_elements.specs.Facts.Entries.{first, second, find_below}
-use Rattle.osm_elements.specs.Facts.Rows.{same_names, is_eq-name_cmp_itself, row_at_is_find}
-use Rattle.osm_elements.specs.Maps.{Rows}
+use Rattle.osm_elements.specs.Facts.Tests.{is_true}
 use Rattle.osm_changes.specs.Sound.{is_sound, is_sound_row}
-use Rattle.osm_elements.specs.Facts.Tests.{both_true, first_true, second_true}
-
-pub is_true : (b : Bool) → T b → b ≡ true
-is_true true t = refl
-is_true false t = absurd t
-
-pub so : (b : Bool) → b ≡ true → T b
-so true e = tt
-so false e = absurd (cc)
 
 some_inside : {X : Type 0} (x y : X) → Some x ≡ Some y → x ≡ y
 some_inside x y e = cc

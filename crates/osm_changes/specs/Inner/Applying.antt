@@ -1,8 +1,7 @@
 -- Writing rows to a map, one by one.
 use Rattle.std.specs.Prelude.{◌≡◌, ◌&&◌, Bool, true, false, List, All, map, is_some, is_none}
+use Rattle.osm_refs.specs.Prelude.{row_at, Rows}
 use Rattle.osm_elements.specs.declared.name.Name.{Name}
-use Rattle.osm_elements.specs.Rows.{row_at}
-use Rattle.osm_elements.specs.Maps.{Rows}
 use Rattle.osm_changes.specs.declared.change.Change.{Change}
 use Rattle.osm_changes.specs.declared.changed_row.ChangedRow.{ChangedRow}
 use Rattle.osm_changes.specs.declared.row_after.RowAfter.{RowAfter}
@@ -29,8 +28,8 @@ module _ {A : Type 0} where
   abbrev pub AreBefore : Rows A → List (ChangedRow A) → Type 0
   AreBefore m rows = All (λ (r : ChangedRow A). r.before ≡ row_at m r.name) rows
 
-  abbrev pub with_told : Rows A → RowAfter A → Rows A
-  with_told m r = with_row m r.name r.element
+  abbrev pub with_entered : Rows A → RowAfter A → Rows A
+  with_entered m r = with_row m r.name r.element
 
   -- the row is there, and the map does not have its name
   abbrev pub is_new : Rows A → RowAfter A → Bool

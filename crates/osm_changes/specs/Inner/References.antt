@@ -1,14 +1,8 @@
 -- The references of changed rows, entered in the users of a map.
 use Rattle.std.specs.Prelude.{◌≡◌, ◌++◌, T, List, map}
-use Rattle.osm_changes.specs.Changes.{are_rising}
+use Rattle.osm_refs.specs.Prelude.{are_rising, Rows, name_set, AreInOrder, row_at, reference_change, row_references, names_but, Note, Table, references_at, referring, table_of}
 use Rattle.osm_changes.specs.declared.changed_row.ChangedRow.{ChangedRow}
 use Rattle.osm_changes.specs.declared.row_after.RowAfter.{RowAfter}
-use Rattle.osm_elements.specs.Maps.{Rows, name_set}
-use Rattle.osm_elements.specs.Rows.{AreInOrder, row_at}
-use Rattle.osm_refs.specs.Changes.{reference_change}
-use Rattle.osm_refs.specs.References.{row_references}
-use Rattle.osm_refs.specs.Rising.{names_but}
-use Rattle.osm_refs.specs.Tables.{Note, Table, references_at, referring, table_of}
 use Rattle.osm_refs.specs.declared.change.ReferenceChange.{ReferenceChange}
 
 module _ {A : Type 0} where

@@ -1,29 +1,10 @@
 -- The rows and the users of a draft, and the draft after one more row.
-use Rattle.std.proofs.Common.{◌≡◌, ◌||◌, ◌&&◌, ◌++◌, Bool, true, false, not, cond, List, [], ◌∷◌, Option, Some, None, is_some, refl, sym, ap, subst, ◌∙◌}
-use Rattle.std.specs.List.{filter, flat_map}
-use Rattle.std.specs.BTreeSet.{insert_key}
-use Rattle.std.specs.FinMap.Entries.{find-where_key, is_sorted-where_key}
-use Rattle.std.specs.Ordering.{match_ordering}
-use Rattle.std.specs.declared.cmp.Ordering.{Ordering}
-use Rattle.std.specs.declared.cmp.Ordering.TheVariants.{Less, Equal, Greater}
+use Rattle.std.proofs.Common.{sym, ap, subst, ◌∙◌}
+use Rattle.std.specs.Prelude.{◌≡◌, ◌||◌, ◌&&◌, ◌++◌, Bool, true, false, not, cond, List, [], ◌∷◌, Option, Some, None, is_some, refl, filter, flat_map}
+use Rattle.osm_changes.specs.Prelude.{insert_key, find-where_key, is_sorted-where_key, match_ordering, Ordering, Less, Equal, Greater, Rows, is_same, is_among, is_present, name_set, name_cmp, AreInOrder, row_at, is_among-append, or_else, or_none, row_at-put_all, AreInOrder-put_all, name_cmp-IsAntisymmetric, same_names, same_rows, row_at_is_find, row_references, refers_to, users, names_but, Table, references_at, referring, table_of, gained, new_names, IsTable-table_of, references_at-table_of, table_of-put_row, table_of-rows_but, IsRising-name_set, same_as_name_set, with_row, row_at-with_row, AreInOrder-with_row, passes_at, rising_names, among_rows}
+use Rattle.osm_refs.specs.Facts.Changes.{changed}
 use Rattle.osm_elements.specs.declared.name.Name.{Name}
 use Rattle.osm_elements.specs.declared.element.Element.{Element}
-use Rattle.osm_elements.specs.Maps.{Rows, is_same, is_among, is_present, name_set}
-use Rattle.osm_elements.specs.NameOrder.{name_cmp}
-use Rattle.osm_elements.specs.Rows.{AreInOrder, row_at}
-use Rattle.osm_elements.specs.Facts.Among.{is_among-append}
-use Rattle.osm_elements.specs.Facts.MadeMaps.{or_else, or_none, row_at-put_all, AreInOrder-put_all}
-use Rattle.osm_elements.specs.Facts.Names.{name_cmp-IsAntisymmetric}
-use Rattle.osm_elements.specs.Facts.Rows.{same_names, same_rows, row_at_is_find}
-use Rattle.osm_refs.specs.References.{row_references, refers_to, users}
-use Rattle.osm_refs.specs.Rising.{names_but}
-use Rattle.osm_refs.specs.Tables.{Table, references_at, referring, table_of}
-use Rattle.osm_refs.specs.Facts.Changes.{changed, gained, new_names}
-use Rattle.osm_refs.specs.Facts.MapTables.{IsTable-table_of, references_at-table_of, table_of-put_row, table_of-rows_but}
-use Rattle.osm_refs.specs.Facts.RisingNames.{IsRising-name_set, same_as_name_set}
-use Rattle.osm_changes.specs.Changes.{with_row}
-use Rattle.osm_changes.specs.Facts.Changing.{row_at-with_row, AreInOrder-with_row}
-use Rattle.osm_changes.specs.Facts.PassingRows.{passes_at, rising_names, among_rows}
 use Rattle.osm_drafts.specs.Drafts.{unwritten, drafted, IsDraft}
 
 or_nothing : (b : Bool) → (b || false) ≡ b

@@ -1,8 +1,9 @@
 -- The conditions of rows under keys, which a put and a removal keep.
-use Rattle.std.proofs.Common.{◌≡◌, ℕ, zero, suc, ◌+◌, ◌<◌, ◌≤◌, List, [], ◌∷◌, length, map, get_or, refl, sym, ap, subst, ◌∙◌, arith, true, false, Bool, not, ◌&&◌, T, is_some, cond, nat_eq, nat_lt, nat_le}
+use Rattle.std.proofs.Common.{sym, ap, subst, ◌∙◌, arith}
+use Rattle.std.specs.Prelude.{◌≡◌, ℕ, zero, suc, ◌+◌, ◌<◌, ◌≤◌, List, [], ◌∷◌, length, map, get_or, refl, true, false, Bool, not, ◌&&◌, T, is_some, cond, nat_eq, nat_lt, nat_le, filter}
 use Rattle.std.specs.Bool.{passes}
 use Rattle.std.specs.declared.cmp.Ordering.TheVariants.{Less, Equal, Greater}
-use Rattle.std.specs.List.{filter, list_all}
+use Rattle.std.specs.List.{list_all}
 use Rattle.std.specs.Ordering.{is_eq}
 use Rattle.std.specs.Cmp.{IsTotalOrder, nat_cmp_total}
 use Rattle.std.specs.Cmp.Lexicographic.{lists_total}
@@ -12,6 +13,7 @@ use Rattle.osm_elements.specs.KeyedRows.{keyed_pair, text_cmp, is_row, AreRows, 
 use Rattle.osm_elements.specs.declared.keyed.Keyed.{Keyed}
 use Rattle.osm_elements.specs.Texts.{is_long}
 use Rattle.osm_elements.specs.Facts.Entries.{both, first, second}
+use Rattle.osm_elements.specs.Facts.Tests.{is_true}
 
 pub text_total : IsTotalOrder text_cmp
 text_total = lists_total nat_cmp_total
@@ -27,10 +29,6 @@ module _ {V : Type 0} (keeps : V → Bool) where
   pub each_row : (rows : List (List ℕ × V)) → AreRows keeps rows → T (list_all (is_row keeps) rows)
   each_row rows h = second (nat_le (length rows) 1000) (list_all (is_row keeps) rows) (second (is_sorted text_cmp rows) (nat_le (length rows) 1000 && list_all (is_row keeps) rows) h)
 
-told : (b : Bool) → T b → b ≡ true
-told true h = refl
-told false h = absurd h
-
 put_fits : (b : Bool) (n : ℕ) → n ≤ 1000 → (b ≡ false → n < 1000) → cond b n (n + 1) ≤ 1000
 put_fits true n h room = h
 put_fits false n h room = omega (arith, room refl)
@@ -41,7 +39,7 @@ not_both false t f = absurd (subst T (sym t) tt)
 
 module _ {V : Type 0} (keeps : V → Bool) where
   pub at_most_1000 : (rows : List (List ℕ × V)) → AreRows keeps rows → length rows ≤ 1000
-  at_most_1000 rows h = let t = told (nat_le (length rows) 1000) (few_rows keeps rows h) in grind (arith, nat_tests)
+  at_most_1000 rows h = let t = is_true (nat_le (length rows) 1000) (few_rows keeps rows h) in grind (arith, nat_tests)
 
   pub not_over_1000 : (rows : List (List ℕ × V)) → AreRows keeps rows → nat_lt 1000 (length rows) ≡ false
   not_over_1000 rows h = let few = at_most_1000 rows h in grind (arith, nat_tests)

@@ -1,6 +1,6 @@
 -- A map made by putting rows in order.
-use Rattle.std.proofs.Common.{◌≡◌, Bool, true, false, T, List, [], ◌∷◌, ◌++◌, Option, Some, None, length, map, refl, sym, subst, ap, ◌∙◌, arith, cond}
-use Rattle.std.specs.List.{fold}
+use Rattle.std.proofs.Common.{sym, subst, ap, ◌∙◌, arith}
+use Rattle.std.specs.Prelude.{◌≡◌, Bool, true, false, T, List, [], ◌∷◌, ◌++◌, Option, Some, None, length, map, refl, cond, fold}
 use Rattle.std.specs.Cmp.{tied_itself}
 use Rattle.std.specs.FinMap.Entries.{below_all, is_sorted}
 use Rattle.std.specs.Ordering.{is_lt}

@@ -1,10 +1,10 @@
 -- A name has one text, and a text denotes the name that has it.
+use Rattle.std.proofs.Common.{arith, sym, ap, subst, ◌∙◌}
+use Rattle.std.specs.Prelude.{◌≡◌, ◌≢◌, ◌↔◌, ◌≤◌, ◌<◌, ◌^◌, ◌&&◌, ℕ, ℤ, pos, negsuc, neg_ℤ, suc, List, [], ◌∷◌, Option, Some, None, Bool, true, false, T, not, cond, MatchOption, IfNone, FitsSigned, nat_eq, refl, get_or, decimal, option_and_then, unwrap_or}
 use lib.Signed.{mag}
 use Prim.Native.Nat.{zero}
-use Rattle.std.proofs.Common.{◌≡◌, ◌≢◌, ◌↔◌, ◌≤◌, ◌<◌, ◌^◌, ◌&&◌, ℕ, ℤ, pos, negsuc, neg_ℤ, suc, List, [], ◌∷◌, Option, Some, None, Bool, true, false, T, not, cond, MatchOption, IfNone, FitsSigned, nat_eq, arith, refl, sym, ap, subst, ◌∙◌, get_or}
-use Rattle.std.specs.Fmt.{signed_decimal, decimal}
+use Rattle.std.specs.Fmt.{signed_decimal}
 use Rattle.std.specs.Int.{w64}
-use Rattle.std.specs.Option.{option_and_then, unwrap_or}
 use Rattle.std.specs.Ordering.{int_eq, int_cmp, is_eq}
 use Rattle.std.specs.FinMap.{int_cmp-IsAntisymmetric}
 use Rattle.std.specs.declared.cmp.Ordering.{Ordering}

@@ -1,5 +1,6 @@
 -- Names that compare as equal are equal.
-use Rattle.std.proofs.Common.{◌≡◌, ℤ, pos, refl, rules}
+use Rattle.std.proofs.Common.{rules}
+use Rattle.std.specs.Prelude.{◌≡◌, ℤ, pos, refl}
 use mathlib.Core.HLevel.{Σ_prop_path, ¬_prop}
 use mathlib.Core.Logic.{◌≢◌}
 use Rattle.std.specs.declared.cmp.Ordering.{Ordering}

@@ -1,16 +1,17 @@
 -- The derived `==` of names is that of the definition.
-use Rattle.std.proofs.Common.{◌≡◌, ◌&&◌, ℤ, pos, negsuc, refl, sym, ap, ◌∙◌}
+use Rattle.std.proofs.Common.{sym, ap, ◌∙◌}
+use Rattle.std.specs.Prelude.{◌≡◌, ◌&&◌, ℤ, pos, negsuc, refl}
 use Rattle.std.specs.Ordering.{is_eq, int_eq, int_cmp, nat_cmp, ordering_then}
 use Rattle.std.specs.declared.cmp.Ordering.{Ordering}
 use Rattle.std.specs.declared.cmp.Ordering.TheVariants.{Less, Equal, Greater}
 use Rattle.osm_elements.specs.declared.name.Name.{Name}
 use Rattle.osm_elements.specs.declared.name.Kind.{Kind}
 use Rattle.osm_elements.specs.declared.name.Kind.TheVariants.{Node, Way, Relation}
-use Rattle.osm_elements.specs.contracts.name.NamePartialEq.TheImpl as name_equality
-use Rattle.osm_elements.specs.contracts.name.KindPartialEq.TheImpl as kind_equality
 use Rattle.osm_elements.specs.Names.{kind_rank}
 use Rattle.osm_elements.specs.NameOrder.{name_cmp}
 use Rattle.osm_elements.specs.Maps.{is_same}
+use Rattle.osm_elements.specs.contracts.name.NamePartialEq.TheImpl as name_equality
+use Rattle.osm_elements.specs.contracts.name.KindPartialEq.TheImpl as kind_equality
 
 pub kind_eq_is : (k j : Kind) → (kind_equality.ghosts).eq k j ≡ is_eq (nat_cmp (kind_rank k) (kind_rank j))
 kind_eq_is Node Node = refl

@@ -1,8 +1,7 @@
 -- The references of a name after it gains those that begin and loses those that cease.
-use Rattle.std.proofs.Common.{◌≡◌, ◌&&◌, ◌||◌, ◌++◌, Bool, true, false, not, cond, List, refl, sym, ap, ◌∙◌}
-use Rattle.osm_elements.specs.Facts.Among.{is_among-append, is_among-name_set}
-use Rattle.osm_elements.specs.Facts.Rows.{is_eq-name_cmp_itself}
-use Rattle.osm_elements.specs.Maps.{is_among, is_same, name_set}
+use Rattle.std.proofs.Common.{sym, ap, ◌∙◌}
+use Rattle.std.specs.Prelude.{◌≡◌, ◌&&◌, ◌||◌, ◌++◌, Bool, true, false, not, cond, List, refl}
+use Rattle.osm_elements.specs.Prelude.{is_among-append, is_among-name_set, is_eq-name_cmp_itself, is_among, is_same, name_set}
 use Rattle.osm_elements.specs.declared.name.Name.{Name}
 use Rattle.osm_refs.specs.Facts.RisingNames.{IsRising-filter, IsRising-name_set, is_among-passing, same_rising}
 use Rattle.osm_refs.specs.Facts.Tables.{IsTable, IsTable-referring, references_at-referring, same_tables}

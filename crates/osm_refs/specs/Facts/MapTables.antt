@@ -1,16 +1,9 @@
 -- The table of a map agrees with the map's rows.
-use Rattle.std.proofs.Common.{◌≡◌, Bool, true, false, cond, T, List, [], ◌∷◌, map, Some, None, unwrap_or, refl, sym, ap, ◌∙◌}
-use Rattle.std.specs.List.{filter}
-use Rattle.std.specs.FinMap.Entries.{find, below_all}
+use Rattle.std.proofs.Common.{sym, ap, ◌∙◌}
+use Rattle.std.specs.Prelude.{◌≡◌, Bool, true, false, cond, T, List, [], ◌∷◌, map, Some, None, unwrap_or, refl, filter}
+use Rattle.osm_elements.specs.Prelude.{below_all, find, name_cmp, AreInOrder, row_at, put_row, is_among-name_set, both, first, second, find_below, same_names, row_at_is_find, row_at-put_row, AreInOrder-put_row, row_at-rows_but, AreInOrder-rows_but, Rows, is_same, is_among, name_set, rows_but}
 use Rattle.osm_elements.specs.declared.name.Name.{Name}
 use Rattle.osm_elements.specs.declared.element.Element.{Element}
-use Rattle.osm_elements.specs.NameOrder.{name_cmp}
-use Rattle.osm_elements.specs.Rows.{AreInOrder, row_at, put_row}
-use Rattle.osm_elements.specs.Facts.Among.{is_among-name_set}
-use Rattle.osm_elements.specs.Facts.Entries.{both, first, second, find_below}
-use Rattle.osm_elements.specs.Facts.Rows.{same_names, row_at_is_find, row_at-put_row, AreInOrder-put_row}
-use Rattle.osm_elements.specs.Facts.Dropped.{row_at-rows_but, AreInOrder-rows_but}
-use Rattle.osm_elements.specs.Maps.{Rows, is_same, is_among, name_set, rows_but}
 use Rattle.osm_refs.specs.References.{references, row_references, refers_to, users}
 use Rattle.osm_refs.specs.Tables.{references_at, referring, has_names, table_of, users_in}
 use Rattle.osm_refs.specs.Facts.Tables.{IsTable, same_tables, references_at-referring, IsTable-referring}

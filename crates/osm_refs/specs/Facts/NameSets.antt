@@ -1,27 +1,16 @@
 -- Sorting names and dropping repeats gives their set.
+use Rattle.std.proofs.Common.{sym, ap, subst, ◌∙◌, arith}
+use Rattle.std.specs.Prelude.{◌≡◌, ◌||◌, Bool, true, false, T, List, [], ◌∷◌, refl, suc, Decides, Contains, IsPermutation, IsSorted}
+use Rattle.std.specs.List.Sorted.{IsStrictlySortedBy}
 use Prim.Native.Nat.{zero}
-use Rattle.std.proofs.Common.{◌≡◌, ◌||◌, Bool, true, false, T, List, [], ◌∷◌, refl, sym, ap, subst, ◌∙◌, Decides, suc, arith}
-use Rattle.std.specs.List.{Contains, dedup, AllByRecursion}
-use Rattle.std.specs.List.Retain.{IsFiltered, DiffersFromLast}
-use Rattle.std.specs.List.Sorted.{IsPermutation, IsSorted, IsStrictlySortedBy}
-use Rattle.std.specs.Ordering.{is_lt}
-use Rattle.std.specs.Cmp.{IsEquivalence, eq_by_cmp_equiv}
-use Rattle.std.specs.FinMap.Entries.{below_all}
-use Rattle.std.specs.declared.cmp.Ordering.{Ordering}
-use Rattle.std.specs.declared.cmp.Ordering.TheVariants.{Less}
 use Rattle.std.proofs.lemmas.Bool.Decides.{same_from_decides}
 use Rattle.std.proofs.lemmas.List.Filters.{dedup_is}
 use Rattle.std.proofs.lemmas.List.Kept.{Contains-dedup, Contains-from_dedup, IsStrictlySortedBy-dedup}
 use Rattle.std.proofs.lemmas.List.Sorted.{Contains-permutation, IsPermutation-sym}
+use Rattle.osm_elements.specs.Prelude.{dedup, AllByRecursion, IsFiltered, DiffersFromLast, is_lt, IsEquivalence, eq_by_cmp_equiv, below_all, Ordering, Less, name_cmp, both, name_cmp_total, same_names, is_eq-name_cmp_itself, is_same, is_among, name_set, bare_rows}
 use Rattle.osm_elements.specs.declared.name.Name.{Name}
-use Rattle.osm_elements.specs.NameOrder.{name_cmp}
-use Rattle.osm_elements.specs.Facts.Entries.{both}
-use Rattle.osm_elements.specs.Facts.Names.{name_cmp_total}
-use Rattle.osm_elements.specs.Facts.Rows.{same_names, is_eq-name_cmp_itself}
-use Rattle.osm_elements.specs.Maps.{is_same, is_among, name_set}
 use Rattle.osm_refs.specs.Facts.RisingNames.{same_as_name_set}
 use Rattle.osm_refs.specs.Rising.{IsRising}
-use Rattle.rising_lists.specs.Rising.{bare_rows}
 
 -- the test for a name in a list is exact
 among_contains : (xs : List Name) (q : Name) → is_among xs q ≡ true → Contains xs q

@@ -1,16 +1,9 @@
 -- Lists of names that rise, each once. The names in such a list determine it.
-use Rattle.std.proofs.Common.{◌≡◌, ◌&&◌, ℕ, Bool, List, [], ◌∷◌, length, Result, is_ok, refl, sym, ap, subst, ◌∙◌}
-use Rattle.std.specs.List.{filter, fold}
-use Rattle.std.specs.List.Sorted.{IsBinarySearchResult, IsSearchInRange}
-use Rattle.std.specs.Ordering.{match_ordering}
-use Rattle.std.specs.declared.cmp.Ordering.{Ordering}
+use Rattle.std.proofs.Common.{sym, ap, subst, ◌∙◌}
+use Rattle.std.specs.Prelude.{◌≡◌, ◌&&◌, ℕ, Bool, List, [], ◌∷◌, length, Result, is_ok, refl, filter, fold}
+use Rattle.osm_elements.specs.Prelude.{IsBinarySearchResult, IsSearchInRange, match_ordering, Ordering, name_cmp, name_cmp_total, name_cmp-IsAntisymmetric, is_among-name_set, is_among, with_name, name_set, with_value}
 use Rattle.osm_elements.specs.declared.name.Name.{Name}
-use Rattle.osm_elements.specs.NameOrder.{name_cmp}
-use Rattle.osm_elements.specs.Facts.Names.{name_cmp_total, name_cmp-IsAntisymmetric}
-use Rattle.osm_elements.specs.Facts.Among.{is_among-name_set}
-use Rattle.osm_elements.specs.Maps.{is_among, with_name, name_set}
 use Rattle.osm_refs.specs.Rising.{IsRising}
-use Rattle.rising_lists.specs.Rising.{with_value}
 use Rattle.rising_lists.specs.Facts.Rising as rising
 use Rattle.rising_lists.specs.Facts.Searching as searching
 

@@ -1,15 +1,9 @@
 -- Tables whose names rise and whose rows are not empty. The references of all names determine such a table.
-use Rattle.std.proofs.Common.{◌++◌, ◌≡◌, Bool, true, false, not, cond, T, List, [], ◌∷◌, None, unwrap_or, refl, sym, ap, ◌∙◌}
-use Rattle.std.specs.List.{filter, list_all}
-use Rattle.std.specs.FinMap.Entries.{find, find-where_key, is_sorted-where_key}
+use Rattle.std.proofs.Common.{sym, ap, ◌∙◌}
+use Rattle.std.specs.Prelude.{◌++◌, ◌≡◌, Bool, true, false, not, cond, T, List, [], ◌∷◌, None, unwrap_or, refl, filter}
+use Rattle.osm_elements.specs.Prelude.{list_all, find-where_key, is_sorted-where_key, find, name_cmp, both, first, second, name_cmp_total, name_cmp-IsAntisymmetric, same_either_way, is_same, has_none}
 use Rattle.osm_elements.specs.declared.name.Name.{Name}
-use Rattle.osm_elements.specs.NameOrder.{name_cmp}
-use Rattle.osm_elements.specs.Facts.Entries.{both, first, second}
-use Rattle.osm_elements.specs.Facts.Names.{name_cmp_total, name_cmp-IsAntisymmetric}
-use Rattle.osm_elements.specs.Facts.Dropped.{same_either_way}
-use Rattle.osm_elements.specs.Maps.{is_same}
 use Rattle.osm_refs.specs.Tables.{Table, Note, references_at, referring, noted}
-use Rattle.rising_lists.specs.Lists.{has_none}
 use Rattle.rising_lists.specs.Facts.Tables as tables
 
 -- the names rise, and each row has a reference

@@ -1,9 +1,8 @@
 -- A table in which the references of names are replaced, name by name.
-use Rattle.std.proofs.Common.{◌≡◌, ◌||◌, Bool, true, false, cond, List, [], ◌∷◌, map, refl, sym, ap, ◌∙◌}
-use Rattle.std.specs.List.{fold}
+use Rattle.std.proofs.Common.{sym, ap, ◌∙◌}
+use Rattle.std.specs.Prelude.{◌≡◌, ◌||◌, Bool, true, false, cond, List, [], ◌∷◌, map, refl, fold}
+use Rattle.osm_elements.specs.Prelude.{same_names, is_among, is_same}
 use Rattle.osm_elements.specs.declared.name.Name.{Name}
-use Rattle.osm_elements.specs.Facts.Rows.{same_names}
-use Rattle.osm_elements.specs.Maps.{is_among, is_same}
 use Rattle.osm_refs.specs.Facts.Tables.{IsTable, IsTable-referring, references_at-referring}
 use Rattle.osm_refs.specs.Tables.{Table, references_at, referring}
 

@@ -1,6 +1,5 @@
 -- The inverse of a table: each name that is referred to, with the names that refer to it.
-use Rattle.std.specs.Prelude.{map}
-use Rattle.std.specs.List.{flat_map}
+use Rattle.std.specs.Prelude.{map, flat_map}
 use Rattle.osm_elements.specs.Maps.{name_set}
 use Rattle.osm_refs.specs.Tables.{Table, users_in}
 

@@ -2,13 +2,13 @@
 ghost use Rattle.std.specs.Prelude.{IfOk};
 ghost use Rattle.part_lines.specs.Applying.{MayApply};
 
-use edit_actions::action::Action;
 use edit_actions::plan::plan_on;
-use edit_simple::refusal::Refusal;
 use osm_changes::changes::Changes;
 use osm_changes::laws::an_inverse_restores;
 use osm_changes::store::Store;
 use osm_elements::Memory;
+use room_interface::action::Action;
+use room_interface::refusal::Refusal;
 use std::alloc::Global;
 
 /// Returns the changes of an action, which may be applied to the store.

@@ -1,5 +1,5 @@
 //! The outcome of a line.
-use edit_simple::refusal::Refusal;
+use room_interface::refusal::Refusal;
 use std::alloc::Global;
 use std::fmt::{self, Display, Formatter};
 

@@ -1,6 +1,5 @@
 //! Reading names and parts of elements from texts. Words that do not belong to the part that is read are skipped.
 use crate::edits::unread::Unread;
-use edit_simple::retag::Retag;
 use osm_elements::member::Member;
 use osm_elements::members::Members;
 use osm_elements::name::{Kind, Name};
@@ -8,6 +7,7 @@ use osm_elements::names::Names;
 use osm_elements::nodes::Nodes;
 use osm_elements::tags::Tags;
 use osm_elements::text::Text;
+use room_interface::retag::Retag;
 use std::alloc::Global;
 
 /// Reads a text as a name.

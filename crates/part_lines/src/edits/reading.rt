@@ -1,12 +1,12 @@
 //! Reading elements and actions from texts.
 use crate::edits::parts::{members, name, names, nodes, pair, retag, tags};
 use crate::edits::unread::Unread;
-use edit_actions::action::Action;
 use osm_coords::{Lat, Lon};
 use osm_elements::element::Element;
 use osm_elements::name::{Kind, Name};
 use osm_elements::shared::Shared;
 use osm_elements::shared_tags::SharedTags;
+use room_interface::action::Action;
 use std::alloc::Global;
 
 /// Reads words as an element of this kind.

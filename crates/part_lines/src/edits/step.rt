@@ -7,10 +7,10 @@ use crate::edits::outcome::Outcome;
 use crate::edits::reading::action;
 use crate::edits::shown::{changes_shown, store_shown, touched_shown};
 use crate::edits::unread::Unread;
-use edit_actions::action::Action;
 use edit_footprint::touching::footprint;
 use osm_changes::changes::Changes;
 use osm_changes::store::Store;
+use room_interface::action::Action;
 use std::alloc::Global;
 
 /// Does the edit in a text, or only plans it after the word `plan`. If the edit is refused or only planned, the store

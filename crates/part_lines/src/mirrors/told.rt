@@ -1,7 +1,7 @@
 //! The result of a line.
 use crate::mirrors::line::{Line, read};
 use osm_elements::Memory;
-use room_history::news::{News, NewsRows};
+use room_interface::news::{News, NewsRows};
 use room_mirror::fault::MirrorFault;
 use room_mirror::mirror::Mirror;
 use room_wire::bad::Bad;

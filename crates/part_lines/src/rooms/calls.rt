@@ -1,13 +1,13 @@
 //! The calls that are made to rooms here.
-use edit_actions::action::Action;
-use edit_groups::edit::Edit;
 use osm_coords::{Lat, Lon};
 use osm_elements::element::Element;
 use osm_elements::name::{Kind, Name};
 use osm_elements::shared_tags::SharedTags;
-use room_history::ask::RoomCall;
-use room_history::call::{Call, Request};
-use room_stacks::author::Author;
+use room_interface::action::Action;
+use room_interface::ask::RoomCall;
+use room_interface::author::Author;
+use room_interface::call::{Call, Request};
+use room_interface::edit::Edit;
 use std::alloc::Global;
 use std::io::{self, ErrorKind};
 

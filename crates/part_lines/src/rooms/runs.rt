@@ -1,14 +1,14 @@
 //! Rooms that are run.
 use crate::rooms::bases;
 use crate::rooms::calls::{author, call, create, node};
-use edit_actions::action::Action;
-use edit_groups::edit::Edit;
 use osm_elements::Memory;
 use osm_elements::names::Names;
-use room_history::call::{Call, Calls, Request};
-use room_history::reply::{Replies, Reply};
 use room_history::room::Room;
 use room_history::run::run;
+use room_interface::action::Action;
+use room_interface::call::{Call, Calls, Request};
+use room_interface::edit::Edit;
+use room_interface::reply::{Replies, Reply};
 use std::alloc::Global;
 use std::io;
 use std::sync::Wait;

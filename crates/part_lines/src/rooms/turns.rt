@@ -4,9 +4,9 @@ ghost use Rattle.turn_desk.specs.Desk.{IsAt};
 
 use crate::rooms::calls::{author, creation};
 use osm_elements::name::{Kind, Name};
-use room_history::ask::RoomCall;
 use room_history::room::Room;
-use room_stacks::author::Author;
+use room_interface::ask::RoomCall;
+use room_interface::author::Author;
 use std::alloc::Global;
 use std::io::{self, ErrorKind};
 use std::sync::Wait;

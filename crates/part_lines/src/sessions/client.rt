@@ -1,7 +1,5 @@
 //! The events of a client, and what goes out to it.
-ghost use Rattle.room_session.specs.Rooms.{KeepsKnown};
-ghost use Rattle.room_session.specs.Running.{IsRunOn};
-ghost use Rattle.room_server.specs.Tables.{known_of};
+ghost use Rattle.room_server.specs.Prelude.{KeepsKnown, IsRunOn, known_of};
 
 use crate::sessions::line::{Client, Event, read};
 use room_server::Seated;

@@ -1,10 +1,9 @@
 -- The deeds of a journal's authors.
 use Rattle.std.specs.Prelude.{◌≡◌, ⊤, ℕ, true, List, Some}
-use Rattle.room_stacks.specs.declared.author.Author.{Author}
+use Rattle.room_stacks.specs.Prelude.{deeds_from, is_standing, redo, top}
+use Rattle.room_interface.specs.declared.author.Author.{Author}
 use Rattle.room_stacks.specs.declared.deed.Deed.{Deed}
 use Rattle.room_stacks.specs.declared.deed.Deed.TheVariants.{Did, Undid, Redid}
-use Rattle.room_stacks.specs.Numbered.{deeds_from}
-use Rattle.room_stacks.specs.Stacks.{is_standing, redo, top}
 use Rattle.room_history.specs.declared.entry.Entry.{Entry}
 use Rattle.room_history.specs.declared.entry.EntryKind.{EntryKind}
 use Rattle.room_history.specs.declared.entry.EntryKind.TheVariants.{Do, Undo, Redo}

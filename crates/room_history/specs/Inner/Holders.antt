@@ -1,7 +1,7 @@
 -- The holders that a room keeps.
 use Rattle.std.specs.Prelude.{◌≡◌, ℕ, true, List}
-use Rattle.osm_changes.specs.Cells.{IsRising}
 use Rattle.edit_footprint.specs.Holding.{Held}
+use Rattle.osm_changes.specs.Cells.{IsRising}
 use Rattle.room_history.specs.declared.entry.Entry.{Entry}
 use Rattle.room_history.specs.Blockers.{held, recorded_footprint}
 use Rattle.room_history.specs.Holdings.{holders_of}

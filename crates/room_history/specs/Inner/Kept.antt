@@ -1,8 +1,8 @@
 -- The effects that a room keeps.
 use Rattle.std.specs.Prelude.{List, [], ◌∷◌, Option, Some, None}
+use Rattle.osm_changes.specs.Changes.{changes_of}
 use Rattle.osm_changes.specs.declared.cell.Cell.{Cell}
 use Rattle.osm_changes.specs.declared.changed_row.ChangedRow.{ChangedRow}
-use Rattle.osm_changes.specs.Changes.{changes_of}
 use Rattle.room_history.specs.declared.kept.Effect.{Effect}
 use Rattle.room_history.specs.declared.kept.Form.{Form}
 use Rattle.room_history.specs.declared.kept.Form.TheVariants.{Row, Rows, Group}

@@ -1,8 +1,7 @@
 -- The origin of an entry is the entry that stores its action. A redo has the origin of the entry that it names, and any
 -- other entry is its own origin.
-use Rattle.std.specs.Prelude.{◌+◌, ◌++◌, ℕ, List, [], ◌∷◌, Option, Some, None, length, unwrap_or}
-use Rattle.std.specs.List.{fold}
-use Rattle.edit_groups.specs.declared.edit.Edit.{Edit as Action}
+use Rattle.std.specs.Prelude.{◌+◌, ◌++◌, ℕ, List, [], ◌∷◌, Option, Some, None, length, unwrap_or, fold}
+use Rattle.room_interface.specs.declared.edit.Edit.{Edit as Action}
 use Rattle.room_history.specs.declared.entry.Entry.{Entry}
 use Rattle.room_history.specs.declared.entry.EntryKind.{EntryKind}
 use Rattle.room_history.specs.declared.entry.EntryKind.TheVariants.{Do, Undo, Redo}

@@ -1,15 +1,12 @@
 -- The state that a room holds in addition to its journal.
 use Rattle.std.specs.Prelude.{◌≡◌, ◌<◌, ℕ, true, List, Some, None, length}
-use Rattle.osm_changes.specs.Sound.{is_sound}
-use Rattle.osm_changes.specs.Stores.{StoreState}
-use Rattle.osm_elements.specs.Maps.{Rows}
-use Rattle.edit_groups.specs.Edits.{is_made_edit as is_made_action}
-use Rattle.room_stacks.specs.declared.author.Author.{Author}
+use Rattle.edit_groups.specs.Prelude.{is_sound, StoreState, Rows, Held}
+use Rattle.room_interface.specs.MadeCalls.{is_made_edit as is_made_action}
+use Rattle.room_interface.specs.declared.author.Author.{Author}
 use Rattle.room_stacks.specs.declared.deed.Deed.{Deed}
 use Rattle.room_history.specs.declared.entry.Entry.{Entry}
 use Rattle.room_history.specs.declared.entry.EntryKind.{EntryKind}
 use Rattle.room_history.specs.declared.entry.EntryKind.TheVariants.{Do, Undo, Redo}
-use Rattle.edit_footprint.specs.Holding.{Held}
 use Rattle.room_history.specs.Applied.{applied}
 use Rattle.room_history.specs.declared.kept.Effect.{Effect}
 use Rattle.room_history.specs.Inner.Telling.{kept}

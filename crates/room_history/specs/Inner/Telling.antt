@@ -1,18 +1,16 @@
 -- The effects that a room keeps of its entries, and the news computed from them.
 use Rattle.std.specs.Prelude.{◌+◌, ℕ, Bool, true, false, List, [], ◌∷◌, Option, Some, None, map}
-use Rattle.std.specs.Bool.{then_some}
-use Rattle.osm_elements.specs.Maps.{Rows}
+use Rattle.edit_groups.specs.Prelude.{then_some, Rows, changed_rows, footprint_of}
+use Rattle.osm_changes.specs.Changes.{changed}
 use Rattle.osm_changes.specs.declared.cell.Cell.{Cell}
 use Rattle.osm_changes.specs.declared.change.Change.{Change}
 use Rattle.osm_changes.specs.declared.changed_row.ChangedRow.{ChangedRow}
-use Rattle.osm_changes.specs.Changes.{changed, changed_rows}
-use Rattle.edit_footprint.specs.Footprints.{footprint_of}
-use Rattle.edit_groups.specs.declared.edit.Edit.{Edit}
-use Rattle.edit_groups.specs.declared.edit.Edit.TheVariants.{One, Group}
+use Rattle.room_interface.specs.declared.edit.Edit.{Edit}
+use Rattle.room_interface.specs.declared.edit.Edit.TheVariants.{One, Group}
 use Rattle.room_history.specs.declared.entry.Entry.{Entry}
 use Rattle.room_history.specs.declared.kept.Effect.{Effect}
-use Rattle.room_history.specs.declared.news.News.{News}
-use Rattle.room_history.specs.declared.news.NewsRow.{NewsRow}
+use Rattle.room_interface.specs.declared.news.News.{News}
+use Rattle.room_interface.specs.declared.news.NewsRow.{NewsRow}
 use Rattle.room_history.specs.Replays.{Recorded, past}
 
 module _ {A : Type 0} where

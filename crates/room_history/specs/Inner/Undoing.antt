@@ -1,11 +1,10 @@
 -- The choice of the entry to undo.
 use Rattle.std.specs.Prelude.{ℕ, not, List, [], ◌∷◌, Option, Some, None, is_none, Result, Ok, Err}
-use Rattle.std.specs.Bool.{then_some}
-use Rattle.edit_simple.specs.Checks.{first_that_holds}
-use Rattle.room_stacks.specs.declared.author.Author.{Author}
+use Rattle.edit_groups.specs.Prelude.{then_some, first_that_holds}
+use Rattle.room_interface.specs.declared.author.Author.{Author}
 use Rattle.room_history.specs.declared.entry.Entry.{Entry}
-use Rattle.room_history.specs.declared.reply.Reply.{Reply}
-use Rattle.room_history.specs.declared.reply.Reply.TheVariants.{NothingToUndo, NoSuch, NotYours, NotStanding}
+use Rattle.room_interface.specs.declared.reply.Reply.{Reply}
+use Rattle.room_interface.specs.declared.reply.Reply.TheVariants.{NothingToUndo, NoSuch, NotYours, NotStanding}
 use Rattle.room_history.specs.Journals.{is_by, is_standing, numbered}
 
 -- the entry s, or its refusal

@@ -1,22 +1,19 @@
 //! Appends entries to a room's journal.
 ghost use Rattle.std.specs.Prelude.{◌≡◌, ◌+◌, List, None, true, length, IfOk, OnErr};
+ghost use Rattle.osm_changes.specs.Prelude.{differences, changed, inverse, AreChanges, AreFrom, Rows, AreInOrder, is_sound};
 ghost use Rattle.osm_changes.specs.declared.change.Change.{Change};
-ghost use Rattle.osm_changes.specs.Changes.{differences, changed, inverse, AreChanges, AreFrom};
-ghost use Rattle.osm_elements.specs.Maps.{Rows};
-ghost use Rattle.osm_elements.specs.Rows.{AreInOrder};
-ghost use Rattle.osm_changes.specs.Sound.{is_sound};
 
 use crate::effects::{enter, note, reserve, stand};
 use crate::entry::{Entry, EntryKind};
 use crate::journal::{action_of, origin_next};
 use crate::kept::{Kept, effect_of, is_group};
 use crate::room::Room;
-use crate::undo::Undoable;
+use crate::undo::EntryToUndo;
 use edit_footprint::footprint::Footprint;
 use osm_changes::changes::Changes;
 use osm_changes::laws::{an_inverse_restores, differences_are_changes};
 use osm_elements::Memory;
-use room_stacks::author::Author;
+use room_interface::author::Author;
 use std::alloc::Allocator;
 
 impl<A: Allocator + Copy> Room<A> {
@@ -100,7 +97,7 @@ impl<A: Allocator + Copy> Room<A> {
         &mut self,
         author: Author,
         id: u64,
-        undoable: Undoable<A>,
+        undoable: EntryToUndo<A>,
     ) -> Result<u64, Memory>
         requires may { MayAppend self.old.limit self.old.journal author id }
         requires accepted { undo_refusal (past self.old.base self.old.journal) self.old.journal author undoable.of
@@ -113,7 +110,7 @@ impl<A: Allocator + Copy> Room<A> {
         ensures err { OnErr result (self.new ≡ self.old) }
     {
         leads_back::<A>();
-        let Undoable {
+        let EntryToUndo {
             of,
             changes,
             footprint,

@@ -1,13 +1,12 @@
 //! Calls and queries of a room.
 ghost use Rattle.std.specs.Prelude.{◌≡◌, length, IfOk};
 
-use crate::ask::{RoomCall, RoomReply, Undoable};
-use crate::numbers::Numbers;
 use crate::room::Room;
-use osm_changes::lookup::copy_of;
 use osm_elements::Memory;
+use osm_elements::element::copy_of;
 use osm_elements::map::Rows;
-use room_stacks::author::Author;
+use room_interface::ask::{Numbers, RoomCall, RoomReply, Undoable};
+use room_interface::author::Author;
 use std::alloc::Allocator;
 
 impl<A: Allocator + Copy> Room<A> {
@@ -27,7 +26,7 @@ impl<A: Allocator + Copy> Room<A> {
     {
         match call {
             RoomCall::Take(call) => RoomReply::Take(self.take(call)),
-            RoomCall::Get(name) => RoomReply::Get(copy_of(self.get(&name))),
+            RoomCall::Get(name) => RoomReply::Get(name, copy_of(self.get(&name))),
             RoomCall::Rows => RoomReply::Rows(self.front_and_rows()),
             RoomCall::Undos(author) => RoomReply::Undos(self.undoable_by(&author)),
             RoomCall::News(from) => RoomReply::News(self.news(from)),

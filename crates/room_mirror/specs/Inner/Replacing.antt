@@ -1,11 +1,9 @@
 -- Replacing rows of a map: first each absent name gets an empty relation, and then each row is replaced or removed,
 -- which needs no memory.
-use Rattle.std.specs.Prelude.{◌≡◌, true, List, [], None}
-use Rattle.std.specs.List.{filter}
+use Rattle.std.specs.Prelude.{◌≡◌, true, List, [], None, filter}
+use Rattle.room_history.specs.Prelude.{Rows, is_absent, is_among, is_present, put_row, row_at}
 use Rattle.osm_elements.specs.declared.element.Element.TheVariants.{Relation}
 use Rattle.osm_elements.specs.declared.name.Name.{Name}
-use Rattle.osm_elements.specs.Maps.{Rows, is_absent, is_among, is_present}
-use Rattle.osm_elements.specs.Rows.{put_row, row_at}
 
 module _ {A : Type 0} where
   -- the map with an empty relation under the name x

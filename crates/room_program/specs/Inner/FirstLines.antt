@@ -4,13 +4,13 @@ use Rattle.std.specs.Io.KnownBytes.{Consumes, IsAtEnd}
 use Rattle.room_program.specs.declared.base.FirstLine.{FirstLine}
 use Rattle.room_program.specs.declared.base.Later.{Later}
 use Rattle.room_program.specs.declared.fault.ReplayFault.{ReplayFault}
-use Rattle.room_program.specs.declared.fault.ReplayFault.TheVariants as replays
 use Rattle.room_program.specs.declared.fault.StreamFault.{StreamFault}
 use Rattle.room_program.specs.declared.fault.StreamFault.TheVariants.{Read, Write, Memory}
-use Rattle.room_program.specs.declared.source.Source as sources
 use Rattle.room_program.specs.Bases.{spelled_base}
 use Rattle.room_program.specs.Lines.{IsLine}
 use Rattle.room_program.specs.Streams.{Gets}
+use Rattle.room_program.specs.declared.fault.ReplayFault.TheVariants as replays
+use Rattle.room_program.specs.declared.source.Source as sources
 
 module _ {S : Type 0} (source : sources.Ghosts S) where
   -- the line was read with its line feed and possibly more bytes, by some of the reads; or the stream ended with the

@@ -1,8 +1,6 @@
 -- Whether a name can be added to the names of a table.
 use Rattle.std.specs.Prelude.{◌≡◌, ℕ, Bool, true, List, Some, None}
-use Rattle.std.specs.List.{list_any}
-use Rattle.room_stacks.specs.Authors.{author_of}
-use Rattle.room_stacks.specs.SameAuthors.{is_same_author}
+use Rattle.room_socket.specs.Prelude.{list_any, author_of, is_same_author}
 use Rattle.room_server.specs.declared.table.TableFault.{TableFault}
 use Rattle.room_server.specs.declared.table.TableFault.TheVariants.{BadName, Twice, Unsound, Memory}
 

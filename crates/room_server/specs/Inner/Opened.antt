@@ -1,7 +1,6 @@
 -- Rooms that were opened, each at a desk.
 use Rattle.std.specs.Prelude.{◌≡◌, ℕ, List, Some, All, length, slice_get}
-use Rattle.std.specs.declared.alloc.Global.{Global}
-use Rattle.osm_elements.specs.Maps.{Rows}
+use Rattle.room_socket.specs.Prelude.{Global, Rows}
 use Rattle.turn_desk.specs.Desk.{IsAt, IsFirst}
 use Rattle.room_server.specs.Openings.{opening}
 use Rattle.room_server.specs.Tables.{DeskView, SeatView}

@@ -1,13 +1,12 @@
 -- The deeds of a journal's entries, which are numbered in order.
+use Rattle.std.proofs.Common.{sym, ap, subst, ◌∙◌, arith}
+use Rattle.std.specs.Prelude.{◌≡◌, ◌+◌, ◌<◌, ◌≤◌, ◌&&◌, ◌||◌, ℕ, Bool, true, false, not, cond, List, [], ◌∷◌, ◌++◌, length, map, Option, Some, None, nat_lt, slice_get, refl, filter, find, fold, position, All, option_map}
 use Prim.Native.Nat.{suc}
-use Rattle.std.proofs.Common.{◌≡◌, ◌+◌, ◌<◌, ◌≤◌, ◌&&◌, ◌||◌, ℕ, Bool, true, false, not, cond, List, [], ◌∷◌, ◌++◌, length, map, Option, Some, None, nat_lt, slice_get, refl, sym, ap, subst, ◌∙◌, arith}
 use Rattle.std.proofs.lemmas.Bool.Decides.{nat_tests}
 use Rattle.std.proofs.lemmas.List.Elements.{All-cons, All-nil, All-weaker}
-use Rattle.std.specs.List.{All, filter, find, fold, list_any, position, position_or_len}
-use Rattle.std.specs.Option.{option_map}
-use Rattle.room_stacks.specs.declared.author.Author.{Author}
+use Rattle.room_interface.specs.Prelude.{list_any, position_or_len, is_same_author}
+use Rattle.room_interface.specs.declared.author.Author.{Author}
 use Rattle.room_stacks.specs.declared.deed.Deed.{Deed}
-use Rattle.room_stacks.specs.SameAuthors.{is_same_author}
 use Rattle.room_stacks.specs.Stacks.{doer, number, spends, spent, IsAboveAll, undoes, works, standing, redo, redo_after}
 use Rattle.room_stacks.specs.Numbered.{deeds_from, kept_from}
 use Rattle.room_stacks.specs.Facts.Rising.{All-passing}

@@ -1,20 +1,18 @@
 -- The changes that one more deed makes.
-use Rattle.std.proofs.Common.{◌≡◌, ◌&&◌, ◌||◌, ◌<◌, ℕ, Bool, true, false, not, cond, List, [], ◌∷◌, ◌++◌, map, nat_eq, nat_lt, refl, sym, ap, ◌∙◌, arith}
+use Rattle.std.proofs.Common.{sym, ap, ◌∙◌, arith}
+use Rattle.std.specs.Prelude.{◌≡◌, ◌&&◌, ◌||◌, ◌<◌, ℕ, Bool, true, false, not, cond, List, [], ◌∷◌, ◌++◌, map, nat_eq, nat_lt, refl, filter, fold, All}
 use Rattle.std.proofs.lemmas.Bool.Decides.{nat_tests}
 use Rattle.std.proofs.lemmas.List.{map-append, append-nil}
 use Rattle.std.proofs.lemmas.List.Elements.{All-head, All-tail, All-filter, filter-append, filter_agree, All-weaker}
 use Rattle.std.proofs.lemmas.List.Folds.{list_any-append}
 use Rattle.std.proofs.lemmas.List.Sums.{fold-append}
-use Rattle.std.specs.Cmp.Lexicographic.{nat_list_eq_equiv}
-use Rattle.std.specs.List.{All, filter, fold, list_any}
-use Rattle.room_stacks.specs.declared.author.Author.{Author}
+use Rattle.room_interface.specs.Prelude.{nat_list_eq_equiv, list_any, is_same_author, one_author}
+use Rattle.room_interface.specs.declared.author.Author.{Author}
 use Rattle.room_stacks.specs.declared.deed.Deed.{Deed}
 use Rattle.room_stacks.specs.declared.deed.Deed.TheVariants.{Did, Undid, Redid}
-use Rattle.room_stacks.specs.SameAuthors.{is_same_author}
 use Rattle.room_stacks.specs.Stacks.{doer, number, is_work, undoes, IsAboveAll, works, standing, is_standing, redo, redo_after}
 use Rattle.room_stacks.specs.Inner.Lists.{IsRising, without}
 use Rattle.room_stacks.specs.Facts.Rising.{below_numbers, All-passing, among_filter, none_of_others, without_none}
-use Rattle.room_stacks.specs.Facts.SameAuthors.{one_author}
 
 -- the deed did an action, and is the author's
 abbrev pub is_work_of : Author → Deed → Bool

@@ -1,10 +1,10 @@
 -- Rising numbers, and the numbers of the deeds that pass a test.
+use Rattle.std.proofs.Common.{ap, subst, ◌∙◌, arith}
+use Rattle.std.specs.Prelude.{◌≡◌, ◌||◌, ◌<◌, ℕ, Bool, true, false, cond, List, [], ◌∷◌, ◌++◌, map, nat_eq, not, ◌+◌, refl, get_or, filter, All}
 use Prim.Native.Nat.{zero, suc}
-use Rattle.std.proofs.Common.{◌≡◌, ◌||◌, ◌<◌, ℕ, Bool, true, false, cond, List, [], ◌∷◌, ◌++◌, map, nat_eq, not, get_or, ◌+◌, refl, ap, subst, ◌∙◌, arith}
 use Rattle.std.proofs.lemmas.Bool.Decides.{nat_tests}
 use Rattle.std.proofs.lemmas.List.Elements.{All-head, All-tail, All-nil, All-cons, All-push, All-filter, All-map, All-weaker}
-use Rattle.std.specs.List.{All, filter, list_any}
-use Rattle.std.specs.List.Sorted.{IsStrictlyIncreasing}
+use Rattle.room_interface.specs.Prelude.{list_any, IsStrictlyIncreasing}
 use Rattle.room_stacks.specs.declared.deed.Deed.{Deed}
 use Rattle.room_stacks.specs.Stacks.{number, IsAboveAll}
 use Rattle.room_stacks.specs.Inner.Lists.{IsRising, without}

@@ -1,6 +1,6 @@
 -- The relation between the collections in the code and the deeds of the authors.
 use Rattle.std.specs.Prelude.{◌≡◌, ◌<◌, ℕ, true, List, Option, IfSome, length, map}
-use Rattle.room_stacks.specs.declared.author.Author.{Author}
+use Rattle.room_interface.specs.declared.author.Author.{Author}
 use Rattle.room_stacks.specs.declared.deed.Deed.{Deed}
 use Rattle.room_stacks.specs.Stacks.{number, standing, redo}
 use Rattle.room_stacks.specs.Inner.SpentIds.{Spent, AreNumbered, deeds_of}

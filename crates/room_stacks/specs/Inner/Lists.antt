@@ -1,9 +1,7 @@
 -- The entries that authors can undo and redo, as the code keeps them.
-use Rattle.std.specs.Prelude.{◌≡◌, ◌<◌, ◌≤◌, ℕ, Bool, true, false, not, cond, List, [], ◌∷◌, length, map, Option, Some, None, nat_eq, slice_index_or, ⊤}
-use Rattle.std.specs.List.{All, filter}
-use Rattle.std.specs.Map.{lookup}
-use Rattle.room_stacks.specs.declared.author.Author.{Author}
-use Rattle.room_stacks.specs.SameAuthors.{is_same_author}
+use Rattle.std.specs.Prelude.{◌≡◌, ◌<◌, ◌≤◌, ℕ, Bool, true, false, not, cond, List, [], ◌∷◌, length, map, Option, Some, None, nat_eq, ⊤, slice_index_or, filter, All}
+use Rattle.room_interface.specs.Prelude.{lookup, is_same_author}
+use Rattle.room_interface.specs.declared.author.Author.{Author}
 
 -- the active entries, the redo stack, and whether each has capacity for one more number
 pub record Usable : Type 0 where

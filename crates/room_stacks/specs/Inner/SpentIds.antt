@@ -1,14 +1,13 @@
 -- The spent ids, as the code keeps them.
-use Rattle.std.specs.Prelude.{◌<◌, ◌&&◌, ℕ, Bool, List, map, length, nat_eq}
-use Rattle.std.specs.List.{All, IsDistinct}
-use Rattle.room_stacks.specs.declared.author.Author.{Author}
+use Rattle.std.specs.Prelude.{◌<◌, ◌&&◌, ℕ, Bool, List, map, length, nat_eq, All}
+use Rattle.room_interface.specs.Prelude.{IsDistinct, is_same_author}
+use Rattle.room_interface.specs.declared.author.Author.{Author}
 use Rattle.room_stacks.specs.declared.deed.Deed.{Deed}
-use Rattle.room_stacks.specs.declared.deed.Deed.TheVariants as deeds
 use Rattle.room_stacks.specs.declared.spent_ids.Spending.{Spending}
 use Rattle.room_stacks.specs.declared.spent_ids.Work.{Work}
 use Rattle.room_stacks.specs.declared.spent_ids.Work.TheVariants.{Did, Undid, Redid}
 use Rattle.room_stacks.specs.Inner.Lists.{author_at}
-use Rattle.room_stacks.specs.SameAuthors.{is_same_author}
+use Rattle.room_stacks.specs.declared.deed.Deed.TheVariants as deeds
 
 -- the spent ids with their works, and the capacity for more
 pub record Spent : Type 0 where

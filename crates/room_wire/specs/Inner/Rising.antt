@@ -1,8 +1,7 @@
 -- The order of two names that follow each other.
 use Rattle.std.specs.Prelude.{Bool}
-use Rattle.std.specs.Ordering.{is_lt}
+use Rattle.room_interface.specs.Prelude.{is_lt, name_cmp}
 use Rattle.osm_elements.specs.declared.name.Name.{Name}
-use Rattle.osm_elements.specs.NameOrder.{name_cmp}
 
 -- the first name comes before the second
 abbrev pub is_before : Name → Name → Bool

@@ -8,11 +8,11 @@ use Rattle.serde_json.specs.Read.{of_json}
 use Rattle.serde_json.specs.Written.{outline}
 use Rattle.osm_coords.specs.Written.{written}
 use Rattle.room_wire.specs.declared.element.Part.{Part}
-use Rattle.room_wire.specs.declared.element.Part.TheVariants as parts
 use Rattle.room_wire.specs.declared.shown.Shown.{Shown}
-use Rattle.room_wire.specs.declared.shown.Shown.TheVariants as values
 use Rattle.room_wire.specs.News.{news_rows_tree}
 use Rattle.room_wire.specs.Trees.{element_tree, name_tree, nodes_tree, members_tree, numbers_tree, rows_tree, tags_tree, whole}
+use Rattle.room_wire.specs.declared.element.Part.TheVariants as parts
+use Rattle.room_wire.specs.declared.shown.Shown.TheVariants as values
 
 -- the tree is read back from its outline, and each number in it is a JSON number
 pub record IsReadable (d : Data) : Type 0 where

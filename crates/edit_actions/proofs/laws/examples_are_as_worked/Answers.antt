@@ -1,14 +1,21 @@
-use Rattle.edit_actions.proofs.ExampleProofs.{created_lem, retagged_lem, moved_lem, split_lem}
+-- Each holds by evaluation.
+use Rattle.std.proofs.Common.{refl}
+use Rattle.osm_elements.specs.NameOrder.{name_cmp}
+use Rattle.edit_actions.specs.Examples.{created, retagged, moved, split}
 use Rattle.edit_actions.proofs.laws.examples_are_as_worked.Goals as goal
 
 pub returns-clause-created : goal.returns-clause-created
-returns-clause-created c = created_lem
+unfolding created name_cmp
+returns-clause-created c = (refl, refl, refl)
 
 pub returns-clause-retagged : goal.returns-clause-retagged
-returns-clause-retagged c = retagged_lem
+unfolding retagged name_cmp
+returns-clause-retagged c = (refl, refl, refl)
 
 pub returns-clause-moved : goal.returns-clause-moved
-returns-clause-moved c = moved_lem
+unfolding moved name_cmp
+returns-clause-moved c = (refl, refl, refl)
 
 pub returns-clause-split : goal.returns-clause-split
-returns-clause-split c = split_lem
+unfolding split name_cmp
+returns-clause-split c = (refl, refl, refl)

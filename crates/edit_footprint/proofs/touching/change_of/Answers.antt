@@ -1,9 +1,7 @@
 use Rattle.std.proofs.Common.{rules, tests}
 use Rattle.std.proofs.lemmas.Iterator.{YieldsList-from_slice}
 use Rattle.std.proofs.lemmas.Iterator.Search.{find_from_yields_List}
-use Rattle.osm_changes.specs.declared.change.Change.{Change}
-use Rattle.osm_changes.specs.Cells.{is_same_cell}
-use Rattle.osm_changes.specs.Changes.{cell_of}
+use Rattle.edit_footprint.specs.Prelude.{Change, is_same_cell, cell_of}
 use Rattle.edit_footprint.proofs.touching.change_of.Goals as goal
 
 pub returns : goal.returns

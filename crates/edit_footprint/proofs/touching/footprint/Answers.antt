@@ -1,9 +1,5 @@
-use Rattle.std.proofs.Common.{◌≡◌, ◌++◌, map, IfOk, ap, subst, ◌∙◌}
-use Rattle.std.specs.List.{flat_map}
-use Rattle.std.specs.Option.{option_to_list}
-use Rattle.osm_changes.specs.Cells.{rest_at, both_at, cell_set}
-use Rattle.osm_changes.specs.Changes.{changed_cells}
-use Rattle.edit_footprint.specs.Footprints.{subjects, unglued_from}
+use Rattle.std.proofs.Common.{◌≡◌, ◌++◌, map, IfOk, ap, subst, ◌∙◌, flat_map, option_to_list}
+use Rattle.edit_footprint.specs.Prelude.{rest_at, both_at, cell_set, changed_cells, subjects, unglued_from}
 use Rattle.edit_footprint.specs.Inner.Touching.{all_begun_or_ceased}
 use Rattle.edit_footprint.proofs.Touched.{collected_is_touched}
 use Rattle.edit_footprint.proofs.touching.footprint.Goals as goal

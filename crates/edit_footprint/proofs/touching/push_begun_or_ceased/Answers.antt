@@ -1,7 +1,6 @@
 use Rattle.std.proofs.Common.{sym, subst, ◌∙◌}
-use Rattle.osm_refs.specs.Facts.RisingNames.{IsRising-name_set}
+use Rattle.edit_footprint.specs.Prelude.{IsRising-name_set, half_references}
 use Rattle.osm_refs.specs.Rising.{IsRising}
-use Rattle.edit_footprint.specs.Footprints.{half_references}
 use Rattle.edit_footprint.proofs.touching.push_begun_or_ceased.Goals as goal
 
 pub push_but-requires-clause-from : goal.push_but-requires-clause-from

@@ -1,9 +1,6 @@
 use Rattle.std.proofs.Common.{ap, ◌∙◌, arith}
 use Rattle.std.proofs.lemmas.List.{take_all}
-use Rattle.osm_elements.specs.Rows.{row_at}
-use Rattle.osm_changes.specs.Changes.{rows_changes}
-use Rattle.edit_simple.specs.Facts.ChangesInTurn.{one_fits}
-use Rattle.osm_changes.specs.Facts.DifferingRows.{covering}
+use Rattle.edit_groups.specs.Prelude.{row_at, rows_changes, one_fits, covering}
 use Rattle.edit_groups.proofs.differing.changes_at.Goals as goal
 
 pub push_row-requires : goal.push_row-requires

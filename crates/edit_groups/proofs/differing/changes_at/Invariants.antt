@@ -1,6 +1,5 @@
 use Rattle.std.proofs.Common.{◌≡◌, take}
-use Rattle.osm_elements.specs.Rows.{row_at}
-use Rattle.osm_changes.specs.Changes.{rows_changes}
+use Rattle.edit_groups.specs.Prelude.{row_at, rows_changes}
 use Rattle.edit_groups.proofs.differing.changes_at.Given as goal
 
 abbrev pub invariant-loop-name : goal.invariant-loop-name

@@ -1,8 +1,6 @@
 use Rattle.std.proofs.Common.{sym, ap, subst, ◌∙◌}
-use Rattle.osm_elements.specs.Maps.{is_among}
-use Rattle.osm_elements.specs.Facts.Among.{is_among-name_set}
+use Rattle.edit_groups.specs.Prelude.{is_among, is_among-name_set, IsRising-name_set}
 use Rattle.osm_refs.specs.Rising.{IsRising}
-use Rattle.osm_refs.specs.Facts.RisingNames.{IsRising-name_set}
 use Rattle.edit_groups.proofs.differing.changes_between.Goals as goal
 
 pub changes_at-requires-clause-rising : goal.changes_at-requires-clause-rising

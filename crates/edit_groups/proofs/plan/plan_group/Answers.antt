@@ -1,15 +1,7 @@
-use Rattle.std.proofs.Common.{◌≡◌, ◌+◌, ◌<◌, get_or, length, refl, sym, ap, subst, ◌∙◌, arith}
+use Rattle.std.proofs.Common.{◌≡◌, ◌+◌, ◌<◌, length, refl, get_or, sym, ap, subst, ◌∙◌, arith}
 use Rattle.std.proofs.lemmas.List.{take_all}
-use Rattle.osm_elements.specs.Maps.{is_among, name_set}
-use Rattle.osm_elements.specs.Rows.{row_at}
-use Rattle.osm_elements.specs.Facts.Among.{is_among-name_set}
-use Rattle.osm_elements.specs.Facts.NameOrder.{name_cmp_is}
-use Rattle.osm_elements.specs.Facts.SameNames.{name_eq_is}
+use Rattle.edit_groups.specs.Prelude.{is_among, name_set, row_at, is_among-name_set, name_cmp_is, name_eq_is, sorted_is_name_set, IsRising-name_set, differences, is_group_length}
 use Rattle.osm_refs.specs.Rising.{IsRising}
-use Rattle.osm_refs.specs.Facts.NameSets.{sorted_is_name_set}
-use Rattle.osm_refs.specs.Facts.RisingNames.{IsRising-name_set}
-use Rattle.osm_changes.specs.Changes.{differences}
-use Rattle.edit_groups.specs.Groups.{is_group_length}
 use Rattle.edit_groups.proofs.Turns.{IsAfter, none_yet, then_after, group_refused, group_planned, position_fits}
 use Rattle.edit_groups.proofs.plan.plan_group.Goals as goal
 

@@ -1,6 +1,5 @@
 use Rattle.std.proofs.Common.{◌++◌, sym, subst}
-use Rattle.osm_changes.specs.Changes.{row_changes, AreChanges}
-use Rattle.osm_changes.specs.Facts.RowChanges.{AreChanges-row_changes}
+use Rattle.edit_simple.specs.Prelude.{row_changes, AreChanges, AreChanges-row_changes}
 use Rattle.edit_simple.proofs.changing.one_change.Goals as goal
 
 pub push_row-requires : goal.push_row-requires

@@ -1,38 +1,53 @@
-use Rattle.edit_simple.proofs.ExampleProofs.{in_use_lem, own_member_lem, nothing_lem, created_lem, retagged_lem, moved_lem, relisted_lem, purged_lem, create_refusals_lem, retag_refusals_lem, move_refusals_lem, relist_refusals_lem}
+-- Each holds by evaluation.
+use Rattle.std.proofs.Common.{refl}
+use Rattle.osm_elements.specs.NameOrder.{name_cmp}
+use Rattle.edit_simple.specs.Examples.{in_use, own_member, nothing, created, retagged, moved, relisted, purged, create_refusals, retag_refusals, move_refusals, relist_refusals}
 use Rattle.edit_simple.proofs.laws.examples_are_as_worked.Goals as goal
 
 pub returns-clause-in_use : goal.returns-clause-in_use
-returns-clause-in_use c = in_use_lem
+unfolding in_use name_cmp
+returns-clause-in_use c = (refl, refl, refl, refl, refl)
 
 pub returns-clause-own_member : goal.returns-clause-own_member
-returns-clause-own_member c = own_member_lem
+unfolding own_member name_cmp
+returns-clause-own_member c = (refl, refl)
 
 pub returns-clause-nothing : goal.returns-clause-nothing
-returns-clause-nothing c = nothing_lem
+unfolding nothing name_cmp
+returns-clause-nothing c = (refl, refl, refl, refl, refl, refl)
 
 pub returns-clause-created : goal.returns-clause-created
-returns-clause-created c = created_lem
+unfolding created name_cmp
+returns-clause-created c = (refl, refl, refl)
 
 pub returns-clause-retagged : goal.returns-clause-retagged
-returns-clause-retagged c = retagged_lem
+unfolding retagged name_cmp
+returns-clause-retagged c = (refl, refl, refl, refl, refl, refl)
 
 pub returns-clause-moved : goal.returns-clause-moved
-returns-clause-moved c = moved_lem
+unfolding moved name_cmp
+returns-clause-moved c = (refl, refl, refl, refl)
 
 pub returns-clause-relisted : goal.returns-clause-relisted
-returns-clause-relisted c = relisted_lem
+unfolding relisted name_cmp
+returns-clause-relisted c = (refl, refl, refl, refl, refl, refl, refl, refl)
 
 pub returns-clause-purged : goal.returns-clause-purged
-returns-clause-purged c = purged_lem
+unfolding purged name_cmp
+returns-clause-purged c = (refl, refl, refl, refl, refl, refl, refl, refl, refl, refl, refl, refl)
 
 pub returns-clause-create_refusals : goal.returns-clause-create_refusals
-returns-clause-create_refusals c = create_refusals_lem
+unfolding create_refusals name_cmp
+returns-clause-create_refusals c = (refl, refl, refl, refl, refl, refl, refl, refl, refl, refl, refl)
 
 pub returns-clause-retag_refusals : goal.returns-clause-retag_refusals
-returns-clause-retag_refusals c = retag_refusals_lem
+unfolding retag_refusals name_cmp
+returns-clause-retag_refusals c = (refl, refl, refl, refl, refl)
 
 pub returns-clause-move_refusals : goal.returns-clause-move_refusals
-returns-clause-move_refusals c = move_refusals_lem
+unfolding move_refusals name_cmp
+returns-clause-move_refusals c = (refl, refl, refl, refl, refl, refl, refl, refl, refl)
 
 pub returns-clause-relist_refusals : goal.returns-clause-relist_refusals
-returns-clause-relist_refusals c = relist_refusals_lem
+unfolding relist_refusals name_cmp
+returns-clause-relist_refusals c = (refl, refl, refl, refl, refl, refl, refl, refl, refl, refl, refl, refl, refl)

@@ -1,7 +1,5 @@
-use Rattle.std.proofs.Common.{ap, map, ◌∙◌}
-use Rattle.std.specs.List.{filter}
-use Rattle.osm_elements.specs.Maps.{least}
-use Rattle.edit_simple.specs.Create.{is_missing}
+use Rattle.std.proofs.Common.{ap, ◌∙◌, map, filter}
+use Rattle.edit_simple.specs.Prelude.{least, is_missing}
 use Rattle.edit_simple.proofs.MemberNames.{names_of_pairs}
 use Rattle.edit_simple.proofs.lists.least_missing_reference.Goals as goal
 

@@ -1,8 +1,7 @@
 use Rattle.std.proofs.Common.{Some, ap, ◌∙◌}
-use Rattle.edit_simple.specs.Create.{is_missing}
-use Rattle.edit_simple.specs.Facts.LeastNames.{least_taken, least_passed}
-use Rattle.edit_simple.proofs.lookup.least_missing.Goals as goal
+use Rattle.edit_simple.specs.Prelude.{is_missing, least_taken, least_passed}
 use Rattle.edit_simple.proofs.lookup.least_missing.Goals.{then-is_missing, else-is_missing}
+use Rattle.edit_simple.proofs.lookup.least_missing.Goals as goal
 
 pub loop-name-preserved : goal.loop-name-preserved
 loop-name-preserved g c =

@@ -1,7 +1,5 @@
-use Rattle.std.proofs.Common.{◌≡◌, take}
-use Rattle.std.specs.List.{filter}
-use Rattle.osm_elements.specs.Maps.{least}
-use Rattle.edit_simple.specs.Create.{is_missing}
+use Rattle.std.proofs.Common.{◌≡◌, take, filter}
+use Rattle.edit_simple.specs.Prelude.{least, is_missing}
 use Rattle.edit_simple.proofs.lookup.least_missing.Given as goal
 
 abbrev pub invariant-loop-name : goal.invariant-loop-name

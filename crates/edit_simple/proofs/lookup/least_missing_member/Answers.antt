@@ -1,8 +1,7 @@
 use Rattle.std.proofs.Common.{Some, ap, ◌∙◌}
-use Rattle.edit_simple.specs.Create.{is_missing}
-use Rattle.edit_simple.specs.Facts.LeastNames.{least_taken_by, least_passed_by}
-use Rattle.edit_simple.proofs.lookup.least_missing_member.Goals as goal
+use Rattle.edit_simple.specs.Prelude.{is_missing, least_taken_by, least_passed_by}
 use Rattle.edit_simple.proofs.lookup.least_missing_member.Goals.{then-is_missing, else-is_missing}
+use Rattle.edit_simple.proofs.lookup.least_missing_member.Goals as goal
 
 pub loop-member-preserved : goal.loop-member-preserved
 loop-member-preserved g c =

@@ -1,7 +1,5 @@
-use Rattle.std.proofs.Common.{◌≡◌, take, map}
-use Rattle.std.specs.List.{filter}
-use Rattle.osm_elements.specs.Maps.{least}
-use Rattle.edit_simple.specs.Create.{is_missing}
+use Rattle.std.proofs.Common.{◌≡◌, take, map, filter}
+use Rattle.edit_simple.specs.Prelude.{least, is_missing}
 use Rattle.edit_simple.proofs.lookup.least_missing_member.Given as goal
 
 abbrev pub invariant-loop-member : goal.invariant-loop-member

@@ -1,6 +1,5 @@
 use Rattle.std.proofs.Common.{ap, ◌∙◌}
-use Rattle.std.specs.Ordering.{ord_min}
-use Rattle.osm_elements.specs.Facts.NameOrder.{name_cmp_is}
+use Rattle.edit_simple.specs.Prelude.{ord_min, name_cmp_is}
 use Rattle.edit_simple.proofs.lookup.lesser.Goals as goal
 
 pub returns-in-Some : goal.returns-in-Some

@@ -1,8 +1,7 @@
 use Rattle.std.proofs.Common.{Some, not, ap, ◌∙◌}
-use Rattle.osm_elements.specs.Maps.{is_absent}
-use Rattle.edit_simple.specs.Facts.LeastNames.{least_taken, least_passed}
-use Rattle.edit_simple.proofs.moving.least_absent.Goals as goal
+use Rattle.edit_simple.specs.Prelude.{is_absent, least_taken, least_passed}
 use Rattle.edit_simple.proofs.moving.least_absent.Goals.{then-not-is_present, else-not-is_present}
+use Rattle.edit_simple.proofs.moving.least_absent.Goals as goal
 
 pub loop-name-preserved : goal.loop-name-preserved
 loop-name-preserved g c =

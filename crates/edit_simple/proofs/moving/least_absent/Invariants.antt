@@ -1,5 +1,4 @@
-use Rattle.std.proofs.Common.{◌≡◌, take}
-use Rattle.std.specs.List.{filter}
+use Rattle.std.proofs.Common.{◌≡◌, take, filter}
 use Rattle.osm_elements.specs.Maps.{is_absent, least}
 use Rattle.edit_simple.proofs.moving.least_absent.Given as goal
 

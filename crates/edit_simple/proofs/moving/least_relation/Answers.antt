@@ -1,9 +1,7 @@
 use Rattle.std.proofs.Common.{Some, ap, ◌∙◌}
-use Rattle.osm_elements.specs.declared.name.Name.{Name}
-use Rattle.edit_simple.specs.Kinds.{is_relation}
-use Rattle.edit_simple.specs.Facts.LeastNames.{least_taken, least_passed}
-use Rattle.edit_simple.proofs.moving.least_relation.Goals as goal
+use Rattle.edit_simple.specs.Prelude.{Name, is_relation, least_taken, least_passed}
 use Rattle.edit_simple.proofs.moving.least_relation.Goals.{then-is_relation, else-is_relation}
+use Rattle.edit_simple.proofs.moving.least_relation.Goals as goal
 
 pub loop-name-preserved : goal.loop-name-preserved
 loop-name-preserved c =

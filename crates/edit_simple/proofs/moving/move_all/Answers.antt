@@ -1,14 +1,10 @@
 use Rattle.std.proofs.Common.{◌≡◌, ◌⊎◌, ℤ, true, Some, take, sym, ap, ◌∙◌}
 use Rattle.std.proofs.lemmas.Int.{to_z-of_z}
 use Rattle.std.proofs.lemmas.List.{take_all}
-use Rattle.std.specs.Int.{w64}
-use Rattle.osm_elements.specs.Rows.{row_at}
-use Rattle.osm_changes.specs.Changes.{rows_changes}
-use Rattle.edit_simple.specs.declared.refusal.Refusal.TheVariants.{OutOfRange, Memory}
+use Rattle.edit_simple.specs.Prelude.{w64, row_at, rows_changes, OutOfRange, Memory, err_result}
 use Rattle.edit_simple.specs.Inner.Moving.{moved_row, row_leaves}
 use Rattle.edit_simple.specs.Inner.Moves.{is_node_row, leaving, IsMoved}
 use Rattle.edit_simple.proofs.MoveLoops.{all_at, push_fits, leaving_told, of_distances}
-use Rattle.edit_simple.specs.Facts.Checked.{err_result}
 use Rattle.edit_simple.proofs.moving.move_all.Goals as goal
 
 pub moved_node-requires : goal.moved_node-requires

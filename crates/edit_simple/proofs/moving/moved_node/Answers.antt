@@ -1,8 +1,6 @@
 use Rattle.std.proofs.Common.{◌+ℤ◌, ap, ◌∙◌}
 use Rattle.std.proofs.lemmas.Int.{to_z-of_z}
-use Rattle.std.specs.Int.{w64}
-use Rattle.osm_coords.specs.Latitude.{latitude}
-use Rattle.osm_coords.specs.Longitude.{longitude}
+use Rattle.edit_simple.specs.Prelude.{w64, latitude, longitude}
 use Rattle.edit_simple.proofs.MoveLoops.{node_moved}
 use Rattle.edit_simple.proofs.moving.moved_node.Goals as goal
 

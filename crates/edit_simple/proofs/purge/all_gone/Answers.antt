@@ -1,9 +1,8 @@
 use Rattle.std.proofs.Common.{BTreeSet, ap, ◌∙◌}
-use Rattle.osm_elements.specs.declared.name.Name.{Name}
-use Rattle.osm_elements.specs.Facts.NameOrder.{name_cmp_is}
+use Rattle.edit_simple.specs.Prelude.{Name, name_cmp_is}
 use Rattle.edit_simple.proofs.PurgeLoops.{gone_more, gone_still}
-use Rattle.edit_simple.proofs.purge.all_gone.Goals as goal
 use Rattle.edit_simple.proofs.purge.all_gone.Goals.{then-falls_short+in_ok-insert-2, else-falls_short}
+use Rattle.edit_simple.proofs.purge.all_gone.Goals as goal
 
 pub loop-user-preserved : goal.loop-user-preserved
 loop-user-preserved g c =

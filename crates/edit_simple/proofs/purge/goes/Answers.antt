@@ -1,8 +1,5 @@
-use Rattle.std.proofs.Common.{ap, ◌∙◌}
-use Rattle.std.specs.BTreeSet.{contains_by}
-use Rattle.std.specs.declared.cmp.Ordering.{Ordering}
-use Rattle.osm_elements.specs.declared.name.Name.{Name}
-use Rattle.osm_elements.specs.Facts.NameOrder.{name_cmp_is}
+use Rattle.std.proofs.Common.{ap, ◌∙◌, Ordering}
+use Rattle.edit_simple.specs.Prelude.{contains_by, Name, name_cmp_is}
 use Rattle.edit_simple.proofs.purge.goes.Goals as goal
 
 pub returns : goal.returns

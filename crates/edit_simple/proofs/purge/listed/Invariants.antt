@@ -1,7 +1,6 @@
-use Rattle.std.proofs.Common.{◌≡◌, ◌∷◌, take}
-use Rattle.std.specs.List.{flat_map}
-use Rattle.edit_simple.specs.Inner.Purging.{reached_with}
+use Rattle.std.proofs.Common.{◌≡◌, ◌∷◌, take, flat_map}
 use Rattle.osm_refs.specs.Tables.{table_of}
+use Rattle.edit_simple.specs.Inner.Purging.{reached_with}
 use Rattle.edit_simple.proofs.purge.listed.Given as goal
 
 abbrev pub invariant-loop-user : goal.invariant-loop-user

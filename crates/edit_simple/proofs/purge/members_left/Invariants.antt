@@ -1,7 +1,5 @@
-use Rattle.std.proofs.Common.{◌≡◌, not, map, take}
-use Rattle.std.specs.List.{filter}
-use Rattle.osm_elements.specs.Maps.{is_among}
-use Rattle.osm_elements.specs.Members.{member_pair}
+use Rattle.std.proofs.Common.{◌≡◌, not, map, take, filter}
+use Rattle.edit_simple.specs.Prelude.{is_among, member_pair}
 use Rattle.edit_simple.proofs.purge.members_left.Given as goal
 
 abbrev pub invariant-loop-member : goal.invariant-loop-member

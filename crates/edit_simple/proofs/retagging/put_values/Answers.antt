@@ -1,11 +1,8 @@
 use Rattle.std.proofs.Common.{◌≡◌, ◌<◌, ◌⊎◌, length, map}
-use Rattle.osm_elements.specs.declared.fault.TextFault.TheVariants as faults
-use Rattle.osm_elements.specs.KeyedValues.{is_short, is_none_or}
-use Rattle.osm_elements.specs.Facts.KeyedRows.{each_key}
-use Rattle.edit_simple.specs.Facts.Checked.{err_same}
-use Rattle.edit_simple.specs.Tagging.{given_pair}
+use Rattle.edit_simple.specs.Prelude.{is_short, is_none_or, each_key, err_same, given_pair}
 use Rattle.edit_simple.specs.Inner.Retagging.{all_valued}
 use Rattle.edit_simple.proofs.RetagPlans.{fault_told}
+use Rattle.osm_elements.specs.declared.fault.TextFault.TheVariants as faults
 use Rattle.edit_simple.proofs.retagging.put_values.Goals as goal
 
 pub put_value-requires : goal.put_value-requires

@@ -1,5 +1,5 @@
 use Rattle.std.proofs.Common.{◌≡◌, map, take}
-use Rattle.edit_simple.specs.Tagging.{given_pair}
+use Rattle.room_interface.specs.GivenTags.{given_pair}
 use Rattle.edit_simple.specs.Inner.Retagging.{all_removed}
 use Rattle.edit_simple.proofs.retagging.remove_tags.Given as goal
 

@@ -1,5 +1,5 @@
-use Rattle.std.proofs.Common.{inl, map, refl, ◌∙◌}
-use Rattle.edit_simple.specs.Tagging.{given_pair}
+use Rattle.std.proofs.Common.{inl, ◌∙◌, map, refl}
+use Rattle.room_interface.specs.GivenTags.{given_pair}
 use Rattle.edit_simple.proofs.RetagPlans.{retagged_well, retagged_over}
 use Rattle.edit_simple.proofs.retagging.retagged.Goals as goal
 

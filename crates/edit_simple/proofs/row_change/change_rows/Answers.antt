@@ -1,6 +1,5 @@
-use Rattle.osm_elements.specs.Rows.{row_at}
-use Rattle.edit_simple.specs.Facts.ChangesInTurn.{one_fits}
 use Rattle.std.proofs.Common.{ap, ◌∙◌}
+use Rattle.edit_simple.specs.Prelude.{row_at, one_fits}
 use Rattle.edit_simple.proofs.row_change.change_rows.Goals as goal
 
 pub push_row-requires : goal.push_row-requires

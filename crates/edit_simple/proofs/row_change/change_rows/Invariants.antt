@@ -1,6 +1,5 @@
 use Rattle.std.proofs.Common.{◌≡◌, take}
-use Rattle.osm_elements.specs.Rows.{row_at}
-use Rattle.osm_changes.specs.Changes.{rows_changes}
+use Rattle.edit_simple.specs.Prelude.{row_at, rows_changes}
 use Rattle.edit_simple.proofs.row_change.change_rows.Given as goal
 
 abbrev pub invariant-loop-name : goal.invariant-loop-name

@@ -1,8 +1,6 @@
 use Rattle.std.proofs.Common.{◌≡◌, ◌++◌, ◌∷◌, [], map, refl, subst, sym, ap, ◌∙◌, rules, append_assoc, append-nil}
 use Rattle.std.proofs.lemmas.List.{map-append}
-use Rattle.osm_elements.specs.declared.element.Element.{Element}
-use Rattle.osm_elements.specs.declared.name.Name.{Name}
-use Rattle.edit_simple.specs.Facts.Soundness.{AreSound, all_sound, first_unsound, sound_one_more}
+use Rattle.edit_simple.specs.Prelude.{Element, Name, AreSound, all_sound, first_unsound, sound_one_more}
 use Rattle.edit_simple.proofs.soundness.first_unsound.Goals as goal
 
 pub loop-name-init : goal.loop-name-init

@@ -1,4 +1,4 @@
-use Rattle.std.proofs.Common.{inl, map, refl, ◌∙◌}
+use Rattle.std.proofs.Common.{inl, ◌∙◌, map, refl}
 use Rattle.osm_elements.specs.TagRows.{tag_pair}
 use Rattle.edit_topology.proofs.BothTagsLoops.{united_well, united_over}
 use Rattle.edit_topology.proofs.both_tags.both_tags.Goals as goal

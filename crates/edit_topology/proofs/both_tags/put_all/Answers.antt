@@ -1,11 +1,7 @@
 use Rattle.std.proofs.Common.{◌≡◌, ◌<◌, ◌⊎◌, length, map}
-use Rattle.osm_elements.specs.declared.fault.TextFault.TheVariants as faults
-use Rattle.osm_elements.specs.KeyedValues.{is_short}
-use Rattle.osm_elements.specs.TagRows.{tag_pair}
-use Rattle.osm_elements.specs.Facts.KeyedRows.{each_key}
-use Rattle.edit_simple.specs.Facts.Checked.{err_same}
-use Rattle.edit_topology.specs.BothTags.{both_tags}
+use Rattle.edit_topology.specs.Prelude.{is_short, tag_pair, each_key, err_same, both_tags}
 use Rattle.edit_topology.proofs.BothTagsLoops.{fault_told}
+use Rattle.osm_elements.specs.declared.fault.TextFault.TheVariants as faults
 use Rattle.edit_topology.proofs.both_tags.put_all.Goals as goal
 
 pub put_one-requires : goal.put_one-requires

@@ -1,6 +1,5 @@
 use Rattle.std.proofs.Common.{◌≡◌, map, take}
-use Rattle.osm_elements.specs.TagRows.{tag_pair}
-use Rattle.edit_topology.specs.BothTags.{both_tags}
+use Rattle.edit_topology.specs.Prelude.{tag_pair, both_tags}
 use Rattle.edit_topology.proofs.both_tags.put_all.Given as goal
 
 abbrev pub invariant-loop-tag : goal.invariant-loop-tag

@@ -1,8 +1,5 @@
-use Rattle.std.proofs.Common.{◌≡◌, ◌++◌, map, drop}
-use Rattle.std.specs.Option.{option_copied, option_map}
-use Rattle.osm_elements.specs.Members.{member_pair}
-use Rattle.edit_topology.specs.Join.{joined_members, kept_members}
-use Rattle.edit_topology.specs.Renaming.{renamed_members}
+use Rattle.std.proofs.Common.{◌≡◌, ◌++◌, map, drop, option_copied, option_map}
+use Rattle.edit_topology.specs.Prelude.{member_pair, joined_members, kept_members, renamed_members}
 use Rattle.edit_topology.proofs.join.joined_members.Given as goal
 
 abbrev pub invariant-loop-member : goal.invariant-loop-member

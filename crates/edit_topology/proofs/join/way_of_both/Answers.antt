@@ -1,9 +1,6 @@
-use Rattle.std.proofs.Common.{◌≡◌, ◌⊎◌, ◌≤◌, None, Some, MatchResult, drop, inl, length, sym, subst, take}
-use Rattle.edit_simple.specs.declared.refusal.Refusal.TheVariants.{Memory}
-use Rattle.edit_simple.specs.Checks.{first_that_holds}
-use Rattle.edit_simple.specs.Facts.Checked.{err_result, first_stays}
+use Rattle.std.proofs.Common.{◌≡◌, ◌⊎◌, ◌≤◌, None, Some, MatchResult, drop, length, take, inl, sym, subst}
+use Rattle.edit_topology.specs.Prelude.{Memory, first_that_holds, err_result, first_stays, join_checks}
 use Rattle.edit_topology.specs.Inner.Joining.{way_of_both}
-use Rattle.edit_topology.specs.Join.{join_checks}
 use Rattle.edit_topology.proofs.JoinWays.{has_one}
 use Rattle.edit_topology.proofs.join.way_of_both.Goals as goal
 

@@ -1,53 +1,73 @@
-use Rattle.edit_topology.proofs.ExampleProofs.{closed_way_split_lem, members_split_lem, split_refusals_lem, ends_joined_lem, members_joined_lem, tags_joined_lem, join_refusals_lem, neighbours_merged_lem, doubles_merged_lem, members_merged_lem, tags_merged_lem, merge_refusals_lem, map_unglued_lem, closed_way_unglued_lem, doubles_unglued_lem, node_copied_lem, unglue_refusals_lem}
+-- Each holds by evaluation.
+use Rattle.std.proofs.Common.{refl}
+use Rattle.osm_elements.specs.NameOrder.{name_cmp}
+use Rattle.edit_topology.specs.Examples.{closed_way_split, members_split, split_refusals, ends_joined, members_joined, tags_joined, join_refusals, neighbours_merged, doubles_merged, members_merged, tags_merged, merge_refusals, map_unglued, closed_way_unglued, doubles_unglued, node_copied, unglue_refusals}
 use Rattle.edit_topology.proofs.laws.examples_are_as_worked.Goals as goal
 
 pub returns-clause-closed_way_split : goal.returns-clause-closed_way_split
-returns-clause-closed_way_split c = closed_way_split_lem
+unfolding closed_way_split name_cmp
+returns-clause-closed_way_split c = (refl, refl, refl, refl, refl, refl, refl, refl, refl)
 
 pub returns-clause-members_split : goal.returns-clause-members_split
-returns-clause-members_split c = members_split_lem
+unfolding members_split name_cmp
+returns-clause-members_split c = (refl, refl, refl, refl, refl)
 
 pub returns-clause-split_refusals : goal.returns-clause-split_refusals
-returns-clause-split_refusals c = split_refusals_lem
+unfolding split_refusals name_cmp
+returns-clause-split_refusals c = (refl, refl, refl, refl, refl, refl, refl, refl, refl, refl)
 
 pub returns-clause-ends_joined : goal.returns-clause-ends_joined
-returns-clause-ends_joined c = ends_joined_lem
+unfolding ends_joined name_cmp
+returns-clause-ends_joined c = (refl, refl, refl, refl, refl, refl, refl, refl, refl)
 
 pub returns-clause-members_joined : goal.returns-clause-members_joined
-returns-clause-members_joined c = members_joined_lem
+unfolding members_joined name_cmp
+returns-clause-members_joined c = (refl, refl, refl, refl, refl, refl)
 
 pub returns-clause-tags_joined : goal.returns-clause-tags_joined
-returns-clause-tags_joined c = tags_joined_lem
+unfolding tags_joined name_cmp
+returns-clause-tags_joined c = (refl, refl, refl, refl, refl, refl, refl)
 
 pub returns-clause-join_refusals : goal.returns-clause-join_refusals
-returns-clause-join_refusals c = join_refusals_lem
+unfolding join_refusals name_cmp
+returns-clause-join_refusals c = (refl, refl, refl, refl, refl, refl, refl, refl, refl, refl, refl)
 
 pub returns-clause-neighbours_merged : goal.returns-clause-neighbours_merged
-returns-clause-neighbours_merged c = neighbours_merged_lem
+unfolding neighbours_merged name_cmp
+returns-clause-neighbours_merged c = (refl, refl, refl, refl, refl, refl, refl, refl, refl)
 
 pub returns-clause-doubles_merged : goal.returns-clause-doubles_merged
-returns-clause-doubles_merged c = doubles_merged_lem
+unfolding doubles_merged name_cmp
+returns-clause-doubles_merged c = (refl, refl, refl, refl)
 
 pub returns-clause-members_merged : goal.returns-clause-members_merged
-returns-clause-members_merged c = members_merged_lem
+unfolding members_merged name_cmp
+returns-clause-members_merged c = (refl, refl)
 
 pub returns-clause-tags_merged : goal.returns-clause-tags_merged
-returns-clause-tags_merged c = tags_merged_lem
+unfolding tags_merged name_cmp
+returns-clause-tags_merged c = (refl, refl, refl, refl, refl, refl)
 
 pub returns-clause-merge_refusals : goal.returns-clause-merge_refusals
-returns-clause-merge_refusals c = merge_refusals_lem
+unfolding merge_refusals name_cmp
+returns-clause-merge_refusals c = (refl, refl, refl, refl, refl, refl, refl, refl, refl, refl)
 
 pub returns-clause-map_unglued : goal.returns-clause-map_unglued
-returns-clause-map_unglued c = map_unglued_lem
+unfolding map_unglued name_cmp
+returns-clause-map_unglued c = (refl, refl)
 
 pub returns-clause-closed_way_unglued : goal.returns-clause-closed_way_unglued
-returns-clause-closed_way_unglued c = closed_way_unglued_lem
+unfolding closed_way_unglued name_cmp
+returns-clause-closed_way_unglued c = (refl, refl, refl, refl, refl, refl, refl)
 
 pub returns-clause-doubles_unglued : goal.returns-clause-doubles_unglued
-returns-clause-doubles_unglued c = doubles_unglued_lem
+unfolding doubles_unglued name_cmp
+returns-clause-doubles_unglued c = (refl, refl, refl)
 
 pub returns-clause-node_copied : goal.returns-clause-node_copied
-returns-clause-node_copied c = node_copied_lem
+unfolding node_copied name_cmp
+returns-clause-node_copied c = (refl, refl, refl, refl, refl, refl)
 
 pub returns-clause-unglue_refusals : goal.returns-clause-unglue_refusals
-returns-clause-unglue_refusals c = unglue_refusals_lem
+unfolding unglue_refusals name_cmp
+returns-clause-unglue_refusals c = (refl, refl, refl, refl, refl, refl)

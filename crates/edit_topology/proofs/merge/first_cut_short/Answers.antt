@@ -1,5 +1,4 @@
-use Rattle.osm_elements.specs.declared.name.Name.{Name}
-use Rattle.osm_elements.specs.Rows.{row_at}
+use Rattle.edit_topology.specs.Prelude.{Name, row_at}
 use Rattle.edit_topology.specs.Inner.Merging.{is_cut_short}
 use Rattle.edit_topology.proofs.MergeLists.{found_here, none_yet}
 use Rattle.edit_topology.proofs.merge.first_cut_short.Goals as goal

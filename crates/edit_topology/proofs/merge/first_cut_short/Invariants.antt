@@ -1,5 +1,4 @@
-use Rattle.std.proofs.Common.{◌≡◌, None, take}
-use Rattle.std.specs.List.{find}
+use Rattle.std.proofs.Common.{◌≡◌, None, take, find}
 use Rattle.osm_elements.specs.Rows.{row_at}
 use Rattle.edit_topology.specs.Inner.Merging.{is_cut_short}
 use Rattle.edit_topology.proofs.merge.first_cut_short.Given as goal

@@ -1,6 +1,5 @@
 use Rattle.std.proofs.Common.{◌≡◌, map, take}
-use Rattle.osm_elements.specs.Members.{member_pair}
-use Rattle.edit_topology.specs.Renaming.{renamed_members}
+use Rattle.edit_topology.specs.Prelude.{member_pair, renamed_members}
 use Rattle.edit_topology.proofs.renaming.renamed_members.Given as goal
 
 abbrev pub invariant-loop-member : goal.invariant-loop-member

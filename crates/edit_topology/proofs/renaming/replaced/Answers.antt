@@ -1,9 +1,6 @@
 use Rattle.std.proofs.Common.{◌≡◌, ◌&&◌, sym, ap, subst, ◌∙◌, rules}
 use Rattle.std.proofs.lemmas.Fn.{dedup_same}
-use Rattle.std.specs.List.{dedup}
-use Rattle.osm_elements.specs.declared.name.Name.{Name}
-use Rattle.osm_elements.specs.Maps.{is_same}
-use Rattle.osm_elements.specs.Nodes.{AreNodes}
+use Rattle.edit_topology.specs.Prelude.{dedup, Name, is_same, AreNodes}
 use Rattle.edit_topology.specs.Inner.Merging.{replaced}
 use Rattle.edit_topology.proofs.MergeLists.{replaced_nodes}
 use Rattle.edit_topology.proofs.renaming.replaced.Goals as goal

@@ -1,8 +1,8 @@
 use Rattle.std.proofs.Common.{Ok, drop, ap, ◌∙◌}
+use Rattle.std.specs.declared.alloc.AllocError.{AllocError}
 use Rattle.std.proofs.lemmas.Iterator.{YieldsList-from_slice, items_from_collect}
 use Rattle.std.proofs.lemmas.Iterator.Adapters.{YieldsList-from_skip}
 use Rattle.std.proofs.lemmas.Iterator.Consumers.{YieldsList-from_copied}
-use Rattle.std.specs.declared.alloc.AllocError.{AllocError}
 use Rattle.edit_topology.proofs.split.nodes_from.Goals as goal
 
 pub returns : goal.returns

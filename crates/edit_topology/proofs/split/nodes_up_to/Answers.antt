@@ -1,7 +1,7 @@
 use Rattle.std.proofs.Common.{◌+◌, Ok, take, ap, ◌∙◌}
+use Rattle.std.specs.declared.alloc.AllocError.{AllocError}
 use Rattle.std.proofs.lemmas.Iterator.{YieldsList-from_slice, YieldsList-from_take, items_from_collect}
 use Rattle.std.proofs.lemmas.Iterator.Consumers.{YieldsList-from_copied}
-use Rattle.std.specs.declared.alloc.AllocError.{AllocError}
 use Rattle.edit_topology.proofs.split.nodes_up_to.Goals as goal
 
 pub returns : goal.returns

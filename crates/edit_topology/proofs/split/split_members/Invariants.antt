@@ -1,6 +1,5 @@
 use Rattle.std.proofs.Common.{◌≡◌, map, take}
-use Rattle.osm_elements.specs.Members.{member_pair}
-use Rattle.edit_topology.specs.Split.{split_members}
+use Rattle.edit_topology.specs.Prelude.{member_pair, split_members}
 use Rattle.edit_topology.proofs.split.split_members.Given as goal
 
 abbrev pub invariant-loop-member : goal.invariant-loop-member

@@ -1,6 +1,5 @@
 use Rattle.std.proofs.Common.{◌<◌, ◌++◌, None, Some, length, sym, ap, subst, ◌∙◌}
-use Rattle.osm_elements.specs.declared.element.Element.TheVariants.{Way}
-use Rattle.osm_changes.specs.Changes.{row_changes}
+use Rattle.edit_topology.specs.Prelude.{Way, row_changes}
 use Rattle.edit_topology.proofs.UngluePlans.{first_fits, second_fits}
 use Rattle.edit_topology.proofs.unglue.change_both.Goals as goal
 

@@ -1,9 +1,7 @@
 use Rattle.std.proofs.Common.{◌≡◌, List, set, sym, subst}
 use Rattle.std.proofs.lemmas.List.Elements.{All-set}
-use Rattle.osm_elements.specs.declared.name.Name.{Name}
+use Rattle.edit_topology.specs.Prelude.{Name, AreNodes, told_node}
 use Rattle.osm_elements.specs.declared.name.Kind.TheVariants as kinds
-use Rattle.osm_elements.specs.Nodes.{AreNodes}
-use Rattle.edit_simple.specs.Facts.Kinds.{told_node}
 use Rattle.edit_topology.proofs.unglue.with_node.Goals as goal
 
 pub from_vec-requires : goal.from_vec-requires

@@ -11,5 +11,5 @@ unreachable-requires g c =
     let cut = sym c.loop-row.invariant.all ∙ ap (λ rest. done ++ rest) c.in-Some.ensures.steps.0 in
     let clash : true ≡ false =
     sym c.in-Err.ensures.new ∙ ap (λ m. is_new m r) c.loop-row.invariant.rows_are
-    ∙ none_is_new_then c.args.told.items c.args.rows.now done r (into_iter_items c.next.new.self) cut c.requires.rising c.requires.there in
+    ∙ none_is_new_then c.args.entered.items c.args.rows.now done r (into_iter_items c.next.new.self) cut c.requires.rising c.requires.there in
     absurd (cc)

@@ -1,16 +1,11 @@
-use Rattle.std.proofs.Common.{rules, Vec, ◌≡◌, ◌<◌, ◌∷◌, ◌++◌, [], true, false, length, map, not, take, ap, sym, ◌∙◌, arith}
+use Rattle.std.proofs.Common.{rules, Vec, ap, sym, ◌∙◌, arith, ◌≡◌, ◌<◌, ◌∷◌, ◌++◌, [], true, false, length, map, not, take, filter}
 use Rattle.std.proofs.lemmas.List.{map_more, take_all}
-use Rattle.std.specs.List.{filter}
+use Rattle.osm_changes.specs.Prelude.{RowAfter, ChangedRow, name_set, reference_change, row_references}
 use Rattle.osm_changes.proofs.Parting.{next_in, next_out}
-use Rattle.osm_changes.proofs.division.divide.Goals as goal
 use Rattle.osm_changes.proofs.division.divide.Goals.{then-begins+in_ok-of+in_ok-push-2, else-begins+in_ok-of-2+in_ok-push-3}
 use Rattle.osm_changes.specs.Inner.Applying.{after_of, begins}
 use Rattle.osm_changes.specs.Inner.References.{row_reference_change}
-use Rattle.osm_changes.specs.declared.row_after.RowAfter.{RowAfter}
-use Rattle.osm_changes.specs.declared.changed_row.ChangedRow.{ChangedRow}
-use Rattle.osm_elements.specs.Maps.{name_set}
-use Rattle.osm_refs.specs.Changes.{reference_change}
-use Rattle.osm_refs.specs.References.{row_references}
+use Rattle.osm_changes.proofs.division.divide.Goals as goal
 
 pub returns-clause-others : goal.returns-clause-others
 returns-clause-others g c = c.loop-row.invariant.others_are ∙ ap (λ rows. map after_of (filter (λ (r : ChangedRow _). not (begins r)) rows)) (take_all c.loop-row.row-index c.args.rows.now (omega arith))

@@ -1,5 +1,4 @@
-use Rattle.std.proofs.Common.{◌≡◌, map, not, take}
-use Rattle.std.specs.List.{filter}
+use Rattle.std.proofs.Common.{◌≡◌, map, not, take, filter}
 use Rattle.osm_changes.specs.Inner.Applying.{after_of, begins}
 use Rattle.osm_changes.specs.Inner.References.{row_reference_change}
 use Rattle.osm_changes.proofs.division.divide.Given as goal

@@ -1,11 +1,8 @@
-use Rattle.std.proofs.Common.{OnOk, ◌≡◌, ◌∙◌, ◌++◌, ap, subst, sym}
+use Rattle.std.proofs.Common.{OnOk, ◌≡◌, ◌++◌, ◌∙◌, ap, subst, sym}
+use Rattle.osm_changes.specs.Prelude.{name_set, IsRising-name_set, references, names_but, references_at, referring}
+use Rattle.osm_refs.specs.Rising.{IsRising}
 use Rattle.osm_changes.proofs.RowsNoted.{all_are_new, set_of_set}
 use Rattle.osm_changes.proofs.entering.enter_row.Goals as goal
-use Rattle.osm_elements.specs.Maps.{name_set}
-use Rattle.osm_refs.specs.Facts.RisingNames.{IsRising-name_set}
-use Rattle.osm_refs.specs.References.{references}
-use Rattle.osm_refs.specs.Rising.{IsRising, names_but}
-use Rattle.osm_refs.specs.Tables.{references_at, referring}
 
 pub gain-requires-clause-rising : goal.gain-requires-clause-rising
 gain-requires-clause-rising g c = subst IsRising (sym (c.as_slice.ensures ∙ c.in_ok-names.ensures.set)) (IsRising-name_set (references c.args.element.now))

@@ -1,10 +1,9 @@
-use Rattle.std.proofs.Common.{◌≡◌, ◌∙◌, ap, subst, sym, take}
-use Rattle.std.specs.List.{fold}
-use Rattle.osm_changes.proofs.ReferencesEntered.{next_is_new, next_rises, some_given}
-use Rattle.osm_changes.proofs.entering.gain.Goals as goal
-use Rattle.osm_changes.specs.Inner.References.{given_back}
-use Rattle.osm_refs.specs.Rising.{IsRising, names_but}
+use Rattle.std.proofs.Common.{◌≡◌, take, ◌∙◌, ap, subst, sym, fold}
+use Rattle.osm_refs.specs.Rising.{names_but, IsRising}
 use Rattle.osm_refs.specs.Tables.{Table, references_at}
+use Rattle.osm_changes.proofs.ReferencesEntered.{next_is_new, next_rises, some_given}
+use Rattle.osm_changes.specs.Inner.References.{given_back}
+use Rattle.osm_changes.proofs.entering.gain.Goals as goal
 
 pub gain-requires-clause-rising : goal.gain-requires-clause-rising
 gain-requires-clause-rising g c =

@@ -1,12 +1,8 @@
 use Rattle.std.proofs.Common.{◌≡◌, ◌++◌, ◌∷◌, [], map, sym, ap, subst, ◌∙◌, rules, append_assoc, append-nil}
 use Rattle.std.proofs.lemmas.List.{map-append}
+use Rattle.osm_changes.specs.Prelude.{put_all, put_all_is, AreInOrder, Element, Name, Table, references_at, table_of}
 use Rattle.osm_changes.proofs.RowsNoted.{refers_to_nothing, table_with_row}
 use Rattle.osm_changes.proofs.entering.users_of.Goals as goal
-use Rattle.osm_elements.specs.Facts.MadeMaps.{put_all, put_all_is}
-use Rattle.osm_elements.specs.Rows.{AreInOrder}
-use Rattle.osm_elements.specs.declared.element.Element.{Element}
-use Rattle.osm_elements.specs.declared.name.Name.{Name}
-use Rattle.osm_refs.specs.Tables.{Table, references_at, table_of}
 
 pub loop-name-init : goal.loop-name-init
 loop-name-init g c = record { all = search rules; users_are = c.new-users.ensures }

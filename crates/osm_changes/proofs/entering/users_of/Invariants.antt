@@ -1,7 +1,6 @@
 use Rattle.std.proofs.Common.{◌≡◌, [], ◌++◌, map}
+use Rattle.osm_changes.specs.Prelude.{put_all, table_of}
 use Rattle.osm_changes.proofs.entering.users_of.Given as goal
-use Rattle.osm_elements.specs.Facts.MadeMaps.{put_all}
-use Rattle.osm_refs.specs.Tables.{table_of}
 
 abbrev pub invariant-loop-name : goal.invariant-loop-name
 invariant-loop-name g l = record {

@@ -1,13 +1,8 @@
-use Rattle.std.proofs.Common.{◌≤◌, ◌∙◌, ap, length, map, arith, refl, subst, sym}
+use Rattle.std.proofs.Common.{◌≤◌, length, map, refl, ◌∙◌, ap, arith, subst, sym, IsSorted}
 use Rattle.std.proofs.lemmas.List.{take_all}
 use Rattle.std.proofs.lemmas.List.Sorted.{IsPermutation-refl}
-use Rattle.std.specs.List.Sorted.{IsSorted}
-use Rattle.osm_elements.specs.NameOrder.{name_cmp}
-use Rattle.osm_elements.specs.Facts.SameNames.{name_eq_is}
-use Rattle.osm_elements.specs.Maps.{name_set}
-use Rattle.osm_refs.specs.Facts.NameSets.{sorted_is_name_set}
-use Rattle.osm_changes.specs.declared.change.Change.{Change}
-use Rattle.osm_changes.proofs.Told.{names_sorted}
+use Rattle.osm_changes.specs.Prelude.{name_cmp, name_eq_is, name_set, sorted_is_name_set, Change}
+use Rattle.osm_changes.proofs.HalvesAfter.{names_sorted}
 use Rattle.osm_changes.proofs.rows.changed_names.Goals as goal
 
 pub returns : goal.returns

@@ -1,14 +1,6 @@
-use Rattle.std.proofs.Common.{◌≡◌, subst, sym}
-use Rattle.std.specs.List.{HoldsAt}
-use Rattle.std.specs.List.Sorted.{IsBinarySearchResult}
-use Rattle.std.specs.Option.{option_copied}
-use Rattle.std.specs.Result.{IfOk}
-use Rattle.std.specs.declared.cmp.Ordering.TheVariants.{Equal}
-use Rattle.rising_lists.specs.Facts.Searching.{gap_at}
-use Rattle.osm_changes.specs.Cells.{Cell, cell_cmp}
-use Rattle.osm_changes.specs.Changes.{cell_of}
-use Rattle.osm_changes.specs.Halves.{half}
-use Rattle.osm_changes.proofs.Told.{found_at, not_found}
+use Rattle.std.proofs.Common.{◌≡◌, subst, sym, HoldsAt, option_copied, Equal, IfOk}
+use Rattle.osm_changes.specs.Prelude.{IsBinarySearchResult, gap_at, Cell, cell_cmp, cell_of, half}
+use Rattle.osm_changes.proofs.HalvesAfter.{found_at, not_found}
 use Rattle.osm_changes.proofs.rows.half_after.Goals as goal
 
 pub returns-in-Ok : goal.returns-in-Ok

@@ -1,7 +1,5 @@
 use Rattle.std.proofs.Common.{◌∙◌, sym}
-use Rattle.osm_changes.specs.Changes.{half_after}
-use Rattle.osm_changes.specs.Halves.{half, row_of}
-use Rattle.osm_changes.specs.Facts.Changing.{row_at-changed}
+use Rattle.osm_changes.specs.Prelude.{half_after, half, row_of, row_at-changed}
 use Rattle.osm_changes.proofs.rows.row_of_name.Goals as goal
 
 pub returns : goal.returns

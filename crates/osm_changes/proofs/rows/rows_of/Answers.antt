@@ -1,7 +1,6 @@
 use Rattle.std.proofs.Common.{◌++◌, [], ◌∷◌, map, take, sym, ap, ◌∙◌}
 use Rattle.std.proofs.lemmas.List.{map_more}
-use Rattle.osm_elements.specs.declared.name.Name.{Name}
-use Rattle.osm_changes.specs.Changes.{changed, changed_row}
+use Rattle.osm_changes.specs.Prelude.{Name, changed, changed_row}
 use Rattle.osm_changes.proofs.rows.rows_of.Goals as goal
 
 pub loop-name-preserved : goal.loop-name-preserved

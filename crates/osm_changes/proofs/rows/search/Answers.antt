@@ -1,9 +1,6 @@
-use Rattle.std.proofs.Common.{◌≡◌, ◌<◌, length, rules, ◌∙◌}
+use Rattle.std.proofs.Common.{◌≡◌, ◌<◌, length, rules, ◌∙◌, HoldsAt, Greater}
 use Rattle.std.proofs.lemmas.Fn.{always_returns_same}
-use Rattle.std.specs.List.{HoldsAt}
-use Rattle.std.specs.declared.cmp.Ordering.TheVariants.{Greater}
-use Rattle.osm_changes.specs.Cells.{cell_cmp}
-use Rattle.osm_changes.specs.Changes.{cell_of}
+use Rattle.osm_changes.specs.Prelude.{cell_cmp, cell_of}
 use Rattle.osm_changes.proofs.Likely.{parts_here}
 use Rattle.osm_changes.proofs.rows.search.Goals as goal
 

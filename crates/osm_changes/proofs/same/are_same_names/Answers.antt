@@ -1,6 +1,5 @@
 use Rattle.std.proofs.Common.{◌∙◌}
-use Rattle.std.specs.Cmp.Lexicographic.{pointwise}
-use Rattle.osm_elements.specs.Facts.SameNames.{name_eq_is}
+use Rattle.osm_changes.specs.Prelude.{pointwise, name_eq_is}
 use Rattle.osm_changes.proofs.same.are_same_names.Goals as goal
 
 pub returns : goal.returns

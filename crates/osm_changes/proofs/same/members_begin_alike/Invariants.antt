@@ -1,6 +1,5 @@
 use Rattle.std.proofs.Common.{◌≡◌, map, drop}
-use Rattle.osm_elements.specs.Members.{member_pair}
-use Rattle.osm_changes.specs.SameRows.{are_same_members}
+use Rattle.osm_changes.specs.Prelude.{member_pair, are_same_members}
 use Rattle.osm_changes.proofs.same.members_begin_alike.Given as goal
 
 abbrev pub invariant-loop-place : goal.invariant-loop-place

@@ -1,6 +1,5 @@
 use Rattle.std.proofs.Common.{◌≡◌, map, drop}
-use Rattle.osm_elements.specs.TagRows.{tag_pair}
-use Rattle.osm_changes.specs.SameRows.{are_same_tags}
+use Rattle.osm_changes.specs.Prelude.{tag_pair, are_same_tags}
 use Rattle.osm_changes.proofs.same.tags_begin_alike.Given as goal
 
 abbrev pub invariant-loop-place : goal.invariant-loop-place

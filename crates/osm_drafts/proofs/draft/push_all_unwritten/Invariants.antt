@@ -1,5 +1,4 @@
-use Rattle.std.proofs.Common.{◌≡◌, ◌++◌, take}
-use Rattle.std.specs.List.{flat_map}
+use Rattle.std.proofs.Common.{◌≡◌, ◌++◌, take, flat_map}
 use Rattle.osm_drafts.specs.Drafts.{unwritten}
 use Rattle.osm_drafts.proofs.draft.push_all_unwritten.Given as goal
 

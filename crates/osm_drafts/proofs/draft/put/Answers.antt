@@ -1,6 +1,5 @@
 use Rattle.std.proofs.Common.{sym, ap, ◌∙◌}
-use Rattle.osm_elements.specs.Facts.Rows.{without_row_is_filter}
-use Rattle.osm_changes.specs.Changes.{with_row}
+use Rattle.osm_drafts.specs.Prelude.{without_row_is_filter, with_row}
 use Rattle.osm_drafts.proofs.draft.put.Goals as goal
 
 pub returns-clause-ok : goal.returns-clause-ok

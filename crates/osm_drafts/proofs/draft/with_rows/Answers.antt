@@ -1,9 +1,6 @@
-use Rattle.std.proofs.Common.{◌≡◌, ◌++◌, ◌∷◌, [], refl, length, sym, ap, ◌∙◌, rules, append_assoc, append-nil}
+use Rattle.std.proofs.Common.{◌≡◌, ◌++◌, ◌∷◌, [], refl, length, sym, ap, ◌∙◌, rules, append_assoc, append-nil, fold}
 use Rattle.std.proofs.lemmas.List.Sums.{fold-append}
-use Rattle.std.specs.List.{fold}
-use Rattle.std.specs.Vec.Iter.{into_iter_items}
-use Rattle.osm_elements.specs.Facts.MadeMaps.{nothing_left}
-use Rattle.osm_changes.specs.Changes.{with_row}
+use Rattle.osm_drafts.specs.Prelude.{into_iter_items, nothing_left, with_row}
 use Rattle.osm_drafts.proofs.draft.with_rows.Goals as goal
 
 pub loop-row-init : goal.loop-row-init

@@ -1,7 +1,5 @@
-use Rattle.std.proofs.Common.{◌≡◌, ◌++◌}
-use Rattle.std.specs.List.{fold}
-use Rattle.std.specs.Vec.Iter.{into_iter_items}
-use Rattle.osm_changes.specs.Changes.{with_row}
+use Rattle.std.proofs.Common.{◌≡◌, ◌++◌, fold}
+use Rattle.osm_drafts.specs.Prelude.{into_iter_items, with_row}
 use Rattle.osm_drafts.proofs.draft.with_rows.Given as goal
 
 abbrev pub invariant-loop-row : goal.invariant-loop-row

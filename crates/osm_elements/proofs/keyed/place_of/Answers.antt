@@ -1,7 +1,6 @@
 use Rattle.std.proofs.Common.{map, rules}
 use Rattle.std.proofs.lemmas.Fn.{always_returns_same}
-use Rattle.osm_elements.specs.KeyedRows.{keyed_pair, text_cmp}
-use Rattle.osm_elements.specs.Facts.KeyedRows.{sorted_rows}
+use Rattle.osm_elements.specs.Prelude.{keyed_pair, text_cmp, sorted_rows}
 use Rattle.osm_elements.proofs.KeyedSearch.{search_is_place}
 use Rattle.osm_elements.proofs.keyed.place_of.Goals as goal
 

@@ -1,9 +1,6 @@
 use Rattle.std.proofs.Common.{◌≡◌, rules}
-use Rattle.std.specs.Int.{w64}
-use Rattle.std.specs.Fmt.{signed_decimal}
-use Rattle.std.specs.Cmp.Lexicographic.{other_text}
 use Rattle.std.proofs.lemmas.Fmt.{parse-signed_decimal}
-use Rattle.osm_elements.specs.Facts.NameTexts.{mag_fits}
+use Rattle.osm_elements.specs.Prelude.{w64, signed_decimal, other_text, mag_fits}
 use Rattle.osm_elements.proofs.name.read_id.Goals as goal
 
 pub returns-in_default : goal.returns-in_default

@@ -1,11 +1,7 @@
-use Rattle.std.proofs.Common.{◌≡◌, rules, sym, true, ◌∙◌}
-use Rattle.std.specs.Cmp.Lexicographic.{pointwise}
-use Rattle.std.specs.Option.{option_copied}
-use Rattle.osm_elements.specs.Facts.SameNames.{name_eq_is}
-use Rattle.osm_elements.specs.Maps.{is_same}
+use Rattle.std.proofs.Common.{◌≡◌, true, rules, sym, ◌∙◌, option_copied}
+use Rattle.osm_refs.specs.Prelude.{pointwise, name_eq_is, is_same, row_references}
 use Rattle.osm_refs.proofs.SameReferences.{same_lists}
 use Rattle.osm_refs.proofs.change.keep_references.Goals as goal
-use Rattle.osm_refs.specs.References.{row_references}
 
 pub returns-in-Some-Way-Some-Way : goal.returns-in-Some-Way-Some-Way
 returns-in-Some-Way-Some-Way g c e =

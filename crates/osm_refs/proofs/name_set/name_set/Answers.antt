@@ -1,6 +1,4 @@
-use Rattle.osm_elements.specs.Facts.NameOrder.{name_cmp_is}
-use Rattle.osm_elements.specs.Facts.SameNames.{name_eq_is}
-use Rattle.osm_refs.specs.Facts.NameSets.{sorted_is_name_set}
+use Rattle.osm_refs.specs.Prelude.{name_cmp_is, name_eq_is, sorted_is_name_set}
 use Rattle.osm_refs.proofs.name_set.name_set.Goals as goal
 
 pub returns-clause-set : goal.returns-clause-set

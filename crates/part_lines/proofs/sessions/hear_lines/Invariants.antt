@@ -1,5 +1,4 @@
-use Rattle.room_session.specs.Running.{IsRunOn}
-use Rattle.room_server.specs.Tables.{known_of}
+use Rattle.part_lines.specs.Prelude.{IsRunOn, known_of}
 use Rattle.part_lines.proofs.sessions.hear_lines.Given as goal
 
 abbrev pub invariant-loop-line : goal.invariant-loop-line

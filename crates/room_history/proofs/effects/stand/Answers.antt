@@ -1,6 +1,5 @@
 use Rattle.std.proofs.Common.{sym, ap, subst, ◌∙◌}
-use Rattle.edit_footprint.specs.Holding.{Held, HoldsOnly, fallen}
-use Rattle.edit_footprint.specs.Facts.Holding.{HoldsOnly-standing, fallen_again}
+use Rattle.room_history.specs.Prelude.{Held, HoldsOnly, fallen, HoldsOnly-standing, fallen_again}
 use Rattle.room_history.proofs.effects.stand.Goals as goal
 
 pub fall-requires : goal.fall-requires

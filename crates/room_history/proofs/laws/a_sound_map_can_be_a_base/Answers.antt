@@ -1,11 +1,6 @@
 use Rattle.std.proofs.Common.{◌≡◌, true, refl}
-use Rattle.osm_changes.specs.Facts.SoundRows.{sound_in_order}
-use Rattle.osm_changes.specs.Sound.{is_sound}
-use Rattle.osm_elements.specs.Maps.{Rows}
-use Rattle.room_history.specs.Bases.{IsBaseFault}
-use Rattle.room_history.specs.declared.base.BaseFault.{BaseFault}
-use Rattle.room_history.specs.declared.base.BaseFault.TheVariants.{Unsound, Memory}
-use Rattle.edit_simple.specs.Facts.Soundness.{sound_kinds, unsound_map}
+use Rattle.room_history.specs.Prelude.{sound_in_order, is_sound, Rows, IsBaseFault, BaseFault, Unsound, sound_kinds, unsound_map}
+use Rattle.room_history.specs.declared.base.BaseFault.TheVariants.{Memory}
 use Rattle.room_history.proofs.laws.a_sound_map_can_be_a_base.Goals as goal
 
 memory_alone : {A : Type 0} (m : Rows A) (fault : BaseFault A) → is_sound m ≡ true → IsBaseFault m fault → fault ≡ Memory

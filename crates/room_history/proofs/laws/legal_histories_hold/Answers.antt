@@ -1,6 +1,5 @@
 use Rattle.std.proofs.Common.{[]}
-use Rattle.turn_desk.specs.History.{entries}
-use Rattle.room_history.specs.LegalJournals.{opened}
+use Rattle.room_history.specs.Prelude.{entries, opened}
 use Rattle.room_history.proofs.Holding.{journal_holds}
 use Rattle.room_history.proofs.Turning.{all_lead}
 use Rattle.room_history.proofs.laws.legal_histories_hold.Goals as goal

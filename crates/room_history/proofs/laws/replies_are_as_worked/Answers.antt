@@ -1,59 +1,83 @@
-use Rattle.room_history.proofs.ExampleProofs.{first_run_lem, range_ends_lem, limit_one_lem, limit_zero_lem, strangers_lem, in_use_lem, taken_back_way_lem, refusals_in_turn_lem, relations_in_turn_lem, redo_at_once_lem, redo_refused_lem, redo_order_lem, redo_again_lem, unglued_node_lem, blocker_goes_by_parts_lem, both_moved_lem, two_blockers_by_parts_lem, split_over_retag_lem, drawn_as_one_lem}
+-- Each holds by evaluation.
+use Rattle.std.proofs.Common.{refl}
+use Rattle.std.specs.Str.{chars}
+use Rattle.osm_elements.specs.NameOrder.{name_cmp}
+use Rattle.osm_elements.specs.Texts.{is_long}
+use Rattle.room_history.specs.Examples.{first_run, range_ends, limit_one, limit_zero, strangers, in_use, taken_back_way, refusals_in_turn, relations_in_turn, redo_at_once, redo_refused, redo_order, redo_again, unglued_node, blocker_goes_by_parts, both_moved, two_blockers_by_parts, split_over_retag, drawn_as_one}
 use Rattle.room_history.proofs.laws.replies_are_as_worked.Goals as goal
 
 pub returns-clause-first_run : goal.returns-clause-first_run
-returns-clause-first_run c = first_run_lem
+unfolding first_run name_cmp
+returns-clause-first_run c = (refl, refl)
 
 pub returns-clause-range_ends : goal.returns-clause-range_ends
-returns-clause-range_ends c = range_ends_lem
+unfolding range_ends name_cmp
+returns-clause-range_ends c = (refl, refl)
 
 pub returns-clause-limit_one : goal.returns-clause-limit_one
-returns-clause-limit_one c = limit_one_lem
+unfolding limit_one name_cmp
+returns-clause-limit_one c = refl
 
 pub returns-clause-limit_zero : goal.returns-clause-limit_zero
-returns-clause-limit_zero c = limit_zero_lem
+unfolding limit_zero name_cmp
+returns-clause-limit_zero c = refl
 
 pub returns-clause-strangers : goal.returns-clause-strangers
-returns-clause-strangers c = strangers_lem
+unfolding strangers name_cmp
+returns-clause-strangers c = (refl, refl, refl)
 
 pub returns-clause-in_use : goal.returns-clause-in_use
-returns-clause-in_use c = in_use_lem
+unfolding in_use name_cmp
+returns-clause-in_use c = (refl, refl)
 
 pub returns-clause-taken_back_way : goal.returns-clause-taken_back_way
-returns-clause-taken_back_way c = taken_back_way_lem
+unfolding taken_back_way name_cmp
+returns-clause-taken_back_way c = (refl, refl)
 
 pub returns-clause-refusals_in_turn : goal.returns-clause-refusals_in_turn
-returns-clause-refusals_in_turn c = refusals_in_turn_lem
+unfolding refusals_in_turn name_cmp
+returns-clause-refusals_in_turn c = (refl, refl, refl, refl)
 
 pub returns-clause-relations_in_turn : goal.returns-clause-relations_in_turn
-returns-clause-relations_in_turn c = relations_in_turn_lem
+unfolding relations_in_turn name_cmp is_long chars
+returns-clause-relations_in_turn c = (refl, refl, refl, refl)
 
 pub returns-clause-redo_at_once : goal.returns-clause-redo_at_once
-returns-clause-redo_at_once c = redo_at_once_lem
+unfolding redo_at_once name_cmp
+returns-clause-redo_at_once c = (refl, refl, refl, refl)
 
 pub returns-clause-redo_refused : goal.returns-clause-redo_refused
-returns-clause-redo_refused c = redo_refused_lem
+unfolding redo_refused name_cmp
+returns-clause-redo_refused c = (refl, refl, refl, refl, refl)
 
 pub returns-clause-redo_order : goal.returns-clause-redo_order
-returns-clause-redo_order c = redo_order_lem
+unfolding redo_order name_cmp
+returns-clause-redo_order c = (refl, refl, refl, refl, refl)
 
 pub returns-clause-redo_again : goal.returns-clause-redo_again
-returns-clause-redo_again c = redo_again_lem
+unfolding redo_again name_cmp
+returns-clause-redo_again c = (refl, refl, refl, refl)
 
 pub returns-clause-unglued_node : goal.returns-clause-unglued_node
-returns-clause-unglued_node c = unglued_node_lem
+unfolding unglued_node name_cmp
+returns-clause-unglued_node c = (refl, refl, refl, refl)
 
 pub returns-clause-blocker_goes_by_parts : goal.returns-clause-blocker_goes_by_parts
-returns-clause-blocker_goes_by_parts c = blocker_goes_by_parts_lem
+unfolding blocker_goes_by_parts name_cmp
+returns-clause-blocker_goes_by_parts c = (refl, refl, refl, refl)
 
 pub returns-clause-both_moved : goal.returns-clause-both_moved
-returns-clause-both_moved c = both_moved_lem
+unfolding both_moved name_cmp
+returns-clause-both_moved c = (refl, refl)
 
 pub returns-clause-two_blockers_by_parts : goal.returns-clause-two_blockers_by_parts
-returns-clause-two_blockers_by_parts c = two_blockers_by_parts_lem
+unfolding two_blockers_by_parts name_cmp
+returns-clause-two_blockers_by_parts c = refl
 
 pub returns-clause-split_over_retag : goal.returns-clause-split_over_retag
-returns-clause-split_over_retag c = split_over_retag_lem
+unfolding split_over_retag name_cmp
+returns-clause-split_over_retag c = (refl, refl)
 
 pub returns-clause-drawn_as_one : goal.returns-clause-drawn_as_one
-returns-clause-drawn_as_one c = drawn_as_one_lem
+unfolding drawn_as_one name_cmp
+returns-clause-drawn_as_one c = (refl, refl, refl)

@@ -1,6 +1,5 @@
 use Rattle.std.proofs.Common.{◌≡◌, ◌++◌}
-use Rattle.std.specs.Vec.Iter.{into_iter_items}
-use Rattle.room_history.specs.Runs.{IsRun}
+use Rattle.room_history.specs.Prelude.{into_iter_items, IsRun}
 use Rattle.room_history.proofs.run.answer_all.Given as goal
 
 abbrev pub invariant-loop-call : goal.invariant-loop-call

@@ -1,9 +1,6 @@
-use Rattle.std.proofs.Common.{nat_eq, sym, ap, subst, ◌∙◌}
-use Rattle.std.specs.List.{list_any}
-use Rattle.std.specs.List.Sorted.{IsNonDecreasing}
-use Rattle.std.specs.Option.{option_copied}
+use Rattle.std.proofs.Common.{nat_eq, sym, ap, subst, ◌∙◌, option_copied}
+use Rattle.room_history.specs.Prelude.{list_any, IsNonDecreasing, is_by}
 use Rattle.room_history.specs.Inner.Undoing.{undone_or}
-use Rattle.room_history.specs.Journals.{is_by}
 use Rattle.room_history.proofs.BinarySearching.{undos_rise}
 use Rattle.room_history.proofs.Choosing.{own_fallen, own_standing}
 use Rattle.room_history.proofs.Deeds.{own_stands}

@@ -1,9 +1,6 @@
 use Rattle.std.proofs.Common.{◌≡◌, All, sym, subst, rules}
 use Rattle.std.proofs.lemmas.List.Elements.{All-map}
-use Rattle.osm_changes.specs.declared.cell.Cell.{Cell}
-use Rattle.osm_changes.specs.Cells.{rest_at}
-use Rattle.room_wire.specs.ReadBack.{HasId}
-use Rattle.room_mirror.specs.Clients.{HasIds}
+use Rattle.room_mirror.specs.Prelude.{Cell, rest_at, HasId, HasIds}
 use Rattle.room_mirror.proofs.brought.action_has_ids.Goals as goal
 
 pub returns-in-Move : goal.returns-in-Move

@@ -1,10 +1,6 @@
-use Rattle.std.proofs.Common.{rules, ◌≡◌, ◌∷◌, [], All, sym, subst, ◌∙◌}
-use Rattle.std.specs.declared.alloc.Global.{Global}
+use Rattle.std.proofs.Common.{rules, sym, subst, ◌∙◌, ◌≡◌, ◌∷◌, [], All}
 use Rattle.std.proofs.lemmas.List.Elements.{All-cons, All-nil}
-use Rattle.osm_elements.specs.declared.element.Element.{Element}
-use Rattle.osm_elements.specs.declared.name.Name.{Name}
-use Rattle.osm_elements.specs.Maps.{names_of}
-use Rattle.room_wire.specs.ReadBack.{HasId}
+use Rattle.room_mirror.specs.Prelude.{Global, Element, Name, names_of, HasId}
 use Rattle.room_mirror.proofs.brought.map_has_ids.Goals as goal
 
 pub loop-name-init : goal.loop-name-init

@@ -1,6 +1,5 @@
 use Rattle.std.proofs.Common.{All, subst}
-use Rattle.osm_elements.specs.Maps.{names_of}
-use Rattle.room_wire.specs.ReadBack.{HasId}
+use Rattle.room_mirror.specs.Prelude.{names_of, HasId}
 use Rattle.room_mirror.proofs.FromCalls.{ids_of_rows}
 use Rattle.room_mirror.proofs.brought.rows_have_ids.Goals as goal
 

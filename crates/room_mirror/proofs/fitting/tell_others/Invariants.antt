@@ -1,6 +1,5 @@
 use Rattle.std.proofs.Common.{◌≡◌, drop}
-use Rattle.std.specs.List.{list_all}
-use Rattle.room_mirror.specs.Mirrors.{tells_another}
+use Rattle.room_mirror.specs.Prelude.{list_all, tells_another}
 use Rattle.room_mirror.proofs.fitting.tell_others.Given as goal
 
 abbrev pub invariant-loop-row : goal.invariant-loop-row

@@ -1,10 +1,5 @@
-use Rattle.std.proofs.Common.{◌-◌, take, ap, ◌∙◌, arith}
-use Rattle.std.specs.Option.{option_and_then}
-use Rattle.std.specs.Result.{result_ok}
-use Rattle.room_history.specs.News.{news}
-use Rattle.room_wire.specs.declared.welcome.Welcome.{Welcome}
-use Rattle.room_mirror.specs.Clients.{IsReadBack, followed}
-use Rattle.room_mirror.specs.Mirrors.{mirror_of}
+use Rattle.std.proofs.Common.{◌-◌, take, ap, ◌∙◌, arith, option_and_then}
+use Rattle.room_mirror.specs.Prelude.{result_ok, news, Welcome, IsReadBack, followed, mirror_of}
 use Rattle.room_mirror.proofs.ClientTexts.{all_front, followed_is}
 use Rattle.room_mirror.proofs.laws.a_client_has_the_rooms_map.Goals as goal
 

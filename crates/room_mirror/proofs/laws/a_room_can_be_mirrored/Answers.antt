@@ -1,5 +1,4 @@
-use Rattle.osm_changes.specs.Facts.SoundRows.{sound_in_order}
-use Rattle.room_history.specs.Replays.{mapof}
+use Rattle.room_mirror.specs.Prelude.{sound_in_order, mapof}
 use Rattle.room_mirror.proofs.laws.a_room_can_be_mirrored.Goals as goal
 
 pub returns : goal.returns

@@ -1,7 +1,6 @@
-use Rattle.std.proofs.Common.{drop, get_or, take}
+use Rattle.std.proofs.Common.{drop, take, get_or}
 use Rattle.std.proofs.lemmas.List.{take-append-drop}
-use Rattle.room_history.specs.News.{news}
-use Rattle.room_mirror.specs.Clients.{welcome_to}
+use Rattle.room_mirror.specs.Prelude.{news, welcome_to}
 use Rattle.room_mirror.proofs.ClientTexts.{room_news, room_welcome}
 use Rattle.room_mirror.proofs.Following.{all_steps}
 use Rattle.room_mirror.proofs.laws.a_rooms_texts_are_read_back.Goals as goal

@@ -1,7 +1,6 @@
 use Rattle.std.proofs.Common.{[]}
 use Rattle.std.proofs.lemmas.List.Elements.{All-nil}
-use Rattle.room_history.specs.LegalJournals.{opened}
-use Rattle.room_mirror.specs.Clients.{IsBrought}
+use Rattle.room_mirror.specs.Prelude.{opened, IsBrought}
 use Rattle.room_mirror.proofs.FromCalls.{led_run, led_step}
 use Rattle.room_mirror.proofs.laws.calls_bring_their_entries.Goals as goal
 

@@ -1,8 +1,8 @@
 use Rattle.std.proofs.Common.{◌∙◌}
 use Rattle.osm_elements.specs.Maps.{is_absent}
 use Rattle.room_mirror.proofs.ReplacedRows.{absent_more, absent_as_before}
-use Rattle.room_mirror.proofs.replacing.absent_names.Goals as goal
 use Rattle.room_mirror.proofs.replacing.absent_names.Goals.{then-is_absent+in_ok-push, else-is_absent}
+use Rattle.room_mirror.proofs.replacing.absent_names.Goals as goal
 
 pub loop-row-preserved : goal.loop-row-preserved
 loop-row-preserved g c =

@@ -1,8 +1,5 @@
-use Rattle.std.proofs.Common.{T, sym, ap, subst, ◌∙◌}
-use Rattle.std.specs.List.{fold}
-use Rattle.osm_changes.specs.Changes.{are_rising}
-use Rattle.room_history.specs.News.{mirrored}
-use Rattle.room_mirror.specs.Mirrors.{told_names}
+use Rattle.std.proofs.Common.{T, sym, ap, subst, ◌∙◌, fold}
+use Rattle.room_mirror.specs.Prelude.{are_rising, mirrored, told_names}
 use Rattle.room_mirror.specs.Inner.Replacing.{absent_names, AreAbsent, ArePresent, with_empty}
 use Rattle.room_mirror.proofs.ReplacedRows.{room_is_filled}
 use Rattle.room_mirror.proofs.Rooming.{absent_are, all_present}

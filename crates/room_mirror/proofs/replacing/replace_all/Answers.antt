@@ -1,10 +1,5 @@
 use Rattle.std.proofs.Common.{◌≡◌, ◌++◌, ◌∷◌, [], length, refl, sym, ap, subst, ◌∙◌, rules, append_assoc, append-nil}
-use Rattle.std.specs.Vec.Iter.{into_iter_items}
-use Rattle.osm_elements.specs.Maps.{is_present}
-use Rattle.osm_elements.specs.Rows.{AreInOrder}
-use Rattle.osm_changes.specs.Changes.{with_row}
-use Rattle.osm_changes.specs.Facts.Changing.{AreInOrder-with_row}
-use Rattle.room_history.specs.News.{mirrored}
+use Rattle.room_mirror.specs.Prelude.{into_iter_items, is_present, AreInOrder, with_row, AreInOrder-with_row, mirrored}
 use Rattle.room_mirror.proofs.ReplacedRows.{mirrored_more, nothing_left, still_there}
 use Rattle.room_mirror.proofs.replacing.replace_all.Goals as goal
 

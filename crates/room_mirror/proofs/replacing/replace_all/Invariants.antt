@@ -1,7 +1,5 @@
 use Rattle.std.proofs.Common.{◌≡◌, ◌++◌}
-use Rattle.std.specs.Vec.Iter.{into_iter_items}
-use Rattle.osm_elements.specs.Rows.{AreInOrder}
-use Rattle.room_history.specs.News.{mirrored}
+use Rattle.room_mirror.specs.Prelude.{into_iter_items, AreInOrder, mirrored}
 use Rattle.room_mirror.proofs.replacing.replace_all.Given as goal
 
 abbrev pub invariant-loop-row : goal.invariant-loop-row

@@ -1,6 +1,5 @@
 use Rattle.std.proofs.Common.{ap, sym, ◌∙◌}
-use Rattle.osm_elements.specs.Facts.Rows.{without_row_is_filter}
-use Rattle.osm_changes.specs.Changes.{with_row}
+use Rattle.room_mirror.specs.Prelude.{without_row_is_filter, with_row}
 use Rattle.room_mirror.proofs.replacing.replace_one.Goals as goal
 
 pub returns-in-None : goal.returns-in-None

@@ -1,5 +1,4 @@
-use Rattle.std.proofs.Common.{◌∙◌, ap, take}
-use Rattle.std.specs.List.{fold}
+use Rattle.std.proofs.Common.{◌∙◌, ap, take, fold}
 use Rattle.osm_elements.specs.Rows.{without_row}
 use Rattle.room_mirror.proofs.Rooming.{taken_out_again}
 use Rattle.room_mirror.proofs.replacing.reserve.Goals as goal

@@ -1,5 +1,4 @@
-use Rattle.std.proofs.Common.{◌≡◌, take}
-use Rattle.std.specs.List.{fold}
+use Rattle.std.proofs.Common.{◌≡◌, take, fold}
 use Rattle.room_mirror.specs.Inner.Replacing.{with_empty}
 use Rattle.room_mirror.proofs.replacing.reserve.Given as goal
 

@@ -1,5 +1,4 @@
-use Rattle.std.proofs.Common.{◌≡◌, take}
-use Rattle.std.specs.List.{fold}
+use Rattle.std.proofs.Common.{◌≡◌, take, fold}
 use Rattle.osm_elements.specs.Rows.{without_row}
 use Rattle.room_mirror.proofs.replacing.take_out_all.Given as goal
 

@@ -1,6 +1,5 @@
 -- The line is the reader's first, and the rows are those of the line.
-use Rattle.room_program.specs.Bases.{IsUnread}
-use Rattle.room_program.specs.Faults.{stream_fault}
+use Rattle.room_program.specs.Prelude.{IsUnread, stream_fault}
 use Rattle.room_program.proofs.ReplayLemmas.{bad_rows, line_begins, line_unread, told_rows}
 use Rattle.room_program.proofs.StreamLemmas.{on_ok, passed_on}
 use Rattle.room_program.proofs.base.read_base.Goals as goal

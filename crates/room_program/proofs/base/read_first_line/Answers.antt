@@ -1,8 +1,6 @@
 -- The line gets all bytes that are read, until a line feed is read.
-use Rattle.std.proofs.Common.{◌≡◌, ◌++◌, ◌∷◌, ◌||◌, ◌∙◌, ℕ, List, Bool, false, suc, add-one, ap, arith, subst, sym, take, append_assoc}
-use Rattle.std.specs.Io.KnownBytes.{Consumes}
-use Rattle.room_program.specs.Lines.{IsLine}
-use Rattle.room_program.specs.Streams.{Gets}
+use Rattle.std.proofs.Common.{◌≡◌, ◌++◌, ◌∷◌, ◌||◌, ℕ, List, Bool, false, suc, take, ◌∙◌, add-one, ap, arith, subst, sym, append_assoc}
+use Rattle.room_program.specs.Prelude.{Consumes, IsLine, Gets}
 use Rattle.room_program.proofs.CallLemmas.{calls_made, next_gets, no_gets}
 use Rattle.room_program.proofs.LineLemmas.{IsLine-append}
 use Rattle.room_program.proofs.StreamLemmas.{Consumes-none, Consumes-then}

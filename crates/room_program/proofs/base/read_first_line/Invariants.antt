@@ -1,7 +1,5 @@
 use Rattle.std.proofs.Common.{◌≡◌, false}
-use Rattle.std.specs.Io.KnownBytes.{Consumes}
-use Rattle.room_program.specs.Lines.{IsLine}
-use Rattle.room_program.specs.Streams.{Gets}
+use Rattle.room_program.specs.Prelude.{Consumes, IsLine, Gets}
 use Rattle.room_program.proofs.base.read_first_line.Given as goal
 
 abbrev pub invariant-loop-used : goal.invariant-loop-used

@@ -1,11 +1,7 @@
 -- Bytes that are not UTF-8 are not JSON.
-use Rattle.std.proofs.Common.{◌≡◌, ◌⊎◌, Result, Ok, Err, sym, ap, subst, inl, inr, ◌∙◌}
-use Rattle.std.specs.Prelude.{MatchResult}
-use Rattle.room_wire.specs.declared.bad.Bad.{Bad}
+use Rattle.std.proofs.Common.{◌≡◌, ◌⊎◌, Result, Ok, Err, MatchResult, sym, ap, subst, inl, inr, ◌∙◌}
+use Rattle.room_program.specs.Prelude.{Bad, Welcome, GivesUnder, spells_welcome}
 use Rattle.room_wire.specs.declared.bad.Fault.TheVariants.{Memory}
-use Rattle.room_wire.specs.declared.welcome.Welcome.{Welcome}
-use Rattle.room_wire.specs.Reading.{GivesUnder}
-use Rattle.room_wire.specs.Welcomes.{spells_welcome}
 use Rattle.room_program.proofs.FirstLineLemmas.{base-text, base-no_text}
 use Rattle.room_program.proofs.base.welcome_of.Goals as goal
 

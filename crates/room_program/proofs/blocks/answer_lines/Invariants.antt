@@ -1,6 +1,5 @@
 use Rattle.std.proofs.Common.{◌≡◌, ◌≤◌, ◌<◌, ◌⊎◌, ◌++◌, [], length}
-use Rattle.room_program.specs.Lines.{IsLine}
-use Rattle.room_program.specs.Runs.{AnswersFront}
+use Rattle.room_program.specs.Prelude.{IsLine, AnswersFront}
 use Rattle.room_program.proofs.blocks.answer_lines.Given as goal
 
 abbrev pub invariant-loop-alloc : goal.invariant-loop-alloc

@@ -1,5 +1,5 @@
 -- What the arguments ask for was done, or an error has one of the kinds that the arguments can lead to.
-use Rattle.std.proofs.Common.{◌≤◌, ℕ, inl, inr, refl, map, subst, sym}
+use Rattle.std.proofs.Common.{◌≤◌, ℕ, refl, map, inl, inr, subst, sym}
 use Rattle.room_program.specs.CommandLine.{faults, is_mistake, is_request}
 use Rattle.room_program.proofs.AskedLemmas.{workers_number}
 use Rattle.room_program.proofs.CommandLineLemmas.{kind_among}

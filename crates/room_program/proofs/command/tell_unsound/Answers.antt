@@ -2,8 +2,8 @@
 use Rattle.std.proofs.Common.{◌∷◌, ◌++◌, [], codes, refl, take}
 use Rattle.osm_elements.specs.NameTexts.{name_text}
 use Rattle.room_program.proofs.ServingLemmas.{told_no_more, told_then}
-use Rattle.room_program.proofs.command.tell_unsound.Goals as goal
 use Rattle.room_program.proofs.command.tell_unsound.Goals.{else-tell-via-then-tell+else-tell-2, else-tell-via-else-tell}
+use Rattle.room_program.proofs.command.tell_unsound.Goals as goal
 
 pub returns-then-tell-2 : goal.returns-then-tell-2
 returns-then-tell-2 g c =

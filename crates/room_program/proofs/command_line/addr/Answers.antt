@@ -1,6 +1,5 @@
 -- The address is the first value that was found.
-use Rattle.std.proofs.Common.{◌≡◌, ◌∙◌, ap, refl, ℕ, List, [], Option, Some, None, codes}
-use Rattle.std.specs.Prelude.{option_map, unwrap_or}
+use Rattle.std.proofs.Common.{◌≡◌, refl, ℕ, List, [], Option, Some, None, codes, unwrap_or, option_map, ◌∙◌, ap}
 use Rattle.std.specs.Borrow.{Bor}
 use Rattle.clap.specs.Matches.{found_of}
 use Rattle.clap.proofs.WalkLemmas.{first_value-rows}

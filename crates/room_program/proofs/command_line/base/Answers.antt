@@ -1,8 +1,6 @@
 -- A base is asked for if the option's first value is `true`.
-use Rattle.std.proofs.Common.{◌≡◌, ◌∙◌, ap, refl, ℕ, List, [], Option, Some, None, codes}
-use Rattle.std.specs.Prelude.{option_map, unwrap_or}
+use Rattle.std.proofs.Common.{◌≡◌, refl, ℕ, List, [], Option, Some, None, codes, unwrap_or, option_map, ◌∙◌, ap, bytes_eq}
 use Rattle.std.specs.Borrow.{Bor}
-use Rattle.std.specs.Str.{bytes_eq}
 use Rattle.clap.specs.Matches.{found_of}
 use Rattle.clap.proofs.WalkLemmas.{first_value-rows}
 use Rattle.room_program.proofs.command_line.base.Goals as goal

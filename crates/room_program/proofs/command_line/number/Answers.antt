@@ -1,12 +1,9 @@
 -- The number that clap reads is the one that the digits write.
-use Rattle.std.proofs.Common.{◌≡◌, ◌∙◌, ◌<◌, ◌^◌, ap, refl, sym, subst, ℕ, Option, Some, None}
-use Rattle.std.specs.Prelude.{IfSome, Ok, Err, Result, unwrap_or}
-use Rattle.std.specs.Option.{option_map_or}
-use Rattle.std.specs.Str.Parse.{ExplainsUnsignedError, HasUnsignedDigitsIfOk, IsNumeral, ParsesUnsigned, without_leading_plus}
+use Rattle.std.proofs.Common.{◌≡◌, ◌<◌, ◌^◌, refl, ℕ, Option, Some, None, IfSome, Ok, Err, Result, unwrap_or, ◌∙◌, ap, sym, subst}
 use Rattle.clap.specs.Matches.{ReadsOne, found_of, one_text}
 use Rattle.clap.specs.Walk.{Text}
 use Rattle.clap.proofs.WalkLemmas.{one_text-rows}
-use Rattle.room_program.specs.CommandLine.{number_of}
+use Rattle.room_program.specs.Prelude.{option_map_or, ExplainsUnsignedError, HasUnsignedDigitsIfOk, IsNumeral, ParsesUnsigned, without_leading_plus, number_of}
 use Rattle.room_program.proofs.command_line.number.Goals as goal
 
 abbrev IsSmall : Option Text → Type 0

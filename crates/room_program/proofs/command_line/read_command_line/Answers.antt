@@ -1,5 +1,5 @@
 -- clap's contract on the matches, for these arguments.
-use Rattle.std.proofs.Common.{◌∙◌, ap, inl, inr, refl, sym, subst, true≢false, map, codes, is_some}
+use Rattle.std.proofs.Common.{◌∙◌, ap, inl, inr, sym, subst, true≢false, refl, map, codes, is_some}
 use Rattle.clap.specs.Words.{app_of, found_of, rows_of}
 use Rattle.room_program.specs.CommandLine.{HasNumber, addr_in, base_in, number_in, rooms_in}
 use Rattle.room_program.proofs.AskedLemmas.{asked_one, limit_number, sessions_number, workers_number}

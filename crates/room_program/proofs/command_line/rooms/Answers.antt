@@ -1,8 +1,7 @@
 -- The names are the values that were found.
-use Rattle.std.proofs.Common.{◌∙◌, ap, ℕ, List, [], map, codes}
-use Rattle.std.proofs.lemmas.Result.{IfOk-weaker}
-use Rattle.std.specs.Prelude.{unwrap_or}
+use Rattle.std.proofs.Common.{◌∙◌, ap, ℕ, List, [], map, codes, unwrap_or}
 use Rattle.std.specs.Borrow.{Bor}
+use Rattle.std.proofs.lemmas.Result.{IfOk-weaker}
 use Rattle.clap.specs.Matches.{found_of}
 use Rattle.clap.proofs.WalkLemmas.{raw_values-rows}
 use Rattle.room_program.proofs.command_line.rooms.Goals as goal

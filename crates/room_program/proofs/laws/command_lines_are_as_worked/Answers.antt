@@ -1,23 +1,45 @@
-use Rattle.room_program.proofs.CommandLineExampleProofs.{taken_lem, bad_limit_lem, serve_taken_lem, bad_serve_lem, bad_word_lem, help_asked_lem, version_asked_lem}
+-- Each holds by evaluation.
+use Rattle.std.proofs.Common.{refl}
+use Rattle.clap.proofs.OnLiterals.{clap_on_literals}
+use Rattle.room_program.specs.CommandLineExamples.{taken, bad_limit, serve_taken, bad_serve, bad_word, help_asked, version_asked}
 use Rattle.room_program.proofs.laws.command_lines_are_as_worked.Goals as goal
 
 pub returns-clause-taken : goal.returns-clause-taken
-returns-clause-taken c = taken_lem
+unfolding taken clap_on_literals
+returns-clause-taken c = (
+  record { taken = refl; subcommand = refl; limit_is = refl; base_is = refl },
+  record { taken = refl; subcommand = refl; limit_is = refl; base_is = refl },
+  record { taken = refl; subcommand = refl; limit_is = refl; base_is = refl },
+  record { taken = refl; subcommand = refl; limit_is = refl; base_is = refl },
+  record { taken = refl; subcommand = refl; limit_is = refl; base_is = refl },
+  record { taken = refl; subcommand = refl; limit_is = refl; base_is = refl },
+  record { taken = refl; subcommand = refl; limit_is = refl; base_is = refl },
+)
 
 pub returns-clause-bad_limit : goal.returns-clause-bad_limit
-returns-clause-bad_limit c = bad_limit_lem
+unfolding bad_limit clap_on_literals
+returns-clause-bad_limit c = (refl, refl, refl, refl, refl, refl, refl)
 
 pub returns-clause-serve_taken : goal.returns-clause-serve_taken
-returns-clause-serve_taken c = serve_taken_lem
+unfolding serve_taken clap_on_literals
+returns-clause-serve_taken c = (
+  (refl, refl, refl, refl, refl, refl, refl, refl),
+  (refl, refl, refl, refl, refl, refl, refl, refl),
+  (refl, refl, refl, refl, refl, refl, refl, refl),
+)
 
 pub returns-clause-bad_serve : goal.returns-clause-bad_serve
-returns-clause-bad_serve c = bad_serve_lem
+unfolding bad_serve clap_on_literals
+returns-clause-bad_serve c = (refl, refl, refl, refl, refl, refl)
 
 pub returns-clause-bad_word : goal.returns-clause-bad_word
-returns-clause-bad_word c = bad_word_lem
+unfolding bad_word clap_on_literals
+returns-clause-bad_word c = (refl, refl, refl, refl)
 
 pub returns-clause-help_asked : goal.returns-clause-help_asked
-returns-clause-help_asked c = help_asked_lem
+unfolding help_asked clap_on_literals
+returns-clause-help_asked c = (refl, refl, refl)
 
 pub returns-clause-version_asked : goal.returns-clause-version_asked
-returns-clause-version_asked c = version_asked_lem
+unfolding version_asked clap_on_literals
+returns-clause-version_asked c = (refl, refl, refl)

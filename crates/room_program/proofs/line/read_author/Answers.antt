@@ -1,6 +1,6 @@
 -- Bytes that are not UTF-8 are not a name.
 use Rattle.std.proofs.Common.{sym, ap, ◌∙◌}
-use Rattle.room_stacks.specs.Authors.{author_of}
+use Rattle.room_interface.specs.Authors.{author_of}
 use Rattle.room_program.proofs.LineAnswerLemmas.{author_of-no_text}
 use Rattle.room_program.proofs.line.read_author.Goals as goal
 

@@ -1,9 +1,6 @@
 -- Bytes that are not UTF-8 are not JSON.
 use Rattle.std.proofs.Common.{Result, Err, sym, ap, subst, inr, ◌∙◌}
-use Rattle.room_wire.specs.declared.bad.Bad.{Bad}
-use Rattle.room_wire.specs.declared.incoming.Incoming.{Incoming}
-use Rattle.room_wire.specs.Reading.{GivesMessage}
-use Rattle.room_wire.specs.Spelling.{spells}
+use Rattle.room_program.specs.Prelude.{Bad, Incoming, GivesMessage, spells}
 use Rattle.room_program.proofs.LineAnswerLemmas.{spelled-text, spelled-no_text}
 use Rattle.room_program.proofs.line.read_message.Goals as goal
 

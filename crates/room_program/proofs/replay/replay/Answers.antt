@@ -1,5 +1,5 @@
 -- The room is opened with an empty map.
-use Rattle.std.proofs.Common.{[], Err, ap, inl, refl}
+use Rattle.std.proofs.Common.{[], Err, refl, ap, inl}
 use Rattle.room_program.specs.LineAnswers.{script}
 use Rattle.room_program.proofs.LineAnswerLemmas.{script-none, script-opened}
 use Rattle.room_program.proofs.ReplayLemmas.{ended_by, ended_run, unstarted}

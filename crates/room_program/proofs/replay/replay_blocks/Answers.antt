@@ -1,5 +1,5 @@
 -- Each end, from how far the replay has come.
-use Rattle.std.proofs.Common.{◌≡◌, ◌≢◌, ◌||◌, ◌∙◌, ℕ, List, [], Bool, false, Result, Ok, Err, OnOk, eqb, length, take, vec_len, ap, sym, refl, inl, add-one, suc, arith}
+use Rattle.std.proofs.Common.{◌≡◌, ◌≢◌, ◌||◌, ℕ, List, [], Bool, false, Result, Ok, Err, OnOk, length, take, vec_len, refl, suc, ◌∙◌, eqb, ap, sym, inl, add-one, arith}
 use Rattle.std.proofs.lemmas.Bool.{eqb-true, eqb-false}
 use Rattle.std.proofs.lemmas.Result.{on_err_weaker}
 use Rattle.room_program.specs.Streams.{Gets, with_bytes}

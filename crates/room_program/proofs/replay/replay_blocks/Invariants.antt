@@ -1,6 +1,5 @@
 use Rattle.std.proofs.Common.{◌≡◌, false}
-use Rattle.room_program.specs.Lines.{IsLine}
-use Rattle.room_program.specs.Streams.{Gets, with_bytes}
+use Rattle.room_program.specs.Prelude.{IsLine, Gets, with_bytes}
 use Rattle.room_program.proofs.ProgressLemmas.{Progress}
 use Rattle.room_program.proofs.replay.replay_blocks.Given as goal
 

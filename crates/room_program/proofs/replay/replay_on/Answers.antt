@@ -1,10 +1,7 @@
 -- The bytes after a first line with a sound map are run; otherwise that line's fault is returned.
-use Rattle.std.proofs.Common.{[], Err, Option, ap, inl, inr, refl, subst}
-use Rattle.room_program.specs.declared.base.Later.{Later}
-use Rattle.room_program.specs.Bases.{behind}
-use Rattle.room_program.specs.Faults.{base_fault, stream_fault}
+use Rattle.std.proofs.Common.{[], Err, Option, refl, ap, inl, inr, subst}
+use Rattle.room_program.specs.Prelude.{Later, behind, base_fault, stream_fault, script}
 use Rattle.room_program.specs.Inner.FirstLines.{ReadsTo}
-use Rattle.room_program.specs.LineAnswers.{script}
 use Rattle.room_program.proofs.FirstLineLemmas.{err_is}
 use Rattle.room_program.proofs.LineAnswerLemmas.{script-none, script-opened}
 use Rattle.room_program.proofs.ReplayLemmas.{bad_unread, calls_behind, done_behind, ended_behind_by, ended_run, line_begins, line_unread, nothing_behind, told_no_base, unread_no_base}

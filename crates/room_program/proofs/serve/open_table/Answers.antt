@@ -1,15 +1,11 @@
 -- The first fault is reported: of the names, of the line with the base, or of the base's map.
-use Rattle.std.proofs.Common.{◌^◌, ◌∙◌, ap, arith, length, map, refl, subst, ℕ, List}
+use Rattle.std.proofs.Common.{◌^◌, length, map, refl, ℕ, List, ◌∙◌, ap, arith, subst}
 use Rattle.std.proofs.lemmas.List.{length-map}
-use Rattle.std.specs.Borrow.{Bor}
-use Rattle.room_program.specs.declared.fault.ProgramFault.TheVariants.{Replay}
-use Rattle.room_program.specs.Faults.{opening_fault, table_fault}
-use Rattle.room_program.specs.Servings.{CanBeServed, IsUnopened}
+use Rattle.room_program.specs.Prelude.{Bor, Replay, opening_fault, table_fault, CanBeServed, IsUnopened, AreFine, IsNameFault}
 use Rattle.room_program.proofs.ReplayLemmas.{unread_no_base}
 use Rattle.room_program.proofs.ServingLemmas.{base_unopened, names_unopened}
 use Rattle.room_program.proofs.StreamLemmas.{passed_on}
 use Rattle.room_program.proofs.serve.open_table.Goals as goal
-use Rattle.room_server.specs.Openings.{AreFine, IsNameFault}
 
 pub returns-in_err-names-clause-err : goal.returns-in_err-names-clause-err
 returns-in_err-names-clause-err g c =

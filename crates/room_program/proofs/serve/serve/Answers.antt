@@ -1,11 +1,9 @@
 -- The text that the output took, and the entry counts of the rooms.
 use Rattle.std.proofs.Common.{◌∙◌, ap₂, map, ℕ, List}
-use Rattle.std.specs.Borrow.{Bor}
-use Rattle.room_program.specs.Fronts.{front_lines}
-use Rattle.room_program.specs.Servings.{listening}
+use Rattle.room_program.specs.Prelude.{Bor, front_lines, listening}
 use Rattle.room_program.proofs.ServingLemmas.{fronts_of, told_no_more, told_then}
-use Rattle.room_program.proofs.serve.serve.Goals as goal
 use Rattle.room_program.proofs.serve.serve.Goals.{then-is_told, else-is_told}
+use Rattle.room_program.proofs.serve.serve.Goals as goal
 
 pub returns-clause-ok : goal.returns-clause-ok
 returns-clause-ok g c =

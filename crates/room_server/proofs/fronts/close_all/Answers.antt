@@ -1,7 +1,6 @@
-use Rattle.std.proofs.Common.{◌++◌, ◌∷◌, ◌∙◌, [], ap, arith, length, refl, rules, subst, sym, length-append}
+use Rattle.std.proofs.Common.{◌++◌, ◌∷◌, [], length, refl, ◌∙◌, ap, arith, rules, subst, sym, length-append}
 use Rattle.std.proofs.lemmas.List.{length-map}
-use Rattle.std.specs.Vec.Iter.{into_iter_items}
-use Rattle.room_server.specs.Fronts.{AreFronts, IsFront}
+use Rattle.room_server.specs.Prelude.{into_iter_items, AreFronts, IsFront}
 use Rattle.room_server.proofs.Meeting.{fronts_more}
 use Rattle.room_server.proofs.Splitting.{length_more, next_at, whole_end, whole_more}
 use Rattle.room_server.proofs.fronts.close_all.Goals as goal

@@ -1,7 +1,5 @@
 use Rattle.std.proofs.Common.{◌≡◌, ◌++◌, length, List}
-use Rattle.std.specs.Vec.Iter.{into_iter_items}
-use Rattle.room_server.specs.Fronts.{AreFronts}
-use Rattle.room_server.specs.Tables.{SeatView}
+use Rattle.room_server.specs.Prelude.{into_iter_items, AreFronts, SeatView}
 use Rattle.room_server.proofs.fronts.close_all.Given as goal
 
 -- the desks so far were closed, each with its seat

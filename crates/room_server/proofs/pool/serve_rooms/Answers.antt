@@ -1,9 +1,7 @@
-use Rattle.std.proofs.Common.{◌≡◌, [], ◌∷◌, ◌∙◌, ap, arith, length, map, refl, rules, subst, sym, vec_items, vec_len}
-use Rattle.std.specs.Vec.Iter.{into_iter_items}
+use Rattle.std.proofs.Common.{◌≡◌, [], ◌∷◌, length, map, refl, vec_items, vec_len, ◌∙◌, ap, arith, rules, subst, sym}
 use Rattle.std.proofs.lemmas.List.{length-map, map-append}
 use Rattle.std.proofs.lemmas.List.Elements.{All-rest, All-same}
-use Rattle.room_server.specs.Pools.{Meet}
-use Rattle.room_server.specs.Seats.{HaveMet, IsSet}
+use Rattle.room_server.specs.Prelude.{into_iter_items, Meet, HaveMet, IsSet}
 use Rattle.room_server.proofs.Counting.{head_of, met_more, none_met}
 use Rattle.room_server.proofs.Pooling.{meet_more, meet_none}
 use Rattle.room_server.proofs.Parts.{all_parts, met_parts, worked_parts}

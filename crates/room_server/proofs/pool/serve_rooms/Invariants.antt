@@ -1,9 +1,6 @@
 use Rattle.std.proofs.Common.{◌≡◌, ◌+◌, ◌++◌, ℕ, [], ◌∷◌, All, map, vec_items, length}
-use Rattle.std.specs.Vec.Iter.{into_iter_items}
+use Rattle.room_server.specs.Prelude.{into_iter_items, Meet, HaveMet, IsSet, AreAt}
 use Rattle.room_server.specs.Inner.Parts.{parts_in}
-use Rattle.room_server.specs.Pools.{Meet}
-use Rattle.room_server.specs.Seats.{HaveMet, IsSet}
-use Rattle.room_server.specs.Tables.{AreAt}
 use Rattle.room_server.proofs.pool.serve_rooms.Given as goal
 
 -- the sets so far were met

@@ -1,6 +1,6 @@
 use Rattle.std.proofs.Common.{arith, length, refl}
-use Rattle.std.proofs.lemmas.Option.{slice_get_read, slice_get_within}
 use Rattle.std.specs.Vec.Iter.{into_iter_items}
+use Rattle.std.proofs.lemmas.Option.{slice_get_read, slice_get_within}
 use Rattle.room_server.proofs.Meeting.{met_one}
 use Rattle.room_server.proofs.Seating.{still_at}
 use Rattle.room_server.proofs.Splitting.{length_more, next_at, whole_more}

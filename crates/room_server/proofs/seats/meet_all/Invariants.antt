@@ -1,6 +1,5 @@
 use Rattle.std.proofs.Common.{◌≡◌, ◌++◌, length}
-use Rattle.std.specs.Vec.Iter.{into_iter_items}
-use Rattle.room_server.specs.Tables.{AreAt}
+use Rattle.room_server.specs.Prelude.{into_iter_items, AreAt}
 use Rattle.room_server.proofs.Meeting.{MetSoFar}
 use Rattle.room_server.proofs.seats.meet_all.Given as goal
 

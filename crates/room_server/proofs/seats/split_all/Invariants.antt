@@ -1,6 +1,5 @@
 use Rattle.std.proofs.Common.{◌≡◌, ◌++◌, length}
-use Rattle.std.specs.Vec.Iter.{into_iter_items}
-use Rattle.room_server.specs.Seats.{AreSplit}
+use Rattle.room_server.specs.Prelude.{into_iter_items, AreSplit}
 use Rattle.room_server.proofs.Splitting.{AtFirst}
 use Rattle.room_server.proofs.seats.split_all.Given as goal
 

@@ -1,7 +1,6 @@
 use Rattle.std.proofs.Common.{◌≡◌, ◌+◌, ℕ, [], ◌∷◌, All, map, vec_items, vec_len}
-use Rattle.room_server.specs.Seats.{HaveMet, HavePartsFor, IsFresh}
+use Rattle.room_server.specs.Prelude.{HaveMet, HavePartsFor, IsFresh, AreAt}
 use Rattle.room_server.specs.Inner.Parts.{parts_in}
-use Rattle.room_server.specs.Tables.{AreAt}
 use Rattle.room_server.proofs.sets.split_sets.Given as goal
 
 -- these sets were split off, and there are parts for the remaining sets

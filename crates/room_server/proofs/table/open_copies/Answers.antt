@@ -1,6 +1,5 @@
 use Rattle.std.proofs.Common.{ap, ◌∙◌, []}
-use Rattle.room_history.specs.Rooms.{RoomState}
-use Rattle.room_server.specs.Openings.{opening}
+use Rattle.room_server.specs.Prelude.{RoomState, opening}
 use Rattle.room_server.proofs.Opening.{none_opened, one_opened}
 use Rattle.room_server.proofs.table.open_copies.Goals as goal
 

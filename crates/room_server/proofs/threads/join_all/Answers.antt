@@ -1,14 +1,10 @@
-use Rattle.std.proofs.Common.{◌≡◌, ◌+◌, ◌++◌, ◌∷◌, [], All, ap, arith, length, rules, subst, vec_items, vec_len}
-use Rattle.std.specs.Vec.Iter.{into_iter_items}
+use Rattle.std.proofs.Common.{◌≡◌, ◌+◌, ◌++◌, ◌∷◌, [], All, length, vec_items, vec_len, ap, arith, rules, subst}
 use Rattle.std.proofs.lemmas.List.Elements.{All-rest, All-same, All-push}
-use Rattle.room_server.specs.Pools.{Works}
-use Rattle.room_server.specs.Seats.{IsFresh, IsSet}
-use Rattle.room_server.specs.Tables.{AreAt, known_through}
+use Rattle.room_server.specs.Prelude.{into_iter_items, Works, IsFresh, IsSet, AreAt, known_through, ServesEach}
 use Rattle.room_server.proofs.Counting.{head_of, if_none, still_set}
 use Rattle.room_server.proofs.Pooling.{pairs_more}
 use Rattle.room_server.proofs.Splitting.{whole_more}
 use Rattle.room_server.proofs.threads.join_all.Goals as goal
-use Rattle.room_socket.specs.Serving.{ServesEach}
 
 -- the allocation failed, and the set is lost
 pub loop-thread-preserved-then-is_err : goal.loop-thread-preserved-then-is_err

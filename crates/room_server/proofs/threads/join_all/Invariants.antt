@@ -1,7 +1,5 @@
 use Rattle.std.proofs.Common.{◌≡◌, ◌+◌, ◌++◌, All, IfNone, None, length, map, vec_items, vec_len}
-use Rattle.std.specs.Vec.Iter.{into_iter_items}
-use Rattle.room_server.specs.Pools.{Pairs, Works}
-use Rattle.room_server.specs.Seats.{IsFresh, IsSet}
+use Rattle.room_server.specs.Prelude.{into_iter_items, Pairs, Works, IsFresh, IsSet}
 use Rattle.room_server.proofs.threads.join_all.Given as goal
 
 -- the sets of the threads so far came back

@@ -1,6 +1,5 @@
 use Rattle.std.proofs.Common.{◌∙◌, suc}
-use Rattle.room_session.specs.Facts.Running.{keeps_both}
-use Rattle.room_server.specs.Tables.{known_of, known_through}
+use Rattle.room_server.specs.Prelude.{keeps_both, known_of, known_through}
 use Rattle.room_server.proofs.workers.worker.Goals as goal
 
 -- one session more keeps what is kept and known, so all sessions do

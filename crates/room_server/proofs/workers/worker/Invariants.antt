@@ -1,8 +1,6 @@
 use Rattle.std.proofs.Common.{◌≡◌, ℕ, map}
-use Rattle.room_session.specs.Rooms.{KeepsKnown}
-use Rattle.room_server.specs.Tables.{kept_of, known_of, known_through, mark}
+use Rattle.room_server.specs.Prelude.{KeepsKnown, kept_of, known_of, known_through, mark, ServesEach}
 use Rattle.room_server.proofs.workers.worker.Given as goal
-use Rattle.room_socket.specs.Serving.{ServesEach}
 
 -- the rooms are those of the table, through the seats that the worker was lent, after the sessions so far
 abbrev pub invariant-loop : goal.invariant-loop

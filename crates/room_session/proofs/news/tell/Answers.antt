@@ -1,12 +1,8 @@
-use Rattle.std.proofs.Common.{◌≡◌, ◌++◌, ◌∙◌, List, Result, ap, arith}
-use Rattle.std.specs.declared.alloc.AllocError.{AllocError}
-use Rattle.std.specs.declared.alloc.Global.{Global}
-use Rattle.room_history.specs.declared.ask.RoomReply.TheVariants as replies
-use Rattle.room_history.specs.declared.news.News.{News}
-use Rattle.room_session.specs.Facts.Running.{looks_keep}
+use Rattle.std.proofs.Common.{◌≡◌, ◌++◌, List, Result, ◌∙◌, ap, arith}
+use Rattle.room_session.specs.Prelude.{AllocError, Global, News, looks_keep, news_texts}
 use Rattle.room_session.specs.Inner.LastTold.{last_told}
-use Rattle.room_session.specs.NewsTexts.{news_texts}
 use Rattle.room_session.proofs.CatchingUp.{news_keep, news_told, nothing_new}
+use Rattle.room_interface.specs.declared.ask.RoomReply.TheVariants as replies
 use Rattle.room_session.proofs.news.tell.Goals as goal
 
 pub returns-then-front-told-clause-ok : goal.returns-then-front-told-clause-ok

@@ -8,7 +8,7 @@ returns-in_default-clause-body g c = unasked _ _ _ _ _ (sym c.into_call.ensures 
 
 pub returns-clause-body : goal.returns-clause-body
 returns-clause-body g c =
-    replied _ _ _ _ _ c.in-Some.call c.turn-reply.result _ _ (sym c.into_call.ensures ∙ c.in-Some.is) c.turn-reply.ensures.answers (c.to.ensures c.in-Some.call (sym c.name_asked-name.ensures)) c.reply_text-2.ensures.text
+    replied _ _ _ _ _ c.in-Some.call c.turn-reply.result _ _ (sym c.into_call.ensures ∙ c.in-Some.is) c.turn-reply.ensures.answers c.to.ensures c.reply_text-2.ensures.text
 
 pub returns-clause-keeps : goal.returns-clause-keeps
 returns-clause-keeps g c = answers_keep _ _ _ _ _ c.turn-reply.ensures.answers

@@ -1,4 +1,4 @@
-use Rattle.std.proofs.Common.{Some, ap, arith, refl}
+use Rattle.std.proofs.Common.{Some, refl, ap, arith}
 use Rattle.tungstenite.specs.Content.{close}
 use Rattle.room_socket.specs.Patience.{remaining_of, contents_of}
 use Rattle.room_socket.proofs.Written.{asks, read_again}

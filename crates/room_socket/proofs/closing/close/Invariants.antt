@@ -1,7 +1,5 @@
-use Rattle.room_socket.specs.Patience.{remaining_of, contents_of}
-use Rattle.room_socket.specs.Sending.{AsksToClose, ReadsOn}
 use Rattle.tungstenite.specs.Socket.{Socket}
-use Rattle.room_socket.specs.declared.patient.Patient.{Patient}
+use Rattle.room_socket.specs.Prelude.{remaining_of, contents_of, AsksToClose, ReadsOn, Patient}
 use Rattle.room_socket.proofs.closing.close.Given as goal
 
 -- after the close went out, the socket was read once a round

@@ -1,7 +1,6 @@
-use Rattle.std.proofs.Common.{rules, ◌≡◌, subst, sym}
+use Rattle.std.proofs.Common.{rules, subst, sym, ◌≡◌}
+use Rattle.room_socket.specs.Prelude.{remaining_of, contents_of, Closes, code_of}
 use Rattle.tungstenite.specs.declared.CloseCode.TheVariants as codes
-use Rattle.room_socket.specs.Patience.{remaining_of, contents_of}
-use Rattle.room_socket.specs.Sending.{Closes, code_of}
 use Rattle.room_socket.proofs.sending.send_close.Goals as goal
 
 pub returns-then-code-eq-UNSUPPORTED_DATA-clause-closes : goal.returns-then-code-eq-UNSUPPORTED_DATA-clause-closes

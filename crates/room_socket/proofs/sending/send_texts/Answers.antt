@@ -1,10 +1,9 @@
-use Rattle.std.proofs.Common.{rules, ◌≡◌, ◌≢◌, ◌∷◌, ◌+◌, ◌∙◌, [], OnOk, ap, arith, drop, refl, subst, sym}
+use Rattle.std.proofs.Common.{rules, ◌∙◌, ap, arith, subst, sym, ◌≡◌, ◌≢◌, ◌∷◌, ◌+◌, [], OnOk, drop, refl}
 use Rattle.std.proofs.lemmas.List.{drop_more}
 use Rattle.tungstenite.specs.Connection.{write_step}
 use Rattle.tungstenite.specs.Content.{text}
 use Rattle.tungstenite.specs.Socket.{Writes, content_of}
-use Rattle.room_socket.specs.Patience.{contents_of}
-use Rattle.room_socket.specs.Sending.{SendsTexts, WritesTexts}
+use Rattle.room_socket.specs.Prelude.{contents_of, SendsTexts, WritesTexts}
 use Rattle.room_socket.proofs.Written.{drop_past, sent_all}
 use Rattle.room_socket.proofs.sending.send_texts.Goals as goal
 

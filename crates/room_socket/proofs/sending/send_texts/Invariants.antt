@@ -1,8 +1,6 @@
 use Rattle.std.proofs.Common.{drop}
 use Rattle.tungstenite.specs.Socket.{Socket}
-use Rattle.room_socket.specs.declared.patient.Patient.{Patient}
-use Rattle.room_socket.specs.Patience.{contents_of}
-use Rattle.room_socket.specs.Sending.{WritesTexts}
+use Rattle.room_socket.specs.Prelude.{Patient, contents_of, WritesTexts}
 use Rattle.room_socket.proofs.sending.send_texts.Given as goal
 
 -- if the texts that are left are written from here, all texts were written

@@ -1,9 +1,5 @@
-use Rattle.std.proofs.Common.{◌∙◌, None, Some, arith, refl}
-use Rattle.room_session.specs.declared.session.State.TheVariants.{BeforeHello}
-use Rattle.room_session.specs.Facts.Running.{keeps_both}
-use Rattle.room_socket.specs.declared.end.End.TheVariants.{Bound}
-use Rattle.room_socket.specs.Conversing.{TakesTurn}
-use Rattle.room_socket.specs.Patience.{remaining_of, contents_of}
+use Rattle.std.proofs.Common.{◌∙◌, arith, None, Some, refl}
+use Rattle.room_socket.specs.Prelude.{BeforeHello, keeps_both, Bound, TakesTurn, remaining_of, contents_of}
 use Rattle.room_socket.proofs.Following.{one_turn_more}
 use Rattle.room_socket.proofs.Talking.{last_turn, turn_before, no_turn_left}
 use Rattle.room_socket.proofs.stream.run.Goals as goal

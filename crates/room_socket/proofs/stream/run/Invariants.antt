@@ -1,14 +1,6 @@
 use Rattle.std.proofs.Common.{◌≡◌, ◌≤◌, ◌-◌, List, length}
-use Rattle.room_session.specs.declared.session.State.TheVariants.{BeforeHello}
-use Rattle.room_session.specs.declared.session.State.{State}
-use Rattle.room_session.specs.Rooms.{Known, KeepsKnown}
-use Rattle.room_session.specs.Running.{IsRunOn}
 use Rattle.tungstenite.specs.Socket.{Socket}
-use Rattle.room_socket.specs.declared.end.End.{End}
-use Rattle.room_socket.specs.declared.patient.Patient.{Patient}
-use Rattle.room_socket.specs.Conversing.{Converses}
-use Rattle.room_socket.specs.Patience.{remaining_of, contents_of}
-use Rattle.room_socket.specs.Serving.{Event, Follows}
+use Rattle.room_socket.specs.Prelude.{BeforeHello, State, Known, KeepsKnown, IsRunOn, End, Patient, Converses, remaining_of, contents_of, Event, Follows}
 use Rattle.room_socket.proofs.stream.run.Given as goal
 
 -- So far, at most one event came a turn. A conversation that goes on from here is one from the start.

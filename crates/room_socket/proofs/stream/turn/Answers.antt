@@ -1,10 +1,8 @@
 use Rattle.std.proofs.Common.{subst}
-use Rattle.room_socket.specs.declared.hearing.Heard.TheVariants as heard
-use Rattle.room_socket.specs.Conversing.{TakesText}
-use Rattle.room_socket.specs.Hearing.{Hears}
-use Rattle.room_socket.specs.Patience.{remaining_of}
+use Rattle.room_socket.specs.Prelude.{TakesText, Hears, remaining_of}
 use Rattle.room_socket.proofs.Talking.{gave_binary}
 use Rattle.room_socket.proofs.Following.{at_most_one, ended}
+use Rattle.room_socket.specs.declared.hearing.Heard.TheVariants as heard
 use Rattle.room_socket.proofs.stream.turn.Goals as goal
 
 pub returns-in-Text-clause-follows : goal.returns-in-Text-clause-follows

@@ -1,14 +1,16 @@
-use Rattle.room_stacks.proofs.ExampleProofs.{authors_read_lem, ids_spent_lem, entries_active_lem, redos_stacked_lem}
+-- Each holds by evaluation.
+use Rattle.std.proofs.Common.{refl}
+use Rattle.room_stacks.specs.Examples.{ids_spent, entries_active, redos_stacked}
 use Rattle.room_stacks.proofs.laws.examples_are_as_worked.Goals as goal
 
-pub returns-clause-authors_read : goal.returns-clause-authors_read
-returns-clause-authors_read c = authors_read_lem
-
 pub returns-clause-ids_spent : goal.returns-clause-ids_spent
-returns-clause-ids_spent c = ids_spent_lem
+unfolding ids_spent
+returns-clause-ids_spent c = (refl, refl, refl, refl, refl, refl, refl, refl)
 
 pub returns-clause-entries_active : goal.returns-clause-entries_active
-returns-clause-entries_active c = entries_active_lem
+unfolding entries_active
+returns-clause-entries_active c = (refl, refl, refl, refl, refl, refl, refl, refl)
 
 pub returns-clause-redos_stacked : goal.returns-clause-redos_stacked
-returns-clause-redos_stacked c = redos_stacked_lem
+unfolding redos_stacked
+returns-clause-redos_stacked c = (refl, refl, refl, refl, refl, refl, refl, refl, refl)

@@ -1,5 +1,4 @@
-use Rattle.std.proofs.Common.{sym, subst}
-use Rattle.std.specs.Str.{IsAscii}
+use Rattle.std.proofs.Common.{sym, subst, IsAscii}
 use Rattle.room_wire.proofs.Ascii.{name_text_is_ascii}
 use Rattle.room_wire.proofs.element.write_name.Goals as goal
 

@@ -1,9 +1,7 @@
 use Rattle.std.proofs.Common.{◌≡◌, T, map, OnOk, sym, ap, subst, ◌∙◌}
 use Rattle.std.proofs.lemmas.Simd.{map-map}
-use Rattle.std.specs.FinMap.Entries.{is_sorted}
 use Rattle.serde_json.specs.Data.{object, string}
-use Rattle.osm_elements.specs.KeyedRows.{text_cmp}
-use Rattle.osm_elements.specs.TagRows.{tag_pair}
+use Rattle.room_wire.specs.Prelude.{is_sorted, text_cmp, tag_pair}
 use Rattle.room_wire.specs.Inner.Writing.{Tells, members_of}
 use Rattle.room_wire.proofs.ToldParts.{tag_member, tags_are_members, tags_rise}
 use Rattle.room_wire.proofs.element.write_tags.Goals as goal

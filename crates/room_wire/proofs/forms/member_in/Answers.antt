@@ -1,8 +1,7 @@
 use Rattle.std.proofs.Common.{inr, ap, arith}
-use Rattle.room_wire.specs.Reading.{or_fault}
-use Rattle.room_wire.specs.declared.bad.Fault.TheVariants.{BadField}
-use Rattle.room_wire.specs.declared.field.Field.TheVariants as field
+use Rattle.room_wire.specs.Prelude.{or_fault, BadField}
 use Rattle.room_wire.proofs.MemberPairs.{not_two}
+use Rattle.room_wire.specs.declared.field.Field.TheVariants as field
 use Rattle.room_wire.proofs.forms.member_in.Goals as goal
 
 pub returns-then-items-ne2 : goal.returns-then-items-ne2

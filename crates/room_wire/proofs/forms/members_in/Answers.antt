@@ -1,11 +1,7 @@
-use Rattle.std.proofs.Common.{◌≡◌, ◌⊎◌, ◌+◌, ◌∷◌, ◌++◌, [], Some, None, Err, inl, inr, drop, sym, ap, ap₂, ◌∙◌, arith}
+use Rattle.std.proofs.Common.{◌≡◌, ◌⊎◌, ◌+◌, ◌∷◌, ◌++◌, [], Some, None, Err, drop, inl, inr, sym, ap, ap₂, ◌∙◌, arith}
 use Rattle.std.proofs.lemmas.List.{drop_more}
-use Rattle.json_values.specs.Views.{items_view, view}
-use Rattle.room_wire.specs.Spelling.{member_of, members_in}
+use Rattle.room_wire.specs.Prelude.{items_view, view, member_of, members_in, or_fault, BadField, Memory, Members}
 use Rattle.room_wire.proofs.ItemLists.{with_front, items_in-some, items_in-none}
-use Rattle.room_wire.specs.Reading.{or_fault}
-use Rattle.room_wire.specs.declared.bad.Fault.TheVariants.{BadField, Memory}
-use Rattle.room_wire.specs.declared.field.Field.TheVariants.{Members}
 use Rattle.room_wire.proofs.EntryLists.{or_fault_ok}
 use Rattle.room_wire.proofs.FaultsToldOn.{or_fault_err, told_on}
 use Rattle.room_wire.proofs.forms.members_in.Goals as goal

@@ -1,6 +1,5 @@
 use Rattle.std.proofs.Common.{◌≡◌, drop}
-use Rattle.json_values.specs.Views.{items_view}
-use Rattle.room_wire.specs.Spelling.{member_of, members_in}
+use Rattle.room_wire.specs.Prelude.{items_view, member_of, members_in}
 use Rattle.room_wire.proofs.ItemLists.{with_front}
 use Rattle.room_wire.proofs.forms.members_in.Given as goal
 

@@ -1,6 +1,5 @@
 use Rattle.std.proofs.Common.{◌≡◌, drop}
-use Rattle.json_values.specs.Views.{items_view}
-use Rattle.room_wire.specs.Spelling.{name_item, names_in}
+use Rattle.room_wire.specs.Prelude.{items_view, name_item, names_in}
 use Rattle.room_wire.proofs.ItemLists.{with_front}
 use Rattle.room_wire.proofs.forms.names_in.Given as goal
 

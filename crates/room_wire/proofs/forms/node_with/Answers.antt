@@ -1,9 +1,7 @@
 use Rattle.std.proofs.Common.{ap, ◌∙◌}
-use Rattle.std.specs.Int.{w64}
 use Rattle.std.proofs.lemmas.Int.{to_z-of_z}
+use Rattle.room_wire.specs.Prelude.{w64, name_with, new_is}
 use Rattle.osm_elements.specs.declared.name.Kind.TheVariants as kind
-use Rattle.osm_elements.specs.NameTexts.{name_with}
-use Rattle.osm_elements.specs.Facts.NameTexts.{new_is}
 use Rattle.room_wire.proofs.forms.node_with.Goals as goal
 
 pub returns-clause-value : goal.returns-clause-value

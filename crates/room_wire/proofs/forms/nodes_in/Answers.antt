@@ -1,11 +1,8 @@
 use Rattle.std.proofs.Common.{◌≡◌, ◌+◌, [], ◌∷◌, None, drop, inr, sym, ap, ◌∙◌, arith}
 use Rattle.std.proofs.lemmas.List.{drop_more, drop_all}
-use Rattle.json_values.specs.Views.{items_view, view}
-use Rattle.room_wire.specs.Reading.{or_fault}
-use Rattle.room_wire.specs.Spelling.{node_of, nodes_in}
-use Rattle.room_wire.specs.declared.bad.Fault.TheVariants.{BadField}
-use Rattle.room_wire.specs.declared.field.Field.TheVariants as field
+use Rattle.room_wire.specs.Prelude.{items_view, view, or_fault, node_of, nodes_in, BadField}
 use Rattle.room_wire.proofs.ItemLists.{with_front, items_in-some, items_in-none, items_in-nil}
+use Rattle.room_wire.specs.declared.field.Field.TheVariants as field
 use Rattle.room_wire.proofs.forms.nodes_in.Goals as goal
 
 pub loop-item-preserved : goal.loop-item-preserved

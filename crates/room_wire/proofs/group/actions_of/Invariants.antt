@@ -1,6 +1,5 @@
 use Rattle.std.proofs.Common.{◌≡◌, drop, length}
-use Rattle.json_values.specs.Views.{items_view}
-use Rattle.room_wire.specs.Spelling.{actions_from}
+use Rattle.room_wire.specs.Prelude.{items_view, actions_from}
 use Rattle.room_wire.proofs.ActionLists.{after_actions}
 use Rattle.room_wire.proofs.group.actions_of.Given as goal
 

@@ -1,6 +1,5 @@
 use Rattle.std.proofs.Common.{◌≡◌, drop}
-use Rattle.json_values.specs.Views.{items_view}
-use Rattle.room_wire.specs.Spelling.{are_objects}
+use Rattle.room_wire.specs.Prelude.{items_view, are_objects}
 use Rattle.room_wire.proofs.group.all_objects.Given as goal
 
 abbrev pub invariant-loop-item : goal.invariant-loop-item

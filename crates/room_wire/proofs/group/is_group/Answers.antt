@@ -1,7 +1,5 @@
 use Rattle.std.proofs.Common.{◌&&◌, ap, sym, ◌∙◌}
-use Rattle.json_values.specs.Views.{items_view}
-use Rattle.edit_groups.specs.Groups.{is_group_length}
-use Rattle.room_wire.specs.Spelling.{are_objects}
+use Rattle.room_wire.specs.Prelude.{items_view, is_group_length, are_objects}
 use Rattle.room_wire.proofs.ActionLists.{items_len-view}
 use Rattle.room_wire.proofs.group.is_group.Goals as goal
 

@@ -1,17 +1,29 @@
-use Rattle.room_wire.proofs.NewsExampleProofs.{writes_news_lem, reads_news_lem, tells_bad_news_lem, reads_welcomes_lem, tells_bad_welcomes_lem}
+-- Each holds by evaluation.
+use Rattle.std.proofs.Common.{refl}
+use Rattle.std.specs.Fmt.{digits}
+use Rattle.std.specs.Str.{chars}
+use Rattle.serde_json.proofs.OnLiterals.{serde_json_on_literals}
+use Rattle.osm_elements.specs.NameOrder.{name_cmp}
+use Rattle.osm_elements.specs.Texts.{is_long}
+use Rattle.room_wire.specs.NewsExamples.{writes_news, reads_news, tells_bad_news, reads_welcomes, tells_bad_welcomes}
 use Rattle.room_wire.proofs.laws.news_are_as_worked.Goals as goal
 
 pub returns-clause-writes_news : goal.returns-clause-writes_news
-returns-clause-writes_news c = writes_news_lem
+unfolding writes_news serde_json_on_literals digits
+returns-clause-writes_news c = (refl, refl)
 
 pub returns-clause-reads_news : goal.returns-clause-reads_news
-returns-clause-reads_news c = reads_news_lem
+unfolding reads_news serde_json_on_literals digits chars is_long name_cmp
+returns-clause-reads_news c = (refl, refl, refl)
 
 pub returns-clause-tells_bad_news : goal.returns-clause-tells_bad_news
-returns-clause-tells_bad_news c = tells_bad_news_lem
+unfolding tells_bad_news serde_json_on_literals digits chars is_long name_cmp
+returns-clause-tells_bad_news c = (refl, refl, refl, refl, refl, refl, refl, refl, refl, refl, refl, refl, refl, refl)
 
 pub returns-clause-reads_welcomes : goal.returns-clause-reads_welcomes
-returns-clause-reads_welcomes c = reads_welcomes_lem
+unfolding reads_welcomes serde_json_on_literals digits chars is_long name_cmp
+returns-clause-reads_welcomes c = (refl, refl)
 
 pub returns-clause-tells_bad_welcomes : goal.returns-clause-tells_bad_welcomes
-returns-clause-tells_bad_welcomes c = tells_bad_welcomes_lem
+unfolding tells_bad_welcomes serde_json_on_literals digits chars is_long name_cmp
+returns-clause-tells_bad_welcomes c = (refl, refl, refl, refl, refl, refl, refl, refl, refl, refl, refl, refl)

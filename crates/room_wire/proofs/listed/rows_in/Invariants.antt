@@ -1,7 +1,5 @@
 use Rattle.std.proofs.Common.{◌≡◌, drop}
-use Rattle.std.specs.Result.{result_ok}
-use Rattle.json_values.specs.Views.{items_view}
-use Rattle.room_wire.specs.Spelling.{items_in}
+use Rattle.room_wire.specs.Prelude.{result_ok, items_view, items_in}
 use Rattle.room_wire.proofs.ItemLists.{with_front}
 use Rattle.room_wire.proofs.listed.rows_in.Given as goal
 

@@ -1,10 +1,10 @@
 use Rattle.std.proofs.Common.{map, ap, ap₂, sym, ◌∙◌}
 use Rattle.std.proofs.lemmas.List.{drop_all}
-use Rattle.osm_changes.specs.Changes.{are_rising}
+use Rattle.osm_elements.specs.Maps.{are_rising}
 use Rattle.room_wire.specs.Inner.Rising.{is_before}
 use Rattle.room_wire.proofs.RisingNames.{rising_last, rises_on}
-use Rattle.room_wire.proofs.rising.are_rising.Goals as goal
 use Rattle.room_wire.proofs.rising.are_rising.Goals.{else-place-rows-via-then-place-rows+else-not-is_before, else-place-rows-via-else-place-rows}
+use Rattle.room_wire.proofs.rising.are_rising.Goals as goal
 
 pub loop-place-preserved : goal.loop-place-preserved
 loop-place-preserved g c =

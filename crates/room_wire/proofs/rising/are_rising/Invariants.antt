@@ -1,5 +1,5 @@
 use Rattle.std.proofs.Common.{◌≡◌, drop, map}
-use Rattle.osm_changes.specs.Changes.{are_rising}
+use Rattle.osm_elements.specs.Maps.{are_rising}
 use Rattle.room_wire.proofs.rising.are_rising.Given as goal
 
 abbrev pub invariant-loop-place : goal.invariant-loop-place

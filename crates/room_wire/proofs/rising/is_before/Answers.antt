@@ -1,5 +1,4 @@
-use Rattle.std.proofs.Common.{ap, ◌∙◌}
-use Rattle.std.specs.Ordering.{is_lt}
+use Rattle.std.proofs.Common.{ap, ◌∙◌, is_lt}
 use Rattle.osm_elements.specs.Facts.NameOrder.{name_cmp_is}
 use Rattle.room_wire.proofs.rising.is_before.Goals as goal
 

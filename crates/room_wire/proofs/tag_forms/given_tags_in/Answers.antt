@@ -1,14 +1,8 @@
 use Rattle.std.proofs.Common.{◌≡◌, ◌⊎◌, [], ◌∷◌, ◌++◌, Some, None, Err, length, inl, inr, sym, ap, ◌∙◌, subst, arith, append_assoc, length-append}
-use Rattle.std.specs.List.Sorted.{IsStrictlySortedBy}
-use Rattle.std.specs.Map.{keys_of}
-use Rattle.json_values.specs.Views.{members_view, view}
-use Rattle.json_values.specs.Views.{Entry}
-use Rattle.room_wire.specs.Reading.{or_fault}
-use Rattle.room_wire.specs.Spelling.{entry_of, given_tags_of, given_of}
-use Rattle.room_wire.specs.declared.bad.Fault.TheVariants.{BadField, Memory}
-use Rattle.room_wire.specs.declared.field.Field.TheVariants as field
+use Rattle.room_wire.specs.Prelude.{IsStrictlySortedBy, keys_of, members_view, view, Entry, or_fault, entry_of, given_tags_of, given_of, BadField, Memory}
 use Rattle.room_wire.proofs.EntryLists.{key_cmp, with_front, entries_in-some, entries_in-none, entries_in-nil, same_keys_more, same_keys_length, put_last, or_fault_ok, entry_of-key, entries_of-few, entries_of-many}
 use Rattle.room_wire.proofs.FaultsToldOn.{or_fault_err, told_on}
+use Rattle.room_wire.specs.declared.field.Field.TheVariants as field
 use Rattle.room_wire.proofs.tag_forms.given_tags_in.Goals as goal
 
 pub returns-then-len-gt-MOST_TAGS : goal.returns-then-len-gt-MOST_TAGS

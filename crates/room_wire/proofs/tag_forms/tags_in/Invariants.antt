@@ -1,7 +1,5 @@
 use Rattle.std.proofs.Common.{◌≡◌, ◌++◌, List}
-use Rattle.json_values.specs.Views.{members_view}
-use Rattle.json_values.specs.Views.{Entry}
-use Rattle.room_wire.specs.Spelling.{entries_in, value_of}
+use Rattle.room_wire.specs.Prelude.{members_view, Entry, entries_in, value_of}
 use Rattle.room_wire.proofs.EntryLists.{with_front, SameKeys}
 use Rattle.room_wire.proofs.tag_forms.tags_in.Given as goal
 

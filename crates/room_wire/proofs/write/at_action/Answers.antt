@@ -1,8 +1,8 @@
-use Rattle.std.proofs.Common.{rules, ◌≡◌, ◌∷◌, ◌++◌, [], map, codes, decimal, ◌∙◌}
+use Rattle.std.proofs.Common.{rules, ◌∙◌, ◌≡◌, ◌∷◌, ◌++◌, [], map, codes, decimal}
 use Rattle.json.specs.Token.{begin_object, end_object, key, number as number_token}
 use Rattle.serde_json.specs.Data.{Data, object}
-use Rattle.room_wire.specs.Inner.Writing.{members_of, shown_tree, tree_tokens}
 use Rattle.room_wire.specs.Trees.{with_action}
+use Rattle.room_wire.specs.Inner.Writing.{members_of, shown_tree, tree_tokens}
 use Rattle.room_wire.proofs.ToldParts.{under_is_readable, whole_is_readable}
 use Rattle.room_wire.proofs.Written.{closed, opened}
 use Rattle.room_wire.proofs.write.at_action.Goals as goal

@@ -1,8 +1,6 @@
-use Rattle.std.proofs.Common.{rules, ◌≡◌, ◌∷◌, ◌++◌, [], All, map, refl, sym, ap, subst, ◌∙◌, arith}
-use Rattle.std.specs.declared.alloc.Global.{Global}
+use Rattle.std.proofs.Common.{rules, sym, ap, subst, ◌∙◌, arith, ◌≡◌, ◌∷◌, ◌++◌, [], All, map, refl}
 use Rattle.json.specs.Token.{begin_array}
-use Rattle.osm_elements.specs.declared.name.Name.{Name}
-use Rattle.osm_elements.specs.declared.element.Element.{Element}
+use Rattle.room_wire.specs.Prelude.{Global, Name, Element}
 use Rattle.room_wire.specs.Inner.Writing.{IsReadable}
 use Rattle.room_wire.proofs.ToldParts.{row_told}
 use Rattle.room_wire.proofs.Written.{array_is_readable, item_written, items_left, opened, put_first}

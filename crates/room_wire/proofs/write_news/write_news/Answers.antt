@@ -1,7 +1,7 @@
 use Rattle.std.proofs.Common.{◌∷◌, [], codes, ◌∙◌, arith}
 use Rattle.json.specs.Token.{begin_object, end_object, key}
-use Rattle.room_wire.specs.Inner.Writing.{IsReadable, tree_tokens}
 use Rattle.room_wire.specs.News.{told_tree}
+use Rattle.room_wire.specs.Inner.Writing.{IsReadable, tree_tokens}
 use Rattle.room_wire.proofs.Written.{closed, object_is_readable, opened, put_first}
 use Rattle.room_wire.proofs.write_news.write_news.Goals as goal
 

@@ -1,8 +1,7 @@
 use Rattle.std.proofs.Common.{OnOk, codes, subst}
 use Rattle.serde_json.specs.Data.{member, no_members, object, string}
+use Rattle.room_wire.specs.Prelude.{news_rows_tree, whole}
 use Rattle.room_wire.specs.Inner.Writing.{Tells}
-use Rattle.room_wire.specs.News.{news_rows_tree}
-use Rattle.room_wire.specs.Trees.{whole}
 use Rattle.room_wire.proofs.write_news.write_told.Goals as goal
 
 pub returns : goal.returns

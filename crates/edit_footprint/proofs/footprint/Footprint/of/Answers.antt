@@ -1,6 +1,6 @@
 use Rattle.std.proofs.Common.{sym, subst}
-use Rattle.osm_changes.specs.Cells.{IsRising}
 use Rattle.osm_changes.specs.Facts.Cells.{IsRising-cell_set}
+use Rattle.osm_changes.specs.Cells.{IsRising}
 use Rattle.edit_footprint.proofs.Sorting.{sorted_is_cell_set}
 use Rattle.edit_footprint.proofs.footprint.Footprint.of.Goals as goal
 

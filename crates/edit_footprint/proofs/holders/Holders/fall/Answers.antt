@@ -1,7 +1,7 @@
 use Rattle.std.proofs.Common.{◌∙◌, ap}
+use Rattle.edit_footprint.specs.Holding.{Held, fallen}
 use Rattle.edit_footprint.proofs.Keeping.{falls}
 use Rattle.edit_footprint.proofs.holders.Holders.fall.Goals as goal
-use Rattle.edit_footprint.specs.Holding.{Held, fallen}
 
 pub returns : goal.returns
 returns g c =

@@ -1,13 +1,8 @@
-use Rattle.std.proofs.Common.{◌≡◌, ◌+◌, ◌<◌, ℕ, Option, List, length, take, nat_lt, sym, ap, subst, ◌∙◌, rules}
-use Rattle.std.specs.List.{find}
-use Rattle.std.specs.Ordering.{nat_cmp}
-use Rattle.osm_elements.specs.declared.name.Name.{Name}
-use Rattle.osm_changes.specs.declared.cell.Cell.{Cell}
-use Rattle.osm_changes.specs.Cells as cells
-use Rattle.rising_lists.specs.Rising.{IsRising}
-use Rattle.edit_footprint.specs.Holding.{Held, holding, IsFirstAfter}
+use Rattle.std.proofs.Common.{◌≡◌, ◌+◌, ◌<◌, ℕ, Option, List, length, take, nat_lt, sym, ap, subst, ◌∙◌, rules, find, nat_cmp}
+use Rattle.edit_footprint.specs.Prelude.{Name, Cell, IsRising, Held, holding, IsFirstAfter}
 use Rattle.edit_footprint.specs.Inner.Searching.{sooner}
 use Rattle.edit_footprint.proofs.Searching.{next, past_before, step}
+use Rattle.osm_changes.specs.Cells as cells
 use Rattle.edit_footprint.proofs.holders.Holders.first_after.Goals as goal
 
 pub next-requires : goal.next-requires

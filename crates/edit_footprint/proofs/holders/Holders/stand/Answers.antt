@@ -1,10 +1,8 @@
 use Rattle.std.proofs.Common.{◌∙◌, sym, subst}
+use Rattle.edit_footprint.specs.Prelude.{AreHeld, standing, cell_cmp, cell_cmp_total, IsTable-lists}
+use Rattle.osm_changes.specs.Cells.{IsRising}
 use Rattle.edit_footprint.proofs.Keeping.{lacks_next, on_err, same_held, stands}
 use Rattle.edit_footprint.proofs.holders.Holders.stand.Goals as goal
-use Rattle.edit_footprint.specs.Holding.{AreHeld, standing}
-use Rattle.osm_changes.specs.Cells.{IsRising, cell_cmp}
-use Rattle.osm_changes.specs.Facts.Cells.{cell_cmp_total}
-use Rattle.rising_lists.specs.Facts.Tables.{IsTable-lists}
 
 pub add_all-requires : goal.add_all-requires
 add_all-requires g c =

@@ -1,11 +1,6 @@
 use Rattle.std.proofs.Common.{◌≡◌, ◌≢◌, ℤ, pos, ◌∙◌, rules}
 use Rattle.std.proofs.lemmas.Int.{to_z-of_z}
-use Rattle.std.specs.Int.{w64}
-use Rattle.osm_elements.specs.declared.name.Kind.{Kind}
-use Rattle.osm_elements.specs.declared.name.Name.{Name}
-use Rattle.osm_elements.specs.Facts.Names.{same_name}
-use Rattle.osm_changes.specs.Cells.{Cell}
-use Rattle.osm_changes.specs.declared.part.Part.{Part}
+use Rattle.osm_changes.specs.Prelude.{w64, Kind, Name, same_name, Cell, Part}
 use Rattle.osm_changes.proofs.cell.Cell.of.Goals as goal
 
 -- a cell of a kind and an id is the cell of the name with this kind and id

@@ -1,17 +1,8 @@
-use Rattle.std.proofs.Common.{◌≡◌, true, false, refl, sym, ap, ◌∙◌, rules}
-use Rattle.std.specs.Cmp.{int_cmp_is}
-use Rattle.std.specs.Ordering.{int_cmp, is_eq, nat_cmp, ordering_then}
-use Rattle.std.specs.declared.cmp.Ordering.{Ordering}
-use Rattle.std.specs.declared.cmp.Ordering.TheVariants.{Less, Equal, Greater}
-use Rattle.osm_elements.specs.Facts.NameOrder.{kind_order_is}
-use Rattle.osm_elements.specs.Facts.SameNames.{kind_eq_is}
+use Rattle.std.proofs.Common.{◌≡◌, true, false, refl, sym, ap, ◌∙◌, rules, int_cmp, is_eq, nat_cmp, Ordering, Less, Equal, Greater}
+use Rattle.osm_changes.specs.Prelude.{int_cmp_is, ordering_then, kind_order_is, kind_eq_is, kind_rank, Part, Tags, Rest, part_rank, cell_cmp}
 use Rattle.osm_elements.specs.NameOrder.{name_cmp}
-use Rattle.osm_elements.specs.Names.{kind_rank}
 use Rattle.osm_elements.specs.contracts.name.KindPartialEq.TheImpl as kind_equality
 use Rattle.osm_changes.specs.contracts.part.PartOrd.TheImpl as part_order
-use Rattle.osm_changes.specs.declared.part.Part.{Part}
-use Rattle.osm_changes.specs.declared.part.Part.TheVariants.{Tags, Rest}
-use Rattle.osm_changes.specs.Cells.{part_rank, cell_cmp}
 use Rattle.osm_changes.proofs.cell.CellOrd.cmp.Goals as goal
 
 -- the derived order of parts is the defined order

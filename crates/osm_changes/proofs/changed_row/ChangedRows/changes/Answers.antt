@@ -1,8 +1,6 @@
 use Rattle.std.proofs.Common.{◌++◌, T, map, ap, subst, sym, ◌∙◌, arith}
 use Rattle.std.proofs.lemmas.List.{take_all}
-use Rattle.osm_changes.specs.Changes.{are_rising, changes_of, row_changes, AreChanges}
-use Rattle.osm_changes.specs.declared.changed_row.ChangedRow.{ChangedRow}
-use Rattle.osm_changes.specs.Facts.RowChanges.{more-all, next_fits}
+use Rattle.osm_changes.specs.Prelude.{are_rising, changes_of, row_changes, AreChanges, ChangedRow, more-all, next_fits}
 use Rattle.osm_changes.proofs.changed_row.ChangedRows.changes.Goals as goal
 
 pub push_changes-requires : goal.push_changes-requires

@@ -1,7 +1,5 @@
-use Rattle.std.proofs.Common.{◌++◌, [], ◌∷◌, ap, subst, sym, ◌∙◌}
-use Rattle.std.specs.List.{filter}
-use Rattle.osm_changes.specs.declared.part.Part.TheVariants.{Tags}
-use Rattle.osm_changes.specs.Changes.{differs, AreChanges}
+use Rattle.std.proofs.Common.{◌++◌, [], ◌∷◌, ap, subst, sym, ◌∙◌, filter}
+use Rattle.osm_changes.specs.Prelude.{Tags, differs, AreChanges}
 use Rattle.osm_changes.proofs.Pushing.{change_of, pushed}
 use Rattle.osm_changes.proofs.changes.Changes.push_row.Goals as goal
 

@@ -1,11 +1,7 @@
-use Rattle.std.proofs.Common.{◌≡◌, ◌∙◌, refl, ap, map, sym, subst, true}
-use Rattle.std.specs.List.{fold}
+use Rattle.std.proofs.Common.{◌≡◌, refl, map, true, ◌∙◌, ap, sym, subst, fold}
+use Rattle.osm_changes.specs.Prelude.{changed, changed_names, changed_rows, is_sound, table_of, sound_in_order}
 use Rattle.osm_changes.specs.Inner.Applying.{after_of, rows_after, AreBefore}
 use Rattle.osm_changes.specs.Inner.References.{lost, reference_change_of}
-use Rattle.osm_changes.specs.Changes.{changed, changed_names, changed_rows}
-use Rattle.osm_changes.specs.Sound.{is_sound}
-use Rattle.osm_refs.specs.Tables.{table_of}
-use Rattle.osm_changes.specs.Facts.SoundRows.{sound_in_order}
 use Rattle.osm_changes.proofs.Applied.{names_rise, others_rise, others_not_new, map_became, users_became}
 use Rattle.osm_changes.proofs.ChangedRows.{are_before, rows_made}
 use Rattle.osm_changes.proofs.store.Store.apply_rows.Goals as goal

@@ -1,8 +1,5 @@
-use Rattle.std.proofs.Common.{◌∙◌, T, map, ap, subst, sym}
-use Rattle.osm_refs.specs.Facts.RisingNames.{IsRising-name_set}
-use Rattle.osm_changes.specs.declared.change.Change.{Change}
-use Rattle.osm_changes.specs.declared.changed_row.ChangedRow.{ChangedRow}
-use Rattle.osm_changes.specs.Changes.{are_rising, changed, changed_names, changed_rows}
+use Rattle.std.proofs.Common.{◌∙◌, ap, subst, sym, T, map}
+use Rattle.osm_changes.specs.Prelude.{IsRising-name_set, Change, ChangedRow, are_rising, changed, changed_names, changed_rows}
 use Rattle.osm_changes.proofs.ChangedRows.{names_stay}
 use Rattle.osm_changes.proofs.store.Store.changed_rows.Goals as goal
 

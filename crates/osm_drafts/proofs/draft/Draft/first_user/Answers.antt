@@ -1,12 +1,5 @@
-use Rattle.std.proofs.Common.{Some, None, not, slice_get, sym, ap, ◌∙◌}
-use Rattle.std.specs.List.{find}
-use Rattle.std.specs.Ordering.{ord_min}
-use Rattle.osm_elements.specs.Maps.{is_among, least}
-use Rattle.osm_elements.specs.Facts.NameOrder.{name_cmp_is}
-use Rattle.osm_refs.specs.References.{users}
-use Rattle.osm_refs.specs.Tables.{Table, users_in}
-use Rattle.osm_refs.specs.Facts.MapTables.{users_in-table_of}
-use Rattle.osm_changes.specs.Facts.SoundRows.{sound_in_order}
+use Rattle.std.proofs.Common.{Some, None, not, slice_get, sym, ap, ◌∙◌, find}
+use Rattle.osm_drafts.specs.Prelude.{ord_min, is_among, least, name_cmp_is, users, Table, users_in, users_in-table_of, sound_in_order}
 use Rattle.osm_drafts.proofs.FirstUsers.{first_user_is}
 use Rattle.osm_drafts.proofs.draft.Draft.first_user.Goals as goal
 

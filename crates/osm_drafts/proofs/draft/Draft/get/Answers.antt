@@ -1,6 +1,5 @@
 use Rattle.std.proofs.Common.{ap, ◌∙◌}
-use Rattle.osm_elements.specs.Rows.{row_at}
-use Rattle.osm_drafts.specs.Facts.Drafting.{row_written, row_unwritten}
+use Rattle.osm_drafts.specs.Prelude.{row_at, row_written, row_unwritten}
 use Rattle.osm_drafts.proofs.draft.Draft.get.Goals as goal
 
 pub returns-then-is_written : goal.returns-then-is_written

@@ -1,7 +1,5 @@
 use Rattle.std.proofs.Common.{◌∙◌}
-use Rattle.osm_changes.specs.Facts.SoundRows.{sound_in_order}
-use Rattle.osm_drafts.specs.Drafts.{drafted}
-use Rattle.osm_drafts.specs.Facts.Drafting.{drafted_itself}
+use Rattle.osm_drafts.specs.Prelude.{sound_in_order, drafted, drafted_itself}
 use Rattle.osm_drafts.proofs.draft.Draft.of.Goals as goal
 
 pub returns : goal.returns

@@ -1,12 +1,5 @@
-use Rattle.std.proofs.Common.{◌++◌, ap, ◌∙◌}
-use Rattle.std.specs.List.{flat_map}
-use Rattle.osm_elements.specs.Maps.{name_set}
-use Rattle.osm_refs.specs.References.{users}
-use Rattle.osm_refs.specs.Tables.{Table, users_in}
-use Rattle.osm_refs.specs.Facts.MapTables.{users_in-table_of}
-use Rattle.osm_changes.specs.Facts.SoundRows.{sound_in_order}
-use Rattle.osm_drafts.specs.Drafts.{unwritten}
-use Rattle.osm_drafts.specs.Facts.Drafting.{users-drafted}
+use Rattle.std.proofs.Common.{◌++◌, ap, ◌∙◌, flat_map}
+use Rattle.osm_drafts.specs.Prelude.{name_set, users, Table, users_in, users_in-table_of, sound_in_order, unwritten, users-drafted}
 use Rattle.osm_drafts.proofs.draft.Draft.users_of.Goals as goal
 
 pub returns : goal.returns

@@ -1,18 +1,8 @@
-use Rattle.std.proofs.Common.{◌≡◌, ◌++◌, not, ap, subst, sym, ◌∙◌}
-use Rattle.std.specs.Option.{option_copied}
-use Rattle.osm_changes.specs.Changes.{with_row}
-use Rattle.osm_changes.specs.Facts.SoundRows.{sound_in_order}
+use Rattle.std.proofs.Common.{◌≡◌, ◌++◌, not, ap, subst, sym, ◌∙◌, option_copied}
+use Rattle.osm_drafts.specs.Prelude.{with_row, sound_in_order, drafted, among_inserted, begun_is_new, drafted_with, is_draft_with, users_changed, name_cmp_is, is_among, name_set, row_at, reference_change, IsRising-name_set, row_references, names_but, references_at, referring}
+use Rattle.osm_refs.specs.Facts.RisingNames.{IsRising-filter}
+use Rattle.osm_refs.specs.Rising.{IsRising}
 use Rattle.osm_drafts.proofs.draft.Draft.with.Goals as goal
-use Rattle.osm_drafts.specs.Drafts.{drafted}
-use Rattle.osm_drafts.specs.Facts.Drafting.{among_inserted, begun_is_new, drafted_with, is_draft_with, users_changed}
-use Rattle.osm_elements.specs.Facts.NameOrder.{name_cmp_is}
-use Rattle.osm_elements.specs.Maps.{is_among, name_set}
-use Rattle.osm_elements.specs.Rows.{row_at}
-use Rattle.osm_refs.specs.Changes.{reference_change}
-use Rattle.osm_refs.specs.Facts.RisingNames.{IsRising-filter, IsRising-name_set}
-use Rattle.osm_refs.specs.References.{row_references}
-use Rattle.osm_refs.specs.Rising.{IsRising, names_but}
-use Rattle.osm_refs.specs.Tables.{references_at, referring}
 
 pub gain-requires-clause-rising : goal.gain-requires-clause-rising
 gain-requires-clause-rising g c =

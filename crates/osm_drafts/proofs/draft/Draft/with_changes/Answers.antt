@@ -1,7 +1,5 @@
-use Rattle.std.proofs.Common.{ap, ◌∙◌}
-use Rattle.std.specs.List.{fold}
-use Rattle.osm_changes.specs.Changes.{with_row, changed_rows}
-use Rattle.osm_changes.specs.Facts.Changing.{with_changed_rows}
+use Rattle.std.proofs.Common.{ap, ◌∙◌, fold}
+use Rattle.osm_drafts.specs.Prelude.{with_row, changed_rows, with_changed_rows}
 use Rattle.osm_drafts.proofs.draft.Draft.with_changes.Goals as goal
 
 pub returns : goal.returns

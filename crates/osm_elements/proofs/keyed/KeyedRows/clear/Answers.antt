@@ -1,6 +1,5 @@
 use Rattle.std.proofs.Common.{◌<◌, length, is_some, map, ap, sym, rules}
-use Rattle.osm_elements.specs.KeyedRows.{keyed_pair}
-use Rattle.osm_elements.specs.Facts.KeyedRows.{AreRows-without_key}
+use Rattle.osm_elements.specs.Prelude.{keyed_pair, AreRows-without_key}
 use Rattle.osm_elements.proofs.KeyedPlaces.{found_at, gap_at}
 use Rattle.osm_elements.proofs.keyed.KeyedRows.clear.Goals as goal
 

@@ -1,9 +1,8 @@
-use Rattle.std.proofs.Common.{◌≡◌, ◌<◌, ◌≤◌, length, false, nat_eq, inl, refl, map, arith, rules}
+use Rattle.std.proofs.Common.{◌≡◌, ◌<◌, ◌≤◌, length, false, nat_eq, refl, map, inl, arith, rules}
 use Rattle.std.proofs.lemmas.List.{length-map}
 use Rattle.std.proofs.lemmas.Bool.Decides.{nat_tests}
-use Rattle.osm_elements.specs.Facts.KeyedRows.{is_row-made, AreRows-put_over, AreRows-put_new}
+use Rattle.osm_elements.specs.Prelude.{is_row-made, AreRows-put_over, AreRows-put_new, keyed_pair, set_refusal}
 use Rattle.osm_elements.proofs.KeyedPlaces.{found_at, gap_at, over_a_row, new_row, full_refuses, not_refused}
-use Rattle.osm_elements.specs.KeyedRows.{keyed_pair, set_refusal}
 use Rattle.osm_elements.proofs.keyed.KeyedRows.set.Goals as goal
 
 pub index_mut-requires : goal.index_mut-requires

@@ -1,8 +1,5 @@
 use Rattle.std.proofs.Common.{◌≡◌, ◌++◌, ◌∷◌, [], length, map, sym, ap, ◌∙◌, rules, append_assoc, append-nil}
-use Rattle.std.specs.Vec.Iter.{into_iter_items}
-use Rattle.osm_elements.specs.RowPairs.{row_pair}
-use Rattle.osm_elements.specs.Rows.{put_row}
-use Rattle.osm_elements.specs.Facts.MadeMaps.{nothing_left, put_all, put_more, put_all_is}
+use Rattle.osm_elements.specs.Prelude.{into_iter_items, row_pair, put_row, nothing_left, put_all, put_more, put_all_is}
 use Rattle.osm_elements.proofs.map.OsmMap.from_rows.Goals as goal
 
 pub loop-row-init : goal.loop-row-init

@@ -1,7 +1,5 @@
 use Rattle.std.proofs.Common.{◌≡◌, ◌++◌, [], map}
-use Rattle.std.specs.Vec.Iter.{into_iter_items}
-use Rattle.osm_elements.specs.RowPairs.{row_pair}
-use Rattle.osm_elements.specs.Facts.MadeMaps.{put_all}
+use Rattle.osm_elements.specs.Prelude.{into_iter_items, row_pair, put_all}
 use Rattle.osm_elements.proofs.map.OsmMap.from_rows.Given as goal
 
 abbrev pub invariant-loop-row : goal.invariant-loop-row

@@ -1,5 +1,5 @@
-use Rattle.osm_elements.proofs.ShortRoles.{same_member}
 use Rattle.std.proofs.Common.{refl}
+use Rattle.osm_elements.proofs.ShortRoles.{same_member}
 use Rattle.osm_elements.proofs.member.MemberClone.clone.Goals as goal
 
 pub returns : goal.returns

@@ -1,9 +1,6 @@
-use Rattle.std.proofs.Common.{◌≡◌, ap, sym, ◌∙◌}
+use Rattle.std.proofs.Common.{◌≡◌, ap, sym, ◌∙◌, option_and_then}
 use Rattle.std.proofs.lemmas.Int.{to_z-of_z}
-use Rattle.std.specs.Int.{w64}
-use Rattle.std.specs.Option.{option_and_then}
-use Rattle.osm_elements.specs.NameTexts.{name_of, name_with, id_of}
-use Rattle.osm_elements.specs.Facts.NameTexts.{name_of-split, name_of-no_letter, id_of-signed_decimal, new_is, no_name}
+use Rattle.osm_elements.specs.Prelude.{w64, name_of, name_with, id_of, name_of-split, name_of-no_letter, id_of-signed_decimal, new_is, no_name}
 use Rattle.osm_elements.proofs.name.Name.read.Goals as goal
 
 read_name : (c : goal.After-new) → c.new.result ≡ name_of c.args.text.now

@@ -1,11 +1,6 @@
-use Rattle.std.proofs.Common.{[], sym, ap, subst, ◌∙◌}
-use Rattle.std.specs.Option.{option_copied}
-use Rattle.osm_elements.specs.Maps.{name_set}
+use Rattle.std.proofs.Common.{[], sym, ap, subst, ◌∙◌, option_copied}
+use Rattle.osm_refs.specs.Prelude.{name_set, reference_change, row_references, IsRising-name_set, IsRising, names_but}
 use Rattle.osm_refs.proofs.SameReferences.{none_but_itself}
-use Rattle.osm_refs.specs.Changes.{reference_change}
-use Rattle.osm_refs.specs.References.{row_references}
-use Rattle.osm_refs.specs.Facts.RisingNames.{IsRising-name_set}
-use Rattle.osm_refs.specs.Rising.{IsRising, names_but}
 use Rattle.osm_refs.proofs.change.ReferenceChange.of.Goals as goal
 
 pub names_but-requires-clause-names : goal.names_but-requires-clause-names

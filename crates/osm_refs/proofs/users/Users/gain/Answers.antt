@@ -1,11 +1,7 @@
 use Rattle.std.proofs.Common.{◌++◌, ◌≡◌, ◌∙◌, ap, subst, sym}
-use Rattle.osm_elements.specs.Maps.{name_set}
+use Rattle.osm_refs.specs.Prelude.{name_set, in_derived_order, in_name_order, names_but, Table, references_at, referring, AreLists, Gains, Lacks, SameLists}
 use Rattle.osm_refs.proofs.Entering.{OnErr-always, gained, lacks, same_references}
 use Rattle.osm_refs.proofs.users.Users.gain.Goals as goal
-use Rattle.osm_refs.specs.Facts.InNameOrder.{in_derived_order, in_name_order}
-use Rattle.osm_refs.specs.Rising.{names_but}
-use Rattle.osm_refs.specs.Tables.{Table, references_at, referring}
-use Rattle.rising_lists.specs.Lists.{AreLists, Gains, Lacks, SameLists}
 
 pub add_all-requires : goal.add_all-requires
 add_all-requires g c =

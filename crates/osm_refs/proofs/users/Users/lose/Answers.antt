@@ -1,10 +1,7 @@
 use Rattle.std.proofs.Common.{◌∙◌, ap}
+use Rattle.osm_refs.specs.Prelude.{in_name_order, names_but, Table, references_at, referring, AreLists, Loses}
 use Rattle.osm_refs.proofs.Entering.{lost}
 use Rattle.osm_refs.proofs.users.Users.lose.Goals as goal
-use Rattle.osm_refs.specs.Facts.InNameOrder.{in_name_order}
-use Rattle.osm_refs.specs.Rising.{names_but}
-use Rattle.osm_refs.specs.Tables.{Table, references_at, referring}
-use Rattle.rising_lists.specs.Lists.{AreLists, Loses}
 
 pub returns : goal.returns
 returns g c =

@@ -1,10 +1,7 @@
 use Rattle.std.proofs.Common.{◌≡◌, sym, ap, subst, ◌∙◌}
+use Rattle.osm_refs.specs.Prelude.{in_name_order, IsRising, Table, users_in, AreLists, listed}
 use Rattle.osm_refs.proofs.Entering.{users_in-references_of}
 use Rattle.osm_refs.proofs.users.Users.of.Goals as goal
-use Rattle.osm_refs.specs.Facts.InNameOrder.{in_name_order}
-use Rattle.osm_refs.specs.Rising.{IsRising}
-use Rattle.osm_refs.specs.Tables.{Table, users_in}
-use Rattle.rising_lists.specs.Lists.{AreLists, listed}
 
 pub returns-clause-users : goal.returns-clause-users
 returns-clause-users g c =

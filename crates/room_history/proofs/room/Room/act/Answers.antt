@@ -1,9 +1,7 @@
-use Rattle.std.proofs.Common.{refl, ap}
-use Rattle.std.specs.Option.{option_map}
-use Rattle.room_history.specs.declared.call.Request.TheVariants as requests
-use Rattle.room_history.specs.declared.entry.EntryKind.TheVariants.{Do}
-use Rattle.room_history.specs.declared.reply.Reply.TheVariants.{Refused}
+use Rattle.std.proofs.Common.{refl, ap, option_map}
+use Rattle.room_history.specs.Prelude.{Do, Refused}
 use Rattle.room_history.proofs.Stepping.{step_refused, step_accepted}
+use Rattle.room_interface.specs.declared.call.Request.TheVariants as requests
 use Rattle.room_history.proofs.room.Room.act.Goals as goal
 
 pub append_work-requires-clause-work : goal.append_work-requires-clause-work

@@ -1,5 +1,5 @@
 use Rattle.std.proofs.Common.{◌≡◌, ◌<◌, length, sym, subst, ◌∙◌, rules, arith}
-use Rattle.room_history.specs.declared.call.Request.TheVariants as requests
+use Rattle.room_interface.specs.declared.call.Request.TheVariants as requests
 use Rattle.room_history.specs.Inner.Rooms.{MayAppend}
 use Rattle.room_history.proofs.Stepping.{step_full, step_repeat, spent_is, same_call}
 use Rattle.room_history.proofs.room.Room.answer.Goals as goal

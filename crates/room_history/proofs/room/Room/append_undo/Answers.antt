@@ -1,16 +1,8 @@
 use Rattle.std.proofs.Common.{◌≡◌, ◌+◌, ◌++◌, ◌∷◌, [], None, refl, length, sym, ap, subst, ◌∙◌, rules}
-use Rattle.osm_changes.specs.Changes.{changed, AreFrom, changed_rows}
-use Rattle.osm_changes.specs.Sound.{is_sound}
-use Rattle.osm_changes.specs.Stores.{applied_to}
-use Rattle.edit_footprint.specs.Holding.{HoldsOnly}
+use Rattle.room_history.specs.Prelude.{AreFrom, changed_rows, is_sound, applied_to, HoldsOnly, Undo, Effect, undo_refusal, recorded_footprint, past, recorded_next, numbered}
+use Rattle.osm_changes.specs.Changes.{changed}
 use Rattle.room_stacks.specs.declared.deed.Deed.TheVariants.{Undid}
-use Rattle.room_history.specs.declared.entry.EntryKind.TheVariants.{Undo}
-use Rattle.room_history.specs.declared.kept.Effect.{Effect}
-use Rattle.room_history.specs.Answers.{undo_refusal}
-use Rattle.room_history.specs.Blockers.{recorded_footprint}
-use Rattle.room_history.specs.Replays.{past, recorded_next}
 use Rattle.room_history.specs.Inner.Rooms.{MayAppend}
-use Rattle.room_history.specs.Journals.{numbered}
 use Rattle.room_history.proofs.KeptEffects.{undone_effect}
 use Rattle.room_history.proofs.Stepping.{IsRoom-undo, holds_just, unspent_deed, above_deeds, stands_there, undo_from, undo_sound, on_err}
 use Rattle.room_history.proofs.room.Room.append_undo.Goals as goal

@@ -1,12 +1,7 @@
 use Rattle.std.proofs.Common.{◌≡◌, ◌+◌, ◌++◌, ◌∷◌, [], length, sym, ap, subst, ◌∙◌, rules}
-use Rattle.std.specs.Bool.{then_some}
-use Rattle.osm_changes.specs.Changes.{changed, AreFrom, changed_rows}
-use Rattle.osm_changes.specs.Sound.{is_sound}
-use Rattle.osm_changes.specs.Stores.{applied_to}
+use Rattle.room_history.specs.Prelude.{then_some, AreFrom, changed_rows, is_sound, applied_to, Effect, kind_refusal, past, mapof, recorded_next}
+use Rattle.osm_changes.specs.Changes.{changed}
 use Rattle.edit_footprint.specs.Holding.{standing}
-use Rattle.room_history.specs.declared.kept.Effect.{Effect}
-use Rattle.room_history.specs.Answers.{kind_refusal}
-use Rattle.room_history.specs.Replays.{past, mapof, recorded_next}
 use Rattle.room_history.specs.Inner.Deeds.{deed_by}
 use Rattle.room_history.specs.Inner.Origins.{origin_next}
 use Rattle.room_history.specs.Inner.Rooms.{MayAppend, MayWork}

@@ -1,6 +1,5 @@
 use Rattle.std.proofs.Common.{◌≡◌, rules, ap, sym, ◌∙◌}
-use Rattle.osm_changes.specs.Sound.{is_sound}
-use Rattle.room_stacks.specs.Stacks.{StacksState}
+use Rattle.room_history.specs.Prelude.{is_sound, StacksState}
 use Rattle.room_history.proofs.Stepping.{IsRoom-opened}
 use Rattle.room_history.proofs.room.Room.begin.Goals as goal
 

@@ -1,7 +1,5 @@
-use Rattle.std.proofs.Common.{sym, ap, ◌∙◌, inr}
-use Rattle.std.specs.Option.{option_copied}
-use Rattle.room_history.specs.Answers.{redo_refusal}
-use Rattle.room_history.specs.Replays.{past, mapof, action_at}
+use Rattle.std.proofs.Common.{sym, ap, ◌∙◌, inr, option_copied}
+use Rattle.room_history.specs.Prelude.{redo_refusal, past, mapof, action_at}
 use Rattle.room_history.proofs.Stepping.{action_told, accepted_again, changed_again, touched_again, refused_again}
 use Rattle.room_history.proofs.room.Room.plan_again.Goals as goal
 

@@ -1,9 +1,6 @@
-use Rattle.std.proofs.Common.{◌≡◌, true, sym, ap, subst, ◌∙◌, Err}
-use Rattle.osm_changes.specs.Changes.{AreFrom, changed}
-use Rattle.osm_changes.specs.Sound.{is_sound}
-use Rattle.edit_groups.specs.Edits.{changes, footprint, refusal}
-use Rattle.edit_groups.specs.Plans.{IsEditPlan}
-use Rattle.room_history.specs.Replays.{mapof}
+use Rattle.std.proofs.Common.{◌≡◌, true, Err, sym, ap, subst, ◌∙◌}
+use Rattle.room_history.specs.Prelude.{AreFrom, is_sound, changes, footprint, refusal, IsEditPlan, mapof}
+use Rattle.osm_changes.specs.Changes.{changed}
 use Rattle.room_history.proofs.Stepping.{plan_refused}
 use Rattle.room_history.proofs.room.Room.planned.Goals as goal
 

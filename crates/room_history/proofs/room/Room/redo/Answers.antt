@@ -1,10 +1,8 @@
-use Rattle.std.proofs.Common.{sym, ap, ◌∙◌}
-use Rattle.std.specs.Option.{option_map}
-use Rattle.room_history.specs.declared.call.Request.TheVariants as requests
-use Rattle.room_history.specs.declared.entry.EntryKind.TheVariants.{Redo}
-use Rattle.room_history.specs.Journals.{last, redos}
+use Rattle.std.proofs.Common.{sym, ap, ◌∙◌, option_map}
+use Rattle.room_history.specs.Prelude.{Redo, last, redos}
 use Rattle.room_history.proofs.BinarySearching.{last_is}
 use Rattle.room_history.proofs.Stepping.{redos_told, step_refused, step_accepted, step_nothing_to_redo}
+use Rattle.room_interface.specs.declared.call.Request.TheVariants as requests
 use Rattle.room_history.proofs.room.Room.redo.Goals as goal
 
 pub append_work-requires-clause-work : goal.append_work-requires-clause-work

@@ -1,14 +1,10 @@
-use Rattle.std.proofs.Common.{sym, ap, subst, ◌∙◌, inr}
-use Rattle.std.specs.Option.{option_map}
-use Rattle.room_stacks.specs.Stacks as stacks
-use Rattle.edit_footprint.specs.Holding.{IsFirstAfter}
-use Rattle.room_history.specs.Answers.{asked, conflict}
+use Rattle.std.proofs.Common.{sym, ap, subst, ◌∙◌, inr, option_map}
+use Rattle.room_history.specs.Prelude.{IsFirstAfter, asked, conflict, undos, past}
 use Rattle.room_history.specs.Inner.Holders.{AreHolders}
 use Rattle.room_history.specs.Inner.Undoing.{asked_or, standing_refusal, undone_or}
-use Rattle.room_history.specs.Journals.{undos}
-use Rattle.room_history.specs.Replays.{past}
 use Rattle.room_history.proofs.Choosing.{asked_answered, asked_refused, asked_stands, refused_on}
 use Rattle.room_history.proofs.Deeds.{standing_deeds}
+use Rattle.room_stacks.specs.Stacks as stacks
 use Rattle.room_history.proofs.room.Room.undoable.Goals as goal
 
 pub asked_for-requires : goal.asked_for-requires

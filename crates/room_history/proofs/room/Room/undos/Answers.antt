@@ -1,7 +1,7 @@
 use Rattle.std.proofs.Common.{ap, ◌∙◌}
-use Rattle.room_stacks.specs.Stacks as stacks
 use Rattle.room_history.specs.Journals.{undos}
 use Rattle.room_history.proofs.Deeds.{standing_deeds}
+use Rattle.room_stacks.specs.Stacks as stacks
 use Rattle.room_history.proofs.room.Room.undos.Goals as goal
 
 pub returns : goal.returns

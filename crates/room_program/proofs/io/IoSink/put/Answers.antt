@@ -1,10 +1,10 @@
 -- The write that was answered is the last call in the notes.
-use Rattle.std.proofs.Common.{◌∙◌, ◌≤◌, ◌-◌, ◌^◌, ap, arith, inl, inr, refl}
+use Rattle.std.proofs.Common.{◌∙◌, ap, arith, inl, inr, ◌≤◌, ◌-◌, ◌^◌, refl}
 use Rattle.room_program.specs.Io.{calls_of}
-use Rattle.room_program.specs.Noted as noted
 use Rattle.room_program.proofs.NoteLemmas.{failure_noted}
-use Rattle.room_program.proofs.io.IoSink.put.Goals as goal
 use Rattle.room_program.proofs.io.IoSink.put.Goals.{else-loop-test, then-loop-test+in-Err-Failed}
+use Rattle.room_program.specs.Noted as noted
+use Rattle.room_program.proofs.io.IoSink.put.Goals as goal
 
 pub returns-clause-puts : goal.returns-clause-puts
 returns-clause-puts g c =

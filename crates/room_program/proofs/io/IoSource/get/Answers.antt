@@ -1,10 +1,10 @@
 -- The read that was answered is the last call in the notes.
-use Rattle.std.proofs.Common.{◌∙◌, ◌≤◌, ◌-◌, ◌^◌, ap, arith, inl, inr, length, refl}
+use Rattle.std.proofs.Common.{◌∙◌, ap, arith, inl, inr, ◌≤◌, ◌-◌, ◌^◌, length, refl}
 use Rattle.room_program.specs.Io.{calls_of}
-use Rattle.room_program.specs.Noted as noted
 use Rattle.room_program.proofs.NoteLemmas.{count_noted, failure_noted}
-use Rattle.room_program.proofs.io.IoSource.get.Goals as goal
 use Rattle.room_program.proofs.io.IoSource.get.Goals.{else-loop-test, then-loop-test+in-Err-Failed}
+use Rattle.room_program.specs.Noted as noted
+use Rattle.room_program.proofs.io.IoSource.get.Goals as goal
 
 pub returns-in-Ok-clause-gets : goal.returns-in-Ok-clause-gets
 returns-in-Ok-clause-gets g c =

@@ -1,6 +1,5 @@
 use Rattle.std.proofs.Common.{◌≡◌, ◌≤◌}
-use Rattle.std.specs.Io.KnownBytes.{Keeps}
-use Rattle.room_program.specs.Io.{calls_of, stream_of}
+use Rattle.room_program.specs.Prelude.{Keeps, calls_of, stream_of}
 use Rattle.room_program.proofs.io.IoSource.get.Given as goal
 
 -- all the calls so far were interrupted

@@ -1,6 +1,6 @@
 -- A line is answered by its author and its message.
-use Rattle.std.proofs.lemmas.Result.{IfOk-weaker}
 use Rattle.std.proofs.Common.{List, ℕ, ap, sym, ◌∙◌}
+use Rattle.std.proofs.lemmas.Result.{IfOk-weaker}
 use Rattle.room_program.proofs.LineAnswerLemmas.{answered-reply, answered-none}
 use Rattle.room_program.proofs.line.RoomGlobalAnswerer.answer.Goals as goal
 

@@ -1,9 +1,8 @@
-use Rattle.std.proofs.Common.{◌≡◌, ◌++◌, ◌∷◌, ◌∙◌, [], ℕ, List, Some, false, ap, arith, length, map, rules, subst, sym}
+use Rattle.std.proofs.Common.{◌≡◌, ◌++◌, ◌∷◌, [], ℕ, List, Some, false, length, map, ◌∙◌, ap, arith, rules, subst, sym, slice_index_or}
 use denote.Bor.{Bor}
-use Rattle.std.specs.List.{slice_index_or}
 use Rattle.std.proofs.lemmas.List.{length-map, take_all}
-use Rattle.room_server.specs.Inner.NewNames.{IsRefused, contains_name}
 use Rattle.room_server.specs.Openings.{AreFine, IsNameFault}
+use Rattle.room_server.specs.Inner.NewNames.{IsRefused, contains_name}
 use Rattle.room_server.proofs.Opening.{err_same, fine_more, fine_none, first_fault, named, read_at, take_more}
 use Rattle.room_server.proofs.names.RoomNames.read.Goals as goal
 

@@ -1,7 +1,6 @@
 use Rattle.std.proofs.Common.{◌≡◌, arith, subst, sym}
 use Rattle.std.proofs.lemmas.Option.{slice_get_within}
-use Rattle.room_session.specs.Rooms.{HasRoom, TellsLength}
-use Rattle.room_server.specs.Tables.{SeatedView, kept_of, known_of}
+use Rattle.room_server.specs.Prelude.{HasRoom, TellsLength, SeatedView, kept_of, known_of}
 use Rattle.room_server.proofs.Seating.{room_is_below, look_looks, look_at, look_kept}
 use Rattle.room_server.proofs.seated.SeatedRooms.front.Goals as goal
 

@@ -1,7 +1,6 @@
 use Rattle.std.proofs.Common.{◌≡◌, arith, subst, sym}
 use Rattle.std.proofs.lemmas.Option.{slice_get_within}
-use Rattle.room_session.specs.Rooms.{AnswersCall, HasRoom}
-use Rattle.room_server.specs.Tables.{SeatedView, kept_of, known_of}
+use Rattle.room_server.specs.Prelude.{AnswersCall, HasRoom, SeatedView, kept_of, known_of}
 use Rattle.room_server.proofs.Seating.{room_is_below, turn_answers, turn_at, turn_kept}
 use Rattle.room_server.proofs.seated.SeatedRooms.turn.Goals as goal
 

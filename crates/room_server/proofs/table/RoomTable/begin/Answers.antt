@@ -1,11 +1,9 @@
-use Rattle.std.proofs.Common.{◌≡◌, ◌+◌, ◌∙◌, ℕ, List, ap, arith, length, subst, sym}
-use Rattle.std.specs.declared.alloc.Global.{Global}
-use Rattle.room_history.specs.Rooms.{RoomState}
+use Rattle.std.proofs.Common.{◌≡◌, ◌+◌, ℕ, List, length, ◌∙◌, ap, arith, subst, sym}
+use Rattle.room_server.specs.Prelude.{Global, RoomState, opening}
 use Rattle.room_server.specs.Inner.Opened.{AreOpened}
-use Rattle.room_server.specs.Openings.{opening}
 use Rattle.room_server.proofs.Opening.{one_opened, same_opened}
-use Rattle.room_server.proofs.table.RoomTable.begin.Goals as goal
 use Rattle.room_server.proofs.table.RoomTable.begin.Goals.{then-count-gt0+in_ok-seat_room, else-count-gt0}
+use Rattle.room_server.proofs.table.RoomTable.begin.Goals as goal
 
 pub invariant_of-result : goal.invariant_of-result
 invariant_of-result c =

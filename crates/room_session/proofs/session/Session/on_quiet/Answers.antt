@@ -1,9 +1,8 @@
 use Rattle.std.proofs.Common.{ap}
-use Rattle.room_session.specs.Events.{only}
-use Rattle.room_session.specs.Facts.Running.{keeps_all, keeps_to}
+use Rattle.room_session.specs.Prelude.{only, keeps_all, keeps_to}
 use Rattle.room_session.proofs.Making.{makes_none_to, nothing_is_made, wait_makes_none}
-use Rattle.room_session.proofs.session.Session.on_quiet.Goals as goal
 use Rattle.room_session.proofs.session.Session.on_quiet.Goals.{in-BeforeHello, in-Open}
+use Rattle.room_session.proofs.session.Session.on_quiet.Goals as goal
 
 pub returns-clause-makes : goal.returns-clause-makes
 returns-clause-makes g c = elim c.match-self.branch [

@@ -1,4 +1,4 @@
-use Rattle.std.specs.Prelude.{◌≡◌}
+use Rattle.std.proofs.Common.{◌≡◌}
 use Rattle.room_socket.proofs.patient.Patient.read_some.Given as goal
 
 abbrev pub invariant-loop : goal.invariant-loop

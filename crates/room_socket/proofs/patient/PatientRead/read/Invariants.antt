@@ -1,4 +1,4 @@
-use Rattle.std.specs.Prelude.{◌≡◌, ◌≤◌, ◌-◌, false, length}
+use Rattle.std.proofs.Common.{◌≡◌, ◌≤◌, ◌-◌, false, length}
 use Rattle.room_socket.proofs.patient.PatientRead.read.Given as goal
 
 -- the bytes gathered so far fit in the buffer, and nothing was written

@@ -1,5 +1,5 @@
 use Rattle.std.proofs.Common.{◌≡◌, true, List, length, subst, sym, ap, ◌∙◌, arith}
-use Rattle.room_stacks.specs.declared.author.Author.{Author}
+use Rattle.room_interface.specs.declared.author.Author.{Author}
 use Rattle.room_stacks.specs.Inner.Lists.{Lists, author_at, authors_of, has_room_at}
 use Rattle.room_stacks.proofs.Numbering.{keeps_numbers, length-authors, new_number, own_number}
 use Rattle.room_stacks.proofs.author_lists.AuthorLists.reserve.Goals as goal

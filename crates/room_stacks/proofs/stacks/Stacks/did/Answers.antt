@@ -1,7 +1,5 @@
 use Rattle.std.proofs.Common.{List, refl, sym, ap, subst, ◌∙◌}
-use Rattle.room_stacks.specs.declared.deed.Deed.{Deed}
-use Rattle.room_stacks.specs.declared.deed.Deed.TheVariants.{Did}
-use Rattle.room_stacks.specs.Stacks.{StacksState, IsAboveAll, spent}
+use Rattle.room_stacks.specs.Prelude.{Deed, Did, StacksState, IsAboveAll, spent}
 use Rattle.room_stacks.proofs.Entering.{entered_work, is_no_key}
 use Rattle.room_stacks.proofs.stacks.Stacks.did.Goals as goal
 

@@ -1,6 +1,6 @@
 use Rattle.std.proofs.Common.{sym, ap, ◌∙◌}
-use Rattle.room_stacks.specs.Inner.Lists.{authors_of}
 use Rattle.room_stacks.specs.Stacks.{StacksState, spent}
+use Rattle.room_stacks.specs.Inner.Lists.{authors_of}
 use Rattle.room_stacks.proofs.Numbering.{own_number}
 use Rattle.room_stacks.proofs.Spending.{spent-lookup, unmet_spent}
 use Rattle.room_stacks.proofs.stacks.Stacks.spent.Goals as goal

@@ -1,7 +1,6 @@
 use Rattle.std.proofs.Common.{subst, sym, ◌∙◌}
-use Rattle.std.specs.List.Sorted.{IsStrictlyIncreasing}
+use Rattle.room_stacks.specs.Prelude.{IsStrictlyIncreasing, increasing}
 use Rattle.room_stacks.proofs.Entering.{standing_rises}
-use Rattle.room_stacks.specs.Facts.Rising.{increasing}
 use Rattle.room_stacks.proofs.stacks.Stacks.standing.Goals as goal
 
 pub returns-clause-rising : goal.returns-clause-rising

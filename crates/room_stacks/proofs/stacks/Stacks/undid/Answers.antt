@@ -1,6 +1,5 @@
 use Rattle.std.proofs.Common.{List, refl, sym, ap, subst, ◌∙◌}
-use Rattle.room_stacks.specs.declared.deed.Deed.{Deed}
-use Rattle.room_stacks.specs.Stacks.{StacksState, IsAboveAll, is_standing, spent}
+use Rattle.room_stacks.specs.Prelude.{Deed, StacksState, IsAboveAll, is_standing, spent}
 use Rattle.room_stacks.proofs.Entering.{entered_undo, is_no_key, standing_at_rises}
 use Rattle.room_stacks.proofs.stacks.Stacks.undid.Goals as goal
 

@@ -1,6 +1,6 @@
-use Rattle.std.proofs.Common.{rules, ◌≡◌, ◌∷◌, ◌++◌, [], ap, ◌∙◌}
-use Rattle.json.specs.Token.{number as number_token}
+use Rattle.std.proofs.Common.{rules, ap, ◌∙◌, ◌≡◌, ◌∷◌, ◌++◌, []}
 use Rattle.std.specs.Fmt.{signed_decimal}
+use Rattle.json.specs.Token.{number as number_token}
 use Rattle.room_wire.proofs.ToldParts.{integer_is_readable, integer_tokens}
 use Rattle.room_wire.proofs.element.NameTold.write.Goals as goal
 

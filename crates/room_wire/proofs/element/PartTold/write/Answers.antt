@@ -2,9 +2,8 @@ use Rattle.std.proofs.Common.{map, OnOk, sym, ap, subst, ◌∙◌}
 use Rattle.std.proofs.lemmas.Simd.{map-map}
 use Rattle.serde_json.specs.Data.{array}
 use Rattle.serde_json.specs.View.{items_of}
-use Rattle.osm_elements.specs.Members.{member_pair}
+use Rattle.room_wire.specs.Prelude.{member_pair, member_tree}
 use Rattle.room_wire.specs.Inner.Writing.{Tells, part_tree}
-use Rattle.room_wire.specs.Trees.{member_tree}
 use Rattle.room_wire.proofs.element.PartTold.write.Goals as goal
 
 pub returns-in-Members : goal.returns-in-Members

@@ -1,19 +1,17 @@
+use Rattle.std.proofs.Common.{◌≡◌, ◌++◌, All, None, length, map, refl, vec_items, vec_len, ◌∙◌, ap, arith, rules, subst, sym}
 use mathlib.Core.List.{[], ◌∷◌}
 use denote.Exit.{yes}
 use mir.Syntax.{named}
 use denote.Param.Send.{param_send, arg_send, shr_send}
-use Rattle.std.proofs.Common.{◌≡◌, ◌++◌, ◌∙◌, All, None, ap, arith, length, map, refl, rules, subst, sym, vec_items, vec_len}
 use Rattle.std.proofs.lemmas.List.Elements.{All-rest, All-same, All-push}
-use Rattle.std.specs.Vec.Iter.{into_iter_items}
 use Rattle.std.proofs.Crossing.{send}
+use Rattle.room_server.specs.Prelude.{into_iter_items, IsFresh, Pairs, Works}
 use Rattle.room_history.proofs.Crossing.{closure_send}
-use Rattle.room_server.specs.Seats.{IsFresh}
 use Rattle.room_server.proofs.Counting.{all_none, head_of, if_none}
 use Rattle.room_server.proofs.Pooling.{if_both, moved_all, moved_over}
-use Rattle.room_server.specs.Pools.{Pairs, Works}
 use Rattle.room_server.proofs.Crossing.{jobs_sync, seats_send, table_sync, u64_send}
-use Rattle.room_server.proofs.threads.fn.run_threads.scope.Goals as goal
 use Rattle.room_server.proofs.threads.fn.run_threads.scope.Goals.{in-None, in-Some+then-is_err, in-Some+else-is_err+in-Err}
+use Rattle.room_server.proofs.threads.fn.run_threads.scope.Goals as goal
 
 -- the closure takes with it references to the runtime, the gate, the table and the queue, and the seats
 pub spawn_with-requires-send-F : goal.spawn_with-requires-send-F

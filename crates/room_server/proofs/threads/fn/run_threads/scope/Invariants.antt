@@ -1,6 +1,5 @@
 use Rattle.std.proofs.Common.{◌≡◌, ◌+◌, ◌++◌, All, None, length, map, vec_items, vec_len}
-use Rattle.std.specs.Vec.Iter.{into_iter_items}
-use Rattle.room_server.specs.Seats.{IsFresh}
+use Rattle.room_server.specs.Prelude.{into_iter_items, IsFresh}
 use Rattle.room_server.proofs.threads.fn.run_threads.scope.Given as goal
 
 -- a thread was started for each of the sets so far

@@ -1,0 +1,3 @@
+-- Facts about the definitions, for the proofs here and in crates that use this one. No contract cites them.
+pub mod MadeCalls
+pub mod SameAuthors

@@ -1,0 +1,2 @@
+-- Definitions for private functions. No public contract cites them, and no definition outside this folder uses them.
+pub mod Authors

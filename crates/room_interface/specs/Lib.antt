@@ -1,0 +1,10 @@
+pub mod Authors
+pub mod Examples
+pub mod Facts
+pub mod GivenTags
+pub mod Groups
+pub mod Inner
+pub mod MadeCalls
+pub mod Prelude
+pub mod Replies
+pub mod SameAuthors
