@@ -20,6 +20,9 @@ pub mod NonePassing
 pub mod Numbers
 pub mod OneRow
 pub mod Purging
+pub mod Reaching
+pub mod Rivals
 pub mod Splitting
 pub mod Subjects
+pub mod Touches
 pub mod Ungluing

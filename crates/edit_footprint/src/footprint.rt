@@ -1,65 +1,93 @@
-//! Footprints: lists of the cells that an action touches.
-ghost use Rattle.std.specs.Prelude.{◌≡◌, IfOk};
-ghost use Rattle.osm_changes.specs.Cells.{cell_set, IsRising};
+//! Footprints: lists of the touches of an action.
+ghost use Rattle.std.specs.Prelude.{◌≡◌, IfOk, find, option_copied};
+ghost use Rattle.edit_actions.specs.Prelude.{list_any};
+ghost use Rattle.edit_footprint.specs.Touches.{does, rivals, touch_set, IsFootprint};
 ghost use Rattle.edit_footprint.specs.Footprints.{meets};
 
-use osm_changes::cell::Cell;
+use crate::touch::Touch;
 use osm_elements::Memory;
 use osm_elements::name::Name;
 use std::alloc::{AllocError, Allocator};
-use std::cmp::Ordering;
 use std::marker::Model;
 
-/// Cells in their order, each once.
+/// Touches in their order, each once.
 #[derive(Drop)]
 #[derive_where(Debug)]
 pub struct Footprint<A: Allocator> {
-    cells: Vec<Cell, A>,
+    touches: Vec<Touch, A>,
 }
 
-// The model of a footprint is the list of its cells.
+// The model of a footprint is the list of its touches.
 impl<A: Allocator> Model for Footprint<A> {
     ghost use Rattle.std.specs.Prelude.{List};
-    ghost use Rattle.osm_changes.specs.declared.cell.Cell.{Cell};
-    ghost use Rattle.osm_changes.specs.Cells.{IsRising};
+    ghost use Rattle.edit_footprint.specs.Touches.{Touch, IsFootprint};
 
-    ghost Value = { List Cell };
+    ghost Value = { List Touch };
 
-    ghost view = { λ f. f.cells.items };
+    ghost view = { λ f. f.touches.items };
 
-    ghost invariant = { λ f. IsRising f.cells.items };
+    ghost invariant = { λ f. IsFootprint f.touches.items };
 }
 
 impl<A: Allocator> Footprint<A> {
-    /// Returns the footprint of the given cells, which can have any order and repetitions. For `n` cells it takes time
-    /// `n log n`. If they consist of few parts that each rise, it takes linear time.
+    /// Returns the footprint of the given touches, which can have any order and repetitions. For `n` touches it takes
+    /// time `n log n`. If they consist of few parts that each rise, it takes linear time.
     ///
     /// # Errors
     ///
     /// `Memory`, if an allocation fails.
-    pub fn of(mut cells: Vec<Cell, A>) -> Result<Footprint<A>, Memory>
-        ensures { IfOk result (λ f. f ≡ cell_set cells.items) }
+    pub fn of(mut touches: Vec<Touch, A>) -> Result<Footprint<A>, Memory>
+        ensures { IfOk result (λ f. f ≡ touch_set touches.items) }
     {
-        cells.sort()?;
-        cells.dedup();
-        Ok(Footprint { cells })
+        touches.sort()?;
+        touches.dedup();
+        Ok(Footprint { touches })
     }
 
-    /// Returns the cells in their order.
-    pub fn cells(&self) -> &[Cell]
-        ensures cells { result.now ≡ self.now }
+    /// Returns the touches in their order.
+    pub fn touches(&self) -> &[Touch]
+        ensures touches { result.now ≡ self.now }
         // True of every footprint.
-        ensures rising { IsRising self.now }
+        ensures rising { IsFootprint self.now }
     {
-        &self.cells
+        &self.touches
     }
 
-    /// Returns the least name of a cell that both footprints have, or `None` if they share no cell. It takes time
-    /// linear in the number of cells of both.
+    /// Returns the least name at which the footprints meet: a touch of one conflicts with one of the other. Returns
+    /// `None` if they do not meet. For a footprint of `n` touches and another of `m`, it takes time `n log m`.
     pub fn meets(&self, other: &Footprint<A>) -> Option<Name>
         ensures { result ≡ meets self.now other.now }
     {
-        least_shared(&self.cells, &other.cells)
+        match self.conflict_with(other) {
+            Some(touch) => Some(touch.name()),
+            None => None,
+        }
+    }
+
+    // Returns the first touch that conflicts with one of another footprint.
+    fn conflict_with(&self, other: &Footprint<A>) -> Option<&Touch>
+        ensures { option_copied result ≡ find (λ t. list_any (does other.now) (rivals t)) self.now }
+    {
+        self.touches
+            .iter()
+            .find(|touch| other.conflicts_with(touch))
+    }
+
+    // Returns whether a touch of this footprint conflicts with the given touch.
+    fn conflicts_with(&self, touch: &Touch) -> bool
+        ensures { result ≡ list_any (does self.now) (rivals touch.now) }
+    {
+        if self.has(&touch.writer()) {
+            return true;
+        }
+        touch.access().is_write() && self.has(&touch.reader())
+    }
+
+    // Returns whether this footprint has a touch.
+    fn has(&self, touch: &Touch) -> bool
+        ensures { result ≡ does self.now touch.now }
+    {
+        self.touches.binary_search(touch).is_ok()
     }
 
     /// Returns an equal footprint.
@@ -80,26 +108,7 @@ impl<A: Allocator + Clone> Clone for Footprint<A> {
     ghost is_clone = { λ a b. b ≡ a };
 
     fn clone(&self) -> Result<Footprint<A>, AllocError> {
-        let cells = self.cells.clone()?;
-        Ok(Footprint { cells })
+        let touches = self.touches.clone()?;
+        Ok(Footprint { touches })
     }
-}
-
-// Returns the name of the first cell that is in both lists. Both lists rise.
-fn least_shared(cells: &[Cell], others: &[Cell]) -> Option<Name>
-    requires cells { IsRising cells.now }
-    requires others { IsRising others.now }
-    ensures { result ≡ meets cells.now others.now }
-{
-    let mut at = 0;
-    let mut place = 0;
-    while at < cells.len() && place < others.len() {
-        let cell = cells[at];
-        match cell.cmp(&others[place]) {
-            Ordering::Less => at += 1,
-            Ordering::Greater => place += 1,
-            Ordering::Equal => return Some(cell.name()),
-        }
-    }
-    None
 }

@@ -1,29 +1,31 @@
-//! The active entries that hold a cell.
+//! The active entries by the touches of their footprints.
 ghost use Rattle.std.specs.Prelude.{◌≡◌, [], nat_lt, OnOk, OnErr, find};
 ghost use Rattle.edit_actions.specs.Prelude.{nat_cmp};
 ghost use Rattle.rising_lists.specs.Rising.{IsRising};
-ghost use Rattle.edit_footprint.specs.Holding.{AreHeld, IsNext, HoldsOnly, IsFirstAfter, standing, fallen};
+ghost use Rattle.edit_footprint.specs.Holding.{AreHeld, IsNext, HoldsOnly, IsFirstAfter, holding, standing, fallen};
+ghost use Rattle.edit_footprint.specs.Touches.{Touch};
 ghost use Rattle.edit_footprint.specs.Inner.Searching as inner;
 
 use crate::footprint::Footprint;
-use osm_changes::cell::Cell;
+use crate::touch::Touch;
 use osm_elements::Memory;
 use osm_elements::name::Name;
 use rising_lists::lists::RisingLists;
 use std::alloc::Allocator;
 use std::marker::Model;
 
-/// The numbers of the active entries, by the cells of their footprints. Each cell has its numbers in rising order. The
-/// caller keeps the footprints, and lends an entry's footprint when the entry ceases to be active.
+/// The numbers of the active entries, by the touches of their footprints. Each touch has its numbers in rising order.
+/// The caller keeps the footprints, and lends an entry's footprint when the entry ceases to be active.
 #[derive(Drop)]
 #[derive_where(Debug)]
 pub struct Holders<A: Allocator> {
     #[derive_where(skip)]
     alloc: A,
-    lists: RisingLists<Cell, u64, A>,
+    lists: RisingLists<Touch, u64, A>,
 }
 
-// The model of holders is the list of the held cells in their order, each with the numbers of the entries that hold it.
+// The model of holders is the list of the held touches in their order, each with the numbers of the entries that hold
+// it.
 impl<A: Allocator> Model for Holders<A> {
     ghost use Rattle.edit_footprint.specs.Holding.{Held};
 
@@ -45,8 +47,8 @@ impl<A: Allocator> Holders<A> {
         }
     }
 
-    /// Adds an active entry. Its number must be greater than those of all active entries. For each cell of the
-    /// footprint, it takes time logarithmic in the number of held cells. An entry can be added before the store
+    /// Adds an active entry. Its number must be greater than those of all active entries. For each touch of
+    /// the footprint, it takes time logarithmic in the number of held touches. An entry can be added before the store
     /// changes, and removed again if the store refuses the change (law `a_fall_restores`). Clause `held` is true of all
     /// holders, and a premise of that law.
     ///
@@ -61,35 +63,60 @@ impl<A: Allocator> Holders<A> {
         ensures ok { OnOk result (self.new ≡ standing self.old footprint.now seq) }
         ensures err { OnErr result (self.new ≡ self.old) }
     {
-        let cells = footprint.cells();
-        self.lists.add_all(&self.alloc, cells, seq)?;
+        let touches = footprint.touches();
+        self.lists.add_all(&self.alloc, touches, seq)?;
         Ok(())
     }
 
-    /// Removes an entry, which must hold no cells outside the given footprint. A cell that no other entry holds is
-    /// removed too. For each cell of the footprint, it takes time logarithmic in the number of held cells, and the time
-    /// to move the later numbers of that cell.
+    /// Removes an entry, which must hold no touches outside the given footprint. A touch that no other entry holds is
+    /// removed too. For each touch of the footprint, it takes time logarithmic in the number of held touches, and the
+    /// time to move the later numbers of that touch.
     pub fn fall(&mut self, footprint: &Footprint<A>, seq: u64)
         requires { HoldsOnly self.old footprint.now seq }
         ensures { self.new ≡ fallen self.old seq }
     {
-        self.lists.take_out_all(footprint.cells(), &seq);
+        self.lists.take_out_all(footprint.touches(), &seq);
     }
 
-    /// Returns the first entry after the number `seq` that holds a cell of the footprint, with the least name of the
-    /// footprint's cells that it holds. Returns `None` if there is no such entry. For each cell of the footprint, it
-    /// takes time logarithmic in the number of held cells and in the number of entries that hold the cell. The result
-    /// has a name, not a cell, because a refusal names an element. There is exactly one such result (`just_one` of
-    /// `specs/Facts/Holding.antt`).
+    /// Returns the first entry after the number `seq` whose footprint meets the given one, with the least name at which
+    /// it does. Returns `None` if there is no such entry. For each touch of the footprint, it takes time logarithmic in
+    /// the number of held touches and in the number of entries that hold a conflicting one. There is exactly one such
+    /// result (`just_one` of `specs/Facts/Holding.antt`).
     pub fn first_after(&self, footprint: &Footprint<A>, seq: u64) -> Option<(u64, Name)>
         ensures { IsFirstAfter self.now footprint.now seq result }
     {
-        let cells = footprint.cells();
+        let touches = footprint.touches();
         let mut first = None;
-        for cell in cells {
-            first = sooner(first, next(self.lists.of(cell), seq), cell.name());
+        for touch in touches {
+            first = self.sooner_rival(first, touch, seq);
         }
         first
+    }
+
+    // Returns the sooner of an entry and of the entries after `seq` that hold a touch which conflicts with the given
+    // one.
+    fn sooner_rival(
+        &self,
+        first: Option<(u64, Name)>,
+        touch: &Touch,
+        seq: u64,
+    ) -> Option<(u64, Name)>
+        ensures sooner { result ≡ inner.sooner_rival self.now first touch.now seq }
+        ensures rising { (t : Touch) → IsRising nat_cmp (holding self.now t) }
+    {
+        let first = sooner(first, self.next_of(&touch.writer(), seq), touch.name());
+        if touch.access().is_write() {
+            return sooner(first, self.next_of(&touch.reader(), seq), touch.name());
+        }
+        first
+    }
+
+    // Returns the first entry after `seq` that holds a touch.
+    fn next_of(&self, touch: &Touch, seq: u64) -> Option<u64>
+        ensures first { result ≡ find (nat_lt seq) (holding self.now touch.now) }
+        ensures rising { (t : Touch) → IsRising nat_cmp (holding self.now t) }
+    {
+        next(self.lists.of(touch), seq)
     }
 }
 

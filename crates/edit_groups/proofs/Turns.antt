@@ -1,10 +1,9 @@
 -- A group that is planned action by action: what is true after each of its actions.
-use Rattle.std.proofs.Common.{◌≡◌, ◌+◌, ◌<◌, ℕ, Bool, true, false, List, [], ◌∷◌, ◌++◌, Option, Some, None, Result, Ok, Err, IfOk, IfErr, OnOk, ◌⊎◌, ◌≤◌, suc, refl, length, take, drop, map, ◌&&◌, inl, inr, sym, ap, subst, ◌∙◌, get_or, arith, w32, append-nil, append_assoc, Fits}
+use Rattle.std.proofs.Common.{◌≡◌, ◌+◌, ◌<◌, ℕ, true, false, List, [], ◌∷◌, ◌++◌, Some, None, Result, Ok, Err, IfOk, IfErr, OnOk, ◌⊎◌, ◌≤◌, suc, refl, length, take, drop, map, inl, inr, sym, ap, subst, ◌∙◌, get_or, arith, w32, append-nil, append_assoc, Fits}
 use Rattle.std.proofs.lemmas.Bool.{or_parts}
 use Rattle.std.proofs.lemmas.Bool.Decides.{nat_tests}
 use Rattle.std.proofs.lemmas.List.{take_more, take-append-drop, length-take-le}
-use Rattle.edit_groups.specs.Prelude.{Name, Rows, is_among, name_set, row_at, is_among-append, is_among-name_set, Cell, Change, cell_set, changed_names, differences, kept, is_sound, Refusal, Memory, drop_at, Action, is_made_action, are_made, none_refused, Group, EditRefusal, is_group_length, at_position, after_all, refused_at, first_refused, group_changes, group_refusal, nothing_changed, refused_or, touched, are_made-one, IsEditPlan}
-use Rattle.osm_changes.specs.Changes.{changed}
+use Rattle.edit_groups.specs.Prelude.{Name, Rows, is_among, row_at, is_among-append, is_among-name_set, Touch, Change, touch_set, differences, kept, is_sound, Refusal, Memory, drop_at, Action, is_made_action, are_made, none_refused, Group, EditRefusal, is_group_length, at_position, after_all, refused_at, first_refused, group_changes, group_refusal, nothing_changed, refused_or, touched, are_made-one, IsEditPlan}
 use Rattle.room_interface.specs.Groups.{alone}
 use Rattle.edit_actions.specs.After.{after, changes}
 use Rattle.edit_actions.specs.Facts.Accepted.{accepted_keeps_sound, changes_lead}
@@ -42,43 +41,43 @@ module _ {A : Type 0} where
       one_more : k + 1 + length xs ≡ k + suc (length xs)
       one_more = omega arith
 
-  pub record IsAfter (m : Rows A) (done : List (Action A)) (draft : Rows A) (names : List Name) (cells : List Cell) : Type 0 where
+  pub record IsAfter (m : Rows A) (done : List (Action A)) (draft : Rows A) (names : List Name) (touches : List Touch) : Type 0 where
     pub rows : draft ≡ after_all m done
     pub sound : is_sound draft ≡ true
     pub made : are_made done ≡ true
     pub accepted : first_refused m 0 done ≡ None
-    pub touched_are : cells ≡ touched m done
+    pub touched_are : touches ≡ touched m done
     pub rest : (y : Name) → is_among names y ≡ false → row_at draft y ≡ row_at m y
 
   -- before the first action
-  pub none_yet : (m draft : Rows A) (names : List Name) (cells : List Cell) → is_sound m ≡ true → draft ≡ m → names ≡ [] → cells ≡ [] → IsAfter m [] draft names cells
-  none_yet m draft names cells sound rows none no_cells = record {
+  pub none_yet : (m draft : Rows A) (names : List Name) (touches : List Touch) → is_sound m ≡ true → draft ≡ m → names ≡ [] → touches ≡ [] → IsAfter m [] draft names touches
+  none_yet m draft names touches sound rows none no_touches = record {
     rows = rows;
     sound = ap is_sound rows ∙ sound;
     made = refl;
     accepted = refl;
-    touched_are = no_cells;
+    touched_are = no_touches;
     rest = λ y out. ap (λ n. row_at n y) rows;
   }
 
   -- after all actions: the changes and the footprint of the group
-  pub group_planned : (m : Rows A) (g : List (Action A)) (draft : Rows A) (names : List Name) (cells : List Cell) → IsAfter m g draft names cells → (cs : List (Change A)) → cs ≡ differences m draft
-      → (r : Result (List (Change A) × List Cell) (EditRefusal A)) → IfOk r (λ p. p.0 ≡ cs) → IfOk r (λ p. p.1 ≡ cell_set cells) → OnOk r (nothing_changed cs ≡ None) → IfErr r (λ why. (nothing_changed cs ≡ Some why) ⊎ (why ≡ alone Memory))
+  pub group_planned : (m : Rows A) (g : List (Action A)) (draft : Rows A) (names : List Name) (touches : List Touch) → IsAfter m g draft names touches → (cs : List (Change A)) → cs ≡ differences m draft
+      → (r : Result (List (Change A) × List Touch) (EditRefusal A)) → IfOk r (λ p. p.0 ≡ cs) → IfOk r (λ p. p.1 ≡ touch_set touches) → OnOk r (nothing_changed cs ≡ None) → IfErr r (λ why. (nothing_changed cs ≡ Some why) ⊎ (why ≡ alone Memory))
       → IsEditPlan m (Group g) r
-  group_planned m g draft names cells all cs is (Ok p) changes_are cells_are some none =
-      ((λ i. refused_or (all.accepted i) (nothing_changed (sym (is ∙ ap (differences m) all.rows) i))) ∙ some, changes_are ∙ is ∙ ap (differences m) all.rows, cells_are ∙ ap cell_set all.touched_are)
-  group_planned m g draft names cells all cs is (Err why) changes_are cells_are some (inl none) =
+  group_planned m g draft names touches all cs is (Ok p) changes_are touches_are some none =
+      ((λ i. refused_or (all.accepted i) (nothing_changed (sym (is ∙ ap (differences m) all.rows) i))) ∙ some, changes_are ∙ is ∙ ap (differences m) all.rows, touches_are ∙ ap touch_set all.touched_are)
+  group_planned m g draft names touches all cs is (Err why) changes_are touches_are some (inl none) =
       inl ((λ i. refused_or (all.accepted i) (nothing_changed (sym (is ∙ ap (differences m) all.rows) i))) ∙ none)
-  group_planned m g draft names cells all cs is (Err why) changes_are cells_are some (inr memory) = inr memory
+  group_planned m g draft names touches all cs is (Err why) changes_are touches_are some (inr memory) = inr memory
 
-  module _ (m : Rows A) (g : List (Action A)) (i : ℕ) (a : Action A) (l : i < length g) (is : a ≡ get_or g i a) (draft : Rows A) (names : List Name) (cells : List Cell)
-      (so_far : IsAfter m (take i g) draft names cells) (made : is_made_action a ≡ true) where
+  module _ (m : Rows A) (g : List (Action A)) (i : ℕ) (a : Action A) (l : i < length g) (is : a ≡ get_or g i a) (draft : Rows A) (names : List Name) (touches : List Touch)
+      (so_far : IsAfter m (take i g) draft names touches) (made : is_made_action a ≡ true) where
     one_more : take (i + 1) g ≡ take i g ++ a ∷ []
     one_more = take_more g i a l ∙ ap (λ y. take i g ++ y ∷ []) (sym is)
 
     -- after one more action, which is accepted
-    pub then_after : (after_it : Rows A) (more : List Name) (touched_too : List Cell) → refusal draft a ≡ None → after_it ≡ after draft a
-        → more ≡ names ++ map (λ c. c.name) (changes draft a) → touched_too ≡ cells ++ footprint draft a
+    pub then_after : (after_it : Rows A) (more : List Name) (touched_too : List Touch) → refusal draft a ≡ None → after_it ≡ after draft a
+        → more ≡ names ++ map (λ c. c.name) (changes draft a) → touched_too ≡ touches ++ footprint draft a
         → IsAfter m (take (i + 1) g) after_it more touched_too
     then_after after_it more touched_too ok is_after more_is touched_is = subst (λ xs. IsAfter m xs after_it more touched_too) (sym one_more) (record {
       rows = is_after ∙ ap (λ n. after n a) so_far.rows ∙ sym (after_all-append m (take i g) (a ∷ []));

@@ -1,16 +1,16 @@
 -- The definitions of actions for edits: one action, or a group. (Groups are this project's.)
 use Rattle.std.specs.Prelude.{List, Option, Some, None}
-use Rattle.edit_actions.specs.Prelude.{Rows, cell_set, differences, alone}
-use Rattle.osm_changes.specs.declared.cell.Cell.{Cell}
+use Rattle.edit_actions.specs.Prelude.{Rows, differences, alone}
 use Rattle.osm_changes.specs.declared.change.Change.{Change}
 use Rattle.room_interface.specs.declared.refusal.Refusal.{Refusal}
 use Rattle.room_interface.specs.declared.edit.Edit.{Edit}
 use Rattle.room_interface.specs.declared.edit.Edit.TheVariants.{One, Group}
 use Rattle.room_interface.specs.declared.edit_refusal.EditRefusal.{EditRefusal}
+use Rattle.edit_footprint.specs.Touches.{Touch, touch_set}
 use Rattle.edit_groups.specs.Groups.{after_all, group_refusal, touched}
 use Rattle.edit_actions.specs.After as actions
 use Rattle.edit_actions.specs.Refusals as of_actions
-use Rattle.edit_footprint.specs.Footprints as cells_of
+use Rattle.edit_footprint.specs.Footprints as of_one
 
 module _ {A : Type 0} where
   abbrev pub after : Rows A → Edit A → Rows A
@@ -31,7 +31,7 @@ module _ {A : Type 0} where
   refusal m (One a) = refused_alone (of_actions.refusal m a)
   refusal m (Group g) = group_refusal m g
 
-  -- the footprint of an edit on a map; that of a group has the cells that each action touches on its map
-  abbrev pub footprint : Rows A → Edit A → List Cell
-  footprint m (One a) = cells_of.footprint m a
-  footprint m (Group g) = cell_set (touched m g)
+  -- the footprint of an edit on a map; that of a group has the touches of each action on its map
+  abbrev pub footprint : Rows A → Edit A → List Touch
+  footprint m (One a) = of_one.footprint m a
+  footprint m (Group g) = touch_set (touched m g)

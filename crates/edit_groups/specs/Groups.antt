@@ -3,7 +3,7 @@
 use Rattle.std.specs.Prelude.{◌+◌, ◌++◌, ℕ, List, [], ◌∷◌, Option, Some, None}
 use Rattle.edit_footprint.specs.Prelude.{Rows, differences, after, refusal, footprint, at_position}
 use Rattle.room_interface.specs.Groups.{alone}
-use Rattle.osm_changes.specs.declared.cell.Cell.{Cell}
+use Rattle.edit_footprint.specs.Touches.{Touch}
 use Rattle.osm_changes.specs.declared.change.Change.{Change}
 use Rattle.room_interface.specs.declared.refusal.Refusal.{Refusal}
 use Rattle.room_interface.specs.declared.refusal.Refusal.TheVariants.{Nothing}
@@ -43,7 +43,7 @@ module _ {A : Type 0} where
   abbrev pub group_refusal : Rows A → List (Action A) → Option (EditRefusal A)
   group_refusal m g = refused_or (first_refused m 0 g) (nothing_changed (group_changes m g))
 
-  -- the cells that the actions touch, each on the map that the previous ones lead to
-  abbrev pub touched : Rows A → List (Action A) → List Cell
+  -- the touches of the actions, each on the map that the previous ones lead to
+  abbrev pub touched : Rows A → List (Action A) → List Touch
   touched m [] = []
   touched m (a ∷ rest) = footprint m a ++ touched (after m a) rest

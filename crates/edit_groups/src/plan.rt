@@ -1,6 +1,7 @@
 //! Plans of edits: the changes that an edit would make in a store, or its refusal.
 ghost use Rattle.std.specs.Prelude.{◌≡◌, ◌⊎◌, true, Some, None, IfOk, IfErr, OnOk};
-ghost use Rattle.edit_actions.specs.Prelude.{cell_set, AreFrom, is_sound, is_made_edit, alone, at_position};
+ghost use Rattle.edit_footprint.specs.Touches.{touch_set};
+ghost use Rattle.edit_actions.specs.Prelude.{AreFrom, is_sound, is_made_edit, alone, at_position};
 ghost use Rattle.osm_changes.specs.Changes.{changed};
 ghost use Rattle.room_interface.specs.declared.refusal.Refusal.TheVariants.{Memory as OutOfMemory};
 ghost use Rattle.room_interface.specs.declared.edit.Edit.TheVariants.{One, Group};
@@ -10,7 +11,7 @@ ghost use Rattle.edit_groups.specs.Plans.{IsEditPlan};
 use crate::differing::changes_between;
 use crate::step::{planned, step};
 use edit_footprint::footprint::Footprint;
-use osm_changes::cell::Cell;
+use edit_footprint::touch::Touch;
 use osm_changes::changes::Changes;
 use osm_changes::laws::differences_are_changes;
 use osm_changes::store::Store;
@@ -87,17 +88,17 @@ fn plan_group<A: Allocator + Copy>(
     let map = store.map();
     let mut draft = Draft::of(alloc, store);
     let mut names = Vec::new(alloc);
-    let mut cells = Vec::new(alloc);
+    let mut touches = Vec::new(alloc);
     let mut position = 0;
     for action in group.as_slice() {
-        match step(alloc, draft, &mut names, &mut cells, action) {
+        match step(alloc, draft, &mut names, &mut touches, action) {
             Ok(after) => draft = after,
             Err(why) => return Err(refused_at(position, why)),
         }
         position += 1;
     }
     let changes = changes_between(alloc, map, &draft, names)?;
-    accepted(changes, cells)
+    accepted(changes, touches)
 }
 
 // Returns the refusal of the action at a position. `Memory` has no position.
@@ -120,10 +121,10 @@ fn refused_at<A: Allocator>(position: u32, why: Refusal<A>) -> EditRefusal<A>
 // Returns the changes and the footprint of a group without a refused action, or `Nothing` if it changes nothing.
 fn accepted<A: Allocator>(
     changes: Changes<A>,
-    cells: Vec<Cell, A>,
+    touches: Vec<Touch, A>,
 ) -> Result<(Changes<A>, Footprint<A>), EditRefusal<A>>
     ensures changes { IfOk result (λ p. p.0 ≡ changes) }
-    ensures footprint { IfOk result (λ p. p.1 ≡ cell_set cells.items) }
+    ensures footprint { IfOk result (λ p. p.1 ≡ touch_set touches.items) }
     ensures some { OnOk result (nothing_changed changes ≡ None) }
     ensures refused { IfErr result (λ r. (nothing_changed changes ≡ Some r) ⊎ (r ≡ alone OutOfMemory)) }
 {
@@ -133,5 +134,5 @@ fn accepted<A: Allocator>(
             why: Refusal::Nothing,
         });
     }
-    Ok((changes, Footprint::of(cells)?))
+    Ok((changes, Footprint::of(touches)?))
 }

@@ -5,8 +5,8 @@ ghost use Rattle.room_interface.specs.declared.refusal.Refusal.TheVariants.{Memo
 
 use edit_actions::plan::plan;
 use edit_footprint::footprint::Footprint;
+use edit_footprint::touch::Touch;
 use edit_footprint::touching::footprint;
-use osm_changes::cell::Cell;
 use osm_changes::change::Change;
 use osm_changes::changes::Changes;
 use osm_drafts::draft::Draft;
@@ -36,12 +36,12 @@ pub fn planned<A: Allocator + Copy>(
 }
 
 /// Returns the draft after an action, or the action's refusal. Appends the changed names, each once or twice, and the
-/// cells that the action touches.
+/// touches of the action.
 pub fn step<'s, A: Allocator + Copy>(
     alloc: A,
     draft: Draft<'s, A>,
     names: &mut Vec<Name, A>,
-    cells: &mut Vec<Cell, A>,
+    touches: &mut Vec<Touch, A>,
     action: &Action<A>,
 ) -> Result<Draft<'s, A>, Refusal<A>>
     requires { is_sound draft ≡ true }
@@ -50,13 +50,13 @@ pub fn step<'s, A: Allocator + Copy>(
     ensures after { IfOk result (λ d. d ≡ after draft.entry action.now) }
     ensures names { OnOk result
         (names.new.items ≡ names.old.items ++ map (λ c. c.name) (changes draft.entry action.now)) }
-    ensures cells { OnOk result (cells.new.items ≡ cells.old.items ++ footprint draft.entry action.now) }
+    ensures touches { OnOk result (touches.new.items ≡ touches.old.items ++ footprint draft.entry action.now) }
     ensures refused { IfErr result
         (λ why. (refusal draft.entry action.now ≡ Some why) ⊎ (why ≡ OutOfMemory)) }
 {
     let (changes, footprint) = planned(alloc, &draft, action)?;
     push_names(names, changes.rows())?;
-    cells.extend_from_slice(footprint.cells())?;
+    touches.extend_from_slice(footprint.touches())?;
     let after = draft.with_changes(alloc, &changes)?;
     Ok(after)
 }

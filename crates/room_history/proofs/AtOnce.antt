@@ -8,7 +8,7 @@ use Rattle.room_interface.specs.declared.edit.Edit.{Edit as Action}
 use Rattle.room_history.proofs.Appending.{mapof-append, mapof-work, recorded-last, standing-work, standing-undo}
 use Rattle.room_history.proofs.Deciding.{unspent, own_refusal}
 use Rattle.room_history.proofs.Growing.{numbered_next, Rise, Rise-standing_from}
-use Rattle.room_history.proofs.HeldEntries.{with_cells, blocker_is}
+use Rattle.room_history.proofs.HeldEntries.{with_touches, blocker_is}
 use Rattle.room_history.proofs.LastItems.{last-append}
 use Rattle.room_history.proofs.Outcomes.{outcome, got_longer}
 use Rattle.room_history.proofs.RisingNumbers.{is_in, last_there, none_behind, others_stay}
@@ -60,7 +60,7 @@ module _ {A : Type 0} (base : Rows A) (j : List (Entry A)) (order : AreInOrder (
   unblocked : blocker (past base (j ++ e ∷ [])) (j ++ e ∷ []) (length j + 1) ≡ None
   unblocked =
       blocker_is (past base (j ++ e ∷ [])) (j ++ e ∷ []) (length j + 1) stands
-      ∙ ap (λ ss. first_meeting (recorded_footprint (past base (j ++ e ∷ [])) (length j + 1)) (with_cells (recorded_footprint (past base (j ++ e ∷ []))) ss))
+      ∙ ap (λ ss. first_meeting (recorded_footprint (past base (j ++ e ∷ [])) (length j + 1)) (with_touches (recorded_footprint (past base (j ++ e ∷ []))) ss))
       (ap (filter (nat_lt (length j + 1))) standing_is ∙ none_behind (length j + 1) 1 (standing j) (1 + length j) rise (omega arith))
 
   undo_accepted : undo_refusal (past base (j ++ e ∷ [])) (j ++ e ∷ []) e.author (length j + 1) ≡ None

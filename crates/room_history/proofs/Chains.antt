@@ -1,39 +1,38 @@
--- Actions accepted in order. If an action shares no cell with the later ones, it can be taken out of the middle.
+-- Actions accepted in order. If an action meets none of the later ones, it can be taken out of the middle.
 use Rattle.std.proofs.Common.{◌≡◌, ◌++◌, true, List, [], ◌∷◌, Some, None, is_none, map, refl, cond, sym, ap, subst, ◌∙◌}
-use Rattle.room_history.specs.Prelude.{Rows, Cell, Change, inverse, is_sound, changed-inverse, sound_in_order, One, after, changes, refusal, footprint, accepted_keeps_sound, AreInOrder-after, ChangePlaces, meets, footprint_of, commutation, replay}
+use Rattle.room_history.specs.Prelude.{Rows, Touch, IsFootprint, Change, inverse, is_sound, changed-inverse, sound_in_order, One, after, changes, refusal, footprint, accepted_keeps_sound, AreInOrder-after, ChangePlaces, meets, footprint_of, commutation, replay}
 use Rattle.osm_changes.specs.Changes.{changed}
-use Rattle.osm_changes.specs.Cells.{IsRising}
 use Rattle.room_interface.specs.declared.action.Action.{Action as SingleAction}
 use Rattle.room_interface.specs.declared.edit.Edit.{Edit as Action}
 use Rattle.room_interface.specs.MadeCalls.{is_made_edit as is_made_action}
 
--- an action with its recorded changes and cells
+-- an action with its recorded changes and touches
 pub record Work (A : Type 0) : Type 0 where
   pub action : Action A
   pub changes : List (Change A)
-  pub cells : List Cell
-  pub rises : IsRising cells
-  -- the cells of one action follow from the action and its changes
-  pub of_one : (a : SingleAction A) → action ≡ One a → cells ≡ footprint_of a changes
+  pub touches : List Touch
+  pub rises : IsFootprint touches
+  -- the touches of one action follow from the action and its changes
+  pub of_one : (a : SingleAction A) → action ≡ One a → touches ≡ footprint_of a changes
 
 module _ {A : Type 0} where
   -- the recorded footprint
-  abbrev pub touched : Work A → List Cell
-  touched w = w.cells
+  abbrev pub touched : Work A → List Touch
+  touched w = w.touches
 
   -- the map accepts the action, with the recorded changes and footprint
   pub record Accepts (m : Rows A) (w : Work A) : Type 0 where
     pub made : is_made_action w.action ≡ true
     pub accepted : refusal m w.action ≡ None
     pub same_changes : changes m w.action ≡ w.changes
-    pub same_footprint : footprint m w.action ≡ w.cells
+    pub same_footprint : footprint m w.action ≡ w.touches
 
   -- the actions lead from the map m to the map end, each accepted as it was recorded
   abbrev pub Leads : Rows A → List (Work A) → Rows A → Type 0
   Leads m [] end = m ≡ end
   Leads m (w ∷ ws) end = Accepts m w × Leads (after m w.action) ws end
 
-  -- none of the other works shares a cell with this one
+  -- none of the other works meets this one
   abbrev pub IsApart : Work A → List (Work A) → Type 0
   IsApart w [] = Unit {0}
   IsApart w (v ∷ vs) = (meets (touched w) (touched v) ≡ None) × IsApart w vs
@@ -64,7 +63,7 @@ module _ {A : Type 0} where
   replays m (w ∷ ws) end h =
       ap (λ o. cond (is_none o) (replay (after m w.action) (map (λ (v : Work A). v.action) ws)) None) h.0.accepted ∙ replays (after m w.action) ws end h.1
 
-  -- two works that share no cell commute
+  -- two works that do not meet commute
   swapped : (m : Rows A) (w v : Work A) → is_sound m ≡ true → Accepts m w → Accepts (after m w.action) v → meets (touched w) (touched v) ≡ None → ChangePlaces m w.action v.action
   swapped m w v sound first next apart = commutation m w.action v.action sound first.made next.made first.accepted next.accepted
       ((λ i. meets (first.same_footprint i) (next.same_footprint i)) ∙ apart)

@@ -1,15 +1,14 @@
 -- The holders that a room keeps follow its journal.
-use Rattle.std.proofs.Common.{◌≡◌, ◌+◌, ◌<◌, ◌≤◌, ◌++◌, ◌||◌, ℕ, suc, Bool, true, false, not, List, [], ◌∷◌, Option, Some, length, nat_eq, nat_lt, refl, sym, ap, subst, ◌∙◌, arith, filter}
+use Rattle.std.proofs.Common.{◌≡◌, ◌+◌, ◌<◌, ◌≤◌, ◌++◌, ◌||◌, ℕ, suc, Bool, true, false, not, List, [], ◌∷◌, Option, Some, length, nat_eq, nat_lt, refl, sym, ap, subst, ◌∙◌, arith, filter, flat_map}
 use Rattle.std.proofs.lemmas.List.Folds.{list_any-append}
-use Rattle.room_history.specs.Prelude.{Name, Rows, Cell, footprint, IsRising-footprint, just_one, Held, IsNext, HoldsOnly, fallen, IsFirstAfter, Entry, Undo, recorded_footprint, footprint_of_recorded, held, blocker, first_meeting, holders_of, is_work, standing, is_standing, Past, past, mapof, recorded_of, recorded_next}
+use Rattle.room_history.specs.Prelude.{Name, Rows, Touch, rivals, footprint, IsFootprint, IsFootprint-footprint, just_one, Held, IsNext, HoldsOnly, fallen, IsFirstAfter, Entry, Undo, recorded_footprint, footprint_of_recorded, held, blocker, first_meeting, holders_of, is_work, standing, is_standing, Past, past, mapof, recorded_of, recorded_next}
 use Rattle.edit_footprint.specs.Holding.{standing as stands}
-use Rattle.osm_changes.specs.Cells.{IsRising}
 use Rattle.room_interface.specs.declared.edit.Edit.{Edit as Action}
 use Rattle.room_history.specs.Inner.Holders.{AreHolders}
 use Rattle.room_history.proofs.Appending.{recorded-last, standing-work, standing-undo}
 use Rattle.room_history.proofs.Growing.{Rise, Rise-standing_from, equal_numbers}
-use Rattle.room_history.proofs.HeldEntries.{with_cells, blocker_is, earlier_stay, held-work, held-undo, is_next}
-use Rattle.room_history.proofs.Holders.{holders_of-last, holders_of-without, AreRising-with_cells, IsNext-holders_of, HoldsOnly-holders_of, IsFirstAfter-holders_of}
+use Rattle.room_history.proofs.HeldEntries.{with_touches, blocker_is, earlier_stay, held-work, held-undo, is_next}
+use Rattle.room_history.proofs.Holders.{holders_of-last, holders_of-without, AreRising-with_touches, IsNext-holders_of, HoldsOnly-holders_of, IsFirstAfter-holders_of}
 use Rattle.room_history.proofs.RisingNumbers.{is_in, at_least, out_of_filter}
 
 -- rising numbers are below their end
@@ -48,12 +47,12 @@ module _ {A : Type 0} where
     -- the first entry that the holders find after an active entry is its blocker
     pub blocker_found : (s : ℕ) (found : Option (ℕ × Name)) → is_standing j s ≡ true → IsFirstAfter holders (recorded_footprint p s) s found → found ≡ blocker p j s
     blocker_found s found there told =
-        let cells = recorded_footprint p s in
-        let first = IsFirstAfter-holders_of (recorded_footprint p) (standing j) kept.rising cells s (1 + length j) (kept.rising s there) (Rise-standing_from 1 j) in
-        just_one holders cells s found (blocker p j s) told
-        (subst (λ (o : Option (ℕ × Name)). IsFirstAfter holders cells s o) (sym (blocker_is p j s there)) (subst (λ (h : Held). IsFirstAfter h cells s (first_meeting cells (with_cells (recorded_footprint p) (filter (nat_lt s) (standing j))))) (sym kept.holders_are) first))
+        let touches = recorded_footprint p s in
+        let first = IsFirstAfter-holders_of (recorded_footprint p) (standing j) kept.rising touches s (1 + length j) (kept.rising s there) (Rise-standing_from 1 j) in
+        just_one holders (flat_map rivals touches) s found (blocker p j s) told
+        (subst (λ (o : Option (ℕ × Name)). IsFirstAfter holders touches s o) (sym (blocker_is p j s there)) (subst (λ (h : Held). IsFirstAfter h touches s (first_meeting touches (with_touches (recorded_footprint p) (filter (nat_lt s) (standing j))))) (sym kept.holders_are) first))
 
-    -- an active entry holds exactly the cells of its footprint
+    -- an active entry holds exactly the touches of its footprint
     pub holds_own : (s : ℕ) → is_standing j s ≡ true → HoldsOnly holders (recorded_footprint p s) s
     holds_own s there = subst (λ (h : Held). HoldsOnly h (recorded_footprint p s) s) (sym kept.holders_are) (HoldsOnly-holders_of (recorded_footprint p) (standing j) kept.rising s)
 
@@ -62,44 +61,44 @@ module _ {A : Type 0} where
     pub holders_next : IsNext holders (length j + 1)
     holders_next =
         subst (λ (h : Held). IsNext h (length j + 1)) (sym kept.holders_are)
-        (IsNext-holders_of (held (past base j) j) (length j + 1) (AreRising-with_cells (recorded_footprint (past base j)) (standing j) kept.rising) (is_next base j))
+        (IsNext-holders_of (held (past base j) j) (length j + 1) (AreRising-with_touches (recorded_footprint (past base j)) (standing j) kept.rising) (is_next base j))
 
     -- an entry that does an action is active, with the footprint of the action on the map
-    pub AreHolders-work : (e : Entry A) (a : Action A) (holders' : Held) (cells : List Cell) → is_work e.kind ≡ true → recorded_next (past base j) e.kind ≡ recorded_of (mapof base j) a
-        → cells ≡ footprint (mapof base j) a → holders' ≡ stands holders cells (length j + 1) → AreHolders (past base (j ++ e ∷ [])) (j ++ e ∷ []) holders'
-    AreHolders-work e a holders' cells work records is holders_is = record {
+    pub AreHolders-work : (e : Entry A) (a : Action A) (holders' : Held) (touches : List Touch) → is_work e.kind ≡ true → recorded_next (past base j) e.kind ≡ recorded_of (mapof base j) a
+        → touches ≡ footprint (mapof base j) a → holders' ≡ stands holders touches (length j + 1) → AreHolders (past base (j ++ e ∷ [])) (j ++ e ∷ []) holders'
+    AreHolders-work e a holders' touches work records is holders_is = record {
       rising = λ s there. rises s (nat_eq (1 + length j) s) refl (sym (now_standing s) ∙ there);
-      holders_are = holders_is ∙ ap (λ h. stands h cells (length j + 1)) kept.holders_are ∙ ap (λ l. stands (holders_of (held (past base j) j)) l (length j + 1)) is
+      holders_are = holders_is ∙ ap (λ h. stands h touches (length j + 1)) kept.holders_are ∙ ap (λ l. stands (holders_of (held (past base j) j)) l (length j + 1)) is
           ∙ sym (holders_of-last (held (past base j) j) (length j + 1) (footprint (mapof base j) a)) ∙ ap holders_of (sym (held-work base j e a work records));
     }
       where
         now_standing : (s : ℕ) → is_standing (j ++ e ∷ []) s ≡ (is_standing j s || (nat_eq (1 + length j) s || false))
         now_standing s = ap (is_in s) (standing-work j e work) ∙ list_any-append (λ t. nat_eq t s) (standing j) ((1 + length j) ∷ [])
 
-        last_footprint : recorded_footprint (past base (j ++ e ∷ [])) (1 + length j) ≡ cells
+        last_footprint : recorded_footprint (past base (j ++ e ∷ [])) (1 + length j) ≡ touches
         last_footprint = ap (recorded_footprint (past base (j ++ e ∷ []))) next ∙ ap footprint_of_recorded (recorded-last base j e ∙ ap Some records) ∙ sym is
           where
             next : 1 + length j ≡ suc (length j)
             next = omega arith
 
-        cells_rise : IsRising cells
-        cells_rise = subst IsRising (sym is) (IsRising-footprint (mapof base j) a)
+        touches_rise : IsFootprint touches
+        touches_rise = subst IsFootprint (sym is) (IsFootprint-footprint (mapof base j) a)
 
-        rises : (s : ℕ) (b : Bool) → nat_eq (1 + length j) s ≡ b → (is_standing j s || (b || false)) ≡ true → IsRising (recorded_footprint (past base (j ++ e ∷ [])) s)
-        rises s true f there = subst IsRising (sym (ap (recorded_footprint (past base (j ++ e ∷ []))) (sym (equal_numbers (1 + length j) s f)) ∙ last_footprint)) cells_rise
+        rises : (s : ℕ) (b : Bool) → nat_eq (1 + length j) s ≡ b → (is_standing j s || (b || false)) ≡ true → IsFootprint (recorded_footprint (past base (j ++ e ∷ [])) s)
+        rises s true f there = subst IsFootprint (sym (ap (recorded_footprint (past base (j ++ e ∷ []))) (sym (equal_numbers (1 + length j) s f)) ∙ last_footprint)) touches_rise
         rises s false f there =
             let stood = sym (or_false (is_standing j s)) ∙ there in
             let at = stands_within j s stood in
-            subst IsRising (sym (earlier_stay base j e s (omega (arith, at.1)))) (kept.rising s stood)
+            subst IsFootprint (sym (earlier_stay base j e s (omega (arith, at.1)))) (kept.rising s stood)
 
     -- the entry that an undo takes back is not active any more
     pub AreHolders-undo : (e : Entry A) (s : ℕ) (holders' : Held) → e.kind ≡ Undo s → is_standing j s ≡ true
         → holders' ≡ fallen holders s → AreHolders (past base (j ++ e ∷ [])) (j ++ e ∷ []) holders'
     AreHolders-undo e s holders' k there holders_is = record {
       rising = λ t stays. rises t (out_of_filter (λ u. not (nat_eq u s)) t (standing j) (sym (ap (is_in t) (standing-undo j e s k)) ∙ stays)).1;
-      holders_are = holders_is ∙ ap (λ h. fallen h s) kept.holders_are ∙ sym (holders_of-without (held (past base j) j) s (AreRising-with_cells (recorded_footprint (past base j)) (standing j) kept.rising))
+      holders_are = holders_is ∙ ap (λ h. fallen h s) kept.holders_are ∙ sym (holders_of-without (held (past base j) j) s (AreRising-with_touches (recorded_footprint (past base j)) (standing j) kept.rising))
           ∙ ap holders_of (sym (held-undo base j e s k));
     }
       where
-        rises : (t : ℕ) → is_standing j t ≡ true → IsRising (recorded_footprint (past base (j ++ e ∷ [])) t)
-        rises t stood = let here = stands_within j t stood in subst IsRising (sym (earlier_stay base j e t (omega (arith, here.1)))) (kept.rising t stood)
+        rises : (t : ℕ) → is_standing j t ≡ true → IsFootprint (recorded_footprint (past base (j ++ e ∷ [])) t)
+        rises t stood = let here = stands_within j t stood in subst IsFootprint (sym (earlier_stay base j e t (omega (arith, here.1)))) (kept.rising t stood)

@@ -1,6 +1,6 @@
 -- The works of the active entries lead from the base to the map of the journal.
 use Rattle.std.proofs.Common.{◌≡◌, ◌+◌, ◌++◌, ℕ, suc, true, List, [], ◌∷◌, Some, None, length, refl, sym, ap, subst, ◌∙◌, arith}
-use Rattle.room_history.specs.Prelude.{Rows, is_sound, footprint_of, changes, footprint, refusal, IsRising-footprint, Entry, Do, Redo, numbered, standing, Recorded, Past, past, mapof, recorded_of, recorded_next, action_at}
+use Rattle.room_history.specs.Prelude.{Rows, is_sound, footprint_of, changes, footprint, refusal, IsFootprint-footprint, Entry, Do, Redo, numbered, standing, Recorded, Past, past, mapof, recorded_of, recorded_next, action_at}
 use Rattle.osm_changes.specs.Changes.{changed}
 use Rattle.room_interface.specs.declared.edit.Edit.{Edit as Action}
 use Rattle.room_interface.specs.MadeCalls.{is_made_edit as is_made_action}
@@ -38,7 +38,7 @@ module _ {A : Type 0} where
       m = mapof base j
 
       w : Work A
-      w = record { action = a; changes = changes m a; cells = footprint m a; rises = IsRising-footprint m a; of_one = λ x is. ap (footprint m) is ∙ ap (λ e. footprint_of x (changes m e)) (sym is) }
+      w = record { action = a; changes = changes m a; touches = footprint m a; rises = IsFootprint-footprint m a; of_one = λ x is. ap (footprint m) is ∙ ap (λ e. footprint_of x (changes m e)) (sym is) }
 
       r : Recorded A
       r = recorded_of m a

@@ -1,7 +1,6 @@
 -- The news that a room returns have the rows of its maps.
 use Rattle.std.proofs.Common.{◌≡◌, ◌+◌, ◌++◌, ℕ, zero, suc, List, [], ◌∷◌, drop, length, map, take, refl, sym, ap, ◌∙◌, append_assoc, append-nil, length-append, fold}
-use Rattle.std.proofs.lemmas.List.{map-append}
-use Rattle.room_history.specs.Prelude.{Name, Rows, Change, changed_names, changed_row, Entry, News, news, news_behind, news_of, news_row, Past, Recorded, past, past_after, mapof, recorded_next}
+use Rattle.room_history.specs.Prelude.{Name, Rows, changed_names, changed_row, Entry, News, news, news_behind, news_of, news_row, Past, Recorded, past, past_after, mapof, recorded_next}
 use Rattle.osm_changes.specs.Changes.{changed}
 use Rattle.room_history.specs.Inner.Telling.{kept_from, kept, told_from, told_row}
 use Rattle.room_history.proofs.Appending.{past-append, mapof-append}

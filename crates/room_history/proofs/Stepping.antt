@@ -2,12 +2,11 @@
 use Rattle.std.proofs.Common.{◌≡◌, Result, OnOk, OnErr, IfOk, IfErr, ◌<◌, ◌≤◌, ◌+◌, ◌++◌, ◌∷◌, ℕ, Bool, true, false, is_some, List, [], Option, Some, None, Ok, Err, length, refl, ◌-◌, slice_get, ◌⊎◌, zero, suc, map, nat_le, sym, ap, subst, ◌∙◌, arith, get_or, inl, inr, fold, IsErr, option_map, option_and_then}
 use Rattle.std.proofs.lemmas.Bool.Decides.{nat_tests}
 use Rattle.std.proofs.lemmas.List.Sums.{fold-append}
-use Rattle.room_history.specs.Prelude.{then_some, One, Group, Author, Call, Request, Entry, EntryKind, Do, Undo, Redo, Refusal, Reply, Undid, Repeat, Full, NothingToRedo, Refused, Memory, Cell, Rows, is_sound, after, changes, refusal, footprint, first_that_holds, is_work, is_standing, numbered, last, redos, standing, Past, Recorded, past, past_after, mapof, action_at, recorded_of, recorded_next, done_again, taken_back, spent, asked, meant, undo_refusal, redo_refusal, kind_refusal, meaning_refusal, accepted, with_entry, answer_by, answer, IsJournal, opened, called, is_made_request, IsStep, applied, Deed, AreInOrder, Change, differences, inverse, AreChanges, AreFrom, StoreState, applied_to, counted, IsEditPlan, EditRefusal, refusal_reply, refused_by, Effect, changed-differences, sound_in_order, AreInOrder-after, IsRising-footprint, footprint_of, Held, IsNext, HoldsOnly, fallen, footprint_of_recorded, recorded_footprint}
+use Rattle.room_history.specs.Prelude.{then_some, One, Group, Author, Call, Request, Entry, EntryKind, Do, Undo, Redo, Refusal, Reply, Undid, Repeat, Full, NothingToRedo, Refused, Memory, Touch, IsFootprint, Rows, is_sound, after, changes, refusal, footprint, first_that_holds, is_work, is_standing, numbered, last, redos, standing, Past, Recorded, past, past_after, mapof, action_at, recorded_of, recorded_next, done_again, taken_back, spent, asked, meant, undo_refusal, redo_refusal, kind_refusal, meaning_refusal, accepted, with_entry, answer_by, answer, IsJournal, opened, called, is_made_request, IsStep, applied, Deed, AreInOrder, Change, differences, inverse, AreChanges, AreFrom, StoreState, applied_to, counted, IsEditPlan, EditRefusal, refusal_reply, refused_by, Effect, changed-differences, sound_in_order, AreInOrder-after, IsFootprint-footprint, footprint_of, Held, IsNext, HoldsOnly, fallen, footprint_of_recorded, recorded_footprint}
 use Rattle.osm_changes.specs.Changes.{changed}
 use Rattle.edit_footprint.specs.Holding.{standing as stands}
 use Rattle.room_interface.specs.declared.action.Action.{Action as SingleAction}
 use Rattle.room_interface.specs.declared.edit.Edit.{Edit as Action}
-use Rattle.osm_changes.specs.Cells.{IsRising}
 use Rattle.room_history.specs.Inner.Holders.{AreHolders}
 use Rattle.room_history.specs.Inner.Deeds.{deed_by, deeds, MayNote}
 use Rattle.room_history.specs.Inner.Origins.{done_by, origin_next, origins}
@@ -16,7 +15,7 @@ use Rattle.room_history.proofs.Deeds.{deeds-append, spent_deeds, stands_among, r
 use Rattle.room_stacks.specs.declared.deed.Deed.TheVariants.{Undid}
 use Rattle.room_history.specs.Inner.Undoing.{undone_or, asked_or}
 use Rattle.room_history.specs.Inner.Rooms.{IsRoom, MayAppend, MayWork}
-use Rattle.room_history.specs.Inner.Telling.{is_group, group_cells, footprint_by, effect_of, kept_from, kept}
+use Rattle.room_history.specs.Inner.Telling.{is_group, group_touches, footprint_by, effect_of, kept_from, kept}
 use Rattle.room_history.proofs.Telling.{kept_of_each}
 use Rattle.room_history.proofs.BinarySearching.{last_is}
 use Rattle.room_history.proofs.Deciding.{unspent}
@@ -118,7 +117,7 @@ pub changed_again : {A F E : Type 0} (m : Rows A) (o : Option (Action A)) (a : A
 changed_again m o a (Ok x) acts e = e ∙ sym (ap (λ q. (done_again m q).changes) acts)
 changed_again m o a (Err x) acts e = tt
 
-pub touched_again : {A C E : Type 0} (m : Rows A) (o : Option (Action A)) (a : Action A) (r : Result (C × List Cell) E) → o ≡ Some a → IfOk r (λ p. p.1 ≡ footprint m a) → IfOk r (λ p. p.1 ≡ (done_again m o).footprint)
+pub touched_again : {A C E : Type 0} (m : Rows A) (o : Option (Action A)) (a : Action A) (r : Result (C × List Touch) E) → o ≡ Some a → IfOk r (λ p. p.1 ≡ footprint m a) → IfOk r (λ p. p.1 ≡ (done_again m o).footprint)
 touched_again m o a (Ok x) acts e = e ∙ sym (ap (λ q. (done_again m q).footprint) acts)
 touched_again m o a (Err x) acts e = tt
 
@@ -271,9 +270,9 @@ module _ {A : Type 0} where
   changes_kept m [] = refl
   changes_kept m (r ∷ rs) = ap (λ rest. r.changes ∷ rest) (changes_kept (changed m r.changes) rs)
 
-  groups_kept : (m : Rows A) (rs : List (Recorded A)) → map (λ (k : Effect A). k.group) (kept_from m rs) ≡ map (λ (r : Recorded A). group_cells r.action r.footprint) rs
+  groups_kept : (m : Rows A) (rs : List (Recorded A)) → map (λ (k : Effect A). k.group) (kept_from m rs) ≡ map (λ (r : Recorded A). group_touches r.action r.footprint) rs
   groups_kept m [] = refl
-  groups_kept m (r ∷ rs) = ap (λ rest. group_cells r.action r.footprint ∷ rest) (groups_kept (changed m r.changes) rs)
+  groups_kept m (r ∷ rs) = ap (λ rest. group_touches r.action r.footprint ∷ rest) (groups_kept (changed m r.changes) rs)
 
   module _ (store : StoreState A) (recorded : List (Effect A)) (firsts : List ℕ) (holders : Held) (done : List Deed) (base : Rows A) (limit : ℕ) (j : List (Entry A)) (r : IsRoom store recorded firsts holders done base limit j) where
     -- an invariant of a room's journal
@@ -327,20 +326,20 @@ module _ {A : Type 0} where
           by (Some k) e = ap inverse (told k e ∙ its_changes k e) ∙ ap (λ o. (taken_back o).changes) (sym stood.1)
 
       -- the footprint of a group is kept, and none of one action
-      its_group : (k : Effect A) → numbered recorded s ≡ Some k → k.group ≡ group_cells (Some stood.0.action) stood.0.cells
-      its_group k is = let same : Some k.group ≡ Some (group_cells (Some stood.0.action) stood.0.cells) = sym (ap (option_map (λ (k : Effect A). k.group)) is) ∙ told in cc
+      its_group : (k : Effect A) → numbered recorded s ≡ Some k → k.group ≡ group_touches (Some stood.0.action) stood.0.touches
+      its_group k is = let same : Some k.group ≡ Some (group_touches (Some stood.0.action) stood.0.touches) = sym (ap (option_map (λ (k : Effect A). k.group)) is) ∙ told in cc
         where
-          told : option_map (λ (k : Effect A). k.group) (numbered recorded s) ≡ Some (group_cells (Some stood.0.action) stood.0.cells)
+          told : option_map (λ (k : Effect A). k.group) (numbered recorded s) ≡ Some (group_touches (Some stood.0.action) stood.0.touches)
           told =
               sym (numbered_mapped (λ (k : Effect A). k.group) recorded s) ∙ ap (λ ks. numbered (map (λ (k : Effect A). k.group) ks) s) r.recorded_are
-              ∙ ap (λ gs. numbered gs s) (groups_kept base (past base j).entries) ∙ numbered_mapped (λ (r : Recorded A). group_cells r.action r.footprint) (past base j).entries s
-              ∙ ap (option_map (λ (r : Recorded A). group_cells r.action r.footprint)) stood.1
+              ∙ ap (λ gs. numbered gs s) (groups_kept base (past base j).entries) ∙ numbered_mapped (λ (r : Recorded A). group_touches r.action r.footprint) (past base j).entries s
+              ∙ ap (option_map (λ (r : Recorded A). group_touches r.action r.footprint)) stood.1
 
       -- its action is that of its entry
       same_action : (e : Action A) → action_at (past base j) s ≡ Some e → e ≡ stood.0.action
       same_action e acts = let same : Some e ≡ Some stood.0.action = sym acts ∙ its_action in cc
 
-      -- the cells that its action touches with these changes are its footprint
+      -- the touches that its action touches with these changes are its footprint
       touched_is : (a : SingleAction A) → action_at (past base j) s ≡ Some (One a) → (cs : List (Change A)) → ((k : Effect A) → numbered recorded s ≡ Some k → cs ≡ k.changes) → footprint_of a cs ≡ recorded_footprint (past base j) s
       touched_is a acts cs told = by (numbered recorded s) refl
         where
@@ -349,14 +348,14 @@ module _ {A : Type 0} where
           by (Some k) e = ap (footprint_of a) (told k e ∙ its_changes k e) ∙ sym (stood.0.of_one a (sym (same_action (One a) acts))) ∙ sym (ap footprint_of_recorded stood.1)
 
       -- the effect kept at the entry's position has the footprint of a group
-      pub group_told : (e : Action A) → action_at (past base j) s ≡ Some e → (d : Effect A) → d ≡ get_or recorded (s - 1) d → d.group ≡ group_cells (Some e) (recorded_footprint (past base j) s)
+      pub group_told : (e : Action A) → action_at (past base j) s ≡ Some e → (d : Effect A) → d ≡ get_or recorded (s - 1) d → d.group ≡ group_touches (Some e) (recorded_footprint (past base j) s)
       group_told e acts d item = by (numbered recorded s) refl
         where
-          by : (o : Option (Effect A)) → numbered recorded s ≡ o → d.group ≡ group_cells (Some e) (recorded_footprint (past base j) s)
+          by : (o : Option (Effect A)) → numbered recorded s ≡ o → d.group ≡ group_touches (Some e) (recorded_footprint (past base j) s)
           by None n = absurd (none_there recorded s is_first is_kept n)
           by (Some k) n =
-              ap (λ (x : Effect A). x.group) (item ∙ numbered_item recorded s k d n) ∙ its_group k n ∙ ap (λ a. group_cells (Some a) stood.0.cells) (sym (same_action e acts))
-              ∙ ap (group_cells (Some e)) (sym (ap footprint_of_recorded stood.1))
+              ap (λ (x : Effect A). x.group) (item ∙ numbered_item recorded s k d n) ∙ its_group k n ∙ ap (λ a. group_touches (Some a) stood.0.touches) (sym (same_action e acts))
+              ∙ ap (group_touches (Some e)) (sym (ap footprint_of_recorded stood.1))
 
       pub is_group_told : (e : Action A) → action_at (past base j) s ≡ Some e → (d : Effect A) → d ≡ get_or recorded (s - 1) d → is_group (Some e) ≡ is_some d.group
       is_group_told e acts d item = by (is_group (Some e)) ∙ sym (ap is_some (group_told e acts d item))
@@ -442,20 +441,20 @@ module _ {A : Type 0} where
         does = does_of k work ok
 
         -- its footprint rises
-        pub work_rises : (cells : List Cell) → cells ≡ (recorded_next (past base j) k).footprint → IsRising cells
-        work_rises cells is = subst IsRising (sym (is ∙ ap (λ (w : Recorded A). w.footprint) does.records)) (IsRising-footprint (mapof base j) does.action)
+        pub work_rises : (touches : List Touch) → touches ≡ (recorded_next (past base j) k).footprint → IsFootprint touches
+        work_rises touches is = subst IsFootprint (sym (is ∙ ap (λ (w : Recorded A). w.footprint) does.records)) (IsFootprint-footprint (mapof base j) does.action)
 
         -- the room after it
-        pub IsRoom-work : (l : List (Entry A)) (store' : StoreState A) (recorded' : List (Effect A)) (firsts' : List ℕ) (holders' : Held) (done' : List Deed) (cs : List (Change A)) (cells : List Cell) (effect : Effect A)
-            → cs ≡ (recorded_next (past base j) k).changes → cells ≡ (recorded_next (past base j) k).footprint
-            → store' ≡ applied_to store cs → effect ≡ effect_of store.rows (recorded_next (past base j) k) → recorded' ≡ recorded ++ effect ∷ [] → firsts' ≡ firsts ++ origin_next firsts k ∷ [] → holders' ≡ stands holders cells (length j + 1)
+        pub IsRoom-work : (l : List (Entry A)) (store' : StoreState A) (recorded' : List (Effect A)) (firsts' : List ℕ) (holders' : Held) (done' : List Deed) (cs : List (Change A)) (touches : List Touch) (effect : Effect A)
+            → cs ≡ (recorded_next (past base j) k).changes → touches ≡ (recorded_next (past base j) k).footprint
+            → store' ≡ applied_to store cs → effect ≡ effect_of store.rows (recorded_next (past base j) k) → recorded' ≡ recorded ++ effect ∷ [] → firsts' ≡ firsts ++ origin_next firsts k ∷ [] → holders' ≡ stands holders touches (length j + 1)
             → done' ≡ done ++ deed_by (length j + 1) author id k ∷ [] → l ≡ with_entry j author id k
             → IsRoom store' recorded' firsts' holders' done' base limit l
-        IsRoom-work l store' recorded' firsts' holders' done' cs cells effect cs_are cells_are store_is effect_is recorded_is firsts_is holders_is deeds_is l_is =
+        IsRoom-work l store' recorded' firsts' holders' done' cs touches effect cs_are touches_are store_is effect_is recorded_is firsts_is holders_is deeds_is l_is =
             grown k l store' recorded' firsts' holders' done' cs effect (legal_work k work ok) cs_are store_is effect_is recorded_is
             (firsts_is ∙ ap (λ os. firsts ++ origin_next os k ∷ []) r.firsts_are)
-            (AreHolders-work base j holders r.holders_are (record { author = author; id = id; kind = k }) does.action holders' cells does.works does.records
-            (cells_are ∙ ap (λ (w : Recorded A). w.footprint) does.records) holders_is)
+            (AreHolders-work base j holders r.holders_are (record { author = author; id = id; kind = k }) does.action holders' touches does.works does.records
+            (touches_are ∙ ap (λ (w : Recorded A). w.footprint) does.records) holders_is)
             deeds_is l_is
 
       -- an accepted undo in a room
@@ -470,7 +469,7 @@ module _ {A : Type 0} where
         pub stands_there : (ds : List Deed) → ds ≡ done → stacks.is_standing ds author s ≡ true
         stands_there ds is = ap (λ d. stacks.is_standing d author s) (is ∙ r.deeds_are) ∙ stands_among j author s there.there there.own
 
-        -- the entry holds exactly the cells of its footprint
+        -- the entry holds exactly the touches of its footprint
         pub holds_just : HoldsOnly holders (recorded_footprint (past base j) s) s
         holds_just = holds_own (past base j) j holders r.holders_are s there.there
 

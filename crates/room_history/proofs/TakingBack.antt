@@ -7,7 +7,7 @@ use Rattle.room_interface.specs.MadeCalls.{is_made_edit as is_made_action}
 use Rattle.room_history.proofs.Appending.{past-append, mapof-append, standing-undo}
 use Rattle.room_history.proofs.Chains.{Work, Leads, LeavesOut, replays, left_out, taken_out}
 use Rattle.room_history.proofs.Growing.{Rise-standing_from}
-use Rattle.room_history.proofs.HeldEntries.{with_cells, blocker_is, is_apart}
+use Rattle.room_history.proofs.HeldEntries.{with_touches, blocker_is, is_apart}
 use Rattle.room_history.proofs.Leading.{IsLed}
 use Rattle.room_history.proofs.RisingNumbers.{Parted, parted}
 use Rattle.room_history.proofs.Works.{as_recorded, AreRecorded, Places, recorded-grown, recorded-joined, placed, told}
@@ -35,7 +35,7 @@ module _ {A : Type 0} where
       out : LeavesOut base at.one (at.earlier ++ at.later) (mapof base j)
       out = left_out base at.earlier at.one at.later (mapof base j) sound (subst (λ ws. Leads base ws (mapof base j)) at.whole led.leads)
           (is_apart p s at.one part.later at.later at.is_one at.are_later
-          (ap (λ ss. first_meeting (recorded_footprint p s) (with_cells (recorded_footprint p) ss)) (sym part.behind) ∙ sym (blocker_is p j s stands) ∙ free))
+          (ap (λ ss. first_meeting (recorded_footprint p s) (with_touches (recorded_footprint p) ss)) (sym part.behind) ∙ sym (blocker_is p j s stands) ∙ free))
 
   module _ (base : Rows A) (j : List (Entry A)) (e : Entry A) (s : ℕ) (k : e.kind ≡ Undo s) where
     -- the record of its undo

@@ -1,6 +1,8 @@
 -- Examples of the definitions, worked out by hand.
 use Rattle.std.specs.Prelude.{◌≡◌, ◌++◌, ℕ, [], ◌∷◌, Some, None, true, pos, negsuc, replicate}
-use Rattle.edit_groups.specs.Prelude.{tags_at, rest_at, both_at, is_sound}
+use Rattle.edit_groups.specs.Prelude.{tags_at, rest_at, is_sound}
+use Rattle.edit_footprint.specs.Touches.{presence_read, presence_written, cell_read, cell_written}
+use Rattle.edit_footprint.specs.Footprints.{reads_at, changes_at}
 use Rattle.room_interface.specs.declared.action.Action.TheVariants.{Create, Retag, Move, Nodes, Delete, Split, Unglue}
 use Rattle.osm_elements.specs.declared.element.Element.TheVariants.{Node, Way}
 use Rattle.room_interface.specs.declared.refusal.Refusal.TheVariants.{Absent, Present, WrongKind, TooFew, TooMany, InUse, Nothing}
@@ -48,9 +50,9 @@ strangers =
     ∷ [] in
     (replies ample calls ≡ (Done 1 ∷ Done 2 ∷ Undid 3 1 ∷ NothingToUndo ∷ []))
     × (map_after ample calls ≡ ((n2, node_at (pos 1) (pos 1)) ∷ []))
-    × (held_after ample calls ≡ ((2, both_at n2) ∷ [])))
+    × (held_after ample calls ≡ ((2, presence_written n2 ∷ []) ∷ [])))
 
--- a way with both nodes blocks the undo of each create, by the node's rest
+-- a way with both nodes blocks the undo of each create, because it reads the node's presence
 unfoldable pub in_use : Type 0
 in_use =
     (let calls =
@@ -61,9 +63,10 @@ in_use =
     ∷ undoes bob 3 (Some 2)
     ∷ [] in
     (replies ample calls ≡ (Done 1 ∷ Done 2 ∷ Done 3 ∷ Conflict 3 n1 ∷ Conflict 3 n2 ∷ []))
-    × (held_after ample calls ≡ ((1, both_at n1) ∷ (2, both_at n2) ∷ (3, rest_at n1 ∷ rest_at n2 ∷ both_at w1) ∷ [])))
+    × (held_after ample calls ≡ ((1, presence_written n1 ∷ []) ∷ (2, presence_written n2 ∷ []) ∷ (3, presence_read n1 ∷ presence_read n2 ∷ presence_written w1 ∷ []) ∷ [])))
 
--- a deleted way blocks no more; if two entries share several names, the reply has the least
+-- a deleted way blocks no more; the create and the delete of a way meet at the way, and not at the nodes that both only
+-- refer to
 unfoldable pub taken_back_way : Type 0
 taken_back_way =
     (let calls =
@@ -76,7 +79,7 @@ taken_back_way =
     ∷ undoes bob 3 None
     ∷ undoes anna 4 None
     ∷ [] in
-    (replies ample calls ≡ (Done 1 ∷ Done 2 ∷ Done 3 ∷ Done 4 ∷ Conflict 4 n1 ∷ Undid 5 4 ∷ Undid 6 3 ∷ Undid 7 1 ∷ []))
+    (replies ample calls ≡ (Done 1 ∷ Done 2 ∷ Done 3 ∷ Done 4 ∷ Conflict 4 w1 ∷ Undid 5 4 ∷ Undid 6 3 ∷ Undid 7 1 ∷ []))
     × (map_after ample calls ≡ ((n2, node_at (pos 1) (pos 1)) ∷ [])))
 
 -- each refusal of a create, a delete and an undo, in one run
@@ -128,7 +131,7 @@ refusals_in_turn =
     ∷ NotStanding
     ∷ NotStanding
     ∷ Done 6
-    ∷ Conflict 6 n1
+    ∷ Conflict 6 w2
     ∷ []))
     × (map_after ample calls ≡ ((n1, node_at (pos 1) (pos 1)) ∷ (n2, node_at (pos 2) (pos 2)) ∷ []))
     × (replay [] (standing_actions [] (answers [] ample [] calls).1) ≡ Some (map_after ample calls))
@@ -185,7 +188,7 @@ redo_at_once =
     ∷ [] in
     (replies ample calls ≡ (Done 1 ∷ Done 2 ∷ Undid 3 1 ∷ Redid 4 1 ∷ NothingToRedo ∷ []))
     × (map_after ample calls ≡ ((n1, node_at (pos 0) (pos 0)) ∷ (n2, node_at (pos 1) (pos 1)) ∷ []))
-    × (held_after ample calls ≡ ((2, both_at n2) ∷ (4, both_at n1) ∷ []))
+    × (held_after ample calls ≡ ((2, presence_written n2 ∷ []) ∷ (4, presence_written n1 ∷ []) ∷ []))
     × (redos_left ample calls anna ≡ []))
 
 -- a way cannot be redone while one of its nodes is absent: the redo is refused, and stays the next one until the node
@@ -206,7 +209,7 @@ redo_refused =
     × (redos_left ample calls anna ≡ (3 ∷ []))
     × (redos_left ample (calls ++ later) anna ≡ [])
     × (map_after ample (calls ++ later) ≡ ((n1, node_at (pos 0) (pos 0)) ∷ (n2, node_at (pos 1) (pos 1)) ∷ (w1, way_of (n1 ∷ n2 ∷ [])) ∷ []))
-    × (held_after ample (calls ++ later) ≡ ((1, both_at n1) ∷ (2, both_at n2) ∷ (7, rest_at n1 ∷ rest_at n2 ∷ both_at w1) ∷ [])))
+    × (held_after ample (calls ++ later) ≡ ((1, presence_written n1 ∷ []) ∷ (2, presence_written n2 ∷ []) ∷ (7, presence_read n1 ∷ presence_read n2 ∷ presence_written w1 ∷ []) ∷ [])))
 
 -- of two undone entries, the last is redone first
 unfoldable pub redo_order : Type 0
@@ -222,7 +225,7 @@ redo_order =
     × (redos_left ample calls anna ≡ (2 ∷ 1 ∷ []))
     × (map_after ample calls ≡ [])
     × (map_after ample (calls ++ later) ≡ ((n1, node_at (pos 0) (pos 0)) ∷ (n2, node_at (pos 1) (pos 1)) ∷ []))
-    × (held_after ample (calls ++ later) ≡ ((5, both_at n1) ∷ (6, both_at n2) ∷ [])))
+    × (held_after ample (calls ++ later) ≡ ((5, presence_written n1 ∷ []) ∷ (6, presence_written n2 ∷ []) ∷ [])))
 
 -- a redo can be undone and redone by its own number, and a new action empties the stack
 unfoldable pub redo_again : Type 0
@@ -253,10 +256,11 @@ unglued_node =
     let later = undoes anna 4 None ∷ undoes bob 2 None ∷ [] in
     (replies ample (calls ++ later) ≡ (Done 1 ∷ Done 2 ∷ Done 3 ∷ Done 4 ∷ Conflict 4 n1 ∷ Undid 5 4 ∷ Undid 6 3 ∷ []))
     × (map_after ample calls ≡ ((n1, node_at (pos 5) (pos 0)) ∷ (n2, node_at (pos 5) (pos 0)) ∷ (w1, way_of (n1 ∷ n2 ∷ [])) ∷ []))
-    × (held_after ample calls ≡ ((1, both_at n1) ∷ (2, rest_at n1 ∷ both_at w1) ∷ (3, rest_at n1 ∷ []) ∷ (4, both_at n1 ++ both_at n2 ++ both_at w1) ∷ []))
+    × (held_after ample calls ≡ ((1, presence_written n1 ∷ []) ∷ (2, presence_read n1 ∷ presence_written w1 ∷ []) ∷ (3, changes_at (rest_at n1))
+    ∷ (4, reads_at (tags_at n1) ++ cell_read (rest_at n1) ∷ presence_read n2 ∷ presence_written n2 ∷ presence_read w1 ∷ presence_written w1 ∷ cell_written (rest_at w1) ∷ []) ∷ []))
     × (map_after ample (calls ++ later) ≡ ((n1, node_at (pos 0) (pos 0)) ∷ (w1, way_of (n1 ∷ n1 ∷ [])) ∷ [])))
 
--- a move and new tags of one node share no cell: each can be undone without the other, and the undo of the move keeps
+-- a move and new tags of one node do not meet: each can be undone without the other, and the undo of the move keeps
 -- the tags
 unfoldable pub blocker_goes_by_parts : Type 0
 blocker_goes_by_parts =
@@ -269,10 +273,10 @@ blocker_goes_by_parts =
     let later = undoes bob 2 None ∷ undoes anna 3 None ∷ [] in
     (replies ample (calls ++ later) ≡ (Done 1 ∷ Done 2 ∷ Done 3 ∷ Undid 4 2 ∷ Undid 5 3 ∷ Repeat 4 ∷ []))
     × (map_after ample calls ≡ ((n1, Node (pos 0) (pos 0) tagged) ∷ []))
-    × (held_after ample calls ≡ ((1, both_at n1) ∷ (3, tags_at n1 ∷ []) ∷ []))
+    × (held_after ample calls ≡ ((1, presence_written n1 ∷ []) ∷ (3, changes_at (tags_at n1)) ∷ []))
     × (map_after ample (calls ++ later) ≡ ((n1, node_at (pos 0) (pos 0)) ∷ [])))
 
--- two moves of one node share its rest: the second blocks the first until it is undone
+-- two moves of one node both write its rest: the second blocks the first until it is undone
 unfoldable pub both_moved : Type 0
 both_moved =
     (let calls =
@@ -318,6 +322,26 @@ split_over_retag =
     (replies ample calls ≡ (Done 1 ∷ Done 2 ∷ Done 3 ∷ Done 4 ∷ Done 5 ∷ Conflict 5 w1 ∷ []))
     × (map_after ample calls ≡ ((n1, node_at (pos 0) (pos 0)) ∷ (n2, node_at (pos 1) (pos 1)) ∷ (w1, Way (n1 ∷ n2 ∷ []) tagged) ∷ (w2, Way (n2 ∷ n1 ∷ []) tagged) ∷ [])))
 
+-- two ways over one node: the first can go, and so can the move of a node over which somebody drew a way later; but two
+-- changes of the tags of one node meet
+unfoldable pub over_one_node : Type 0
+over_one_node =
+    (let calls =
+    does anna 1 (Create n1 (node_at (pos 1) (pos 1)))
+    ∷ does anna 2 (Create n2 (node_at (pos 2) (pos 2)))
+    ∷ does anna 3 (Create n3 (node_at (pos 3) (pos 3)))
+    ∷ does anna 4 (Create w1 (way_of (n1 ∷ n2 ∷ [])))
+    ∷ does bob 1 (Create w2 (way_of (n1 ∷ n3 ∷ [])))
+    ∷ undoes anna 5 None
+    ∷ does carl 1 (Move (n3 ∷ []) (pos 5) (pos 5))
+    ∷ does bob 2 (Create w1 (way_of (n3 ∷ n2 ∷ [])))
+    ∷ undoes carl 2 None
+    ∷ does carl 3 (Retag n2 given)
+    ∷ does bob 3 (Retag n2 ((107 ∷ [], None) ∷ []))
+    ∷ undoes carl 4 None
+    ∷ [] in
+    replies ample calls ≡ (Done 1 ∷ Done 2 ∷ Done 3 ∷ Done 4 ∷ Done 5 ∷ Undid 6 4 ∷ Done 7 ∷ Done 8 ∷ Undid 9 7 ∷ Done 10 ∷ Done 11 ∷ Conflict 11 n2 ∷ []))
+
 -- a group draws a way as one entry: it is undone and redone as a whole, and blocked by bob's change of one of its
 -- nodes; a refused group changes nothing, and its refusal has the position of the refused action, or none
 unfoldable pub drawn_as_one : Type 0
@@ -335,4 +359,4 @@ drawn_as_one =
     ∷ [] in
     (replies ample calls ≡ (Done 1 ∷ Done 2 ∷ Conflict 2 n2 ∷ Undid 3 2 ∷ Undid 4 1 ∷ Redid 5 1 ∷ refused_in 1 (Absent n3) ∷ refused Nothing ∷ refused_in 0 (InUse n1 w1) ∷ []))
     × (map_after ample calls ≡ ((n1, node_at (pos 1) (pos 1)) ∷ (n2, node_at (pos 2) (pos 2)) ∷ (w1, way_of (n1 ∷ n2 ∷ [])) ∷ []))
-    × (held_after ample calls ≡ ((5, both_at n1 ++ both_at n2 ++ both_at w1) ∷ [])))
+    × (held_after ample calls ≡ ((5, presence_read n1 ∷ presence_written n1 ∷ presence_read n2 ∷ presence_written n2 ∷ presence_written w1 ∷ []) ∷ [])))

@@ -23,11 +23,11 @@ module _ {A : Type 0} where
   abbrev pub IsOwn : List (Entry A) → Author → ℕ → Type 0
   IsOwn j author s = is_by author (numbered j s) ≡ true
 
-  -- the recorded footprints of both entries have a cell of the name e
+  -- the recorded footprints of both entries have touches of the name e that conflict
   abbrev pub Share : Rows A → List (Entry A) → ℕ → ℕ → Name → Type 0
   Share base j s t e = Shares (recorded_footprint (past base j) s) (recorded_footprint (past base j) t) e
 
-  -- t is active, comes after s, and shares a cell of the name e with it
+  -- t is active, comes after s, and meets it at the name e
   abbrev pub Blocks : Rows A → List (Entry A) → ℕ → ℕ → Name → Type 0
   Blocks base j s t e = (s < t) × Stands j t × Share base j s t e
 

@@ -1,10 +1,11 @@
 -- The words that proofs of this crate and the crates above cite, passed on from one place. It declares nothing.
-pub use Rattle.edit_groups.specs.Prelude.{AllocError, AreChanges, AreFrom, AreHeld, AreHeld-fallen, AreHeld-standing, AreInOrder-after, AreInOrder-with_row, ChangePlaces, Held, HoldsOnly, HoldsOnly-standing, IsEditPlan, IsFirstAfter, IsFirstUnsound, IsNext, IsNonDecreasing, IsRising-footprint, IsRising-name_set, StoreState, accepted_keeps_sound, after, after_all, apart, applied_to, becomes, both_have, but, cell_of, changed-differences, changed-inverse, changed_cells, changed_names, changed_row, changed_rows, changes, commutation, counted, differences, equal_row, fallen, fallen_again, first_that_holds, footprint, footprint_of, goes, half, half_at, holding, holding-fallen, holding-standing, holds, inverse, is_among_own, is_of_length, is_same_row, is_sound, is_sound_row, join_row, just_one, meets, merge_row, none_lesser, option_or, or_right, references, refusal, rest_at, row_after, row_at-after, row_at-changed, row_at-with_row, row_standing, same_holders, same_number, same_text_itself, same_texts, sound_in_order, sound_kinds, sound_row, split_off, subjects, then_some, there_by_half, tied, told_kind, told_node, unsound_map, users, with_row}
+pub use Rattle.edit_groups.specs.Prelude.{AllocError, AreChanges, AreFrom, AreHeld, AreHeld-fallen, AreHeld-standing, AreInOrder-after, AreInOrder-with_row, ChangePlaces, Held, HoldsOnly, HoldsOnly-standing, IsEditPlan, IsFirst, IsFirstAfter, IsFirstHolder, IsFirstUnsound, IsNext, IsNonDecreasing, IsFootprint-footprint, IsRising-name_set, StoreState, accepted_keeps_sound, after, after_all, apart, applied_to, becomes, both_have, but, cell_of, changed-differences, changed-inverse, changed_cells, changed_names, changed_row, changed_rows, changes, commutation, counted, differences, equal_row, fallen, fallen_again, first_that_holds, footprint, footprint_of, goes, half, half_at, holding, holding-fallen, holding-standing, holds, inverse, is_among_own, is_of_length, is_same_row, is_sound, is_sound_row, join_row, just_one, meets, merge_row, none_lesser, option_or, or_right, references, refusal, rest_at, row_after, row_at-after, row_at-changed, row_at-with_row, row_standing, same_holders, same_number, same_text_itself, same_texts, sound_in_order, sound_kinds, sound_row, split_off, subjects, then_some, there_by_half, tied, told_kind, told_node, unsound_map, users, with_row}
 pub use Rattle.room_stacks.specs.Prelude.{AreInOrder, IsBinarySearchResult, Rows, StacksState, above_entries, are_rising, deeds_from-push, find, into_iter_items, is_absent, is_among, is_made_request, is_made_room_call, is_present, is_same_author, is_same_text, is_work_of, kept_standing, list_all, list_any, name_cmp, names_of, put_row, redo_entries, refusal_reply, refused_by, row_at, spent_entries, standing_entries, without_row}
 pub use Rattle.std.specs.List.{cons_option}
 pub use Rattle.std.specs.Thread.{IsSync}
 pub use Rattle.std.specs.declared.alloc.Global.{Global}
 pub use Rattle.turn_desk.specs.History.{BeginsWith, GainsAtMostOne, History, IsLegal, MayAllFollow, entries}
+pub use Rattle.edit_footprint.specs.Touches.{IsFootprint, Touch, does, rivals}
 pub use Rattle.osm_changes.specs.declared.cell.Cell.{Cell}
 pub use Rattle.osm_changes.specs.declared.change.Change.{Change}
 pub use Rattle.osm_elements.specs.declared.element.Element.{Element}

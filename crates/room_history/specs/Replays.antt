@@ -7,7 +7,7 @@ use Rattle.room_interface.specs.declared.edit.Edit.{Edit as Action}
 use Rattle.room_history.specs.declared.entry.Entry.{Entry}
 use Rattle.room_history.specs.declared.entry.EntryKind.{EntryKind}
 use Rattle.room_history.specs.declared.entry.EntryKind.TheVariants.{Do, Undo, Redo}
-use Rattle.osm_changes.specs.declared.cell.Cell.{Cell}
+use Rattle.edit_footprint.specs.Touches.{Touch}
 use Rattle.osm_changes.specs.declared.change.Change.{Change}
 use Rattle.room_history.specs.Journals.{numbered, standing}
 
@@ -15,7 +15,7 @@ use Rattle.room_history.specs.Journals.{numbered, standing}
 pub record Recorded (A : Type 0) : Type 0 where
   pub action : Option (Action A)
   pub changes : List (Change A)
-  pub footprint : List Cell
+  pub footprint : List Touch
 
 -- a map, and the record of each entry that led to it
 pub record Past (A : Type 0) : Type 0 where

@@ -1,7 +1,8 @@
 //! Changes of a room's parts for an entry.
 ghost use Rattle.std.specs.Prelude.{◌≡◌, ◌<◌, [], ◌∷◌, ◌++◌, Some, None, true, OnOk, OnErr, vec_len, vec_capacity};
 ghost use Rattle.edit_groups.specs.Prelude.{changed_rows, AreFrom, is_sound, applied_to, IsNext, standing};
-ghost use Rattle.osm_changes.specs.Prelude.{changed, IsRising};
+ghost use Rattle.osm_changes.specs.Prelude.{changed};
+ghost use Rattle.edit_footprint.specs.Touches.{IsFootprint};
 ghost use Rattle.room_stacks.specs.Stacks.{IsAboveAll, spent};
 ghost use Rattle.room_history.specs.Inner.Deeds.{deed_by, MayNote};
 
@@ -101,7 +102,7 @@ pub(crate) fn stand<A: Allocator + Copy>(
     footprint: &Footprint<A>,
     seq: u64,
 ) -> Result<(), Memory>
-    requires rising { IsRising footprint.now }
+    requires rising { IsFootprint footprint.now }
     requires next { IsNext holders.old seq }
     requires from { AreFrom store.old.rows effect.now.changes }
     requires sound { is_sound (changed store.old.rows effect.now.changes) ≡ true }

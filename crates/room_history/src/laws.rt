@@ -15,7 +15,7 @@ ghost use Rattle.room_history.specs.Headline.{Holds};
 ghost use Rattle.room_history.specs.Replays.{past, mapof, recorded_next};
 ghost use Rattle.room_history.specs.LegalJournals.{IsJournal};
 ghost use Rattle.room_history.specs.Turns.{IsTurn};
-ghost use Rattle.room_history.specs.Examples.{first_run, range_ends, limit_one, limit_zero, strangers, in_use, taken_back_way, refusals_in_turn, relations_in_turn, redo_at_once, redo_refused, redo_order, redo_again, unglued_node, blocker_goes_by_parts, both_moved, two_blockers_by_parts, split_over_retag, drawn_as_one};
+ghost use Rattle.room_history.specs.Examples.{first_run, range_ends, limit_one, limit_zero, strangers, in_use, taken_back_way, refusals_in_turn, relations_in_turn, redo_at_once, redo_refused, redo_order, redo_again, unglued_node, blocker_goes_by_parts, both_moved, two_blockers_by_parts, split_over_retag, over_one_node, drawn_as_one};
 
 use osm_changes::laws::{an_inverse_restores, differences_are_changes};
 use std::alloc::Allocator;
@@ -102,5 +102,6 @@ pub fn replies_are_as_worked()
     ensures both_moved { both_moved }
     ensures two_blockers_by_parts { two_blockers_by_parts }
     ensures split_over_retag { split_over_retag }
+    ensures over_one_node { over_one_node }
     ensures drawn_as_one { drawn_as_one }
 {}

@@ -142,8 +142,8 @@ impl<A: Allocator + Copy> Room<A> {
     /// Runs a call and returns its reply.
     ///
     /// It costs what the action's plan costs, and the changes. An undo costs the changes that it takes back. For each
-    /// cell of its entry's footprint, it also searches the later entries that touched the cell. Each look-up takes time
-    /// logarithmic in the size of the map or of the journal. Otherwise the cost does not depend on these.
+    /// touch of its entry's footprint, it also searches the later entries with a conflicting touch. Each look-up takes
+    /// time logarithmic in the size of the map or of the journal. Otherwise the cost does not depend on these.
     ///
     /// The first refusal in the order of [`Reply`] is returned. A refusal changes nothing, and spends no id.
     pub fn take(&mut self, call: Call<A>) -> Reply<A>

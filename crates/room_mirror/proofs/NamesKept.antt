@@ -1,17 +1,17 @@
 -- The names of a room's map have ids as in messages if those of its base and of its actions do.
-use Rattle.std.proofs.Common.{◌≡◌, ◌||◌, ℕ, zero, suc, Bool, true, false, List, [], ◌∷◌, Option, Some, None, All, IfSome, is_some, is_none, cond, map, slice_get, refl, sym, ap, subst, ◌∙◌, arith, option_map, fold, option_and_then}
+use Rattle.std.proofs.Common.{◌≡◌, ◌||◌, ℕ, zero, suc, Bool, true, false, List, [], ◌∷◌, Option, Some, None, All, IfSome, is_some, is_none, cond, slice_get, refl, sym, ap, subst, ◌∙◌, arith, option_map, fold, option_and_then}
 use Rattle.std.proofs.lemmas.List.Elements.{All-append, All-cons, All-nil}
-use Rattle.room_mirror.specs.Prelude.{cons_option, Global, Name, Element, Rows, is_among, is_present, is_same, names_of, is_among-names_of, same_names, Cell, goes, join_row, merge_row, split_off, row_standing, Action, Create, Retag, Move, Reverse, Nodes, Members, Delete, Purge, Split, Join, Merge, Unglue, subjects, Edit, One, Group, after_all, becomes, row_at-after, Entry, EntryKind, Do, Undo, Redo, IsReplayed, numbered, standing, Past, Recorded, actions_of, done_again, mapof, past, past_after, recorded_next, replay, taken_back, HasId, HasEditIds, HasIds, HasSubjectIds, AllHaveIds, IsBrought}
+use Rattle.room_mirror.specs.Prelude.{cons_option, Global, Name, Element, Rows, is_among, is_present, is_same, names_of, is_among-names_of, same_names, goes, join_row, merge_row, split_off, row_standing, Action, Create, Retag, Move, Reverse, Nodes, Members, Delete, Purge, Split, Join, Merge, Unglue, subject_names, Edit, One, Group, after_all, becomes, row_at-after, Entry, EntryKind, Do, Undo, Redo, IsReplayed, numbered, standing, Past, Recorded, actions_of, done_again, mapof, past, past_after, recorded_next, replay, taken_back, HasId, HasEditIds, HasIds, HasSubjectIds, AllHaveIds, IsBrought}
 use Rattle.room_history.specs.Replays.{action_at}
 use Rattle.osm_elements.specs.Rows.{row_at}
 use Rattle.edit_actions.specs.After.{after}
 use Rattle.edit_groups.specs.Edits as edits
 
-first_false : (a : Bool) → (a || (a || false)) ≡ false → a ≡ false
+first_false : (a : Bool) → (a || false) ≡ false → a ≡ false
 first_false true e = absurd (cc)
 first_false false e = refl
 
-second_false : (a b : Bool) → (a || (a || (b || (b || false)))) ≡ false → b ≡ false
+second_false : (a b : Bool) → (a || (b || false)) ≡ false → b ≡ false
 second_false true b e = absurd (cc)
 second_false false true e = absurd (cc)
 second_false false false e = refl
@@ -23,10 +23,6 @@ not_chosen false o e = refl
 none_chosen : {X : Type 0} (b : Bool) (o : Option X) → o ≡ None → cond b None o ≡ None
 none_chosen true o e = refl
 none_chosen false o e = e
-
--- the names of an action's subjects
-abbrev subject_names : Action Global → List Name
-subject_names a = map (λ (c : Cell). c.name) (subjects a)
 
 -- a name without a row that is not a subject of the action has no row after it
 none_of : (m : Rows Global) (y : Name) (a : Action Global) → is_among (subject_names a) y ≡ false → becomes m a y None ≡ None
@@ -58,20 +54,12 @@ among_has (x ∷ xs) y h is = by (is_same y x) refl is (among_has xs y (λ k d l
 pub ids_of_base : (m : Rows Global) → All HasId (names_of m) → HaveIds m
 ids_of_base m h y there = among_has (names_of m) y h (is_among-names_of m y ∙ there)
 
-subjects_have : (cells : List Cell) (y : Name) → All (λ (c : Cell). HasId c.name) cells → is_among (map (λ (c : Cell). c.name) cells) y ≡ true → HasId y
-subjects_have [] y h is = absurd (cc)
-subjects_have (c ∷ cs) y h is = by (is_same y c.name) refl is (subjects_have cs y (λ k d l. h (suc k) d (omega (arith, l))))
-  where
-    by : (b : Bool) → is_same y c.name ≡ b → (b || is_among (map (λ (c : Cell). c.name) cs) y) ≡ true → (is_among (map (λ (c : Cell). c.name) cs) y ≡ true → HasId y) → HasId y
-    by true e f later = subst HasId (sym (same_names y c.name e)) (h 0 c (omega arith))
-    by false e f later = later f
-
 ids_after : (m : Rows Global) (a : Action Global) → HaveIds m → HasIds a → HaveIds (after m a)
 ids_after m a h s y there = by (row_at m y) refl (is_among (subject_names a) y) refl
   where
     by : (o : Option (Element Global)) → row_at m y ≡ o → (b : Bool) → is_among (subject_names a) y ≡ b → HasId y
     by (Some v) e b f = h y (ap is_some e)
-    by None e true f = subjects_have (subjects a) y s f
+    by None e true f = among_has (subject_names a) y s f
     by None e false f = let gone : row_at (after m a) y ≡ None = row_at-after m a y ∙ ap (becomes m a y) e ∙ none_of m y a f in absurd (cc (sym there ∙ ap is_some gone))
 
 ids_after_all : (group : List (Action Global)) (m : Rows Global) → HaveIds m → AllHaveIds group → HaveIds (after_all m group)

@@ -1,9 +1,11 @@
 -- Clients of a room: a client reads a welcome, and then news in order, and keeps a mirror. (Welcomes, news and mirrors
 -- are this project's.)
-use Rattle.std.specs.Prelude.{◌≡◌, ℕ, true, List, [], ◌∷◌, Option, Some, None, Ok, All, take, option_and_then}
+use Rattle.std.specs.Prelude.{◌≡◌, ◌++◌, ℕ, true, List, [], ◌∷◌, map, Option, Some, None, Ok, All, take, option_and_then}
 use Rattle.serde_json.specs.Read.{read}
 use Rattle.room_wire.specs.Prelude.{result_ok, Global, Rows, is_made_request, is_author, news_tree, spells_news, HasId, spells_welcome}
-use Rattle.room_history.specs.Prelude.{subjects, mapof}
+use Rattle.room_history.specs.Prelude.{mapof}
+use Rattle.edit_footprint.specs.Footprints.{owned, subjects}
+use Rattle.osm_elements.specs.declared.name.Name.{Name}
 use Rattle.osm_changes.specs.declared.cell.Cell.{Cell}
 use Rattle.room_interface.specs.declared.action.Action.{Action}
 use Rattle.room_interface.specs.declared.edit.Edit.{Edit}
@@ -52,9 +54,13 @@ mirror_made welcome texts =
     option_and_then (λ (w : Welcome). followed (record { seq = w.seq; rows = w.rows }) texts)
     (result_ok (spells_welcome welcome))
 
--- the names of the action's subjects have ids as in messages
+-- the names that an action is about
+abbrev pub subject_names : Action Global → List Name
+subject_names a = owned a ++ map (λ (c : Cell). c.name) (subjects a)
+
+-- the names that the action is about have ids as in messages
 abbrev pub HasIds : Action Global → Type 0
-HasIds a = All (λ (c : Cell). HasId c.name) (subjects a)
+HasIds a = All HasId (subject_names a)
 
 abbrev pub AllHaveIds : List (Action Global) → Type 0
 AllHaveIds [] = Unit {0}

@@ -2,7 +2,6 @@
 use Rattle.std.proofs.Common.{sym, ap, ◌∙◌}
 use Rattle.std.specs.Prelude.{◌≡◌, true, false, Option, None}
 use Rattle.edit_actions.specs.Prelude.{Rows, row_at, half_at, half, is_sound, first_that_holds, after, changes, checks, refusal}
-use Rattle.osm_changes.specs.Cells.{has}
 use Rattle.osm_elements.specs.declared.name.Name.{Name}
 use Rattle.osm_elements.specs.declared.element.Element.{Element}
 use Rattle.osm_changes.specs.declared.cell.Cell.{Cell}
@@ -10,12 +9,13 @@ use Rattle.osm_changes.specs.declared.part.Part.{Part}
 use Rattle.osm_changes.specs.declared.part.Part.TheVariants.{Tags, Rest}
 use Rattle.room_interface.specs.declared.action.Action.{Action}
 use Rattle.edit_footprint.specs.Agreement.{Agree}
-use Rattle.edit_footprint.specs.Footprints.{footprint_of, footprint}
+use Rattle.edit_footprint.specs.Footprints.{reaches, footprint_of, footprint}
 use Rattle.edit_footprint.specs.Locality.{AcceptedAlike}
 use Rattle.edit_footprint.specs.Facts.Becoming.{becomes, row_at-after}
 use Rattle.edit_footprint.specs.Facts.Differences.{same_differences}
 use Rattle.edit_footprint.specs.Facts.Halfwise.{becomes_halfwise}
 use Rattle.edit_footprint.specs.Facts.Footprints.{halves_outside}
+use Rattle.edit_footprint.specs.Facts.Reaching.{not_written}
 
 module _ {A : Type 0} where
   -- if a sound map accepts the action, each sound map that agrees at its footprint accepts it alike
@@ -24,7 +24,7 @@ module _ {A : Type 0} where
 
   -- one half of each row of n is unchanged if its cell is outside the footprint
   abbrev pub Keeps : Part → Rows A → Rows A → Action A → Type 0
-  Keeps p m n a = (y : Name) → has (footprint m a) (record { name = y; part = p }) ≡ false → half p (row_at (after n a) y) ≡ half p (row_at n y)
+  Keeps p m n a = (y : Name) → reaches (footprint m a) (record { name = y; part = p }) ≡ false → half p (row_at (after n a) y) ≡ half p (row_at n y)
 
   -- the action is accepted alike if it reads the same from both maps, keeps the halves of n outside, and has the same
   -- checks
@@ -33,7 +33,7 @@ module _ {A : Type 0} where
   accepted_alike m n a agree reads kept_tags kept_rest same ok =
       record { accepted = ap first_that_holds same ∙ ok; same_changes = changes_alike; same_footprint = ap (footprint_of a) changes_alike }
     where
-      inside : (c : Cell) → has (footprint m a) c ≡ true → half_at (after n a) c ≡ half_at (after m a) c
+      inside : (c : Cell) → reaches (footprint m a) c ≡ true → half_at (after n a) c ≡ half_at (after m a) c
       inside c i =
           ap (half c.part) (row_at-after n a c.name ∙ reads c.name (row_at n c.name)) ∙ becomes_halfwise m a c.name c.part (row_at n c.name) (row_at m c.name) (sym (agree.same_half c i))
           ∙ ap (half c.part) (sym (row_at-after m a c.name))
@@ -43,4 +43,4 @@ module _ {A : Type 0} where
       kept Rest = kept_rest
 
       changes_alike : changes n a ≡ changes m a
-      changes_alike = same_differences m (after m a) n (after n a) (footprint m a) (λ c i. (sym (agree.same_half c i), inside c i)) (halves_outside m a) (λ c out. kept c.part c.name out)
+      changes_alike = same_differences m (after m a) n (after n a) (reaches (footprint m a)) (λ c i. (sym (agree.same_half c i), inside c i)) (λ c out. halves_outside m a c (not_written (footprint m a) c out)) (λ c out. kept c.part c.name out)

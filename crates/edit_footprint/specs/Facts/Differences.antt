@@ -23,26 +23,26 @@ module _ {A : Type 0} where
   alike_there m n c p = ap (λ h. not (are_same_halves (half_at m c) h)) p ∙ ap not (same_itself (half_at m c))
 
   -- two pairs of maps have the same differences if they are equal at some cells, and neither pair differs elsewhere
-  pub same_differences : (m m2 n n2 : Rows A) (cells : List Cell)
-      → ((c : Cell) → has cells c ≡ true → (half_at n c ≡ half_at m c) × (half_at n2 c ≡ half_at m2 c))
-      → ((c : Cell) → has cells c ≡ false → half_at m2 c ≡ half_at m c)
-      → ((c : Cell) → has cells c ≡ false → half_at n2 c ≡ half_at n c)
+  pub same_differences : (m m2 n n2 : Rows A) (reached : Cell → Bool)
+      → ((c : Cell) → reached c ≡ true → (half_at n c ≡ half_at m c) × (half_at n2 c ≡ half_at m2 c))
+      → ((c : Cell) → reached c ≡ false → half_at m2 c ≡ half_at m c)
+      → ((c : Cell) → reached c ≡ false → half_at n2 c ≡ half_at n c)
       → differences n n2 ≡ differences m m2
-  same_differences m m2 n n2 cells inside kept kept_n =
-      ap (map (change_at n n2)) (sym (differing_are n n2 (differing m m2) (IsRising-differing m m2) (λ c. has-differing m m2 c ∙ sym (test c (has cells c) refl))))
-      ∙ map_same (change_at n n2) (change_at m m2) (differing m m2) (λ c i. alike c (within c i (has cells c) refl))
+  same_differences m m2 n n2 reached same kept kept_n =
+      ap (map (change_at n n2)) (sym (differing_are n n2 (differing m m2) (IsRising-differing m m2) (λ c. has-differing m m2 c ∙ sym (test c (reached c) refl))))
+      ∙ map_same (change_at n n2) (change_at m m2) (differing m m2) (λ c i. alike c (within c i (reached c) refl))
     where
-      test : (c : Cell) (b : Bool) → has cells c ≡ b → not (are_same_halves (half_at n c) (half_at n2 c)) ≡ not (are_same_halves (half_at m c) (half_at m2 c))
-      test c true i = λ j. not (are_same_halves ((inside c i).0 j) ((inside c i).1 j))
+      test : (c : Cell) (b : Bool) → reached c ≡ b → not (are_same_halves (half_at n c) (half_at n2 c)) ≡ not (are_same_halves (half_at m c) (half_at m2 c))
+      test c true i = λ j. not (are_same_halves ((same c i).0 j) ((same c i).1 j))
       test c false i = alike_there n n2 c (kept_n c i) ∙ sym (alike_there m m2 c (kept c i))
 
-      -- a cell at which the first pair differs is among the cells
-      within : (c : Cell) → has (differing m m2) c ≡ true → (b : Bool) → has cells c ≡ b → has cells c ≡ true
+      -- a cell at which the first pair differs is one of these
+      within : (c : Cell) → has (differing m m2) c ≡ true → (b : Bool) → reached c ≡ b → reached c ≡ true
       within c i true e = e
       within c i false e = absurd (cc (sym i ∙ has-differing m m2 c ∙ alike_there m m2 c (kept c e)))
 
-      alike : (c : Cell) → has cells c ≡ true → change_at n n2 c ≡ change_at m m2 c
-      alike c i = λ j. record { name = c.name; part = c.part; before = (inside c i).0 j; after = (inside c i).1 j }
+      alike : (c : Cell) → reached c ≡ true → change_at n n2 c ≡ change_at m m2 c
+      alike c i = λ j. record { name = c.name; part = c.part; before = (same c i).0 j; after = (same c i).1 j }
 
   -- the same changes turn the same half into the same half
   pub same_after : (m m2 n n2 : Rows A) (c : Cell) → differences n n2 ≡ differences m m2 → half_at n c ≡ half_at m c → half_at n2 c ≡ half_at m2 c

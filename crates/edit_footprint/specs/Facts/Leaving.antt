@@ -7,7 +7,7 @@ use Rattle.osm_elements.specs.declared.element.Element.{Element}
 use Rattle.osm_refs.specs.Facts.RisingNames.{same_rising}
 use Rattle.room_interface.specs.declared.action.Action.{Action}
 use Rattle.edit_footprint.specs.Locality.{LeavesTheRest}
-use Rattle.edit_footprint.specs.Facts.Footprints.{halves_outside, namers_outside}
+use Rattle.edit_footprint.specs.Facts.Footprints.{halves_outside, presence_outside, namers_outside}
 
 module _ {A : Type 0} where
   -- the users of a name are the names of the rows that refer to it
@@ -27,4 +27,4 @@ module _ {A : Type 0} where
   pub leaves_the_rest : (m : Rows A) (a : Action A) → is_sound m ≡ true → LeavesTheRest m a
   leaves_the_rest m a sound =
       let order = sound_in_order m sound in
-      record { same_half = halves_outside m a; same_users = λ e out. same_users (after m a) m (AreInOrder-after m a order) order e (namers_outside m a e out) }
+      record { same_half = halves_outside m a; same_presence = presence_outside m a; same_users = λ e out. same_users (after m a) m (AreInOrder-after m a order) order e (namers_outside m a e out) }

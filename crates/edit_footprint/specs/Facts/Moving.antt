@@ -3,7 +3,6 @@ use Rattle.std.proofs.Common.{sym, ap, ◌∙◌}
 use Rattle.std.specs.Prelude.{◌≡◌, ◌&&◌, ◌||◌, ℤ, pos, Bool, true, false, not, List, [], ◌∷◌, Option, Some, None, length, nat_eq, refl, cond, filter, option_map}
 use Rattle.std.proofs.lemmas.Bool.{or_from, false_from_ne_true, and_left, and_right}
 use Rattle.edit_actions.specs.Prelude.{list_any, int_eq, is_node, Rows, is_same, is_among, is_present, is_absent, row_at, Pairs, first_true, row_references, rest_at, half, rest_of, is_sound, same_whole, same_presence, sound_in_order, is_moved, moved_by, is_out_of_range, left_range, moves, nodes_of, nones, not_so, no_least, node_there, or_right, second_false, is_among_own, elsewhere, all_present, none_named, after, checks, refusal}
-use Rattle.osm_changes.specs.Cells.{has}
 use Rattle.osm_elements.specs.declared.name.Name.{Name}
 use Rattle.osm_elements.specs.declared.element.Element.{Element}
 use Rattle.osm_changes.specs.declared.half.Half.{Half}
@@ -13,15 +12,16 @@ use Rattle.room_interface.specs.declared.refusal.Refusal.{Refusal}
 use Rattle.room_interface.specs.declared.refusal.Refusal.TheVariants.{Absent, OutOfRange, Nothing}
 use Rattle.room_interface.specs.declared.action.Action.{Action}
 use Rattle.room_interface.specs.declared.action.Action.TheVariants.{Move}
-use Rattle.edit_footprint.specs.Footprints.{footprint}
+use Rattle.edit_footprint.specs.Footprints.{reaches, footprint}
 use Rattle.edit_footprint.specs.Facts.AcceptedAlike.{IsLocal, accepted_alike}
 use Rattle.edit_footprint.specs.Facts.Agreeing.{same_subject}
 use Rattle.edit_footprint.specs.Facts.Becoming.{row_at-after}
 use Rattle.edit_footprint.specs.Facts.CellSets.{has-rests}
-use Rattle.edit_footprint.specs.Facts.Footprints.{no_subject, halves_outside}
+use Rattle.edit_footprint.specs.Facts.Footprints.{not_a_subject, halves_outside}
 use Rattle.edit_footprint.specs.Facts.Halfwise.{keeps_moved, keeps_if, tags_kept}
 use Rattle.edit_footprint.specs.Facts.Halves.{same_nodes_of}
 use Rattle.edit_footprint.specs.Facts.Naming.{named_there, none_of_nodes}
+use Rattle.edit_footprint.specs.Facts.Reaching.{not_written}
 use Rattle.edit_footprint.specs.Facts.NonePassing.{none_of_list, none_of_map}
 use Rattle.osm_elements.specs.declared.element.Element.TheVariants as elements
 
@@ -49,13 +49,13 @@ module _ {A : Type 0} where
       ∙ tags_kept (moves m list dlat dlon y) (keeps_if (is_moved m list y) (moved_by dlat dlon) (keeps_moved dlat dlon)) (row_at m y)
 
   -- a row whose rest is outside is unchanged
-  row_stays : (m : Rows A) (list : List Name) (dlat dlon : ℤ) (y : Name) → has (footprint m (Move list dlat dlon)) (rest_at y) ≡ false → row_at (after m (Move list dlat dlon)) y ≡ row_at m y
+  row_stays : (m : Rows A) (list : List Name) (dlat dlon : ℤ) (y : Name) → reaches (footprint m (Move list dlat dlon)) (rest_at y) ≡ false → row_at (after m (Move list dlat dlon)) y ≡ row_at m y
   row_stays m list dlat dlon y out =
-      let a : Action A = Move list dlat dlon in same_whole (row_at (after m a) y) (row_at m y) (tags_stay m list dlat dlon y) (halves_outside m a (rest_at y) out)
+      let a : Action A = Move list dlat dlon in same_whole (row_at (after m a) y) (row_at m y) (tags_stay m list dlat dlon y) (halves_outside m a (rest_at y) (not_written (footprint m a) (rest_at y) out))
 
   -- a present node that is moved has a different place afterwards, so its row changes
   moved_away : (m : Rows A) (list : List Name) (dlat dlon : ℤ) → is_sound m ≡ true → refusal m (Move list dlat dlon) ≡ None
-      → (y : Name) → is_node y.kind ≡ true → is_present m y ≡ true → is_moved m list y ≡ true → has (footprint m (Move list dlat dlon)) (rest_at y) ≡ false → ⊥
+      → (y : Name) → is_node y.kind ≡ true → is_present m y ≡ true → is_moved m list y ≡ true → reaches (footprint m (Move list dlat dlon)) (rest_at y) ≡ false → ⊥
   moved_away m list dlat dlon sound ok y node here moved out = let row = node_there m y sound node here in still row.0 row.1 row.2 row.3
     where
       a : Action A
@@ -72,7 +72,7 @@ module _ {A : Type 0} where
 
   -- no name whose rest is outside is moved
   none_moved : (m : Rows A) (list : List Name) (dlat dlon : ℤ) → is_sound m ≡ true → refusal m (Move list dlat dlon) ≡ None
-      → (y : Name) → has (footprint m (Move list dlat dlon)) (rest_at y) ≡ false → is_moved m list y ≡ false
+      → (y : Name) → reaches (footprint m (Move list dlat dlon)) (rest_at y) ≡ false → is_moved m list y ≡ false
   none_moved m list dlat dlon sound ok y out = false_from_ne_true (is_moved m list y) (λ moved. by (is_present m y) refl moved)
     where
       in_a_way : Name → Bool
@@ -86,7 +86,7 @@ module _ {A : Type 0} where
       by true here moved = moved_away m list dlat dlon sound ok y (first_true (is_node y.kind) (is_among list y || list_any in_a_way list) moved) here moved out
       by false gone moved = cc (sym moved
           ∙ and_right (is_node y.kind) (is_among list y || list_any in_a_way list)
-          (or_from (is_among list y) (list_any in_a_way list) (sym (has-rests list y) ∙ no_subject m (Move list dlat dlon) (rest_at y) out) (none_at_all in_a_way list (in_none gone))))
+          (or_from (is_among list y) (list_any in_a_way list) (sym (has-rests list y) ∙ not_a_subject m (Move list dlat dlon) (rest_at y) out) (none_at_all in_a_way list (in_none gone))))
 
   -- the rest of an element determines whether it leaves the range
   abbrev is_far : ℤ → ℤ → Half A → Bool
@@ -108,7 +108,7 @@ module _ {A : Type 0} where
       a : Action A
       a = Move list dlat dlon
 
-      stays : (y : Name) → has (footprint m a) (rest_at y) ≡ false → is_moved m list y ≡ false
+      stays : (y : Name) → reaches (footprint m a) (rest_at y) ≡ false → is_moved m list y ≡ false
       stays = none_moved m list dlat dlon sound ok
 
       as_it_was : (o : Option (Element A)) → option_map (λ v. v) o ≡ o
@@ -137,7 +137,7 @@ module _ {A : Type 0} where
 
       within_too : left_range n list dlat dlon ≡ []
       within_too = none_of_map (λ r. is_moved n list r.0 && is_out_of_range (moved_by dlat dlon r.1)) n (sound_in_order n sound_n)
-          (λ y v is. ap (λ b. b && is_out_of_range (moved_by dlat dlon v)) (same_moved y) ∙ by y v is (has (footprint m a) (rest_at y)) refl)
+          (λ y v is. ap (λ b. b && is_out_of_range (moved_by dlat dlon v)) (same_moved y) ∙ by y v is (reaches (footprint m a) (rest_at y)) refl)
         where
           -- m has a row there with the same rest
           alike : (y : Name) (v : Element A) (o : Option (Element A)) → row_at m y ≡ o → half Rest o ≡ Some (rest_of v) → (is_moved m list y && is_out_of_range (moved_by dlat dlon v)) ≡ false
@@ -146,7 +146,7 @@ module _ {A : Type 0} where
               ap (λ b. is_moved m list y && b) (far_by_rest dlat dlon v ∙ ap (is_far dlat dlon) (sym (some_inside (rest_of u) (rest_of v) e)) ∙ sym (far_by_rest dlat dlon u))
               ∙ none_named (λ z w. is_moved m list z && is_out_of_range (moved_by dlat dlon w)) m within y u is
 
-          by : (y : Name) (v : Element A) → row_at n y ≡ Some v → (b : Bool) → has (footprint m a) (rest_at y) ≡ b → (is_moved m list y && is_out_of_range (moved_by dlat dlon v)) ≡ false
+          by : (y : Name) (v : Element A) → row_at n y ≡ Some v → (b : Bool) → reaches (footprint m a) (rest_at y) ≡ b → (is_moved m list y && is_out_of_range (moved_by dlat dlon v)) ≡ false
           by y v is true i = alike y v (row_at m y) refl (agree.same_half (rest_at y) i ∙ ap (half Rest) is)
           by y v is false out = and_left (is_moved m list y) (is_out_of_range (moved_by dlat dlon v)) (stays y out)
 

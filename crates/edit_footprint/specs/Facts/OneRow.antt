@@ -13,12 +13,13 @@ use Rattle.room_interface.specs.declared.action.Action.{Action}
 use Rattle.room_interface.specs.declared.action.Action.TheVariants.{Create, Retag, Reverse, Nodes, Members, Delete}
 use Rattle.edit_footprint.specs.Footprints.{subjects}
 use Rattle.edit_footprint.specs.Facts.AcceptedAlike.{IsLocal, Keeps, accepted_alike}
-use Rattle.edit_footprint.specs.Facts.Agreeing.{same_subject, same_row_of_subject, same_users_of_subject, still_there}
+use Rattle.edit_footprint.specs.Facts.Agreeing.{same_subject, same_row_of_owned, same_users_of_owned, still_there}
 use Rattle.edit_footprint.specs.Facts.Becoming.{row_at-after}
+use Rattle.edit_footprint.specs.Facts.Footprints.{subjects_inside}
 use Rattle.edit_footprint.specs.Facts.Halfwise.{KeepsTags, keeps_nodes, keeps_members, keeps_if, keeps_rest, tags_kept}
 use Rattle.edit_footprint.specs.Facts.Halves.{same_nodes_of, same_members_of, same_row_tags}
 use Rattle.edit_footprint.specs.Facts.NonePassing.{none_of_list}
-use Rattle.edit_footprint.specs.Facts.Subjects.{alone, either, another}
+use Rattle.edit_footprint.specs.Facts.Subjects.{alone, first, owned_reached, another, no_subject}
 use Rattle.osm_elements.specs.declared.element.Element.TheVariants as elements
 
 module _ {A : Type 0} where
@@ -29,7 +30,7 @@ module _ {A : Type 0} where
 
   pub retag_local : (x : Name) (given : GivenTags) → IsLocal {A = A} (Retag x given)
   retag_local x given m n sound sound_n ok agree = accepted_alike m n a agree (λ y o. refl)
-      (λ y out. ap (half Tags) (row_at-after n a y ∙ elsewhere x y (with_tags given_to) (row_at n y) (another m a Tags x y (alone (tags_at x)) out)))
+      (λ y out. ap (half Tags) (row_at-after n a y ∙ elsewhere x y (with_tags given_to) (row_at n y) (no_subject m a Tags x y (alone (tags_at x)) out)))
       (λ y out. ap (half Rest) (row_at-after n a y) ∙ rest_stays (is_same x y) (row_at n y)) same ok
     where
       given_to : Pairs → Pairs
@@ -56,7 +57,7 @@ module _ {A : Type 0} where
       → ((y : Name) → row_at (after n a) y ≡ option_map (at_name x f y) (row_at n y)) → Keeps Tags m n a × Keeps Rest m n a
   rest_alone m n a x f keeps own rewritten = (
     λ y out. ap (half Tags) (rewritten y) ∙ tags_kept (at_name x f y) (keeps_if (is_same x y) f keeps) (row_at n y),
-    λ y out. ap (half Rest) (rewritten y ∙ elsewhere x y f (row_at n y) (another m a Rest x y own out)),
+    λ y out. ap (half Rest) (rewritten y ∙ elsewhere x y f (row_at n y) (no_subject m a Rest x y own out)),
   )
 
   pub reverse_local : (w : Name) → IsLocal {A = A} (Reverse w)
@@ -77,7 +78,7 @@ module _ {A : Type 0} where
 
   pub delete_local : (x : Name) → IsLocal {A = A} (Delete x)
   delete_local x m n sound sound_n ok agree = accepted_alike m n a agree (λ y o. refl)
-      (λ y out. ap (half Tags) (stays y (another m a Tags x y (either Tags x []) out))) (λ y out. ap (half Rest) (stays y (another m a Rest x y (either Rest x []) out))) same ok
+      (λ y out. ap (half Tags) (stays y (another m a Tags x y (first x []) out))) (λ y out. ap (half Rest) (stays y (another m a Rest x y (first x []) out))) same ok
     where
       a : Action A
       a = Delete x
@@ -87,8 +88,8 @@ module _ {A : Type 0} where
 
       same : checks n a ≡ checks m a
       same =
-          let row = same_row_of_subject m n a agree x (λ p. either p x []) in
-          let its_users = same_users_of_subject m n a agree x (either Rest x []) in
+          let row = same_row_of_owned m n a agree x (first x []) in
+          let its_users = same_users_of_owned m n a agree x (first x []) in
           rw (← row, ← its_users) refl
 
   pub nodes_local : (w : Name) (list : List Name) → IsLocal {A = A} (Nodes w list)
@@ -115,7 +116,7 @@ module _ {A : Type 0} where
       here = no_least {A = A} Absent (filter (is_absent m) list) (nones (checks m a) ok).1.1.1.1.0
 
       here_too : filter (is_absent n) list ≡ []
-      here_too = none_of_list (is_absent n) list (λ e i. ap not (still_there m n a agree sound_n w e (alone (rest_at w)) (named e i) (all_present m list (nones (checks m a) ok).1.1.1.1.0 e i)))
+      here_too = none_of_list (is_absent n) list (λ e i. ap not (still_there m n a agree sound_n w e (subjects_inside m a (rest_at w) (alone (rest_at w))) (named e i) (all_present m list (nones (checks m a) ok).1.1.1.1.0 e i)))
 
       same : checks n a ≡ checks m a
       same =
@@ -150,7 +151,7 @@ module _ {A : Type 0} where
 
       here_too : filter (is_absent n) (map (λ e. e.0) list) ≡ []
       here_too = none_of_list (is_absent n) (map (λ e. e.0) list)
-          (λ e i. ap not (still_there m n a agree sound_n r e (alone (rest_at r)) (named e i) (all_present m (map (λ z. z.0) list) (nones (checks m a) ok).1.1.1.0 e i)))
+          (λ e i. ap not (still_there m n a agree sound_n r e (subjects_inside m a (rest_at r) (alone (rest_at r))) (named e i) (all_present m (map (λ z. z.0) list) (nones (checks m a) ok).1.1.1.0 e i)))
 
       same : checks n a ≡ checks m a
       same =
@@ -161,7 +162,7 @@ module _ {A : Type 0} where
 
   pub create_local : (x : Name) (v : Element A) → IsLocal {A = A} (Create x v)
   create_local x v m n sound sound_n ok agree = accepted_alike m n a agree (λ y o. refl)
-      (λ y out. ap (half Tags) (stays y (another m a Tags x y (either Tags x []) out))) (λ y out. ap (half Rest) (stays y (another m a Rest x y (either Rest x []) out))) same ok
+      (λ y out. ap (half Tags) (stays y (another m a Tags x y (first x []) out))) (λ y out. ap (half Rest) (stays y (another m a Rest x y (first x []) out))) same ok
     where
       a : Action A
       a = Create x v
@@ -182,8 +183,8 @@ module _ {A : Type 0} where
         where
           by : (e : Name) → is_among (references v) e ≡ true → (s b : Bool) → is_present m e ≡ b → (not s && not b) ≡ false → (not s && is_absent n e) ≡ false
           by e i true b there h = refl
-          by e i false true there h = ap not (still_there m n a agree sound_n x e (either Rest x []) (named e i) there)
+          by e i false true there h = ap not (still_there m n a agree sound_n x e (owned_reached m a Rest x (first x [])) (named e i) there)
           by e i false false there h = absurd (cc)
 
       same : checks n a ≡ checks m a
-      same = let row = same_row_of_subject m n a agree x (λ p. either p x []) in rw (← row, here, here_too) refl
+      same = let row = same_row_of_owned m n a agree x (first x []) in rw (← row, here, here_too) refl

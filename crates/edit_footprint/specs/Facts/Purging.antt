@@ -3,7 +3,7 @@ use Rattle.std.proofs.Common.{sym, ap, ◌∙◌}
 use Rattle.std.specs.Prelude.{◌≡◌, ◌≢◌, ◌||◌, ℕ, Bool, true, false, not, List, [], ◌∷◌, Option, Some, None, is_some, length, nat_lt, map, refl, cond, filter, option_map}
 use Rattle.std.proofs.lemmas.Bool.{and_left, or_from, or_parts, false_from_ne_true, true_from_ne_false}
 use Rattle.edit_actions.specs.Prelude.{Rows, is_same, is_among, row_at, same_either_way, row_references, rest_at, half, is_sound, nodes_of, with_nodes, with_members, without, falls_short, goes, what_is_left, after_purge, is_among_own, without_none, row_at-after_purge, x_goes, is_gone, purge_sound, checks}
-use Rattle.osm_changes.specs.Cells.{has}
+use Rattle.osm_changes.specs.Prelude.{same_names}
 use Rattle.osm_elements.specs.declared.name.Name.{Name}
 use Rattle.osm_elements.specs.declared.element.Element.{Element}
 use Rattle.osm_elements.specs.declared.element.Element.TheVariants.{Node, Way, Relation}
@@ -11,14 +11,15 @@ use Rattle.osm_changes.specs.declared.part.Part.{Part}
 use Rattle.osm_changes.specs.declared.part.Part.TheVariants.{Tags, Rest}
 use Rattle.room_interface.specs.declared.action.Action.{Action}
 use Rattle.room_interface.specs.declared.action.Action.TheVariants.{Purge}
-use Rattle.edit_footprint.specs.Footprints.{footprint}
+use Rattle.edit_footprint.specs.Footprints.{writes_presence, reaches, footprint}
 use Rattle.edit_footprint.specs.Facts.AcceptedAlike.{IsLocal, accepted_alike}
-use Rattle.edit_footprint.specs.Facts.Agreeing.{same_row_of_subject, not_named}
-use Rattle.edit_footprint.specs.Facts.Footprints.{halves_outside}
+use Rattle.edit_footprint.specs.Facts.Agreeing.{same_row_of_owned, not_named}
+use Rattle.edit_footprint.specs.Facts.Footprints.{owned_inside, presence_outside}
 use Rattle.edit_footprint.specs.Facts.Halfwise.{keeps_nodes, keeps_members, keeps_both, tags_kept}
 use Rattle.edit_footprint.specs.Facts.Halves.{same_nodes_of}
 use Rattle.edit_footprint.specs.Facts.Naming.{named_there, none_of_nodes}
-use Rattle.edit_footprint.specs.Facts.Subjects.{either, another}
+use Rattle.edit_footprint.specs.Facts.Reaching.{whole_reached}
+use Rattle.edit_footprint.specs.Facts.Subjects.{first, another}
 
 -- members of which none is removed
 members_stay : (go : Name → Bool) (members : List (Name × List ℕ)) → ((e : Name) → go e ≡ true → is_among (map (λ r. r.0) members) e ≡ false) → filter (λ r. not (go r.0)) members ≡ members
@@ -44,14 +45,22 @@ module _ {A : Type 0} where
       let there = named_there (after_purge m x) (purge_sound m x sound) y e (ap (λ o. is_among (row_references o) e) kept ∙ named) in
       cc (sym there ∙ ap is_some (is_gone m x e go))
 
-  -- a name with a cell outside is not removed: it is not the subject, and a removed way changes in both halves
-  stays_outside : (m : Rows A) (x : Name) (p : Part) (y : Name) → has (footprint m (Purge x)) (record { name = y; part = p }) ≡ false → goes m x y ≡ false
-  stays_outside m x p y out =
-      false_from_ne_true (goes m x y) (λ go. by (row_at m y) (sym (halves_outside m (Purge x) (record { name = y; part = p }) out) ∙ ap (half p) (is_gone m x y go)) go)
+  -- the footprint writes the presence of each removed name
+  gone_written : (m : Rows A) (x e : Name) → goes m x e ≡ true → writes_presence (footprint m (Purge x)) e ≡ true
+  gone_written m x e go = true_from_ne_false (writes_presence (footprint m (Purge x)) e) (λ out. by out (row_at m e) (sym (presence_outside m (Purge x) e out) ∙ ap is_some (is_gone m x e go)) go)
     where
-      by : (o : Option (Element A)) → half p o ≡ None → (is_same x y || falls_short x (nodes_of o)) ≡ true → ⊥
-      by None is go = cc (sym go ∙ or_from (is_same x y) false (same_either_way x y ∙ another m (Purge x) p x y (either p x []) out) refl)
-      by (Some v) is go = cc
+      other : writes_presence (footprint m (Purge x)) e ≡ false → is_same x e ≡ false
+      other out = false_from_ne_true (is_same x e)
+          (λ same. cc (sym (owned_inside m (Purge x) x (first x [])) ∙ ap (writes_presence (footprint m (Purge x))) (same_names x e same) ∙ out))
+
+      by : writes_presence (footprint m (Purge x)) e ≡ false → (o : Option (Element A)) → is_some o ≡ false → (is_same x e || falls_short x (nodes_of o)) ≡ true → ⊥
+      by out None is go = cc (sym go ∙ or_from (is_same x e) false (other out) refl)
+      by out (Some v) is go = cc
+
+  -- a name with a cell outside is not removed
+  stays_outside : (m : Rows A) (x : Name) (p : Part) (y : Name) → reaches (footprint m (Purge x)) (record { name = y; part = p }) ≡ false → goes m x y ≡ false
+  stays_outside m x p y out =
+      false_from_ne_true (goes m x y) (λ go. cc (sym (whole_reached (footprint m (Purge x)) (record { name = y; part = p }) (gone_written m x y go)) ∙ out))
 
   -- a row that is not removed keeps its tags
   tags_stay : (m : Rows A) (x y : Name) → goes m x y ≡ false → half Tags (row_at (after_purge m x) y) ≡ half Tags (row_at m y)
@@ -72,22 +81,19 @@ module _ {A : Type 0} where
       a = Purge x
 
       -- a row whose rest is outside refers to nothing removed, because all rows that do change
-      unnamed : (e : Name) → goes m x e ≡ true → (y : Name) → has (footprint m a) (rest_at y) ≡ false → is_among (row_references (row_at n y)) e ≡ false
-      unnamed e go = not_named m n a agree sound sound_n e inside (purge_changes m x e sound go) (λ y out. tags_stay m x y (stays_outside m x Rest y out))
-        where
-          inside : has (footprint m a) (rest_at e) ≡ true
-          inside = true_from_ne_false (has (footprint m a) (rest_at e)) (λ out. cc (sym go ∙ stays_outside m x Rest e out))
+      unnamed : (e : Name) → goes m x e ≡ true → (y : Name) → reaches (footprint m a) (rest_at y) ≡ false → is_among (row_references (row_at n y)) e ≡ false
+      unnamed e go = not_named m n a agree sound sound_n e (gone_written m x e go) (purge_changes m x e sound go) (λ y out. tags_stay m x y (stays_outside m x Rest y out))
 
       -- the same names are removed from both maps
       same_goes : goes n x ≡ goes m x
-      same_goes j y = by (has (footprint m a) (rest_at y)) refl j
+      same_goes j y = by (reaches (footprint m a) (rest_at y)) refl j
         where
-          by : (b : Bool) → has (footprint m a) (rest_at y) ≡ b → goes n x y ≡ goes m x y
+          by : (b : Bool) → reaches (footprint m a) (rest_at y) ≡ b → goes n x y ≡ goes m x y
           by true inside = ap (λ l. is_same x y || falls_short x l) (sym (same_nodes_of (row_at m y) (row_at n y) (agree.same_half (rest_at y) inside)))
           by false out =
-              or_from (is_same x y) (falls_short x (nodes_of (row_at n y))) (same_either_way x y ∙ another m a Rest x y (either Rest x []) out)
+              or_from (is_same x y) (falls_short x (nodes_of (row_at n y))) (same_either_way x y ∙ another m a Rest x y (first x []) out)
               (and_left (is_among (nodes_of (row_at n y)) x) (nat_lt (length (without x (nodes_of (row_at n y)))) 2) (none_of_nodes (row_at n y) x (unnamed x (x_goes m x) y out)))
               ∙ sym (stays_outside m x Rest y out)
 
       same : checks n a ≡ checks m a
-      same = let row = same_row_of_subject m n a agree x (λ p. either p x []) in rw (← row) refl
+      same = let row = same_row_of_owned m n a agree x (first x []) in rw (← row) refl

@@ -11,13 +11,19 @@ use Rattle.osm_changes.specs.declared.part.Part.{Part}
 use Rattle.osm_changes.specs.declared.part.Part.TheVariants.{Tags, Rest}
 use Rattle.room_interface.specs.declared.action.Action.{Action}
 use Rattle.room_interface.specs.declared.action.Action.TheVariants.{Unglue}
-use Rattle.edit_footprint.specs.Footprints.{half_nodes, half_before, footprint}
+use Rattle.edit_footprint.specs.Footprints.{half_nodes, half_before, reaches, footprint}
 use Rattle.edit_footprint.specs.Facts.AcceptedAlike.{IsLocal, accepted_alike}
-use Rattle.edit_footprint.specs.Facts.Agreeing.{same_row_of_subject}
+use Rattle.edit_footprint.specs.Facts.Agreeing.{same_row_of_owned}
+use Rattle.edit_footprint.specs.Facts.CellSets.{has-own, has-more}
 use Rattle.edit_footprint.specs.Facts.Footprints.{from_inside}
 use Rattle.edit_footprint.specs.Facts.Halfwise.{keeps_if, keeps_nodes, tags_kept}
 use Rattle.edit_footprint.specs.Facts.Halves.{nodes_by_half}
-use Rattle.edit_footprint.specs.Facts.Subjects.{either, first, second, another}
+use Rattle.edit_footprint.specs.Facts.Subjects.{first, second, another}
+
+-- both cells of a name are in its list
+either : (p : Part) (x : Name) → has (tags_at x ∷ rest_at x ∷ []) (record { name = x; part = p }) ≡ true
+either Tags x = has-own (tags_at x) (rest_at x ∷ [])
+either Rest x = has-more (rest_at x) (tags_at x) (rest_at x ∷ []) (has-own (rest_at x) [])
 
 module _ {A : Type 0} where
   first_before : (d : Change A) (cs : List (Change A)) (c : Cell) → half_before (d ∷ cs) c ≡ cond (is_same_cell c (cell_of d)) d.before (half_before cs c)
@@ -45,12 +51,12 @@ module _ {A : Type 0} where
 
   -- the footprint has both cells of the old node
   stood_inside : (m : Rows A) (w : Name) (i : ℕ) (v : Name) → is_sound m ≡ true → refusal m (Unglue w i v) ≡ None → (s : Unglues m w i v)
-      → (p : Part) → has (footprint m (Unglue w i v)) (record { name = s.stood.name; part = p }) ≡ true
+      → (p : Part) → reaches (footprint m (Unglue w i v)) (record { name = s.stood.name; part = p }) ≡ true
   stood_inside m w i v sound ok s p =
       from_inside m (Unglue w i v) stood
       (ap (λ h. has (flat_map both_at (option_to_list (slice_get (half_nodes h) i))) stood) before
       ∙ ap (λ l. has (flat_map both_at (option_to_list (slice_get l i))) stood) (sym (nodes_by_half (row_at m w)) ∙ ap nodes_of s.row)
-      ∙ ap (λ o. has (flat_map both_at (option_to_list o)) stood) s.stood.at ∙ either p s.stood.name [])
+      ∙ ap (λ o. has (flat_map both_at (option_to_list o)) stood) s.stood.at ∙ either p s.stood.name)
     where
       k : Rows A
       k = after m (Unglue w i v)
@@ -69,8 +75,8 @@ module _ {A : Type 0} where
   pub unglue_local : (w : Name) (i : ℕ) (v : Name) → IsLocal {A = A} (Unglue w i v)
   unglue_local w i v m n sound sound_n ok agree =
       accepted_alike m n a agree (λ y o. ap (λ r. cond (is_same y v) r (option_map (unglue_row w i v y) o)) same_standing)
-      (λ y out. unglue_tags n w i v y (another m a Tags v y (second Tags w v) out))
-      (λ y out. ap (half Rest) (unglue_leaves n w i v y (another m a Rest w y (first Rest w v) out) (another m a Rest v y (second Rest w v) out))) same ok
+      (λ y out. unglue_tags n w i v y (another m a Tags v y (second w v) out))
+      (λ y out. ap (half Rest) (unglue_leaves n w i v y (another m a Rest w y (first w (v ∷ [])) out) (another m a Rest v y (second w v) out))) same ok
     where
       a : Action A
       a = Unglue w i v
@@ -79,7 +85,7 @@ module _ {A : Type 0} where
       s = unglues m w i v sound ok
 
       row_w : row_at m w ≡ row_at n w
-      row_w = same_row_of_subject m n a agree w (λ p. first p w v)
+      row_w = same_row_of_owned m n a agree w (first w (v ∷ []))
 
       row_stood : row_at m s.stood.name ≡ row_at n s.stood.name
       row_stood = same_whole (row_at m s.stood.name) (row_at n s.stood.name) (agree.same_half (tags_at s.stood.name) (stood_inside m w i v sound ok s Tags))
@@ -91,4 +97,4 @@ module _ {A : Type 0} where
           ap (λ o. option_and_then (row_at n) (slice_get (nodes_of o) i)) (sym row_w ∙ s.row) ∙ ap (option_and_then (row_at n)) s.stood.at ∙ sym row_stood ∙ sym (row_standing_is m w i v s)
 
       same : checks n a ≡ checks m a
-      same = let row_v = same_row_of_subject m n a agree v (λ p. second p w v) in rw (← row_w, ← row_v) refl
+      same = let row_v = same_row_of_owned m n a agree v (second w v) in rw (← row_w, ← row_v) refl

@@ -130,8 +130,8 @@ fn put_row_copied(
 /// Returns the names of a footprint as a text, each once and after a space.
 pub fn touched_shown(alloc: Global, touched: &Footprint<Global>) -> Result<String, AllocError> {
     let mut names: Vec<Name> = Vec::new(alloc);
-    for cell in touched.cells() {
-        let name = cell.name();
+    for touch in touched.touches() {
+        let name = touch.name();
         match names.last() {
             Some(last) if *last == name => {}
             _ => names.push(name)?,

@@ -1,7 +1,7 @@
 -- The effects that a room keeps.
 use Rattle.std.specs.Prelude.{List, [], ◌∷◌, Option, Some, None}
 use Rattle.osm_changes.specs.Changes.{changes_of}
-use Rattle.osm_changes.specs.declared.cell.Cell.{Cell}
+use Rattle.edit_footprint.specs.Touches.{Touch}
 use Rattle.osm_changes.specs.declared.changed_row.ChangedRow.{ChangedRow}
 use Rattle.room_history.specs.declared.kept.Effect.{Effect}
 use Rattle.room_history.specs.declared.kept.Form.{Form}
@@ -9,7 +9,7 @@ use Rattle.room_history.specs.declared.kept.Form.TheVariants.{Row, Rows, Group}
 
 module _ {A : Type 0} where
   -- the effect of changed rows
-  abbrev pub effect_of_rows : List (ChangedRow A) → Option (List Cell) → Effect A
+  abbrev pub effect_of_rows : List (ChangedRow A) → Option (List Touch) → Effect A
   effect_of_rows rows group = record { changes = changes_of rows; rows = rows; group = group }
 
   abbrev pub kept_effect : Form A → Effect A

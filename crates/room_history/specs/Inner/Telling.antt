@@ -2,7 +2,7 @@
 use Rattle.std.specs.Prelude.{◌+◌, ℕ, Bool, true, false, List, [], ◌∷◌, Option, Some, None, map}
 use Rattle.edit_groups.specs.Prelude.{then_some, Rows, changed_rows, footprint_of}
 use Rattle.osm_changes.specs.Changes.{changed}
-use Rattle.osm_changes.specs.declared.cell.Cell.{Cell}
+use Rattle.edit_footprint.specs.Touches.{Touch}
 use Rattle.osm_changes.specs.declared.change.Change.{Change}
 use Rattle.osm_changes.specs.declared.changed_row.ChangedRow.{ChangedRow}
 use Rattle.room_interface.specs.declared.edit.Edit.{Edit}
@@ -20,14 +20,14 @@ module _ {A : Type 0} where
   is_group (Some (Group g)) = true
 
   -- the footprint of a group; that of one action is not kept, because it follows from the action and its changes
-  abbrev pub group_cells : Option (Edit A) → List Cell → Option (List Cell)
-  group_cells o cells = then_some (is_group o) cells
+  abbrev pub group_touches : Option (Edit A) → List Touch → Option (List Touch)
+  group_touches o touches = then_some (is_group o) touches
 
   -- the footprint of an edit, from its changes, or as it was kept for a group
-  abbrev pub footprint_by : Edit A → Option (List Cell) → List (Change A) → List Cell
+  abbrev pub footprint_by : Edit A → Option (List Touch) → List (Change A) → List Touch
   footprint_by (One a) kept cs = footprint_of a cs
   footprint_by (Group g) None cs = []
-  footprint_by (Group g) (Some cells) cs = cells
+  footprint_by (Group g) (Some touches) cs = touches
 
   -- the effect of changes that are not a group's, with the rows before and after them
   abbrev pub single_effect : Rows A → List (Change A) → Effect A
@@ -35,7 +35,7 @@ module _ {A : Type 0} where
 
   -- the effect of an entry, with the rows before and after it
   abbrev pub effect_of : Rows A → Recorded A → Effect A
-  effect_of m r = record { changes = r.changes; rows = changed_rows m r.changes; group = group_cells r.action r.footprint }
+  effect_of m r = record { changes = r.changes; rows = changed_rows m r.changes; group = group_touches r.action r.footprint }
 
   -- the effects of entries in order
   abbrev pub kept_from : Rows A → List (Recorded A) → List (Effect A)

@@ -1,7 +1,7 @@
 -- Each holds by evaluation.
 use Rattle.std.proofs.Common.{refl}
 use Rattle.osm_elements.specs.NameOrder.{name_cmp}
-use Rattle.edit_footprint.specs.Examples.{created, retagged, moved, reversed, nodes_given, members_given, deleted, purged, split, joined, merged, unglued, ceased, by_parts}
+use Rattle.edit_footprint.specs.Examples.{created, retagged, moved, reversed, nodes_given, members_given, deleted, purged, split, joined, merged, unglued, ceased, by_parts, readers}
 use Rattle.edit_footprint.proofs.laws.examples_are_as_worked.Goals as goal
 
 pub returns-clause-created : goal.returns-clause-created
@@ -59,3 +59,7 @@ returns-clause-ceased c = (refl, refl, refl)
 pub returns-clause-by_parts : goal.returns-clause-by_parts
 unfolding by_parts name_cmp
 returns-clause-by_parts c = (refl, refl, refl, refl, refl)
+
+pub returns-clause-readers : goal.returns-clause-readers
+unfolding readers name_cmp
+returns-clause-readers c = (refl, refl, refl, refl, refl, refl)

@@ -1,6 +1,6 @@
-use Rattle.std.proofs.Common.{◌≡◌, ◌++◌, take}
-use Rattle.osm_changes.specs.Changes.{changed_cells}
+use Rattle.std.proofs.Common.{◌≡◌, ◌++◌, take, flat_map}
+use Rattle.edit_footprint.specs.Footprints.{touches_of}
 use Rattle.edit_footprint.proofs.touching.push_changed.Given as goal
 
 abbrev pub invariant-loop-change : goal.invariant-loop-change
-invariant-loop-change g l = l.cells.items ≡ l.initial.cells.items ++ changed_cells (take l.change-index l.rows)
+invariant-loop-change g l = l.touches.items ≡ l.initial.touches.items ++ flat_map touches_of (take l.change-index l.rows)

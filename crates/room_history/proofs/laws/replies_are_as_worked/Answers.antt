@@ -3,7 +3,7 @@ use Rattle.std.proofs.Common.{refl}
 use Rattle.std.specs.Str.{chars}
 use Rattle.osm_elements.specs.NameOrder.{name_cmp}
 use Rattle.osm_elements.specs.Texts.{is_long}
-use Rattle.room_history.specs.Examples.{first_run, range_ends, limit_one, limit_zero, strangers, in_use, taken_back_way, refusals_in_turn, relations_in_turn, redo_at_once, redo_refused, redo_order, redo_again, unglued_node, blocker_goes_by_parts, both_moved, two_blockers_by_parts, split_over_retag, drawn_as_one}
+use Rattle.room_history.specs.Examples.{first_run, range_ends, limit_one, limit_zero, strangers, in_use, taken_back_way, refusals_in_turn, relations_in_turn, redo_at_once, redo_refused, redo_order, redo_again, unglued_node, blocker_goes_by_parts, both_moved, two_blockers_by_parts, split_over_retag, over_one_node, drawn_as_one}
 use Rattle.room_history.proofs.laws.replies_are_as_worked.Goals as goal
 
 pub returns-clause-first_run : goal.returns-clause-first_run
@@ -77,6 +77,10 @@ returns-clause-two_blockers_by_parts c = refl
 pub returns-clause-split_over_retag : goal.returns-clause-split_over_retag
 unfolding split_over_retag name_cmp
 returns-clause-split_over_retag c = (refl, refl)
+
+pub returns-clause-over_one_node : goal.returns-clause-over_one_node
+unfolding over_one_node name_cmp
+returns-clause-over_one_node c = refl
 
 pub returns-clause-drawn_as_one : goal.returns-clause-drawn_as_one
 unfolding drawn_as_one name_cmp

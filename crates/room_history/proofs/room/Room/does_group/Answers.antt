@@ -1,5 +1,5 @@
 use Rattle.std.proofs.Common.{◌≡◌, Some, None, sym, ap, ◌∙◌, option_copied}
-use Rattle.room_history.specs.Prelude.{Redo, action_at, done_again, past, recorded_next}
+use Rattle.room_history.specs.Prelude.{action_at, past, recorded_next}
 use Rattle.room_history.specs.Inner.Telling.{is_group}
 use Rattle.room_history.proofs.Stepping.{action_told, again_does}
 use Rattle.room_history.proofs.room.Room.does_group.Goals as goal

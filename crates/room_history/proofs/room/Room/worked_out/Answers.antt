@@ -1,4 +1,4 @@
-use Rattle.std.proofs.Common.{◌≡◌, ◌-◌, length, ap, ◌∙◌, arith, rules, option_copied, vec_len}
+use Rattle.std.proofs.Common.{◌≡◌, length, ap, ◌∙◌, arith, rules, option_copied, vec_len}
 use Rattle.room_history.specs.Prelude.{Undo, recorded_footprint, is_standing, past, recorded_next}
 use Rattle.room_history.proofs.Stepping.{is_first, is_kept, has_action, action_told, next_is, footprint_told, is_group_told, kept_changes}
 use Rattle.room_history.proofs.room.Room.worked_out.Goals as goal
