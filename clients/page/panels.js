@@ -263,7 +263,7 @@ class Panels {
     const counts = new Map();
     for (const { tags } of this.page.elements.values()) {
       if (list === "values") {
-        if (tags[key]) counts.set(tags[key], (counts.get(tags[key]) ?? 0) + 1);
+        if (Object.hasOwn(tags, key) && tags[key]) counts.set(tags[key], (counts.get(tags[key]) ?? 0) + 1);
       } else {
         for (const each in tags) counts.set(each, (counts.get(each) ?? 0) + 1);
       }
@@ -299,8 +299,11 @@ class Panels {
       return;
     }
     const changes = draft.changes();
-    for (const [key, value] of Object.entries(changes)) if (value === "" && !(key in row.tags)) delete changes[key];
-    const real = Object.entries(changes).filter(([key, value]) => (row.tags[key] ?? null) !== value);
+    /** @param {string} key */
+    const before = (key) => (Object.hasOwn(row.tags, key) ? row.tags[key] : null);
+    /** @param {[key: string, value: string | null]} tag */
+    const isReal = ([key, value]) => value !== before(key) && (value !== "" || before(key) !== null);
+    const real = Object.entries(changes).filter(isReal);
     if (real.length === 0) {
       this.page.say("There is no tag to save.");
       return;

@@ -25,7 +25,7 @@ class TagDraft {
    */
   take(row) {
     const empty = this.lines.find((each) => !each.was && !this.isTyped(each));
-    this.lines = this.lines.filter((each) => this.isTyped(each) || (each.was && each.was.key in row.tags));
+    this.lines = this.lines.filter((each) => this.isTyped(each) || (each.was && Object.hasOwn(row.tags, each.was.key)));
     for (const [key, value] of Object.entries(row.tags)) {
       const had = this.lines.find(({ was }) => was?.key === key);
       if (!had) this.lines.push({ key, value, was: { key, value }, isRemoved: false });
@@ -71,7 +71,7 @@ class TagDraft {
   /** What a retag has to say: the tags that differ, and null for those that go. */
   changes() {
     /** @type {Record<string, string | null>} */
-    const changes = {};
+    const changes = Object.create(null); // a key can be any text, such as `constructor`
     const typed = this.typed();
     for (const { key, was, isRemoved } of typed) {
       if (was && (isRemoved || key.trim() !== was.key)) changes[was.key] = null;

@@ -17,7 +17,7 @@ import time
 from collections.abc import Callable, Iterable, Sequence
 from typing import TYPE_CHECKING, Any, NamedTuple, cast
 
-from .cases import TOP, given
+from .cases import TOP, given, want
 from .fake_rooms import FakeRoom
 from .messages import compact
 from .proxy import Hold, Proxy
@@ -33,6 +33,10 @@ if TYPE_CHECKING:
 
 PYTHON = "/usr/bin/python3"
 ROOM = "hamlet"
+
+# For how many seconds a call delays a small one of somebody else. Tests let it take five times as long, because the
+# machine may be busy.
+MOST_DELAY, FACTOR = 0.1, 5
 
 
 class GroupRoom(FakeRoom):
@@ -174,9 +178,14 @@ class Place:
     """A room at the end of a way. `url` stays the same if the server starts anew."""
 
     def __init__(
-        self, is_built: bool, rows: Sequence[dict[str, Any]] = (), limit: int | None = None, seconds: float = 0
+        self,
+        is_built: bool,
+        rows: Sequence[dict[str, Any]] = (),
+        limit: int | None = None,
+        seconds: float = 0,
+        workers: int = 24,
     ) -> None:
-        self.is_built, self.rows, self.limit, self.seconds = is_built, rows, limit, seconds
+        self.is_built, self.rows, self.limit, self.seconds, self.workers = is_built, rows, limit, seconds, workers
         self.kept = contextlib.ExitStack()
 
     def __enter__(self) -> Place:
@@ -194,7 +203,9 @@ class Place:
             return self.kept.enter_context(GroupRoom(rows) if self.limit is None else GroupRoom(rows, self.limit))
         ordered = sorted(rows, key=lambda row: place_of(row["el"]))
         base = compact({"id": 1, "ok": {"map": ordered, "seq": 0}}) + "\n"
-        return self.kept.enter_context(serving(ROOM, workers=24, sessions=10_000, limit=self.limit, base=base))
+        return self.kept.enter_context(
+            serving(ROOM, workers=self.workers, sessions=10_000, limit=self.limit, base=base)
+        )
 
     def session(self, name: str) -> Session:
         """A session of a mapper that does not use the way."""
@@ -324,3 +335,59 @@ class OsmApi:
         """Uploads an osmChange."""
         body = f"<osmChange>{document}</osmChange>"
         return self.ask("POST", f"/api/0.6/changeset/{changeset}/upload", body, author)
+
+
+class Watcher:
+    """A mapper who makes small calls again and again while somebody else keeps the program busy, for a block. `longest`
+    has the time of the slowest call of each kind. The map needs a node n3 at 7 degrees north and 8 degrees east."""
+
+    PATHS = ("/api/capabilities", "/api/0.6/node/3", "/api/0.6/map?bbox=7,6,9,8", "/")
+
+    def __init__(self, port: int) -> None:
+        self.port, self.count, self.faults = port, 0, ""
+        self.longest = dict.fromkeys((*self.PATHS, "upload", "undo"), 0.0)
+        self._ends = threading.Event()
+        self._thread = threading.Thread(target=self._watch)
+        self._headers = {"Authorization": "Basic " + base64.b64encode(b"bob:x").decode()}
+
+    def __enter__(self) -> Watcher:
+        self._thread.start()
+        return self
+
+    def __exit__(self, *_: object) -> None:
+        self._ends.set()
+        self._thread.join()
+        want(self.faults, "")
+
+    @property
+    def slowest(self) -> tuple[str, float]:
+        """The kind and the time of the slowest call."""
+        return max(self.longest.items(), key=lambda item: item[1])
+
+    def __str__(self) -> str:
+        return f"of {self.count} other calls, {self.slowest[0]} took {1000 * self.slowest[1]:.0f} ms"
+
+    def _watch(self) -> None:
+        """Makes calls until the end."""
+        connection = http.client.HTTPConnection("127.0.0.1", self.port, timeout=60)
+        with contextlib.closing(connection):
+            changeset = self._call(connection, "PUT", "/api/0.6/changeset/create", "<osm/>", "upload")
+            while not self._ends.is_set():
+                for path in self.PATHS:
+                    self._call(connection, "GET", path, None, path)
+                upload = '<osmChange><create><node id="-1" lat="5" lon="5"/></create></osmChange>'
+                self._call(connection, "POST", f"/api/0.6/changeset/{changeset}/upload", upload, "upload")
+                self._call(connection, "POST", "/undo", None, "undo")
+                time.sleep(0.01)
+
+    def _call(self, connection: http.client.HTTPConnection, method: str, path: str, body: str | None, name: str) -> str:
+        """Makes a call, and notes its time."""
+        began = time.monotonic()
+        connection.request(method, path, body, self._headers)
+        answer = connection.getresponse()
+        text = answer.read().decode()
+        self.longest[name] = max(self.longest[name], time.monotonic() - began)
+        self.count += 1
+        if answer.status != 200:
+            self.faults += f"{method} {path}: {answer.status} {text[:200]}\n"
+        return text

@@ -26,6 +26,8 @@ from .extract import (
 from .xml_elements import KINDS, LETTERS, replaced, tags_of
 
 WELCOME = re.compile(r'\s*\{"id":[0-9]+,"ok":\{"map":\[')
+NAME = re.compile(r"[nwr]-?[0-9]{1,19}")
+
 # How many characters of a map are read at once.
 PART = 1 << 20
 
@@ -53,15 +55,45 @@ def read_map(file: TextIO) -> Dict[str, Rows]:
     rows = {letter: Rows() for letter in KINDS}
     try:
         for row in rows_of_map(file):
+            if not is_row(row):
+                raise BadFile("is no reply to a map: it has what is no element")
             each, number = rows[row["el"][0]], int(row["el"][1:])
             if each.ids and each.ids[-1] >= number:
                 raise BadFile(f"is no reply to a map: {row['el']} comes too late")
             each.add(number, text_of(row))
     except UnicodeDecodeError as fault:
         raise BadFile(f"is no text: {fault.reason}") from fault
-    except (AttributeError, IndexError, KeyError, OverflowError, TypeError, ValueError) as fault:
+    except (OverflowError, RecursionError, ValueError) as fault:
         raise BadFile("is no reply to a map: it has what is no element") from fault
     return rows
+
+
+def is_row(value: object) -> bool:
+    """Whether a value of JSON has the form of an element."""
+    if not isinstance(value, dict) or not NAME.fullmatch(str(value.get("el"))):
+        return False
+    kind, tags = value["el"][0], value.get("tags")
+    if not isinstance(tags, dict) or not all(isinstance(text, str) for text in tags.values()):
+        return False
+    if kind == "n":
+        return isinstance(value.get("lat"), str) and isinstance(value.get("lon"), str)
+    parts = value.get("nodes" if kind == "w" else "members")
+    return isinstance(parts, list) and all(map(is_id if kind == "w" else is_member, parts))
+
+
+def is_id(value: object) -> bool:
+    """Whether a value of JSON is a whole number."""
+    return isinstance(value, int) and not isinstance(value, bool)
+
+
+def is_member(value: object) -> bool:
+    """Whether a value of JSON has the form of a member of a relation."""
+    return (
+        isinstance(value, list)
+        and len(value) == 2
+        and all(isinstance(text, str) for text in value)
+        and bool(NAME.fullmatch(value[0]))
+    )
 
 
 def row_in(rows: Mapping[str, Rows], name: str) -> Element:

@@ -10,7 +10,7 @@ import json
 import re
 from array import array
 from bisect import bisect_left
-from decimal import Decimal, InvalidOperation
+from decimal import Decimal
 from typing import IO, Callable, Dict, Iterable, Iterator, List, Optional, Sequence, Set, Tuple, Union
 from xml.etree import ElementTree
 
@@ -34,6 +34,12 @@ from .xml_elements import (
 MOST_DEGREES = {"lat": MOST_LATITUDE, "lon": MOST_LONGITUDE}
 SMALLEST = Decimal(1).scaleb(-DECIMALS)
 ID = re.compile(r"-?[1-9][0-9]{0,18}")
+
+# A coordinate. Python would also take digits of other scripts, and `1_0` for ten.
+COORDINATE = re.compile(r"[+-]?(?:[0-9]+\.?[0-9]*|\.[0-9]+)(?:[eE][+-]?[0-9]{1,3})?")
+
+# How many characters a coordinate has at most, and how many bytes of a file are read at first.
+MOST_DIGITS, PART = 100, 1 << 16
 
 # A member of a relation as a row has it: its name and its role.
 Member = Tuple[str, str]
@@ -66,7 +72,7 @@ def top_elements(file: IO[bytes]) -> Iterator[ElementTree.Element]:
     the next is asked for, so that a large file takes little memory. Raises BadFile."""
     root, depth = None, 0
     try:
-        for event, element in ElementTree.iterparse(file, ("start", "end")):
+        for event, element in events_in(file):
             depth += 1 if event == "start" else -1
             if root is None:
                 root = element
@@ -80,6 +86,21 @@ def top_elements(file: IO[bytes]) -> Iterator[ElementTree.Element]:
                 root.clear()
     except ElementTree.ParseError as fault:
         raise BadFile(f"is no XML: {fault}") from fault
+
+
+def events_in(file: IO[bytes]) -> Iterator[Tuple[str, ElementTree.Element]]:
+    """Gives "start" and "end" with the element of each. Raises ElementTree.ParseError.
+
+    The parser reads a tag again with each part of the file until it is whole. So parts grow until there is an event."""
+    parser = ElementTree.XMLPullParser(("start", "end"))
+    length = PART
+    while data := file.read(length):
+        parser.feed(data)
+        length *= 2
+        for event, element in parser.read_events():
+            length = PART
+            yield str(event), element
+    parser.close()
 
 
 def text_of(row: Element) -> str:
@@ -118,14 +139,12 @@ def degrees(element: ElementTree.Element, key: str, note: Note) -> str:
     text = element.get(key)
     if text is None:
         raise LeftOut(f"it has no {key}")
-    try:
-        exact = Decimal(text)
-        value = exact.quantize(SMALLEST) + 0  # + 0 takes the sign of -0 away
-        is_in_range = abs(exact) <= MOST_DEGREES[key]
-    except InvalidOperation:
-        is_in_range = False
-    if not is_in_range:
+    if len(text) > MOST_DIGITS or not COORDINATE.fullmatch(text):
+        raise LeftOut(f"its {key} is {shortened(text)}")
+    exact = Decimal(text)
+    if not abs(exact) <= MOST_DEGREES[key]:
         raise LeftOut(f"its {key} is {text}")
+    value = exact.quantize(SMALLEST) + 0  # + 0 takes the sign of -0 away
     if value != exact:
         note("rounded", f"{key} {text} to {value:f}")
     return f"{value:f}"

@@ -1,9 +1,9 @@
 """The elements of OpenStreetMap's XML as it spells them, and the limits of a room.
 
-extract.py reads files with it, and osm_api/osm_xml.py what editors send. Each has its own parser: a file of gigabytes
-is read element by element, by the standard library alone. A body of a request comes from the network, so defusedxml
-parses it, and it fits into memory. They also check by rules of their own: an extract loses what a room cannot hold,
-and an upload is refused with the texts of the API.
+extract.py reads files with it, and osm_api/osm_reading.py what editors send. Each has its own parser: a file of
+gigabytes is read element by element, by the standard library alone. A body of a request comes from the network, so
+defusedxml parses it, and its size is limited. They also check by rules of their own: an extract loses what a room
+cannot hold, and an upload is refused with the texts of the API.
 """
 from __future__ import annotations
 

@@ -353,7 +353,6 @@ async def a_broken_connection_leaves_nothing() -> None:
         ),
     )
     want((await bridge.upload(changeset, modified("n1", 4)))[0], 503)
-    want((await bridge.ask("GET", "0.6/node/1"))[0], 503)
     want(room.seq, 1)
     is_back.set()
     want(
@@ -658,20 +657,32 @@ async def a_lost_answer_is_given_again() -> None:
 
 
 @in_a_loop
-async def reads_wait_for_uploads() -> None:
-    """Nobody sees an upload that is under way, and a read that waits too long is answered 503."""
-    room = MemoryRoom([node("n1")])
-    bridge, is_back = Bridge(room, seconds=0.2), asyncio.Event()
-    room.before_group = is_back.wait
-    changeset = await bridge.open()
-    uploading = asyncio.create_task(bridge.upload(changeset, modified("n1", 3)))
-    await asyncio.sleep(0.01)
-    reading = asyncio.create_task(bridge.ask("GET", "0.6/node/1"))
-    await asyncio.sleep(0.05)
-    want((reading.done(), uploading.done()), (False, False))
-    is_back.set()
-    want((await uploading)[0], 200)
-    want('lat="3.0000000"' in (await reading)[1], True)
+async def reads_do_not_wait_for_uploads() -> None:
+    """A read is answered while an upload is under way. If it shows what is taken back later, the versions of these
+    elements stay, so that its editor cannot overwrite what it did not see. Those that nobody saw are as before."""
+    for is_read in (False, True):
+        room = MemoryRoom([node("n1"), node("n2")])
+        bridge, is_back = Bridge(room, seconds=0.2), asyncio.Event()
+        room.before_group = is_back.wait
+        uploading = asyncio.create_task(bridge.upload(await bridge.open(), MOVES))
+        await asyncio.sleep(0.01)
+        want('lat="1.0000000"' in (await bridge.ask("GET", "0.6/node/1"))[1], True)
+        want(uploading.done(), False)
+
+        async def bob_is_quicker() -> None:
+            taken(room.group("bob", [{"do": "retag", "el": "n2", "tags": {"name": "Tor"}}]))
+
+        async def read() -> None:
+            if is_read:
+                want('lat="3.0000000"' in (await bridge.ask("GET", "0.6/node/1"))[1], True)
+
+        room.before_group, room.after_group = None, read
+        room.before_undo = read
+        await bob_is_quicker()
+        is_back.set()
+        want((await uploading)[0], 409)
+        want(room.elements["n1"], node("n1"))
+        want(bridge.map.version("n1"), NOW_VERSION + 2 if is_read else NOW_VERSION)
 
 
 @in_a_loop

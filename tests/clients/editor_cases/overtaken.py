@@ -531,7 +531,7 @@ async def a_repair_is_planned_again() -> None:
 @in_a_loop
 async def a_connection_breaks_while_an_upload_is_taken_back() -> None:
     """If the answer to an undo or a repair does not come, the upload is answered 503, and is taken back when the
-    connection is there again. Until then others are answered 503."""
+    connection is there again. Until then other uploads are answered 503, and reads are answered."""
     for is_undo in (True, False):
         room = MemoryRoom([node("n1"), node("n2", a="1")])
         bridge, is_back = Bridge(room, seconds=0.3), asyncio.Event()
@@ -543,9 +543,11 @@ async def a_connection_breaks_while_an_upload_is_taken_back() -> None:
             room.before_undo = is_back.wait
         answer = await repaired_with(room, bridge, break_it if not is_undo else lambda: None)
         want(answer, (503, uploads.BROKEN))
-        want((await bridge.ask("GET", "0.6/node/1"))[0], 503)
-        is_back.set()
+        want((await bridge.ask("GET", "0.6/node/1"))[0], 200)
         changeset = await bridge.open()
+        want((await bridge.upload(changeset, modified("n2", 4)))[0], 503)
+        is_back.set()
+        want(await bridge.ask("POST", "undo"), (409, "There is no upload to undo"))
         want((room.elements, room.seq), (by_name([node("n1", 3.0000001, name="Tor"), node("n2", a="1")]), 4))
         await left_nothing(bridge)
         want((await bridge.upload(changeset, modified("n2", 4)))[0], 200)

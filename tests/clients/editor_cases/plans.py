@@ -11,7 +11,7 @@ from typing import Any
 
 if HAS_ALL:
     from maproom.osm_api.planner import Plan
-    from maproom.osm_api import elements, ids, osm_xml, planner
+    from maproom.osm_api import elements, ids, osm_reading, planner
     from maproom.osm_api.connection import Accepted, Refusal, Welcome
     from maproom.osm_api.errors import ApiError
     from maproom.osm_api.ledger import Ledger
@@ -47,7 +47,7 @@ def planned(view: TextMap, document: str) -> tuple[list[str], Plan | None]:
     """What a plan of a document says, in lines, and the plan if there is one."""
     body = f"<osmChange>{document}</osmChange>".encode()
     try:
-        plan = planner.plan_upload(osm_xml.changes_in(body), view, 7)
+        plan = planner.plan_upload(osm_reading.read_whole(osm_reading.Changes(), body), view, 7)
     except ApiError as refusal:
         return [f"{refusal.status} {refusal.text}"], None
     lines = [json.dumps(action, separators=(",", ":"), ensure_ascii=True) for action in plan.actions]
@@ -82,7 +82,8 @@ def refused_plan(document: str, rows: Any = (), **how: Any) -> Any:
     room_map = RoomMap(Ledger(), lambda: NOW)
     room_map.on_welcome(Welcome(by_name(rows), 0, 1))
     try:
-        planner.plan_upload(osm_xml.changes_in(f"<osmChange>{document}</osmChange>".encode()), room_map, **how)
+        body = f"<osmChange>{document}</osmChange>".encode()
+        planner.plan_upload(osm_reading.read_whole(osm_reading.Changes(), body), room_map, **how)
     except ApiError as refusal:
         return refusal.status, refusal.text
     return None
@@ -129,9 +130,13 @@ def limits_of_a_group() -> None:
         for number in range(1, planner.MOST_CHANGES + 1)
     )
     want(refused_plan(f"<modify>{steps}</modify>", rows), None)
-    news = "".join(f'<node id="-{number}" lat="0" lon="0"/>' for number in range(1, planner.MOST_ACTIONS + 2))
-    status, text = refused_plan(f"<create>{news}</create>")
+    more = f'<node id="1" version="{NOW_VERSION + 1}" lat="1" lon="2"/>'
+    status, text = refused_plan(f"<modify>{steps}{more}</modify>", rows)
     want((status, text.startswith("This upload takes more than 10,000 actions")), (413, True))
+    news = [f'<node id="-{number}" lat="0" lon="0"/>' for number in range(1, planner.MOST_ACTIONS + 2)]
+    want(refused_plan(f"<create>{''.join(news[:-1])}</create>"), None)
+    many = (413, "This upload has more than 10,000 changes. Nothing was uploaded. Upload in smaller parts.")
+    want(refused_plan(f"<create>{''.join(news)}</create>"), many)
 
 
 NO_TYPES = "Document types and entities are not accepted"
@@ -160,7 +165,7 @@ def is_no_document(refused: tuple[bytes, str | None]) -> None:
     """What is no document is refused with 400."""
     body, wanted = refused
     try:
-        osm_xml.changes_in(body)
+        osm_reading.read_whole(osm_reading.Changes(), body)
         raise AssertionError("it was read")
     except ApiError as refusal:
         want((refusal.status, wanted in (None, refusal.text) or refusal.text), (400, True))

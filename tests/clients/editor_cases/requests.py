@@ -39,6 +39,7 @@ from typing import Any
 
 if HAS_ALL:
     from maproom.commands import osm_api as osm_api_command
+    from maproom.osm_api import calls, changesets, uploads
     from maproom.osm_api.bridge import NotLoopback, Options, bridge
     from maproom.osm_api.ledger import LedgerInUse
     from maproom.osm_api.memory_room import MemoryRoom
@@ -101,7 +102,7 @@ def other_sites_are_not_let_in() -> None:
 @needed
 def bodies_have_limits() -> None:
     """A body that is too large or too slow is refused, and the connection is closed."""
-    with Served(most_bytes=2**20, body_seconds=0.3) as served:
+    with mock.patch.object(calls, "MOST_UPLOAD", 2**20), Served(body_seconds=0.3) as served:
         changeset = served.ask("PUT", "/api/0.6/changeset/create", "<osm><changeset/></osm>")[1]
         path = f"/api/0.6/changeset/{changeset}/upload"
         status, text, reported = served.ask("POST", path, b" " * (2**20 + 1))
@@ -424,8 +425,8 @@ async def a_bridge_starts_again() -> None:
 
 @in_a_loop
 async def defaults() -> None:
-    """Without options, a request has at most 64 MiB, and waits for the room for a minute. The session of an author is
-    closed after a silent minute."""
+    """Without options, a request has at most 64 MiB, and waits for the room for a minute, and for a session for ten
+    seconds. The session of an author is closed after a silent minute."""
     room, most = MemoryRoom([node("n1")]), 64 * 2**20
     async with bridge(room, Options("lina", port=0)) as url:
         changeset = (await asyncio.to_thread(asked, url, "PUT", "/api/0.6/changeset/create", "<osm/>"))[1]
@@ -441,4 +442,5 @@ async def defaults() -> None:
     with mock.patch.object(sys, "argv", arguments), mock.patch.object(asyncio, "run", note_wait):
         with contextlib.suppress(SystemExit):
             osm_api_command.main()
+    want((uploads.SESSION_SECONDS, changesets.MOST_CHANGESETS, changesets.MOST_CHARACTERS), (10, 1_000, 1_000_000))
     want((waits, inspect.signature(ServerRoom).parameters["idle_seconds"].default), ([60], 60))

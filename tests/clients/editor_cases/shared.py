@@ -11,7 +11,7 @@ import socket
 import tempfile
 import threading
 from pathlib import Path
-from collections.abc import Callable, Coroutine, Iterator
+from collections.abc import AsyncIterator, Callable, Coroutine, Iterator
 from typing import Any
 
 from lib import josm, system_python
@@ -21,7 +21,7 @@ HAS_ALL = system_python.has_packages("aiohttp", "defusedxml")
 
 if HAS_ALL:
     from aiohttp import web
-    from maproom.osm_api import http as server, ids, room_map as maps, taking_back, uploads
+    from maproom.osm_api import http as server, ids, osm_reading, room_map as maps, taking_back, uploads
     from maproom.osm_api.calls import Calls, Request
     from maproom.osm_api.connection import Accepted
     from maproom.osm_api.errors import ApiError
@@ -105,6 +105,20 @@ def put_in(room: object, **functions: object) -> None:
         setattr(room, name, function)
 
 
+def refusal_of(document: Any, data: bytes) -> tuple[int, str] | None:
+    """How a document is refused, or None."""
+    try:
+        osm_reading.read_whole(document, data)
+    except ApiError as refusal:
+        return refusal.status, refusal.text
+    return None
+
+
+async def one_piece(data: bytes) -> AsyncIterator[bytes]:
+    """The body of a request that comes as a whole."""
+    yield data
+
+
 class Bridge:
     """The calls over a room in memory, without HTTP."""
 
@@ -126,13 +140,13 @@ class Bridge:
 
     async def ask(self, method: str, path: str, body: str = "", **how: Any) -> tuple[int, str]:
         """A request. Gives its status and its text."""
-        request = Request(method, f"/api/{path}", {}, body.encode(), how.get("author", self.author))
+        request = Request(method, f"/api/{path}", {}, one_piece(body.encode()), how.get("author", self.author))
         try:
             response = await self.calls.answer(request)
         except ApiError as refusal:
             return refusal.status, refusal.text
         if how.get("is_lost"):
-            self.calls.lost(request, response)
+            self.calls.lost(response)
         return response.status, response.text
 
     async def open(self, **how: Any) -> int:
@@ -251,7 +265,7 @@ class Served:
         self.bridge.calls.uploads._note = self.notes.append
         self.room = self.bridge.room
         settings = server.Settings(server.loopback_hosts(self.port), name, **more)
-        self.runner = web.AppRunner(server.application(self.bridge.calls, settings, self.notes.append))
+        self.runner = server.runner(self.bridge.calls, settings, self.notes.append)
         await self.runner.setup()
         await web.SockSite(self.runner, self.socket).start()
 

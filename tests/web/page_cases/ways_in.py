@@ -38,6 +38,22 @@ def find_what_is_there() -> None:
 
 
 @page_case
+def keys_that_every_object_has() -> None:
+    """A tag whose key is the name of something that every object of JavaScript has is a tag like others."""
+    with pages("anna", rows=[a_node(1, 47.6, 8.2), a_node(2, 47.6, 8.3, shop="bakery")]) as (_, _, anna):
+        anna.get("page.select('n1')")
+        for key in ("constructor", "__proto__", "toString"):
+            anna.get(f"page.panels.complete($('selected').querySelector('input'), 'values', {{ key: '{key}' }})")
+            want(anna.get("$('values').options.length"), 0)
+            anna.fill("#selected .tag:last-child input", key)
+            anna.fill("#selected .tag:last-child input:nth-child(2)", "brick")
+            anna.click("#selected button", "Save tags")
+            anna.wait(f"Object.hasOwn(page.elements.get('n1').tags, '{key}')")
+            anna.wait_text("#saved", "All saved")
+        want(anna.get("Object.entries(page.elements.get('n1').tags).length"), 3)
+
+
+@page_case
 def tiles_and_credit() -> None:
     """There are no tiles until somebody chooses them; the data's credit is always there, the tiles' with them."""
     with serving(workers=2, sessions=9, base=base_of(village())) as server, browsing() as (files, chrome):

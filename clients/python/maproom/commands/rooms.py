@@ -10,23 +10,27 @@ rooms.map for nginx, which sends /ROOM and /ROOM/api to the processes of the roo
 
 `move` moves a room to another machine, and reports each step on standard error. It closes the room in nginx, stops its
 services, and copies what its keeper saved, and ROOM.env with the new addresses. Then it starts the services on the new
-machine, and opens the room again when its keeper is connected there. No change is lost that the room answered. The room
-has no clients when its keeper stops, and its server stops only if the keeper saved everything. If a step fails, the
-room goes on where it was. ssh has to log in without a question, and gives up a silent machine.
+machine, and opens the room again when its keeper is connected there. No change is lost that the room answered: the
+room has no clients when its keeper stops, and its server stops only if the keeper saved everything. If a step fails, or
+if you press Ctrl-C, close the terminal or send SIGTERM, the room goes on where it was. ssh has to log in without a
+question, and gives up a silent machine. Of several moves with one list, each waits for the one before.
 """
 from __future__ import annotations
 
 import argparse
 import contextlib
+import fcntl
 import ipaddress
 import os
 import re
 import shlex
+import signal
 import socket
 import subprocess
 import sys
 import time
-from typing import Dict, Iterable, List, Mapping, NamedTuple, Optional, Tuple
+import types
+from typing import Dict, Iterable, Iterator, List, Mapping, NamedTuple, Optional, Tuple
 
 STATE, SETTINGS = "/var/lib/maproom", "/etc/maproom"
 
@@ -43,6 +47,12 @@ SSH = "ssh -o BatchMode=yes -o ConnectTimeout=10 -o ServerAliveInterval=10 -o Se
 # The condition of a shell that a unit runs.
 RUNS = "systemctl is-active --quiet"
 
+# The signals that end a move, which goes back first.
+SIGNALS = (signal.SIGINT, signal.SIGTERM, signal.SIGHUP)
+
+# How often `move` looks whether a signal came, or the room runs, in seconds.
+LOOK = 0.1
+
 LINE = re.compile(r"([a-z0-9_]{1,32})\s+(\S+)\s+([0-9]{1,5})\s+([0-9]{1,5}|-)")
 
 
@@ -52,6 +62,14 @@ class BadList(Exception):
 
 class Failed(Exception):
     """A step of a move failed."""
+
+
+class Stopped(Exception):
+    """A signal ends a move."""
+
+    def __init__(self, number: int) -> None:
+        super().__init__(f"stopped by {signal.Signals(number).name}")
+        self.number = number
 
 
 class Place(NamedTuple):
@@ -67,8 +85,9 @@ class Place(NamedTuple):
 
 
 def note(step: str) -> None:
-    """Reports a step of a move."""
-    print(f"rooms: {step}", file=sys.stderr, flush=True)
+    """Reports a step of a move, if somebody still listens: a move also goes back if its terminal was closed."""
+    with contextlib.suppress(OSError):
+        print(f"rooms: {step}", file=sys.stderr, flush=True)
 
 
 def lines_of(path: str) -> List[str]:
@@ -118,6 +137,46 @@ def with_line(lines: Iterable[str], room: str, line: str) -> List[str]:
     return [f"{line}\n" if each.split()[:1] == [room] else each for each in lines]
 
 
+class Signals:
+    """Notes the signals that end a move, for a block. A step ends before the move does: otherwise a machine could still
+    be at that step while the move goes back."""
+
+    def __init__(self) -> None:
+        self._number: Optional[int] = None
+        self._is_held = False
+
+    def __enter__(self) -> Signals:
+        self._before = {each: signal.signal(each, self._note) for each in SIGNALS}
+        return self
+
+    def __exit__(self, *_: object) -> None:
+        for each, handler in self._before.items():
+            signal.signal(each, handler)
+
+    def _note(self, number: int, frame: Optional[types.FrameType]) -> None:
+        """Notes a signal."""
+        self._number = number
+        if not self._is_held:
+            note(f"{signal.Signals(number).name} came: ending after this command")
+
+    def hold(self) -> None:
+        """Has signals end nothing from now on."""
+        self._is_held = True
+
+    def check(self) -> None:
+        """Raises Stopped if a signal came."""
+        if self._number is not None and not self._is_held:
+            raise Stopped(self._number)
+
+    def pause(self, seconds: float) -> None:
+        """Waits. Raises Stopped if a signal comes."""
+        deadline = time.monotonic() + seconds
+        while (left := deadline - time.monotonic()) > 0:
+            self.check()
+            time.sleep(min(left, LOOK))
+        self.check()
+
+
 def listens(machine: str, port: int) -> bool:
     """Whether a program listens at a port of a machine."""
     try:
@@ -133,6 +192,30 @@ def replace(path: str, text: str) -> None:
     with open(f"{path}.new", "w", encoding="utf-8") as file:
         file.write(text)
     os.rename(f"{path}.new", path)
+
+
+@contextlib.contextmanager
+def locked(path: str, signals: Signals) -> Iterator[None]:
+    """Has this program be the only one that works on a list, for a block. It locks the folder of the list, because the
+    list is replaced. Raises Stopped or OSError."""
+    folder = os.open(os.path.dirname(os.path.abspath(path)), os.O_RDONLY | os.O_DIRECTORY | os.O_CLOEXEC)
+    try:
+        if not is_taken(folder):
+            note(f"waiting for another program that works on {path}")
+            while not is_taken(folder):
+                signals.pause(LOOK)
+        yield
+    finally:
+        os.close(folder)
+
+
+def is_taken(file: int) -> bool:
+    """Takes the lock of a file, if nobody else holds it. Returns whether it did."""
+    try:
+        fcntl.flock(file, fcntl.LOCK_EX | fcntl.LOCK_NB)
+        return True
+    except BlockingIOError:
+        return False
 
 
 def environment(room: str, place: Place, options: argparse.Namespace, old: str = "") -> str:
@@ -176,23 +259,31 @@ def write(rooms: Mapping[str, Place], options: argparse.Namespace) -> None:
 
 
 class Move:
-    """A room that is moved: the list before and after it. Each step raises Failed or OSError."""
+    """A room that is moved, while its list is locked. Each step raises Failed, Stopped, BadList or OSError."""
 
-    def __init__(self, options: argparse.Namespace) -> None:
+    def __init__(self, options: argparse.Namespace, signals: Signals) -> None:
         """Reads the list. Raises BadList or OSError."""
-        self.room, self.options, self.settings, self.runs = options.room, options, "", True
-        old = lines_of(options.list)
-        self.lines = with_line(old, options.room, f"{options.room} {options.machine} {options.port} {options.api}")
-        self.rooms = read_list(options.list, old)
+        self.room, self.options, self.signals = options.room, options, signals
+        self.settings, self.runs, self.is_configured = "", True, False
+        self.line = f"{options.room} {options.machine} {options.port} {options.api}"
+        self.rooms = self.read()
         if self.room not in self.rooms:
             raise BadList(f"{options.list} has no room {self.room}")
-        self.moved = read_list("the new list", self.lines)
-        self.old, self.new = self.rooms[self.room], self.moved[self.room]
+        self.old, self.new = self.rooms[self.room], self.read(moved=True)[self.room]
+
+    def read(self, moved: bool = False) -> Dict[str, Place]:
+        """The rooms of the list as it is now, or with the room at its new place."""
+        lines = lines_of(self.options.list)
+        if moved:
+            return read_list("the new list", with_line(lines, self.room, self.line))
+        return read_list(self.options.list, lines)
 
     def on(self, place: Place, command: str, data: bytes = b"") -> bytes:
-        """Runs a command on a machine, and gives what it prints. Raises Failed."""
+        """Runs a command on a machine, and gives what it prints. A signal to this program does not end it. Raises
+        Failed, and Stopped if a signal came before."""
+        self.signals.check()
         command_line = [*shlex.split(self.options.remote), place.machine, command]
-        ran = subprocess.run(command_line, input=data, stdout=subprocess.PIPE, check=False)
+        ran = subprocess.run(command_line, input=data, stdout=subprocess.PIPE, check=False, start_new_session=True)
         if ran.returncode:
             raise Failed(f"on {place.machine}: {command} failed")
         return ran.stdout
@@ -230,40 +321,47 @@ class Move:
         stopped = f"! {RUNS} maproom@{self.room}"
         return b"saved" in self.on(self.old, f"if {{ {self.is_kept}; }} || {stopped}; then echo saved; fi")
 
+    def show(self, rooms: Mapping[str, Place], closed: Optional[str] = None) -> None:
+        """Has nginx send the paths to these places."""
+        replace(f"{self.options.to}/rooms.map", nginx_map(rooms, closed))
+        if subprocess.run(self.options.reload, shell=True, check=False, start_new_session=True).returncode:
+            raise Failed(f"{self.options.reload} failed")
+
+    def close(self) -> None:
+        """Closes the room in nginx, and waits until nginx has ended the connections of its old workers."""
+        note(f"closing {self.room} in nginx")
+        self.show(self.read(), closed=self.room)
+        self.signals.pause(self.options.drain)
+
     def stop(self) -> None:
         """Stops the editors' API, which makes the last changes, and then the keeper. If that saved everything, stops
         the server."""
         note(f"stopping {self.room} on {self.old.machine}")
         if self.old.api:
             self.on(self.old, f"systemctl stop maproom-osm-api@{self.room}")
-        time.sleep(NEWS)
+        self.signals.pause(NEWS)
         if not self.is_saved():
             raise Failed(f"{self.keeper} does not save the room on {self.old.machine}")
         self.on(self.old, f"systemctl stop {self.keeper}")
         self.on(self.old, f"! systemctl is-failed --quiet {self.keeper}")
         self.on(self.old, f"systemctl stop maproom@{self.room}")
 
-    def show(self, rooms: Mapping[str, Place], closed: Optional[str] = None) -> None:
-        """Has nginx send the paths to these places."""
-        replace(f"{self.options.to}/rooms.map", nginx_map(rooms, closed))
-        if subprocess.run(self.options.reload, shell=True, check=False).returncode:
-            raise Failed(f"{self.options.reload} failed")
-
-    def close(self) -> None:
-        """Closes the room in nginx, and waits until nginx has ended the connections of its old workers."""
-        note(f"closing {self.room} in nginx")
-        self.show(self.rooms, closed=self.room)
-        time.sleep(self.options.drain)
-
     def copy(self) -> None:
-        """Copies the keeper's folder, the versions of the editors' API, and the environment file."""
+        """Copies the keeper's folder, and the versions of the editors' API."""
         note(f"copying {self.room} to {self.new.machine}")
         names = f"{self.room} $(test ! -e {self.room}.ledger || echo {self.room}.ledger)"
         saved = self.on(self.old, f"cd {STATE} && tar -c {names}")
         self.on(self.new, f"mkdir -p {STATE} && cd {STATE} && test ! -e {self.room} && tar -x", saved)
+
+    def configure(self) -> None:
+        """Copies the environment file with the new addresses. One that was there before is kept next to it."""
         old = self.on(self.old, f"cat {SETTINGS}/{self.room}.env").decode()
         self.settings = environment(self.room, self.new, self.options, old)
-        self.on(self.new, f"mkdir -p {SETTINGS} && cat >{SETTINGS}/{self.room}.env", self.settings.encode())
+        path = f"{SETTINGS}/{self.room}.env"
+        keep = f"rm -f {path}.before && if test -e {path}; then cp -p {path} {path}.before; fi"
+        self.on(self.new, f"mkdir -p {SETTINGS} && {keep}")
+        self.is_configured = True
+        self.on(self.new, f"cat >{path}", self.settings.encode())
 
     def start(self) -> None:
         """Starts the services on the new machine, and waits until the server listens and its keeper is connected. So
@@ -274,7 +372,7 @@ class Move:
         while fault := self.fault():
             if time.monotonic() > deadline:
                 raise Failed(fault)
-            time.sleep(0.1)
+            self.signals.pause(LOOK)
 
     def fault(self) -> Optional[str]:
         """Why the room cannot be opened on the new machine yet, or None."""
@@ -284,46 +382,86 @@ class Move:
             return f"{self.keeper} does not save the room on {self.new.machine}"
         return None
 
-    def go_back(self) -> None:
-        """Has the room go on where it was, if it ran."""
-        note(f"a step failed: {self.room} stays on {self.old.machine}")
-        clear = (
-            f"systemctl disable --now {self.services(self.new)} {self.keeper}; "
-            f"rm -rf {STATE}/{self.room} {SETTINGS}/{self.room}.env"
-        )
-        commands = [(self.new, clear)]
-        if self.runs:
-            commands.append((self.old, f"systemctl start {self.services(self.old)} {self.keeper}"))
-        for place, command in commands:
-            try:
-                self.on(place, command)
-            except Failed as fault:
-                note(str(fault))
-        self.show(self.rooms)
+    def open(self) -> None:
+        """Opens the room at its new place, in the list and in nginx. From here on the move only goes forward."""
+        note(f"opening {self.room} in nginx")
+        if self.read()[self.room] != self.old:
+            raise Failed(f"{self.options.list} has another place of {self.room} now")
+        self.signals.check()
+        self.signals.hold()
+        self.show(self.read(moved=True))
+        replace(self.options.list, "".join(with_line(lines_of(self.options.list), self.room, self.line)))
 
-    def run(self) -> None:
-        """Moves the room."""
-        self.ask()
-        try:
-            self.close()
-            self.stop()
-            self.copy()
-            self.start()
-            note(f"opening {self.room} in nginx")
-            self.show(self.moved)
-        except (Failed, OSError):
-            self.go_back()
-            raise
-        replace(self.options.list, "".join(self.lines))
+    def finish(self) -> None:
+        """Leaves nothing of the room on the old machine but its saves, under another name."""
         self.on(
             self.old,
             f"systemctl disable {self.services(self.old)}; "
             f"cd {STATE} && mv {self.room} {self.room}.moved.{int(time.time())}",
         )
+        self.on(self.new, f"rm -f {SETTINGS}/{self.room}.env.before")
         replace(f"{self.options.to}/env/{self.new.machine}/{self.room}.env", self.settings)
         with contextlib.suppress(FileNotFoundError):
             os.remove(f"{self.options.to}/env/{self.old.machine}/{self.room}.env")
         note(f"{self.room} is on {self.new.machine}")
+
+    # what takes a step back
+
+    def take_back(self, place: Place, command: str) -> None:
+        """Runs a command that takes a step back. The others follow, even if it fails."""
+        try:
+            self.on(place, command)
+        except Failed as fault:
+            note(str(fault))
+
+    def open_again(self) -> None:
+        """Opens the room in nginx where it was, also if somebody spoiled the list meanwhile."""
+        with contextlib.suppress(BadList, OSError):
+            self.rooms = self.read()
+        self.show({**self.rooms, self.room: self.old})
+
+    def start_again(self) -> None:
+        """Starts the services where they were, if they ran."""
+        if self.runs:
+            self.take_back(self.old, f"systemctl start {self.services(self.old)} {self.keeper}")
+
+    def remove_copy(self) -> None:
+        """Removes the copy on the new machine."""
+        self.take_back(self.new, f"rm -rf {STATE}/{self.room}")
+
+    def restore_settings(self) -> None:
+        """Removes the environment file on the new machine, or puts that back which was there before."""
+        if self.is_configured:
+            path = f"{SETTINGS}/{self.room}.env"
+            command = f"if test -e {path}.before; then mv {path}.before {path}; else rm -f {path}; fi"
+            self.take_back(self.new, command)
+
+    def stop_new(self) -> None:
+        """Stops the services on the new machine."""
+        self.take_back(self.new, f"systemctl disable --now {self.services(self.new)} {self.keeper}")
+
+    def run(self) -> None:
+        """Moves the room. Whatever ends a step, the steps so far are taken back, the last one first."""
+        self.ask()
+        with contextlib.ExitStack() as back:
+            for step, takes_back in (
+                (self.close, self.open_again),
+                (self.stop, self.start_again),
+                (self.copy, self.remove_copy),
+                (self.configure, self.restore_settings),
+                (self.start, self.stop_new),
+                (self.open, None),
+            ):
+                if takes_back:
+                    back.callback(takes_back)
+                try:
+                    step()
+                except BaseException:
+                    self.signals.hold()
+                    note(f"a step failed: {self.room} stays on {self.old.machine}")
+                    raise
+            back.pop_all()
+        self.finish()
 
 
 def arguments() -> argparse.Namespace:
@@ -384,11 +522,15 @@ def main() -> int:
     """Does what the command line says. Returns the status."""
     options = arguments()
     try:
-        if options.does == "write":
-            write(read_list(options.list, lines_of(options.list)), options)
-        else:
-            Move(options).run()
+        with Signals() as signals, locked(options.list, signals):
+            if options.does == "write":
+                write(read_list(options.list, lines_of(options.list)), options)
+            else:
+                Move(options, signals).run()
         return 0
+    except Stopped as fault:
+        note(str(fault))
+        return 128 + fault.number
     except (BadList, Failed) as fault:
         note(str(fault))
     except OSError as fault:

@@ -10,7 +10,7 @@ from dataclasses import dataclass, replace
 from typing import Callable, Deque, Dict, List, Optional, Tuple
 
 from ..core import Element
-from .files import remove, replace_durably, sync_folder
+from .files import opened_to_read, remove, replace_durably, sync_folder
 from .journal import Damaged, Entry, Journal, Position, Torn, entries_in
 from .snapshots import Snapshot, read_snapshot, write_snapshot
 
@@ -82,8 +82,8 @@ def note_restored(path: str, position: Position) -> None:
 def is_restored(path: str, position: Position) -> bool:
     """Whether the map that --restore printed last is the one at a position."""
     try:
-        with open(os.path.join(path, RESTORED), "rb") as file:
-            return file.read() == restored_text(position)
+        with opened_to_read(os.path.join(path, RESTORED)) as file:
+            return file.read(len(restored_text(position)) + 1) == restored_text(position)
     except OSError:
         return False
 
@@ -118,11 +118,11 @@ def load_once(path: str, note: Note) -> Saved:
     journals = numbers_in(path, JOURNAL)
     number, snapshot = newest_whole(path, note)
     if snapshot is None:
-        if any(os.path.getsize(journal_path(path, each)) for each in journals):
+        if any(os.lstat(journal_path(path, each)).st_size for each in journals):
             raise Damaged(f"{path} has a journal, and no whole snapshot before it")
         raise NothingSaved(f"{path} has no save yet")
     saved = Saved(snapshot.position, snapshot.time, snapshot.elements, collections.deque(maxlen=RECENT))
-    for each in range(number, max(journals, default=number) + 1):
+    for each in range(number, max([number, *journals]) + 1):  # a journal is there before its snapshot
         if each not in journals:
             raise Damaged(f"{journal_path(path, each)} is missing")
         replay(journal_path(path, each), saved, [journal_path(path, later) for later in journals if later > each])
@@ -145,7 +145,7 @@ def replay(path: str, saved: Saved, later: List[str]) -> None:
         if isinstance(entry, Damaged):
             raise entry
         if isinstance(entry, Torn):
-            if any(map(os.path.getsize, later)):
+            if any(os.lstat(each).st_size for each in later):
                 raise Damaged(f"{path}:{number} is damaged: it ends within the line")
             return
         if not saved.follows(entry):
@@ -158,7 +158,7 @@ class Lock:
 
     def __init__(self, path: str, is_there: bool = False) -> None:
         flags = os.O_RDONLY if is_there else os.O_RDWR | os.O_CREAT
-        self._file = os.open(path, flags | os.O_CLOEXEC, 0o644)
+        self._file = os.open(path, flags | os.O_NOFOLLOW | os.O_NONBLOCK | os.O_CLOEXEC, 0o644)
 
     def take(self, shared: bool = False) -> bool:
         """Takes the lock, if nobody else holds it. Returns whether it did."""
@@ -218,11 +218,12 @@ class Folder:
         """Cuts the torn last line from the newest journal that has lines, since a new journal follows."""
         for number in reversed(numbers_in(self.path, JOURNAL)):
             path = journal_path(self.path, number)
-            if os.path.getsize(path):
+            if os.lstat(path).st_size:
                 for entry in entries_in(path):
                     if isinstance(entry, Torn):
-                        os.truncate(path, entry.length)
-                with open(path, "rb") as file:
+                        with opened_to_read(path, os.O_RDWR) as file:
+                            file.truncate(entry.length)
+                with opened_to_read(path) as file:
                     os.fsync(file.fileno())
                 return
 

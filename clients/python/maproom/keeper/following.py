@@ -16,6 +16,7 @@ from .folder import RECENT, Folder, NothingSaved, Saved, Note, is_restored, load
 from .journal import Damaged, Entry, Position, encoded
 from .lineage import Lineage, lineage
 from .snapshots import Snapshot
+from .status import Waiting, show_status
 
 # How many seconds news are collected before they are written and synchronized together.
 GROUPING = 0.02
@@ -67,6 +68,7 @@ class Keeper:
         self._pending: List[bytes] = []
         self._writing = asyncio.Lock()
         self._has_news, self._ends = asyncio.Event(), asyncio.Event()
+        self._waiting = Waiting(plan.room, note)
         self._entries_since_snapshot = 0
         self._failing_since: Optional[float] = None
         self._is_busy = False
@@ -99,6 +101,7 @@ class Keeper:
     async def _connected(self) -> Optional[Room]:
         """The room, as soon as there is a session. None if the keeper is to end first."""
         is_noted = False
+        self._waiting.goes_on(f"connecting to {self.plan.url}")
         while not self._ends.is_set():
             room = connect(self.plan.url, room=self.plan.room, name=self.plan.name)
             opening = asyncio.ensure_future(room.open())
@@ -115,6 +118,7 @@ class Keeper:
                 if not is_noted:
                     self.note(f"{fault}; trying again")
                 is_noted = True
+                self._waiting.goes_on(str(fault))
                 await self._sleep(PAUSE)
         return None
 
@@ -135,6 +139,7 @@ class Keeper:
     async def _follow(self, room: Room) -> None:
         """Follows the room until the keeper is to end, and saves all that came until then."""
         self.folder.session.take()
+        self._waiting.ends()
         changes = room.changes()
         self._begin(dict(room.elements), room.seq)
         await self._snapshot_at_start()
@@ -237,6 +242,10 @@ class Keeper:
         idle = 0
         while True:
             await asyncio.sleep(LOOK)
+            if room.state != "open":
+                self._waiting.goes_on(f"the connection to {self.plan.url} broke")
+            elif self._waiting.is_on:
+                self._waiting.ends()
             is_idle = room.state != "open" and not self._pending and not self._is_busy
             idle = idle + 1 if is_idle else 0
             if idle == 0:
@@ -279,6 +288,7 @@ class Keeper:
         if self._failing_since is not None:
             self._failing_since = None
             self.note("news are saved again")
+            self._waiting.ends()
         if self.plan.print_saved:
             self.report(f"saved {position.run} {position.seq}")
         return True
@@ -289,6 +299,7 @@ class Keeper:
         if self._failing_since is None:
             self._failing_since = now
             self.note(f"news are not saved: {what}")
+            show_status(f"news of {self.plan.room} are not saved: {what}")
         if now - self._failing_since > self.plan.patience:
             raise NotSaved(f"news were not saved for {self.plan.patience:g} seconds: {what}")
 

@@ -8,7 +8,7 @@ from dataclasses import dataclass
 from typing import Any, Dict, Iterator, List, Optional, Union
 
 from ..core import Row, compact
-from .files import remove, sync_folder, write_all
+from .files import is_no_file, opened_to_read, remove, sync_folder, write_all
 
 # How a line begins. The checksum covers what comes after this head.
 HEAD = b'{"sum":"%08x",'
@@ -80,9 +80,17 @@ def decoded(line: bytes) -> Entry:
 
 
 def entries_in(path: str) -> Iterator[Union[Entry, Torn, Damaged]]:
-    """The entries of a journal file, in order. A damaged line gives a Damaged, and a torn last line a Torn."""
+    """The entries of a journal file, in order. A damaged line gives a Damaged, and so does a path that is no regular
+    file. A torn last line gives a Torn. Raises OSError."""
     length = 0
-    with open(path, "rb") as file:
+    try:
+        opened = opened_to_read(path)
+    except OSError as fault:
+        if not is_no_file(fault):
+            raise
+        yield Damaged(f"{path} is damaged: it is no regular file")
+        return
+    with opened as file:
         for number, line in enumerate(file, 1):
             if not line.endswith(b"\n"):
                 yield Torn(length)

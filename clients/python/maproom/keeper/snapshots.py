@@ -12,7 +12,7 @@ from dataclasses import dataclass
 from typing import Dict, Iterable, Iterator, List, Tuple
 
 from ..core import Element, compact
-from .files import replace_durably
+from .files import is_no_file, opened_to_read, replace_durably
 from .journal import Damaged, Position
 
 # How many elements become text at once. Other threads wait meanwhile.
@@ -66,9 +66,14 @@ def write_snapshot(path: str, snapshot: Snapshot) -> None:
 
 
 def read_snapshot(path: str) -> Snapshot:
-    """Reads a snapshot. Raises Damaged if it is not whole, and OSError if it cannot be read."""
-    with open(path, "rb") as file:
-        line, more = file.readline(), file.read()
+    """Reads a snapshot. Raises Damaged if it is not whole or no regular file, and OSError if it cannot be read."""
+    try:
+        with opened_to_read(path) as file:
+            line, more = file.readline(), file.read()
+    except OSError as fault:
+        if is_no_file(fault):
+            raise Damaged(f"{path} is damaged: it is no regular file") from fault
+        raise
     try:
         facts = json.loads(more)
         if not more.endswith(b"\n") or facts["sha256"] != hashlib.sha256(line).hexdigest():

@@ -1,7 +1,6 @@
 """The whole bridge over a connection to a room: the ledger, the map, the calls, and the application that listens."""
 import contextlib
 import ipaddress
-import logging
 import socket
 from collections.abc import AsyncIterator, Callable
 from dataclasses import dataclass
@@ -11,7 +10,7 @@ from aiohttp import web
 
 from .calls import Calls
 from .connection import RoomConnection
-from .http import Settings, application, loopback_hosts
+from .http import Settings, loopback_hosts, runner
 from .ledger import Ledger
 from .room_map import RoomMap
 
@@ -61,21 +60,18 @@ async def bridge(
 @contextlib.asynccontextmanager
 async def listening(calls: Calls, options: Options, note: Callable[[str], None]) -> AsyncIterator[int]:
     """Listens, and gives the port."""
-    quiet = logging.getLogger(__name__)  # aiohttp reports each request that is not HTTP, with a traceback
-    quiet.addHandler(logging.NullHandler())
-    quiet.propagate = False
     family = socket.AF_INET6 if ":" in options.host else socket.AF_INET
     listener = socket.create_server((options.host, options.port), family=family)
     try:
         port: int = listener.getsockname()[1]
         settings = Settings(loopback_hosts(port) | options.hosts, options.name, options.public_url)
-        runner = web.AppRunner(application(calls, settings, note), logger=quiet, access_log=None)
-        await runner.setup()
+        running = runner(calls, settings, note)
+        await running.setup()
         try:
-            await web.SockSite(runner, listener, shutdown_timeout=SHUTDOWN_SECONDS).start()
+            await web.SockSite(running, listener, shutdown_timeout=SHUTDOWN_SECONDS).start()
             yield port
         finally:
-            await runner.cleanup()
+            await running.cleanup()
     finally:
         listener.close()
 

@@ -1,10 +1,13 @@
 """The calls of the OpenStreetMap API 0.6 that editors make. It knows of requests and responses, and not of sockets."""
 import asyncio
+import contextlib
 import hashlib
 import re
 import time
-from collections.abc import Awaitable, Callable, Iterable, Mapping
+import weakref
+from collections.abc import AsyncIterable, AsyncIterator, Awaitable, Callable, Iterable, Mapping, Sequence
 from dataclasses import dataclass, field, replace
+from typing import TypeVar
 
 from ..xml_elements import MOST_MEMBERS, MOST_NODES
 from . import osm_json, osm_xml
@@ -12,13 +15,15 @@ from .changesets import Changesets
 from .connection import RoomConnection
 from .documents import Bounds, Change, ChangeAction, Changeset, ElementState, Limits, ResultRow, user_id
 from .elements import is_in_world, units_of
-from .errors import ApiError, already_deleted, bad_request, no_connection, not_found
+from .errors import ApiError, already_deleted, bad_request, body_too_large, no_connection, not_found
 from .ids import KINDS_BY_WORD, Kind, api_order, room_name
+from .osm_reading import Changes, ChangesetTags, Document, Reader, SingleElement, pieces_of
 from .page import MOST_ENTRIES, page
 from .planner import MOST_CHANGES
 from .preferences import Preferences
-from .room_map import Entry, RoomMap
-from .uploads import Upload, Uploads
+from .room_map import Entry, Held, RoomMap, state_of
+from .uploads import BUSY, Upload, Uploads
+from .working import looked_up, worked
 
 XML, JSON, TEXT, HTML = "application/xml", "application/json", "text/plain", "text/html"
 PREFIX = "/api"
@@ -29,8 +34,17 @@ MOST_LISTED = 100
 # How many seconds a new connection to the room usually takes at most.
 RECONNECTION_SECONDS = 3
 
+# How many bytes a body has at most: that of an upload, of an element alone, of a changeset, and of a preference.
+KIBIBYTE, MEBIBYTE = 2**10, 2**20
+MOST_UPLOAD, MOST_ELEMENT, MOST_CHANGESET, MOST_PREFERENCE = 64 * MEBIBYTE, 4 * MEBIBYTE, 256 * KIBIBYTE, 4 * KIBIBYTE
+
+# How many elements are written as text at once, which takes a few milliseconds.
+ELEMENTS_AT_ONCE = 500
+
+# Up to how many nodes are looked up at once, and how often more nodes are looked up while others may change the map.
+FEW_NODES, MOST_LOOKS = 2_000, 3
+
 UNREACHABLE = "The room cannot be reached at the moment. Nothing was done."
-BUSY = "An upload is still under way. Nothing was done."
 NO_NAME = "Give your name by HTTP Basic: 1 to 32 characters of a-z, 0-9 and _"
 BAD_BOX = "The parameter bbox is required, and must be of the form min_lon,min_lat,max_lon,max_lat."
 FALSE_BOX = (
@@ -39,18 +53,30 @@ FALSE_BOX = (
 )
 
 
+Content = TypeVar("Content")
+
+
+async def no_pieces() -> AsyncIterator[bytes]:
+    """Yields nothing, as a request without a body."""
+    nothing: tuple[bytes, ...] = ()
+    for piece in nothing:
+        yield piece
+
+
 @dataclass(frozen=True)
 class Request:
-    """A request. `author` is None if it names nobody, and `base` the URL of the root as the client knows it."""
+    """A request. `body` yields its pieces, and may raise ApiError, and `length` is how many bytes it announces. `author`
+    is None if it names nobody, and `base` the URL of the root as the client knows it."""
 
     method: str
     path: str
     query: Mapping[str, str] = field(default_factory=dict)
-    body: bytes = b""
+    body: AsyncIterable[bytes] = field(default_factory=no_pieces)
     author: str | None = None
     wants_json: bool = False
     wants_page: bool = False
     base: str = ""
+    length: int = 0
 
     @property
     def named_author(self) -> str:
@@ -60,21 +86,31 @@ class Request:
         return self.author
 
     @property
-    def identity(self) -> str:
-        """A text that is the same if the request is repeated, and differs between requests."""
-        head = f"{self.author} {self.method} {self.path}\0".encode()
-        return hashlib.blake2b(head + self.body, digest_size=16).hexdigest()
+    def head(self) -> bytes:
+        """What a repeated request has in common with this one, besides its body."""
+        return f"{self.author} {self.method} {self.path}\0".encode()
+
+
+@dataclass(frozen=True)
+class Given:
+    """An upload as a request gives it: its steps, and a text that is the same if the request is repeated, and differs
+    between requests."""
+
+    changes: Sequence[Change]
+    identity: str
 
 
 @dataclass(frozen=True)
 class Response:
-    """A response. `results` belong to the upload that it answers, so that its answer can be kept if it is lost."""
+    """A response. `results` and `identity` belong to the upload that it answers, so that its answer can be kept if it is
+    lost."""
 
     text: str
     kind: str = TEXT
     status: int = 200
     location: str = ""
     results: list[ResultRow] | None = None
+    identity: str = ""
 
 
 Handler = Callable[..., Response | Awaitable[Response]]
@@ -82,15 +118,22 @@ Handler = Callable[..., Response | Awaitable[Response]]
 
 @dataclass(frozen=True)
 class Route:
-    """A call: its method, the form of its path, and what answers it for the groups of the path."""
+    """A call: its method, the form of its path, and what answers it for the groups of the path. If it `writes`, the
+    request has to name its author before its body is read."""
 
     method: str
     path: re.Pattern[str]
     handler: Handler
 
+    @property
+    def writes(self) -> bool:
+        """Whether it may change something."""
+        return self.method != "GET"
+
 
 class Calls:
-    """Answers requests. While an upload is carried out the others wait, so that nobody sees half of it."""
+    """Answers requests. One that reads waits for nobody. Of those that write, one of each author is answered at a
+    time, so that no author's requests take more memory than one upload."""
 
     def __init__(
         self,
@@ -104,7 +147,8 @@ class Calls:
         self._room, self._map, self._seconds, self._note = room, room_map, seconds, note
         self._changesets, self._preferences = Changesets(clock), Preferences()
         self._limits = Limits(MOST_NODES, MOST_MEMBERS, MOST_CHANGES, max(1, int(seconds)))
-        self._lock = asyncio.Lock()
+        # those who hold or await a lock keep it
+        self._turns: weakref.WeakValueDictionary[str, asyncio.Lock] = weakref.WeakValueDictionary()
         self._routes = self._all_routes()
 
     def _all_routes(self) -> list[Route]:
@@ -158,7 +202,7 @@ class Calls:
         for route in self._routes:
             found = route.path.fullmatch(path)
             if found and route.method == request.method:
-                return await self._locked(route.handler, request, found.groups())
+                return await self._called(route, request, found.groups())
         raise ApiError(404, f"{request.method} {request.path} is not a call that this API has")
 
     @staticmethod
@@ -170,20 +214,27 @@ class Calls:
             return None
         return path.removeprefix(f"{PREFIX}/") if path.startswith(f"{PREFIX}/") else path.removeprefix("/")
 
-    async def _locked(self, handler: Handler, request: Request, groups: Iterable[str]) -> Response:
-        """Has a call answered while no other is."""
+    async def _called(self, route: Route, request: Request, groups: Iterable[str]) -> Response:
+        """Has a call answered."""
+        turn = self._turn(request.named_author) if route.writes else contextlib.nullcontext()
+        await self._reached()
+        async with turn:
+            answered = route.handler(request, *groups)
+            return await answered if isinstance(answered, Awaitable) else answered
+
+    @contextlib.asynccontextmanager
+    async def _turn(self, author: str) -> AsyncIterator[None]:
+        """Lets one request of an author write at a time. Raises ApiError 503."""
+        turn = self._turns.setdefault(author, asyncio.Lock())
         try:
             async with asyncio.timeout(self._seconds):
-                await self._lock.acquire()
+                await turn.acquire()
         except TimeoutError:
             raise no_connection(BUSY) from None
         try:
-            await self._reached()
-            await self.uploads.settled()
-            answered = handler(request, *groups)
-            return await answered if isinstance(answered, Awaitable) else answered
+            yield
         finally:
-            self._lock.release()
+            turn.release()
 
     async def _reached(self) -> None:
         """Waits a moment for a connection that is being made anew. Raises ApiError 503 if there is none."""
@@ -193,10 +244,33 @@ class Calls:
                 raise no_connection(UNREACHABLE)
             await asyncio.sleep(0.02)
 
-    def lost(self, request: Request, response: Response) -> None:
+    def lost(self, response: Response) -> None:
         """Keeps the answer of an upload, since the connection broke before the editor had it."""
         if response.results is not None:
-            self.uploads.keep(request.identity, response.results)
+            self.uploads.keep(response.identity, response.results)
+
+    # what a request has
+
+    @staticmethod
+    async def _limited(request: Request, most: int) -> AsyncIterator[bytes]:
+        """Yields the body of a request in small pieces. Raises ApiError 413 if it has more bytes than `most`."""
+        length = 0
+        if request.length > most:
+            raise body_too_large(most)
+        async for part in request.body:
+            length += len(part)
+            if length > most:
+                raise body_too_large(most)
+            for piece in pieces_of(part):
+                yield piece
+
+    async def _read(self, request: Request, document: Document[Content], most: int) -> tuple[Content, str]:
+        """Reads a document of `most` bytes at most. Returns what it says, and the identity of the request."""
+        reader, identity = Reader(document), hashlib.blake2b(request.head, digest_size=16)
+        async for piece in self._limited(request, most):
+            identity.update(piece)
+            await worked(reader.feed, piece)
+        return await worked(reader.end), identity.hexdigest()
 
     # what the room can do, and who asks
 
@@ -225,9 +299,10 @@ class Calls:
         """Returns a value that an editor keeps for the author."""
         return Response(self._preferences.get(request.named_author, key))
 
-    def _put_preference(self, request: Request, key: str) -> Response:
+    async def _put_preference(self, request: Request, key: str) -> Response:
         """Keeps a value for the author."""
-        self._preferences.put(request.named_author, key, request.body)
+        value = b"".join([piece async for piece in self._limited(request, MOST_PREFERENCE)])
+        self._preferences.put(request.named_author, key, value)
         return Response("")
 
     def _delete_preference(self, request: Request, key: str) -> Response:
@@ -252,7 +327,18 @@ class Calls:
         """Returns the map of a bounding box."""
         bounds = bounds_of(request.query.get("bbox", ""))
         await self._caught_up()
-        return self._elements(request, self._map.within(bounds), bounds)
+        return await self._held_elements(request, await self._held_within(bounds), bounds)
+
+    async def _held_within(self, bounds: Bounds) -> list[Held]:
+        """Returns the elements of a bounding box as of one moment. If there are many, it looks again if the map changes
+        meanwhile. At last nobody else has a turn until it has them."""
+        for _ in range(MOST_LOOKS if self._map.grid.has_many_within(bounds, FEW_NODES) else 0):
+            changes = self._map.changes
+            with contextlib.suppress(KeyError, RuntimeError):  # so Python says that a set or a dictionary has changed
+                held = await looked_up(self._map.held_within, bounds)
+                if self._map.changes == changes:
+                    return held
+        return self._map.held_within(bounds)
 
     async def _several(self, request: Request, word: str) -> Response:
         """Returns the named elements, also deleted ones.
@@ -268,19 +354,19 @@ class Calls:
             state = self._map.state(room_name(KINDS_BY_WORD[word], int(number)))
             if not version or int(version) == state.version:
                 states[state.name] = state
-        return self._states(request, states.values())
+        return await self._states(request, states.values())
 
     async def _single(self, request: Request, word: str, number: str) -> Response:
         """Returns an element that is there."""
-        return self._elements(request, [await self._visible(word, number)])
+        return await self._elements(request, [await self._visible(word, number)])
 
     async def _full(self, request: Request, word: str, number: str) -> Response:
         """Returns an element with its nodes or members."""
-        return self._elements(request, self._map.whole(await self._visible(word, number)))
+        return await self._elements(request, self._map.whole(await self._visible(word, number)))
 
     async def _history(self, request: Request, word: str, number: str) -> Response:
         """Returns an element's present state alone, since a room keeps no earlier states."""
-        return self._elements(request, [await self._known(word, number)])
+        return await self._elements(request, [await self._known(word, number)])
 
     async def _version(self, request: Request, word: str, number: str, version: str) -> Response:
         """Returns an element at a version, if that is the present one."""
@@ -288,12 +374,12 @@ class Calls:
         if int(version) != self._map.version(name):
             text = f"Version {version} of {word} {number} was not found: only the present version is kept"
             raise ApiError(404, text)
-        return self._elements(request, [name])
+        return await self._elements(request, [name])
 
     async def _users(self, request: Request, word: str, number: str, kinds: str) -> Response:
         """Returns the ways or relations that refer to an element."""
         name = await self._known(word, number)
-        return self._elements(request, [user for user in self._map.users(name) if user[0] == kinds[0]])
+        return await self._elements(request, [user for user in self._map.users(name) if user[0] == kinds[0]])
 
     async def _known(self, word: str, number: str) -> str:
         """Returns the name of an element that is there or was. Raises ApiError 404."""
@@ -318,27 +404,36 @@ class Calls:
         except TimeoutError:
             raise no_connection(UNREACHABLE) from None
 
-    def _elements(self, request: Request, names: Iterable[str], bounds: Bounds | None = None) -> Response:
+    async def _elements(self, request: Request, names: Iterable[str], bounds: Bounds | None = None) -> Response:
         """Returns a document with elements, and with the bounding box in which they were asked for."""
-        return self._states(request, map(self._map.state, names), bounds)
+        return await self._held_elements(request, self._map.held(names), bounds)
+
+    async def _held_elements(self, request: Request, held: list[Held], bounds: Bounds | None) -> Response:
+        """Returns a document with elements that the map has."""
+        self._map.note_shown(held)
+        states: list[ElementState] = []
+        for start in range(0, len(held), ELEMENTS_AT_ONCE):
+            states += await worked(states_of, held[start : start + ELEMENTS_AT_ONCE])
+        return await self._states(request, states, bounds)
 
     @staticmethod
-    def _states(request: Request, states: Iterable[ElementState], bounds: Bounds | None = None) -> Response:
+    async def _states(request: Request, states: Iterable[ElementState], bounds: Bounds | None = None) -> Response:
         """Returns a document with elements that were looked up."""
-        ordered = sorted(states, key=lambda state: api_order(state.name))
-        users = {state.author: user_id(state.author) for state in ordered if state.author}
+        found = list(states)
+        ordered = await looked_up(in_api_order, found) if len(found) > FEW_NODES else in_api_order(found)
+        write = osm_json.element_texts if request.wants_json else osm_xml.element_texts
+        parts: list[str] = []
+        for start in range(0, len(ordered), ELEMENTS_AT_ONCE):
+            parts += await worked(write, ordered[start : start + ELEMENTS_AT_ONCE])
         if request.wants_json:
-            values = (osm_json.element_value(state, users.get(state.author)) for state in ordered)
-            return Response(osm_json.elements(values, bounds), JSON)
-        parts = [osm_xml.bounds_text(bounds)] if bounds else []
-        parts += [osm_xml.element_text(state, users.get(state.author)) for state in ordered]
-        return Response(osm_xml.document(parts), XML)
+            return Response(await worked(osm_json.elements, parts, bounds), JSON)
+        return Response(await worked(osm_xml.elements, parts, bounds), XML)
 
     # changesets
 
-    def _open_changeset(self, request: Request) -> Response:
+    async def _open_changeset(self, request: Request) -> Response:
         """Opens a changeset, and gives its number."""
-        tags = osm_xml.tags_of_changeset(request.body)
+        tags, _ = await self._read(request, ChangesetTags(), MOST_CHANGESET)
         return Response(str(self._changesets.open(request.named_author, tags).number))
 
     def _changeset(self, request: Request, number: str) -> Response:
@@ -346,10 +441,11 @@ class Calls:
         changeset = self._changesets.get(int(number))
         return self._either(request, osm_json.changeset, osm_xml.changeset, changeset)
 
-    def _tag_changeset(self, request: Request, number: str) -> Response:
+    async def _tag_changeset(self, request: Request, number: str) -> Response:
         """Gives a changeset other tags."""
         changeset = self._changesets.writable(int(number), request.named_author)
-        changeset.tags = osm_xml.tags_of_changeset(request.body)
+        tags, _ = await self._read(request, ChangesetTags(), MOST_CHANGESET)
+        self._changesets.tag(changeset, tags)
         return self._either(request, osm_json.changeset, osm_xml.changeset, changeset)
 
     def _close_changeset(self, request: Request, number: str) -> Response:
@@ -377,36 +473,41 @@ class Calls:
     async def _upload(self, request: Request, number: str) -> Response:
         """Carries out an osmChange."""
         changeset = self._changesets.writable(int(number), request.named_author)
-        results = await self._carry_out(request, changeset, osm_xml.changes_in(request.body))
-        return Response(osm_xml.diff_result(results), XML, results=results)
+        given = Given(*await self._read(request, Changes(), MOST_UPLOAD))
+        results = await self._carry_out(given, changeset)
+        text = await worked(osm_xml.diff_result, results)
+        return Response(text, XML, results=results, identity=given.identity)
 
     async def _create(self, request: Request, word: str) -> Response:
         """Creates an element, and gives its id."""
-        results = await self._write(request, ChangeAction.CREATE, KINDS_BY_WORD[word], None)
-        return Response(str(results[0].new_id), results=results)
+        results, identity = await self._write(request, ChangeAction.CREATE, KINDS_BY_WORD[word], None)
+        return Response(str(results[0].new_id), results=results, identity=identity)
 
     async def _modify(self, request: Request, word: str, number: str) -> Response:
         """Changes an element, and gives its version."""
-        results = await self._write(request, ChangeAction.MODIFY, KINDS_BY_WORD[word], int(number))
-        return Response(str(results[0].new_version), results=results)
+        results, identity = await self._write(request, ChangeAction.MODIFY, KINDS_BY_WORD[word], int(number))
+        return Response(str(results[0].new_version), results=results, identity=identity)
 
     async def _delete(self, request: Request, word: str, number: str) -> Response:
         """Deletes an element, and gives the version of the deleted element."""
-        results = await self._write(request, ChangeAction.DELETE, KINDS_BY_WORD[word], int(number))
-        return Response(str(self._map.version(room_name(KINDS_BY_WORD[word], int(number)))), results=results)
+        results, identity = await self._write(request, ChangeAction.DELETE, KINDS_BY_WORD[word], int(number))
+        version = self._map.version(room_name(KINDS_BY_WORD[word], int(number)))
+        return Response(str(version), results=results, identity=identity)
 
-    async def _write(self, request: Request, action: ChangeAction, kind: Kind, number: int | None) -> list[ResultRow]:
-        """Writes one element, which is an upload of one step."""
-        given = osm_xml.single_element(request.body, kind)
-        if number is not None and given.number != number:
-            raise bad_request(f"The id in the url ({number}) is not the same as provided in the xml ({given.number})")
-        changeset = self._changesets.writable(given.changeset, request.named_author)
-        given = replace(given, number=-1) if number is None else given
-        return await self._carry_out(request, changeset, [Change(action, given)])
+    async def _write(
+        self, request: Request, action: ChangeAction, kind: Kind, number: int | None
+    ) -> tuple[list[ResultRow], str]:
+        """Writes one element, which is an upload of one step. Returns what became of it, and the request's identity."""
+        element, identity = await self._read(request, SingleElement(kind), MOST_ELEMENT)
+        if number is not None and element.number != number:
+            raise bad_request(f"The id in the url ({number}) is not the same as provided in the xml ({element.number})")
+        changeset = self._changesets.writable(element.changeset, request.named_author)
+        element = replace(element, number=-1) if number is None else element
+        return await self._carry_out(Given([Change(action, element)], identity), changeset), identity
 
-    async def _carry_out(self, request: Request, changeset: Changeset, changes: list[Change]) -> list[ResultRow]:
+    async def _carry_out(self, given: Given, changeset: Changeset) -> list[ResultRow]:
         """Carries out an upload."""
-        upload = Upload(changeset.author, changeset.number, changes, request.identity)
+        upload = Upload(changeset.author, changeset.number, given.changes, given.identity)
         results = await self.uploads.upload(upload)
         changeset.count += len(results)
         self._note(f"{changeset.author} uploaded {len(results)} elements in changeset {changeset.number}")
@@ -453,6 +554,16 @@ class Calls:
                 raise
             message, status = refusal.text, refusal.status
         return self._page(request, message, status) if request.wants_page else Response(f"{message}\n")
+
+
+def states_of(elements: list[Held]) -> list[ElementState]:
+    """Returns elements as editors see them."""
+    return [state_of(held) for held in elements]
+
+
+def in_api_order(states: list[ElementState]) -> list[ElementState]:
+    """Returns elements in the API's order."""
+    return sorted(states, key=lambda state: api_order(state.name))
 
 
 def bounds_of(text: str) -> Bounds:

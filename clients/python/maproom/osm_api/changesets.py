@@ -1,12 +1,14 @@
 """The changesets that mappers opened since the bridge started. Older changesets count as closed, as editors expect."""
+from collections import deque
 from collections.abc import Callable, Iterator, Mapping
 
 from .documents import Changeset, instant
 from .errors import ApiError, changeset_closed, changeset_missing, changeset_not_owned
 from .ledger import EPOCH
 
-# How many changesets the bridge remembers. It forgets the oldest first.
-MOST_CHANGESETS = 10_000
+# How many changesets of an author the bridge remembers, and how many characters their tags have together. It forgets
+# the author's oldest first, and those of others stay. The last number is that of authors.
+MOST_CHANGESETS, MOST_CHARACTERS, MOST_AUTHORS = 1_000, 1_000_000, 1_000
 
 
 class Changesets:
@@ -15,6 +17,7 @@ class Changesets:
     def __init__(self, clock: Callable[[], float]) -> None:
         self._clock = clock
         self._changesets: dict[int, Changeset] = {}
+        self._of_authors: dict[str, deque[Changeset]] = {}
         self._last = 0
 
     def open(self, author: str, tags: Mapping[str, str]) -> Changeset:
@@ -26,13 +29,30 @@ class Changesets:
         """Opens a changeset from before the bridge started, to which an upload may come again."""
         return self._changesets.get(number) or self._add(Changeset(number, author, self._clock()))
 
+    def tag(self, changeset: Changeset, tags: Mapping[str, str]) -> None:
+        """Gives a changeset other tags."""
+        changeset.tags = tags
+        self._forget_old(changeset.author)
+
     def _add(self, changeset: Changeset) -> Changeset:
         """Takes a changeset in."""
         self._last = max(self._last, changeset.number)
         self._changesets[changeset.number] = changeset
-        while len(self._changesets) > MOST_CHANGESETS:
-            del self._changesets[next(iter(self._changesets))]
+        self._of_authors.setdefault(changeset.author, deque()).append(changeset)
+        self._forget_old(changeset.author)
+        while len(self._of_authors) > MOST_AUTHORS:
+            for old in self._of_authors.pop(next(iter(self._of_authors))):
+                del self._changesets[old.number]
         return changeset
+
+    def _forget_old(self, author: str) -> None:
+        """Forgets the oldest changesets of an author, if there are too many. The last one stays."""
+        own = self._of_authors[author]
+        characters = sum(map(length_of, own))
+        while len(own) > 1 and (len(own) > MOST_CHANGESETS or characters > MOST_CHARACTERS):
+            old = own.popleft()
+            characters -= length_of(old)
+            del self._changesets[old.number]
 
     def get(self, number: int) -> Changeset:
         """Returns a changeset. Raises ApiError 404."""
@@ -63,3 +83,8 @@ class Changesets:
     def latest_first(self) -> Iterator[Changeset]:
         """Yields all changesets that are remembered."""
         return reversed(self._changesets.values())
+
+
+def length_of(changeset: Changeset) -> int:
+    """Returns how many characters the tags of a changeset have."""
+    return sum(len(key) + len(value) for key, value in changeset.tags.items())

@@ -127,6 +127,9 @@ class RoomConnection(Protocol):
     async def catch_up(self) -> None:
         """Waits until all listeners know of all entries that the room had when this was called."""
 
+    async def join(self, author: str) -> None:
+        """Waits until an author has a session, which then stays open for a while."""
+
     async def send_group(self, author: str, actions: Sequence[Action], announce: Callable[[int], None]) -> Answer:
         """Sends actions as one message, which the room accepts or refuses as a whole. Calls `announce` with the
         message's id before it is sent."""

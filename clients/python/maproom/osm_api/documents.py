@@ -17,7 +17,7 @@ class ChangeAction(enum.Enum):
     DELETE = "delete"
 
 
-@dataclass(frozen=True)
+@dataclass(frozen=True, slots=True)
 class GivenMember:
     """A member of a relation, or a node of a way, as an editor refers to it."""
 
@@ -26,7 +26,7 @@ class GivenMember:
     role: str = ""
 
 
-@dataclass(frozen=True)
+@dataclass(frozen=True, slots=True)
 class GivenElement:
     """An element as an editor sends it. Coordinates are texts, since only some actions need them."""
 
@@ -46,7 +46,7 @@ class GivenElement:
         return f"{self.kind.value} {self.number}"
 
 
-@dataclass(frozen=True)
+@dataclass(frozen=True, slots=True)
 class Change:
     """One step of an upload."""
 
@@ -93,7 +93,7 @@ class Changeset:
     count: int = 0
 
 
-@dataclass(frozen=True)
+@dataclass(frozen=True, slots=True)
 class ResultRow:
     """What became of an element of an upload. A deleted element has neither a new id nor a new version."""
 

@@ -13,6 +13,9 @@ from ..xml_elements import DECIMALS, MOST_LATITUDE, MOST_LONGITUDE, replaced
 DEGREE: int = 10**DECIMALS
 NUMBER = re.compile(r"[+-]?(?:[0-9]+\.?[0-9]*|\.[0-9]+)(?:[eE][+-]?[0-9]{1,3})?")
 
+# How many characters a coordinate has at most. OpenStreetMap's have 12.
+MOST_DIGITS = 40
+
 GONE_DIGEST = "gone"
 
 # Made once, because `json.dumps` would make an encoder for each element of a map.
@@ -26,14 +29,14 @@ Rows = Mapping[str, Row | None]
 
 def references(row: Row | None) -> list[str]:
     """Returns the names that a row refers to, in its order."""
-    if row is None:
+    if row is None or "lat" in row:
         return []
     return [f"n{number}" for number in row.get("nodes", ())] + [name for name, _ in row.get("members", ())]
 
 
 def units_of(text: str | None) -> int | None:
     """Returns the coordinate of a text in degrees, rounded to seven decimals, or None if it is not a number."""
-    if text is None or not NUMBER.fullmatch(text):
+    if text is None or len(text) > MOST_DIGITS or not NUMBER.fullmatch(text):
         return None
     try:
         return int(Decimal(text).scaleb(DECIMALS).to_integral_value(ROUND_HALF_EVEN))

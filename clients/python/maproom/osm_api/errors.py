@@ -100,6 +100,18 @@ def too_large(most: int) -> ApiError:
     )
 
 
+def too_many_changes(most: int) -> ApiError:
+    """413: an upload has more changes than the program plans at once, also if they would do nothing."""
+    return ApiError(413, f"This upload has more than {most:,} changes. Nothing was uploaded. Upload in smaller parts.")
+
+
+def body_too_large(most: int) -> ApiError:
+    """413: a body has more bytes than its call takes."""
+    mebibytes, rest = divmod(most, 2**20)
+    size = f"{most // 2**10} KiB" if rest else f"{mebibytes} MiB"
+    return ApiError(413, f"The body of the request is larger than {size}. Nothing was uploaded.")
+
+
 def no_connection(text: str) -> ApiError:
     """503: the room cannot be reached. Editors repeat such a request, so nothing may have been done."""
     return ApiError(503, text)

@@ -41,9 +41,22 @@ class Grid:
 
         A small box costs as much as its cells, and a large box as much as all occupied cells."""
         for cell in self._cells_within(bounds):
-            for name, (latitude, longitude) in self._cells.get(cell, {}).items():
+            names = self._cells.get(cell, {})
+            if is_inside(cell, bounds):
+                yield from names
+                continue
+            for name, (latitude, longitude) in names.items():
                 if bounds.holds(latitude, longitude):
                     yield name
+
+    def has_many_within(self, bounds: Bounds, most: int) -> bool:
+        """Returns whether the cells that a bounding box meets have more than `most` names."""
+        count = 0
+        for cell in self._cells_within(bounds):
+            count += len(self._cells.get(cell, ()))
+            if count > most:
+                return True
+        return False
 
     def _cells_within(self, bounds: Bounds) -> Iterator[Cell]:
         """Yields the cells that a bounding box meets. If it has more cells than are occupied, yields only the occupied
@@ -54,3 +67,10 @@ class Grid:
             yield from (cell for cell in self._cells if south <= cell[0] <= north and west <= cell[1] <= east)
         else:
             yield from ((row, column) for row in range(south, north + 1) for column in range(west, east + 1))
+
+
+def is_inside(cell: Cell, bounds: Bounds) -> bool:
+    """Returns whether a bounding box has all positions of a cell."""
+    south, west = (side << CELL_BITS for side in cell)
+    most = (1 << CELL_BITS) - 1
+    return bounds.holds(south, west) and bounds.holds(south + most, west + most)

@@ -2,25 +2,32 @@
 import asyncio
 import base64
 import binascii
+import logging
 import re
 import time
 import traceback
-from collections.abc import Callable
+import zlib
+from collections.abc import AsyncIterator, Callable
 from dataclasses import dataclass
-from urllib.parse import urlsplit
 
 from aiohttp import web
 
 from .calls import HTML, JSON, NO_NAME, TEXT, XML, Calls, Request, Response
 from .errors import ApiError, bad_request
+from .osm_reading import PIECE_BYTES
 
 NAME = re.compile(r"[a-z0-9_]{1,32}")
 LOOPBACK = ("127.0.0.1", "localhost", "[::1]")
-MEBIBYTE = 2**20
+
+# The encodings of a body, besides none. zlib recognizes which one it is.
+ENCODINGS, ANY_FORMAT = ("gzip", "deflate"), zlib.MAX_WBITS | 32
+
+# How many characters the header Error has at most. nginx refuses responses whose headers are longer than 4 KiB.
+MOST_HEADER = 1_000
 
 # With these statuses the connection is closed, since the rest of the request may not have been read. The header says
 # so to the client. Otherwise Java would use the closed connection again, and send the request a second time.
-CLOSING = frozenset((400, 403, 408, 413, 500))
+CLOSING = frozenset((400, 401, 403, 408, 413, 415, 500))
 
 
 @dataclass(frozen=True)
@@ -32,7 +39,6 @@ class Settings:
     hosts: frozenset[str]
     fixed_name: str | None = None
     public_url: str = ""
-    most_bytes: int = 64 * MEBIBYTE
     body_seconds: float = 60
 
 
@@ -41,12 +47,15 @@ def loopback_hosts(port: int) -> frozenset[str]:
     return frozenset(f"{host}:{port}" for host in LOOPBACK)
 
 
-def application(calls: Calls, settings: Settings, note: Callable[[str], None] = lambda line: None) -> web.Application:
-    """Returns the application, which answers every request by itself."""
-    app = web.Application(client_max_size=settings.most_bytes + 1)  # aiohttp refuses a body of exactly this size
-    handler = RequestHandler(calls, settings, note)
-    app.router.add_route("*", "/{path:.*}", handler.handle)
-    return app
+def runner(calls: Calls, settings: Settings, note: Callable[[str], None] = lambda line: None) -> web.AppRunner:
+    """Returns what runs the application, which answers every request by itself."""
+    quiet = logging.getLogger(__name__)  # aiohttp reports each request that is not HTTP, with a traceback
+    quiet.addHandler(logging.NullHandler())
+    quiet.propagate = False
+    app = web.Application()
+    app.router.add_route("*", "/{path:.*}", RequestHandler(calls, settings, note).handle)
+    # aiohttp would decompress 32 MiB at once, before a call is known
+    return web.AppRunner(app, logger=quiet, access_log=None, auto_decompress=False)
 
 
 class RequestHandler:
@@ -68,10 +77,9 @@ class RequestHandler:
         """Answers a request, also if a call raises an exception."""
         try:
             self._guard(request)
-            asked = await self._read(request)
-            response = await self._calls.answer(asked)
+            response = await self._calls.answer(self._asked(request))
             if request.transport is None or request.transport.is_closing():
-                self._calls.lost(asked, response)
+                self._calls.lost(response)
             return written(response)
         except ApiError as refusal:
             return written(Response(refusal.text, status=refusal.status))
@@ -86,23 +94,24 @@ class RequestHandler:
         if headers.getall("Host", []) not in [[host] for host in hosts]:
             raise ApiError(403, "This program is not known by that host name")
         origin = headers.get("Origin")
-        if origin is not None and urlsplit(origin).netloc not in hosts:
+        if origin is not None and origin.partition("://")[2] not in hosts:
             raise ApiError(403, "Pages of other sites are not let in")
         if headers.get("Sec-Fetch-Site", "none") == "cross-site":
             raise ApiError(403, "Pages of other sites are not let in")
 
-    async def _read(self, request: web.Request) -> Request:
-        """Reads a request."""
+    def _asked(self, request: web.Request) -> Request:
+        """Returns a request for the calls, whose body is not read yet. Raises ApiError 401."""
         accepted = request.headers.get("Accept", "")
         return Request(
             request.method,
             request.path,
             dict(request.query),
-            await self._body(request),
+            self._body(request),
             self._author(request),
             wants_json(accepted),
             HTML in accepted,
             self._base(request),
+            request.content_length or 0,
         )
 
     def _base(self, request: web.Request) -> str:
@@ -111,18 +120,39 @@ class RequestHandler:
             return self._settings.public_url or f"http://{request.host}"
         return self._settings.public_url
 
-    async def _body(self, request: web.Request) -> bytes:
-        """Returns the body of a request. Raises ApiError 400, 408 and 413."""
-        try:
-            async with asyncio.timeout(self._settings.body_seconds):
-                return await request.read()
-        except TimeoutError:
-            raise ApiError(408, "The body of the request came too slowly") from None
-        except web.HTTPRequestEntityTooLarge:
-            most = self._settings.most_bytes // MEBIBYTE
-            raise ApiError(413, f"The body of the request is larger than {most} MiB. Nothing was uploaded.") from None
-        except (OSError, ValueError, EOFError) as fault:
-            raise bad_request(f"The body of the request cannot be read: {fault}") from fault
+    async def _body(self, request: web.Request) -> AsyncIterator[bytes]:
+        """Yields the body of a request, decompressed, as it comes. Raises ApiError 400, 408 and 415."""
+        encoding = request.headers.get("Content-Encoding", "identity").strip().lower()
+        if encoding == "identity":
+            async for part in self._parts(request):
+                yield part
+        elif encoding in ENCODINGS:
+            decompressor = zlib.decompressobj(ANY_FORMAT)
+            async for part in self._parts(request):
+                while part and not decompressor.eof:
+                    yield decompressed(decompressor, part)
+                    part = decompressor.unconsumed_tail
+            if not decompressor.eof:
+                raise bad_request("The body of the request cannot be read: its compression has no end")
+        else:
+            raise ApiError(415, f"The program does not know the encoding {encoding}")
+
+    async def _parts(self, request: web.Request) -> AsyncIterator[bytes]:
+        """Yields the body of a request as it comes. Raises ApiError 400 and 408."""
+        left = self._settings.body_seconds
+        while True:
+            began = time.monotonic()
+            try:
+                async with asyncio.timeout(left):
+                    part = await request.content.readany()
+            except TimeoutError:
+                raise ApiError(408, "The body of the request came too slowly") from None
+            except (OSError, ValueError, EOFError, web.RequestPayloadError) as fault:
+                raise bad_request(f"The body of the request cannot be read: {fault}") from fault
+            left -= time.monotonic() - began
+            if not part:
+                return
+            yield part
 
     def _author(self, request: web.Request) -> str | None:
         """Returns the author of a request, or None if it names nobody. Raises ApiError 401 for an invalid name."""
@@ -168,6 +198,14 @@ def written(response: Response) -> web.Response:
     return answer
 
 
+def decompressed(decompressor: "zlib._Decompress", part: bytes) -> bytes:
+    """Returns the beginning of what a part of a body says. Raises ApiError 400."""
+    try:
+        return decompressor.decompress(part, PIECE_BYTES)
+    except zlib.error as fault:
+        raise bad_request(f"The body of the request cannot be read: {fault}") from fault
+
+
 def header_text(text: str) -> str:
-    """Returns a text as a header can hold it."""
-    return re.sub(r"[^\x20-\x7e]", "?", text.replace("\n", " "))
+    """Returns the beginning of a text as a header can hold it."""
+    return re.sub(r"[^\x20-\x7e]", "?", text[:MOST_HEADER].replace("\n", " "))

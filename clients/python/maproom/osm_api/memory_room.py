@@ -56,6 +56,8 @@ class MemoryRoom:
         self.journal: list[JournalEntry] = []
         self.groups: list[list[Action]] = []
         self.holds_news = False
+        # awaited before an author is let in
+        self.before_join: Callable[[str], Awaitable[None]] | None = None
         # awaited before a group is applied, and after it, before its answer
         self.before_group: Callable[[], Awaitable[object]] | None = None
         self.after_group: Callable[[], Awaitable[object]] | None = None
@@ -89,6 +91,11 @@ class MemoryRoom:
         held, self._held = self._held, []
         for news in held:
             self._send(news)
+
+    async def join(self, author: str) -> None:
+        """Lets an author in."""
+        if self.before_join:
+            await self.before_join(author)
 
     async def send_group(
         self, author: str, actions: Sequence[Action], announce: Callable[[int], None] = lambda message: None

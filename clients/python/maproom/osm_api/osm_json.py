@@ -8,17 +8,23 @@ from .ids import api_id, kind_of
 from .osm_xml import ACCOUNT_CREATED, GENERATOR, PERMISSIONS
 
 Value = dict[str, Any]
+LINE_END = "\n"
 
 
 def document(content: Value) -> str:
     """Returns a document of the API."""
-    return compact({"version": "0.6", "generator": GENERATOR, **content}) + "\n"
+    return compact({"version": "0.6", "generator": GENERATOR, **content}) + LINE_END
 
 
-def elements(values: Iterable[Value], bounds: Bounds | None = None) -> str:
-    """Returns a document with elements."""
-    box = {"bounds": bounds_value(bounds)} if bounds else {}
-    return document({**box, "elements": list(values)})
+def elements(texts: Iterable[str], bounds: Bounds | None = None) -> str:
+    """Returns a document with elements, of which each is a text."""
+    head = document({"bounds": bounds_value(bounds)} if bounds else {})
+    return f'{head.removesuffix("}" + LINE_END)},"elements":[{",".join(texts)}]}}{LINE_END}'
+
+
+def element_texts(states: Iterable[ElementState]) -> list[str]:
+    """Returns elements, each as a text."""
+    return [compact(element_value(state, user_id(state.author) if state.author else None)) for state in states]
 
 
 def bounds_value(bounds: Bounds) -> Value:

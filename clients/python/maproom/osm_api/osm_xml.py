@@ -1,122 +1,15 @@
-"""Documents of the API in XML: read from editors, and written for them."""
-from collections.abc import Iterable, Iterator, Mapping, Sequence
-from xml.etree.ElementTree import Element, ParseError, tostring
+"""Documents of the API in XML, as editors get them. `osm_reading` reads those that they send."""
+from collections.abc import Iterable, Mapping, Sequence
 from xml.sax.saxutils import quoteattr
 
-from defusedxml import DefusedXmlException
-from defusedxml.ElementTree import fromstring
-
-from ..xml_elements import XmlMember, members_of, nodes_of, tags_of
-from .documents import (
-    Bounds,
-    Change,
-    ChangeAction,
-    Changeset,
-    ElementState,
-    GivenElement,
-    GivenMember,
-    Limits,
-    ResultRow,
-    instant,
-    user_id,
-)
+from .documents import Bounds, Changeset, ElementState, Limits, ResultRow, instant, user_id
 from .elements import coordinate_text, sayable
-from .errors import bad_request
-from .ids import KINDS_BY_WORD, Kind, api_id, kind_of, number_of
+from .ids import api_id, kind_of
 
 GENERATOR = "maproom"
 HEAD = '<?xml version="1.0" encoding="UTF-8"?>'
-MOST_SOURCE = 200
-ACTIONS = {action.value: action for action in ChangeAction}
 PERMISSIONS = ("allow_read_prefs", "allow_write_prefs", "allow_write_api")
 ACCOUNT_CREATED = "2020-01-01T00:00:00Z"
-
-
-# reading
-
-
-def root_of(body: bytes) -> Element:
-    """Returns the root of a document.
-
-    Raises ApiError 400 if the document is not well-formed, or has a document type, which no editor sends."""
-    try:
-        root: Element = fromstring(body, forbid_dtd=True)
-        return root
-    except DefusedXmlException as fault:
-        raise bad_request("Document types and entities are not accepted") from fault
-    except (ParseError, LookupError, ValueError) as fault:
-        raise bad_request(f"Cannot parse valid XML: {fault}") from fault
-
-
-def changes_in(body: bytes) -> list[Change]:
-    """Returns the steps of an osmChange document, in its order. Raises ApiError 400."""
-    root = root_of(body)
-    if root.tag != "osmChange":
-        raise bad_request(f"Document element should be 'osmChange', and not '{root.tag}'")
-    return [change for block in root for change in changes_of(block)]
-
-
-def changes_of(block: Element) -> Iterator[Change]:
-    """Yields the steps of a block of an osmChange."""
-    if block.tag not in ACTIONS:
-        raise bad_request(f"Unknown action {block.tag}, choices are create, modify, delete")
-    for element in block:
-        if element.tag not in KINDS_BY_WORD:
-            raise bad_request(f"Unexpected element type {element.tag}, expected node, way or relation.")
-        yield Change(ACTIONS[block.tag], element_of(element), block.get("if-unused") is not None)
-
-
-def single_element(body: bytes, kind: Kind) -> GivenElement:
-    """Returns the element of a document that has one. Raises ApiError 400."""
-    root = root_of(body)
-    found = root if root.tag == kind.value else root.find(kind.value)
-    if found is None:
-        word = kind.value
-        raise bad_request(f"Cannot parse valid {word} from xml string. XML doesn't contain an osm/{word} element.")
-    return element_of(found)
-
-
-def element_of(element: Element) -> GivenElement:
-    """Returns an element of a document."""
-    references: list[GivenMember] = []
-    if element.tag == Kind.WAY.value:
-        references = [GivenMember(Kind.NODE, number_of(ref)) for ref in nodes_of(element)]
-    elif element.tag == Kind.RELATION.value:
-        references = [member_of(member) for member in members_of(element)]
-    return GivenElement(
-        KINDS_BY_WORD[element.tag],
-        number_of(element.get("id")),
-        number_of(element.get("version")),
-        number_of(element.get("changeset")),
-        element.get("lat"),
-        element.get("lon"),
-        references,
-        tags_of(element),
-        source_of(element),
-    )
-
-
-def member_of(member: XmlMember) -> GivenMember:
-    """Returns a member of a relation. Raises ApiError 400 if its type is not a kind."""
-    kind = KINDS_BY_WORD.get((member.kind or "").lower())
-    if kind is None:
-        raise bad_request(f"Unknown member type {member.kind}, choices are node, way, relation")
-    return GivenMember(kind, number_of(member.ref), member.role)
-
-
-def source_of(element: Element) -> str:
-    """Returns the beginning of the text of an element, which errors show."""
-    alone = Element(element.tag, element.attrib)
-    text = tostring(alone, "unicode")
-    return text if len(text) <= MOST_SOURCE else f"{text[:MOST_SOURCE]}.."
-
-
-def tags_of_changeset(body: bytes) -> dict[str, str]:
-    """Returns the tags of a changeset's document. Raises ApiError 400."""
-    return {tag.get("k", ""): tag.get("v", "") for tag in root_of(body).iter("tag")}
-
-
-# writing
 
 
 def attribute(text: str) -> str:
@@ -154,6 +47,16 @@ def element_text(state: ElementState, author_id: int | None) -> str:
     )
     content += tags_text(row["tags"].items())
     return f"<{head}>{content}</{word}>" if content else f"<{head}/>"
+
+
+def element_texts(states: Iterable[ElementState]) -> list[str]:
+    """Returns elements, each as a text."""
+    return [element_text(state, user_id(state.author) if state.author else None) for state in states]
+
+
+def elements(texts: Iterable[str], bounds: Bounds | None = None) -> str:
+    """Returns a document with elements, of which each is a text."""
+    return document([*([bounds_text(bounds)] if bounds else []), *texts])
 
 
 def bounds_text(bounds: Bounds) -> str:

@@ -2,7 +2,7 @@
 
 The plan makes each of the API's checks on the map as the earlier steps leave it, in the order of the document. It
 changes nothing. All actions together go to the room as one group, which the room accepts or refuses as a whole."""
-from collections.abc import Collection, Sequence
+from collections.abc import Collection, Iterable, Iterator, Sequence
 from dataclasses import dataclass, field
 from typing import Protocol
 
@@ -10,7 +10,7 @@ from ..xml_elements import LEAST_NODES, MOST_CHARACTERS, MOST_MEMBERS, MOST_NODE
 from . import errors
 from .connection import Action
 from .documents import Change, ChangeAction, GivenElement, GivenMember
-from .elements import Row, compact, coordinate_text, is_in_world, references, sayable, text_units, units_of
+from .elements import Row, compact, coordinate_text, digest, is_in_world, references, sayable, text_units, units_of
 from .ids import Kind, api_id, api_order, kind_of, room_name
 
 # How many actions a group holds at most.
@@ -51,12 +51,14 @@ class Planned:
 
 @dataclass
 class Plan:
-    """What an upload takes. `rows` has the elements that it touches, as the upload leaves them."""
+    """What an upload takes. `rows` has the elements that it touches, as the upload leaves them, and `digests` the
+    digest of each element of the results."""
 
     actions: list[Action] = field(default_factory=list)
     results: list[Planned] = field(default_factory=list)
     rows: dict[str, Row | None] = field(default_factory=dict)
     created: list[str] = field(default_factory=list)
+    digests: dict[str, str] = field(default_factory=dict)
 
 
 def plan_upload(
@@ -67,29 +69,51 @@ def plan_upload(
     Raises ApiError: 400 for what a document or a room cannot hold, 404 for elements that the room never had, 409 for
     outdated versions and another changeset, 410 for deleted elements, 412 for references that would dangle, and 413
     for more actions than a group holds."""
-    planner = Planner(view, changeset)
-    for change in changes:
-        planner.add(change)
-        if len(planner.plan.actions) > most_actions:
-            raise errors.too_large(most_actions)
-    if sum(len(compact(action)) for action in planner.plan.actions) > MOST_BYTES:
-        raise errors.ApiError(
-            413, "This upload is larger than a room accepts at once. Nothing was uploaded. " "Upload in smaller parts."
-        )
-    return planner.plan
+    planner = Planner(view, changeset, most_actions)
+    planner.add_all(changes)
+    return planner.whole()
 
 
 class Planner:
-    """Plans an upload step by step."""
+    """Plans an upload step by step. Its calls raise what `plan_upload` raises.
 
-    def __init__(self, view: MapView, changeset: int | None = None) -> None:
+    No step costs more than its own content and the elements that it changes: `_linked` has the users of each element
+    in the plan, and `_users_before` those in the map, which are not counted again for each step.
+
+    New elements get numbers from `first_number` on, or else from the map's first new number."""
+
+    def __init__(
+        self,
+        view: MapView,
+        changeset: int | None = None,
+        most_actions: int = MOST_ACTIONS,
+        first_number: int | None = None,
+    ) -> None:
         self.plan = Plan()
-        self._view, self._changeset = view, changeset
+        self._view, self._changeset, self._most_actions = view, changeset, most_actions
         self._placeholders: dict[tuple[Kind, int], str] = {}
         self._versions: dict[str, int] = {}
         self._linked: dict[str, set[str]] = {}
+        self._users_before: dict[str, tuple[str, ...]] = {}
         self._moves: dict[tuple[int, int], Action] = {}
-        self._next_number = view.first_new_number
+        self._next_number = view.first_new_number if first_number is None else first_number
+
+    def add_all(self, changes: Iterable[Change]) -> None:
+        """Plans some steps."""
+        for change in changes:
+            self.add(change)
+            if len(self.plan.actions) > self._most_actions:
+                raise errors.too_large(self._most_actions)
+
+    def whole(self) -> Plan:
+        """Returns the plan of all steps."""
+        if sum(len(compact(action)) for action in self.plan.actions) > MOST_BYTES:
+            raise errors.ApiError(
+                413, "This upload is larger than a room accepts at once. Nothing was uploaded. Upload in smaller parts."
+            )
+        names = {each.name for each in self.plan.results if each.name}
+        self.plan.digests = {name: digest(self._row(name)) for name in names}
+        return self.plan
 
     def add(self, change: Change) -> None:
         """Plans a step."""
@@ -109,10 +133,13 @@ class Planner:
         """Returns an element as the plan leaves it, or None."""
         return self.plan.rows[name] if name in self.plan.rows else self._view.row(name)
 
-    def _users(self, name: str) -> list[str]:
-        """Returns the other elements that refer to an element as the plan leaves it, in the API's order."""
-        users = {*self._view.users(name), *self._linked.get(name, ())} - {name}
-        return sorted((user for user in users if name in references(self._row(user))), key=api_order)
+    def _users(self, name: str) -> Iterator[str]:
+        """Yields the other elements that refer to an element as the plan leaves it."""
+        yield from (user for user in self._linked.get(name, ()) if user != name)
+        if name not in self._users_before:
+            self._users_before[name] = tuple(self._view.users(name))
+        rows = self.plan.rows
+        yield from (user for user in self._users_before[name] if user != name and user not in rows)
 
     def _version(self, name: str) -> int | None:
         """Returns the version that an editor has to give for an element."""
@@ -121,6 +148,8 @@ class Planner:
     def _put(self, name: str, row: Row | None) -> None:
         """Notes what an element is to be."""
         self._raise_version(name)
+        for used in references(self.plan.rows.get(name)):
+            self._linked[used].discard(name)
         self.plan.rows[name] = row
         for used in references(row):
             self._linked.setdefault(used, set()).add(name)
@@ -305,25 +334,29 @@ class Planner:
         """Plans that an element goes. With `if_unused` an element stays that is used or already deleted."""
         name = self._existing(given)
         assert given.number is not None
-        try:
-            self._check_delete(name, given)
-        except errors.ApiError as refusal:
-            if not if_unused or refusal.status not in (410, 412):
-                raise
+        if if_unused and self._stays(name, given):
             self.plan.results.append(Planned(given.kind, given.number, name))
             return
+        self._check_delete(name, given)
         if name in references(self._row(name)):  # the room refuses to delete a relation that names itself
             self.plan.actions.append({"do": "members", "el": name, "members": []})
         self._put(name, None)
         self.plan.actions.append({"do": "delete", "el": name})
         self.plan.results.append(Planned(given.kind, given.number, None))
 
+    def _stays(self, name: str, given: GivenElement) -> bool:
+        """Returns whether an element is deleted already, or used. Refuses what is outdated."""
+        if self._row(name) is None:
+            return True
+        self._check_version(name, given.version or 0)
+        return next(self._users(name), None) is not None
+
     def _check_delete(self, name: str, given: GivenElement) -> None:
         """Refuses to delete what is deleted, outdated or used."""
         if self._row(name) is None:
             raise errors.already_deleted(given.kind, api_id(name))
         self._check_version(name, given.version or 0)
-        users = self._users(name)
+        users = sorted(self._users(name), key=api_order)
         for kind in (Kind.WAY, Kind.RELATION):
             of_kind = [user for user in users if kind_of(user) is kind]
             if of_kind:

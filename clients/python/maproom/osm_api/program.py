@@ -35,6 +35,7 @@ from ..errors import Error
 from .bridge import NotLoopback, Options, bridge
 from .ledger import LedgerInUse
 from .room_connection import ServerRoom
+from .working import keep_what_is_there, share_fairly
 
 # The author whose session follows the room for a group. It writes nothing.
 READER = "osm_api"
@@ -99,6 +100,7 @@ def arguments() -> argparse.Namespace:
 
 async def serve(options: argparse.Namespace) -> None:
     """Runs until a signal comes, or until the room ends for good."""
+    share_fairly()
     ending, loop = asyncio.Event(), asyncio.get_running_loop()
     for number in (signal.SIGTERM, signal.SIGINT):
         loop.add_signal_handler(number, ending.set)
@@ -108,6 +110,7 @@ async def serve(options: argparse.Namespace) -> None:
     )
     async with ServerRoom(options.url, options.room, options.name or READER) as room:
         async with bridge(room, settings, note) as url:
+            keep_what_is_there()
             print(url, flush=True)
             ended = asyncio.create_task(room.ended())
             await asyncio.wait({ended, asyncio.create_task(ending.wait())}, return_when=asyncio.FIRST_COMPLETED)

@@ -36,6 +36,9 @@ WELCOME_END = re.compile(r'\],"seq":([0-9]+)\}\}$')
 # After how many seconds the bridge asks the server again, if it could not be reached or did not know.
 PAUSE = 0.5
 
+# How often the bridge looks whether a broken session is back, in seconds.
+LOOK = 0.02
+
 # For how many seconds the bridge asks which run of the server answers. After that it counts as another run.
 RUN_SECONDS = 20
 
@@ -279,6 +282,12 @@ class ServerRoom:
             await self._reader.ask(messages.get("n1"))
 
     # what authors write
+
+    async def join(self, author: str) -> None:
+        """Waits until an author has a session, which then stays open for a while. A new session needs a worker."""
+        async with self._session(author) as room:
+            while room.state == "connecting":
+                await asyncio.sleep(LOOK)
 
     # These take the run when they are called, since a task that awaits them may begin in a later run.
 

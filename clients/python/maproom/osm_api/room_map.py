@@ -4,8 +4,9 @@ import contextlib
 import itertools
 import time
 from collections import deque
-from collections.abc import Callable, Collection, Iterable, Mapping
+from collections.abc import Callable, Collection, Iterable, Iterator, Mapping, Set
 from dataclasses import dataclass
+from typing import NamedTuple
 
 from .connection import News, Welcome
 from .documents import Bounds, ElementState
@@ -51,13 +52,28 @@ class Step:
     after: Rows
 
 
+class Held(NamedTuple):
+    """An element as the map has it, and what the ledger knows of it."""
+
+    name: str
+    row: Row | None
+    known: Known
+
+
 class Watch:
-    """What entries do to some elements since an entry. `known` is the last entry up to which none was missed."""
+    """What entries do to some elements since an entry. `known` is the last entry up to which none was missed, and
+    `shown` has the versions of these elements that editors saw meanwhile."""
 
     def __init__(self, names: Iterable[str], since: int) -> None:
         self.names, self.since, self.known = frozenset(names), since, since
         self.steps: list[Step] = []
+        self.shown: dict[str, int] = {}
         self._count = 0
+
+    def note_shown(self, name: str, version: int) -> None:
+        """Notes that an editor sees an element."""
+        if name in self.names:
+            self.shown[name] = max(version, self.shown.get(name, 0))
 
     def begin_again(self, seq: int) -> None:
         """Forgets all, since another run of the server begins, whose entries are others."""
@@ -96,6 +112,7 @@ class RoomMap:
         self.elements: dict[str, Row] = {}
         self.grid = Grid()
         self.seq, self.run = -1, -1
+        self.changes = 0  # how often the map changed
         self.recent: deque[Entry] = deque()
         self._recent_count = 0
         self._own: dict[int, bool] = {}
@@ -106,6 +123,7 @@ class RoomMap:
             name for pending in ledger.pending.values() for _, old, name, _ in pending.results if name and old < 0
         )
         self._least_avoided = 0
+        self._reserved: list[range] = []
         self._waiting: list[tuple[int, asyncio.Future[None]]] = []
 
     # what the room says
@@ -113,6 +131,7 @@ class RoomMap:
     def on_welcome(self, welcome: Welcome) -> None:
         """Takes the whole map. Elements that differ from what the ledger knows get a new version."""
         is_other_run = welcome.run != self.run
+        self.changes += 1
         if is_other_run:
             self.recent.clear()
             self._own.clear()
@@ -128,6 +147,7 @@ class RoomMap:
 
     def on_news(self, news: News) -> None:
         """Takes what an entry changed."""
+        self.changes += 1
         rows = shown(news.rows)
         watched = {name: row for name, row in rows.items() if self._watch and name in self._watch.names}
         before = {name: self.row(name) for name in watched}
@@ -178,13 +198,14 @@ class RoomMap:
         self._waiting = [(seq, reached) for seq, reached in self._waiting if not reached.done()]
 
     def _put(self, name: str, row: Row | None) -> None:
-        """Replaces an element."""
-        before = self.elements.pop(name, None)
+        """Replaces an element, in one step, because an upload may be planned meanwhile."""
+        before = self.elements.get(name)
         for used in set(references(before)):
             self._users[used].discard(name)
             if not self._users[used]:
                 del self._users[used]
         if row is None:
+            self.elements.pop(name, None)
             self.grid.remove(name)
             return
         self.elements[name] = row
@@ -212,19 +233,40 @@ class RoomMap:
         """A number such that it and all lower numbers above -2^52 were never in a name."""
         return min(self.ledger.least_number, self._least_avoided) - 1
 
+    @contextlib.contextmanager
+    def reserved(self, count: int) -> Iterator[int]:
+        """Reserves numbers of new elements for a block, since several uploads are planned at a time. Gives the first of
+        them; the others are below it."""
+        first = min([self.first_new_number, *(numbers.stop for numbers in self._reserved)])
+        numbers = range(first, first - count, -1)
+        self._reserved.append(numbers)
+        try:
+            yield first
+        finally:
+            self._reserved.remove(numbers)
+
+    def is_same_since(self, names: Set[str], seq: int, run: int) -> bool:
+        """Returns whether no entry after one of a run changed any of some elements. It is false as well if some of
+        these entries may have been missed, or are forgotten."""
+        later = list(itertools.takewhile(lambda entry: entry.seq > seq, reversed(self.recent)))
+        is_complete = self.run == run and len(later) == self.seq - seq
+        return is_complete and all(names.isdisjoint(entry.versions) for entry in later)
+
     def states_before(self, names: Iterable[str]) -> dict[str, Known]:
         """Returns what the ledger knows of elements, for `restore`."""
         return {name: self.ledger.known[name] for name in names if name in self.ledger.known}
 
-    def restore(self, before: dict[str, Known]) -> None:
-        """Gives elements the versions back that they had, if their content is the same as then. Only for changes that
-        nobody saw."""
-        known = self.ledger.known
+    def restore(self, before: dict[str, Known], watch: Watch) -> None:
+        """Gives elements the versions back that they had, if their content is the same as then, and no editor saw a
+        later version while they were watched. Such an editor could otherwise overwrite what it did not see."""
+        known, shown_versions = self.ledger.known, watch.shown
         self.ledger.set(
             {
                 name: state
                 for name, state in before.items()
-                if known[name].digest == state.digest and known[name] != state
+                if known[name].digest == state.digest
+                and known[name] != state
+                and shown_versions.get(name, 0) <= state.version
             }
         )
 
@@ -239,7 +281,25 @@ class RoomMap:
                 self._least_avoided = min(self._least_avoided, int(name[1:]))
             now = int(self.clock())
             known = Known(self.ledger.unseen_version(now), now, 0, "", "")
-        return ElementState(name, self.row(name), known.version, max(known.entry, 1), known.time, known.author)
+        held = Held(name, self.row(name), known)
+        self.note_shown([held])
+        return state_of(held)
+
+    def held(self, names: Iterable[str]) -> list[Held]:
+        """Returns elements that are known, of which `state_of` makes what editors see. They are those of one moment only
+        if the map does not change meanwhile."""
+        elements, known = self.elements, self.ledger.known
+        return [Held(name, elements.get(name), known[name]) for name in names]
+
+    def held_within(self, bounds: Bounds) -> list[Held]:
+        """Returns the elements that the API's map has for a bounding box, as `held` does."""
+        return self.held(self.within(bounds))
+
+    def note_shown(self, found: Iterable[Held]) -> None:
+        """Notes that an editor sees elements."""
+        if self._watch:
+            for held in found:
+                self._watch.note_shown(held.name, held.known.version)
 
     def named(self, kind: Kind, number: int) -> str | None:
         """Returns the name of an element that the API shows under an id, or None if the room never had it."""
@@ -327,6 +387,12 @@ class RoomMap:
             self.ledger.raise_first(name, self.clock())
             return FIRST_VERSION
         return version - 1
+
+
+def state_of(held: Held) -> ElementState:
+    """Returns an element as editors see it."""
+    known = held.known
+    return ElementState(held.name, held.row, known.version, max(known.entry, 1), known.time, known.author)
 
 
 def shown(rows: Rows) -> dict[str, Row | None]:

@@ -4,22 +4,31 @@ An upload is planned on the map and sent. If the room refuses the group, somebod
 on the map as it is then, so that a conflict is always reported by a plan, in the API's words. If another entry changed
 an element of the upload between the map of the plan and the group, the group is taken back and planned again."""
 import asyncio
+import contextlib
 import time
-from collections.abc import Awaitable, Callable, Iterator, Mapping, Sequence
+from collections.abc import AsyncIterator, Awaitable, Callable, Iterator, Mapping, Sequence
 from dataclasses import dataclass, replace
 from typing import TypeVar
 
 from .connection import MISSED, OVERTAKEN, UNKNOWN, Accepted, Answer, Refusal, RoomConnection
-from .documents import Change, ResultRow
-from .elements import digest, is_same, references
+from .documents import Change, ChangeAction, ResultRow
+from .elements import GONE_DIGEST, is_same, references
 from .errors import ApiError, bad_request, no_connection
 from .ids import KINDS_BY_WORD, api_id, kind_of, room_name
 from .ledger import FIRST_VERSION, Known, PendingUpload
-from .planner import Plan, Planned, plan_upload
+from .planner import Plan, Planned, Planner
 from .room_map import RoomMap, Watch, last_of, rows_are
 from .taking_back import Group, Left, TakingBack
+from .working import worked
 
 MOST_TRIES = 4
+
+# How many steps are planned at once, which takes a few milliseconds.
+STEPS_AT_ONCE = 50
+
+# For how many seconds an upload waits for a session of its author. It has not been sent then, and no other upload
+# waits for it.
+SESSION_SECONDS = 10.0
 
 # How many answers are kept for requests that are repeated because an answer was lost, and how many uploads of an author
 # for undos.
@@ -39,6 +48,8 @@ LOST = (
     "The server was restarted while the upload was on its way, and cannot be reached since. Update the data to "
     "see whether the room has the upload."
 )
+BUSY = "An upload is still under way. Nothing was done."
+NO_SESSION = "No worker of the server is free, so nothing was done. Try again later, or ask who runs the server for more workers."
 UNSETTLED = "An earlier upload is still on its way to the room. Nothing of this upload was sent."
 FULL = (
     "The room's journal is full, so nothing was uploaded. Ask who runs the server to save the map and start it "
@@ -50,12 +61,23 @@ Result = TypeVar("Result")
 
 @dataclass(frozen=True)
 class Upload:
-    """What is uploaded: who uploads it, and where to. `request` identifies the request of the editor."""
+    """What is uploaded: who uploads it, and where to. `request` identifies the request of the editor, and
+    `first_number` is the number of its first new element, if a plan does not choose it."""
 
     author: str
     changeset: int
     changes: Sequence[Change]
     request: str
+    first_number: int | None = None
+
+
+@dataclass(frozen=True)
+class Draft:
+    """A plan that is not sent yet, with the last entry and the run of the server that the map had when it was begun."""
+
+    plan: Plan
+    seq: int
+    run: int
 
 
 @dataclass(frozen=True)
@@ -97,7 +119,7 @@ class Done:
 
 
 class Uploads:
-    """Uploads of all authors to one room. At most one is under way at a time: callers hold a lock."""
+    """Uploads of all authors to one room. Several are planned at a time, and one is under way: it holds a lock."""
 
     def __init__(
         self, room: RoomConnection, room_map: RoomMap, seconds: float, note: Callable[[str], None] = lambda line: None
@@ -110,6 +132,28 @@ class Uploads:
         self._kept: dict[str, list[ResultRow]] = {}
         self._settling: asyncio.Task[None] | None = None
         self._run = room_map.run
+        self._lock = asyncio.Lock()
+
+    @contextlib.asynccontextmanager
+    async def _alone(self, author: str) -> AsyncIterator[None]:
+        """Has an author's upload or undo be the only one under way. Raises ApiError 503.
+
+        The author's session comes first: it may wait for a worker of the server, and then nobody else waits for it."""
+        try:
+            async with asyncio.timeout(min(SESSION_SECONDS, self._seconds)):
+                await self._room.join(author)
+        except TimeoutError:
+            raise no_connection(NO_SESSION) from None
+        try:
+            async with asyncio.timeout(self._seconds):
+                await self._lock.acquire()
+        except TimeoutError:
+            raise no_connection(BUSY) from None
+        try:
+            await self.settled()
+            yield
+        finally:
+            self._lock.release()
 
     # uploads
 
@@ -117,22 +161,39 @@ class Uploads:
         """Carries out an upload, and returns what became of its elements.
 
         Raises ApiError: what `plan_upload` raises; 400 if the journal is full; 409 if the room refuses the upload
-        again and again, or if it was overtaken and something of it stays; 503 if the connection
-        breaks or an earlier upload is not settled, and then nothing of the upload stays."""
+        again and again, or if it was overtaken and something of it stays; 503 if the connection breaks, or no worker
+        of the server or no turn of the uploads comes in time, and then nothing of the upload stays."""
         if upload.request in self._kept:
             return self._kept.pop(upload.request)
         await self.settled()
-        try:
-            return await self._uploaded(upload)
-        finally:
-            if self._settling is None:
-                self._map.unwatch()
+        count = sum(change.action is ChangeAction.CREATE for change in upload.changes)
+        with self._map.reserved(count) as first_number:
+            upload = replace(upload, first_number=first_number)
+            draft = await self._first_draft(upload)
+            if draft and not draft.plan.actions:
+                return results_of(draft.plan.results, self._present_versions(draft.plan))
+            async with self._alone(upload.author):
+                try:
+                    return await self._uploaded(upload, draft)
+                finally:
+                    if self._settling is None:
+                        self._map.unwatch()
 
-    async def _uploaded(self, upload: Upload) -> list[ResultRow]:
-        """Plans and sends an upload, again if another was quicker."""
+    async def _first_draft(self, upload: Upload) -> Draft | None:
+        """Plans an upload, while another may be under way. Returns None if the API refuses it then, since the other
+        may be taken back."""
+        try:
+            return await self._drafted(upload)
+        except ApiError:
+            if self._lock.locked() or self._settling:
+                return None
+            raise
+
+    async def _uploaded(self, upload: Upload, draft: Draft | None) -> list[ResultRow]:
+        """Sends an upload that was planned. Plans and sends it again if another was quicker."""
         refusal: Refusal | None = None
         for _ in range(MOST_TRIES):
-            plan = await self._planned(upload)
+            plan, draft = await self._settled_plan(upload, draft), None
             attempt = self._attempt(upload, plan)
             outcome = await self._carried_out(attempt) if plan.actions else Outcome(None, attempt.versions)
             if outcome.refusal is None:
@@ -145,34 +206,67 @@ class Uploads:
         assert refusal is not None
         raise ApiError(409, f"The room refused the upload {MOST_TRIES} times: {refusal.in_words(self._room.authors)}")
 
-    async def _planned(self, upload: Upload) -> Plan:
-        """Plans an upload on the present map.
+    async def _settled_plan(self, upload: Upload, draft: Draft | None) -> Plan:
+        """Returns the plan of an upload on the present map.
 
         If it builds on an entry that another bridge may still take back, it waits until that is over. Otherwise the
         entry could not be undone any more, and the upload would count on what was never meant to stay."""
         began = time.monotonic()
         while True:
-            await self._in_time(self._room.catch_up(), no_connection(BROKEN))
-            plan = plan_upload(upload.changes, self._map, upload.changeset)
+            if draft is None or not self._holds(draft):
+                draft = await self._drafted(upload)
+            plan = draft.plan
             unsettled = self._map.unsettled(began) if plan.actions else {}
-            entry = last_of(unsettled, names_in(plan)) if unsettled else None
+            entry = await worked(last_of, unsettled, names_in(plan)) if unsettled else None
             if entry is None:
                 return plan
             await self._map.settled(entry)
 
+    async def _drafted(self, upload: Upload) -> Draft:
+        """Plans an upload on the present map. Others go on meanwhile. If they change elements of the upload, it is
+        planned again. It is so too if the API refuses it and the map has changed, since the plan may have seen half of
+        that. Raises ApiError, and 409 if others change the elements again and again."""
+        refusal = ApiError(409, "Others change the elements of this upload at the moment. Nothing was uploaded.")
+        for _ in range(MOST_TRIES):
+            await self._in_time(self._room.catch_up(), no_connection(BROKEN))
+            seq, run, changes = self._map.seq, self._map.run, self._map.changes
+            try:
+                draft = Draft(await self._planned(upload), seq, run)
+            except ApiError as fault:
+                if self._map.changes == changes:
+                    raise
+                refusal = fault
+                continue
+            if self._holds(draft):
+                return draft
+        raise refusal
+
+    async def _planned(self, upload: Upload) -> Plan:
+        """Plans an upload, a few steps at a time. Raises what `plan_upload` raises."""
+        planner = Planner(self._map, upload.changeset, first_number=upload.first_number)
+        for start in range(0, len(upload.changes), STEPS_AT_ONCE):
+            await worked(planner.add_all, upload.changes[start : start + STEPS_AT_ONCE])
+        return await worked(planner.whole)
+
+    def _holds(self, draft: Draft) -> bool:
+        """Returns whether nobody changed the elements of a draft since it was begun."""
+        return self._map.is_same_since(draft.plan.rows.keys(), draft.seq, draft.run)
+
     def _attempt(self, upload: Upload, plan: Plan) -> Attempt:
         """Returns an attempt with a plan, on the present map."""
-        names = {each.name for each in plan.results if each.name}
-        versions = {name: self._map.version(name) or FIRST_VERSION for name in names}
         return Attempt(
             upload,
             plan,
             self._map.seq,
             self._map.run,
             self._map.states_before(plan.rows),
-            versions,
+            self._present_versions(plan),
             self._map.watch(plan.rows),
         )
+
+    def _present_versions(self, plan: Plan) -> dict[str, int]:
+        """Returns the present versions of the elements that the results of a plan name."""
+        return {name: self._map.version(name) or FIRST_VERSION for name in plan.digests}
 
     async def _carried_out(self, attempt: Attempt) -> Outcome:
         """Sends a plan. If it is accepted although others changed its elements in between, it is taken back, and that
@@ -220,7 +314,8 @@ class Uploads:
         room what became of it."""
         upload, plan = attempt.upload, attempt.plan
         results = tuple(
-            (each.kind.value, each.old_id, each.name, self._planned_digest(plan, each.name)) for each in plan.results
+            (each.kind.value, each.old_id, each.name, plan.digests[each.name] if each.name else GONE_DIGEST)
+            for each in plan.results
         )
 
         is_announced = False
@@ -256,10 +351,6 @@ class Uploads:
                 self._ledger.settle(request)
 
         asyncio.get_running_loop().call_later(ANSWERED_SECONDS, settle)
-
-    def _planned_digest(self, plan: Plan, name: str | None) -> str:
-        """Returns the digest of an element as a plan leaves it."""
-        return digest(None if name is None else plan.rows[name] if name in plan.rows else self._map.row(name))
 
     def _compared(self, attempt: Attempt, group: Group) -> Outcome:
         """Returns the versions that a group gave, or a conflict.
@@ -301,10 +392,10 @@ class Uploads:
         )
 
     async def _taken_back(self, attempt: Attempt, group: Group) -> Left:
-        """Takes a group back, and returns what is left. Versions are as before, since nobody saw the group."""
+        """Takes a group back, and returns what is left. Versions are as before, for elements that nobody saw."""
         left = await self._taking_back.take_back(group)
         self._ledger.settle(attempt.upload.request)
-        self._map.restore(attempt.before)
+        self._map.restore(attempt.before, attempt.watch)
         if left.names and left.refusal:
             why = left.refusal.in_words(self._room.authors)
             self._note(f"entry {group.seq} of {group.author} stays, with {len(left.names)} elements: {why}")
@@ -322,7 +413,7 @@ class Uploads:
             self._settle_later(attempt.upload.request)
             return Outcome(None, {**attempt.versions, **self._map.versions_of(plan.rows)})
         self._ledger.settle(attempt.upload.request)
-        self._map.restore(attempt.before)
+        self._map.restore(attempt.before, attempt.watch)
         return Outcome(Refusal(UNKNOWN), {})
 
     # what is cut off in the middle
@@ -449,6 +540,13 @@ class Uploads:
     async def undo(self, author: str) -> str:
         """Undoes the last upload of an author, and returns what was done in words. Raises ApiError 409 and 503."""
         await self.settled()
+        if not self._done.get(author):
+            raise ApiError(409, "There is no upload to undo")
+        async with self._alone(author):
+            return await self._undone_last(author)
+
+    async def _undone_last(self, author: str) -> str:
+        """Undoes the last upload of an author, while no other is under way."""
         done = self._done.get(author)
         if not done:
             raise ApiError(409, "There is no upload to undo")
@@ -465,6 +563,13 @@ class Uploads:
     async def redo(self, author: str) -> str:
         """Does the upload again that an author undid last, and returns that in words. Raises ApiError 409 and 503."""
         await self.settled()
+        if not self._undone.get(author):
+            raise ApiError(409, "There is no upload to redo")
+        async with self._alone(author):
+            return await self._redone_last(author)
+
+    async def _redone_last(self, author: str) -> str:
+        """Does the upload again that an author undid last, while no other is under way."""
         undone = self._undone.get(author)
         if not undone:
             raise ApiError(409, "There is no upload to redo")
