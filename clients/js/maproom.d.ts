@@ -138,6 +138,7 @@ export class Room extends EventTarget {
   group(steps: Iterable<Message>, options?: AskOptions): Promise<number>;
   newName(kind: "n" | "w" | "r"): string;
   undo(seq?: number, options?: AskOptions): Promise<{ seq: number; undid?: number }>;
+  undoLastPossible(options?: AskOptions): Promise<{ seq: number; undid: number } | null>;
   redo(options?: AskOptions): Promise<{ seq: number; redid?: number }>;
   get(el: string, options?: AskOptions): Promise<Element>;
   map(options?: AskOptions): Promise<{ map: Element[]; seq: number }>;

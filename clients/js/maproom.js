@@ -1196,6 +1196,25 @@
     }
 
     /**
+     * Undoes your last active entry whose undo the room accepts: it tries each from the last on. Gives {seq, undid}, or
+     * null if none can be undone. If undo fails with `conflict`, this undoes what is left.
+     * @type {Api["undoLastPossible"]}
+     */
+    async undoLastPossible(options) {
+      const { undos } = await this.undos(options);
+      for (const undid of undos.reverse()) {
+        try {
+          const { seq } = await this.undo(undid, options);
+          return { seq, undid };
+        } catch (error) {
+          // Another client with your name can have undone it meanwhile.
+          if (!(error instanceof Refused && ["conflict", "not_standing"].includes(error.why))) throw error;
+        }
+      }
+      return null;
+    }
+
+    /**
      * Gives {seq, redid}; `redid` is missing if the answer was lost on its way.
      * @type {Api["redo"]}
      */

@@ -20,6 +20,7 @@ function listen(page) {
     cancel: () => tools.escape(), closer: () => page.view.zoomBy(1), farther: () => page.view.zoomBy(-1),
     fit: () => page.fit(),
     show: () => page.show(page.shown), hush: () => page.say(""), sheet: () => openSheet(),
+    "undo-possible": () => page.undoLastPossible(),
     "close-not-done": () => page.closeNotDone(),
     "open-sheet": () => openSheet(true), "close-sheet": () => openSheet(false),
   };

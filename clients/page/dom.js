@@ -16,7 +16,8 @@
  *   & Record<"relations-title" | "relations" | "tiles-title" | "tiles-own", HTMLElement>} PageElements
  *
  * @typedef {"connect" | "share" | "leave" | ToolId | "undo" | "redo" | "closer" | "farther" | "fit" | "sheet"
- *   | "tools" | "finish" | "back" | "cancel" | "show" | "hush" | "close-not-done" | "open-sheet" | "close-sheet"
+ *   | "tools" | "finish" | "back" | "cancel" | "show" | "undo-possible" | "hush" | "close-not-done" | "open-sheet"
+ *   | "close-sheet"
  * } ButtonId
  *
  * @typedef {"select" | "point" | "line" | "area"} ToolId

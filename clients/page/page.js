@@ -287,6 +287,7 @@ class Page {
    * @param {{ isRefusal?: boolean, isConflict?: boolean, show?: string | null }} about
    */
   say(text, { isRefusal = false, isConflict = false, show = null } = {}) {
+    const conflict = isConflict ? this.joinedSession.conflict : null;
     this.isHint = false;
     this.refusal = isRefusal ? { texts: [text], inputs: this.inputs, isConflict } : null;
     $("said").textContent = text;
@@ -295,6 +296,7 @@ class Page {
     $("hush").hidden = !isRefusal;
     this.shown = show;
     $("show").hidden = show === null || !this.elements.has(show);
+    $("undo-possible").hidden = !conflict || !this.joinedSession.hasOtherUndos(conflict.seq);
   }
 
   /**
@@ -350,19 +352,22 @@ class Page {
     return error.why === "conflict" && error.no ? this.conflictText(error.no) : sentenceOf(error);
   }
 
-  /** @param {Refusal} no */
+  /**
+   * Who is in the way of an undo: what they did after the change, and what comes first.
+   * @param {Refusal} no
+   */
   conflictText(no) {
     const session = this.joinedSession;
     const { with: other = 0, at: el = "" } = no;
     const by = session.authorOf(other);
     const isOwn = by === session.name;
-    const whose = isOwn ? "your" : by ? `${by}'s` : "an earlier";
+    const entry = session.entries.get(other);
     const row = this.elements.get(el);
-    const deed = session.entries.has(other) ? ` (${session.textOf(other)})` : "";
-    const what = row ? titleOf(row) : el;
-    const first = isOwn ? "Undo that entry first." : `${by ?? "Its author"} has to undo that entry first.`;
-    return `Not undone: ${whose} entry ${other}${deed} also touched ${what}. ${first} You can also change the `
-      + "element by hand.";
+    const place = entry?.rows.some((each) => each.el === el) ? "" : ` at ${row ? titleOf(row) : el}`;
+    const deed = entry ? session.deed(entry) : "changed something";
+    const first = isOwn ? "Undo that first" : `You can undo yours after ${by ?? "they"} undid that`;
+    return `Not undone: ${isOwn ? "you" : by ?? "somebody"} later ${deed}${place} (entry ${other}). ${first}, or `
+      + "change the element by hand.";
   }
 
   /**
@@ -507,6 +512,10 @@ class Page {
   /** @param {Gesture} [seqs] */
   async undo(seqs) {
     await this.tryThat(async (report) => report(`Undone: ${await this.joinedSession.undo(seqs)}.`));
+  }
+
+  async undoLastPossible() {
+    await this.tryThat(async (report) => report(`Undone: ${await this.joinedSession.undoLastPossible()}.`));
   }
 
   async redo() {

@@ -663,21 +663,53 @@ class Session extends EventTarget {
       const seqs = given ?? this.undos.at(-1);
       if (!seqs) throw new NotDone("nothing_to_undo");
       if (!given && !isLastDone) throw new NotDone("not_meant");
-      const done = [];
-      try {
-        for (const seq of [...seqs].reverse()) {
-          this.asked = seq;
-          this.noteUndo(seq, (await this.joinedRoom.undo(seq)).seq);
-          done.push(seq);
-        }
-      } catch (error) {
-        if (/** @type {Failure} */ (error).no) for (const _ of done) await this.joinedRoom.redo();
-        throw error;
-      }
-      this.putLists(without(this.undos, seqs), [...without(this.redos, seqs), seqs]);
-      this.setConflict(null);
-      return this.textOf(seqs[0]);
+      return this.undoEach(seqs);
     }, true);
+  }
+
+  /** Undoes the last gesture that can be undone: the last of those whose undo the room accepts. */
+  undoLastPossible() {
+    return this.inTurn("undid the last change that can be undone", async (isLastDone) => {
+      if (!isLastDone) throw new NotDone("not_meant");
+      for (const seqs of [...this.undos].reverse()) {
+        try {
+          return await this.undoEach(seqs);
+        } catch (error) {
+          const why = /** @type {Failure} */ (error).no?.why;
+          if (why !== "conflict" && why !== "not_standing") throw error; // another client can have undone it meanwhile
+        }
+      }
+      throw new NotDone(this.undos.length ? "all_blocked" : "nothing_to_undo");
+    }, true);
+  }
+
+  /**
+   * Undoes the entries of a gesture. Returns what the gesture did.
+   * @param {Gesture} seqs
+   */
+  async undoEach(seqs) {
+    const done = [];
+    try {
+      for (const seq of [...seqs].reverse()) {
+        this.asked = seq;
+        this.noteUndo(seq, (await this.joinedRoom.undo(seq)).seq);
+        done.push(seq);
+      }
+    } catch (error) {
+      if (/** @type {Failure} */ (error).no) for (const _ of done) await this.joinedRoom.redo();
+      throw error;
+    }
+    this.putLists(without(this.undos, seqs), [...without(this.redos, seqs), seqs]);
+    this.setConflict(null);
+    return this.textOf(seqs[0]);
+  }
+
+  /**
+   * Whether the mapper has a gesture that does not have this entry, and that could be undone in its place.
+   * @param {number} seq
+   */
+  hasOtherUndos(seq) {
+    return this.undos.some((seqs) => !seqs.includes(seq));
   }
 
   /**

@@ -113,6 +113,7 @@ const REFUSALS = {
   full: () => "The room is full: it takes no more changes. Save its map and serve it anew.",
   nothing_to_undo: () => "You have nothing to undo.",
   nothing_to_redo: () => "You have nothing to redo.",
+  all_blocked: () => "None of your changes can be undone: later changes build on each of them.",
   no_such: () => "There is no such entry.",
   not_yours: () => "This entry is another mapper's.",
   not_standing: () => "This entry is undone already.",

@@ -56,7 +56,7 @@ SCRIPTS = [
     *scripts("web", "map_page", "firefox"),
     *scripts("server", "sockets", "faults", "foreign"),
     *benchmarks("program", "lines --sizes 50,100 --rounds 1", "held --elements 100 --entries 100"),
-    *benchmarks("program", "group_costs --quick", "instructions"),
+    *benchmarks("program", "group_costs --quick", "instructions", "undos --seeds 2 --rounds 30"),
     *benchmarks("server", "serve --quick", "many_rooms --elements 100 --rooms 1,3"),
     *benchmarks("server", "joins --elements 100 --clients 1,3"),
     *benchmarks("program", "turns --turns 1000"),

@@ -13,7 +13,7 @@ from typing import TYPE_CHECKING, Tuple, Type, Union
 from . import actions
 from .actions import Degrees, Members, Tags
 from .core import Answer, Core, Element, Event, HelloRefused, Message, OutOfStep, folded
-from .errors import Closed, ConnectionFailed, Error, NoAnswer, Present, error_of
+from .errors import Closed, Conflict, ConnectionFailed, Error, NoAnswer, NotStanding, Present, error_of
 
 if TYPE_CHECKING:
     from .sockets import Socket
@@ -444,6 +444,16 @@ class Room:
         the same part of an element."""
         reply = await self.ask(actions.undo(seq))
         return Undone(reply["seq"], reply.get("undid"))
+
+    async def undo_last_possible(self) -> Optional[Undone]:
+        """Undoes your last active entry whose undo the room accepts: it tries each from the last on. Returns None if
+        none can be undone. If `undo` raises Conflict, this undoes what is left."""
+        for seq in reversed((await self.undos()).undos):
+            try:
+                return Undone((await self.undo(seq)).seq, seq)
+            except (Conflict, NotStanding):  # another client with your name can have undone it meanwhile
+                pass
+        return None
 
     async def redo(self) -> Redone:
         """Does the entry again that you undid last."""

@@ -191,6 +191,22 @@ const stories = {
     room.close();
   },
 
+  async possible(url) {
+    const room = await connect(url);
+    const bob = await connect(url, { name: "bob" });
+    await room.createNode(1, 2, {}, { el: "n-1" });
+    await room.createNode(1, 2, {}, { el: "n-2" });
+    await room.move("n-1", 1, 0);
+    await bob.move("n-1", 0, 1);
+    await sayOutcome(room.undo());
+    for (let tries = 0; tries < 2; tries += 1) await sayOutcome(room.undoLastPossible());
+    await bob.undo();
+    await sayOutcome(room.undoLastPossible());
+    sayMap(room);
+    bob.close();
+    room.close();
+  },
+
   words() {
     for (const line of require("node:fs").readFileSync(0, "utf8").split("\n").slice(0, -1)) {
       const error = errorOf(JSON.parse(line), "bob");

@@ -246,6 +246,21 @@ async def groups_built(url: str) -> None:
         say_map(room)
 
 
+async def possible(url: str) -> None:
+    """Bob's move blocks anna's last entry, and then each of hers: she undoes what is left."""
+    async with connect(url) as room, maproom.connect(url, room="paris", name="bob") as bob:
+        await room.create_node(1, 2, el="n-1")
+        await room.create_node(1, 2, el="n-2")
+        await room.move("n-1", 1, 0)
+        await bob.move("n-1", 0, 1)
+        await say_outcome(room.undo())
+        for _ in range(2):
+            await say_outcome(room.undo_last_possible())
+        await bob.undo()
+        await say_outcome(room.undo_last_possible())
+        say_map(room)
+
+
 async def words(_: str) -> None:
     """The words of each refusal on standard input."""
     for line in sys.stdin:

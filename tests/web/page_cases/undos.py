@@ -42,9 +42,10 @@ def two_pages_and_a_third_client() -> None:
         settled(anna).click("#undo")
         anna.wait_text(
             "#message.refused",
-            "bob's entry 2 (moved node n-1) also touched node n-1. bob has to undo that "
-            "entry first. You can also change the element by hand.",
+            "Not undone: bob later moved node n-1 (entry 2). You can undo yours after bob undid that, or change the "
+            "element by hand.",
         )
+        want(anna.get("$('undo-possible').hidden"), True)
         anna.wait("document.querySelector('#changes .blocks')?.dataset.seq === '2'")
         anna.click("#show")
         anna.wait_text("#selected-title", "n-1")
@@ -65,6 +66,44 @@ def two_pages_and_a_third_client() -> None:
         anna.wait_text("#people", "You redid entry 1: made a node")
         zoe.follow(5)
         want(zoe.rows, settled(bob).get("Object.fromEntries(page.elements)"))
+
+
+@page_case
+def the_last_that_can_be_undone() -> None:
+    """A refused undo says who did what later, and where. It offers to undo the last change that can be undone, if there
+    is another, and says so if none can be."""
+    moved = "page.perform('moved {0}', () => [{{ do: 'move', els: ['{0}'], dlat: 1000, dlon: 0 }}])"
+    with pages("anna", "bob") as (_, zoe, anna, bob):
+        for change in (tagged("7"), moved.format("n9"), moved.format("n10")):
+            anna.get(change)
+        anna.click("#point")
+        anna.click_at(*at(anna, 47.6006, 8.2002))
+        bob.wait("page.elements.has('n-1')")
+        bob.get(moved.format("n9"))
+        zoe.ask({"id": 2, "do": "create", "el": "w99", "nodes": [-1, 1], "tags": {"highway": "path", "name": "Elm"}})
+        anna.wait("page.elements.has('w99')")
+        refusal = (
+            "Not undone: zoe later made Elm, path w99 at node n-1 (entry 6). You can undo yours after zoe undid that, "
+            "or change the element by hand."
+        )
+        for undone in ("moved n10", "tagged 7"):
+            settled(anna).click("#undo")
+            anna.wait_text("#message.refused", refusal)
+            anna.click("#undo-possible", "Undo the last that can be undone")
+            anna.wait_text("#said", f"Undone: {undone}.")
+            want(anna.get("[$('undo-possible').hidden, $('message').className]"), [True, ""])
+        want([row(anna, name) for name in ("n4", "n10")], [each for each in village() if each["el"] in ("n4", "n10")])
+        want(anna.get("page.session.undos.map(([seq]) => page.session.textOf(seq))"), ["moved n9", "made a node"])
+        settled(anna).click("#undo")
+        anna.wait_text("#message.refused", refusal)
+        anna.click("#undo-possible")
+        anna.wait_text("#said", "None of your changes can be undone: later changes build on each of them.")
+        want(anna.get("$('undo-possible').hidden"), True)
+        anna.click("#undos li:nth-child(2) button", "Undo")
+        anna.wait_text("#message.refused", "Not undone: bob later moved node n9 (entry 5).")
+        settled(bob).click("#undo")
+        anna.wait_text("#said", "What was in the way is gone.")
+        want(anna.get("$('undo-possible').hidden"), True)
 
 
 @page_case
