@@ -35,6 +35,8 @@ For clients, editors and the map page:
     fake_rooms.py          a room in threads of the script, which can fail
     editor_rooms.py        rooms for editors, and the program clients/osm_api
     josm.py                a story of JOSM's own classes
+    josm_live.py           JOSM's own classes with the plugin in clients/josm
+    josm_window.py         JOSM's window with this plugin
     browser.py             pages in Chromium
     page_files.py          a web server for the map page
     map_pages.py           the map page in such a page

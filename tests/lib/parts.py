@@ -50,7 +50,7 @@ SCRIPTS = [
     *scripts("program", "mirrors", "calls"),
     *scripts("clients", "converters", "example_clients", "libraries"),
     *scripts("program", "groups"),
-    *scripts("clients", "editors", "editors_rooms", "keeper"),
+    *scripts("clients", "editors", "editors_rooms", "josm_live", "josm_window", "keeper"),
     *scripts("packages", "debian", "rooms"),
     *scripts("documents", "running"),
     *scripts("web", "map_page", "firefox"),
@@ -60,6 +60,7 @@ SCRIPTS = [
     *benchmarks("server", "serve --quick", "many_rooms --elements 100 --rooms 1,3"),
     *benchmarks("server", "joins --elements 100 --clients 1,3"),
     *benchmarks("program", "turns --turns 1000"),
+    *benchmarks("clients", "josm --changes 20 --elements 700 --rounds 1"),
     *scripts("server", "soak --seconds 5 --pace 20", "evening --seconds 5 --rooms 2 --pace 3"),
 ]
 
