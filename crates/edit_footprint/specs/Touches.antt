@@ -1,7 +1,8 @@
 -- Touches, each a name and an access to the element with this name, and lists of them. Two accesses conflict if they
 -- are to the same part and one of them writes, as in: P. A. Bernstein, V. Hadzilacos, N. Goodman, Concurrency Control
 -- and Recovery in Database Systems, 1987, section 1.3. (Touches are this project's.)
-use Rattle.std.specs.Prelude.{Bool, true, false, ℕ, List, [], ◌∷◌, cond, fold}
+use Rattle.std.specs.Hash.{HashWrites, i64, u8}
+use Rattle.std.specs.Prelude.{◌++◌, Bool, true, false, ℕ, List, [], ◌∷◌, cond, fold}
 use Rattle.osm_changes.specs.Prelude.{is_eq, nat_cmp, Ordering, name_cmp, Cell}
 use Rattle.osm_refs.specs.Prelude.{then_cmp, on, with_value}
 use Rattle.rising_lists.specs.Rising.{is_among}
@@ -87,6 +88,10 @@ touch_cmp = then_cmp (on (λ (t : Touch). t.name) name_cmp) (on (λ (t : Touch).
 
 abbrev pub is_same_touch : Touch → Touch → Bool
 is_same_touch t u = is_eq (touch_cmp t u)
+
+-- what a hash of a touch is fed: the id of its name, and its access
+abbrev pub touch_input : Touch → HashWrites
+touch_input t = i64 t.name.id ++ u8 (access_rank t.access)
 
 -- the list contains the touch
 abbrev pub does : List Touch → Touch → Bool

@@ -5,6 +5,7 @@ ghost use Rattle.edit_footprint.specs.Touches.{writer_of, reader_of};
 use crate::access::Access;
 use osm_elements::name::{Kind, Name};
 use std::cmp::Ordering;
+use std::hash::{Hash, Hasher};
 use std::marker::Model;
 
 /// A name and an access to its element. Touches are ordered by name, and those of a name by their access.
@@ -132,5 +133,19 @@ impl Ord for Touch {
             return Ordering::Less;
         }
         self.access.rank().cmp(&other.access.rank())
+    }
+}
+
+impl Hash for Touch {
+    ghost use Rattle.edit_footprint.specs.Touches.{touch_input};
+    ghost use Rattle.edit_footprint.specs.Facts.Touches.{touches_hash_alike};
+
+    ghost hash_input = { touch_input };
+
+    ghost respects_eq = { touches_hash_alike };
+
+    fn hash<H: Hasher>(&self, state: &mut H) {
+        self.id.hash(state);
+        self.access.rank().hash(state);
     }
 }

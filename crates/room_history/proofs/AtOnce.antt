@@ -2,7 +2,7 @@
 use Rattle.std.proofs.Common.{◌≡◌, ◌+◌, ◌++◌, ◌∷◌, ◌⊎◌, ◌&&◌, ℕ, suc, Bool, true, false, not, List, [], Option, Some, None, length, refl, cond, nat_eq, nat_lt, nat_le, sym, ap, ◌∙◌, arith, inl, inr, length-append, filter, option_map}
 use Rattle.std.proofs.lemmas.Bool.Decides.{nat_tests}
 use Rattle.std.proofs.lemmas.List.Elements.{filter-append}
-use Rattle.room_history.specs.Prelude.{Name, AreInOrder, Rows, is_same_text, users, inverse, is_sound, changed-inverse, sound_in_order, after, changes, AreInOrder-after, first_meeting, Author, is_same_author, Call, Entry, EntryKind, Do, Undo, Redo, Reply, Undid, spent, conflict, asked, meant, undo_refusal, redo_refusal, kind_refusal, meaning_refusal, answer_by, answer, answers, recorded_footprint, blocker, IsUndoneAtOnce, numbered, is_by, is_work, is_standing, standing, last, Past, past, mapof, recorded_of, recorded_next, taken_back, action_at, done_again}
+use Rattle.room_history.specs.Prelude.{Name, AreInOrder, Rows, is_same_text, users, inverse, is_sound, changed-inverse, sound_in_order, after, changes, AreInOrder-after, first_meeting, Author, is_same_author, Call, Entry, EntryKind, Do, Undo, Redo, Reply, Undid, spent, conflict, asked, meant, undo_refusal, redo_refusal, kind_refusal, guarded_refusal, seen, meaning_refusal, answer_by, answer, answers, recorded_footprint, blocker, IsUndoneAtOnce, numbered, is_by, is_work, is_standing, standing, last, Past, past, mapof, recorded_of, recorded_next, taken_back, action_at, done_again}
 use Rattle.osm_changes.specs.Changes.{changed}
 use Rattle.room_interface.specs.declared.edit.Edit.{Edit as Action}
 use Rattle.room_history.proofs.Appending.{mapof-append, mapof-work, recorded-last, standing-work, standing-undo}
@@ -100,6 +100,7 @@ module _ {A : Type 0} (base : Rows A) (j : List (Entry A)) (order : AreInOrder (
       let step_is : answer base limit (answers base limit k between).1 c ≡ (Undid (length j + 2) (length j + 1), k ++ u ∷ []) =
       ap (λ l. answer base limit l c) kept ∙ unspent base limit k c fresh room
       ∙ ap (λ o. answer_by k c (meaning_refusal (past base k) k c o) o) (asked_for asks)
+      ∙ ap (λ o. answer_by k c (guarded_refusal (past base k) k c.author (Undo (length j + 1)) o) (Some (Undo (length j + 1)))) (says_nothing asks)
       ∙ ap (λ o. answer_by k c o (Some (Undo (length j + 1)))) (ap (λ w. undo_refusal (past base k) k w (length j + 1)) mine ∙ undo_accepted)
       ∙ ap (λ n. (Undid n (length j + 1), k ++ u ∷ [])) (ap (λ n. n + 1) size ∙ omega arith) in
       let map_is : mapof base (answer base limit (answers base limit k between).1 c).1 ≡ mapof base j = ap (λ (p : Reply A × List (Entry A)). mapof base p.1) step_is ∙ back u refl in (
@@ -109,6 +110,10 @@ module _ {A : Type 0} (base : Rows A) (j : List (Entry A)) (order : AreInOrder (
         ap (λ (p : Reply A × List (Entry A)). standing p.1) step_is ∙ stands_again u refl,
       )
     where
+      says_nothing : (c.request ≡ requests.Undo None) ⊎ (c.request ≡ requests.Undo (Some (length j + 1))) → seen c.request ≡ None
+      says_nothing (inl is) = ap seen is
+      says_nothing (inr is) = ap seen is
+
       asked_for : (c.request ≡ requests.Undo None) ⊎ (c.request ≡ requests.Undo (Some (length j + 1))) → meant (j ++ e ∷ []) c.author c.request ≡ Some (Undo (length j + 1))
       asked_for (inl is) = ap (meant (j ++ e ∷ []) c.author) is ∙ ap (λ w. option_map Undo (asked (j ++ e ∷ []) w None)) mine ∙ ap (option_map Undo) is_last
       asked_for (inr is) = ap (meant (j ++ e ∷ []) c.author) is

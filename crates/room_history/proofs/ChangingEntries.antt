@@ -37,11 +37,11 @@ module _ {A : Type 0} where
     pub leads : LeadTo (changed p.map (recorded_next p k).changes) (recorded_next p k).changes
 
   -- this is true of each entry in order
-  abbrev AreSteps : Past A → List (Entry A) → Type 0
+  abbrev pub AreSteps : Past A → List (Entry A) → Type 0
   AreSteps p [] = Unit {0}
   AreSteps p (e ∷ j) = IsChange p e.kind × AreSteps (past_after p e.kind) j
 
-  abbrev past_from : Past A → List (Entry A) → Past A
+  abbrev pub past_from : Past A → List (Entry A) → Past A
   past_from p j = fold (λ p (e : Entry A). past_after p e.kind) p j
 
   steps-append : (p : Past A) (j : List (Entry A)) (e : Entry A) → AreSteps p j → IsChange (past_from p j) e.kind → AreSteps p (j ++ e ∷ [])
@@ -95,7 +95,7 @@ module _ {A : Type 0} where
         by None e r = absurd (cc)
         by (Some a) e r = done (past base j) (Redo t) a (sound_in_order (mapof base j) (led_sound base j sound led)) (recorded-redo base j t a e)
 
-    journal_steps : (limit : ℕ) (j : List (Entry A)) → IsJournal base limit j → AreSteps (record { map = base; entries = [] }) j
+    pub journal_steps : (limit : ℕ) (j : List (Entry A)) → IsJournal base limit j → AreSteps (record { map = base; entries = [] }) j
     journal_steps limit j opened = tt
     journal_steps limit j (called i c before made) = by (outcome base limit i c) (journal_steps limit i before)
       where

@@ -23,6 +23,7 @@ use Rattle.room_history.proofs.kept.Kept.TheSendSync as kept
 use Rattle.edit_footprint.proofs.footprint.Footprint.TheSendSync as footprint
 use Rattle.edit_footprint.proofs.holders.Holders.TheSendSync as holders
 use Rattle.room_stacks.proofs.stacks.Stacks.TheSendSync as stacks
+use Rattle.room_history.proofs.changers.Changers.TheSendSync as changers
 use Rattle.turn_desk.proofs.desk.Desk.TheSendSync as desk
 use Rattle.turn_desk.proofs.seat.Seat.TheSendSync as seat
 use Rattle.turn_desk.specs.contracts.desk.Desk as Desk
@@ -40,7 +41,7 @@ footprint_send : (A : RattleType) (g : alloc.Ghosts A.Denot) → IsSend A → Fr
 footprint_send A g a f = search (sendable, crosses, footprint.the_send) depth 14
 
 pub room_send : (A : RattleType) (g : alloc.Ghosts A.Denot) → IsSend A → IsSync A → Frees g g.dealloc_token → IsSend (Room.the_row A g)
-room_send A g a s f = search (sendable, crosses, store.the_send, kept.the_send, footprint_send, holders.the_send, stacks.the_send, entry.the_send, vec.the_send) depth 16
+room_send A g a s f = search (sendable, crosses, store.the_send, kept.the_send, footprint_send, holders.the_send, changers.the_send, stacks.the_send, entry.the_send, vec.the_send) depth 16
 
 module _ (A : RattleType) (g : alloc.Ghosts A.Denot) (own : Dict) (k : clone.Ghosts A.Denot) (copy : Dict) where
   pub seat_send : IsSend A → IsSync A → Frees g g.dealloc_token → IsSend (Seat.the_row (Room.the_row A g) (RoomCall.the_row A g) (RoomReply.the_row A g) (Entry.the_row A g) (Opening.the_row A g) (turned.ghosts A g own k copy))

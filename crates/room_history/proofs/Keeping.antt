@@ -17,13 +17,13 @@ module _ {A : Type 0} where
 
   -- the action that a made request asks for is made
   meant_made : (j : List (Entry A)) (author : Author) (r : Request A) (a : Action A) → is_made_request r ≡ true → meant j author r ≡ Some (Do a) → is_made_action a ≡ true
-  meant_made j author (requests.Do b) a made e = let same : b ≡ a = cc in ap is_made_action (sym same) ∙ made
+  meant_made j author (requests.Do b since) a made e = let same : b ≡ a = cc in ap is_made_action (sym same) ∙ made
   meant_made j author (requests.Undo s) a made e = absurd (no_do a Undo (asked j author s) (λ s e. cc) e)
   meant_made j author requests.Redo a made e = absurd (no_do a Redo (last (redos j author)) (λ t e. cc) e)
 
   -- a redo is of the top of its author's redo stack
   pub meant_redo : (j : List (Entry A)) (author : Author) (r : Request A) (t : ℕ) → meant j author r ≡ Some (Redo t) → last (redos j author) ≡ Some t
-  meant_redo j author (requests.Do a) t e = absurd (cc)
+  meant_redo j author (requests.Do a since) t e = absurd (cc)
   meant_redo j author (requests.Undo s) t e = absurd (by (asked j author s) e)
     where
       by : (o : Option ℕ) → option_map {T = ℕ} {U = EntryKind A} Undo o ≡ Some (Redo t) → ⊥

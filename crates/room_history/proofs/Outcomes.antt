@@ -1,6 +1,6 @@
 -- The outcome of a call: an accepted entry is appended, or a refusal leaves the journal unchanged.
 use Rattle.std.proofs.Common.{◌≡◌, ◌⊎◌, ◌+◌, ◌++◌, ◌∷◌, ℕ, Bool, true, false, not, List, [], Option, Some, None, is_none, length, refl, nat_le, sym, ap, ◌∙◌, inl, inr, arith, length-append, option_map}
-use Rattle.room_history.specs.Prelude.{then_some, Name, Rows, refusal, first_that_holds, EditRefusal, Author, Call, Request, Entry, EntryKind, Do, Undo, Redo, Reply, Done, Undid, Redid, Repeat, Full, NoSuch, NotYours, NotStanding, Refused, spent, conflict, meant, nothing_meant, undo_refusal, redo_refusal, kind_refusal, meaning_refusal, accepted, with_entry, answer_by, answer, blocker, numbered, is_by, is_standing, Past, past, action_at}
+use Rattle.room_history.specs.Prelude.{then_some, Name, Rows, refusal, first_that_holds, EditRefusal, Author, Call, Request, Entry, EntryKind, Do, Undo, Redo, Reply, Done, Undid, Redid, Repeat, Full, NoSuch, NotYours, NotStanding, Refused, spent, conflict, meant, nothing_meant, undo_refusal, redo_refusal, changed_cells, recorded_next, kind_refusal, guarded_refusal, is_ahead, seen, changed_since, overwritten_since, meaning_refusal, accepted, with_entry, answer_by, answer, blocker, numbered, is_by, is_standing, Past, past, action_at}
 use Rattle.room_interface.specs.declared.edit.Edit.{Edit as Action}
 use Rattle.room_history.proofs.LastItems.{same_end}
 use Rattle.room_interface.specs.declared.call.Request.TheVariants as requests
@@ -18,12 +18,12 @@ module _ {A : Type 0} where
   no_acceptance r q refused accepts e = let clash : true ≡ false = sym accepts ∙ ap is_acceptance (sym e) ∙ refused in absurd (cc)
 
   nothing_refused : (r : Request A) → is_acceptance (nothing_meant r) ≡ false
-  nothing_refused (requests.Do a) = refl
+  nothing_refused (requests.Do a since) = refl
   nothing_refused (requests.Undo s) = refl
   nothing_refused requests.Redo = refl
 
   -- no check gives a reply to an accepted call
-  abbrev Refuses : Option (Reply A) → Type 0
+  abbrev pub Refuses : Option (Reply A) → Type 0
   Refuses None = Unit {0}
   Refuses (Some r) = is_acceptance r ≡ false
 
@@ -50,11 +50,32 @@ module _ {A : Type 0} where
   kind_refused p j author (Undo s) = undo_refused p j author s
   kind_refused p j author (Redo t) = redo_refused p.map (action_at p t)
 
+  -- if nothing refuses an entry, the map accepts it
+  pub unguarded : (p : Past A) (j : List (Entry A)) (author : Author) (k : EntryKind A) (since : Option ℕ) → guarded_refusal p j author k since ≡ None → kind_refusal p j author k ≡ None
+  unguarded p j author k None h = h
+  unguarded p j author k (Some n) h = by (is_ahead j (Some n)) (kind_refusal p j author k) (option_map changed_since (overwritten_since author (Some n) (changed_cells (recorded_next p k).changes) j p.entries)) h
+    where
+      by : (b : Bool) (o q : Option (Reply A)) → first_that_holds (then_some b NoSuch ∷ o ∷ q ∷ []) ≡ None → o ≡ None
+      by true o q e = absurd (cc)
+      by false None q e = refl
+      by false (Some r) q e = absurd (cc)
+
+  pub guarded_refused : (p : Past A) (j : List (Entry A)) (author : Author) (k : EntryKind A) (since : Option ℕ) → Refuses (guarded_refusal p j author k since)
+  guarded_refused p j author k None = kind_refused p j author k
+  guarded_refused p j author k (Some n) = by (is_ahead j (Some n)) (kind_refusal p j author k) (kind_refused p j author k) (overwritten_since author (Some n) (changed_cells (recorded_next p k).changes) j p.entries)
+    where
+      by : (b : Bool) (o : Option (Reply A)) → Refuses o → (q : Option (ℕ × Name)) → Refuses (first_that_holds (then_some b NoSuch ∷ o ∷ option_map changed_since q ∷ []))
+      by true o h q = refl
+      by false (Some r) h q = h
+      by false None h (Some b) = refl
+      by false None h None = tt
+
   -- an appended entry that nothing refuses
   pub record Appended (base : Rows A) (j : List (Entry A)) (c : Call A) (step : Reply A × List (Entry A)) : Type 0 where
     pub kind : EntryKind A
     pub means : meant j c.author c.request ≡ Some kind
     pub passes : kind_refusal (past base j) j c.author kind ≡ None
+    pub guarded : guarded_refusal (past base j) j c.author kind (seen c.request) ≡ None
     pub is : step ≡ (accepted (length j + 1) kind, with_entry j c.author c.id kind)
 
   -- a refusal, and the unchanged journal
@@ -68,15 +89,15 @@ module _ {A : Type 0} where
   pub outcome : (base : Rows A) (limit : ℕ) (j : List (Entry A)) (c : Call A) → Outcome base j c (answer base limit j c)
   outcome base limit j c = by (spent j c.author c.id) (nat_le limit (length j)) (meant j c.author c.request) refl
     where
-      of_kind : (k : EntryKind A) → meant j c.author c.request ≡ Some k → (o : Option (Reply A)) → kind_refusal (past base j) j c.author k ≡ o → Refuses o → Outcome base j c (answer_by j c (first_that_holds (o ∷ [])) (Some k))
-      of_kind k means None passes refuses = inl (record { kind = k; means = means; passes = passes; is = refl })
+      of_kind : (k : EntryKind A) → meant j c.author c.request ≡ Some k → (o : Option (Reply A)) → guarded_refusal (past base j) j c.author k (seen c.request) ≡ o → Refuses o → Outcome base j c (answer_by j c (first_that_holds (o ∷ [])) (Some k))
+      of_kind k means None passes refuses = inl (record { kind = k; means = means; passes = unguarded (past base j) j c.author k (seen c.request) passes; guarded = passes; is = refl })
       of_kind k means (Some r) passes refuses = inr (record { refused = refuses; same = refl })
 
       by : (o : Option ℕ) (full : Bool) (k : Option (EntryKind A)) → meant j c.author c.request ≡ k → Outcome base j c (answer_by j c (first_that_holds (option_map Repeat o ∷ then_some full Full ∷ meaning_refusal (past base j) j c k ∷ [])) k)
       by (Some n) full k means = inr (record { refused = refl; same = refl })
       by None true k means = inr (record { refused = refl; same = refl })
       by None false None means = inr (record { refused = nothing_refused c.request; same = refl })
-      by None false (Some k) means = of_kind k means (kind_refusal (past base j) j c.author k) refl (kind_refused (past base j) j c.author k)
+      by None false (Some k) means = of_kind k means (guarded_refusal (past base j) j c.author k (seen c.request)) refl (guarded_refused (past base j) j c.author k (seen c.request))
 
   longer : (j : List (Entry A)) (e : Entry A) → j ≡ j ++ e ∷ [] → ⊥
   longer j e h = let n : length j ≡ length j + 1 = ap length h ∙ length-append j (e ∷ []) in omega (arith, n)

@@ -1,6 +1,6 @@
 -- A redo of an undo restores the room before the undo.
 use Rattle.std.proofs.Common.{◌≡◌, ◌+◌, ◌++◌, ◌-◌, ℕ, Bool, true, false, List, [], ◌∷◌, Some, None, length, take, refl, cond, nat_le, sym, ap, subst, ◌∙◌, arith, length-append, option_map}
-use Rattle.room_history.specs.Prelude.{AreInOrder, Rows, users, is_sound, sound_in_order, after, refusal, Author, is_same_author, Call, Entry, Undo, Redo, Reply, Undid, Redid, Refused, spent, meant, redo_refusal, kind_refusal, meaning_refusal, with_entry, answer_by, answer, answers, IsRedoneAtOnce, standing, others, last, redos, redos_after, past, mapof, action_at}
+use Rattle.room_history.specs.Prelude.{AreInOrder, Rows, users, is_sound, sound_in_order, after, refusal, Author, is_same_author, Call, Entry, Undo, Redo, Reply, Undid, Redid, Refused, spent, meant, redo_refusal, kind_refusal, guarded_refusal, seen, meaning_refusal, with_entry, answer_by, answer, answers, IsRedoneAtOnce, standing, others, last, redos, redos_after, past, mapof, action_at}
 use Rattle.room_interface.specs.declared.edit.Edit.{Edit as Action}
 use Rattle.room_history.proofs.Appending.{mapof-redo, redos-append, standing-redo, standing-undo}
 use Rattle.room_history.proofs.AtOnce.{same_author}
@@ -20,6 +20,7 @@ module _ {A : Type 0} (base : Rows A) (limit : ℕ) where
       → action_at (past base j) t ≡ Some a → refusal (mapof base j) a ≡ None → answer base limit j c ≡ (Redid (length j + 1) t, with_entry j c.author c.id (Redo t))
   redo_answered j c t a fresh room asks top acts ok =
       unspent base limit j c fresh room ∙ ap (λ o. answer_by j c (meaning_refusal (past base j) j c o) o) (ap (meant j c.author) asks ∙ ap (option_map Redo) top)
+      ∙ ap (λ r. answer_by j c (guarded_refusal (past base j) j c.author (Redo t) (seen r)) (Some (Redo t))) asks
       ∙ ap (λ o. answer_by j c o (Some (Redo t))) (ap (redo_refusal (mapof base j)) acts ∙ ap (option_map Refused) ok)
 
   -- the same map as another journal's, and the same redo stacks

@@ -2,11 +2,13 @@
 use Rattle.std.proofs.Common.{◌≡◌, Result, OnOk, OnErr, IfOk, IfErr, ◌<◌, ◌≤◌, ◌+◌, ◌++◌, ◌∷◌, ℕ, Bool, true, false, is_some, List, [], Option, Some, None, Ok, Err, length, refl, ◌-◌, slice_get, ◌⊎◌, zero, suc, map, nat_le, sym, ap, subst, ◌∙◌, arith, get_or, inl, inr, fold, IsErr, option_map, option_and_then}
 use Rattle.std.proofs.lemmas.Bool.Decides.{nat_tests}
 use Rattle.std.proofs.lemmas.List.Sums.{fold-append}
-use Rattle.room_history.specs.Prelude.{then_some, One, Group, Author, Call, Request, Entry, EntryKind, Do, Undo, Redo, Refusal, Reply, Undid, Repeat, Full, NothingToRedo, Refused, Memory, Touch, IsFootprint, Rows, is_sound, after, changes, refusal, footprint, first_that_holds, is_work, is_standing, numbered, last, redos, standing, Past, Recorded, past, past_after, mapof, action_at, recorded_of, recorded_next, done_again, taken_back, spent, asked, meant, undo_refusal, redo_refusal, kind_refusal, meaning_refusal, accepted, with_entry, answer_by, answer, IsJournal, opened, called, is_made_request, IsStep, applied, Deed, AreInOrder, Change, differences, inverse, AreChanges, AreFrom, StoreState, applied_to, counted, IsEditPlan, EditRefusal, refusal_reply, refused_by, Effect, changed-differences, sound_in_order, AreInOrder-after, IsFootprint-footprint, footprint_of, Held, IsNext, HoldsOnly, fallen, footprint_of_recorded, recorded_footprint}
+use Rattle.room_history.specs.Prelude.{then_some, One, Group, Author, Call, Request, Entry, EntryKind, Do, Undo, Redo, Refusal, Reply, Undid, Repeat, Full, NothingToRedo, Refused, Memory, Touch, IsFootprint, Rows, is_sound, after, changes, refusal, footprint, first_that_holds, is_work, is_standing, numbered, last, redos, standing, Past, Recorded, past, past_after, mapof, action_at, recorded_of, recorded_next, done_again, taken_back, spent, asked, meant, undo_refusal, redo_refusal, kind_refusal, guarded_refusal, seen, meaning_refusal, accepted, with_entry, answer_by, answer, IsJournal, opened, called, is_made_request, IsStep, applied, Deed, AreInOrder, Change, differences, inverse, AreChanges, AreFrom, StoreState, applied_to, counted, IsEditPlan, EditRefusal, refusal_reply, refused_by, Effect, changed-differences, sound_in_order, AreInOrder-after, IsFootprint-footprint, footprint_of, Held, IsNext, HoldsOnly, fallen, footprint_of_recorded, recorded_footprint}
 use Rattle.osm_changes.specs.Changes.{changed}
 use Rattle.edit_footprint.specs.Holding.{standing as stands}
 use Rattle.room_interface.specs.declared.action.Action.{Action as SingleAction}
 use Rattle.room_interface.specs.declared.edit.Edit.{Edit as Action}
+use Rattle.room_history.specs.declared.changers.LastChange.{LastChange}
+use Rattle.room_history.specs.Inner.Changers.{AreChangers, last_at}
 use Rattle.room_history.specs.Inner.Holders.{AreHolders}
 use Rattle.room_history.specs.Inner.Deeds.{deed_by, deeds, MayNote}
 use Rattle.room_history.specs.Inner.Origins.{done_by, origin_next, origins}
@@ -21,6 +23,7 @@ use Rattle.room_history.proofs.BinarySearching.{last_is}
 use Rattle.room_history.proofs.Deciding.{unspent}
 use Rattle.room_history.proofs.Keeping.{journal_led}
 use Rattle.room_history.proofs.Appending.{past-append, mapof-append, applied-append, recorded-redo}
+use Rattle.room_history.proofs.KeptChangers.{IsNoted, AreChangers-opened, AreChangers-next}
 use Rattle.room_history.proofs.KeptHolders.{AreHolders-opened, AreHolders-work, AreHolders-undo, stands_within, holds_own, holders_next}
 use Rattle.room_history.proofs.Leading.{IsLed, led_sound}
 use Rattle.room_history.proofs.TakingBack.{Undone, undone}
@@ -156,14 +159,14 @@ module _ {A : Type 0} where
       call = record { author = author; id = id; request = r }
 
       -- the reply to the request is the refusal of k, if there is one
-      meaning_is : answer base limit j call ≡ answer_by j call (kind_refusal (past base j) j author k) (Some k)
+      meaning_is : answer base limit j call ≡ answer_by j call (guarded_refusal (past base j) j author k (seen r)) (Some k)
       meaning_is = answer_is r ∙ ap (λ o. answer_by j call (meaning_refusal (past base j) j call o) o) means
 
-      pub step_refused : (reply : Reply A) → (reply ≡ Memory) ⊎ (kind_refusal (past base j) j author k ≡ Some reply) → IsStep base limit j call reply j
+      pub step_refused : (reply : Reply A) → (reply ≡ Memory) ⊎ (guarded_refusal (past base j) j author k (seen r) ≡ Some reply) → IsStep base limit j call reply j
       step_refused reply (inl is) = inr (is, refl)
       step_refused reply (inr is) = inl (sym (meaning_is ∙ ap (λ o. answer_by j call o (Some k)) is))
 
-      module _ (ok : kind_refusal (past base j) j author k ≡ None) where
+      module _ (ok : guarded_refusal (past base j) j author k (seen r) ≡ None) where
         accepted_is : answer base limit j call ≡ (accepted (length j + 1) k, with_entry j author id k)
         accepted_is = meaning_is ∙ ap (λ o. answer_by j call o (Some k)) ok
 
@@ -216,9 +219,9 @@ module _ {A : Type 0} where
     step_undo_refused number r (inr is) = step_not_undone number r is
 
   -- a room that begins with a sound map, with an empty journal
-  pub IsRoom-opened : (store : StoreState A) (recorded : List (Effect A)) (firsts : List ℕ) (holders : Held) (done : List Deed) (base : Rows A) (limit : ℕ) (j : List (Entry A))
-      → store.rows ≡ base → store.applied ≡ 0 → recorded ≡ [] → firsts ≡ [] → holders ≡ [] → done ≡ [] → is_sound base ≡ true → j ≡ [] → IsRoom store recorded firsts holders done base limit j
-  IsRoom-opened store recorded firsts holders done base limit j begins none_applied no_changes no_firsts no_holders no_deeds sound no_entries = record {
+  pub IsRoom-opened : (store : StoreState A) (recorded : List (Effect A)) (firsts : List ℕ) (holders : Held) (changers : List (Touch × LastChange)) (done : List Deed) (base : Rows A) (limit : ℕ) (j : List (Entry A))
+      → store.rows ≡ base → store.applied ≡ 0 → recorded ≡ [] → firsts ≡ [] → holders ≡ [] → changers ≡ [] → done ≡ [] → is_sound base ≡ true → j ≡ [] → IsRoom store recorded firsts holders changers done base limit j
+  IsRoom-opened store recorded firsts holders changers done base limit j begins none_applied no_changes no_firsts no_holders no_changers no_deeds sound no_entries = record {
     base_sound = sound;
     journal = subst (λ k. IsJournal base limit k) (sym no_entries) opened;
     rows_are = begins ∙ ap (mapof base) (sym no_entries);
@@ -226,6 +229,7 @@ module _ {A : Type 0} where
     recorded_are = no_changes ∙ ap (kept base) (sym no_entries);
     firsts_are = no_firsts ∙ ap origins (sym no_entries);
     holders_are = opened_holders;
+    changers_are = opened_changers;
     deeds_are = no_deeds ∙ ap deeds (sym no_entries);
   }
     where
@@ -234,6 +238,9 @@ module _ {A : Type 0} where
 
       opened_holders : AreHolders (past base j) j holders
       opened_holders = subst (λ k. AreHolders (past base k) k holders) (sym no_entries) none_held
+
+      opened_changers : AreChangers (past base j) j changers
+      opened_changers = subst (λ k. AreChangers (past base k) k changers) (sym no_entries) (subst (λ l. AreChangers (past base []) [] l) (sym no_changers) (AreChangers-opened base))
 
   -- the record of one more entry
   recorded-append : (base : Rows A) (j : List (Entry A)) (e : Entry A) → (past base (j ++ e ∷ [])).entries ≡ (past base j).entries ++ recorded_next (past base j) e.kind ∷ []
@@ -274,10 +281,24 @@ module _ {A : Type 0} where
   groups_kept m [] = refl
   groups_kept m (r ∷ rs) = ap (λ rest. group_touches r.action r.footprint ∷ rest) (groups_kept (changed m r.changes) rs)
 
-  module _ (store : StoreState A) (recorded : List (Effect A)) (firsts : List ℕ) (holders : Held) (done : List Deed) (base : Rows A) (limit : ℕ) (j : List (Entry A)) (r : IsRoom store recorded firsts holders done base limit j) where
+  module _ (store : StoreState A) (recorded : List (Effect A)) (firsts : List ℕ) (holders : Held) (changers : List (Touch × LastChange)) (done : List Deed) (base : Rows A) (limit : ℕ) (j : List (Entry A)) (r : IsRoom store recorded firsts holders changers done base limit j) where
     -- an invariant of a room's journal
     room_led : IsLed base j
     room_led = journal_led base r.base_sound limit j r.journal
+
+    -- a room with another table of the same last changes
+    pub IsRoom-same_changers : (changers' : List (Touch × LastChange)) → ((t : Touch) → last_at changers' t ≡ last_at changers t) → IsRoom store recorded firsts holders changers' done base limit j
+    IsRoom-same_changers changers' same = record {
+      base_sound = r.base_sound;
+      journal = r.journal;
+      rows_are = r.rows_are;
+      count_is = r.count_is;
+      recorded_are = r.recorded_are;
+      firsts_are = r.firsts_are;
+      holders_are = r.holders_are;
+      changers_are = λ t. same t ∙ r.changers_are t;
+      deeds_are = r.deeds_are;
+    }
 
     -- the next number is greater than all that are held
     pub stands_next : (n : ℕ) → n ≡ length j → IsNext holders (n + 1)
@@ -387,14 +408,14 @@ module _ {A : Type 0} where
       above_deeds ds n is next = subst (λ d. stacks.IsAboveAll n d) (sym (is ∙ r.deeds_are)) (subst (λ m. stacks.IsAboveAll m (deeds j)) (sym next) (journals.above_deeds j))
 
       -- a room with one more entry
-      grown : (k : EntryKind A) (l : List (Entry A)) (store' : StoreState A) (recorded' : List (Effect A)) (firsts' : List ℕ) (holders' : Held) (done' : List Deed) (cs : List (Change A)) (effect : Effect A)
+      grown : (k : EntryKind A) (l : List (Entry A)) (store' : StoreState A) (recorded' : List (Effect A)) (firsts' : List ℕ) (holders' : Held) (changers' : List (Touch × LastChange)) (done' : List Deed) (cs : List (Change A)) (effect : Effect A)
           → IsJournal base limit (with_entry j author id k) → cs ≡ (recorded_next (past base j) k).changes
           → store' ≡ applied_to store cs → effect ≡ effect_of store.rows (recorded_next (past base j) k) → recorded' ≡ recorded ++ effect ∷ [] → firsts' ≡ firsts ++ origin_next (origins j) k ∷ [] → AreHolders (past base (with_entry j author id k)) (with_entry j author id k) holders'
-          → done' ≡ done ++ deed_by (length j + 1) author id k ∷ [] → l ≡ with_entry j author id k
-          → IsRoom store' recorded' firsts' holders' done' base limit l
-      grown k l store' recorded' firsts' holders' done' cs effect legal is store_is effect_is recorded_is firsts_is holders_is deeds_is l_is =
+          → IsNoted j author changers changers' cs → done' ≡ done ++ deed_by (length j + 1) author id k ∷ [] → l ≡ with_entry j author id k
+          → IsRoom store' recorded' firsts' holders' changers' done' base limit l
+      grown k l store' recorded' firsts' holders' changers' done' cs effect legal is store_is effect_is recorded_is firsts_is holders_is noted deeds_is l_is =
           let e : Entry A = record { author = author; id = id; kind = k } in
-          subst (λ l. IsRoom store' recorded' firsts' holders' done' base limit l) (sym l_is) (record {
+          subst (λ l. IsRoom store' recorded' firsts' holders' changers' done' base limit l) (sym l_is) (record {
             base_sound = r.base_sound;
             journal = legal;
             rows_are = ap (λ (s : StoreState A). s.rows) store_is ∙ ap (λ m. changed m cs) r.rows_are ∙ ap (changed (mapof base j)) is ∙ sym (mapof-append base j e);
@@ -402,6 +423,7 @@ module _ {A : Type 0} where
             recorded_are = recorded_is ∙ (λ i. r.recorded_are i ++ (effect_is ∙ ap (λ m. effect_of m (recorded_next (past base j) k)) r.rows_are) i ∷ []) ∙ sym (kept-append base j e);
             firsts_are = firsts_is ∙ ap (λ os. os ++ origin_next (origins j) k ∷ []) r.firsts_are ∙ sym (origins-append j e);
             holders_are = holders_is;
+            changers_are = AreChangers-next base j e changers changers' cs r.changers_are is noted;
             deeds_are = deeds_is ∙ ap (λ ds. ds ++ deed_by (length j + 1) author id k ∷ []) r.deeds_are ∙ sym (deeds-append j e);
           })
 
@@ -425,7 +447,7 @@ module _ {A : Type 0} where
       does_of (Redo t) work ok = does_again t (action_at (past base j) t) refl ok
 
       legal_work : (k : EntryKind A) → MayWork j author k → kind_refusal (past base j) j author k ≡ None → IsJournal base limit (with_entry j author id k)
-      legal_work (Do a) work ok = legal base limit j author id may (requests.Do a) (Do a) refl ok r.journal work
+      legal_work (Do a) work ok = legal base limit j author id may (requests.Do a None) (Do a) refl ok r.journal work
       legal_work (Undo s) work ok = absurd work
       legal_work (Redo t) work ok = legal base limit j author id may requests.Redo (Redo t) (ap (option_map Redo) work) ok r.journal refl
 
@@ -445,17 +467,17 @@ module _ {A : Type 0} where
         work_rises touches is = subst IsFootprint (sym (is ∙ ap (λ (w : Recorded A). w.footprint) does.records)) (IsFootprint-footprint (mapof base j) does.action)
 
         -- the room after it
-        pub IsRoom-work : (l : List (Entry A)) (store' : StoreState A) (recorded' : List (Effect A)) (firsts' : List ℕ) (holders' : Held) (done' : List Deed) (cs : List (Change A)) (touches : List Touch) (effect : Effect A)
+        pub IsRoom-work : (l : List (Entry A)) (store' : StoreState A) (recorded' : List (Effect A)) (firsts' : List ℕ) (holders' : Held) (changers' : List (Touch × LastChange)) (done' : List Deed) (cs : List (Change A)) (touches : List Touch) (effect : Effect A)
             → cs ≡ (recorded_next (past base j) k).changes → touches ≡ (recorded_next (past base j) k).footprint
             → store' ≡ applied_to store cs → effect ≡ effect_of store.rows (recorded_next (past base j) k) → recorded' ≡ recorded ++ effect ∷ [] → firsts' ≡ firsts ++ origin_next firsts k ∷ [] → holders' ≡ stands holders touches (length j + 1)
-            → done' ≡ done ++ deed_by (length j + 1) author id k ∷ [] → l ≡ with_entry j author id k
-            → IsRoom store' recorded' firsts' holders' done' base limit l
-        IsRoom-work l store' recorded' firsts' holders' done' cs touches effect cs_are touches_are store_is effect_is recorded_is firsts_is holders_is deeds_is l_is =
-            grown k l store' recorded' firsts' holders' done' cs effect (legal_work k work ok) cs_are store_is effect_is recorded_is
+            → IsNoted j author changers changers' cs → done' ≡ done ++ deed_by (length j + 1) author id k ∷ [] → l ≡ with_entry j author id k
+            → IsRoom store' recorded' firsts' holders' changers' done' base limit l
+        IsRoom-work l store' recorded' firsts' holders' changers' done' cs touches effect cs_are touches_are store_is effect_is recorded_is firsts_is holders_is noted deeds_is l_is =
+            grown k l store' recorded' firsts' holders' changers' done' cs effect (legal_work k work ok) cs_are store_is effect_is recorded_is
             (firsts_is ∙ ap (λ os. firsts ++ origin_next os k ∷ []) r.firsts_are)
             (AreHolders-work base j holders r.holders_are (record { author = author; id = id; kind = k }) does.action holders' touches does.works does.records
             (touches_are ∙ ap (λ (w : Recorded A). w.footprint) does.records) holders_is)
-            deeds_is l_is
+            noted deeds_is l_is
 
       -- an accepted undo in a room
       module _ (s : ℕ) (ok : undo_refusal (past base j) j author s ≡ None) where
@@ -494,13 +516,13 @@ module _ {A : Type 0} where
             ap (λ m. is_sound (changed m (recorded_next (past base j) (Undo s)).changes)) r.rows_are
             ∙ ap is_sound (sym (mapof-append base j (record { author = author; id = id; kind = Undo s }))) ∙ after_sound
 
-        pub IsRoom-undo : (l : List (Entry A)) (store' : StoreState A) (recorded' : List (Effect A)) (firsts' : List ℕ) (holders' : Held) (done' : List Deed) (cs : List (Change A)) (effect : Effect A)
+        pub IsRoom-undo : (l : List (Entry A)) (store' : StoreState A) (recorded' : List (Effect A)) (firsts' : List ℕ) (holders' : Held) (changers' : List (Touch × LastChange)) (done' : List Deed) (cs : List (Change A)) (effect : Effect A)
             → cs ≡ (recorded_next (past base j) (Undo s)).changes
             → store' ≡ applied_to store cs → effect ≡ effect_of store.rows (recorded_next (past base j) (Undo s)) → recorded' ≡ recorded ++ effect ∷ [] → firsts' ≡ firsts ++ (length j + 1) ∷ [] → holders' ≡ fallen holders s
-            → done' ≡ done ++ Undid author id s (length j + 1) ∷ [] → l ≡ with_entry j author id (Undo s)
-            → IsRoom store' recorded' firsts' holders' done' base limit l
-        IsRoom-undo l store' recorded' firsts' holders' done' cs effect cs_are store_is effect_is recorded_is firsts_is holders_is deeds_is l_is =
-            grown (Undo s) l store' recorded' firsts' holders' done' cs effect (legal base limit j author id may (requests.Undo (Some s)) (Undo s) refl ok r.journal refl) cs_are store_is effect_is recorded_is
+            → IsNoted j author changers changers' cs → done' ≡ done ++ Undid author id s (length j + 1) ∷ [] → l ≡ with_entry j author id (Undo s)
+            → IsRoom store' recorded' firsts' holders' changers' done' base limit l
+        IsRoom-undo l store' recorded' firsts' holders' changers' done' cs effect cs_are store_is effect_is recorded_is firsts_is holders_is noted deeds_is l_is =
+            grown (Undo s) l store' recorded' firsts' holders' changers' done' cs effect (legal base limit j author id may (requests.Undo (Some s)) (Undo s) refl ok r.journal refl) cs_are store_is effect_is recorded_is
             (firsts_is ∙ ap (λ n. firsts ++ n ∷ []) own_origin)
             (AreHolders-undo base j holders r.holders_are (record { author = author; id = id; kind = Undo s }) s holders' refl there.there holders_is)
-            deeds_is l_is
+            noted deeds_is l_is

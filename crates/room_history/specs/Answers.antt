@@ -1,7 +1,7 @@
 -- The answer to a call: the reply, and the journal after it. An accepted call appends one entry, and a refused call
 -- none. (The rules of a room are this project's.)
-use Rattle.std.specs.Prelude.{◌+◌, ◌++◌, ◌&&◌, ℕ, Bool, not, List, [], ◌∷◌, Option, Some, None, is_none, length, nat_eq, nat_le, position, option_map}
-use Rattle.edit_groups.specs.Prelude.{then_some, Rows, refusal, first_that_holds, is_same_author}
+use Rattle.std.specs.Prelude.{◌+◌, ◌++◌, ◌&&◌, ℕ, Bool, false, not, List, [], ◌∷◌, Option, Some, None, is_none, length, nat_eq, nat_le, nat_lt, position, option_map}
+use Rattle.edit_groups.specs.Prelude.{then_some, Rows, changed_cells, refusal, first_that_holds, is_same_author}
 use Rattle.room_interface.specs.declared.author.Author.{Author}
 use Rattle.room_interface.specs.declared.call.Call.{Call}
 use Rattle.room_interface.specs.declared.call.Request.{Request}
@@ -9,12 +9,13 @@ use Rattle.room_history.specs.declared.entry.Entry.{Entry}
 use Rattle.room_history.specs.declared.entry.EntryKind.{EntryKind}
 use Rattle.room_history.specs.declared.entry.EntryKind.TheVariants.{Do, Undo, Redo}
 use Rattle.room_interface.specs.declared.reply.Reply.{Reply}
-use Rattle.room_interface.specs.declared.reply.Reply.TheVariants.{Done, Undid, Redid, Repeat, Full, NothingToUndo, NothingToRedo, NoSuch, NotYours, NotStanding, Conflict, Refused}
+use Rattle.room_interface.specs.declared.reply.Reply.TheVariants.{Done, Undid, Redid, Repeat, Full, NothingToUndo, NothingToRedo, NoSuch, NotYours, NotStanding, Conflict, Refused, Changed}
 use Rattle.osm_elements.specs.declared.name.Name.{Name}
 use Rattle.room_interface.specs.declared.edit.Edit.{Edit as Action}
 use Rattle.room_history.specs.Blockers.{blocker}
+use Rattle.room_history.specs.Guards.{overwritten_since}
 use Rattle.room_history.specs.Journals.{is_by, is_standing, numbered, last, undos, redos}
-use Rattle.room_history.specs.Replays.{Past, past, action_at}
+use Rattle.room_history.specs.Replays.{Past, past, action_at, recorded_next}
 use Rattle.room_interface.specs.declared.call.Request.TheVariants as requests
 
 module _ {A : Type 0} where
@@ -37,13 +38,13 @@ module _ {A : Type 0} where
 
   -- the kind of entry that a request would append
   abbrev pub meant : List (Entry A) → Author → Request A → Option (EntryKind A)
-  meant j author (requests.Do a) = Some (Do a)
+  meant j author (requests.Do a since) = Some (Do a)
   meant j author (requests.Undo s) = option_map Undo (asked j author s)
   meant j author requests.Redo = option_map Redo (last (redos j author))
 
   -- the refusal of a request for which there is no entry to undo or redo
   abbrev pub nothing_meant : Request A → Reply A
-  nothing_meant (requests.Do a) = NothingToUndo
+  nothing_meant (requests.Do a since) = NothingToUndo
   nothing_meant (requests.Undo s) = NothingToUndo
   nothing_meant requests.Redo = NothingToRedo
 
@@ -67,9 +68,33 @@ module _ {A : Type 0} where
   kind_refusal p j author (Undo s) = undo_refusal p j author s
   kind_refusal p j author (Redo t) = redo_refusal p.map (action_at p t)
 
+  -- how many entries the author of an edit had seen, if it says so
+  abbrev pub seen : Request A → Option ℕ
+  seen (requests.Do a since) = since
+  seen (requests.Undo s) = None
+  seen requests.Redo = None
+
+  -- it says to have seen more entries than there are
+  abbrev pub is_ahead : List (Entry A) → Option ℕ → Bool
+  is_ahead j None = false
+  is_ahead j (Some n) = nat_lt (length j) n
+
+  -- the refusal with the last entry that would be overwritten, and the least name
+  abbrev pub changed_since : ℕ × Name → Reply A
+  changed_since b = Changed b.0 b.1
+
+  -- the refusal of an entry of this kind, whose author may say how many entries it had seen
+  abbrev pub guarded_refusal : Past A → List (Entry A) → Author → EntryKind A → Option ℕ → Option (Reply A)
+  guarded_refusal p j author k None = kind_refusal p j author k
+  guarded_refusal p j author k since = first_that_holds (
+      then_some (is_ahead j since) NoSuch
+      ∷ kind_refusal p j author k
+      ∷ option_map changed_since (overwritten_since author since (changed_cells (recorded_next p k).changes) j p.entries)
+      ∷ [])
+
   abbrev pub meaning_refusal : Past A → List (Entry A) → Call A → Option (EntryKind A) → Option (Reply A)
   meaning_refusal p j c None = Some (nothing_meant c.request)
-  meaning_refusal p j c (Some k) = kind_refusal p j c.author k
+  meaning_refusal p j c (Some k) = guarded_refusal p j c.author k (seen c.request)
 
   -- the first refusal of a call, or `None` if the call is accepted
   abbrev pub call_refusal : Rows A → ℕ → List (Entry A) → Call A → Option (Reply A)

@@ -1,15 +1,16 @@
 -- Examples of the definitions, worked out by hand.
 use Rattle.std.specs.Prelude.{◌≡◌, ◌++◌, ℕ, [], ◌∷◌, Some, None, true, pos, negsuc, replicate}
+use Rattle.room_interface.specs.Prelude.{GivenTags}
 use Rattle.edit_groups.specs.Prelude.{tags_at, rest_at, is_sound}
 use Rattle.edit_footprint.specs.Touches.{presence_read, presence_written, cell_read, cell_written}
 use Rattle.edit_footprint.specs.Footprints.{reads_at, changes_at}
-use Rattle.room_interface.specs.declared.action.Action.TheVariants.{Create, Retag, Move, Nodes, Delete, Split, Unglue}
+use Rattle.room_interface.specs.declared.action.Action.TheVariants.{Create, Retag, Move, Reverse, Nodes, Delete, Split, Unglue}
 use Rattle.osm_elements.specs.declared.element.Element.TheVariants.{Node, Way}
 use Rattle.room_interface.specs.declared.refusal.Refusal.TheVariants.{Absent, Present, WrongKind, TooFew, TooMany, InUse, Nothing}
-use Rattle.room_interface.specs.declared.reply.Reply.TheVariants.{Done, Undid, Redid, Repeat, Full, NothingToUndo, NothingToRedo, NoSuch, NotYours, NotStanding, Conflict}
+use Rattle.room_interface.specs.declared.reply.Reply.TheVariants.{Done, Undid, Redid, Repeat, Full, NothingToUndo, NothingToRedo, NoSuch, NotYours, NotStanding, Conflict, Changed}
 use Rattle.room_history.specs.Replays.{replay, standing_actions}
 use Rattle.room_history.specs.Answers.{answers}
-use Rattle.room_history.specs.Scenes.{n-1, n1, n2, n3, w1, w2, r1, r2, r3, anna, bob, carl, given, tagged, node_at, way_of, relation_of, does, does_all, undoes, redoes, refused, refused_in, replies, map_after, held_after, redos_left}
+use Rattle.room_history.specs.Scenes.{n-1, n1, n2, n3, n4, n9, w1, w2, r1, r2, r3, anna, bob, carl, given, tagged, node_at, way_of, relation_of, does, does_all, does_since, does_all_since, undoes, redoes, refused, refused_in, replies, map_after, held_after, redos_left}
 
 abbrev pub ample : ℕ
 ample = 1000000
@@ -360,3 +361,50 @@ drawn_as_one =
     (replies ample calls ≡ (Done 1 ∷ Done 2 ∷ Conflict 2 n2 ∷ Undid 3 2 ∷ Undid 4 1 ∷ Redid 5 1 ∷ refused_in 1 (Absent n3) ∷ refused Nothing ∷ refused_in 0 (InUse n1 w1) ∷ []))
     × (map_after ample calls ≡ ((n1, node_at (pos 1) (pos 1)) ∷ (n2, node_at (pos 2) (pos 2)) ∷ (w1, way_of (n1 ∷ n2 ∷ [])) ∷ []))
     × (held_after ample calls ≡ ((5, presence_read n1 ∷ presence_written n1 ∷ presence_read n2 ∷ presence_written n2 ∷ presence_written w1 ∷ []) ∷ [])))
+
+-- anna and bob join one street: who had not seen the other's change is refused, with the last entry and the element; an
+-- undo is a change, too; what the author says is looked at after all other checks, and is not kept for a redo
+unfoldable pub joined_street : Type 0
+joined_street =
+    let named : GivenTags = (110 ∷ [], Some (65 ∷ [])) ∷ [] in
+    let calls =
+    does_all anna 1 (Create n1 (node_at (pos 1) (pos 1)) ∷ Create n2 (node_at (pos 1) (pos 20)) ∷ Create w1 (way_of (n1 ∷ n2 ∷ [])) ∷ [])
+    ∷ does_all_since anna 2 1 (Create n3 (node_at (pos 1) (pos 10)) ∷ Nodes w1 (n1 ∷ n3 ∷ n2 ∷ []) ∷ [])
+    ∷ does_all_since bob 1 1 (Create n4 (node_at (pos 1) (pos 15)) ∷ Nodes w1 (n1 ∷ n4 ∷ n2 ∷ []) ∷ [])
+    ∷ does_all_since bob 1 2 (Create n4 (node_at (pos 1) (pos 15)) ∷ Nodes w1 (n1 ∷ n3 ∷ n4 ∷ n2 ∷ []) ∷ [])
+    ∷ does_since bob 2 2 (Retag w1 given)
+    ∷ does_since anna 3 3 (Retag w1 named)
+    ∷ does_since anna 3 3 (Retag w1 given)
+    ∷ does_since anna 3 2 (Move (n4 ∷ []) (pos 1) (pos 1))
+    ∷ undoes bob 3 None
+    ∷ does_since anna 3 4 (Retag w1 named)
+    ∷ does_since anna 3 5 (Retag w1 named)
+    ∷ does_since anna 4 99 (Delete n9)
+    ∷ does_since anna 4 6 (Delete n9)
+    ∷ undoes anna 4 None
+    ∷ does_since bob 4 0 (Reverse w1)
+    ∷ does bob 4 (Reverse w1)
+    ∷ redoes anna 5
+    ∷ [] in
+    replies ample calls ≡ (Done 1 ∷ Done 2 ∷ Changed 2 w1 ∷ Done 3 ∷ Done 4 ∷ Changed 4 w1 ∷ refused Nothing ∷ Changed 3 n4 ∷ Undid 5 4 ∷ Changed 5 w1 ∷ Done 6 ∷ NoSuch ∷ refused (Absent n9) ∷ Undid 7 6 ∷ Changed 2 w1 ∷ Done 8 ∷ Redid 9 6 ∷ [])
+
+-- an author has seen its own entries; a reference to a node does not change it; each action of a group is looked at, and
+-- only the parts that both change
+unfoldable pub seen_since : Type 0
+seen_since =
+    let named : GivenTags = (110 ∷ [], Some (65 ∷ [])) ∷ [] in
+    let calls =
+    does anna 1 (Create n1 (node_at (pos 1) (pos 1)))
+    ∷ does anna 2 (Create n2 (node_at (pos 2) (pos 2)))
+    ∷ does anna 3 (Retag n1 given)
+    ∷ does_since anna 4 2 (Retag n1 named)
+    ∷ does bob 1 (Move (n1 ∷ []) (pos 5) (pos 5))
+    ∷ does_since anna 5 4 (Create w1 (way_of (n1 ∷ n2 ∷ [])))
+    ∷ does_all_since anna 6 4 (Move (n1 ∷ []) (pos 1) (pos 1) ∷ Retag n2 given ∷ [])
+    ∷ does_since anna 6 4 (Retag n1 ((107 ∷ [], None) ∷ []))
+    ∷ does bob 2 (Delete w1)
+    ∷ does_since anna 7 7 (Retag w1 given)
+    ∷ does_since anna 7 7 (Create w1 (way_of (n2 ∷ n1 ∷ [])))
+    ∷ does_since anna 7 8 (Create w1 (way_of (n2 ∷ n1 ∷ [])))
+    ∷ [] in
+    replies ample calls ≡ (Done 1 ∷ Done 2 ∷ Done 3 ∷ Done 4 ∷ Done 5 ∷ Done 6 ∷ Changed 5 n1 ∷ Done 7 ∷ Done 8 ∷ refused (Absent w1) ∷ Changed 8 w1 ∷ Done 9 ∷ [])

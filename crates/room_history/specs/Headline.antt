@@ -1,13 +1,14 @@
 -- The theorem: what is true of every journal that calls lead to from a sound base.
-use Rattle.std.specs.Prelude.{◌≡◌, ◌⊎◌, ◌↔◌, ◌+◌, ◌<◌, ◌≤◌, ◌++◌, ℕ, true, false, List, [], ◌∷◌, Option, Some, None, length, map, reverse, nat_le}
-use Rattle.edit_groups.specs.Prelude.{is_lt, name_cmp, is_same_author, Rows, users, is_sound, after, refusal, Shares}
+use Rattle.std.specs.Prelude.{◌≡◌, ◌⊎◌, ◌↔◌, ◌+◌, ◌<◌, ◌≤◌, ◌++◌, ◌-◌, ℕ, true, false, List, [], ◌∷◌, Option, Some, None, length, map, reverse, take, nat_le}
+use Rattle.edit_groups.specs.Prelude.{is_lt, name_cmp, is_same_author, Rows, users, half_at, is_sound, after, refusal, Shares}
+use Rattle.osm_changes.specs.declared.cell.Cell.{Cell}
 use Rattle.osm_elements.specs.declared.name.Name.{Name}
 use Rattle.room_interface.specs.declared.author.Author.{Author}
 use Rattle.room_interface.specs.declared.call.Call.{Call}
-use Rattle.room_interface.specs.declared.call.Request.TheVariants.{Undo, Redo}
+use Rattle.room_interface.specs.declared.call.Request.TheVariants.{Do, Undo, Redo}
 use Rattle.room_history.specs.declared.entry.Entry.{Entry}
 use Rattle.room_interface.specs.declared.reply.Reply.{Reply}
-use Rattle.room_interface.specs.declared.reply.Reply.TheVariants.{Done, Undid, Redid, Conflict}
+use Rattle.room_interface.specs.declared.reply.Reply.TheVariants.{Done, Undid, Redid, Conflict, Changed}
 use Rattle.room_interface.specs.declared.edit.Edit.{Edit as Action}
 use Rattle.room_history.specs.Blockers.{recorded_footprint}
 use Rattle.room_history.specs.Journals.{numbered, standing, is_standing, is_by, is_work, others, redos}
@@ -176,6 +177,61 @@ module _ {A : Type 0} where
       × ((x : Name) → users (mapof base redoing.1) x ≡ users (mapof base j) x)
       × ((other : Author) → redos redoing.1 other ≡ redos j other)
 
+  -- the maps differ in a cell
+  abbrev pub Differ : Rows A → Rows A → Cell → Type 0
+  Differ m n x = half_at m x ≡ half_at n x → ⊥
+
+  -- the map after the first n entries
+  abbrev pub map_at : Rows A → List (Entry A) → ℕ → Rows A
+  map_at base j n = mapof base (take n j)
+
+  -- the entry s changed the cell
+  abbrev pub Changes : Rows A → List (Entry A) → ℕ → Cell → Type 0
+  Changes base j s x = Differ (map_at base j s) (map_at base j (s - 1)) x
+
+  -- s comes after the first n entries, is another author's, and changed a cell of the name e that the edit would change
+  abbrev pub Overwritten : Rows A → List (Entry A) → Author → ℕ → Action A → ℕ → Name → Type 0
+  Overwritten base j author n a s e =
+      (n < s) × (s ≤ length j) × (IsOwn j author s → ⊥)
+      × (x : Cell) × (x.name ≡ e) × Changes base j s x × Differ (after (mapof base j) a) (mapof base j) x
+
+  -- no lost update: suppose that an author had seen the first n entries, and that its edit is accepted; each later entry
+  -- that changed what the edit changes is the author's own; so if the author has no later entries, all that the edit
+  -- changes was, right before it, what it was after the first n entries
+  abbrev pub IsNothingLost : Rows A → ℕ → List (Entry A) → Type 0
+  IsNothingLost base limit j = (c : Call A) (a : Action A) (n seq : ℕ)
+      → c.request ≡ Do a (Some n)
+      → let step = answer base limit j c in
+      step.0 ≡ Done seq
+      → (n ≤ length j)
+      × ((s : ℕ) (x : Cell) → n < s → s ≤ length j → Changes base j s x → Differ (mapof base step.1) (mapof base j) x
+      → IsOwn j c.author s)
+      × (((s : ℕ) → n < s → IsOwn j c.author s → ⊥) → (x : Cell) → Differ (mapof base step.1) (mapof base j) x
+      → half_at (mapof base j) x ≡ half_at (map_at base j n) x)
+
+  -- suppose that the map accepts an author's edit, under an unspent id and in a journal that is not full, and that the
+  -- author had seen the first n entries; the edit is accepted exactly if it overwrites nothing; otherwise the refusal has
+  -- the last entry that would be overwritten, and the least name at which it would
+  abbrev pub IsRefusedExactlyWhere : Rows A → ℕ → List (Entry A) → Type 0
+  IsRefusedExactlyWhere base limit j = (author : Author) (id n : ℕ) (a : Action A)
+      → spent j author id ≡ None
+      → nat_le limit (length j) ≡ false
+      → n ≤ length j
+      → refusal (mapof base j) a ≡ None
+      → let reply = (answer base limit j (record { author = author; id = id; request = Do a (Some n) })).0 in
+      ((reply ≡ Done (length j + 1)) ↔ ((s : ℕ) (e : Name) → Overwritten base j author n a s e → ⊥))
+      × ((s : ℕ) (e : Name) → Overwritten base j author n a s e
+      → (b : ℕ) × (x : Name) × (reply ≡ Changed b x) × Overwritten base j author n a b x
+      × ((t : ℕ) (y : Name) → Overwritten base j author n a t y → t ≤ b)
+      × ((y : Name) → Overwritten base j author n a b y → is_lt (name_cmp y x) ≡ false))
+
+  -- an accepted edit has the reply, and makes the entry, that it would without saying what its author had seen
+  abbrev pub IsSameUnseen : Rows A → ℕ → List (Entry A) → Type 0
+  IsSameUnseen base limit j = (author : Author) (id n seq : ℕ) (a : Action A)
+      → let seen = answer base limit j (record { author = author; id = id; request = Do a (Some n) }) in
+      seen.0 ≡ Done seq
+      → seen ≡ answer base limit j (record { author = author; id = id; request = Do a None })
+
   pub record Holds (base : Rows A) (limit : ℕ) (j : List (Entry A)) : Type 0 where
     pub sound : IsSound base j
     pub replayed : IsReplayed base j
@@ -188,3 +244,6 @@ module _ {A : Type 0} where
     pub redo_stacked : IsRedoStacked base limit j
     pub redone_at_once : IsRedoneAtOnce base limit j
     pub redone_in_turn : IsRedoneInTurn base limit j
+    pub nothing_lost : IsNothingLost base limit j
+    pub refused_exactly_where : IsRefusedExactlyWhere base limit j
+    pub same_unseen : IsSameUnseen base limit j

@@ -1,4 +1,5 @@
 -- Definitions for private functions. No public contract cites them, and no definition outside this folder uses them.
+pub mod Changers
 pub mod Deeds
 pub mod Holders
 pub mod Kept

@@ -4,6 +4,7 @@ pub mod Asking
 pub mod Bases
 pub mod Blockers
 pub mod Examples
+pub mod Guards
 pub mod Headline
 pub mod Holdings
 pub mod Inner

@@ -10,12 +10,13 @@ pub use Rattle.osm_changes.specs.declared.cell.Cell.{Cell}
 pub use Rattle.osm_changes.specs.declared.change.Change.{Change}
 pub use Rattle.osm_elements.specs.declared.element.Element.{Element}
 pub use Rattle.osm_elements.specs.declared.name.Name.{Name}
-pub use Rattle.room_history.specs.Answers.{accepted, answer, answer_by, answers, asked, call_refusal, conflict, kind_refusal, meaning_refusal, meant, nothing_meant, redo_refusal, spends, spent, undo_refusal, with_entry}
+pub use Rattle.room_history.specs.Answers.{accepted, answer, answer_by, answers, asked, call_refusal, changed_since, conflict, guarded_refusal, is_ahead, kind_refusal, meaning_refusal, meant, nothing_meant, redo_refusal, seen, spends, spent, undo_refusal, with_entry}
 pub use Rattle.room_history.specs.Applied.{applied}
 pub use Rattle.room_history.specs.Asking.{IsAnswered, room_answer, wanting}
 pub use Rattle.room_history.specs.Bases.{IsBaseFault}
 pub use Rattle.room_history.specs.Blockers.{blocker, footprint_of_recorded, held, recorded_footprint}
-pub use Rattle.room_history.specs.Headline.{AreAccepted, AreFresh, Blocks, Holds, IsRedoStacked, IsRedoneAtOnce, IsRedoneInTurn, IsReplayed, IsRestLeft, IsUndoOfLast, IsUndoneAtOnce, IsUndoneExactlyWhere, Share, redid_from, redo_by, undid_from, undo_by}
+pub use Rattle.room_history.specs.Guards.{first_shared, overwritten, overwritten_since}
+pub use Rattle.room_history.specs.Headline.{AreAccepted, AreFresh, Blocks, Changes, Differ, Holds, IsNothingLost, IsRedoStacked, IsRefusedExactlyWhere, IsSameUnseen, IsRedoneAtOnce, IsRedoneInTurn, IsReplayed, IsRestLeft, IsUndoOfLast, IsUndoneAtOnce, IsUndoneExactlyWhere, Overwritten, Share, map_at, redid_from, redo_by, undid_from, undo_by}
 pub use Rattle.room_history.specs.Holdings.{Holdings, behind, first_meeting, holders_of, without}
 pub use Rattle.room_history.specs.Journals.{is_by, is_standing, is_undo_of, is_work, last, numbered, others, redos, redos_after, standing, standing_from, undos}
 pub use Rattle.room_history.specs.LegalJournals.{IsJournal, called, opened}
@@ -43,5 +44,5 @@ pub use Rattle.room_interface.specs.declared.edit_refusal.EditRefusal.{EditRefus
 pub use Rattle.room_interface.specs.declared.news.News.{News}
 pub use Rattle.room_interface.specs.declared.refusal.Refusal.{Refusal}
 pub use Rattle.room_interface.specs.declared.reply.Reply.{Reply}
-pub use Rattle.room_interface.specs.declared.reply.Reply.TheVariants.{Conflict, Done, Full, Memory, NoSuch, NotStanding, NotYours, NothingToRedo, Redid, Refused, Repeat, Undid}
+pub use Rattle.room_interface.specs.declared.reply.Reply.TheVariants.{Changed, Conflict, Done, Full, Memory, NoSuch, NotStanding, NotYours, NothingToRedo, Redid, Refused, Repeat, Undid}
 pub use Rattle.room_stacks.specs.declared.deed.Deed.{Deed}

@@ -1,5 +1,5 @@
 -- People, names, elements and calls of the worked examples.
-use Rattle.std.specs.Prelude.{ℕ, ⊤, List, [], ◌∷◌, map, Option, Some, ℤ, pos, negsuc}
+use Rattle.std.specs.Prelude.{ℕ, ⊤, List, [], ◌∷◌, map, Option, Some, ℤ, pos, negsuc, None}
 use Rattle.room_stacks.specs.Prelude.{named, Pairs, GivenTags, alone, at_position, Rows}
 use Rattle.osm_elements.specs.declared.name.Name.{Name}
 use Rattle.osm_elements.specs.declared.element.Element.{Element}
@@ -34,6 +34,12 @@ n2 = named kinds.Node (pos 2) tt
 
 abbrev pub n3 : Name
 n3 = named kinds.Node (pos 3) tt
+
+abbrev pub n4 : Name
+n4 = named kinds.Node (pos 4) tt
+
+abbrev pub n9 : Name
+n9 = named kinds.Node (pos 9) tt
 
 abbrev pub w1 : Name
 w1 = named kinds.Way (pos 1) tt
@@ -79,10 +85,17 @@ abbrev pub relation_of : List Name → Element Any
 relation_of names = Relation (map (λ x. (x, [])) names) []
 
 abbrev pub does : Author → ℕ → Action Any → Call Any
-does author id a = record { author = author; id = id; request = Do (One a) }
+does author id a = record { author = author; id = id; request = Do (One a) None }
 
 abbrev pub does_all : Author → ℕ → List (Action Any) → Call Any
-does_all author id g = record { author = author; id = id; request = Do (Group g) }
+does_all author id g = record { author = author; id = id; request = Do (Group g) None }
+
+-- the same from an author who had seen the first n entries
+abbrev pub does_since : Author → ℕ → ℕ → Action Any → Call Any
+does_since author id n a = record { author = author; id = id; request = Do (One a) (Some n) }
+
+abbrev pub does_all_since : Author → ℕ → ℕ → List (Action Any) → Call Any
+does_all_since author id n g = record { author = author; id = id; request = Do (Group g) (Some n) }
 
 abbrev pub undoes : Author → ℕ → Option ℕ → Call Any
 undoes author id s = record { author = author; id = id; request = Undo s }

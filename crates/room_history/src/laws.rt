@@ -1,6 +1,7 @@
 //! Laws of the definitions. Each law is the contract of an empty function.
 ghost use Rattle.std.specs.Prelude.{◌≡◌, ◌++◌, ℕ, true, false, List, [], ◌∷◌, All, take};
-ghost use Rattle.edit_groups.specs.Prelude.{AreInOrder, IsFirstUnsound, are_of_kinds, Rows, half_at, cell_of, AreChanges, AreFrom, counted, is_sound};
+ghost use Rattle.edit_groups.specs.Prelude.{AreInOrder, IsFirstUnsound, are_of_kinds, Rows, half_at, cell_of, differences, inverse, AreChanges, AreFrom, counted, is_sound};
+ghost use Rattle.osm_changes.specs.Changes.{changed};
 ghost use Rattle.turn_desk.specs.History.{History, entries, IsLegal};
 ghost use Rattle.room_interface.specs.declared.refusal.Refusal.{Refusal};
 ghost use Rattle.osm_elements.specs.declared.name.Name.{Name};
@@ -15,7 +16,7 @@ ghost use Rattle.room_history.specs.Headline.{Holds};
 ghost use Rattle.room_history.specs.Replays.{past, mapof, recorded_next};
 ghost use Rattle.room_history.specs.LegalJournals.{IsJournal};
 ghost use Rattle.room_history.specs.Turns.{IsTurn};
-ghost use Rattle.room_history.specs.Examples.{first_run, range_ends, limit_one, limit_zero, strangers, in_use, taken_back_way, refusals_in_turn, relations_in_turn, redo_at_once, redo_refused, redo_order, redo_again, unglued_node, blocker_goes_by_parts, both_moved, two_blockers_by_parts, split_over_retag, over_one_node, drawn_as_one};
+ghost use Rattle.room_history.specs.Examples.{first_run, range_ends, limit_one, limit_zero, strangers, in_use, taken_back_way, refusals_in_turn, relations_in_turn, redo_at_once, redo_refused, redo_order, redo_again, unglued_node, blocker_goes_by_parts, both_moved, two_blockers_by_parts, split_over_retag, over_one_node, drawn_as_one, joined_street, seen_since};
 
 use osm_changes::laws::{an_inverse_restores, differences_are_changes};
 use std::alloc::Allocator;
@@ -24,7 +25,9 @@ use std::alloc::Allocator;
 pub fn journals_hold<A: Allocator>()
     ensures { (base : Rows A) (limit : ℕ) (j : List (Entry A)) → is_sound base ≡ true → IsJournal base limit j
         → Holds base limit j }
-{}
+{
+    leads_back::<A>();
+}
 
 /// If calls lead to a journal, they also lead to its first `n` entries.
 pub fn journals_begin<A: Allocator>()
@@ -39,7 +42,9 @@ pub fn legal_histories_hold<A: Allocator>()
         → IsJournal opening.base opening.limit (entries h) }
     ensures holds { (opening : Opening A) (h : History (Entry A)) → is_sound opening.base ≡ true
         → IsLegal IsTurn opening h → Holds opening.base opening.limit (entries h) }
-{}
+{
+    leads_back::<A>();
+}
 
 /// A room can begin with every sound map. The names of its rows rise, each element is of its name's kind, and the only
 /// refusal is `Memory`.
@@ -104,4 +109,17 @@ pub fn replies_are_as_worked()
     ensures split_over_retag { split_over_retag }
     ensures over_one_node { over_one_node }
     ensures drawn_as_one { drawn_as_one }
+    ensures joined_street { joined_street }
+    ensures seen_since { seen_since }
 {}
+
+// Proves facts about changes and their inverses. It does nothing.
+pub(crate) fn leads_back<A: Allocator>()
+    ensures differ { (m n : Rows A) → AreChanges (differences m n) }
+    ensures from { (m n : Rows A) → AreFrom m (differences m n) }
+    ensures back { (m : Rows A) (cs : List (Change A)) → AreInOrder m → AreChanges cs → AreFrom m cs
+        → AreFrom (changed m cs) (inverse cs) }
+{
+    differences_are_changes::<A>();
+    an_inverse_restores::<A>();
+}

@@ -12,6 +12,7 @@
 #![tactic(auto)]
 
 pub mod base;
+mod changers;
 mod effects;
 pub mod entry;
 mod journal;

@@ -4,9 +4,11 @@ ghost use Rattle.osm_changes.specs.Prelude.{changed, inverse, AreFrom, Rows, Are
 ghost use Rattle.room_history.specs.Journals.{numbered};
 
 use crate::base::BaseFault;
+use crate::changers::Changers;
 use crate::entry::{Entry, EntryKind};
 use crate::journal::{action_of, numbered};
 use crate::kept::{Kept, footprint_by};
+use crate::laws::leads_back;
 use crate::news::news_past;
 use crate::undo::{EntryToUndo, asked_for};
 use edit_footprint::footprint::Footprint;
@@ -31,6 +33,7 @@ use std::snapshot::Snapshot;
 
 mod appending;
 mod asking;
+mod guarding;
 
 /// A room: one map, and the journal of what its authors did to it.
 ///
@@ -53,6 +56,7 @@ pub struct Room<A: Allocator> {
     // and each action is stored once.
     origins: Vec<u64, A>,
     holders: Holders<A>,
+    changers: Changers<A>,
     // An author can stay ready for a deed that never comes. No contract of the room sees this, and the next change
     // calls `ready` again.
     stacks: Stacks<A>,
@@ -66,8 +70,8 @@ impl<A: Allocator> Model for Room<A> {
 
     ghost view = { λ r. record { base = r.base.value; limit = r.limit; journal = r.entries.items } };
 
-    ghost invariant = { λ r. IsRoom r.store r.recorded.items r.origins.items r.holders r.stacks.deeds r.base.value
-        r.limit r.entries.items };
+    ghost invariant = { λ r. IsRoom r.store r.recorded.items r.origins.items r.holders r.changers.rows r.stacks.deeds
+        r.base.value r.limit r.entries.items };
 }
 
 impl<A: Allocator + Copy> Room<A> {
@@ -135,6 +139,7 @@ impl<A: Allocator + Copy> Room<A> {
             recorded: Vec::new(alloc),
             origins: Vec::new(alloc),
             holders: Holders::new(alloc),
+            changers: Changers::new(alloc),
             stacks: Stacks::new(alloc),
         }
     }
@@ -161,6 +166,7 @@ impl<A: Allocator + Copy> Room<A> {
     pub(crate) fn holds(&self)
         ensures { Holds self.now.base self.now.limit self.now.journal }
     {
+        leads_back::<A>();
         let _ = &self.entries;
     }
 
@@ -181,22 +187,29 @@ impl<A: Allocator + Copy> Room<A> {
             return Reply::Full;
         }
         match request {
-            Request::Do(edit) => self.act(author, id, edit),
+            Request::Do { edit, since } => self.act(author, id, edit, since),
             Request::Undo(number) => self.undo(author, id, number),
             Request::Redo => self.redo(author, id),
         }
     }
 
-    // Does an action or a group, if the map accepts it.
-    fn act(&mut self, author: Author, id: u64, edit: Edit<A>) -> Reply<A>
+    // Does an edit, if the map accepts it, and no other author changed what the author had not seen and the edit would
+    // change.
+    fn act(&mut self, author: Author, id: u64, edit: Edit<A>, since: Option<u64>) -> Reply<A>
         requires { MayAppend self.old.limit self.old.journal author id }
         ensures step { IsStep self.old.base self.old.limit self.old.journal
-            (record { author = author; id = id; request = requests.Do edit }) result self.new.journal }
+            (record { author = author; id = id; request = requests.Do edit since }) result self.new.journal }
         ensures base { self.new.base ≡ self.old.base }
         ensures limit { self.new.limit ≡ self.old.limit }
     {
+        if self.is_ahead(since) {
+            return Reply::NoSuch;
+        }
         match self.planned(&edit) {
             Ok((changes, footprint)) => {
+                if let Some((with, name)) = self.overwritten(&author, since, &changes) {
+                    return Reply::Changed { with, name };
+                }
                 let kind = EntryKind::Do(edit);
                 match self.append_work(author, id, kind, changes, footprint) {
                     Ok(seq) => Reply::Done { seq },

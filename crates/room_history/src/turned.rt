@@ -55,10 +55,10 @@ fn keeps<A: Allocator>(call: &RoomCall<A>)
     match call {
         RoomCall::Take(
             Call {
-                request: Request::Do(action),
+                request: Request::Do { edit, .. },
                 ..
             },
-        ) => keeps_values(action),
+        ) => keeps_values(edit),
         _ => {}
     }
 }

@@ -38,7 +38,7 @@ module _ {A : Type 0} where
 
   -- the values of a request are made
   abbrev pub is_made_request : Request A → Bool
-  is_made_request (requests.Do e) = is_made_edit e
+  is_made_request (requests.Do e since) = is_made_edit e
   is_made_request (requests.Undo s) = true
   is_made_request requests.Redo = true
 

@@ -9,7 +9,13 @@ use std::alloc::Allocator;
 #[derive_where(Debug)]
 pub enum Request<A: Allocator> {
     /// An edit of the map: one action, or a group.
-    Do(Edit<A>),
+    Do {
+        /// The edit.
+        edit: Edit<A>,
+        /// How many entries of the room the author had seen, if the author says it. Then the edit is refused if an entry
+        /// of another author after these changed what the edit would change.
+        since: Option<u64>,
+    },
     /// The undo of the entry with this number, or of the author's last active entry if there is no number.
     Undo(Option<u64>),
     /// The redo of the entry that the author undid last and has not redone. Its action is done on the map at that time.

@@ -41,23 +41,30 @@ pub enum Reply<A: Allocator> {
     Full,
     /// An undo without a number, and the author has no active entry.
     NothingToUndo,
-    /// No entry has the number.
+    /// No entry has the number, or the author says to have seen more entries than there are.
     NoSuch,
     /// The entry with the number is another author's.
     NotYours,
     /// The entry with the number is an undo, or has been undone.
     NotStanding,
-    /// A later active entry touched what the entry touched.
+    /// The footprint of a later active entry meets that of the entry.
     Conflict {
-        /// The number of the first later active entry whose footprint meets that of the entry.
+        /// The number of the first such entry.
         blocker: u64,
-        /// The least name of a cell that both footprints have.
+        /// The least name at which the footprints meet.
         shared: Name,
     },
     /// A redo, and the author has nothing to redo.
     NothingToRedo,
     /// The action, or the action to redo, is refused on the current map.
     Refused(EditRefusal<A>),
+    /// Another author changed, after the entries that the author had seen, what the edit would change.
+    Changed {
+        /// The number of the last such entry.
+        with: u64,
+        /// The least name of an element of which both change the same part.
+        name: Name,
+    },
     /// An allocation failed.
     Memory,
 }

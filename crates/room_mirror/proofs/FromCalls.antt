@@ -37,7 +37,7 @@ ids_of_names m h = each (names_of m) (λ y there. h y (sym (is_among-names_of m 
 
 -- the kind of entry that a request would append
 meant_ids : (j : List (Entry Global)) (author : Author) (r : Request Global) → HasRequestIds r → IfSome (meant j author r) HasSubjectIds
-meant_ids j author (requests.Do a) h = h
+meant_ids j author (requests.Do a since) h = h
 meant_ids j author (requests.Undo s) h = by (asked j author s)
   where
     by : (o : Option ℕ) → IfSome (option_map Undo o) HasSubjectIds

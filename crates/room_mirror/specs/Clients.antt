@@ -82,7 +82,7 @@ IsBrought e = (is_author e.author ≡ true) × HasSubjectIds e.kind
 
 -- the subjects of the request's actions have ids as in messages
 abbrev pub HasRequestIds : Request Global → Type 0
-HasRequestIds (requests.Do e) = HasEditIds e
+HasRequestIds (requests.Do e since) = HasEditIds e
 HasRequestIds (requests.Undo s) = Unit {0}
 HasRequestIds requests.Redo = Unit {0}
 

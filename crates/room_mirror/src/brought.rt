@@ -105,7 +105,7 @@ fn request_has_ids(request: &Request<Global>)
     ensures made { is_made_request request.now ≡ true }
     ensures ids { HasRequestIds request.now }
 {
-    if let Request::Do(edit) = request {
+    if let Request::Do { edit, .. } = request {
         keeps_values(edit);
         edit_has_ids(edit);
     }

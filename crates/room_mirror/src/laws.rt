@@ -1,12 +1,16 @@
 //! Laws of mirrors. Each law is the contract of an empty function.
-ghost use Rattle.std.specs.Prelude.{◌≡◌, ◌≤◌, ◌-◌, ℕ, true, List, Ok, Some, All, length, take};
+ghost use Rattle.std.specs.Prelude.{◌≡◌, ◌≤◌, ◌<◌, ◌-◌, ℕ, true, List, Ok, Some, All, length, take};
 ghost use Rattle.serde_json.specs.Read.{read};
-ghost use Rattle.room_history.specs.Prelude.{Global, is_sound, Rows, names_of, AreInOrder, IsJournal, news, mapof, RoomState, Answers, IsStep};
+ghost use Rattle.room_history.specs.Prelude.{Global, is_sound, Rows, names_of, AreInOrder, IsJournal, news, mapof, answer, is_by, numbered, Differ, Cell, RoomState, Answers, IsStep};
 ghost use Rattle.room_wire.specs.Prelude.{AreNews, IsWelcome, HasId, spells_welcome, welcome_tree, IsNumber};
 ghost use Rattle.room_interface.specs.declared.call.Call.{Call};
+ghost use Rattle.room_interface.specs.declared.call.Request.TheVariants.{Do};
+ghost use Rattle.room_interface.specs.declared.edit.Edit.{Edit};
+ghost use Rattle.osm_changes.specs.Cells.{half_at};
 ghost use Rattle.room_history.specs.declared.entry.Entry.{Entry};
 ghost use Rattle.room_interface.specs.declared.news.News.{News};
 ghost use Rattle.room_interface.specs.declared.reply.Reply.{Reply};
+ghost use Rattle.room_interface.specs.declared.reply.Reply.TheVariants.{Done};
 ghost use Rattle.room_mirror.specs.Clients.{IsBrought, IsBroughtCall, IsReadBack, SpellNews, mirror_made, welcome_to};
 ghost use Rattle.room_mirror.specs.Mirrors.{mirror_of, taken_in_turn};
 
@@ -77,6 +81,20 @@ pub fn a_client_has_the_rooms_map()
 {
     a_rooms_texts_are_read_back();
     mirrors_follow::<Global>();
+}
+
+/// A client's mirror has the map of a room's first `n` entries. The client sends an edit that says so, and the room
+/// accepts it, while the author has no later entries. Then the client knew what it overwrote: each part of an element
+/// that the edit changes was, right before, as the mirror has it.
+pub fn a_client_knows_what_it_overwrites<A: Allocator>()
+    ensures { (base : Rows A) (limit : ℕ) (j : List (Entry A)) (c : Call A) (edit : Edit A) (n seq : ℕ)
+        → is_sound base ≡ true → IsJournal base limit j
+        → c.request ≡ Do edit (Some n) → (answer base limit j c).0 ≡ Done seq
+        → ((s : ℕ) → n < s → is_by c.author (numbered j s) ≡ true → ⊥)
+        → (x : Cell) → Differ (mapof base (answer base limit j c).1) (mapof base j) x
+        → half_at (mapof base j) x ≡ half_at (mirror_of base j n).rows x }
+{
+    journals_hold::<A>();
 }
 
 /// If the names of the base and of the actions' subjects have ids that fit an `i64`, so do the names of the room's map.

@@ -228,7 +228,10 @@ What `do` can be:
   to ask: get, map, undos
 
 Each message has an `id`, which its reply names. A change, an undo or a redo that is accepted spends it: the next one
-of that author needs another. docs/PROTOCOL.md tells what each message holds, and every reply.";
+of that author needs another. docs/PROTOCOL.md tells what each message holds, and every reply.
+
+A change can say with `since` how many entries its author had seen. It is refused if somebody else has changed since
+what it would change.";
 
 const SERVE_HELP: &str = "\
 Serves rooms to clients over WebSockets. A client names a room and its author in its first message, and is then

@@ -1,15 +1,15 @@
 -- A text has each fault exactly if it should.
-use Rattle.std.proofs.Common.{◌≡◌, ◌⊎◌, ◌+◌, ◌↔◌, ◌&&◌, ℕ, List, [], ◌∷◌, codes, Bool, true, false, cond, Option, Some, None, Result, Ok, Err, is_some, nat_le, refl, IsOk, inl, inr, ◌∙◌, true≢false, sym, ap, subst, arith, bytes_eq, option_and_then}
+use Rattle.std.proofs.Common.{◌≡◌, ◌≤◌, ◌⊎◌, ◌+◌, ◌↔◌, ◌&&◌, ℕ, List, [], ◌∷◌, codes, Bool, true, false, cond, Option, Some, None, Result, Ok, Err, is_some, nat_le, refl, IsOk, inl, inr, ◌∙◌, true≢false, sym, ap, subst, arith, bytes_eq, option_and_then}
 use Rattle.std.proofs.lemmas.Slice.Eq.{bytes_eq-Decides}
 use Rattle.std.proofs.lemmas.Bool.Decides.{nat_tests}
 use Rattle.serde_json.specs.Data.{Data, Items, no_items, null, boolean, number, string, array, object, unsigned, negative, float}
 use Rattle.serde_json.specs.Find.{get, as_object, as_str}
 use Rattle.serde_json.specs.Read.{read}
-use Rattle.room_wire.specs.Prelude.{Global, Action, One, Group, Bad, Fault, BadActionField, BadField, BadId, Memory, NotJson, NotObject, UnknownAction, UnknownDo, Field, El, Els, Lat, Lon, Nodes, Members, Tags, Dlat, Dlon, At, Into, With, Actions, Seq, Incoming, Body, or_fault, under, action_by, actions_from, group_at, author_at, body_by, el_at, by_id, incoming, body_at, message_of, ordinal, seq_at, spells, whole, AreGood, AreGoodActions, IsFirstBadAction, actions_in, group_items, HasWord, IsFirstBad, IsNumber, MessageId, Slot, slot, slots, Word, is_action_word, word_text}
+use Rattle.room_wire.specs.Prelude.{Global, Action, One, Group, Bad, Fault, BadActionField, BadField, BadId, Memory, NotJson, NotObject, UnknownAction, UnknownDo, Field, El, Actions, Seq, Since, Incoming, Body, or_fault, under, action_by, actions_from, group_at, author_at, body_by, count_of, el_at, by_id, incoming, body_at, message_of, ordinal, seq_at, since_at, spells, whole, AreGood, AreGoodActions, IsFirstBadAction, actions_in, group_items, HasWord, IsFirstBad, IsNumber, MessageId, Slot, message_slots, slot, slots, Word, is_action_word, word_text}
 use Rattle.room_wire.specs.Reading.{◌>>=◌}
 use Rattle.room_wire.proofs.ActionFaults.{ActionsTell, GroupTells, actions_tell, bad_told, none_bad, none_unknown, unknown_told}
-use Rattle.room_wire.proofs.FirstFaults.{Only, Tells, action_word_tells, none_good, one_first, only_field, only_seq, step}
-use Rattle.room_wire.proofs.WellFormedProofs.{id_read, spells-body, word_read}
+use Rattle.room_wire.proofs.FirstFaults.{Only, Tells, action_word_tells, none_good, one_first, only_field, only_seq, only_since, step}
+use Rattle.room_wire.proofs.WellFormedProofs.{doing, grouped, id_read, spells-body, word_read}
 use Rattle.room_interface.specs.declared.call.Request.TheVariants as requests
 use Rattle.room_wire.specs.declared.field.Field.TheVariants as fields
 use Rattle.room_wire.specs.declared.incoming.Body.TheVariants as bodies
@@ -25,38 +25,53 @@ plain : {X : Type 0} (r : Result X Fault) (all : List Slot) → Tells r all → 
 plain (Ok x) all good = (good, tt)
 plain (Err fault) all told = inl told
 
+-- a well-formed field before the others is skipped
+all_passed_over : {X : Type 0} (field : Field) (r : Result X Fault) (later : List Slot) (ds : Items) → TellsAll r later ds → TellsAll r ((field, true) ∷ later) ds
+all_passed_over field (Ok x) later ds h = h
+all_passed_over field (Err fault) later ds (inl first) = inl first
+all_passed_over field (Err fault) later ds (inr actions) = inr actions
+
+-- the fault of a field is that of the whole, whose later steps tell the later fields and the actions
+first_step : {X B : Type 0} (field : Field) (r : Result X Fault) (f : X → Result B Fault) (later : List Slot) (ds : Items) → Only field r → ((x : X) → TellsAll (f x) later ds)
+    → TellsAll (r >>= f) (slot field r ∷ later) ds
+first_step field (Ok x) f later ds only h = all_passed_over field (f x) later ds (h x)
+first_step field (Err fault) f later ds only h = inl (field, only, refl)
+
 -- an action as an edit has the action's fault
-done_tells : (r : Result (Action Global) Fault) (all : List Slot) → Tells r all → TellsAll ((r >>= λ action. Ok (One action)) >>= λ edit. Ok (bodies.Change (requests.Do edit))) all no_items
-done_tells (Ok action) all good = (good, tt)
-done_tells (Err fault) all told = inl told
+done_tells : (since : Option ℕ) (r : Result (Action Global) Fault) (all : List Slot) → Tells r all → TellsAll ((r >>= λ action. Ok (One action)) >>= λ edit. Ok (bodies.Change (requests.Do edit since))) all no_items
+done_tells since (Ok action) all good = (good, tt)
+done_tells since (Err fault) all told = inl told
+
+-- a message with an action has the fault of what its author had seen, or else the action's
+action_tells : (word : Word) (d : Data) → is_action_word word ≡ true → TellsAll (doing (since_at d) (action_by (word_text word) d)) (slot Since (since_at d) ∷ slots word d) no_items
+action_tells word d is =
+    first_step Since (since_at d) _ (slots word d) no_items (only_since (get (codes "since") d))
+    (λ since. done_tells since (action_by (word_text word) d) (slots word d) (action_word_tells word d is))
 
 -- a group has the fault of its actions
-abbrev grouped : Result Items Fault → Result Body Fault
-grouped r = ((r >>= λ ds. actions_from 0 ds) >>= λ group. Ok (Group group)) >>= λ edit. Ok (bodies.Change (requests.Do edit))
+group_done : (since : Option ℕ) (all : List Slot) (ds : Items) (r : Result (List (Action Global)) Fault) → AreGood all → GroupTells r ds 0
+    → TellsAll ((r >>= λ group. Ok (Group group)) >>= λ edit. Ok (bodies.Change (requests.Do edit since))) all ds
+group_done since all ds (Ok group) good told = (good, told)
+group_done since all ds (Err fault) good told = inr (good, told)
 
-group_done : (all : List Slot) (ds : Items) (r : Result (List (Action Global)) Fault) → AreGood all → GroupTells r ds 0
-    → TellsAll ((r >>= λ group. Ok (Group group)) >>= λ edit. Ok (bodies.Change (requests.Do edit))) all ds
-group_done all ds (Ok group) good told = (good, told)
-group_done all ds (Err fault) good told = inr (good, told)
+group_tells : (since : Option ℕ) (r : Result Items Fault) → Only Actions r → TellsAll (grouped (Ok since) r) (slot Actions r ∷ []) (actions_in r)
+group_tells since (Ok ds) only = group_done since (slot Actions (Ok ds) ∷ []) ds (actions_from 0 ds) tt (actions_tell 0 ds)
+group_tells since (Err fault) only = inl (Actions, only, refl)
 
-group_tells : (r : Result Items Fault) → Only Actions r → TellsAll (grouped r) (slot Actions r ∷ []) (actions_in r)
-group_tells (Ok ds) only = group_done (slot Actions (Ok ds) ∷ []) ds (actions_from 0 ds) tt (actions_tell 0 ds)
-group_tells (Err fault) only = inl (Actions, only, refl)
-
-body_tells : (word : Word) (d : Data) → TellsAll (body_by (word_text word) d) (slots word d) (group_items word d)
-body_tells words.Create d = done_tells (action_by (word_text words.Create) d) (slots words.Create d) (action_word_tells words.Create d refl)
-body_tells words.Retag d = done_tells (action_by (word_text words.Retag) d) (slots words.Retag d) (action_word_tells words.Retag d refl)
-body_tells words.Move d = done_tells (action_by (word_text words.Move) d) (slots words.Move d) (action_word_tells words.Move d refl)
-body_tells words.Reverse d = done_tells (action_by (word_text words.Reverse) d) (slots words.Reverse d) (action_word_tells words.Reverse d refl)
-body_tells words.Nodes d = done_tells (action_by (word_text words.Nodes) d) (slots words.Nodes d) (action_word_tells words.Nodes d refl)
-body_tells words.Members d = done_tells (action_by (word_text words.Members) d) (slots words.Members d) (action_word_tells words.Members d refl)
-body_tells words.Delete d = done_tells (action_by (word_text words.Delete) d) (slots words.Delete d) (action_word_tells words.Delete d refl)
-body_tells words.Purge d = done_tells (action_by (word_text words.Purge) d) (slots words.Purge d) (action_word_tells words.Purge d refl)
-body_tells words.Split d = done_tells (action_by (word_text words.Split) d) (slots words.Split d) (action_word_tells words.Split d refl)
-body_tells words.Join d = done_tells (action_by (word_text words.Join) d) (slots words.Join d) (action_word_tells words.Join d refl)
-body_tells words.Merge d = done_tells (action_by (word_text words.Merge) d) (slots words.Merge d) (action_word_tells words.Merge d refl)
-body_tells words.Unglue d = done_tells (action_by (word_text words.Unglue) d) (slots words.Unglue d) (action_word_tells words.Unglue d refl)
-body_tells words.Group d = group_tells (group_at d) (only_field Actions _)
+body_tells : (word : Word) (d : Data) → TellsAll (body_by (word_text word) d) (message_slots word d) (group_items word d)
+body_tells words.Create d = action_tells words.Create d refl
+body_tells words.Retag d = action_tells words.Retag d refl
+body_tells words.Move d = action_tells words.Move d refl
+body_tells words.Reverse d = action_tells words.Reverse d refl
+body_tells words.Nodes d = action_tells words.Nodes d refl
+body_tells words.Members d = action_tells words.Members d refl
+body_tells words.Delete d = action_tells words.Delete d refl
+body_tells words.Purge d = action_tells words.Purge d refl
+body_tells words.Split d = action_tells words.Split d refl
+body_tells words.Join d = action_tells words.Join d refl
+body_tells words.Merge d = action_tells words.Merge d refl
+body_tells words.Unglue d = action_tells words.Unglue d refl
+body_tells words.Group d = first_step Since (since_at d) _ (slots words.Group d) (group_items words.Group d) (only_since (get (codes "since") d)) (λ since. group_tells since (group_at d) (only_field Actions _))
 body_tells words.Undo d = plain (body_by (word_text words.Undo) d) (slots words.Undo d) (step Seq (seq_at d) (λ seq. Ok (bodies.Change (requests.Undo seq))) [] (only_seq (get (codes "seq") d)) (λ seq e. tt))
 body_tells words.Redo d = plain (body_by (word_text words.Redo) d) (slots words.Redo d) (tt)
 body_tells words.Undos d = plain (body_by (word_text words.Undos) d) (slots words.Undos d) (tt)
@@ -134,31 +149,33 @@ bad_told_from id (Err fault) all ds k field (inr (good, actions)) e =
     (good, subst (λ n. IsFirstBadAction ds n (BadField field)) (position_of k k at.0 refl at.1) at.2)
 
 -- the actions of a message are those of a group
-grouped_fault : (fault : Fault) (r : Result Items Fault) (k : ℕ) (wrong : Fault) → IsFirstBadAction (actions_in r) k wrong → ((ds : Items) → r ≡ Ok ds → actions_from 0 ds ≡ Err fault) → grouped r ≡ Err fault
-grouped_fault fault (Ok ds) k wrong first told = ap (λ r. (r >>= λ group. Ok (Group group)) >>= λ edit. Ok (bodies.Change (requests.Do edit))) (told ds refl)
-grouped_fault fault (Err f) k wrong first told = absurd first
+grouped_fault : (fault : Fault) (s : Result (Option ℕ) Fault) (r : Result Items Fault) (k : ℕ) (wrong : Fault) → AreGood (slot Since s ∷ slot Actions r ∷ []) → IsFirstBadAction (actions_in r) k wrong
+    → ((ds : Items) → r ≡ Ok ds → actions_from 0 ds ≡ Err fault) → grouped s r ≡ Err fault
+grouped_fault fault (Ok since) (Ok ds) k wrong good first told = ap (λ r. (r >>= λ group. Ok (Group group)) >>= λ edit. Ok (bodies.Change (requests.Do edit since))) (told ds refl)
+grouped_fault fault (Ok since) (Err f) k wrong good first told = absurd first
+grouped_fault fault (Err f) r k wrong good first told = absurd good
 
 module _ (d : Data) (fault wrong : Fault) (k : ℕ) (reads : (ds : Items) → IsFirstBadAction ds k wrong → actions_from 0 ds ≡ Err fault) where
-  body_fault : (word : Word) → IsFirstBadAction (group_items word d) k wrong → body_by (word_text word) d ≡ Err fault
-  body_fault words.Group first = grouped_fault fault (group_at d) k wrong first (λ ds is. reads ds (subst (λ r. IsFirstBadAction (actions_in r) k wrong) is first))
-  body_fault words.Create first = absurd first
-  body_fault words.Retag first = absurd first
-  body_fault words.Move first = absurd first
-  body_fault words.Reverse first = absurd first
-  body_fault words.Nodes first = absurd first
-  body_fault words.Members first = absurd first
-  body_fault words.Delete first = absurd first
-  body_fault words.Purge first = absurd first
-  body_fault words.Split first = absurd first
-  body_fault words.Join first = absurd first
-  body_fault words.Merge first = absurd first
-  body_fault words.Unglue first = absurd first
-  body_fault words.Undo first = absurd first
-  body_fault words.Redo first = absurd first
-  body_fault words.Undos first = absurd first
-  body_fault words.Get first = absurd first
-  body_fault words.Map first = absurd first
-  body_fault words.Hello first = absurd first
+  body_fault : (word : Word) → AreGood (message_slots word d) → IsFirstBadAction (group_items word d) k wrong → body_by (word_text word) d ≡ Err fault
+  body_fault words.Group good first = grouped_fault fault (since_at d) (group_at d) k wrong good first (λ ds is. reads ds (subst (λ r. IsFirstBadAction (actions_in r) k wrong) is first))
+  body_fault words.Create good first = absurd first
+  body_fault words.Retag good first = absurd first
+  body_fault words.Move good first = absurd first
+  body_fault words.Reverse good first = absurd first
+  body_fault words.Nodes good first = absurd first
+  body_fault words.Members good first = absurd first
+  body_fault words.Delete good first = absurd first
+  body_fault words.Purge good first = absurd first
+  body_fault words.Split good first = absurd first
+  body_fault words.Join good first = absurd first
+  body_fault words.Merge good first = absurd first
+  body_fault words.Unglue good first = absurd first
+  body_fault words.Undo good first = absurd first
+  body_fault words.Redo good first = absurd first
+  body_fault words.Undos good first = absurd first
+  body_fault words.Get good first = absurd first
+  body_fault words.Map good first = absurd first
+  body_fault words.Hello good first = absurd first
 
 from_none : (k : ℕ) → 0 + k ≡ k
 from_none k = omega arith
@@ -167,24 +184,24 @@ module _ (text : List ℕ) (d : Data) (tree : read text ≡ Some d) where
   body_spelled : (id : ℕ) (word : Word) → MessageId d id → HasWord d word → spells text ≡ under incoming id (body_by (word_text word) d)
   body_spelled id word has asks = spells-body text d id tree (id_read d id has) ∙ ap (under incoming id) (word_read d word asks)
 
-  pub bad_field_told : (id : ℕ) (word : Word) (field : Field) → MessageId d id → HasWord d word → (spells text ≡ bad id (BadField field)) ↔ IsFirstBad (slots word d) field
-  bad_field_told id word field has asks = rw (body_spelled id word has asks) (told id (body_by (word_text word) d) (slots word d) (group_items word d) field (body_tells word d))
+  pub bad_field_told : (id : ℕ) (word : Word) (field : Field) → MessageId d id → HasWord d word → (spells text ≡ bad id (BadField field)) ↔ IsFirstBad (message_slots word d) field
+  bad_field_told id word field has asks = rw (body_spelled id word has asks) (told id (body_by (word_text word) d) (message_slots word d) (group_items word d) field (body_tells word d))
 
-  pub unknown_action_told : (id : ℕ) (word : Word) (k : ℕ) → MessageId d id → HasWord d word → (spells text ≡ bad id (UnknownAction k)) ↔ (AreGood (slots word d) × IsFirstBadAction (group_items word d) k UnknownDo)
+  pub unknown_action_told : (id : ℕ) (word : Word) (k : ℕ) → MessageId d id → HasWord d word → (spells text ≡ bad id (UnknownAction k)) ↔ (AreGood (message_slots word d) × IsFirstBadAction (group_items word d) k UnknownDo)
   unknown_action_told id word k has asks = (
-    λ e. unknown_told_from id (body_by (word_text word) d) (slots word d) (group_items word d) k (body_tells word d) (sym (body_spelled id word has asks) ∙ e),
-    λ h. body_spelled id word has asks ∙ ap (under incoming id) (body_fault d (UnknownAction k) UnknownDo k (λ ds first. unknown_told 0 ds k first ∙ ap (λ j. Err (UnknownAction j)) (from_none k)) word h.1),
+    λ e. unknown_told_from id (body_by (word_text word) d) (message_slots word d) (group_items word d) k (body_tells word d) (sym (body_spelled id word has asks) ∙ e),
+    λ h. body_spelled id word has asks ∙ ap (under incoming id) (body_fault d (UnknownAction k) UnknownDo k (λ ds first. unknown_told 0 ds k first ∙ ap (λ j. Err (UnknownAction j)) (from_none k)) word h.0 h.1),
   )
 
   pub bad_action_field_told : (id : ℕ) (word : Word) (k : ℕ) (field : Field) → MessageId d id → HasWord d word
-      → (spells text ≡ bad id (BadActionField k field)) ↔ (AreGood (slots word d) × IsFirstBadAction (group_items word d) k (BadField field))
+      → (spells text ≡ bad id (BadActionField k field)) ↔ (AreGood (message_slots word d) × IsFirstBadAction (group_items word d) k (BadField field))
   bad_action_field_told id word k field has asks = (
-    λ e. bad_told_from id (body_by (word_text word) d) (slots word d) (group_items word d) k field (body_tells word d) (sym (body_spelled id word has asks) ∙ e),
-    λ h. body_spelled id word has asks ∙ ap (under incoming id) (body_fault d (BadActionField k field) (BadField field) k (λ ds first. bad_told field 0 ds k first ∙ ap (λ j. Err (BadActionField j field)) (from_none k)) word h.1),
+    λ e. bad_told_from id (body_by (word_text word) d) (message_slots word d) (group_items word d) k field (body_tells word d) (sym (body_spelled id word has asks) ∙ e),
+    λ h. body_spelled id word has asks ∙ ap (under incoming id) (body_fault d (BadActionField k field) (BadField field) k (λ ds first. bad_told field 0 ds k first ∙ ap (λ j. Err (BadActionField j field)) (from_none k)) word h.0 h.1),
   )
 
-  pub message_told : (id : ℕ) (word : Word) → MessageId d id → HasWord d word → IsOk (spells text) ↔ (AreGood (slots word d) × AreGoodActions (group_items word d))
-  message_told id word has asks = rw (body_spelled id word has asks) (ok_told id (body_by (word_text word) d) (slots word d) (group_items word d) (body_tells word d))
+  pub message_told : (id : ℕ) (word : Word) → MessageId d id → HasWord d word → IsOk (spells text) ↔ (AreGood (message_slots word d) × AreGoodActions (group_items word d))
+  message_told id word has asks = rw (body_spelled id word has asks) (ok_told id (body_by (word_text word) d) (message_slots word d) (group_items word d) (body_tells word d))
 
   pub no_object_told : as_object d ≡ None → spells text ≡ bad 0 NotObject
   no_object_told none = ap message_of tree ∙ rw none refl
@@ -204,6 +221,22 @@ number_of_ordinal (number (unsigned m)) n e = go (nat_le 1 m && nat_le m 9007199
     go true inside e =
         let same : m ≡ n = cc in
         (ap whole same, (grind (arith, nat_tests), grind (arith, nat_tests)))
+    go false inside e = cc
+
+pub number_of_count : (v : Data) (n : ℕ) → count_of v ≡ Some n → (v ≡ whole n) × (n ≤ 9007199254740991)
+number_of_count null n e = cc
+number_of_count (boolean b) n e = cc
+number_of_count (string s) n e = cc
+number_of_count (array ds) n e = cc
+number_of_count (object ms) n e = cc
+number_of_count (number (negative z)) n e = cc
+number_of_count (number (float x)) n e = cc
+number_of_count (number (unsigned m)) n e = go (nat_le m 9007199254740991) refl e
+  where
+    go : (b : Bool) → nat_le m 9007199254740991 ≡ b → cond b (Some m) None ≡ Some n → (whole m ≡ whole n) × (n ≤ 9007199254740991)
+    go true inside e =
+        let same : m ≡ n = cc in
+        (ap whole same, grind (arith, nat_tests))
     go false inside e = cc
 
 no_number : (v : Data) → ((n : ℕ) → v ≡ whole n → IsNumber n → ⊥) → ordinal v ≡ None
@@ -231,7 +264,7 @@ other_word w word other = go (bytes_eq w (word_text word)) refl
 unknown_word : (w : List ℕ) (d : Data) → ((word : Word) → w ≡ word_text word → ⊥) → body_by w d ≡ Err UnknownDo
 unknown_word w d other =
     let no : (word : Word) → bytes_eq w (word_text word) ≡ false = λ word. other_word w word (other word) in
-    rw (no words.Hello, no words.Undo, no words.Redo, no words.Undos, no words.Get, no words.Map, no words.Create, no words.Retag, no words.Move, no words.Reverse, no words.Nodes, no words.Members, no words.Delete, no words.Purge, no words.Split, no words.Join, no words.Merge, no words.Unglue, no words.Group) refl
+    rw (no words.Hello, no words.Undo, no words.Redo, no words.Undos, no words.Get, no words.Map, no words.Group, no words.Create, no words.Retag, no words.Move, no words.Reverse, no words.Nodes, no words.Members, no words.Delete, no words.Purge, no words.Split, no words.Join, no words.Merge, no words.Unglue) refl
 
 unknown_body : (d : Data) (o : Option Data) → ((word : Word) → o ≡ Some (string (word_text word)) → ⊥) → (or_fault UnknownDo (option_and_then as_str o) >>= λ w. body_by w d) ≡ Err UnknownDo
 unknown_body d None other = refl

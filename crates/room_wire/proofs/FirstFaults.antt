@@ -2,7 +2,7 @@
 use Rattle.std.proofs.Common.{◌≡◌, List, [], ◌∷◌, codes, true, false, Option, Some, None, Result, Ok, Err, refl, ◌∙◌, true≢false, sym}
 use Rattle.serde_json.specs.Data.{Data}
 use Rattle.serde_json.specs.Find.{get}
-use Rattle.room_wire.specs.Prelude.{Global, Name, Kind, Element, Action, Fault, BadField, Field, El, Els, Lat, Lon, Nodes, Members, Tags, Dlat, Dlon, At, Into, With, Seq, or_fault, action_by, move_at, split_at, unglue_at, name_at, place_at, distance_at, given_tags_at, el_at, els_at, element_at, lat_at, lon_at, members_at, nodes_at, seq_from, tags_at, tags_from, AreGood, IsFirstBad, Slot, element_slots, slot, slots, Word, is_action_word, word_text}
+use Rattle.room_wire.specs.Prelude.{Global, Name, Kind, Element, Action, Fault, BadField, Field, El, Els, Lat, Lon, Nodes, Members, Tags, Dlat, Dlon, At, Into, With, Seq, Since, or_fault, action_by, move_at, split_at, unglue_at, name_at, place_at, distance_at, given_tags_at, el_at, els_at, element_at, lat_at, lon_at, members_at, nodes_at, seq_from, since_from, tags_at, tags_from, AreGood, IsFirstBad, Slot, element_slots, slot, slots, Word, is_action_word, word_text}
 use Rattle.room_wire.specs.Reading.{◌>>=◌}
 use Rattle.osm_elements.specs.declared.name.Kind.TheVariants as kinds
 use Rattle.osm_elements.specs.declared.element.Element.TheVariants as elements
@@ -30,6 +30,10 @@ only_tags (Some d) = only_field Tags _
 pub only_seq : (o : Option Data) → Only Seq (seq_from o)
 only_seq None = tt
 only_seq (Some d) = only_field Seq _
+
+pub only_since : (o : Option Data) → Only Since (since_from o)
+only_since None = tt
+only_since (Some d) = only_field Since _
 
 -- a well-formed field is skipped
 passed_over : {B : Type 0} (field : Field) (r : Result B Fault) (later : List Slot) → Tells r later → Tells r ((field, true) ∷ later)

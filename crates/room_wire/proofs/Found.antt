@@ -50,6 +50,10 @@ pub ok_then : {X Y : Type 0} (Q : X → Type 0) (P : Y → Type 0) (r : Result X
 ok_then Q P (Ok x) f h g = g x h
 ok_then Q P (Err e) f h g = tt
 
+pub ok_if : {X : Type 0} (P : X → Type 0) (b : Bool) (r s : Result X Fault) → IfOk r P → IfOk s P → IfOk (cond b r s) P
+ok_if P true r s h g = h
+ok_if P false r s h g = g
+
 pub ok_any : {X Y : Type 0} (P : Y → Type 0) (r : Result X Fault) (f : X → Result Y Fault) → ((x : X) → IfOk (f x) P) → IfOk (r >>= f) P
 ok_any P (Ok x) f g = g x
 ok_any P (Err e) f g = tt

@@ -3,7 +3,7 @@ use Rattle.std.proofs.Common.{◌≡◌, ◌≢◌, ◌+◌, ℕ, List, Bool, tr
 use Rattle.serde_json.specs.Data.{Data, Items, no_items, item}
 use Rattle.serde_json.specs.Find.{get, as_str, as_object}
 use Rattle.serde_json.specs.Read.{read}
-use Rattle.room_wire.specs.Prelude.{field_text, Kind, Redo, Fault, Memory, NotJson, BadField, NotObject, BadId, UnknownDo, UnknownAction, BadActionField, Body, Change, Map, Undos, Field, El, Els, Lat, Lon, Nodes, Members, Tags, Dlat, Dlon, At, Into, With, Actions, Seq, or_fault, under, action_at, actions_at, actions_from, at_action, edit_by, group_at, with_position, spells, ordinal, word_at, message_of, by_id, incoming, id_at, body_at, body_by, action_by, create_at, retag_at, move_at, relist_way_at, relist_relation_at, split_at, join_at, merge_at, unglue_at, element_at, name_at, place_at, el_at, els_at, distance_at, lat_at, lon_at, nodes_at, members_at, tags_at, tags_from, given_tags_at, seq_at, seq_from, author_at, hello_at}
+use Rattle.room_wire.specs.Prelude.{field_text, Kind, Redo, Fault, Memory, NotJson, BadField, NotObject, BadId, UnknownDo, UnknownAction, BadActionField, Body, Change, Map, Undos, Field, El, Els, Lat, Lon, Nodes, Members, Tags, Dlat, Dlon, At, Into, With, Actions, Seq, Since, or_fault, under, action_at, actions_at, actions_from, at_action, change_by, edit_by, group_at, with_position, spells, is_edit_word, ordinal, word_at, message_of, by_id, incoming, id_at, body_at, body_by, action_by, create_at, retag_at, move_at, relist_way_at, relist_relation_at, split_at, join_at, merge_at, unglue_at, element_at, name_at, place_at, el_at, els_at, distance_at, lat_at, lon_at, nodes_at, members_at, tags_at, tags_from, given_tags_at, seq_at, seq_from, since_at, since_from, author_at, hello_at}
 use Rattle.room_wire.specs.Reading.{◌>>=◌}
 use Rattle.osm_elements.specs.declared.name.Kind.TheVariants as kinds
 use Rattle.room_wire.specs.declared.field.Field.TheVariants as fields
@@ -42,6 +42,10 @@ tags_are_fine (Some d) = fine_or (BadField Tags) _ (λ e. cc)
 seq_is_fine : (found : Option Data) → Fine (seq_from found)
 seq_is_fine None = fine_ok _
 seq_is_fine (Some d) = fine_or (BadField Seq) _ (λ e. cc)
+
+since_is_fine : (found : Option Data) → Fine (since_from found)
+since_is_fine None = fine_ok _
+since_is_fine (Some d) = fine_or (BadField Since) _ (λ e. cc)
 
 err_is_fine : {X : Type 0} (fault : Fault) (r : Result X Fault) → r ≡ Err fault → fault ≢ Memory → Fine r
 unfolding Fine
@@ -140,6 +144,9 @@ edit_is_fine word d =
     (fine_then (actions_at d) _ (fine_then (group_at d) _ (fine_or (BadField Actions) _ (λ e. cc)) (λ ds. actions_are_fine 0 ds)) (λ group. fine_ok _))
     (fine_then (action_by word d) _ (action_is_fine word d) (λ action. fine_ok _))
 
+change_is_fine : (word : List ℕ) (d : Data) → Fine (change_by word d)
+change_is_fine word d = fine_then (since_at d) _ (since_is_fine (get (field_text Since) d)) (λ since. fine_then (edit_by word d) _ (edit_is_fine word d) (λ edit. fine_ok _))
+
 author_is_fine : (field : Field) (d : Data) → Fine (author_at field d)
 author_is_fine field d = fine_or (BadField field) _ (λ e. cc)
 
@@ -154,7 +161,7 @@ body_is_fine word d =
     (fine_if (bytes_eq word (codes "undos")) _ _ (fine_ok Undos)
     (fine_if (bytes_eq word (codes "get")) _ _ (fine_then (el_at d) _ (el_is_fine d) (λ name. fine_ok _))
     (fine_if (bytes_eq word (codes "map")) _ _ (fine_ok Map)
-    (fine_then (edit_by word d) _ (edit_is_fine word d) (λ edit. fine_ok _)))))))
+    (fine_if (is_edit_word word) _ _ (change_is_fine word d) (err_is_fine UnknownDo _ refl (λ e. cc))))))))
 
 body_at_is_fine : (d : Data) → Fine (body_at d)
 body_at_is_fine d = fine_then (word_at d) (λ word. body_by word d) (fine_or UnknownDo (option_and_then as_str (get (codes "do") d)) (λ e. cc)) (λ word. body_is_fine word d)

@@ -1,15 +1,14 @@
 -- Written news and welcomes are read back as the same values.
-use Rattle.std.proofs.Common.{◌≡◌, ◌≤◌, ℤ, suc, ℕ, List, [], ◌∷◌, map, true, false, cond, Option, Some, None, Result, Ok, All, IfSome, nat_le, codes, refl, ap, ◌∙◌, arith, option_and_then}
-use Rattle.std.proofs.lemmas.Bool.Decides.{nat_tests}
+use Rattle.std.proofs.Common.{◌≡◌, ℤ, suc, ℕ, List, [], ◌∷◌, map, true, false, cond, Option, Some, None, Result, Ok, All, IfSome, codes, refl, ap, ◌∙◌, arith, option_and_then}
 use Rattle.std.proofs.lemmas.List.{map-id}
 use Rattle.serde_json.specs.Data.{Data, Items, object, no_members, member}
 use Rattle.serde_json.specs.Read.{read}
 use Rattle.serde_json.specs.View.{items_of}
-use Rattle.room_wire.specs.Prelude.{Global, result_ok, latitude_of, IsLatitude, longitude_of, IsLongitude, written, Name, Element, Node, Way, Relation, Row, name_of_text, Rows, names_of, are_rising, row_pair, News, NewsRow, Fault, BadField, Field, Welcome, row_at, rows_at, rows_in, rising, is_gone, news_read, news_row_at, news_tree, number_at, row_tree, spells_news, told_tree, without_id, AreNews, IsMapRow, IsNewsRow, IsUnder, IsWelcome, HasId, or_fault, under, author_at, by_id, el_at, element_at, items_in, element_tree, rows_tree, whole, count_at, count_of, map_at, spells_welcome, welcome, welcome_of, welcome_tree}
+use Rattle.room_wire.specs.Prelude.{Global, result_ok, latitude_of, IsLatitude, longitude_of, IsLongitude, written, Name, Element, Node, Way, Relation, Row, name_of_text, Rows, names_of, are_rising, row_pair, News, NewsRow, Fault, BadField, Field, Welcome, row_at, rows_at, rows_in, rising, is_gone, news_read, news_row_at, news_tree, number_at, row_tree, spells_news, told_tree, without_id, AreNews, IsMapRow, IsNewsRow, IsUnder, IsWelcome, HasId, or_fault, under, author_at, by_id, el_at, element_at, items_in, element_tree, rows_tree, whole, count_at, map_at, spells_welcome, welcome, welcome_of, welcome_tree}
 use Rattle.room_wire.specs.Reading.{◌>>=◌}
 use Rattle.room_wire.proofs.ElementBack.{el_back, element_back}
 use Rattle.room_wire.proofs.ReadBackProofs.{three, two}
-use Rattle.room_wire.proofs.WellFormedProofs.{id_read, number_read}
+use Rattle.room_wire.proofs.WellFormedProofs.{count_read, id_read, number_read}
 use Rattle.room_wire.specs.declared.field.Field.TheVariants as fields
 use Rattle.room_wire.specs.News as news
 use Rattle.room_wire.specs.Welcomes as welcomes
@@ -48,11 +47,6 @@ not_gone : (name : Name) (element : Element Global) → is_gone (element_tree na
 not_gone name (Node lat lon tags) = refl
 not_gone name (Way nodes tags) = refl
 not_gone name (Relation members tags) = refl
-
-count_read : (n : ℕ) → n ≤ 9007199254740991 → count_of (whole n) ≡ Some n
-count_read n h =
-    let inside : nat_le n 9007199254740991 ≡ true = grind (arith, nat_tests) in
-    rw inside refl
 
 module _ (latitude_back : (z : ℤ) → IsLatitude z → latitude_of (written z) ≡ Some z) (longitude_back : (z : ℤ) → IsLongitude z → longitude_of (written z) ≡ Some z) where
   row_back : (name : Name) (element : Element Global) → HasId name → IsUnder name element → row_at (element_tree name element) ≡ Ok (record { name = name; element = element })

@@ -73,6 +73,7 @@ outcome_is_shallow id replies.NotStanding = omega arith
 outcome_is_shallow id (replies.Conflict blocker shared) = omega arith
 outcome_is_shallow id replies.NothingToRedo = omega arith
 outcome_is_shallow id (replies.Refused refusal) = let p = positioned_is_flat refusal.action refusal.why in omega arith
+outcome_is_shallow id (replies.Changed with name) = omega arith
 outcome_is_shallow id replies.Memory = omega arith
 
 fault_is_shallow : (id : ℕ) (fault : Fault) → depth (fault_tree id fault) ≤ 127

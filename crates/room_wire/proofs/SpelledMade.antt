@@ -56,8 +56,8 @@ actions_made no_items (a ∷ more) asks = absurd asks
 actions_made (item d ds) [] asks = absurd asks
 
 asked_made : (d : Data) (body : Body) → Asks d body → is_made_body body ≡ true
-asked_made d (bodies.Change (requests.Do (One action))) asks = action_made d action asks
-asked_made d (bodies.Change (requests.Do (Group group))) (word, has) = actions_made has.0 group has.3
+asked_made d (bodies.Change (requests.Do (One action) since)) (seen, asks) = action_made d action asks
+asked_made d (bodies.Change (requests.Do (Group group) since)) (seen, word, has) = actions_made has.0 group has.3
 asked_made d (bodies.Change (requests.Undo seq)) asks = refl
 asked_made d (bodies.Change requests.Redo) asks = refl
 asked_made d (bodies.Get name) asks = refl

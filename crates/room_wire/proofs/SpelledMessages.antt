@@ -7,10 +7,10 @@ use Rattle.serde_json.specs.Events.{items_len}
 use Rattle.serde_json.specs.Find.{get, as_array, as_i64, as_number, as_object, as_str, as_u64}
 use Rattle.serde_json.specs.Read.{read}
 use Rattle.serde_json.specs.View.{items_of}
-use Rattle.room_wire.specs.Prelude.{Global, latitude_of, longitude_of, Name, Kind, kind_of, name_of, AreTagRows, is_long, is_none_or, AreGiven, Action, Edit, is_group_length, author_of, is_author, Fault, BadField, BadId, NotObject, UnknownDo, Field, El, Els, Lat, Lon, Nodes, Members, Tags, Dlat, Dlon, At, Into, With, Actions, Seq, Incoming, Body, field_text, HasId, or_fault, under, action_at, actions_at, action_by, actions_from, are_objects, edit_by, group_at, group_of, with_position, word_at, author_at, body_at, body_by, by_id, distance_at, el_at, element_at, els_at, given_tags_at, given_tags_of, given_of, id_at, incoming, items_in, lat_at, lon_at, member_of, members_at, message_of, name_at, name_item, node_of, nodes_at, ordinal, place_at, place_of, seq_at, seq_from, spells, tags_at, tags_from, tags_of, text_at, value_of, id_tree, member_tree, name_tree, tags_tree, whole, Asks, AskActions, AsksAction, HasGroup, Has, HasAuthor, HasDistance, HasElement, HasGivenTags, HasMembers, HasName, HasNameAt, HasNames, HasNodes, HasPlace, HasSeq, HasTags, HasText, HasWord, IsMessage, MessageId, given_tree, given_tags_tree, Word, word_text}
+use Rattle.room_wire.specs.Prelude.{Global, latitude_of, longitude_of, Name, Kind, kind_of, name_of, AreTagRows, is_long, is_none_or, AreGiven, Action, Edit, is_group_length, author_of, is_author, Fault, BadField, BadId, NotObject, UnknownDo, Field, El, Els, Lat, Lon, Nodes, Members, Tags, Dlat, Dlon, At, Into, With, Actions, Seq, Since, Incoming, Body, field_text, HasId, or_fault, under, action_at, actions_at, action_by, actions_from, are_objects, edit_by, group_at, group_of, with_position, word_at, author_at, body_at, body_by, by_id, change_by, count_of, distance_at, el_at, element_at, els_at, given_tags_at, given_tags_of, given_of, id_at, incoming, is_edit_word, items_in, lat_at, lon_at, member_of, members_at, message_of, name_at, name_item, node_of, nodes_at, ordinal, place_at, place_of, seq_at, seq_from, since_at, since_from, spells, tags_at, tags_from, tags_of, text_at, value_of, id_tree, member_tree, name_tree, tags_tree, whole, Asks, AskActions, AsksAction, HasGroup, Has, HasAuthor, HasDistance, HasElement, HasGivenTags, HasMembers, HasName, HasNameAt, HasNames, HasNodes, HasPlace, HasSeq, HasSince, HasTags, HasText, HasWord, IsMessage, MessageId, given_tree, given_tags_tree, Word, word_text}
 use Rattle.room_wire.specs.Reading.{◌>>=◌}
-use Rattle.room_wire.proofs.FaultProofs.{number_of_ordinal}
-use Rattle.room_wire.proofs.Found.{if_found, if_map, if_more, if_passes, if_then, ok_more, ok_or, ok_then, told_so}
+use Rattle.room_wire.proofs.FaultProofs.{number_of_count, number_of_ordinal}
+use Rattle.room_wire.proofs.Found.{if_found, if_map, if_more, if_passes, if_then, ok_if, ok_more, ok_or, ok_then, told_so}
 use Rattle.room_wire.proofs.TreesInOrder.{AreInOrder, IsInOrder, get_in_order, read_in_order}
 use Rattle.room_wire.proofs.SpelledForms.{IsInteger, IsNamed, IsNode, IsShort, IsSorted, array_found, given_found, integer_found, items_found, member_found, name_found, name_item_found, node_found, object_found, object_read, roles_are_short, string_found, value_found, whole_found}
 use Rattle.osm_elements.specs.declared.name.Kind.TheVariants as kinds
@@ -54,6 +54,14 @@ seq_has d = by (get (field_text Seq) d) refl
     by None e = e
     by (Some v) e = ok_or (HasSeq d) (BadField Seq) (option_map Some (ordinal v)) (if_map (HasSeq d) Some (ordinal v)
         (if_found (λ n. HasSeq d (Some n)) (ordinal v) (λ n is. let number = number_of_ordinal v n is in (e ∙ ap Some number.0, number.1))))
+
+since_has : (d : Data) → IfOk (since_at d) (HasSince d)
+since_has d = by (get (field_text Since) d) refl
+  where
+    by : (o : Option Data) → get (field_text Since) d ≡ o → IfOk (since_from o) (HasSince d)
+    by None e = e
+    by (Some v) e = ok_or (HasSince d) (BadField Since) (option_map Some (count_of v)) (if_map (HasSince d) Some (count_of v)
+        (if_found (λ n. HasSince d (Some n)) (count_of v) (λ n is. let count = number_of_count v n is in (e ∙ ap Some count.0, count.1))))
 
 module _ (d : Data) (h : IsInOrder d) where
   at_field : (field : Field) → IfSome (get (field_text field) d) IsInOrder
@@ -216,12 +224,17 @@ group_has d h =
 
 module _ (d : Data) (h : IsInOrder d) where
   module _ (text : List ℕ) (has : get (codes "do") d ≡ Some (string text)) where
-    edit_has : IfOk (edit_by text d) (λ edit. Asks d (bodies.Change (requests.Do edit)))
-    edit_has =
-        let P : Edit Global → Type 0 = λ edit. Asks d (bodies.Change (requests.Do edit)) in
+    edit_has : (since : Option ℕ) → HasSince d since → IfOk (edit_by text d) (λ edit. Asks d (bodies.Change (requests.Do edit since)))
+    edit_has since seen =
+        let P : Edit Global → Type 0 = λ edit. Asks d (bodies.Change (requests.Do edit since)) in
         ok_word d h P text words.Group _ _
-        (λ e. ok_then (HasGroup d) P (actions_at d) _ (group_has d h) (λ group is. (by_word d h text has words.Group e, is)))
-        (ok_then (AsksAction d) P (action_by text d) _ (action_has d h text has) (λ action asks. asks))
+        (λ e. ok_then (HasGroup d) P (actions_at d) _ (group_has d h) (λ group is. (seen, by_word d h text has words.Group e, is)))
+        (ok_then (AsksAction d) P (action_by text d) _ (action_has d h text has) (λ action asks. (seen, asks)))
+
+    change_has : IfOk (change_by text d) (Asks d)
+    change_has =
+        ok_then (HasSince d) (Asks d) (since_at d) _ (since_has d) (λ since seen.
+        ok_then (λ edit. Asks d (bodies.Change (requests.Do edit since))) (Asks d) (edit_by text d) _ (edit_has since seen) (λ edit asks. asks))
 
     body_has : IfOk (body_by text d) (Asks d)
     body_has =
@@ -232,7 +245,7 @@ module _ (d : Data) (h : IsInOrder d) where
         (ok_word d h (Asks d) text words.Undos _ _ (λ e. by_word d h text has words.Undos e)
         (ok_word d h (Asks d) text words.Get _ _ (λ e. ok_then (HasName d) (Asks d) (el_at d) _ (name_has d El) (λ name named. (by_word d h text has words.Get e, named)))
         (ok_word d h (Asks d) text words.Map _ _ (λ e. by_word d h text has words.Map e)
-        (ok_then (λ edit. Asks d (bodies.Change (requests.Do edit))) (Asks d) (edit_by text d) _ edit_has (λ edit asks. asks)))))))
+        (ok_if (Asks d) (is_edit_word text) (change_by text d) (Err UnknownDo) change_has tt))))))
 
   body_at_has : IfOk (body_at d) (Asks d)
   body_at_has = ok_then (λ text. get (codes "do") d ≡ Some (string text)) (Asks d) (word_at d) _ (word_has d h) body_has

@@ -1,11 +1,11 @@
 -- Every well-formed message spells itself.
-use Rattle.std.proofs.Common.{◌≡◌, ◌&&◌, ◌+◌, ℕ, ℤ, suc, List, [], ◌∷◌, length, codes, true, cond, Option, Some, None, Result, Ok, is_some, nat_le, refl, ◌∙◌, inl, inr, sym, ap, arith, option_map, option_and_then}
+use Rattle.std.proofs.Common.{◌≡◌, ◌≤◌, ◌&&◌, ◌+◌, ℕ, ℤ, suc, List, [], ◌∷◌, length, codes, true, cond, Option, Some, None, Result, Ok, is_some, nat_le, refl, ◌∙◌, inl, inr, sym, ap, arith, option_map, option_and_then}
 use Rattle.std.proofs.lemmas.Bool.Decides.{nat_tests}
 use Rattle.serde_json.specs.Data.{Data, Items, no_items, item, null, boolean, number, string, array, object}
 use Rattle.serde_json.specs.Events.{items_len}
 use Rattle.serde_json.specs.Find.{get, as_array, as_i64, as_number, as_object, as_str}
 use Rattle.serde_json.specs.Read.{read}
-use Rattle.room_wire.specs.Prelude.{Global, latitude_of, longitude_of, Name, Element, kind_of, name_of_text, name_of, Pairs, GivenTags, Action, One, Group, is_group_length, Author, author_of, Fault, BadField, UnknownDo, Field, El, Els, Lat, Lon, Nodes, Members, Tags, Dlat, Dlon, At, Into, With, Actions, Seq, Incoming, Body, field_text, or_fault, under, action_at, action_by, actions_from, are_objects, group_of, author_at, body_at, body_by, create_at, distance_at, el_at, element_at, els_at, given_tags_at, given_tags_of, id_at, lat_at, lon_at, name_at, place_at, place_of, names_in, by_id, incoming, message_of, members_at, members_in, nodes_at, nodes_in, ordinal, seq_at, seq_from, spells, tags_at, tags_from, text_at, whole, Asks, AskActions, AsksAction, Has, HasAuthor, HasDistance, HasElement, HasGivenTags, HasMembers, HasName, HasNameAt, HasNames, HasNodes, HasPlace, HasSeq, HasTags, HasText, HasWord, IsMessage, IsNumber, MessageId, Word, word_text}
+use Rattle.room_wire.specs.Prelude.{Global, latitude_of, longitude_of, Name, Element, kind_of, name_of_text, name_of, Pairs, GivenTags, Action, One, Group, is_group_length, Author, author_of, Fault, BadField, UnknownDo, Field, El, Els, Lat, Lon, Nodes, Members, Tags, Dlat, Dlon, At, Into, With, Actions, Seq, Since, Incoming, Body, field_text, or_fault, under, action_at, action_by, actions_from, are_objects, group_at, group_of, author_at, body_at, body_by, count_of, create_at, distance_at, el_at, element_at, els_at, given_tags_at, given_tags_of, id_at, lat_at, lon_at, name_at, place_at, place_of, names_in, by_id, incoming, message_of, members_at, members_in, nodes_at, nodes_in, ordinal, seq_at, seq_from, since_at, since_from, spells, tags_at, tags_from, text_at, whole, Asks, AskActions, AsksAction, Has, HasAuthor, HasDistance, HasElement, HasGivenTags, HasMembers, HasName, HasNameAt, HasNames, HasNodes, HasPlace, HasSeq, HasSince, HasTags, HasText, HasWord, IsMessage, IsNumber, MessageId, Word, word_text}
 use Rattle.room_wire.specs.Reading.{◌>>=◌}
 use Rattle.room_wire.proofs.ReadBackProofs.{as_i64-of_integer, given_tags_of-given_tag_members, members_in-trees, names_in-trees, nodes_in-ids, tags_of-tag_members, three, two}
 use Rattle.osm_elements.specs.declared.element.Element.TheVariants as elements
@@ -20,6 +20,11 @@ number_read n h =
     let low = h.0 in
     let high = h.1 in
     let inside : (nat_le 1 n && nat_le n 9007199254740991) ≡ true = grind (arith, nat_tests) in
+    rw inside refl
+
+pub count_read : (n : ℕ) → n ≤ 9007199254740991 → count_of (whole n) ≡ Some n
+count_read n h =
+    let inside : nat_le n 9007199254740991 ≡ true = grind (arith, nat_tests) in
     rw inside refl
 
 is_object : (d : Data) (k : List ℕ) (v : Data) → get k d ≡ Some v → is_some (as_object d) ≡ true
@@ -66,6 +71,10 @@ seq_read : (d : Data) (seq : Option ℕ) → HasSeq d seq → seq_at d ≡ Ok se
 seq_read d None h = ap seq_from h
 seq_read d (Some n) h = ap seq_from h.0 ∙ ap (λ o. or_fault (BadField Seq) (option_map Some o)) (number_read n h.1)
 
+since_read : (d : Data) (since : Option ℕ) → HasSince d since → since_at d ≡ Ok since
+since_read d None h = ap since_from h
+since_read d (Some n) h = ap since_from h.0 ∙ ap (λ o. or_fault (BadField Since) (option_map Some o)) (count_read n h.1)
+
 -- reading an array or an object
 array_read : {X : Type 0} (d : Data) (field : Field) (reading : Items → Option X) (items : Items) (x : X) → Has d field (array items) → reading items ≡ Some x
     → or_fault (BadField field) (option_and_then reading (option_and_then as_array (get (field_text field) d))) ≡ Ok x
@@ -99,13 +108,13 @@ element_read d (elements.Relation members tags) h =
 pub created : (d : Data) (name : Name) (element : Element Global) → el_at d ≡ Ok name → element_at name.kind d ≡ Ok element → create_at d ≡ Ok (actions.Create name element)
 created d name element h g = rw (h, g) refl
 
--- the action of a message as one edit
-abbrev doing : Result (Action Global) Fault → Result Body Fault
-doing r = (r >>= λ action. Ok (One action)) >>= λ edit. Ok (bodies.Change (requests.Do edit))
+-- the action of a message as one edit, after what its author had seen
+abbrev pub doing : Result (Option ℕ) Fault → Result (Action Global) Fault → Result Body Fault
+doing s r = s >>= λ since. (r >>= λ action. Ok (One action)) >>= λ edit. Ok (bodies.Change (requests.Do edit since))
 
 -- a message has a word, under which it is read as this action
 abbrev IsRead : Data → Action Global → Type 0
-IsRead d action = (word : Word) × HasWord d word × (action_by (word_text word) d ≡ Ok action) × (body_by (word_text word) d ≡ doing (action_by (word_text word) d))
+IsRead d action = (word : Word) × HasWord d word × (action_by (word_text word) d ≡ Ok action) × (body_by (word_text word) d ≡ doing (since_at d) (action_by (word_text word) d))
 
 action_asked : (d : Data) (action : Action Global) → AsksAction d action → IsRead d action
 action_asked d (actions.Create name element) (word, named, has, kind) =
@@ -172,15 +181,19 @@ as_many (item d ds) [] asks = absurd asks
 group_read : (ds : Items) (group : List (Action Global)) → is_group_length (length group) ≡ true → AskActions ds group → group_of ds ≡ Some ds
 group_read ds group count asks = rw (as_many ds group asks, count, objects_read ds group asks) refl
 
-abbrev grouped : Result Items Fault → Result Body Fault
-grouped r = ((r >>= λ ds. actions_from 0 ds) >>= λ group. Ok (Group group)) >>= λ edit. Ok (bodies.Change (requests.Do edit))
+-- the actions of a message as a group, after what its author had seen
+abbrev pub grouped : Result (Option ℕ) Fault → Result Items Fault → Result Body Fault
+grouped s r = s >>= λ since. ((r >>= λ ds. actions_from 0 ds) >>= λ group. Ok (Group group)) >>= λ edit. Ok (bodies.Change (requests.Do edit since))
 
 asked : (d : Data) (body : Body) → Asks d body → body_at d ≡ Ok body
-asked d (bodies.Change (requests.Do (One action))) asks = let r = action_asked d action asks in word_read d r.0 r.1 ∙ r.3 ∙ ap doing r.2
-asked d (bodies.Change (requests.Do (Group group))) (word, has) =
+asked d (bodies.Change (requests.Do (One action) since)) (seen, asks) =
+    let r = action_asked d action asks in
+    word_read d r.0 r.1 ∙ r.3 ∙ ap (λ s. doing s (action_by (word_text r.0) d)) (since_read d since seen) ∙ ap (doing (Ok since)) r.2
+asked d (bodies.Change (requests.Do (Group group) since)) (seen, word, has) =
     let ds = has.0 in
-    word_read d words.Group word ∙ ap grouped (array_read d Actions group_of ds ds has.1 (group_read ds group has.2 has.3))
-    ∙ ap (λ r. (r >>= λ group. Ok (Group group)) >>= λ edit. Ok (bodies.Change (requests.Do edit))) (actions_read 0 ds group has.3)
+    word_read d words.Group word ∙ ap (λ s. grouped s (group_at d)) (since_read d since seen)
+    ∙ ap (grouped (Ok since)) (array_read d Actions group_of ds ds has.1 (group_read ds group has.2 has.3))
+    ∙ ap (λ r. (r >>= λ group. Ok (Group group)) >>= λ edit. Ok (bodies.Change (requests.Do edit since))) (actions_read 0 ds group has.3)
 asked d (bodies.Change (requests.Undo seq)) (word, has) =
     word_read d words.Undo word ∙ ap (λ r. r >>= λ seq. Ok (bodies.Change (requests.Undo seq))) (seq_read d seq has)
 asked d (bodies.Change requests.Redo) word = word_read d words.Redo word

@@ -6,12 +6,13 @@ use Rattle.room_interface.specs.Prelude.{Global, named}
 use Rattle.osm_elements.specs.declared.name.Name.{Name}
 use Rattle.osm_elements.specs.declared.element.Element.{Element}
 use Rattle.osm_elements.specs.declared.element.Element.TheVariants.{Node, Way, Relation}
+use Rattle.room_interface.specs.declared.edit.Edit.{Edit}
 use Rattle.room_interface.specs.declared.edit.Edit.TheVariants.{One, Group}
 use Rattle.room_interface.specs.declared.refusal.Refusal.{Refusal}
 use Rattle.room_interface.specs.declared.action.Action.TheVariants.{Create, Delete}
 use Rattle.room_interface.specs.declared.call.Request.TheVariants.{Do, Undo, Redo}
 use Rattle.room_interface.specs.declared.reply.Reply.{Reply}
-use Rattle.room_wire.specs.declared.field.Field.TheVariants.{El, Els, Lat, Nodes, Members, Tags, Dlat, Dlon, At, Into, With, Actions, Seq}
+use Rattle.room_wire.specs.declared.field.Field.TheVariants.{El, Els, Lat, Nodes, Members, Tags, Dlat, Dlon, At, Into, With, Actions, Seq, Since}
 use Rattle.room_wire.specs.declared.bad.Bad.{Bad}
 use Rattle.room_wire.specs.declared.bad.Fault.{Fault}
 use Rattle.room_wire.specs.declared.bad.Fault.TheVariants.{NotJson, NotObject, BadId, UnknownDo, UnknownAction, BadField, BadActionField}
@@ -50,32 +51,40 @@ w9 = named kinds.Way (pos 9) tt
 abbrev pub asks : ℕ → Body → Result Incoming Bad
 asks id body = Ok (record { id = id; body = body })
 
+-- an edit whose author does not say what it had seen
+abbrev pub does : Edit Global → Body
+does edit = Change (Do edit None)
+
 abbrev pub fails : ℕ → Fault → Result Incoming Bad
 fails id fault = Err (record { id = id; fault = fault })
 
 -- one message of each word; some have needless spaces and members, or a repeated key, whose last value counts
 unfoldable pub reads_messages : Type 0
 reads_messages =
-    (spells (codes "{\"id\":1,\"do\":\"create\",\"el\":\"n-1\",\"lat\":\"51.5\",\"lon\":\"-0.1\",\"tags\":{}}") ≡ asks 1 (Change (Do (One (Create n-1 greenwich)))))
+    (spells (codes "{\"id\":1,\"do\":\"create\",\"el\":\"n-1\",\"lat\":\"51.5\",\"lon\":\"-0.1\",\"tags\":{}}") ≡ asks 1 (does (One (Create n-1 greenwich))))
     × (spells (codes "{\"tags\": {\"b\": \"2\", \"a\": \"1\"}, \"nodes\": [-1, 7, -1], \"el\": \"w1\", \"x\": [null], \"do\": \"create\", \"id\": 2}")
-    ≡ asks 2 (Change (Do (One (Create w1 (Way (n-1 ∷ n7 ∷ n-1 ∷ []) ((codes "a", codes "1") ∷ (codes "b", codes "2") ∷ [])))))))
+    ≡ asks 2 (does (One (Create w1 (Way (n-1 ∷ n7 ∷ n-1 ∷ []) ((codes "a", codes "1") ∷ (codes "b", codes "2") ∷ []))))))
     × (spells (codes "{\"id\":2,\"do\":\"create\",\"el\":\"r-2\",\"members\":[[\"w1\",\"outer\"],[\"r-2\",\"\"],[\"w1\",\"outer\"]]}")
-    ≡ asks 2 (Change (Do (One (Create r-2 (Relation ((w1, codes "outer") ∷ (r-2, []) ∷ (w1, codes "outer") ∷ []) []))))))
-    × (spells (codes "{\"id\":2,\"do\":\"retag\",\"el\":\"r-2\",\"tags\":{\"b\":\"\",\"a\":null}}") ≡ asks 2 (Change (Do (One (actions.Retag r-2 ((codes "a", None) ∷ (codes "b", Some []) ∷ []))))))
-    × (spells (codes "{\"id\":2,\"do\":\"move\",\"els\":[\"w1\",\"n7\",\"w1\"],\"dlat\":-1,\"dlon\":9223372036854775807}") ≡ asks 2 (Change (Do (One (actions.Move (w1 ∷ n7 ∷ w1 ∷ []) (negsuc 0) (pos 9223372036854775807))))))
-    × (spells (codes "{\"id\":2,\"do\":\"move\",\"els\":[],\"dlat\":-9223372036854775808,\"dlon\":0}") ≡ asks 2 (Change (Do (One (actions.Move [] (negsuc 9223372036854775807) (pos 0))))))
-    × (spells (codes "{\"id\":2,\"do\":\"reverse\",\"el\":\"n7\"}") ≡ asks 2 (Change (Do (One (actions.Reverse n7)))))
-    × (spells (codes "{\"id\":2,\"do\":\"nodes\",\"el\":\"w1\",\"nodes\":[7,-1,7]}") ≡ asks 2 (Change (Do (One (actions.Nodes w1 (n7 ∷ n-1 ∷ n7 ∷ []))))))
-    × (spells (codes "{\"id\":2,\"do\":\"members\",\"el\":\"r-2\",\"members\":[[\"n7\",\"\"],[\"w1\",\"outer\"]]}") ≡ asks 2 (Change (Do (One (actions.Members r-2 ((n7, []) ∷ (w1, codes "outer") ∷ []))))))
-    × (spells (codes "{\"id\":0,\"do\":\"delete\",\"el\":\"w1\",\"id\":3}") ≡ asks 3 (Change (Do (One (Delete w1)))))
-    × (spells (codes "{\"id\":2,\"do\":\"purge\",\"el\":\"r-2\"}") ≡ asks 2 (Change (Do (One (actions.Purge r-2)))))
-    × (spells (codes "{\"id\":2,\"do\":\"split\",\"el\":\"w1\",\"at\":0,\"into\":\"w9\"}") ≡ asks 2 (Change (Do (One (actions.Split w1 0 w9)))))
-    × (spells (codes "{\"id\":2,\"do\":\"split\",\"el\":\"n7\",\"at\":4294967295,\"into\":\"n7\"}") ≡ asks 2 (Change (Do (One (actions.Split n7 4294967295 n7)))))
-    × (spells (codes "{\"id\":2,\"do\":\"join\",\"el\":\"w1\",\"with\":\"w9\"}") ≡ asks 2 (Change (Do (One (actions.Join w1 w9)))))
-    × (spells (codes "{\"id\":2,\"do\":\"merge\",\"el\":\"n7\",\"with\":\"n-1\"}") ≡ asks 2 (Change (Do (One (actions.Merge n7 n-1)))))
-    × (spells (codes "{\"id\":2,\"do\":\"unglue\",\"el\":\"w1\",\"at\":0,\"into\":\"n7\"}") ≡ asks 2 (Change (Do (One (actions.Unglue w1 0 n7)))))
+    ≡ asks 2 (does (One (Create r-2 (Relation ((w1, codes "outer") ∷ (r-2, []) ∷ (w1, codes "outer") ∷ []) [])))))
+    × (spells (codes "{\"id\":2,\"do\":\"retag\",\"el\":\"r-2\",\"tags\":{\"b\":\"\",\"a\":null}}") ≡ asks 2 (does (One (actions.Retag r-2 ((codes "a", None) ∷ (codes "b", Some []) ∷ [])))))
+    × (spells (codes "{\"id\":2,\"do\":\"move\",\"els\":[\"w1\",\"n7\",\"w1\"],\"dlat\":-1,\"dlon\":9223372036854775807}") ≡ asks 2 (does (One (actions.Move (w1 ∷ n7 ∷ w1 ∷ []) (negsuc 0) (pos 9223372036854775807)))))
+    × (spells (codes "{\"id\":2,\"do\":\"move\",\"els\":[],\"dlat\":-9223372036854775808,\"dlon\":0}") ≡ asks 2 (does (One (actions.Move [] (negsuc 9223372036854775807) (pos 0)))))
+    × (spells (codes "{\"id\":2,\"do\":\"reverse\",\"el\":\"n7\"}") ≡ asks 2 (does (One (actions.Reverse n7))))
+    × (spells (codes "{\"id\":2,\"do\":\"nodes\",\"el\":\"w1\",\"nodes\":[7,-1,7]}") ≡ asks 2 (does (One (actions.Nodes w1 (n7 ∷ n-1 ∷ n7 ∷ [])))))
+    × (spells (codes "{\"id\":2,\"do\":\"members\",\"el\":\"r-2\",\"members\":[[\"n7\",\"\"],[\"w1\",\"outer\"]]}") ≡ asks 2 (does (One (actions.Members r-2 ((n7, []) ∷ (w1, codes "outer") ∷ [])))))
+    × (spells (codes "{\"id\":0,\"do\":\"delete\",\"el\":\"w1\",\"id\":3}") ≡ asks 3 (does (One (Delete w1))))
+    × (spells (codes "{\"id\":2,\"do\":\"purge\",\"el\":\"r-2\"}") ≡ asks 2 (does (One (actions.Purge r-2))))
+    × (spells (codes "{\"id\":2,\"do\":\"split\",\"el\":\"w1\",\"at\":0,\"into\":\"w9\"}") ≡ asks 2 (does (One (actions.Split w1 0 w9))))
+    × (spells (codes "{\"id\":2,\"do\":\"split\",\"el\":\"n7\",\"at\":4294967295,\"into\":\"n7\"}") ≡ asks 2 (does (One (actions.Split n7 4294967295 n7))))
+    × (spells (codes "{\"id\":2,\"do\":\"join\",\"el\":\"w1\",\"with\":\"w9\"}") ≡ asks 2 (does (One (actions.Join w1 w9))))
+    × (spells (codes "{\"id\":2,\"do\":\"merge\",\"el\":\"n7\",\"with\":\"n-1\"}") ≡ asks 2 (does (One (actions.Merge n7 n-1))))
+    × (spells (codes "{\"id\":2,\"do\":\"unglue\",\"el\":\"w1\",\"at\":0,\"into\":\"n7\"}") ≡ asks 2 (does (One (actions.Unglue w1 0 n7))))
     × (spells (codes "{\"id\":7,\"do\":\"group\",\"actions\":[{\"do\":\"create\",\"el\":\"n-1\",\"lat\":\"51.5\",\"lon\":\"-0.1\"},{\"id\":3,\"do\":\"delete\",\"el\":\"w1\"}]}")
-    ≡ asks 7 (Change (Do (Group (Create n-1 greenwich ∷ Delete w1 ∷ [])))))
+    ≡ asks 7 (does (Group (Create n-1 greenwich ∷ Delete w1 ∷ []))))
+    × (spells (codes "{\"id\":2,\"do\":\"delete\",\"el\":\"w1\",\"since\":0}") ≡ asks 2 (Change (Do (One (Delete w1)) (Some 0))))
+    × (spells (codes "{\"id\":7,\"do\":\"group\",\"since\":9007199254740991,\"actions\":[{\"do\":\"delete\",\"el\":\"w1\",\"since\":-1}]}")
+    ≡ asks 7 (Change (Do (Group (Delete w1 ∷ [])) (Some 9007199254740991))))
+    × (spells (codes "{\"id\":4,\"do\":\"undo\",\"since\":-1}") ≡ asks 4 (Change (Undo None)))
     × (spells (codes "{\"id\":4,\"do\":\"undo\",\"seq\":9}") ≡ asks 4 (Change (Undo (Some 9))))
     × (spells (codes "{\"id\":5,\"do\":\"undo\"}") ≡ asks 5 (Change (Undo None)))
     × (spells (codes "{\"seq\":null,\"do\":\"redo\",\"id\":5}") ≡ asks 5 (Change Redo))
@@ -103,6 +112,12 @@ unfoldable pub tells_an_id : Type 0
 tells_an_id =
     (spells (codes "{\"id\":1}") ≡ fails 1 UnknownDo)
     × (spells (codes "{\"id\":1,\"do\":\"dance\",\"el\":1}") ≡ fails 1 UnknownDo)
+    × (spells (codes "{\"id\":1,\"do\":\"dance\",\"since\":-1}") ≡ fails 1 UnknownDo)
+    × (spells (codes "{\"id\":1,\"do\":\"delete\",\"el\":7,\"since\":-1}") ≡ fails 1 (BadField Since))
+    × (spells (codes "{\"id\":1,\"do\":\"group\",\"since\":9007199254740992}") ≡ fails 1 (BadField Since))
+    × (spells (codes "{\"id\":1,\"do\":\"delete\",\"el\":\"w1\",\"since\":null}") ≡ fails 1 (BadField Since))
+    × (spells (codes "{\"id\":1,\"do\":\"delete\",\"el\":\"w1\",\"since\":1.0}") ≡ fails 1 (BadField Since))
+    × (spells (codes "{\"id\":1,\"do\":\"delete\",\"el\":7,\"since\":0}") ≡ fails 1 (BadField El))
     × (spells (codes "{\"id\":1,\"do\":\"get\",\"el\":\"n05\"}") ≡ fails 1 (BadField El))
     × (spells (codes "{\"id\":1,\"do\":\"create\",\"el\":\"r-2\",\"tags\":1}") ≡ fails 1 (BadField Members))
     × (spells (codes "{\"id\":1,\"do\":\"create\",\"el\":\"r-2\",\"members\":null,\"tags\":1}") ≡ fails 1 (BadField Members))
@@ -173,6 +188,7 @@ writes_replies =
     × (compact_text (refusal_of 1 None refusals.Nothing) ≡ codes "{\"id\":1,\"no\":{\"why\":\"nothing\"}}")
     × (compact_text (outcome_of 1 (replies.Repeat 1)) ≡ codes "{\"id\":1,\"no\":{\"seq\":1,\"why\":\"repeat\"}}")
     × (compact_text (outcome_of 2 (replies.Conflict 2 n-1)) ≡ codes "{\"id\":2,\"no\":{\"at\":\"n-1\",\"why\":\"conflict\",\"with\":2}}")
+    × (compact_text (outcome_of 1 (replies.Changed 2 w1)) ≡ codes "{\"id\":1,\"no\":{\"el\":\"w1\",\"why\":\"changed\",\"with\":2}}")
     × (compact_text (outcome_of 2 replies.NothingToRedo) ≡ codes "{\"id\":2,\"no\":{\"why\":\"nothing_to_redo\"}}")
     × (compact_text (tree_of 3 (answers.Fault (BadField El))) ≡ codes "{\"id\":3,\"no\":{\"field\":\"el\",\"why\":\"bad_field\"}}")
     × (compact_text (tree_of 0 answers.BadLine) ≡ codes "{\"id\":0,\"no\":{\"why\":\"bad_line\"}}")

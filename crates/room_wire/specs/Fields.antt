@@ -1,7 +1,7 @@
 -- The keys of a message's fields, which are this project's (RFC 8259, section 4: names in an object).
 use Rattle.std.specs.Prelude.{ℕ, List, codes}
 use Rattle.room_wire.specs.declared.field.Field.{Field}
-use Rattle.room_wire.specs.declared.field.Field.TheVariants.{El, Els, Lat, Lon, Nodes, Members, Tags, Dlat, Dlon, At, Into, With, Actions, Seq, Room, Name}
+use Rattle.room_wire.specs.declared.field.Field.TheVariants.{El, Els, Lat, Lon, Nodes, Members, Tags, Dlat, Dlon, At, Into, With, Actions, Seq, Since, Room, Name}
 use Rattle.room_wire.specs.declared.field.Field.TheVariants as fields
 
 abbrev pub field_text : Field → List ℕ
@@ -19,6 +19,7 @@ field_text Into = codes "into"
 field_text With = codes "with"
 field_text Actions = codes "actions"
 field_text Seq = codes "seq"
+field_text Since = codes "since"
 field_text Room = codes "room"
 field_text Name = codes "name"
 field_text fields.Ok = codes "ok"

@@ -4,7 +4,7 @@ use Rattle.serde_json.specs.Data.{Data, Items, no_items, item, Members as Object
 use Rattle.serde_json.specs.Events.{items_len, members_len}
 use Rattle.serde_json.specs.Find.{get, as_null, as_str, as_number, as_array, as_object, as_u64, as_i64}
 use Rattle.serde_json.specs.Read.{read}
-use Rattle.room_interface.specs.Prelude.{Global, name_of, name_with, Pairs, is_long, GivenTags, is_group_length, author_of}
+use Rattle.room_interface.specs.Prelude.{Global, list_any, name_of, name_with, Pairs, is_long, GivenTags, is_group_length, author_of}
 use Rattle.osm_coords.specs.Latitude.{latitude_of}
 use Rattle.osm_coords.specs.Longitude.{longitude_of}
 use Rattle.osm_elements.specs.declared.fault.TextFault.{TextFault}
@@ -16,7 +16,7 @@ use Rattle.room_interface.specs.declared.edit.Edit.{Edit}
 use Rattle.room_interface.specs.declared.edit.Edit.TheVariants.{One, Group}
 use Rattle.room_interface.specs.declared.author.Author.{Author}
 use Rattle.room_wire.specs.declared.field.Field.{Field}
-use Rattle.room_wire.specs.declared.field.Field.TheVariants.{El, Els, Lat, Lon, Nodes, Members, Tags, Dlat, Dlon, At, Into, With, Actions, Seq}
+use Rattle.room_wire.specs.declared.field.Field.TheVariants.{El, Els, Lat, Lon, Nodes, Members, Tags, Dlat, Dlon, At, Into, With, Actions, Seq, Since}
 use Rattle.room_wire.specs.declared.bad.Fault.{Fault}
 use Rattle.room_wire.specs.declared.bad.Fault.TheVariants.{NotJson, NotObject, BadId, UnknownDo, BadField, UnknownAction, BadActionField, Memory}
 use Rattle.room_wire.specs.declared.bad.Bad.{Bad}
@@ -38,6 +38,11 @@ abbrev pub ordinal : Data → Option ℕ
 ordinal d =
     option_and_then (λ n. if nat_le 1 n && nat_le n 9007199254740991 then Some n else None)
     (option_and_then as_u64 (as_number d))
+
+-- a whole number in 0..=9007199254740991
+abbrev pub count_of : Data → Option ℕ
+count_of d =
+    option_and_then (λ n. if nat_le n 9007199254740991 then Some n else None) (option_and_then as_u64 (as_number d))
 
 -- the string of a field
 abbrev pub text_at : Field → Data → Option (List ℕ)
@@ -176,6 +181,13 @@ seq_from (Some d) = or_fault (BadField Seq) (option_map Some (ordinal d))
 abbrev pub seq_at : Data → Result (Option ℕ) Fault
 seq_at d = seq_from (get (field_text Seq) d)
 
+abbrev pub since_from : Option Data → Result (Option ℕ) Fault
+since_from None = Ok None
+since_from (Some d) = or_fault (BadField Since) (option_map Some (count_of d))
+
+abbrev pub since_at : Data → Result (Option ℕ) Fault
+since_at d = since_from (get (field_text Since) d)
+
 -- the element that a create makes, by the kind of its name
 abbrev pub element_at : Kind → Data → Result (Element Global) Fault
 element_at kinds.Node d = lat_at d >>= λ lat. lon_at d >>= λ lon. tags_at d >>= λ tags. Ok (elements.Node lat lon tags)
@@ -272,6 +284,16 @@ edit_by word d =
     if bytes_eq word (codes "group") then (actions_at d >>= λ actions. Ok (Group actions))
     else (action_by word d >>= λ action. Ok (One action))
 
+-- the words of edits
+abbrev pub is_edit_word : List ℕ → Bool
+is_edit_word word = list_any (bytes_eq word)
+    (codes "group" ∷ codes "create" ∷ codes "retag" ∷ codes "move" ∷ codes "reverse" ∷ codes "nodes" ∷ codes "members"
+    ∷ codes "delete" ∷ codes "purge" ∷ codes "split" ∷ codes "join" ∷ codes "merge" ∷ codes "unglue" ∷ [])
+
+-- the change that a message with the word of an edit asks for: what its author had seen, and the edit
+abbrev pub change_by : List ℕ → Data → Result Body Fault
+change_by word d = since_at d >>= λ since. edit_by word d >>= λ edit. Ok (Change (requests.Do edit since))
+
 -- the room and the author of a hello
 abbrev pub hello_at : Data → Result Body Fault
 hello_at d = author_at fields.Room d >>= λ room. author_at fields.Name d >>= λ name. Ok (Hello room name)
@@ -285,7 +307,8 @@ body_by word d =
     else (if bytes_eq word (codes "undos") then Ok Undos
     else (if bytes_eq word (codes "get") then (el_at d >>= λ name. Ok (Get name))
     else (if bytes_eq word (codes "map") then Ok Map
-    else (edit_by word d >>= λ edit. Ok (Change (requests.Do edit))))))))
+    else (if is_edit_word word then change_by word d
+    else Err UnknownDo))))))
 
 abbrev pub body_at : Data → Result Body Fault
 body_at d = word_at d >>= λ word. body_by word d

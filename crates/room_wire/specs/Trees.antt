@@ -127,6 +127,9 @@ outcome_tree id (replies.Conflict blocker shared) =
     (member (codes "why") (string (codes "conflict")) (member (codes "with") (whole blocker) no_members)))
 outcome_tree id replies.NothingToRedo = no_tree id (bare (codes "nothing_to_redo"))
 outcome_tree id (replies.Refused refusal) = no_tree id (with_position refusal.action (refusal_members refusal.why))
+outcome_tree id (replies.Changed with name) =
+    no_tree id (member (codes "el") (name_tree name)
+    (member (codes "why") (string (codes "changed")) (member (codes "with") (whole with) no_members)))
 outcome_tree id replies.Memory = no_tree id (bare (codes "memory"))
 
 abbrev pub fault_tree : ℕ → Fault → Data

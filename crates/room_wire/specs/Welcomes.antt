@@ -1,7 +1,7 @@
 -- The tree of a welcome, and the welcome that a text spells. The members are this project's (RFC 8259: the tree).
-use Rattle.std.specs.Prelude.{ℕ, List, map, Option, Some, None, Result, Ok, nat_le, if◌then◌else◌, option_and_then}
+use Rattle.std.specs.Prelude.{ℕ, List, map, Option, Result, Ok, option_and_then}
 use Rattle.serde_json.specs.Data.{Data}
-use Rattle.serde_json.specs.Find.{get, as_number, as_u64}
+use Rattle.serde_json.specs.Find.{get}
 use Rattle.serde_json.specs.Read.{read}
 use Rattle.room_interface.specs.Prelude.{Global, Rows, row_pair}
 use Rattle.room_wire.specs.declared.bad.Fault.{Fault}
@@ -10,7 +10,7 @@ use Rattle.room_wire.specs.declared.bad.Bad.{Bad}
 use Rattle.room_wire.specs.declared.welcome.Welcome.{Welcome}
 use Rattle.room_wire.specs.Fields.{field_text}
 use Rattle.room_wire.specs.Reading.{◌>>=◌, or_fault}
-use Rattle.room_wire.specs.Spelling.{with_id}
+use Rattle.room_wire.specs.Spelling.{count_of, with_id}
 use Rattle.room_wire.specs.Lists.{row_at, rows_at}
 use Rattle.room_wire.specs.News.{object_at}
 use Rattle.room_wire.specs.Trees.{map_tree}
@@ -22,11 +22,6 @@ welcome_tree w = map_tree w.id w.rows w.seq
 
 abbrev pub map_at : Data → Result (Rows Global) Fault
 map_at d = rows_at row_at (λ r. r.name) fields.Map d >>= λ rows. Ok (map row_pair rows)
-
--- a whole number in 0..=9007199254740991
-abbrev pub count_of : Data → Option ℕ
-count_of d =
-    option_and_then (λ n. if nat_le n 9007199254740991 then Some n else None) (option_and_then as_u64 (as_number d))
 
 abbrev pub count_at : Data → Result ℕ Fault
 count_at d = or_fault (BadField fields.Seq) (option_and_then count_of (get (field_text fields.Seq) d))

@@ -1,5 +1,5 @@
 -- Well-formed messages, and the first malformed field of any other message. The words and fields are this project's.
-use Rattle.std.specs.Prelude.{zero, suc, ◌≡◌, ◌≤◌, ◌⊎◌, All, FitsSigned, ℕ, ℤ, Bool, true, false, List, [], ◌∷◌, length, map, Option, Some, None, Result, Ok, Err, codes, is_ok}
+use Rattle.std.specs.Prelude.{zero, suc, ◌≡◌, ◌≤◌, ◌⊎◌, All, FitsSigned, ℕ, ℤ, Bool, true, false, List, [], ◌∷◌, length, map, Option, Some, None, Result, Ok, Err, codes, is_ok, if◌then◌else◌}
 use Rattle.serde_json.specs.Data.{Data, null, number, string, array, object, Items, no_items, item}
 use Rattle.serde_json.specs.Find.{get, of_integer}
 use Rattle.serde_json.specs.View.{items_of}
@@ -15,14 +15,14 @@ use Rattle.room_interface.specs.declared.author.Author.{Author}
 use Rattle.room_wire.specs.declared.bad.Fault.{Fault}
 use Rattle.room_wire.specs.declared.bad.Fault.TheVariants.{BadField, UnknownDo}
 use Rattle.room_wire.specs.declared.field.Field.{Field}
-use Rattle.room_wire.specs.declared.field.Field.TheVariants.{El, Els, Lat, Lon, Nodes, Members, Tags, Dlat, Dlon, At, Into, With, Actions, Seq}
+use Rattle.room_wire.specs.declared.field.Field.TheVariants.{El, Els, Lat, Lon, Nodes, Members, Tags, Dlat, Dlon, At, Into, With, Actions, Seq, Since}
 use Rattle.room_wire.specs.declared.incoming.Incoming.{Incoming}
 use Rattle.room_wire.specs.declared.incoming.Body.{Body}
 use Rattle.room_wire.specs.Fields.{field_text}
 use Rattle.room_wire.specs.ReadBack.{HasId}
-use Rattle.room_wire.specs.Spelling.{author_at, distance_at, el_at, els_at, given_tags_at, group_at, lat_at, lon_at, members_at, name_at, nodes_at, place_at, seq_at, tags_at}
+use Rattle.room_wire.specs.Spelling.{author_at, distance_at, el_at, els_at, given_tags_at, group_at, lat_at, lon_at, members_at, name_at, nodes_at, place_at, seq_at, since_at, tags_at}
 use Rattle.room_wire.specs.Trees.{entry_members, members_tree, name_tree, nodes_tree, tags_tree, whole}
-use Rattle.room_wire.specs.Words.{Word, is_action_word, word_text}
+use Rattle.room_wire.specs.Words.{Word, is_action_word, is_edit, word_text}
 use Rattle.osm_elements.specs.declared.name.Kind.TheVariants as kinds
 use Rattle.osm_elements.specs.declared.element.Element.TheVariants as elements
 use Rattle.room_interface.specs.declared.action.Action.TheVariants as actions
@@ -80,6 +80,10 @@ HasNames d names = Has d Els (names_tree names) × All HasId names
 abbrev pub HasSeq : Data → Option ℕ → Type 0
 HasSeq d None = IsMissing d Seq
 HasSeq d (Some seq) = Has d Seq (whole seq) × IsNumber seq
+
+abbrev pub HasSince : Data → Option ℕ → Type 0
+HasSince d None = IsMissing d Since
+HasSince d (Some n) = Has d Since (whole n) × (n ≤ 9007199254740991)
 
 -- a field has the name of an element, whose id is an i64
 abbrev pub HasNameAt : Data → Field → Name → Type 0
@@ -151,8 +155,8 @@ HasGroup d group = (ds : Items) × Has d Actions (array ds) × (is_group_length 
 
 -- the word and the fields of a message with this body
 abbrev pub Asks : Data → Body → Type 0
-Asks d (bodies.Change (requests.Do (One action))) = AsksAction d action
-Asks d (bodies.Change (requests.Do (Group group))) = HasWord d words.Group × HasGroup d group
+Asks d (bodies.Change (requests.Do (One action) since)) = HasSince d since × AsksAction d action
+Asks d (bodies.Change (requests.Do (Group group) since)) = HasSince d since × HasWord d words.Group × HasGroup d group
 Asks d (bodies.Change (requests.Undo seq)) = HasWord d words.Undo × HasSeq d seq
 Asks d (bodies.Change requests.Redo) = HasWord d words.Redo
 Asks d (bodies.Get name) = HasWord d words.Get × HasName d name
@@ -164,7 +168,7 @@ Asks d (bodies.Hello room name) = HasWord d words.Hello × HasAuthor d fields.Ro
 abbrev pub IsMessage : Data → Incoming → Type 0
 IsMessage d message = MessageId d message.id × Asks d message.body
 
--- ---- the fields of a message, in the order in which they are read
+-- ---- the fields of a message or of an action, in the order in which they are read
 
 -- a field, and whether it is well formed
 abbrev pub Slot : Type 0
@@ -203,6 +207,10 @@ slots words.Undos d = []
 slots words.Get d = slot El (el_at d) ∷ []
 slots words.Map d = []
 slots words.Hello d = slot fields.Room (author_at fields.Room d) ∷ slot fields.Name (author_at fields.Name d) ∷ []
+
+-- the fields of a message: an edit first says what its author had seen
+abbrev pub message_slots : Word → Data → List Slot
+message_slots word d = if is_edit word then slot Since (since_at d) ∷ slots word d else slots word d
 
 -- the fields before this one are well formed, and this one is not
 abbrev pub IsFirstBad : List Slot → Field → Type 0

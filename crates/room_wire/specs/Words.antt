@@ -43,6 +43,16 @@ word_text Get = codes "get"
 word_text Map = codes "map"
 word_text Hello = codes "hello"
 
+-- the words of edits, which can say what their author had seen
+abbrev pub is_edit : Word → Bool
+is_edit Undo = false
+is_edit Redo = false
+is_edit Undos = false
+is_edit Get = false
+is_edit Map = false
+is_edit Hello = false
+is_edit word = true
+
 -- the words of actions, which a group may have
 abbrev pub is_action_word : Word → Bool
 is_action_word Group = false

@@ -33,6 +33,8 @@ pub enum Field {
     Actions,
     /// The number of an entry.
     Seq,
+    /// How many entries the author of an edit had seen.
+    Since,
     /// The name of a room.
     Room,
     /// The name of an author.
@@ -69,6 +71,7 @@ impl Field {
             Field::With => "with",
             Field::Actions => "actions",
             Field::Seq => "seq",
+            Field::Since => "since",
             Field::Room => "room",
             Field::Name => "name",
             Field::Ok => "ok",

@@ -4,7 +4,7 @@ ghost use Rattle.room_interface.specs.Prelude.{result_map_both, name_with};
 ghost use Rattle.json_values.specs.Views.{items_view, view};
 ghost use Rattle.room_wire.specs.News.{object_at};
 ghost use Rattle.room_wire.specs.Reading.{Gives, or_fault};
-ghost use Rattle.room_wire.specs.Spelling.{text_at, name_at, author_at, el_at, place_of, place_at, name_item, names_in, els_at, distance_at, lat_at, lon_at, node_of, nodes_in, nodes_at, member_with, member_in, member_of, members_in, members_at, text_of, seq_at, fault_in};
+ghost use Rattle.room_wire.specs.Spelling.{text_at, name_at, author_at, el_at, place_of, place_at, name_item, names_in, els_at, distance_at, lat_at, lon_at, node_of, nodes_in, nodes_at, member_with, member_in, member_of, members_in, members_at, text_of, seq_at, since_at, fault_in};
 ghost use Rattle.room_wire.specs.declared.bad.Fault.TheVariants.{BadField};
 ghost use Rattle.osm_elements.specs.declared.name.Kind.TheVariants as kind;
 ghost use Rattle.room_wire.specs.declared.field.Field.TheVariants as field;
@@ -12,7 +12,7 @@ ghost use Rattle.room_wire.specs.declared.field.Field.TheVariants as field;
 use crate::bad::Fault;
 use crate::field::Field;
 use crate::fields::{items_at, text_at, value_at};
-use crate::numbers::ordinal;
+use crate::numbers::{count_in, ordinal};
 use json_values::{Value, look};
 use osm_coords::{Lat, Lon};
 use osm_elements::fault::TextFault;
@@ -230,6 +230,19 @@ pub fn seq_of(message: &Value<'_>) -> Result<Option<u64>, Fault>
         Some(value) => match ordinal(value) {
             Some(seq) => Ok(Some(seq)),
             None => Err(Fault::BadField(Field::Seq)),
+        },
+    }
+}
+
+// Reads how many entries the author of an edit had seen, which may be missing.
+pub fn since_of(message: &Value<'_>) -> Result<Option<u64>, Fault>
+    ensures { result ≡ since_at (view message.now) }
+{
+    match value_at(message, Field::Since) {
+        None => Ok(None),
+        Some(value) => match count_in(value) {
+            Some(since) => Ok(Some(since)),
+            None => Err(Fault::BadField(Field::Since)),
         },
     }
 }

@@ -18,7 +18,7 @@ ghost use Rattle.room_wire.specs.declared.field.Field.{Field};
 ghost use Rattle.room_wire.specs.ReadBack.{HasId, IsWhole};
 ghost use Rattle.room_wire.specs.Spelling.{spells, create_at, ordinal};
 ghost use Rattle.room_wire.specs.Trees.{element_tree, whole};
-ghost use Rattle.room_wire.specs.WellFormed.{AreGood, AreGoodActions, HasWord, IsFirstBad, IsFirstBadAction, IsMessage, MessageId, group_items, slots};
+ghost use Rattle.room_wire.specs.WellFormed.{AreGood, AreGoodActions, HasWord, IsFirstBad, IsFirstBadAction, IsMessage, MessageId, group_items, message_slots};
 ghost use Rattle.room_wire.specs.Words.{Word};
 ghost use Rattle.room_wire.specs.declared.incoming.Incoming.{Incoming};
 ghost use Rattle.room_wire.specs.Examples.{reads_messages, tells_no_id, tells_an_id, writes_replies, writes_elements};
@@ -117,15 +117,15 @@ pub fn each_fault_is_told()
         → ((word : Word) → ¬ HasWord d word) → spells text ≡ Err (record { id = id; fault = UnknownDo }) }
     ensures bad_field { (text : List ℕ) (d : Data) (id : ℕ) (word : Word) (field : Field) → read text ≡ Some d
         → MessageId d id → HasWord d word
-        → (spells text ≡ Err (record { id = id; fault = BadField field })) ↔ IsFirstBad (slots word d) field }
+        → (spells text ≡ Err (record { id = id; fault = BadField field })) ↔ IsFirstBad (message_slots word d) field }
     ensures unknown_action { (text : List ℕ) (d : Data) (id : ℕ) (word : Word) (k : ℕ) → read text ≡ Some d
         → MessageId d id → HasWord d word → (spells text ≡ Err (record { id = id; fault = UnknownAction k }))
-        ↔ (AreGood (slots word d) × IsFirstBadAction (group_items word d) k UnknownDo) }
+        ↔ (AreGood (message_slots word d) × IsFirstBadAction (group_items word d) k UnknownDo) }
     ensures bad_action_field { (text : List ℕ) (d : Data) (id : ℕ) (word : Word) (k : ℕ) (field : Field)
         → read text ≡ Some d → MessageId d id → HasWord d word
         → (spells text ≡ Err (record { id = id; fault = BadActionField k field }))
-        ↔ (AreGood (slots word d) × IsFirstBadAction (group_items word d) k (BadField field)) }
+        ↔ (AreGood (message_slots word d) × IsFirstBadAction (group_items word d) k (BadField field)) }
     ensures well_formed { (text : List ℕ) (d : Data) (id : ℕ) (word : Word) → read text ≡ Some d
         → MessageId d id → HasWord d word
-        → IsOk (spells text) ↔ (AreGood (slots word d) × AreGoodActions (group_items word d)) }
+        → IsOk (spells text) ↔ (AreGood (message_slots word d) × AreGoodActions (group_items word d)) }
 {}

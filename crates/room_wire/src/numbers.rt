@@ -1,8 +1,7 @@
 //! The whole numbers in messages.
 ghost use Rattle.std.specs.Prelude.{◌≡◌};
 ghost use Rattle.json_values.specs.Views.{view};
-ghost use Rattle.room_wire.specs.Spelling.{ordinal};
-ghost use Rattle.room_wire.specs.Welcomes.{count_of};
+ghost use Rattle.room_wire.specs.Spelling.{count_of, ordinal};
 
 use json_values::{Value, look};
 

@@ -7,14 +7,13 @@ ghost use Rattle.room_interface.specs.Prelude.{result_map_both};
 ghost use Rattle.json_values.specs.Views.{view};
 ghost use Rattle.room_wire.specs.declared.bad.Fault.TheVariants.{Memory, NotJson, NotObject};
 ghost use Rattle.room_wire.specs.Reading.{Gives, GivesMessage, under};
-ghost use Rattle.room_wire.specs.Spelling.{spells, incoming, id_at, body_at, body_by, edit_by, hello_at, word_at, action_at, action_by, element_at};
+ghost use Rattle.room_wire.specs.Spelling.{spells, incoming, id_at, body_at, body_by, change_by, edit_by, is_edit_word, hello_at, word_at, action_at, action_by, element_at};
 
 use crate::bad::{Bad, Fault};
 use crate::field::Field;
-use crate::fields::value_at;
 use crate::forms::{
     author_at, distance_of, el_of, els_of, lat_of, lon_of, members_of, name_at, nodes_of, place_at,
-    seq_of,
+    seq_of, since_of,
 };
 use crate::group::group_of;
 use crate::incoming::{Body, Incoming};
@@ -38,6 +37,16 @@ macro_rules! read_by {
                 Ok(Action::$variant { $($field),* })
             })*
             _ => Err(Fault::UnknownDo),
+        }
+    };
+}
+
+// Returns whether a word is `group` or the word of an action.
+macro_rules! is_one_of {
+    (($word:expr) $($variant:ident $text:literal { $($field:ident: $how:ident from $source:ident $(by $name:ident)?),* } by $plan:ident about $part:ident $way:ident [$($subject:ident),*];)*) => {
+        match $word {
+            "group" $(| $text)* => true,
+            _ => false,
         }
     };
 }
@@ -77,6 +86,8 @@ macro_rules! field {
 /// | `redo`, `undos`, `map` | none |
 /// | `hello` | `room`, `name` |
 ///
+/// The first field of a message with an action or a group is `since`, which may be missing.
+///
 /// - `el`, `into` and `with`: the name of an element
 /// - `els`: an array of names of elements, which may be empty
 /// - `at`: a whole number in `0..=4294967295`
@@ -89,6 +100,7 @@ macro_rules! field {
 ///   `null`, which removes the key
 /// - `dlat` and `dlon`: whole numbers, each an `i64`, in ten-millionths of a degree
 /// - `seq`: a number of the form of `id`
+/// - `since`: a whole number in `0..=9007199254740991`
 /// - `room` and `name`: strings of 1 to 32 characters of `a-z`, `0-9` and `_`
 /// - `actions`: an array of 1 to 10,000 objects
 ///
@@ -179,8 +191,25 @@ fn body_by(alloc: Global, word: &str, message: &Value<'_>) -> Result<Body, Fault
         "undos" => Ok(Body::Undos),
         "get" => Ok(Body::Get(el_of(message)?)),
         "map" => Ok(Body::Map),
-        _ => Ok(Body::Change(Request::Do(edit_by(alloc, word, message)?))),
+        _ if is_edit_word(word) => change_by(alloc, word, message),
+        _ => Err(Fault::UnknownDo),
     }
+}
+
+// Returns whether a word is that of an edit.
+fn is_edit_word(word: &str) -> bool
+    ensures { result ≡ is_edit_word word.now }
+{
+    each_action!(is_one_of(word))
+}
+
+// Reads the change that a message with the word of an edit asks for.
+fn change_by(alloc: Global, word: &str, message: &Value<'_>) -> Result<Body, Fault>
+    ensures { Gives result (change_by word.now (view message.now)) }
+{
+    let since = since_of(message)?;
+    let edit = edit_by(alloc, word, message)?;
+    Ok(Body::Change(Request::Do { edit, since }))
 }
 
 // Reads the edit that a message with this word asks for.

@@ -43,6 +43,7 @@ use std::alloc::Global;
 /// | `TagConflict` | `{"key":KEY,"why":"tag_conflict"}` |
 /// | `Repeat` | `{"seq":SEQ,"why":"repeat"}` |
 /// | `Conflict` | `{"at":SHARED,"why":"conflict","with":BLOCKER}` |
+/// | `Changed` | `{"el":NAME,"why":"changed","with":WITH}` |
 /// | `BadField` | `{"field":FIELD,"why":"bad_field"}` |
 /// | every other | `{"why":WHY}` |
 /// | one of an action of a group | as without a group, with `"action":POSITION` as the first member |
@@ -126,8 +127,25 @@ fn write_outcome(out: &mut Writer, id: u64, reply: &Reply<Global>) -> Result<(),
         Reply::Conflict { blocker, shared } => conflict(out, id, *blocker, *shared),
         Reply::NothingToRedo => bare(out, id, None, "nothing_to_redo"),
         Reply::Refused(refusal) => write_refusal(out, id, refusal.action, &refusal.why),
+        Reply::Changed { with, name } => changed(out, id, *with, *name),
         Reply::Memory => bare(out, id, None, "memory"),
     }
+}
+
+// Writes that an entry changed what the author of an edit had not seen.
+fn changed(out: &mut Writer, id: u64, with: u64, name: Name) -> Result<(), Memory>
+    ensures { OnOk result (Tells out.old out.new (outcome_tree {A = Global} id (Reply.Changed with name))) }
+{
+    why(
+        out,
+        id,
+        None,
+        &[
+            ("el", Shown::Name(name)),
+            ("why", Shown::Text("changed")),
+            ("with", Shown::Number(with)),
+        ],
+    )
 }
 
 // Writes that a later entry blocks an undo.

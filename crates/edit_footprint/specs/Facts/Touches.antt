@@ -8,7 +8,7 @@ use Rattle.osm_elements.specs.declared.name.Name.{Name}
 use Rattle.rising_lists.specs.Facts.Sorted.{first, second, less}
 use Rattle.edit_footprint.specs.declared.access.Access.{Access}
 use Rattle.edit_footprint.specs.declared.access.Access.TheVariants.{ReadsPresence, WritesPresence, ReadsTags, WritesTags, ReadsRest, WritesRest}
-use Rattle.edit_footprint.specs.Touches.{Touch, presence_read, access_rank, touch_cmp, is_same_touch, does, touch_set, IsFootprint}
+use Rattle.edit_footprint.specs.Touches.{Touch, presence_read, access_rank, touch_cmp, is_same_touch, touch_input, does, touch_set, IsFootprint}
 use Rattle.rising_lists.specs.Facts.Rising as rising
 
 pub touch_cmp_total : IsTotalOrder touch_cmp
@@ -44,6 +44,9 @@ touch_cmp-IsAntisymmetric t u e =
 
 pub same_touches : (t u : Touch) → is_same_touch t u ≡ true → t ≡ u
 same_touches t u e = touch_cmp-IsAntisymmetric t u (same (touch_cmp t u) e)
+
+pub touches_hash_alike : (t u : Touch) → is_same_touch t u ≡ true → touch_input t ≡ touch_input u
+touches_hash_alike t u e = ap touch_input (same_touches t u e)
 
 pub is_same_touch-itself : (t : Touch) → is_same_touch t t ≡ true
 is_same_touch-itself t = ap is_eq (tied_itself touch_cmp_total t)

@@ -27,8 +27,9 @@ pub fn creation(alloc: Global, author: Author, id: u64, name: Name) -> Option<Ca
     let lon = Lon::new(0)?;
     let tags = SharedTags::empty();
     let element = Element::Node { lat, lon, tags };
-    let create = Edit::One(Action::Create { name, element });
-    Some(call(author, id, Request::Do(create)))
+    let edit = Edit::One(Action::Create { name, element });
+    let since = None;
+    Some(call(author, id, Request::Do { edit, since }))
 }
 
 /// Returns the same call for a node id, which is not 0.

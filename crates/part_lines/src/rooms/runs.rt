@@ -117,11 +117,13 @@ fn movement(alloc: Global) -> io::Result<Request<Global>> {
     let mut names = Vec::new(alloc);
     names.push(node(-5)?)?;
     let names = Names::from_vec(names);
-    Ok(Request::Do(Edit::One(Action::Move {
+    let edit = Edit::One(Action::Move {
         names,
         dlat: 1,
         dlon: 0,
-    })))
+    });
+    let since = None;
+    Ok(Request::Do { edit, since })
 }
 
 // Returns creates of an author with a name of the greatest length.

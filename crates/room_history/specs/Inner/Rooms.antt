@@ -14,15 +14,18 @@ use Rattle.room_history.specs.Replays.{past, mapof}
 use Rattle.room_history.specs.Answers.{spent}
 use Rattle.room_history.specs.Journals.{last, redos}
 use Rattle.room_history.specs.LegalJournals.{IsJournal}
+use Rattle.edit_footprint.specs.Touches.{Touch}
+use Rattle.room_history.specs.declared.changers.LastChange.{LastChange}
+use Rattle.room_history.specs.Inner.Changers.{AreChangers}
 use Rattle.room_history.specs.Inner.Deeds.{deeds}
 use Rattle.room_history.specs.Inner.Holders.{AreHolders}
 use Rattle.room_history.specs.Inner.Origins.{origins}
 
 module _ {A : Type 0} where
-  -- the base is sound, and calls lead to the journal from it; the store, the kept effects, the origins, the holders and
-  -- the deeds are those of the journal
+  -- the base is sound, and calls lead to the journal from it; the store, the kept effects, the origins, the holders,
+  -- the last changes and the deeds are those of the journal
   pub record IsRoom (store : StoreState A) (recorded : List (Effect A)) (firsts : List ℕ) (holders : Held)
-      (done : List Deed) (base : Rows A) (limit : ℕ) (j : List (Entry A)) : Type 0 where
+      (changers : List (Touch × LastChange)) (done : List Deed) (base : Rows A) (limit : ℕ) (j : List (Entry A)) : Type 0 where
     pub base_sound : is_sound base ≡ true
     pub journal : IsJournal base limit j
     pub rows_are : store.rows ≡ mapof base j
@@ -30,6 +33,7 @@ module _ {A : Type 0} where
     pub recorded_are : recorded ≡ kept base j
     pub firsts_are : firsts ≡ origins j
     pub holders_are : AreHolders (past base j) j holders
+    pub changers_are : AreChangers (past base j) j changers
     pub deeds_are : done ≡ deeds j
 
   -- the id is unspent, and the journal is not full

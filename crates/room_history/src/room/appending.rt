@@ -1,17 +1,16 @@
 //! Appends entries to a room's journal.
 ghost use Rattle.std.specs.Prelude.{◌≡◌, ◌+◌, List, None, true, length, IfOk, OnErr};
-ghost use Rattle.osm_changes.specs.Prelude.{differences, changed, inverse, AreChanges, AreFrom, Rows, AreInOrder, is_sound};
-ghost use Rattle.osm_changes.specs.declared.change.Change.{Change};
+ghost use Rattle.osm_changes.specs.Prelude.{changed, inverse, AreFrom, is_sound};
 
 use crate::effects::{enter, note, reserve, stand};
 use crate::entry::{Entry, EntryKind};
 use crate::journal::{action_of, origin_next};
 use crate::kept::{Kept, effect_of, is_group};
+use crate::laws::leads_back;
 use crate::room::Room;
 use crate::undo::EntryToUndo;
 use edit_footprint::footprint::Footprint;
 use osm_changes::changes::Changes;
-use osm_changes::laws::{an_inverse_restores, differences_are_changes};
 use osm_elements::Memory;
 use room_interface::author::Author;
 use std::alloc::Allocator;
@@ -26,7 +25,7 @@ impl<A: Allocator + Copy> Room<A> {
 
     // Appends the entry of an accepted edit, done or redone, with its changes and its footprint on the current map, and
     // returns its number. All allocations come before the first change of the store: those for the lists, the stacks,
-    // the kept effect and the holders, and those of `Store::apply_rows`.
+    // the kept effect, the last changes and the holders, and those of `Store::apply_rows`.
     pub(super) fn append_work(
         &mut self,
         author: Author,
@@ -56,6 +55,7 @@ impl<A: Allocator + Copy> Room<A> {
             &author,
         )?;
         let effect = effect_of(alloc, &self.store, changes)?;
+        self.changers.ready(effect.changes.rows())?;
         let seq = self.entries.len() as u64 + 1;
         let origin = origin_next(&self.origins, &kind);
         stand(
@@ -67,6 +67,8 @@ impl<A: Allocator + Copy> Room<A> {
             seq,
         )?;
         note(&mut self.stacks, author, id, &kind, seq);
+        self.changers
+            .changed(&self.entries, &author, seq, effect.changes.rows());
         enter(
             &mut self.entries,
             &mut self.recorded,
@@ -124,10 +126,14 @@ impl<A: Allocator + Copy> Room<A> {
             &author,
         )?;
         let effect = effect_of(alloc, &self.store, changes.inverse())?;
+        self.changers.ready(effect.changes.rows())?;
         self.store.apply_rows(alloc, &effect.changes, &effect.rows)?;
         let seq = self.entries.len() as u64 + 1;
         let undo = EntryKind::Undo(of);
         note(&mut self.stacks, author, id, &undo, seq);
+        let taken_back = effect.changes.rows();
+        self.changers
+            .changed(&self.entries, &author, seq, taken_back);
         enter(
             &mut self.entries,
             &mut self.recorded,
@@ -143,15 +149,4 @@ impl<A: Allocator + Copy> Room<A> {
         self.holders.fall(&footprint, of);
         Ok(seq)
     }
-}
-
-// Proves facts about changes and their inverses. It does nothing.
-fn leads_back<A: Allocator>()
-    ensures differ { (m n : Rows A) → AreChanges (differences m n) }
-    ensures from { (m n : Rows A) → AreFrom m (differences m n) }
-    ensures back { (m : Rows A) (cs : List (Change A)) → AreInOrder m → AreChanges cs → AreFrom m cs
-        → AreFrom (changed m cs) (inverse cs) }
-{
-    differences_are_changes::<A>();
-    an_inverse_restores::<A>();
 }

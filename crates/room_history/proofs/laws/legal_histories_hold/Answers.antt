@@ -8,4 +8,4 @@ pub returns-clause-journal : goal.returns-clause-journal
 returns-clause-journal g c = λ opening h legal. all_lead opening [] (entries h) opened legal
 
 pub returns-clause-holds : goal.returns-clause-holds
-returns-clause-holds g c = λ opening h sound legal. journal_holds opening.base sound opening.limit (entries h) (all_lead opening [] (entries h) opened legal)
+returns-clause-holds g c = λ opening h sound legal. journal_holds c.leads_back.ensures.differ c.leads_back.ensures.from c.leads_back.ensures.back opening.base sound opening.limit (entries h) (all_lead opening [] (entries h) opened legal)

@@ -3,7 +3,7 @@ use Rattle.std.proofs.Common.{refl}
 use Rattle.std.specs.Str.{chars}
 use Rattle.osm_elements.specs.NameOrder.{name_cmp}
 use Rattle.osm_elements.specs.Texts.{is_long}
-use Rattle.room_history.specs.Examples.{first_run, range_ends, limit_one, limit_zero, strangers, in_use, taken_back_way, refusals_in_turn, relations_in_turn, redo_at_once, redo_refused, redo_order, redo_again, unglued_node, blocker_goes_by_parts, both_moved, two_blockers_by_parts, split_over_retag, over_one_node, drawn_as_one}
+use Rattle.room_history.specs.Examples.{first_run, range_ends, limit_one, limit_zero, strangers, in_use, taken_back_way, refusals_in_turn, relations_in_turn, redo_at_once, redo_refused, redo_order, redo_again, unglued_node, blocker_goes_by_parts, both_moved, two_blockers_by_parts, split_over_retag, over_one_node, drawn_as_one, joined_street, seen_since}
 use Rattle.room_history.proofs.laws.replies_are_as_worked.Goals as goal
 
 pub returns-clause-first_run : goal.returns-clause-first_run
@@ -85,3 +85,11 @@ returns-clause-over_one_node c = refl
 pub returns-clause-drawn_as_one : goal.returns-clause-drawn_as_one
 unfolding drawn_as_one name_cmp
 returns-clause-drawn_as_one c = (refl, refl, refl)
+
+pub returns-clause-joined_street : goal.returns-clause-joined_street
+unfolding joined_street name_cmp
+returns-clause-joined_street c = refl
+
+pub returns-clause-seen_since : goal.returns-clause-seen_since
+unfolding seen_since name_cmp
+returns-clause-seen_since c = refl
