@@ -21,7 +21,7 @@ function listen(page) {
     fit: () => page.fit(),
     show: () => page.show(page.shown), hush: () => page.say(""), sheet: () => openSheet(),
     "undo-possible": () => page.undoLastPossible(),
-    "close-not-done": () => page.closeNotDone(),
+    "close-not-done": () => page.closeNotDone(), "check-map": () => page.warnings.checkAll(),
     "open-sheet": () => openSheet(true), "close-sheet": () => openSheet(false),
   };
   for (const [id, work] of Object.entries(clicks)) $(/** @type {ButtonId} */(id)).onclick = work;
@@ -97,6 +97,9 @@ function undoKeys(page, event) {
   if (key === "z" && page.tools.draft?.places.length) page.tools.removeLast();
   else if (key === "z" && !event.shiftKey) page.isHeld(event) || page.undo();
   else if (key === "y" || key === "z") page.isHeld(event) || page.redo();
+  else if (key === "c" && !getSelection()?.toString()) page.copySelected();
+  else if (key === "v" && event.shiftKey) page.isHeld(event) || page.pasteTags();
+  else if (key === "v") page.isHeld(event) || page.paste(page.view.positionAt(page.tools.cursor ?? page.view.middle()));
   else return;
   event.preventDefault();
 }

@@ -3,8 +3,9 @@
 
 /**
  * The elements of map.html by their ids.
- * @typedef {Record<"address" | "room" | "name" | "joining" | "find" | "tiles-url" | "tiles-credit", HTMLInputElement>
- *   & Record<"preset" | "tiles-choice", HTMLSelectElement>
+ * @typedef {Record<"address" | "room" | "name" | "joining" | "find" | "tiles-url" | "tiles-credit" | "tiles-fade",
+ *     HTMLInputElement>
+ *   & Record<"preset" | "tiles-choice" | "areas-shown", HTMLSelectElement>
  *   & Record<"hello" | "tiles", HTMLFormElement>
  *   & Record<ButtonId, HTMLButtonElement>
  *   & Record<"here" | "who" | "state" | "saved" | "place" | "frame" | "map" | "map-keys" | "above", HTMLElement>
@@ -13,11 +14,13 @@
  *   & Record<"selected" | "selected-title" | "unsaved-tags" | "unsaved-title" | "typed", HTMLElement>
  *   & Record<"find-title" | "found-count" | "found" | "undos-title" | "undos", HTMLElement>
  *   & Record<"changes-title" | "changes" | "people-title" | "people" | "figures" | "keys" | "values", HTMLElement>
- *   & Record<"relations-title" | "relations" | "tiles-title" | "tiles-own", HTMLElement>} PageElements
+ *   & Record<"warnings-title" | "warnings-count" | "warnings", HTMLElement>
+ *   & Record<"relations-title" | "relations" | "tiles-title" | "tiles-own" | "tiles-more", HTMLElement>
+ *   & Record<"tiles-offset", HTMLElement>} PageElements
  *
  * @typedef {"connect" | "share" | "leave" | ToolId | "undo" | "redo" | "closer" | "farther" | "fit" | "sheet"
  *   | "tools" | "finish" | "back" | "cancel" | "show" | "undo-possible" | "hush" | "close-not-done" | "open-sheet"
- *   | "close-sheet"
+ *   | "close-sheet" | "check-map" | "tiles-west" | "tiles-north" | "tiles-south" | "tiles-east" | "tiles-home"
  * } ButtonId
  *
  * @typedef {"select" | "point" | "line" | "area"} ToolId

@@ -36,12 +36,15 @@ const areSafe = (nodes) => nodes.every(Number.isSafeInteger);
 class NotDone extends Error {
   /**
    * @param {string} why
-   * @param {{ el?: string, restarted?: boolean }} about
+   * @param {{ el?: string, by?: string, at?: string, key?: string, restarted?: boolean }} about
    */
-  constructor(why, { el, restarted } = {}) {
+  constructor(why, { el, by, at, key, restarted } = {}) {
     super(why);
     this.why = why;
     this.el = el;
+    this.by = by;
+    this.at = at;
+    this.key = key;
     this.restarted = restarted;
   }
 }
@@ -163,26 +166,6 @@ class Inserts {
   }
 }
 
-/**
- * Which part of a segment lies before a place on it.
- * @param {Position} place
- * @param {readonly [Position, Position]} segment
- */
-function partOf(place, [one, other]) {
-  const [dx, dy] = [other.x - one.x, other.y - one.y];
-  return Math.max(0, Math.min(1, ((place.x - one.x) * dx + (place.y - one.y) * dy) / (dx * dx + dy * dy || 1)));
-}
-
-/**
- * How far a place is from a segment.
- * @param {Position} place
- * @param {readonly [Position, Position]} segment
- */
-function distanceTo(place, [one, other]) {
-  const part = partOf(place, [one, other]);
-  return Math.hypot(place.x - one.x - part * (other.x - one.x), place.y - one.y - part * (other.y - one.y));
-}
-
 const Edits = {
   /**
    * Makes a node, also as a part of the ways on whose segments it lies.
@@ -197,6 +180,20 @@ const Edits = {
     const inserts = new Inserts(elements);
     inserts.add(idOf(el), place);
     return [{ do: "create", el, ...coordinatesOf(place), tags }, ...inserts.actions()];
+  },
+
+  /**
+   * Moves a node to a place on segments, and makes it a part of their ways.
+   * @param {string} el
+   * @param {Place} place
+   * @param {Elements} elements
+   * @returns {maproom.Message[]}
+   */
+  moveOnto(el, place, elements) {
+    if (!elements.has(el)) throw new NotDone("gone");
+    const inserts = new Inserts(elements);
+    inserts.add(idOf(el), place);
+    return [...moveNode(idOf(el), place, elements), ...inserts.actions()];
   },
 
   /**
@@ -316,22 +313,5 @@ const Edits = {
       }
     }
     return [...found];
-  },
-
-  /**
-   * Joins two ways that meet at an end; gives null if they do not meet.
-   * @param {string} one
-   * @param {string} other
-   * @param {Elements} elements
-   * @returns {maproom.Message[] | null}
-   */
-  join(one, other, elements) {
-    const [first, second] = [wayOf(one, elements).nodes, wayOf(other, elements).nodes];
-    if (lastOf(first) === second[0]) return [{ do: "join", el: one, with: other }];
-    if (lastOf(second) === first[0]) return [{ do: "join", el: other, with: one }];
-    const turned = { do: "reverse", el: other };
-    if (lastOf(first) === lastOf(second)) return [turned, { do: "join", el: one, with: other }];
-    if (first[0] === second[0]) return [turned, { do: "join", el: other, with: one }];
-    return null;
   },
 };

@@ -5,12 +5,16 @@
 //     Shapes          the elements on the plane of the map, which it draws and finds
 //     View            the window on them, with Leaflet; Pointers reports clicks and drags, labels.js places the names
 //     Tools           what clicks, drags and keys on the map do
-//     Panels          the lists and fields next to the map; a TagDraft has the tags that are typed
+//     Panels          the lists and fields next to the map
+//     TagForm         the fields of the tags; a TagDraft has those that are typed
+//     Warnings        the faults that Checks finds, in what the mapper changed and in the whole map
+//     Copies          what the mapper copied
 //     Background      the tiles under the map
 //
-// Tools and Panels do a gesture by Page.perform. Edits makes its actions from the map, and Session sends them as one
-// group. What the room answers and reports comes back by Page.takeMap and Page.takeChange, for Shapes, View and Panels.
-// These are scripts and no modules, because a browser loads no module from a file.
+// Tools and Panels do a gesture by Page.perform. Edits, WayEdits and Shaping make its actions from the map, and Session
+// sends them as one group. What the room answers and reports comes back by Page.takeMap and Page.takeChange, which
+// Shapes, View, Panels and Warnings follow. These are scripts and no modules, because a browser loads no module from a
+// file.
 "use strict";
 
 /** Fills in the form, by the address of the page or else as it was last. */

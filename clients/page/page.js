@@ -21,6 +21,20 @@ function whenIdle(work) {
   else setTimeout(work, 200);
 }
 
+/**
+ * Actions without a second move of a node, which two ways can have.
+ * @param {maproom.Message[]} actions
+ */
+function firstMoves(actions) {
+  const moved = new Set();
+  return actions.filter(({ do: word, els }) => {
+    const key = word === "move" ? String(els) : null;
+    const isFirst = key === null || !moved.has(key);
+    moved.add(key);
+    return isFirst;
+  });
+}
+
 // How many refusals a message has at most.
 const MOST_REFUSALS = 4;
 
@@ -51,6 +65,8 @@ class Page {
     this.shapes = new Shapes();
     this.tools = new Tools(this);
     this.panels = new Panels(this);
+    this.warnings = new Warnings(this);
+    this.copies = new Copies();
     // These are set when Leaflet is there. Nothing can be pressed before.
     /** @type {View} */
     this.view;
@@ -61,6 +77,10 @@ class Page {
   /** @returns {Elements} */
   get elements() {
     return this.session?.elements ?? new Map();
+  }
+
+  get wayEdits() {
+    return new WayEdits(this.elements, this.shapes);
   }
 
   /** The session, where there is one. */
@@ -113,7 +133,10 @@ class Page {
      */
     const on = (type, show) => session.listen(type, (about) => session === this.session && show(about));
     on("state", () => this.showState());
-    on("unsaved", () => this.showSaved());
+    on("unsaved", () => {
+      this.showSaved();
+      setTimeout(() => this.warnings.say()); // after what is said of the change
+    });
     on("map", (about) => this.takeMap(about));
     on("change", ({ entry, rows }) => this.takeChange(entry, rows));
     on("history", () => this.showHistory());
@@ -134,7 +157,7 @@ class Page {
     this.tools.unsaved = [];
     this.tools.use("select");
     this.selected = [];
-    this.panels.typed.clear();
+    this.panels.tags.typed.clear();
   }
 
   leave() {
@@ -144,7 +167,7 @@ class Page {
 
   mayLeave() {
     const isDrawn = this.tools.draft?.places.length || this.tools.unsaved.length;
-    return !this.session?.unsaved && !isDrawn && this.panels.typedElements().length === 0;
+    return !this.session?.unsaved && !isDrawn && this.panels.tags.unsaved().length === 0;
   }
 
   /**
@@ -156,6 +179,7 @@ class Page {
     this.shapes.reset(this.elements);
     this.panels.texts = null;
     this.selected = this.selected.filter((el) => this.elements.has(el));
+    this.warnings.clear();
     this.tools.refreshDraft();
     this.view.painted = null;
     if (isFirst) this.fit();
@@ -180,9 +204,10 @@ class Page {
    */
   takeChange(entry, rows) {
     const began = performance.now();
-    const boxes = this.shapes.change(rows);
     const session = this.joinedSession;
     const isOther = entry.by !== session.name;
+    if (!isOther) this.warnings.takeBefore(rows);
+    const boxes = this.shapes.change(rows);
     if (isOther) this.tools.markFresh(rows.filter(({ after }) => after).map(({ el }) => el), entry.by);
     this.view.repaint(boxes);
     this.panels.showChange(entry);
@@ -190,6 +215,7 @@ class Page {
     this.tools.refreshDraft();
     this.refreshSelected(rows);
     if (rows.some(({ el }) => el[0] === "r")) this.panels.showRelations();
+    this.warnings.take(rows, !isOther);
     if (isOther) this.announce(`${entry.by} ${session.deed(entry)}`);
     this.afterwards();
     this.timings.news = performance.now() - began;
@@ -272,7 +298,7 @@ class Page {
     if (session?.unsaved) parts.push(`${counted(session.unsaved, "change")} not saved`);
     const drawings = this.tools.countUnsaved();
     if (drawings) parts.push(`${counted(drawings, "drawing")} not saved`);
-    const typed = this.panels.typedElements().length;
+    const typed = this.panels.tags.unsaved().length;
     if (typed) parts.push(`tags of ${typed === 1 ? "an element" : `${typed} elements`} not saved`);
     if (this.notDone.length) parts.push(this.countNotDone());
     $("saved").textContent = parts.join(", ") || (this.isInside ? "All saved" : "");
@@ -315,6 +341,17 @@ class Page {
   }
 
   /**
+   * Says warnings after what is said of the change that caused them.
+   * @param {string} text
+   * @param {string} show
+   */
+  warn(text, show) {
+    const said = this.refusal ? "" : $("said").textContent ?? "";
+    const before = /^(Saved|Undone|Redone): /.test(said) ? `${said} ` : "";
+    this.sayWrong(`${before}Warning: ${text}`, { show });
+  }
+
+  /**
    * A function that says how something ended that begins now, unless there is a refusal that the mapper cannot have
    * seen when it began.
    * @returns {(text: string) => void}
@@ -341,9 +378,9 @@ class Page {
    * @param {Failure} error
    */
   refused(error, before = "", after = "") {
-    const { no } = error;
-    const isConflict = no?.why === "conflict";
-    const show = (isConflict ? no.at : no?.by ?? no?.el) ?? null;
+    const no = error.no ?? error;
+    const isConflict = error.no?.why === "conflict";
+    const show = (isConflict ? no.at : no.by ?? no.el) ?? null;
     this.sayWrong([before, this.reasonOf(error), after].filter(Boolean).join(" "), { isConflict, show });
   }
 
@@ -545,8 +582,35 @@ class Page {
     const actions = Edits.delete(els, this.elements, this.shapes, isEverywhere);
     const gone = actions.filter(({ do: word }) => word !== "nodes").length;
     const rest = gone > els.length ? ` with ${counted(gone - els.length, "element")} that nothing else needs` : "";
-    this.perform(`deleted ${this.titles(els)}${rest}`,
-      () => Edits.delete(els.filter((el) => this.elements.has(el)), this.elements, this.shapes, isEverywhere));
+    const text = `deleted ${this.titles(els)}${rest}`;
+    const ends = this.endsLost(els);
+    this.perform(text,
+      () => Edits.delete(els.filter((el) => this.elements.has(el)), this.elements, this.shapes, isEverywhere),
+      (_, report) => {
+        if (ends) report(`Saved: ${text}. ${ends}`);
+      });
+  }
+
+  /**
+   * What ends or parts where nodes go at which ways meet, as sentences.
+   * @param {string[]} els
+   */
+  endsLost(els) {
+    const sentences = els.filter((el) => el[0] === "n" && this.shapes.usersOf(el).length > 1).map((el) => {
+      const ways = this.shapes.usersOf(el).filter((way) => !els.includes(way));
+      const ending = ways.filter((way) => Edits.endsAt(way, idOf(el), this.elements));
+      const through = ways.filter((way) => !ending.includes(way));
+      /**
+       * @param {string[]} names
+       * @param {string} deed
+       */
+      const part = (names, deed) => (
+        names.length ? [`${this.rowsOf(names).map(titleOf).join(" and ")} ${deed}`] : []
+      );
+      const parts = [...part(ending, "ended there"), ...part(through, "went through")];
+      return `At ${el} ${parts.join(", ")}: they do not meet there any more.`;
+    });
+    return sentences.slice(0, 3).join(" ");
   }
 
   /**
@@ -554,8 +618,118 @@ class Page {
    * @param {string} other
    */
   join(one, other) {
-    const build = () => Edits.join(one, other, this.elements) ?? [];
-    this.perform(`joined ${one} and ${other}`, build, () => (this.elements.has(one) ? one : other));
+    const text = `joined ${one} and ${other}`;
+    /** @type {string[]} */
+    let notes = [];
+    const build = () => {
+      notes = [];
+      return this.wayEdits.join(one, other, notes);
+    };
+    this.perform(text, build, (_, report) => {
+      if (notes.length) report(`Saved: ${text}. The whole way has now ${notes.join(", ")}.`);
+      return this.elements.has(one) ? one : other;
+    });
+  }
+
+  /**
+   * Turns a way, and says what else was turned with it.
+   * @param {string} el
+   */
+  reverse(el) {
+    const text = `reversed ${this.titles([el])}`;
+    /** @type {[notes: string[], kept: string[]]} */
+    let lists = [[], []];
+    const build = () => {
+      lists = [[], []];
+      return this.wayEdits.reverse(el, ...lists);
+    };
+    this.perform(text, build, (_, report) => {
+      const [notes, kept] = lists.map((list) => list.join(", "));
+      const texts = [notes && ` Changed with it: ${notes}.`, kept && ` It runs the other way now: ${kept}.`];
+      report(`Saved: ${text}.${texts.join("")}`);
+    });
+  }
+
+  /**
+   * The ids of the nodes of some nodes and ways.
+   * @param {string[]} els
+   */
+  nodesOf(els) {
+    return new Set(els.flatMap((el) => this.elements.get(el)?.nodes ?? [idOf(el)]));
+  }
+
+  /**
+   * The middle of the nodes of some nodes and ways, which stays if they are turned round it.
+   * @param {string[]} els
+   */
+  middleOf(els) {
+    const places = [...this.nodesOf(els)].flatMap((id) => this.shapes.positionOf(id) ?? []);
+    return { x: meanOf(places.map(({ x }) => x)), y: meanOf(places.map(({ y }) => y)) };
+  }
+
+  /**
+   * Turns elements round a position, by an angle on the plane.
+   * @param {string[]} els
+   * @param {number} angle
+   * @param {Position} round
+   */
+  rotate(els, angle, round) {
+    return this.perform(`turned ${this.titles(els)}`, () => [...this.nodesOf(els)].flatMap((id) => {
+      const place = this.shapes.positionOf(id);
+      return place ? moveNode(id, turnedBy([place], angle, round)[0], this.elements) : [];
+    }));
+  }
+
+  /** Copies what is selected, but not relations. */
+  copySelected() {
+    const count = this.copies.take(this.rowsOf(this.selected), this.elements, this.shapes);
+    if (count === 0) return this.say("Select nodes or ways to copy them.");
+    this.panels.showSelected();
+    return this.say(`Copied ${counted(count, "element")}. Ctrl+V pastes at the pointer, Ctrl+Shift+V only the tags.`);
+  }
+
+  /**
+   * Pastes what was copied, at a position.
+   * @param {Position} to
+   */
+  paste(to) {
+    const { rows } = this.copies;
+    if (rows.length === 0) return this.say("Nothing is copied.");
+    const text = `pasted ${rows.length === 1 ? `a copy of ${titleOf(rows[0])}` : counted(rows.length, "element")}`;
+    return this.perform(text, (newName) => this.copies.paste(to, newName), (names) => lastOf(names));
+  }
+
+  /** Gives what is selected the copied tags, and says which values that replaced. */
+  pasteTags() {
+    const els = this.selected;
+    const tags = Object.entries(this.copies.ownTags()).map(([key, value]) => tagText(key, value)).join(", ");
+    if (!tags) return this.say("Copy one element with tags first.");
+    const text = `gave ${this.titles(els)} the tags ${tags}`;
+    /** @type {string[]} */
+    let replaced = [];
+    const build = () => {
+      replaced = [];
+      return this.copies.pasteTags(this.rowsOf(els), replaced);
+    };
+    return this.perform(text, build, (_, report) => {
+      if (replaced.length) report(`Saved: ${text}, in place of ${replaced.join(", ")}.`);
+    });
+  }
+
+  /**
+   * Gives the selected ways a shape, as one entry.
+   * @param {"square" | "circle" | "straighten"} shape
+   */
+  shape(shape) {
+    const ways = this.selected.filter((el) => this.elements.get(el)?.nodes);
+    if (ways.length === 0) return this.sayWrong("Select a way first.");
+    const deeds = { square: "squared", circle: "made a circle of", straighten: "straightened" };
+    /** @param {NameGiver} newName */
+    const build = (newName) => {
+      const moves = ways.flatMap((el) => Shaping[shape](wayOf(el, this.elements), this.elements, this.shapes, newName));
+      return firstMoves(moves);
+    };
+    return this.perform(`${deeds[shape]} ${this.titles(ways)}`, build);
   }
 
   /**
@@ -568,18 +742,19 @@ class Page {
   }
 
   /**
-   * Splits a way at a node, wherever in its list that is by then.
+   * Splits a way at a node, or a closed way at two, wherever in its list they are by then.
    * @param {string} el
-   * @param {string} node
+   * @param {string[]} nodes
    */
-  split(el, node) {
+  split(el, nodes) {
     /** @param {NameGiver} newName */
-    const build = (newName) => {
-      const at = wayOf(el, this.elements).nodes.indexOf(idOf(node), 1);
-      if (at < 0) throw new NotDone("bad_position");
-      return [{ do: "split", el, at, into: newName("w") }];
-    };
-    this.perform(`split ${this.titles([el])}`, build, ([into]) => into);
+    const build = (newName) => this.wayEdits.split(el, nodes, newName);
+    this.perform(`split ${this.titles([el])}`, build, ([into], report) => {
+      const relation = this.elements.get(into) && this.shapes.parentsOf(into).find((name) => name[1] === "-");
+      const area = relation && this.elements.get(relation)?.tags.type === "multipolygon";
+      if (area) report(`Saved: split ${el}. Its tags are those of ${this.titles([relation])} now.`);
+      return into;
+    });
   }
 
   /**
@@ -634,12 +809,24 @@ class Page {
     });
   }
 
-  /** @param {string[]} els */
+  /**
+   * Makes a relation, with roles and tags by what is selected, and says which.
+   * @param {string[]} els
+   */
   makeRelation(els) {
-    const members = els.map((el) => [el, ""]);
+    const text = `made a relation of ${this.titles(els)}`;
     /** @param {NameGiver} newName */
-    const build = (newName) => [{ do: "create", el: newName("r"), members, tags: {} }];
-    this.perform(`made a relation of ${this.titles(els)}`, build, ([el]) => el);
+    const build = (newName) => {
+      const { members, tags, moved } = newRelationOf(els, this.elements, this.shapes);
+      const retags = moved.map(({ el, tags: its }) => ({ do: "retag", el, tags: tagChanges(its, {}) }));
+      return [{ do: "create", el: newName("r"), members, tags }, ...retags];
+    };
+    this.perform(text, build, ([el], report) => {
+      const { tags = {} } = this.elements.get(el) ?? {};
+      const list = Object.entries(tags).map(([key, value]) => tagText(key, value)).join(", ");
+      if (list) report(`Saved: ${text}, with ${list}. Change its tags and roles if it is something else.`);
+      return el;
+    });
   }
 
   /**
@@ -678,7 +865,7 @@ class Page {
   choose(...els) {
     this.selected = els.filter((el) => this.elements.has(el));
     this.panels.showSelected(true);
-    this.panels.showTyped();
+    this.panels.tags.showTyped();
     this.view.paintOverSoon();
   }
 

@@ -37,8 +37,7 @@ class Panels {
   /** @param {Page} page */
   constructor(page) {
     this.page = page;
-    /** @type {Map<string, TagDraft>} */
-    this.typed = new Map(); // by the names of their elements
+    this.tags = new TagForm(page);
     /** @type {string | null} */
     this.formOf = null; // the names of what is shown
     this.isShowing = false;
@@ -56,7 +55,7 @@ class Panels {
     this.showUndos();
     this.showChanges();
     this.showPeople();
-    this.showTyped();
+    this.tags.showTyped();
     this.showFigures();
   }
 
@@ -96,7 +95,7 @@ class Panels {
     this.isShowing = true;
     if (rows.length === 0) box.replaceChildren(soft("p", this.page.session?.room ? CHOOSE : CONNECT));
     else if (rows.length > 1) box.replaceChildren(...this.severalPart(rows));
-    else box.replaceChildren(this.tagsPart(row), ...this.partsOf(row));
+    else box.replaceChildren(this.tags.part([row]), ...this.partsOf(row));
     if (focus) this.restoreFocus(box, focus, values);
     this.isShowing = false;
   }
@@ -179,177 +178,6 @@ class Panels {
     if (isText && typeof start === "number") field.setSelectionRange(start, end ?? start);
   }
 
-  /** @param {MapElement} row */
-  draftOf(row) {
-    const draft = this.typed.get(row.el) ?? new TagDraft(row);
-    draft.take(row);
-    return draft;
-  }
-
-  /** @param {MapElement} row */
-  tagsPart(row) {
-    const draft = this.draftOf(row);
-    this.typed.set(row.el, draft);
-    const lines = make("div", { className: "list" }, ...draft.lines.map((each) => this.tagLine(draft, each)));
-    /** @param {Event} event */
-    const submit = (event) => {
-      event.preventDefault();
-      this.saveTags(row.el);
-    };
-    const presets = PRESETS.filter(({ on }) => on.includes(row.el[0]));
-    const choice = make("select", { label: "Set the tags of a usual thing" }, new Option("Presets ..", ""),
-      ...presets.map(({ label }) => new Option(label, label)));
-    choice.onchange = () => this.usePreset(draft, presets.find(({ label }) => label === choice.value));
-    const discard = button("Discard", () => this.discard(row.el), { hidden: draft.typed().length === 0 });
-    return make("form", { onsubmit: submit, label: "Tags" }, lines,
-      line(choice, make("button", { textContent: "Save tags", className: "main" }), discard));
-  }
-
-  /**
-   * @param {TagDraft} draft
-   * @param {TagLine} each
-   */
-  tagLine(draft, each) {
-    /**
-     * @param {string} about
-     * @param {string} value
-     * @param {"keys" | "values"} list
-     * @param {(text: string) => void} set
-     */
-    const field = (about, value, list, set) => {
-      const input = make("input", {
-        tag: each, value, label: about, placeholder: list === "keys" ? "key" : "value", maxLength: 255,
-        autocomplete: "off", autocapitalize: "off", spellcheck: false,
-      });
-      input.oninput = () => {
-        set(input.value);
-        this.markLine(made, draft, each);
-      };
-      input.onfocus = () => this.complete(input, list, each);
-      return input;
-    };
-    const key = field("Key", each.key, "keys", (text) => (each.key = text));
-    const value = field(`Value of ${each.key || "the new key"}`, each.value, "values", (text) => (each.value = text));
-    const remove = button("×", () => {
-      each.isRemoved = !each.isRemoved;
-      if (!each.was) draft.lines = draft.lines.filter((other) => other !== each);
-      this.showSelected();
-      this.showTyped();
-    }, { tag: each, label: `${each.isRemoved ? "Keep" : "Remove"} ${each.key || "this tag"}` });
-    const made = make("div", { className: "tag" }, key, value, remove);
-    this.markLine(made, draft, each);
-    return made;
-  }
-
-  /**
-   * @param {HTMLElement} made
-   * @param {TagDraft} draft
-   * @param {TagLine} each
-   */
-  markLine(made, draft, each) {
-    made.classList.toggle("typed", draft.isTyped(each));
-    made.classList.toggle("removed", each.isRemoved);
-    this.showTyped();
-  }
-
-  /**
-   * Offers keys and values that the map has.
-   * @param {HTMLInputElement} field
-   * @param {"keys" | "values"} list
-   * @param {{ key: string }} about
-   */
-  complete(field, list, { key }) {
-    /** @type {Map<string, number>} */
-    const counts = new Map();
-    for (const { tags } of this.page.elements.values()) {
-      if (list === "values") {
-        if (Object.hasOwn(tags, key) && tags[key]) counts.set(tags[key], (counts.get(tags[key]) ?? 0) + 1);
-      } else {
-        for (const each in tags) counts.set(each, (counts.get(each) ?? 0) + 1);
-      }
-    }
-    const best = [...counts].sort((one, other) => other[1] - one[1]).slice(0, 100);
-    $(list).replaceChildren(...best.map(([text]) => new Option(text, text)));
-    field.setAttribute("list", list);
-  }
-
-  /**
-   * @param {TagDraft} draft
-   * @param {Preset | undefined} preset
-   */
-  usePreset(draft, preset) {
-    if (!preset) return;
-    for (const [key, value] of Object.entries(preset.tags)) draft.set(key, value);
-    for (const key of preset.asks) if (!draft.lines.some((each) => each.key === key)) draft.set(key, "");
-    this.showSelected();
-    this.showTyped();
-    const [asked] = preset.asks;
-    const at = draft.lines.findIndex(({ key }) => key === asked);
-    if (at >= 0) $("selected").querySelectorAll(".tag")[at].querySelectorAll("input")[1].focus();
-  }
-
-  /** @param {string} el */
-  saveTags(el) {
-    const draft = this.typed.get(el);
-    const row = this.page.elements.get(el);
-    if (!draft || !row) return;
-    const nameless = draft.typed().find(({ key, value, isRemoved }) => !key.trim() && value && !isRemoved);
-    if (nameless) {
-      this.page.sayWrong(`A tag needs a key: “${nameless.value}” has none.`);
-      return;
-    }
-    const changes = draft.changes();
-    /** @param {string} key */
-    const before = (key) => (Object.hasOwn(row.tags, key) ? row.tags[key] : null);
-    /** @param {[key: string, value: string | null]} tag */
-    const isReal = ([key, value]) => value !== before(key) && (value !== "" || before(key) !== null);
-    const real = Object.entries(changes).filter(isReal);
-    if (real.length === 0) {
-      this.page.say("There is no tag to save.");
-      return;
-    }
-    const tags = Object.fromEntries(real);
-    const words = real.slice(0, 2).map(([key, value]) => (value === null ? `no ${key}` : `${key}=${value}`)).join(", ");
-    /** @type {[each: TagLine, sent: TagLine][]} */
-    const sent = draft.typed().map((each) => [each, { ...each }]);
-    const done = () => {
-      draft.settle(sent);
-      this.showSelected();
-      this.showTyped();
-    };
-    const isStillTyped = () => this.typedElements().includes(draft);
-    this.page.perform(`tagged ${titleOf(row)} with ${words}`, () => [{ do: "retag", el, tags }], done, isStillTyped);
-  }
-
-  /** @param {string} el */
-  discard(el) {
-    this.typed.delete(el);
-    this.showSelected();
-    this.showTyped();
-  }
-
-  /** The elements whose tags were typed and not saved. */
-  typedElements() {
-    return [...this.typed.values()].filter((draft) => draft.typed().length > 0 && this.page.elements.has(draft.el));
-  }
-
-  showTyped() {
-    const { page } = this;
-    const drafts = this.typedElements();
-    const hidden = drafts.filter(({ el }) => page.selected.length !== 1 || page.selected[0] !== el);
-    for (const [el, draft] of this.typed) {
-      if (draft.typed().length === 0 && el !== page.selected[0]) this.typed.delete(el);
-    }
-    /** @type {HTMLButtonElement | null} */
-    const discard = $("selected").querySelector("form > .row > button:last-child");
-    if (discard) discard.hidden = drafts.length === hidden.length;
-    $("unsaved-tags").hidden = hidden.length === 0;
-    $("typed").replaceChildren(...hidden.map(({ el }) => make("li", {}, this.elementButton(el),
-      button("Save", () => this.saveTags(el), { label: `Save the tags of ${el}` }),
-      button("Discard", () => this.discard(el), { label: `Discard the tags of ${el}` }))));
-    page.showSaved();
-  }
-
   /** @param {MapElement[]} rows */
   actionsPart(rows) {
     const { page } = this;
@@ -357,11 +185,18 @@ class Panels {
     const isUsed = els.some((el) => page.shapes.parentsOf(el).length > 0);
     const isMovable = els.some((el) => el[0] !== "r");
     const everywhere = button("Delete everywhere", () => page.deleteSelected(true), { title: "Also out of relations" });
+    const copy = button("Copy", () => page.copySelected(), { title: "To paste it elsewhere, or its tags (Ctrl+C)" });
+    const tags = Object.keys(page.copies.ownTags()).length > 0;
+    const paste = button("Paste tags", () => page.pasteTags(), { title: "The tags that were copied (Ctrl+Shift+V)" });
     const move = button("Move", () => page.tools.use("move"), { title: "Drag it, or use the arrow keys (M)" });
+    const turn = button("Rotate", () => page.tools.use("rotate"), { title: "Drag it, or use the arrow keys (R)" });
+    const isTurnable = isMovable && page.nodesOf(els.filter((el) => el[0] !== "r")).size > 1;
     return line(
       button("Delete", () => page.deleteSelected(), { title: "Also nodes that nothing else needs (Delete)" }),
       ...(isUsed ? [everywhere] : []),
-      ...(isMovable ? [move] : []),
+      ...(isMovable ? [move, copy] : []),
+      ...(isTurnable ? [turn] : []),
+      ...(tags ? [paste] : []),
       button("New relation", () => page.makeRelation(els), { title: "A relation with this as its member" }),
     );
   }
@@ -383,8 +218,12 @@ class Panels {
       buttons.push(button("Merge", () => page.merge(one, other)));
     }
     if (ways.length === 1 && nodes.length === 1) buttons.push(...this.splitButtons(nodes[0], ways));
+    if (nodes.length === 2 && ways.length < 2) buttons.push(...this.closedSplitButtons(nodes, ways));
+    if (ways.length > 1) buttons.push(button("Square", () => page.shape("square"), { title: "Make all square (Q)" }));
     const items = rows.slice(0, 100).map(({ el }) => make("li", {}, this.elementButton(el)));
-    return [make("ul", { className: "list" }, ...items), this.actionsPart(rows), line(...buttons)];
+    return [
+      make("ul", { className: "list" }, ...items), this.tags.part(rows), this.actionsPart(rows), line(...buttons),
+    ];
   }
 
   /** @param {MapElement} row */
@@ -425,8 +264,22 @@ class Panels {
    */
   splitButtons(row, ways) {
     const id = idOf(row.el);
-    const inner = ways.filter(({ nodes }) => nodes.slice(1, -1).includes(id));
-    return inner.map(({ el }) => button(`Split ${el} here`, () => this.page.split(el, row.el)));
+    const inner = ways.filter((way) => !isClosedWay(way) && way.nodes.slice(1, -1).includes(id));
+    return inner.map(({ el }) => button(`Split ${el} here`, () => this.page.split(el, [row.el])));
+  }
+
+  /**
+   * Two nodes split a closed way that has both, and is selected, or no other way is.
+   * @param {MapNode[]} nodes
+   * @param {MapWay[]} selected
+   */
+  closedSplitButtons(nodes, selected) {
+    const { page } = this;
+    const names = nodes.map(({ el }) => el);
+    const ways = selected.length ? selected : page.rowsOf(page.shapes.usersOf(names[0]));
+    const closed = ways.filter((way) => way.nodes && isClosedWay(way)
+      && names.every((el) => page.shapes.usersOf(el).includes(way.el)));
+    return closed.map(({ el }) => button(`Split ${el} at both`, () => page.split(el, names)));
   }
 
   /**
@@ -468,13 +321,14 @@ class Panels {
     const { nodes } = row;
     if (!areSafe(nodes)) return [soft("p", REFUSALS.unsafe({}))];
     const isClosed = nodes[0] === lastOf(nodes);
-    const reverse = () => page.perform(`reversed ${titleOf(row)}`, () => [{ do: "reverse", el: row.el }]);
-    const buttons = [button("Reverse", reverse)];
+    const buttons = [button("Reverse", () => page.reverse(row.el), { title: "Also what depends on its direction" })];
     if (!isClosed) {
       buttons.push(button("Continue", () => page.tools.goOn(row.el, false), { title: "Draw on from its last node" }),
         button("Continue at the start", () => page.tools.goOn(row.el, true), { title: "Draw on from its first node" }));
-      const next = [nodes[0], lastOf(nodes)].flatMap((id) => page.shapes.usersOf(id));
-      const joined = [...new Set(next)].filter((el) => el !== row.el && Edits.join(row.el, el, page.elements));
+      const next = [nodes[0], lastOf(nodes)].flatMap((id) => (
+        page.shapes.usersOf(id).filter((el) => Edits.endsAt(el, id, page.elements))
+      ));
+      const joined = [...new Set(next)].filter((el) => el !== row.el);
       buttons.push(...joined.slice(0, 4).map((el) => button(`Join ${el}`, () => page.join(row.el, el))));
     }
     const list = make("textarea", { defaultValue: nodes.join(" "), rows: 2 });
@@ -484,7 +338,11 @@ class Panels {
       make("label", {}, "Their numbers in order", list), save);
     details.open = this.isListOpen;
     details.ontoggle = () => (this.isListOpen = details.open);
-    return [line(...buttons), details];
+    const shapes = isClosed ? [button("Circle", () => page.shape("circle"), { title: "Put its nodes on a circle (O)" })]
+      : [button("Straighten", () => page.shape("straighten"), { title: "Put its nodes on a straight line (S)" })];
+    const square = button("Square", () => page.shape("square"), { title: "Make its corners square (Q)" });
+    const hint = isClosed ? [soft("p", "To split it, select two of its nodes.")] : [];
+    return [line(...buttons, square, ...shapes), ...hint, details];
   }
 
   /** @param {MapRelation} row */

@@ -10,7 +10,7 @@
  *   drag(point: Point): void,
  *   drop(): void,
  *   letGo(): void,
- *   click(point: Point, how: { isTouch?: boolean, isMore?: boolean }): void,
+ *   click(point: Point, how: { isTouch?: boolean, isMore?: boolean, isNext?: boolean }): void,
  *   doubleClick(point: Point, event: PointerEvent): void,
  *   menu(point: Point): void,
  *   hover(point: Point | null, event?: PointerEvent): void,
@@ -116,7 +116,7 @@ class Pointers {
       this.handlers.doubleClick(point, event);
     } else {
       const isMore = event.shiftKey || event.ctrlKey || event.metaKey;
-      this.handlers.click(point, { isTouch: down.isTouch, isMore });
+      this.handlers.click(point, { isTouch: down.isTouch, isMore, isNext: event.altKey });
     }
   }
 

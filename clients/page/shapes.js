@@ -23,9 +23,6 @@
  * `top`.
  * @typedef {{ scale: number, left: number, top: number }} Frame
  *
- * How ways look. A way that `isApart` is filled together with the others of its style.
- * @typedef {{ id: string, stroke: string, width: number, fill?: string, dash?: number[], isApart?: boolean }} Style
- *
  * A node near a position; and a segment near it: the way, the index of the segment's end in its list, and the nearest
  * position on the segment, which is the part `part` of it.
  * @typedef {{ el: string, x: number, y: number, distance: number }} NearNode
@@ -84,45 +81,6 @@ const Mercator = {
   /** @param {number} y */
   lat: (y) => (Math.atan(Math.exp((0.5 - y) * 2 * Math.PI)) * 2 - Math.PI / 2) * (180 / Math.PI),
 };
-
-/**
- * How ways look, in the order in which they are drawn. A way is drawn in the first style whose test it passes.
- * @type {Style[]}
- */
-const STYLES = [
-  { id: "green", fill: "#d5e8c8", stroke: "#6c9a4d", width: 1 },
-  { id: "water-area", fill: "#c4def2", stroke: "#2f76b5", width: 1 },
-  { id: "outline", stroke: "#6c7780", width: 1.2 },
-  { id: "building", fill: "#dcd3c8", stroke: "#8d7f70", width: 1, isApart: true },
-  { id: "boundary", stroke: "#8a5b9b", width: 1.2, dash: [8, 5] },
-  { id: "water", stroke: "#2f76b5", width: 1.8 },
-  { id: "other", stroke: "#6c7780", width: 1.2 },
-  { id: "rail", stroke: "#444c55", width: 1.8, dash: [7, 3] },
-  { id: "footway", stroke: "#a4502a", width: 1.6, dash: [5, 4] },
-  { id: "street", stroke: "#8a5a1c", width: 2.2 },
-  { id: "main", stroke: "#7a3b0c", width: 3 },
-];
-
-/** @type {Record<string, number>} */
-const STYLE_AT = Object.fromEntries(STYLES.map(({ id }, at) => [id, at]));
-const MAIN_STREETS = /^(motorway|trunk|primary|secondary)/;
-const FOOTWAYS = /foot|path|steps|cycle|bridleway/;
-
-/**
- * The place in STYLES of a way.
- * @param {Tags} tags
- * @param {boolean} isClosed
- */
-function styleOf(tags, isClosed) {
-  const { highway } = tags;
-  if (highway) return STYLE_AT[FOOTWAYS.test(highway) ? "footway" : MAIN_STREETS.test(highway) ? "main" : "street"];
-  if (tags.building && isClosed) return STYLE_AT.building;
-  if (tags.waterway || tags.natural === "water") return STYLE_AT[isClosed ? "water-area" : "water"];
-  if (tags.railway) return STYLE_AT.rail;
-  if (tags.boundary) return STYLE_AT.boundary;
-  if (!isClosed) return STYLE_AT.other;
-  return STYLE_AT[tags.landuse || tags.leisure || tags.natural || tags.place ? "green" : "outline"];
-}
 
 /** @param {Tags} tags */
 const hasTags = (tags) => {
@@ -234,6 +192,7 @@ class WayShape {
     this.slots = slots;
     this.style = style;
     this.isClosed = isClosed;
+    this.flow = 0; // which way things go on it
     this.west = this.north = this.east = this.south = 0;
   }
 }
@@ -293,6 +252,10 @@ function ringsOf(lines) {
   return rings;
 }
 
+// From which zoom on ways have arrows, and nodes signs.
+const LEAST_ZOOM_OF_ARROWS = 16;
+const LEAST_ZOOM_OF_SIGNS = 17;
+
 // Up to how many nodes in a window all are drawn. Of more, only those with tags are drawn, or only places.
 const MOST_NODES = 1500;
 
@@ -313,6 +276,9 @@ class Shapes {
   /** By slot, 1 if the node has tags, 2 if it is a place. */
   areTagged = new Uint8Array(0);
 
+  /** By slot, the place of the node in SYMBOLS. */
+  symbols = new Uint8Array(0);
+
   /** @type {number[]} */
   freeSlots = [];
 
@@ -321,6 +287,9 @@ class Shapes {
    * @type {Map<number, string | string[]> | null}
    */
   users = null;
+
+  /** How much of the colour of areas is drawn, from 0 to 1. */
+  fillPart = 1;
 
   /**
    * By name, the relations that have it as a member.
@@ -357,6 +326,7 @@ class Shapes {
     this.xs = new Float64Array(room);
     this.ys = new Float64Array(room);
     this.areTagged = new Uint8Array(room);
+    this.symbols = new Uint8Array(room);
     this.freeSlots = [];
     this.users = null;
     this.parents = new Map();
@@ -468,7 +438,7 @@ class Shapes {
    * @returns {void}
    */
   moveWay(way, moved, old, now) {
-    const isWhole = way.isClosed || Boolean(STYLES[way.style].dash);
+    const isWhole = way.isClosed || way.flow !== 0 || Boolean(STYLES[way.style].dash);
     if (isWhole) stretchBy(old, way);
     this.measure(way);
     if (isWhole) {
@@ -514,16 +484,19 @@ class Shapes {
     this.xs[slot] = Mercator.x(numberOf(row.lon));
     this.ys[slot] = Mercator.y(numberOf(row.lat));
     this.areTagged[slot] = hasTags(row.tags) ? (row.tags.place ? 2 : 1) : 0;
+    this.symbols[slot] = this.areTagged[slot] ? symbolOf(row.tags) : 0;
   }
 
   grow() {
-    const { xs, ys, areTagged } = this;
+    const { xs, ys, areTagged, symbols } = this;
     this.xs = new Float64Array(2 * xs.length);
     this.ys = new Float64Array(2 * ys.length);
     this.areTagged = new Uint8Array(2 * areTagged.length);
+    this.symbols = new Uint8Array(2 * symbols.length);
     this.xs.set(xs);
     this.ys.set(ys);
     this.areTagged.set(areTagged);
+    this.symbols.set(symbols);
   }
 
   /** @param {MapWay} row */
@@ -540,6 +513,7 @@ class Shapes {
     const old = this.ways.get(row.el);
     if (old) this.layers[old.style].delete(old);
     const way = new WayShape(row.el, slots, styleOf(row.tags, isClosed), isClosed);
+    way.flow = flowOf(row.tags);
     this.ways.set(row.el, way);
     this.layers[way.style].add(way);
     this.measure(way);
@@ -814,6 +788,32 @@ class Shapes {
   }
 
   /**
+   * The closed ways with a fill and the multipolygons that a position is in, the smallest first.
+   * @param {Position} position
+   */
+  areasAt({ x, y }) {
+    /** @param {Box} box */
+    const isNear = (box) => x >= box.west && x <= box.east && y >= box.north && y <= box.south;
+    /** @param {Box} box */
+    const sizeOf = (box) => (box.east - box.west) * (box.south - box.north);
+    const ways = [...this.ways.values()].filter((way) => (
+      way.isClosed && STYLES[way.style].fill && isNear(way) && this.isInside(way, x, y)
+    ));
+    const areas = [...this.areas.values()].filter((area) => (
+      isNear(area) && this.shapesIn(area).filter((ring) => this.isInside(ring, x, y)).length % 2 === 1
+    ));
+    return [...ways, ...areas].sort((one, other) => sizeOf(one) - sizeOf(other)).map(({ el }) => el);
+  }
+
+  /**
+   * The multipolygon whose area a position is in, the smallest of several, or null.
+   * @param {Position} position
+   */
+  multipolygonAt(position) {
+    return this.areasAt(position).find((el) => el[0] === "r") ?? null;
+  }
+
+  /**
    * @param {WayShape} way
    * @param {number} x
    * @param {number} y
@@ -863,12 +863,70 @@ class Shapes {
     context.lineJoin = isThin ? "bevel" : "round";
     context.lineCap = isThin ? "butt" : "round";
     const areas = [...this.areas.values()].filter((area) => doMeet(area, box));
+    let hasCasings = isThin;
     for (const [at, style] of STYLES.entries()) {
+      // All edges come before the roads, so that they end at junctions.
+      if (style.casing && !hasCasings) this.paintCasings(context, frame, box, zoom);
+      hasCasings ||= Boolean(style.casing);
       for (const area of areas) if (area.style === at) this.paintArea(context, frame, area);
       if (this.layers[at].size > 0) ways += this.paintLayer(context, frame, box, style, this.layers[at], zoom);
     }
     context.setLineDash([]);
+    if (zoom >= LEAST_ZOOM_OF_ARROWS) this.paintArrows(context, frame, box);
     return { ways, nodes: this.paintNodes(context, frame, box, zoom) };
+  }
+
+  /**
+   * How wide a line is, in pixels.
+   * @param {Style} style
+   * @param {number} zoom
+   */
+  widthOf({ width }, zoom) {
+    return width * (zoom < 13 ? 0.5 : zoom < 15 ? 0.7 : zoom > 17.5 ? 1.6 : 1);
+  }
+
+  /**
+   * Draws the edges of roads, which the roads then cover in the middle.
+   * @param {CanvasRenderingContext2D} context
+   * @param {Frame} frame
+   * @param {Box} box
+   * @param {number} zoom
+   */
+  paintCasings(context, frame, box, zoom) {
+    context.setLineDash([]);
+    for (const [at, style] of STYLES.entries()) {
+      if (!style.casing || this.layers[at].size === 0) continue;
+      context.strokeStyle = style.casing;
+      context.lineWidth = this.widthOf(style, zoom) + CASING;
+      context.beginPath();
+      for (const way of this.layers[at]) if (doMeet(way, box)) this.trace(context, frame, way);
+      context.stroke();
+    }
+  }
+
+  /**
+   * Draws arrows on the ways on which things go one way.
+   * @param {CanvasRenderingContext2D} context
+   * @param {Frame} frame
+   * @param {Box} box
+   */
+  paintArrows(context, frame, box) {
+    context.fillStyle = "#3a2f26";
+    context.beginPath();
+    for (const way of this.ways.values()) {
+      if (way.flow !== 0 && doMeet(way, box)) traceArrows(context, this.pointsOf(way, frame), way.flow);
+    }
+    context.fill();
+  }
+
+  /**
+   * The points of a way on a canvas.
+   * @param {WayShape} way
+   * @param {Frame} frame
+   * @returns {[x: number, y: number][]}
+   */
+  pointsOf({ slots }, { scale, left, top }) {
+    return slots.map((slot) => [this.xs[slot] * scale - left, this.ys[slot] * scale - top]);
   }
 
   /**
@@ -881,8 +939,8 @@ class Shapes {
    */
   paintLayer(context, frame, box, style, layer, zoom) {
     const isThin = zoom < 15;
-    context.strokeStyle = style.stroke;
-    context.lineWidth = style.width * (zoom < 13 ? 0.5 : isThin ? 0.7 : zoom > 17.5 ? 1.6 : 1);
+    context.strokeStyle = isThin && style.casing ? style.casing : style.stroke; // without edges, white is not seen
+    context.lineWidth = this.widthOf(style, zoom) * (isThin && style.casing ? 0.6 : 1);
     context.setLineDash(isThin || !style.dash ? [] : style.dash);
     context.fillStyle = style.fill ?? "transparent";
     const isEach = Boolean(style.fill) && !style.isApart;
@@ -900,12 +958,12 @@ class Shapes {
       if (isEach) context.beginPath();
       this.trace(context, frame, way);
       if (isEach) {
-        context.fill();
+        this.fill(context);
         context.stroke();
       }
     }
     if (!isEach) {
-      if (style.fill) context.fill();
+      if (style.fill) this.fill(context);
       context.stroke();
     }
     context.beginPath();
@@ -915,17 +973,36 @@ class Shapes {
   }
 
   /**
+   * Fills the path of a canvas as far as areas are to be seen.
+   * @param {CanvasRenderingContext2D} context
+   * @param {CanvasFillRule} [rule]
+   */
+  fill(context, rule) {
+    context.globalAlpha = this.fillPart;
+    if (this.fillPart > 0) context.fill(rule);
+    context.globalAlpha = 1;
+  }
+
+  /**
    * Fills an area without its holes. Its ways draw its lines.
    * @param {CanvasRenderingContext2D} context
    * @param {Frame} frame
    * @param {AreaShape} area
    */
   paintArea(context, frame, area) {
-    area.rings ??= ringsOf(this.linesOf(area)).map((slots) => this.ringShape(area, slots));
     context.fillStyle = STYLES[area.style].fill ?? "transparent";
     context.beginPath();
-    for (const ring of area.rings) this.trace(context, frame, ring);
-    context.fill("evenodd");
+    for (const ring of this.shapesIn(area)) this.trace(context, frame, ring);
+    this.fill(context, "evenodd");
+  }
+
+  /**
+   * The rings of an area, which are found when they are asked for.
+   * @param {AreaShape} area
+   */
+  shapesIn(area) {
+    area.rings ??= ringsOf(this.linesOf(area)).map((slots) => this.ringShape(area, slots));
+    return area.rings;
   }
 
   /** @param {AreaShape} area */
@@ -988,19 +1065,39 @@ class Shapes {
       const [x, y] = pixelOf(slot);
       if (!this.areTagged[slot]) context.fillRect(x - 2, y - 2, 4, 4);
     }
-    context.fillStyle = "#7a2f8f";
+    /** @type {Lists<number, [x: number, y: number]>} */
+    const bySymbol = new Lists();
+    for (const slot of tagged) bySymbol.add(this.symbols[slot], /** @type {[number, number]} */(pixelOf(slot)));
+    for (const [at, points] of bySymbol) this.paintSymbols(context, SYMBOLS[at], points, zoom);
+    return slots.length;
+  }
+
+  /**
+   * Draws the discs of nodes, with their sign where there is room for it.
+   * @param {CanvasRenderingContext2D} context
+   * @param {NodeSymbol} symbol
+   * @param {[x: number, y: number][]} points
+   * @param {number} zoom
+   */
+  paintSymbols(context, { colour, sign }, points, zoom) {
+    const isSigned = Boolean(sign) && zoom >= LEAST_ZOOM_OF_SIGNS;
+    const radius = isSigned ? 7.5 : zoom < 16 ? 3 : 4;
+    context.fillStyle = colour;
     context.strokeStyle = "#fff";
     context.lineWidth = 1;
-    const radius = zoom < 16 ? 3 : 4;
     context.beginPath();
-    for (const slot of tagged) {
-      const [x, y] = pixelOf(slot);
+    for (const [x, y] of points) {
       context.moveTo(x + radius, y);
       context.arc(x, y, radius, 0, 7);
     }
     context.fill();
     context.stroke();
-    return slots.length;
+    if (!sign || !isSigned) return;
+    context.fillStyle = "#fff";
+    context.font = "700 11px system-ui, 'DejaVu Sans', sans-serif";
+    context.textAlign = "center";
+    context.textBaseline = "middle";
+    for (const [x, y] of points) context.fillText(sign, x, y + 0.5);
   }
 
   /**

@@ -2,37 +2,52 @@
 "use strict";
 
 /**
- * A line of the form: a tag as it is typed, what it was when it was saved, and whether it is to be removed.
- * @typedef {{ key: string, value: string, was: { key: string, value: string } | null, isRemoved: boolean }} TagLine
+ * A line of the form: a tag as it is typed, what it was when it was saved, and whether it is to be removed. Of several
+ * elements a line `isMixed` if its values differ, or some elements do not have the key; its value is empty then.
+ * @typedef {{ key: string, value: string, was: { key: string, value: string } | null, isRemoved: boolean,
+ *   isMixed?: boolean }} TagLine
  */
 
 /**
- * The tags of an element in fields. Typed fields stay until they are saved, even if others change the tags. The last
- * line is empty, for a new tag.
+ * The tags of elements in fields. Typed fields stay until they are saved, even if others change the tags. The last line
+ * is empty, for a new tag.
  */
 class TagDraft {
-  /** @param {MapElement} row */
-  constructor(row) {
-    this.el = row.el;
+  /** @param {MapElement[]} rows */
+  constructor(rows) {
+    this.els = rows.map(({ el }) => el);
     /** @type {TagLine[]} */
     this.lines = [];
-    this.take(row);
+    this.take(rows);
+  }
+
+  /** The names of the elements, by which a draft is found. */
+  get key() {
+    return this.els.join(" ");
   }
 
   /**
-   * Takes the element as it is now: lines that nobody typed in follow it.
-   * @param {MapElement} row
+   * Takes the elements as they are now: lines that nobody typed in follow them.
+   * @param {MapElement[]} rows
    */
-  take(row) {
+  take(rows) {
+    const tags = commonTags(rows);
     const empty = this.lines.find((each) => !each.was && !this.isTyped(each));
-    this.lines = this.lines.filter((each) => this.isTyped(each) || (each.was && Object.hasOwn(row.tags, each.was.key)));
-    for (const [key, value] of Object.entries(row.tags)) {
-      const had = this.lines.find(({ was }) => was?.key === key);
-      if (!had) this.lines.push({ key, value, was: { key, value }, isRemoved: false });
-      else if (!this.isTyped(had)) Object.assign(had, { value, was: { key, value } });
-      else had.was = { key, value };
+    this.lines = this.lines.filter((each) => this.isTyped(each) || (each.was && tags.has(each.was.key)));
+    for (const [key, value] of tags) {
+      const was = { key, value: value ?? "" };
+      const isMixed = value === null;
+      const had = this.lines.find((each) => each.was?.key === key);
+      if (!had) this.lines.push({ ...was, was, isRemoved: false, isMixed });
+      else if (!this.isTyped(had)) Object.assign(had, { value: was.value, was, isMixed });
+      else Object.assign(had, { was, isMixed });
     }
-    this.lines.push(empty ?? { key: "", value: "", was: null, isRemoved: false });
+    this.lines.push(empty ?? this.newLine());
+  }
+
+  /** @returns {TagLine} */
+  newLine() {
+    return { key: "", value: "", was: null, isRemoved: false };
   }
 
   /**
@@ -65,7 +80,24 @@ class TagDraft {
   set(key, value) {
     const had = this.lines.find((each) => each.key === key && !each.isRemoved);
     if (had) had.value = value;
-    else this.lines.push({ key, value, was: null, isRemoved: false });
+    else this.lines.push({ ...this.newLine(), key, value });
+  }
+
+  /**
+   * Why the lines cannot be saved, as a sentence, or null.
+   * @returns {string | null}
+   */
+  fault() {
+    const nameless = this.typed().find(({ key, value, isRemoved }) => !key.trim() && value && !isRemoved);
+    if (nameless) return `A tag needs a key: “${nameless.value}” has none.`;
+    const mixed = this.typed().find(({ key, value, was, isMixed, isRemoved }) => (
+      isMixed && !isRemoved && was && key.trim() !== was.key && value === ""
+    ));
+    if (mixed) return `“${mixed.was?.key}” has several values: give it one, to change its key.`;
+    const keys = this.lines.filter(({ isRemoved }) => !isRemoved).map(({ key }) => key.trim()).filter(Boolean);
+    const twice = keys.find((key, at) => keys.indexOf(key) !== at);
+    if (twice === undefined) return null;
+    return `“${twice}” is there twice. An element has each key once: change or remove one of the two.`;
   }
 
   /** What a retag has to say: the tags that differ, and null for those that go. */
@@ -79,4 +111,31 @@ class TagDraft {
     for (const { key, value, isRemoved } of typed) if (key.trim() && !isRemoved) changes[key.trim()] = value;
     return changes;
   }
+
+  /**
+   * What the retag of an element has to say: the changes that it does not have.
+   * @param {MapElement} row
+   */
+  changesOf({ tags }) {
+    /** @param {string} key */
+    const before = (key) => (Object.hasOwn(tags, key) ? tags[key] : null);
+    /** @param {[key: string, value: string | null]} tag */
+    const isReal = ([key, value]) => value !== before(key) && (value !== "" || before(key) !== null);
+    return Object.entries(this.changes()).filter(isReal);
+  }
+}
+
+/**
+ * The tags of some elements: null for a key of which the values differ, or that some of them do not have.
+ * @param {MapElement[]} rows
+ * @returns {Map<string, string | null>}
+ */
+function commonTags(rows) {
+  /** @type {Map<string, string | null>} */
+  const common = new Map();
+  for (const key of rows.flatMap(({ tags }) => Object.keys(tags))) {
+    const values = rows.map(({ tags }) => (Object.hasOwn(tags, key) ? tags[key] : null));
+    common.set(key, values.every((value) => value === values[0]) ? values[0] : null);
+  }
+  return common;
 }

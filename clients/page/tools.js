@@ -3,7 +3,7 @@
 "use strict";
 
 /**
- * @typedef {ToolId | "move" | "members"} Tool
+ * @typedef {ToolId | "move" | "rotate" | "members"} Tool
  *
  * What a tool begins with: the relation whose members are picked, or a drawing.
  * @typedef {Partial<Draft> & { relation?: string }} ToolOptions
@@ -12,9 +12,15 @@
  * @typedef {{ places: Place[], isArea: boolean, extend: string | null, isUnsaved: boolean, error: Failure | null,
  *   preset?: string }} Draft
  *
- * Elements that are dragged: which, their nodes, from where, how far, and the one node with the node that it meets.
+ * Elements that are dragged: which, their nodes, from where, how far, and the one node with the node or the segments
+ * that it meets.
  * @typedef {{ els: string[], nodes: Set<number>, from: Position, dx: number, dy: number, single: string | null,
- *   onto?: string | null, box?: undefined }} Dragged
+ *   onto?: string | null, joins?: Place | null, middle?: EndedSegment, turn?: Turn, box?: undefined }} Dragged
+ *
+ * With `middle`, a new node is dragged out of that segment. With `turn`, the elements are turned and not moved.
+ *
+ * A turn on the plane, round a position by an angle.
+ * @typedef {{ round: Position, angle: number }} Turn
  *
  * A box that is drawn by a drag, between two points.
  * @typedef {{ box: Point, to: Point }} BoxDrag
@@ -23,11 +29,16 @@
  * @typedef {NearSegment & { one: number, other: number, ends: [Position, Position] }} EndedSegment
  */
 
+const HIT = 6; // how many pixels away a node that is not selected, or a handle, is dragged
+const MOST_STACKED = 6; // elements at one point that can be chosen
+const LEAST_SEGMENT = 36; // pixels of a segment that has a handle in its middle
 const REACH = { mouse: 10, touch: 20 }; // how many pixels away something is hit
 /** @type {Record<string, [right: number, down: number]>} */
 const MOVE_KEYS = { ArrowLeft: [-1, 0], ArrowRight: [1, 0], ArrowUp: [0, -1], ArrowDown: [0, 1] };
 /** @type {Record<string, Tool>} */
-const TOOL_KEYS = { v: "select", p: "point", l: "line", a: "area", m: "move" };
+const TOOL_KEYS = { v: "select", p: "point", l: "line", a: "area", m: "move", r: "rotate" };
+/** @type {Record<string, "square" | "circle" | "straighten">} */
+const SHAPE_KEYS = { q: "square", o: "circle", s: "straighten" };
 const FRESH_FOR = 4000; // milliseconds for which what others changed is marked
 
 /** @type {Record<"mouse" | "touch", Partial<Record<Tool | "again", string>>>} */
@@ -37,6 +48,7 @@ const HINTS = {
     line: "Click where the line goes. A double click or Enter finishes it, Backspace removes its last point.",
     area: "Click the corners. A double click, Enter or a click on the first corner finishes.",
     move: "Drag what is selected, or move it with the arrow keys. Escape ends that.",
+    rotate: "Drag beside the middle of what is selected, or turn it with the arrow keys. Escape ends that.",
     members: "Click what is to be a member, or to be none any more. Escape ends that.",
     again: "Press Enter to save it, or Escape to drop it.",
   },
@@ -45,6 +57,7 @@ const HINTS = {
     line: "Tap where the line goes. “Finish” finishes it, “Remove last” removes its last point.",
     area: "Tap the corners. “Finish” or a tap on the first corner finishes.",
     move: "Drag what is selected. “Select” ends that.",
+    rotate: "Drag beside the middle of what is selected. “Select” ends that.",
     members: "Tap what is to be a member, or to be none any more. “Select” ends that.",
     again: "“Finish” saves it, “Cancel” drops it.",
   },
@@ -105,7 +118,7 @@ class Tools {
     $("drawing").hidden = !isDrawing;
     $("finish").hidden = $("back").hidden = !isWay;
     $("map").classList.toggle("drawing", tool !== "select");
-    if (isDrawing) this.offerPresets(tool === "point" ? "n" : "w", about.preset);
+    if (isDrawing) this.offerPresets(tool === "point" ? "n" : tool === "area" ? "a" : "w", about.preset);
     const hint = this.hintOf(tool);
     if (hint) page.say(hint);
     else if (page.isHint) page.say("");
@@ -123,9 +136,9 @@ class Tools {
     return HINTS[this.page.isTouch ? "touch" : "mouse"][tool];
   }
 
-  /** @param {"n" | "w"} kind */
+  /** @param {"n" | "w" | "a"} kind */
   offerPresets(kind, chosen = "") {
-    const fitting = PRESETS.filter(({ on }) => on.includes(kind));
+    const fitting = presetsFor(kind).filter(({ tags }) => hasTags(tags));
     const options = [new Option("nothing yet", ""), ...fitting.map(({ label }) => new Option(label, label))];
     $("preset").replaceChildren(...options);
     $("preset").value = chosen;
@@ -184,6 +197,31 @@ class Tools {
   }
 
   /**
+   * All that lies at a point: nodes, lines, and areas from the smallest on.
+   * @param {Point} point
+   */
+  allAt(point, isTouch = false) {
+    const { page } = this;
+    const at = page.view.positionAt(point);
+    const reach = this.reach(isTouch);
+    const first = this.find(point, isTouch);
+    const nodes = page.shapes.nodesAt(at, reach).filter(({ el }) => hasTags(page.elements.get(el)?.tags ?? {}));
+    const ways = page.shapes.segmentsAt(at, reach);
+    const els = [...(first ? [first] : []), ...[...nodes, ...ways].map(({ el }) => el), ...page.shapes.areasAt(at)];
+    return [...new Set(els)].filter((el) => page.elements.has(el)).slice(0, MOST_STACKED);
+  }
+
+  /**
+   * What comes after what is selected, of all that lies at a point.
+   * @param {Point} point
+   * @param {boolean} isTouch
+   */
+  nextAt(point, isTouch) {
+    const els = this.allAt(point, isTouch);
+    return els[(els.indexOf(this.page.selected[0]) + 1) % els.length] ?? null;
+  }
+
+  /**
    * The place that a click means while something is drawn: at a node, on segments, or free.
    * @param {Point} point
    * @param {boolean} [isTouch]
@@ -196,9 +234,18 @@ class Tools {
     const reach = this.reach(isTouch) * 1.2;
     const own = this.ownPlace(at, reach);
     if (own) return own;
-    const node = page.shapes.nodesAt(at, reach)[0];
+    const node = page.shapes.nodesAt(at, reach).find(({ el }) => this.isJoint(el));
     if (node && Number.isSafeInteger(idOf(node.el))) return { x: node.x, y: node.y, el: node.el };
     return this.snapToSegments(at, reach) ?? at;
+  }
+
+  /**
+   * Whether lines may meet at a node: a tree or a stop that is no part of a line is none of theirs.
+   * @param {string} el
+   */
+  isJoint(el) {
+    const { shapes, elements } = this.page;
+    return shapes.usersOf(el).length > 0 || !hasTags(elements.get(el)?.tags ?? {});
   }
 
   /**
@@ -214,21 +261,41 @@ class Tools {
   /**
    * @param {Position} at
    * @param {number} reach
+   * @param {number} [without] a node whose own segments do not count
    * @returns {Place | null}
    */
-  snapToSegments(at, reach) {
-    const { page } = this;
-    /** @param {NearSegment} segment */
-    const isUsable = ({ el }) => areSafe(page.elements.get(el)?.nodes ?? [NaN]);
-    const near = page.shapes.segmentsAt(at, reach).filter(isUsable).flatMap((segment) => this.withEnds(segment) ?? []);
+  snapToSegments(at, reach, without) {
+    const near = this.segmentsNear(at, reach).filter(({ one, other }) => one !== without && other !== without);
     if (near.length === 0) return null;
     const [first] = near;
     const crossing = this.crossingOf(near, at, reach);
     const place = crossing ?? { x: first.x, y: first.y };
     const chosen = near.filter((each) => this.isSameSegment(each, first) || (crossing && each === crossing.with)
       || (crossing && this.isSameSegment(each, crossing.with)));
-    const segments = chosen.map(({ el, one, other, ends }) => ({ el, one, other, part: partOf(place, ends) }));
-    return { x: place.x, y: place.y, segments };
+    return this.placeOn(chosen, place);
+  }
+
+  /**
+   * The segments within a distance that can be changed, the nearest first.
+   * @param {Position} at
+   * @param {number} reach
+   */
+  segmentsNear(at, reach) {
+    const { page } = this;
+    /** @param {NearSegment} segment */
+    const isUsable = ({ el }) => areSafe(page.elements.get(el)?.nodes ?? [NaN]);
+    return page.shapes.segmentsAt(at, reach).filter(isUsable).flatMap((segment) => this.withEnds(segment) ?? []);
+  }
+
+  /**
+   * @param {EndedSegment[]} segments
+   * @param {Position} position
+   * @returns {Place}
+   */
+  placeOn(segments, { x, y }) {
+    return {
+      x, y, segments: segments.map(({ el, one, other, ends }) => ({ el, one, other, part: partOf({ x, y }, ends) })),
+    };
   }
 
   /**
@@ -270,10 +337,10 @@ class Tools {
 
   /**
    * @param {Point} point
-   * @param {{ isTouch?: boolean, isMore?: boolean }} how
+   * @param {{ isTouch?: boolean, isMore?: boolean, isNext?: boolean }} how
    * @returns {void}
    */
-  click(point, { isTouch = false, isMore = false } = {}) {
+  click(point, { isTouch = false, isMore = false, isNext = false } = {}) {
     const { page } = this;
     page.closeMenu();
     this.clickedWith = this.tool;
@@ -283,7 +350,9 @@ class Tools {
     } else if (this.draft) {
       this.addPlace(this.snap(point, isTouch));
     } else {
-      this.clickElement(this.find(point, isTouch), isMore);
+      const el = isNext ? this.nextAt(point, isTouch) : this.find(point, isTouch);
+      const area = this.tool === "select" ? page.shapes.multipolygonAt(page.view.positionAt(point)) : null;
+      this.clickElement(el ?? area, isMore);
     }
   }
 
@@ -295,7 +364,7 @@ class Tools {
     const { page, relation } = this;
     if (this.tool === "members") {
       if (el && relation) page.toggleMember(relation, el);
-    } else if (this.tool === "move") {
+    } else if (this.tool === "move" || this.tool === "rotate") {
       this.use("select");
     } else if (!isMore) {
       page.select(...(el ? [el] : []));
@@ -314,7 +383,25 @@ class Tools {
     // The first of the two clicks has made the last point.
     if (this.draft) this.finish();
     else if (this.tool !== "select") this.click(point);
-    else if (this.clickedWith === "select") this.page.view.zoomBy(event.shiftKey ? -1 : 1, point);
+    else if (this.clickedWith === "select") this.doubleClickElement(point, event);
+  }
+
+  /**
+   * Adds a node to the line at a point. Where there is nothing, the map comes nearer.
+   * @param {Point} point
+   * @param {PointerEvent} event
+   */
+  doubleClickElement(point, { pointerType, shiftKey }) {
+    const { page } = this;
+    const isTouch = pointerType !== "mouse";
+    const el = this.find(point, isTouch);
+    if (!el) return page.view.zoomBy(shiftKey ? -1 : 1, point);
+    const near = this.segmentsNear(page.view.positionAt(point), this.reach(isTouch));
+    const segment = near.find((each) => each.el === el);
+    if (!segment || !page.isInside) return page.select(el);
+    const place = this.placeOn(near.filter((each) => this.isSameSegment(each, segment)), segment);
+    const text = `added a node to ${page.titles([el])}`;
+    return page.perform(text, (newName) => Edits.point(place, {}, page.elements, newName), ([made]) => made);
   }
 
   /**
@@ -323,9 +410,10 @@ class Tools {
    */
   makePoint(place) {
     const { page } = this;
-    if (place.el) {
+    const there = place.el ?? page.shapes.nodesAt(place, 0)[0]?.el;
+    if (there) {
       page.sayWrong("There is a node at this place already.");
-      return page.select(place.el);
+      return page.select(there);
     }
     const tags = this.presetTags();
     this.use("select");
@@ -497,18 +585,72 @@ class Tools {
    */
   grab(point, event) {
     const { page } = this;
-    if (!page.session?.room || page.selected.length === 0) {
-      return event.shiftKey && this.tool === "select" && this.beginBox(point);
-    }
-    if (this.tool === "move") return this.grabAll(point);
+    if (this.tool === "move" && page.session?.room) return this.grabAll(point);
+    if (this.tool === "rotate" && page.session?.room) return this.grabTurn(point);
     if (this.tool !== "select") return false;
     if (event.shiftKey) return this.beginBox(point);
+    if (!page.session?.room) return false;
     const at = page.view.positionAt(point);
     const isTouch = event.pointerType !== "mouse";
+    return this.grabNode(at, isTouch) || (!isTouch && (this.grabMiddle(at) || this.grabWay(point, at)));
+  }
+
+  /**
+   * Begins to drag a node: one that is selected or, with a mouse, one of a selected way, or one that is seen exactly
+   * there.
+   * @param {Position} at
+   * @param {boolean} isTouch
+   */
+  grabNode(at, isTouch) {
+    const { page } = this;
     const [node] = page.shapes.nodesAt(at, this.reach(isTouch), (el) => page.selected.includes(el));
-    const isOfWay = node && page.shapes.usersOf(node.el).some((way) => page.selected.includes(way));
-    if (!node || !(page.selected.includes(node.el) || (isOfWay && !isTouch))) return false;
+    if (!node) return false;
+    const isOfWay = page.shapes.usersOf(node.el).some((way) => page.selected.includes(way));
+    const isHit = page.view.zoom >= 17 && node.distance * page.view.scale <= HIT && page.isInside;
+    if (!page.selected.includes(node.el) && (isTouch || !(isOfWay || isHit))) return false;
     this.dragged = { els: [node.el], nodes: new Set([idOf(node.el)]), from: at, dx: 0, dy: 0, single: node.el };
+    return true;
+  }
+
+  /**
+   * The segments of the selected way that have a handle in their middle.
+   * @returns {EndedSegment[]}
+   */
+  middles() {
+    const { page } = this;
+    const [el, ...others] = page.selected;
+    const way = others.length === 0 && page.view.zoom >= 17 ? page.elements.get(el ?? "") : null;
+    if (!way?.nodes || !areSafe(way.nodes) || this.tool !== "select" || !page.isInside) return [];
+    const segments = way.nodes.slice(1).flatMap((_, at) => (
+      this.withEnds({ el, index: at + 1, part: 0.5, x: 0, y: 0, distance: 0 }) ?? []
+    ));
+    return segments.filter(({ ends: [one, other] }) => distanceBetween(one, other) * page.view.scale > LEAST_SEGMENT)
+      .map((each) => ({ ...each, x: (each.ends[0].x + each.ends[1].x) / 2, y: (each.ends[0].y + each.ends[1].y) / 2 }));
+  }
+
+  /**
+   * Begins to drag a new node out of the middle of a segment.
+   * @param {Position} at
+   */
+  grabMiddle(at) {
+    const { page } = this;
+    const middle = this.middles().find((each) => distanceBetween(each, at) * page.view.scale <= HIT);
+    if (!middle) return false;
+    this.dragged = { els: [middle.el], nodes: new Set(), from: at, dx: 0, dy: 0, single: null, middle };
+    return true;
+  }
+
+  /**
+   * Begins to move what is selected, if a selected way is there.
+   * @param {Point} point
+   * @param {Position} at
+   */
+  grabWay(point, at) {
+    const { page } = this;
+    const el = this.find(point);
+    if (!el || el[0] !== "w" || !page.selected.includes(el)) return false;
+    const els = page.selected.filter((each) => each[0] !== "r");
+    this.dragged = { els, nodes: page.nodesOf(els), from: at, dx: 0, dy: 0, single: null };
     return true;
   }
 
@@ -523,8 +665,22 @@ class Tools {
     const isIn = at.x > box.west - margin && at.x < box.east + margin && at.y > box.north - margin
       && at.y < box.south + margin;
     if (els.length === 0 || !isIn) return false;
-    const nodes = new Set(els.flatMap((el) => page.elements.get(el)?.nodes ?? [idOf(el)]));
-    this.dragged = { els, nodes, from: at, dx: 0, dy: 0, single: null };
+    this.dragged = { els, nodes: page.nodesOf(els), from: at, dx: 0, dy: 0, single: null };
+    return true;
+  }
+
+  /**
+   * Begins to turn what is selected round its middle, wherever the map is pressed.
+   * @param {Point} point
+   */
+  grabTurn(point) {
+    const { page } = this;
+    const els = page.selected.filter((el) => el[0] !== "r");
+    const nodes = page.nodesOf(els);
+    if (nodes.size < 2) return false;
+    const round = page.middleOf(els);
+    const from = page.view.positionAt(point);
+    this.dragged = { els, nodes, from, dx: 0, dy: 0, single: null, turn: { round, angle: 0 } };
     return true;
   }
 
@@ -542,16 +698,18 @@ class Tools {
       dragged.to = point;
     } else {
       const at = page.view.positionAt(point);
+      const { turn, from } = dragged;
+      if (turn) turn.angle = angleTo(turn.round, at) - angleTo(turn.round, from);
       dragged.dx = at.x - dragged.from.x;
       dragged.dy = at.y - dragged.from.y;
-      dragged.onto = null;
+      dragged.onto = dragged.joins = null;
       if (dragged.single) this.snapDragged(dragged, dragged.single, at);
     }
     page.view.paintOverSoon();
   }
 
   /**
-   * A node that is dragged onto another is joined to it.
+   * A node that is dragged onto another is joined to it, and the end of a line to the segments that it is dragged onto.
    * @param {Dragged} dragged
    * @param {string} node
    * @param {Position} at
@@ -559,13 +717,22 @@ class Tools {
   snapDragged(dragged, node, at) {
     const { page } = this;
     const start = page.shapes.positionOf(node);
-    if (!start) return;
-    const onto = page.shapes.nodesAt(at, 8 / page.view.scale).find(({ el }) => el !== node);
-    const isOld = onto && Math.hypot(onto.x - start.x, onto.y - start.y) * page.view.scale < 8;
-    if (!onto || isOld || !this.isSnapping || !$("joining").checked) return;
-    dragged.onto = onto.el;
-    dragged.dx = onto.x - start.x;
-    dragged.dy = onto.y - start.y;
+    if (!start || !this.isJoint(node) || !this.isSnapping || !$("joining").checked) return;
+    const near = page.shapes.nodesAt(at, 8 / page.view.scale);
+    const onto = near.find(({ el }) => el !== node && this.isJoint(el));
+    const joins = !onto && this.isEnd(node) ? this.snapToSegments(at, 8 / page.view.scale, idOf(node)) : null;
+    const place = onto ?? joins;
+    if (!place || distanceBetween(place, start) * page.view.scale < 8) return;
+    Object.assign(dragged, { onto: onto?.el ?? null, joins, dx: place.x - start.x, dy: place.y - start.y });
+  }
+
+  /**
+   * Whether a line begins or ends at a node.
+   * @param {string} node
+   */
+  isEnd(node) {
+    const { shapes, elements } = this.page;
+    return shapes.usersOf(node).some((way) => Edits.endsAt(way, idOf(node), elements));
   }
 
   drop() {
@@ -589,10 +756,33 @@ class Tools {
    * @param {Dragged} dragged
    * @returns {Promise<unknown>}
    */
-  async saveDrag({ single, onto, els, dx, dy }) {
+  async saveDrag({ single, onto, joins, middle, turn, els, dx, dy }) {
+    const { page } = this;
+    if (turn) return page.rotate(els, turn.angle, turn.round);
+    if (middle) return this.saveMiddle(middle, dx, dy);
+    if (single && joins?.segments) {
+      const ways = page.titles([...new Set(joins.segments.map(({ el }) => el))]);
+      const build = () => Edits.moveOnto(single, joins, page.elements);
+      return page.perform(`joined ${single} to ${ways}`, build, () => single);
+    }
     if (!onto) return this.moveBy(els, dx, dy);
     const build = () => [{ do: "merge", el: onto, with: single }];
-    return this.page.perform(`joined ${single} to ${onto}`, build, () => onto);
+    return page.perform(`joined ${single} to ${onto}`, build, () => onto);
+  }
+
+  /**
+   * Makes a node of a way that was dragged out of the middle of a segment.
+   * @param {EndedSegment} middle
+   * @param {number} dx
+   * @param {number} dy
+   */
+  saveMiddle({ el, one, other, x, y }, dx, dy) {
+    const { page } = this;
+    const ways = page.shapes.usersOf(one).filter((way) => page.shapes.usersOf(other).includes(way));
+    const segments = ways.map((way) => ({ el: way, one, other, part: 0.5 }));
+    const place = { x: x + dx, y: y + dy, segments };
+    const text = `added a node to ${page.titles([el])}`;
+    return page.perform(text, (newName) => Edits.point(place, {}, page.elements, newName), () => el);
   }
 
   /**
@@ -669,6 +859,8 @@ class Tools {
     ];
     const row = el ? page.elements.get(el) : null;
     const isMore = row && page.selected.length > 0 && !page.selected.includes(row.el);
+    const others = page.rowsOf(this.allAt(point, true)).filter((each) => each !== row);
+    for (const each of others.reverse()) items.unshift([`Select ${titleOf(each)}`, () => page.select(each.el)]);
     if (isMore) items.unshift([`Select ${titleOf(row)} too`, () => page.select(...page.selected, row.el)]);
     else if (row) items.unshift([`Select ${titleOf(row)}`, () => page.select(row.el)]);
     page.openMenu(point, items);
@@ -692,7 +884,9 @@ class Tools {
     else if (key === "Delete" || key === "Backspace") this.draft || page.isHeld(event) || page.deleteSelected();
     else if (key === "Enter" && this.draft && !isIn(event, "button, a")) this.finish();
     else if (steps) page.isHeld(event) || this.nudge(steps, event.shiftKey ? 10 : 1);
-    else if (tool === "move") page.selected.length && this.use("move");
+    else if (isOnMap && this.tool === "rotate" && MOVE_KEYS[key]) page.isHeld(event) || this.turn(key, event.shiftKey);
+    else if (SHAPE_KEYS[key] && this.tool === "select") page.isHeld(event) || page.shape(SHAPE_KEYS[key]);
+    else if (tool === "move" || tool === "rotate") page.selected.length && this.use(tool);
     else if (tool) this.use(tool);
     else if (isOnMap && MOVE_KEYS[key]) page.view.pan(MOVE_KEYS[key][0] * 60, MOVE_KEYS[key][1] * 60);
     else if (isOnMap && (key === " " || key === "Enter")) this.click(page.view.middle());
@@ -711,6 +905,18 @@ class Tools {
     const { page } = this;
     const els = page.selected.filter((el) => el[0] !== "r");
     if (els.length) this.moveBy(els, (right * pixels) / page.view.scale, (down * pixels) / page.view.scale);
+  }
+
+  /**
+   * Turns what is selected by a key: by a degree, or ten.
+   * @param {string} key
+   * @param {boolean} isFar
+   */
+  turn(key, isFar) {
+    const [right, down] = MOVE_KEYS[key];
+    const { page } = this;
+    const els = page.selected.filter((el) => el[0] !== "r");
+    if (els.length) page.rotate(els, ((right + down) * (isFar ? 10 : 1) * Math.PI) / 180, page.middleOf(els));
   }
 
   // ---- What is drawn over the map
@@ -734,6 +940,8 @@ class Tools {
     const next = isDrawing && this.cursor ? this.snap(this.cursor) : null;
     if (this.draft) this.paintDraft(context, frame, this.draft, next);
     if (next) this.paintSnap(context, frame, next);
+    if (!this.dragged) this.paintMiddles(context, frame);
+    page.warnings.paint(context, frame);
     if (page.isByKeys) this.paintCross(context);
   }
 
@@ -771,6 +979,7 @@ class Tools {
     if (way) {
       shapes.trace(context, frame, way);
       context.stroke();
+      if (hasNodes && frame.scale >= 2 ** 24) this.paintDirection(context, frame, way);
       if (!hasNodes || frame.scale < 2 ** 24) return undefined;
     }
     for (const id of way ? new Set(row.nodes) : [idOf(el)]) {
@@ -778,6 +987,18 @@ class Tools {
       if (at) this.paintDot(context, this.place(at, frame), way ? 3 : 6, colour);
     }
     return undefined;
+  }
+
+  /**
+   * The arrows of a selected way show its direction, whether or not that means something.
+   * @param {CanvasRenderingContext2D} context
+   * @param {Frame} frame
+   * @param {WayShape} way
+   */
+  paintDirection(context, frame, way) {
+    context.beginPath();
+    traceArrows(context, this.page.shapes.pointsOf(way, frame), 1);
+    context.fill();
   }
 
   /**
@@ -835,10 +1056,20 @@ class Tools {
       context.setLineDash([]);
       return;
     }
+    if (dragged.middle) {
+      const { ends: [one, other], x, y } = dragged.middle;
+      const to = { x: x + dragged.dx, y: y + dragged.dy };
+      this.paintLine(context, frame, [one, to, other]);
+      context.setLineDash([]);
+      this.paintDot(context, this.place(to, frame), 5, "#d6006c");
+      return;
+    }
     /** @param {number} id */
     const moved = (id) => {
       const at = page.shapes.positionOf(id);
-      return at && (dragged.nodes.has(id) ? { x: at.x + dragged.dx, y: at.y + dragged.dy } : at);
+      if (!at || !dragged.nodes.has(id)) return at;
+      const { turn, dx, dy } = dragged;
+      return turn ? turnedBy([at], turn.angle, turn.round)[0] : { x: at.x + dx, y: at.y + dy };
     };
     const ways = new Set([...dragged.nodes].flatMap((id) => page.shapes.usersOf(id)));
     for (const el of [...ways].slice(0, 50)) {
@@ -847,7 +1078,7 @@ class Tools {
     context.setLineDash([]);
     for (const id of dragged.nodes) {
       const at = moved(id);
-      if (at) this.paintDot(context, this.place(at, frame), dragged.onto ? 8 : 5, "#d6006c");
+      if (at) this.paintDot(context, this.place(at, frame), dragged.onto || dragged.joins ? 8 : 5, "#d6006c");
     }
   }
 
@@ -884,6 +1115,24 @@ class Tools {
   }
 
   /**
+   * Small handles in the middle of the segments of the selected way.
+   * @param {CanvasRenderingContext2D} context
+   * @param {Frame} frame
+   */
+  paintMiddles(context, frame) {
+    context.fillStyle = "#fff";
+    context.strokeStyle = "#d6006c";
+    context.lineWidth = 1.5;
+    context.beginPath();
+    for (const middle of this.middles()) {
+      const [x, y] = this.place(middle, frame);
+      context.rect(x - 3, y - 3, 6, 6);
+    }
+    context.fill();
+    context.stroke();
+  }
+
+  /**
    * A ring where a click joins a node, a square where it joins a line.
    * @param {CanvasRenderingContext2D} context
    * @param {Frame} frame
@@ -915,22 +1164,4 @@ class Tools {
     context.lineTo(x, y + 12);
     context.stroke();
   }
-}
-
-/**
- * Where two segments cross, or null.
- * @param {readonly [Position, Position]} first
- * @param {readonly [Position, Position]} second
- * @returns {Position | null}
- */
-function intersectionOf([start, end], [from, to]) {
-  const one = { x: end.x - start.x, y: end.y - start.y };
-  const other = { x: to.x - from.x, y: to.y - from.y };
-  const apart = { x: from.x - start.x, y: from.y - start.y };
-  const turn = one.x * other.y - one.y * other.x;
-  if (turn === 0) return null;
-  const along = (apart.x * other.y - apart.y * other.x) / turn;
-  const across = (apart.x * one.y - apart.y * one.x) / turn;
-  const isOnBoth = along > 0 && along < 1 && across > 0 && across < 1;
-  return isOnBoth ? { x: start.x + along * one.x, y: start.y + along * one.y } : null;
 }

@@ -57,6 +57,7 @@ class View {
     /** @type {L.Layer | null} */
     this.tiles = null;
     this.tileCredit = "";
+    this.tileShift = { x: 0, y: 0 }; // on the plane
     this.map = L.map(container, {
       zoomControl: false, attributionControl: false, doubleClickZoom: false, boxZoom: false, tap: false, zoomSnap: 0.25,
       wheelPxPerZoomLevel: 100, minZoom: 1, maxZoom: 22, keyboard: false,
@@ -205,6 +206,7 @@ class View {
   /** Draws again if the window shows what is not drawn, or the zoom is another. */
   settle() {
     this.paintOverSoon();
+    this.placeTiles();
     if (this.painted?.zoom === this.zoom && this.isCovered(this.box())) return;
     this.paint();
   }
@@ -441,5 +443,39 @@ class View {
     if (!url) return;
     this.tiles = L.tileLayer(url, { maxNativeZoom: 19, maxZoom: 22 }).addTo(this.map);
     if (credit) this.credit.addAttribution(this.tileCredit);
+  }
+
+  /**
+   * Shifts the tiles by a distance on the plane.
+   * @param {number} x
+   * @param {number} y
+   */
+  shiftTiles(x, y) {
+    this.tileShift = { x, y };
+    this.placeTiles();
+  }
+
+  placeTiles() {
+    const { style } = this.map.getPane("tilePane");
+    style.left = `${this.tileShift.x * this.scale}px`;
+    style.top = `${this.tileShift.y * this.scale}px`;
+  }
+
+  /**
+   * Shows a part of the tiles' colours, from 0 to 1.
+   * @param {number} part
+   */
+  fadeTiles(part) {
+    this.map.getPane("tilePane").style.opacity = String(part);
+  }
+
+  /**
+   * Shows a part of the areas' colours, from 0 to 1.
+   * @param {number} part
+   */
+  fadeAreas(part) {
+    if (this.shapes.fillPart === part) return;
+    this.shapes.fillPart = part;
+    this.paint();
   }
 }

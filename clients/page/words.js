@@ -8,9 +8,6 @@
  *
  * An error of a change. `no` has the room's refusal, and `text` is what the change did.
  * @typedef {Error & Partial<Refusal> & { no?: Refusal, text?: string, cause?: Error }} Failure
- *
- * A usual thing, with its tags, for nodes (`n`) or ways (`w`), and the keys whose values the mapper adds.
- * @typedef {{ label: string, on: string, tags: Tags, asks: string[] }} Preset
  */
 
 /** @type {Record<string, string>} */
@@ -139,6 +136,17 @@ const REFUSALS = {
   no_answer: () => "No answer came. Look at the map: the change may be there or not.",
   gone: () => "What this is about is not there any more.",
   not_its_end: ({ el }) => `${el} does not end there any more. You can save the drawing as a way of its own.`,
+  other_direction: ({ el, by, key }) => `Not joined: ${by} has ${key}, which means something by its direction, and `
+    + `${el} has not. Make them equal first.`,
+  against_direction: ({ el, by, key }) => `Not joined: ${el} and ${by} have ${key}, and run against each other there. `
+    + "Reverse one of them first.",
+  other_relations: ({ el, by, at }) => `Not joined: ${by} is a member of ${at}, and ${el} is not. Add it to ${at} `
+    + "first.",
+  other_roles: ({ el, by, at }) => `Not joined: ${el} and ${by} have different roles in ${at}.`,
+  not_square: () => "Not squared: it has corners that are far from square.",
+  not_closed: ({ el }) => `${el} is not closed.`,
+  not_open: ({ el }) => `${el} is closed.`,
+  closed_way: ({ el }) => `${el} is closed: select the two nodes at which it is to be split.`,
   other_nodes: ({ el }) => `Somebody changed the nodes of ${el} meanwhile. Select it again, and change its list.`,
   not_meant: () => "Nothing was undone or redone, because the change before was not saved.",
   unsafe: () => "The id of a node is too large: the line cannot be changed here.",
@@ -172,19 +180,3 @@ function colourOf(author) {
   for (const sign of author) sum = (sum * 31 + sign.charCodeAt(0)) % 360;
   return `hsl(${(sum * 47) % 360} 75% 36%)`;
 }
-
-/** @type {Preset[]} */
-const PRESETS = [
-  { label: "Building", on: "w", tags: { building: "yes" }, asks: ["addr:street", "addr:housenumber"] },
-  { label: "House", on: "w", tags: { building: "house" }, asks: ["addr:street", "addr:housenumber"] },
-  { label: "Street", on: "w", tags: { highway: "residential" }, asks: ["name"] },
-  { label: "Footpath", on: "w", tags: { highway: "footway" }, asks: [] },
-  { label: "Track", on: "w", tags: { highway: "track" }, asks: ["surface"] },
-  { label: "Crossing", on: "n", tags: { highway: "crossing" }, asks: ["crossing"] },
-  { label: "Tree", on: "n", tags: { natural: "tree" }, asks: [] },
-  { label: "Bench", on: "n", tags: { amenity: "bench" }, asks: [] },
-  { label: "Bus stop", on: "n", tags: { highway: "bus_stop" }, asks: ["name"] },
-  { label: "Shop", on: "nw", tags: { shop: "yes" }, asks: ["name"] },
-  { label: "Parking", on: "nw", tags: { amenity: "parking" }, asks: [] },
-  { label: "Playground", on: "nw", tags: { leisure: "playground" }, asks: ["name"] },
-];

@@ -221,7 +221,7 @@ class PageAuthor(Author):
                 self.page.ask("Input.insertText", text=text)
         self.press_button("#selected button", "Save tags")
         settled(self.page)
-        self.page.get("page.panels.typed.clear(), page.select(), 0")
+        self.page.get("page.panels.tags.typed.clear(), page.select(), 0")
 
     def drag(self) -> None:
         """Drags a node, perhaps onto another one."""

@@ -122,7 +122,7 @@ def what_survives_a_restart() -> None:
         proxy.port = second.port
         anna.wait("page.session.state === 'open' && page.session.unsaved === 0")
         want((anna.get("page.tools.draft.places.length"), row(anna, "n4")["tags"]), (2, {"natural": "tree"}))
-        anna.wait("page.panels.typedElements().length === 1")
+        anna.wait("page.panels.tags.unsaved().length === 1")
         want(not_done(anna), [[UNKNOWN, ["made a relation of <img src=x onerror=alert(1)>, path w1"]]])
         anna.wait_text("#saved", "1 change perhaps not done")
         anna.wait_text("#undos", "Nothing yet")

@@ -20,7 +20,7 @@ from page_cases.opening import Row, a_node, base_of, browsing, page_case
 # How many elements the large map has, and how many milliseconds its parts may take on a machine that others use, too.
 # On an idle machine they took a fourth of that or less.
 LARGE = 72_000
-MOST = {"welcome": 2500, "news": 60, "find": 80, "paint": 250, "frame": 80}
+MOST = {"welcome": 2500, "news": 60, "find": 80, "paint": 250, "frame": 80, "warnings": 3000, "slice": 50}
 MOST_PAINTED = 4000
 MOST_HEAP = 70_000_000
 
@@ -68,6 +68,15 @@ FRAMES = """(async () => {
 })()"""
 
 
+# Has the page look for all warnings, and gives the milliseconds until they are listed.
+CHECK = """(async () => {
+    const began = performance.now();
+    $('check-map').click();
+    while (page.warnings.whole) await new Promise((done) => setTimeout(done, 5));
+    return performance.now() - began;
+})()"""
+
+
 @functools.lru_cache(maxsize=None)
 def a_large_base() -> str:
     """A large map to begin with: that of `--base`, or one that is made."""
@@ -80,8 +89,8 @@ def a_large_base() -> str:
 
 @page_case
 def a_large_map() -> None:
-    """A map of 72,000 elements: how long it takes to show it, to draw it, to take news and to find, and how much memory
-    it needs; all ways are drawn at every zoom."""
+    """A map of 72,000 elements: how long it takes to show it, to draw it, to take news, to find and to look for warnings,
+    and how much memory it needs; all ways are drawn at every zoom."""
     rows = json.loads(a_large_base())["ok"]["map"]
     with serving(workers=4, sessions=9, base=a_large_base()) as server, browsing() as (files, chrome):
         page = connect(opened(chrome, url_of(files, server.port, "anna")))
@@ -102,6 +111,9 @@ def a_large_map() -> None:
         for word in ("t", "tr", "tree 71"):
             page.fill("#find", word)
             took["find"] = max(took["find"], page.get("page.timings.find"))
+        took["warnings"] = page.get(CHECK)
+        slices = sorted(page.get("page.warnings.slices"))
+        took["slice"] = slices[len(slices) * 9 // 10]  # others use the machine, too
         page.ask("HeapProfiler.collectGarbage")
         heap = page.ask("Runtime.getHeapUsage")["usedSize"]
         told = ", ".join(f"{word} {milliseconds:.1f} ms" for word, milliseconds in took.items())

@@ -24,9 +24,8 @@ def tags_and_nodes(anna: Page) -> None:
     anna.click("#selected .tag button[aria-label='Remove surface']")
     anna.click("#selected button", "Save tags")
     anna.wait("!('surface' in page.elements.get('w1').tags)")
-    anna.get(
-        "(() => { const each = $('selected').querySelector('select');" " each.value = 'Street'; each.onchange(); })()"
-    )
+    anna.fill("#selected [data-field='Preset']", "street")
+    anna.press("Enter")
     anna.click("#selected button", "Save tags")
     comes(anna, "w1", "tags.highway", "residential")
     anna.click("#selected summary")
@@ -230,7 +229,7 @@ COLOUR = """(({ x, y }) => {
     return [...base.getContext('2d').getImageData(...at, 1, 1).data].join();
 })"""
 
-WATER, GREEN, NOTHING = "196,222,242,255", "213,232,200,255", "0,0,0,0"
+WATER, GREEN, WOOD, NOTHING = "196,222,242,255", "213,232,200,255", "185,216,168,255", "0,0,0,0"
 
 
 def lake() -> list[Row]:
@@ -277,7 +276,7 @@ def multipolygons() -> None:
         zoe.ask({"id": 6, "do": "undo"})
         anna.wait(f"{water} === '{WATER}'")
         zoe.ask({"id": 7, "do": "retag", "el": "r1", "tags": {"natural": "wood"}})
-        anna.wait(f"{water} === '{GREEN}'")
+        anna.wait(f"{water} === '{WOOD}'")
         want(anna.get(island), NOTHING)
         zoe.ask({"id": 8, "do": "retag", "el": "w3", "tags": {"landuse": "meadow"}})
         anna.wait(f"{island} === '{GREEN}'")

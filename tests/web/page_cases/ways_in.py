@@ -33,7 +33,7 @@ def find_what_is_there() -> None:
         anna.wait("$('found').firstChild.textContent === 'Rome Nova, town n90'")
         anna.click("#found button", "Rome Nova")
         anna.wait("Math.abs(page.view.map.getCenter().lat - 47.65) < 0.001")
-        anna.get("page.panels.complete($('selected').querySelector('input'), 'keys', { key: '' })")
+        anna.get("page.panels.tags.complete($('selected').querySelector('input'), 'keys', { key: '' })")
         want("shop" in anna.get("[...$('keys').options].map(({ value }) => value)"), True)
 
 
@@ -43,7 +43,7 @@ def keys_that_every_object_has() -> None:
     with pages("anna", rows=[a_node(1, 47.6, 8.2), a_node(2, 47.6, 8.3, shop="bakery")]) as (_, _, anna):
         anna.get("page.select('n1')")
         for key in ("constructor", "__proto__", "toString"):
-            anna.get(f"page.panels.complete($('selected').querySelector('input'), 'values', {{ key: '{key}' }})")
+            anna.get(f"page.panels.tags.complete($('selected').querySelector('input'), 'values', {{ key: '{key}' }})")
             want(anna.get("$('values').options.length"), 0)
             anna.fill("#selected .tag:last-child input", key)
             anna.fill("#selected .tag:last-child input:nth-child(2)", "brick")
