@@ -41,6 +41,8 @@ For clients, editors and the map page:
     page_files.py          a web server for the map page
     map_pages.py           the map page in such a page
     keepers.py             the keeper
+    followers.py           the replicator, and a web server for those who follow it
+    postgres.py            a server of PostgreSQL with PostGIS
 
 For authors who edit rooms at random, each with some client:
 

@@ -1,10 +1,12 @@
-"""A room's map as an OpenStreetMap XML file, alone or compared with the extract that the room was opened on."""
+"""A room's map as a file of OpenStreetMap, alone or compared with the extract that the room was opened on.
+
+A sink writes the file: `JosmSink` the XML that JOSM opens, and those of `plain.py` what other tools take."""
 from __future__ import annotations
 
 import difflib
 import json
 import re
-from typing import IO, Callable, Dict, Iterable, Iterator, List, Mapping, Sequence, Set, TextIO, Tuple
+from typing import IO, Callable, Dict, Iterable, Iterator, List, Mapping, Protocol, Sequence, Set, TextIO, Tuple
 from xml.etree import ElementTree
 
 from .core import Element
@@ -14,6 +16,7 @@ from .extract import (
     LeftOut,
     Member,
     Rows,
+    Source,
     all_members_of,
     held_tags,
     name_of,
@@ -21,7 +24,6 @@ from .extract import (
     row_in_text,
     row_of,
     text_of,
-    top_elements,
 )
 from .xml_elements import KINDS, LETTERS, replaced, tags_of
 
@@ -103,12 +105,43 @@ def row_in(rows: Mapping[str, Rows], name: str) -> Element:
     return row_in_text(text)
 
 
-class Writer:
-    """Writes elements as XML, one by one."""
+class Sink(Protocol):
+    """What writes the elements of a map, first those of the extract in its order, and then the new ones."""
 
-    def __init__(self, output: IO[bytes], attributes: Mapping[str, str]) -> None:
-        """Writes the beginning of a file, with the attributes of its root."""
+    def begin(self, attributes: Mapping[str, str]) -> None:
+        """Begins a file, with the attributes of the extract's root."""
+
+    def other(self, element: ElementTree.Element) -> None:
+        """Takes what an extract has besides nodes, ways and relations."""
+
+    def unchanged(self, element: ElementTree.Element) -> None:
+        """Takes an element as the extract has it."""
+
+    def changed(self, element: ElementTree.Element, row: Element, more_tags: Iterable[Tuple[str, str]]) -> None:
+        """Takes an element of the extract that mappers changed: as it is now, and with tags that the room did not see.
+        A node has its new place already."""
+
+    def deleted(self, element: ElementTree.Element) -> None:
+        """Takes an element of the extract that mappers deleted."""
+
+    def created(self, name: str, row: Element) -> None:
+        """Takes a new element, which `row` has under `name`."""
+
+    def known(self, name: str, row: Element) -> None:
+        """Takes an element of a map without an extract whose id is positive, so that OpenStreetMap may have it."""
+
+    def end(self) -> int:
+        """Writes the rest. Returns how many characters XML cannot hold, and were replaced."""
+
+
+class JosmSink:
+    """Writes XML for JOSM: elements in the order in which they come, with what was done to them."""
+
+    def __init__(self, output: IO[bytes]) -> None:
         self.output, self.replaced = output, 0
+
+    def begin(self, attributes: Mapping[str, str]) -> None:
+        """Writes the beginning of a file, with the attributes of its root."""
         root = ElementTree.Element("osm", {"version": "0.6", **attributes, "generator": "maproom map_to_osm"})
         root.text = "\n"
         opening = ElementTree.tostring(root, "unicode").rpartition("</")[0]
@@ -118,33 +151,64 @@ class Writer:
         """Writes some text."""
         self.output.write(text.encode())
 
-    def write(self, element: ElementTree.Element) -> None:
+    def unchanged(self, element: ElementTree.Element) -> None:
         """Writes an element."""
         self.put(f"  {ElementTree.tostring(element, 'unicode').strip()}\n")
 
+    def other(self, element: ElementTree.Element) -> None:
+        """Writes, for example, the bounds."""
+        self.unchanged(element)
+
+    def changed(self, element: ElementTree.Element, row: Element, more_tags: Iterable[Tuple[str, str]]) -> None:
+        """Writes a changed element."""
+        element.set("action", "modify")
+        self.write_row(row, element, more_tags)
+
+    def deleted(self, element: ElementTree.Element) -> None:
+        """Writes a deleted element."""
+        element.set("action", "delete")
+        self.unchanged(element)
+
+    def created(self, name: str, row: Element) -> None:
+        """Writes a new element."""
+        self.write_row(row, new_element(name, row, action="modify"))
+
+    def known(self, name: str, row: Element) -> None:
+        """Writes an element of unknown version. JOSM needs a version."""
+        self.write_row(row, new_element(name, row, version="1"))
+
     def write_row(self, row: Element, element: ElementTree.Element, more_tags: Iterable[Tuple[str, str]] = ()) -> None:
         """Writes an element whose attributes are there, with the content of a row, and perhaps with more tags."""
-        for child in [child for child in element if child.tag in ("nd", "member", "tag")]:
-            element.remove(child)
-        for number in row.get("nodes", ()):
-            ElementTree.SubElement(element, "nd", ref=str(number))
-        for name, role in row.get("members", ()):
-            ElementTree.SubElement(element, "member", type=KINDS[name[0]], ref=name[1:], role=self.sayable(role))
-        for key, value in (*row["tags"].items(), *more_tags):
-            ElementTree.SubElement(element, "tag", k=self.sayable(key), v=self.sayable(value))
+        self.replaced += fill(element, row, more_tags)
         ElementTree.indent(element, level=1)
-        self.write(element)
+        self.unchanged(element)
 
-    def sayable(self, text: str) -> str:
-        """A text as XML can hold it."""
-        text, count = replaced(text)
-        self.replaced += count
-        return text
-
-    def end(self) -> None:
+    def end(self) -> int:
         """Writes the end."""
         self.put("</osm>\n")
         self.output.flush()
+        return self.replaced
+
+
+def fill(element: ElementTree.Element, row: Element, more_tags: Iterable[Tuple[str, str]] = ()) -> int:
+    """Gives an element the content of a row, and perhaps more tags. Returns how many characters were replaced."""
+    for child in [child for child in element if child.tag in ("nd", "member", "tag")]:
+        element.remove(child)
+    count = 0
+
+    def sayable(text: str) -> str:
+        nonlocal count
+        text, characters = replaced(text)
+        count += characters
+        return text
+
+    for number in row.get("nodes", ()):
+        ElementTree.SubElement(element, "nd", ref=str(number))
+    for name, role in row.get("members", ()):
+        ElementTree.SubElement(element, "member", type=KINDS[name[0]], ref=name[1:], role=sayable(role))
+    for key, value in (*row["tags"].items(), *more_tags):
+        ElementTree.SubElement(element, "tag", k=sayable(key), v=sayable(value))
+    return count
 
 
 def new_element(name: str, row: Element, **attributes: str) -> ElementTree.Element:
@@ -161,18 +225,16 @@ def set_position(element: ElementTree.Element, row: Element) -> None:
     element.set("lon", row["lon"])
 
 
-def write_alone(rows: Mapping[str, Rows], output: IO[bytes]) -> Tuple[Dict[str, int], int]:
+def write_alone(rows: Mapping[str, Rows], sink: Sink) -> Tuple[Dict[str, int], int]:
     """Writes a map of which no extract is there. Returns the counts that the program prints, and the number of
     characters that XML cannot hold."""
     is_known = any(number > 0 for each in rows.values() for number in each.ids)
-    writer = Writer(output, {"upload": "never"} if is_known else {})
+    sink.begin({"upload": "never"} if is_known else {})
     for letter, each in rows.items():
         for place, number in enumerate(each.ids):
-            row = row_in_text(each.text_at(place))
-            attributes = {"version": "1"} if number > 0 else {"action": "modify"}
-            writer.write_row(row, new_element(f"{letter}{number}", row, **attributes))
-    writer.end()
-    return {"elements": sum(map(len, rows.values()))}, writer.replaced
+            take = sink.known if number > 0 else sink.created
+            take(f"{letter}{number}", row_in_text(each.text_at(place)))
+    return {"elements": sum(map(len, rows.values()))}, sink.end()
 
 
 def put_back(whole: Sequence[Member], is_held: Callable[[Member], bool], members: Sequence[Member]) -> List[Member]:
@@ -208,13 +270,13 @@ class Edited:
     """
 
     def __init__(
-        self, rows: Mapping[str, Rows], file: IO[bytes], report: Callable[[str], None], many_gone: bool = False
+        self, rows: Mapping[str, Rows], source: Source, report: Callable[[str], None], many_gone: bool = False
     ) -> None:
         """Compares the rows of a map with an extract. `report` is called with each thing that a mapper should know.
 
         Raises BadFile or OSError. If more than half of the extract is gone from the map, that is a BadFile, unless
         `many_gone` is true."""
-        self.rows, self.base, self.report = rows, Base(file), report
+        self.rows, self.base, self.report = rows, Base(source), report
         self.counts = dict.fromkeys(("new", "changed", "deleted", "as they were", "kept"), 0)
         count = sum(map(len, self.base.rows.values()))
         gone = count - sum(self.base.has(name) for name in self.names())
@@ -273,27 +335,30 @@ class Edited:
             row["members"] = [[self.new_names.get(name, name), role] for name, role in row["members"]]
         return row
 
-    def write(self, file: IO[bytes], output: IO[bytes]) -> Tuple[Dict[str, int], int]:
-        """Writes the extract as the map has it, and then what is new. Returns the counts that the program prints, and
-        the number of characters that XML cannot hold."""
-        elements = top_elements(file)
-        root = next(elements)
-        writer = Writer(output, root.attrib)
+    def write(self, source: Source, sink: Sink) -> Tuple[Dict[str, int], int]:
+        """Writes the extract, which is read again, as the map has it, and then what is new. Returns the counts that the
+        program prints, and the number of characters that XML cannot hold."""
         written: Set[str] = set()
-        for element in elements:
-            if element.tag in LETTERS:
-                self.write_edited(element, writer, written)
+        is_root = True
+
+        def take(element: ElementTree.Element) -> None:
+            nonlocal is_root
+            if is_root:
+                is_root = False
+                sink.begin(element.attrib)
+            elif element.tag in LETTERS:
+                self.write_edited(element, sink, written)
             else:
-                writer.write(element)
+                sink.other(element)
+
+        source.read(take)
         for name in self.names():
             if not self.base.has(name):
-                row = self.renamed(row_in(self.rows, name))
-                writer.write_row(row, new_element(self.new_names.get(name, name), row, action="modify"))
+                sink.created(self.new_names.get(name, name), self.renamed(row_in(self.rows, name)))
                 self.counts["new"] += 1
-        writer.end()
-        return self.counts, writer.replaced
+        return self.counts, sink.end()
 
-    def write_edited(self, element: ElementTree.Element, writer: Writer, written: Set[str]) -> None:
+    def write_edited(self, element: ElementTree.Element, sink: Sink, written: Set[str]) -> None:
         """Writes an element of the extract as it is now."""
         name = name_of(element)
         is_held = self.base.has(name) and (name not in self.base.left_out or is_fine(element))
@@ -304,20 +369,23 @@ class Edited:
             written.add(name)
         row = self.rows[name[0]].text(int(name[1:])) if is_held else None
         if not is_held or row == self.base.rows[name[0]].text(int(name[1:])):
-            self.count_and_write("as they were", element, writer)
+            self.counts["as they were"] += 1
+            sink.unchanged(element)
         elif row is not None:
             self.counts["changed"] += 1
-            self.write_changed(element, row_in_text(row), writer)
+            self.write_changed(element, row_in_text(row), sink)
         elif name in self.kept:
             self.report(f"{name} is gone from the map, and kept: something refers to it that the room did not see")
-            self.count_and_write("kept", element, writer)
+            self.counts["kept"] += 1
+            sink.unchanged(element)
         elif int(name[1:]) > 0:  # of what is gone and was never uploaded nothing is to be said
-            element.set("action", "delete")
-            self.count_and_write("deleted", element, writer)
-            if not is_whole(element, row_in(self.base.rows, name)):
+            self.counts["deleted"] += 1
+            is_seen = is_whole(element, row_in(self.base.rows, name))
+            sink.deleted(element)
+            if not is_seen:
                 self.report(f"{name} is deleted, with tags or members that the room did not see")
 
-    def write_changed(self, element: ElementTree.Element, row: Element, writer: Writer) -> None:
+    def write_changed(self, element: ElementTree.Element, row: Element, sink: Sink) -> None:
         """Writes an element of the extract that mappers changed. A tag that was cut is put back. If a mapper gave its key
         another value, that is reported instead."""
         before, seen = row_in(self.base.rows, row["el"]), held_tags(element)
@@ -337,13 +405,7 @@ class Edited:
         if "members" in row:
             members = [(name, role) for name, role in row["members"]]
             row["members"] = [list(each) for each in put_back(all_members_of(element), self.base.is_held, members)]
-        element.set("action", "modify")
-        writer.write_row(row, element, unseen)
-
-    def count_and_write(self, what: str, element: ElementTree.Element, writer: Writer) -> None:
-        """Writes an element of the extract with the content that it has, and counts it."""
-        self.counts[what] += 1
-        writer.write(element)
+        sink.changed(element, row, unseen)
 
 
 def is_fine(element: ElementTree.Element) -> bool:

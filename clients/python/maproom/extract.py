@@ -1,7 +1,10 @@
-"""An extract: an OpenStreetMap XML file as JOSM, Overpass or the API write it, and what a room can hold of it.
+"""An extract: the elements of a file of OpenStreetMap, and what a room can hold of them.
 
 The commands osm_to_base and map_to_osm share this module. map_to_osm has to know what osm_to_base made of an extract.
 Only then can it distinguish what mappers changed from what the room could not hold.
+
+The elements have the form of OpenStreetMap's XML, whatever the format of the file (`sources.py`). XML is read here by
+the standard library: pyosmium does not know JOSM's `action`, and stops at what a room can leave out.
 """
 from __future__ import annotations
 
@@ -11,7 +14,7 @@ import re
 from array import array
 from bisect import bisect_left
 from decimal import Decimal
-from typing import IO, Callable, Dict, Iterable, Iterator, List, Optional, Sequence, Set, Tuple, Union
+from typing import IO, Callable, Dict, Iterable, Iterator, List, Optional, Protocol, Sequence, Set, Tuple, Union
 from xml.etree import ElementTree
 
 from .core import Element, compact
@@ -51,12 +54,35 @@ Note = Callable[[str, str], None]
 Report = Callable[[str, str, str], None]
 
 
+# Called with the root of an extract, without its content, and then with each element right below it.
+Take = Callable[[ElementTree.Element], None]
+
+
 class BadFile(Exception):
     """A file that is no extract, or no map of a room."""
 
 
 class LeftOut(Exception):
     """Why a room cannot hold an element."""
+
+
+class Source(Protocol):
+    """An extract that can be read, as often as needed unless it is standard input."""
+
+    def read(self, take: Take) -> None:
+        """Calls `take` with the root, without its content, and then with each element. Raises BadFile or OSError."""
+
+
+class XmlSource:
+    """An extract in an XML file that is open. It can be read once."""
+
+    def __init__(self, file: IO[bytes]) -> None:
+        self.file = file
+
+    def read(self, take: Take) -> None:
+        """Reads the rest of the file. Raises BadFile or OSError."""
+        for element in top_elements(self.file):
+            take(element)
 
 
 def no_note(how: str, what: str) -> None:
@@ -271,13 +297,13 @@ class Base:
     - `needed` has the names that the extract refers to where the room does not see it.
     """
 
-    def __init__(self, file: IO[bytes], report: Report = no_report) -> None:
+    def __init__(self, source: Source, report: Report = no_report) -> None:
         """Reads an extract. Raises BadFile or OSError."""
         self.rows = {letter: Rows() for letter in LETTERS.values()}
         self.left_out: Set[str] = set()
         self.needed: Set[str] = set()
         self.report = report
-        self.read(file)
+        source.read(self.take)
         for letter, rows in self.rows.items():
             self.rows[letter] = rows.risen(functools.partial(self.report_second, letter))
         self.leave_out_ways()
@@ -287,17 +313,16 @@ class Base:
         """Reports an element that the extract has a second time."""
         self.report(f"{letter}{number}", "left out", "where it stands again, and the first is kept")
 
-    def read(self, file: IO[bytes]) -> None:
-        """Reads the rows, each without a look at other elements."""
-        for element in top_elements(file):
-            if element.tag not in LETTERS:
-                continue
-            name = name_of(element)
-            try:
-                row = row_of(element, functools.partial(self.report, name))
-                self.rows[name[0]].add(int(name[1:]), text_of(row))
-            except LeftOut as why:
-                self.leave_out(name, str(why), () if is_deleted(element) else refs_of(element))
+    def take(self, element: ElementTree.Element) -> None:
+        """Takes the row of an element, without a look at other elements."""
+        if element.tag not in LETTERS:
+            return
+        name = name_of(element)
+        try:
+            row = row_of(element, functools.partial(self.report, name))
+            self.rows[name[0]].add(int(name[1:]), text_of(row))
+        except LeftOut as why:
+            self.leave_out(name, str(why), () if is_deleted(element) else refs_of(element))
 
     def leave_out(self, name: str, why: str, refs: Iterable[str]) -> None:
         """Leaves an element out, which refers to others."""

@@ -8,5 +8,6 @@ The modules build on each other in this order, and each can be tested without th
 - ``planner``: an upload as actions of the room, or the API's error
 - ``connection``: what the rest needs of a room; ``memory_room`` is a room without a server
 - ``changesets``, ``preferences``, ``uploads``, ``calls``, ``page``: the calls of the API
+- ``measures``: figures for operators
 - ``http``, ``bridge``: the application that listens, and the whole program over a connection
 """

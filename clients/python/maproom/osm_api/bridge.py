@@ -21,7 +21,7 @@ SHUTDOWN_SECONDS = 10.0
 @dataclass(frozen=True)
 class Options:
     """How a bridge is run. Without `name` each request names its author by HTTP Basic. Other hosts than those of this
-    machine's loopback are listened on, and answered to, only if they are given."""
+    machine's loopback are listened on, and answered to, only if they are given. `kept` is the folder of the keeper."""
 
     name: str | None = None
     host: str = "127.0.0.1"
@@ -30,6 +30,7 @@ class Options:
     hosts: frozenset[str] = frozenset()
     public_url: str = ""
     seconds: float = 60
+    kept: Path | None = None
 
 
 class NotLoopback(Exception):
@@ -49,7 +50,7 @@ async def bridge(
     try:
         room_map = RoomMap(ledger)
         room.subscribe(room_map)
-        calls = Calls(room, room_map, options.seconds, note=note)
+        calls = Calls(room, room_map, options.seconds, note=note, kept=options.kept)
         await calls.start()
         async with listening(calls, options, note) as port:
             yield f"http://{f'[{options.host}]' if ':' in options.host else options.host}:{port}"

@@ -7,16 +7,20 @@ import time
 import weakref
 from collections.abc import AsyncIterable, AsyncIterator, Awaitable, Callable, Iterable, Mapping, Sequence
 from dataclasses import dataclass, field, replace
+from pathlib import Path
 from typing import TypeVar
 
+from ..authors import user_id
+from ..missing import MissingPackage
 from ..xml_elements import MOST_MEMBERS, MOST_NODES
 from . import osm_json, osm_xml
 from .changesets import Changesets
 from .connection import RoomConnection
-from .documents import Bounds, Change, ChangeAction, Changeset, ElementState, Limits, ResultRow, user_id
+from .documents import Bounds, Change, ChangeAction, Changeset, ElementState, Limits, ResultRow
 from .elements import is_in_world, units_of
 from .errors import ApiError, already_deleted, bad_request, body_too_large, no_connection, not_found
 from .ids import KINDS_BY_WORD, Kind, api_order, room_name
+from .measures import EXPOSITION, Measures
 from .osm_reading import Changes, ChangesetTags, Document, Reader, SingleElement, pieces_of
 from .page import MOST_ENTRIES, page
 from .planner import MOST_CHANGES
@@ -27,6 +31,9 @@ from .working import looked_up, worked
 
 XML, JSON, TEXT, HTML = "application/xml", "application/json", "text/plain", "text/html"
 PREFIX = "/api"
+
+# The paths of what operators watch.
+HEALTH, METRICS = "health", "metrics"
 
 # How many changesets a list has at most, the latest.
 MOST_LISTED = 100
@@ -119,16 +126,17 @@ Handler = Callable[..., Response | Awaitable[Response]]
 @dataclass(frozen=True)
 class Route:
     """A call: its method, the form of its path, and what answers it for the groups of the path. If it `writes`, the
-    request has to name its author before its body is read."""
+    request has to name its author before its body is read. If it `waits`, it waits a moment for a lost connection."""
 
     method: str
     path: re.Pattern[str]
     handler: Handler
+    waits: bool = True
 
     @property
     def writes(self) -> bool:
         """Whether it may change something."""
-        return self.method != "GET"
+        return self.method not in ("GET", "HEAD")
 
 
 class Calls:
@@ -142,7 +150,9 @@ class Calls:
         seconds: float = 60,
         clock: Callable[[], float] = time.time,
         note: Callable[[str], None] = lambda line: None,
+        kept: Path | None = None,
     ) -> None:
+        self.measures = Measures(room, room_map, kept, clock)
         self.uploads = Uploads(room, room_map, seconds, note)
         self._room, self._map, self._seconds, self._note = room, room_map, seconds, note
         self._changesets, self._preferences = Changesets(clock), Preferences()
@@ -184,7 +194,15 @@ class Calls:
             ("POST", r"undo", self._undo),
             ("POST", r"redo", self._redo),
         ]
-        return [Route(method, re.compile(path), handler) for method, path, handler in calls]
+        watched: list[tuple[str, str, Handler]] = [
+            ("GET", HEALTH, self._health),
+            ("HEAD", HEALTH, self._health),
+            ("GET", METRICS, self._metrics),
+        ]
+        return [
+            *(Route(method, re.compile(path), handler) for method, path, handler in calls),
+            *(Route(method, re.compile(path), handler, waits=False) for method, path, handler in watched),
+        ]
 
     async def start(self) -> None:
         """Asks the room about the uploads that a killed bridge had sent, and opens their changesets again."""
@@ -217,7 +235,8 @@ class Calls:
     async def _called(self, route: Route, request: Request, groups: Iterable[str]) -> Response:
         """Has a call answered."""
         turn = self._turn(request.named_author) if route.writes else contextlib.nullcontext()
-        await self._reached()
+        if route.waits:
+            await self._reached()
         async with turn:
             answered = route.handler(request, *groups)
             return await answered if isinstance(answered, Awaitable) else answered
@@ -271,6 +290,19 @@ class Calls:
             identity.update(piece)
             await worked(reader.feed, piece)
         return await worked(reader.end), identity.hexdigest()
+
+    # what operators watch
+
+    def _health(self, request: Request) -> Response:
+        """Returns whether the room can be reached. It asks nothing of the server."""
+        return Response("ok\n") if self._room.is_open else Response(f"{UNREACHABLE}\n", status=503)
+
+    def _metrics(self, request: Request) -> Response:
+        """Returns figures for Prometheus. It asks nothing of the server. Raises ApiError 501 without the library."""
+        try:
+            return Response(self.measures.text(), EXPOSITION)
+        except MissingPackage as fault:
+            raise ApiError(501, str(fault)) from None
 
     # what the room can do, and who asks
 

@@ -121,6 +121,14 @@ class RoomConnection(Protocol):
     def authors(self) -> Mapping[int, str]:
         """The authors of the entries of this run that the connection has seen."""
 
+    @property
+    def sessions(self) -> int:
+        """How many sessions with the server the connection has now."""
+
+    @property
+    def refusals(self) -> Mapping[str, int]:
+        """How many messages were refused, by the reason."""
+
     def subscribe(self, listener: Listener) -> None:
         """Passes all that comes to a listener, beginning with a welcome if there was one."""
 

@@ -1,6 +1,5 @@
 """What the documents of the API say, in whichever format they are written."""
 import enum
-import zlib
 from collections.abc import Mapping, Sequence
 from dataclasses import dataclass, field
 from datetime import datetime, timezone
@@ -111,11 +110,6 @@ class Limits:
     members: int
     changes: int
     seconds: int
-
-
-def user_id(author: str) -> int:
-    """Returns a number for an author, which editors take for the mapper's identity."""
-    return (zlib.crc32(author.encode()) & 0x3FFFFFFF) + 1
 
 
 def instant(seconds: float) -> str:

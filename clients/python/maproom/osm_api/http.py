@@ -12,7 +12,7 @@ from dataclasses import dataclass
 
 from aiohttp import web
 
-from .calls import HTML, JSON, NO_NAME, TEXT, XML, Calls, Request, Response
+from .calls import HEALTH, HTML, JSON, METRICS, NO_NAME, TEXT, XML, Calls, Request, Response
 from .errors import ApiError, bad_request
 from .osm_reading import PIECE_BYTES
 
@@ -21,6 +21,9 @@ LOOPBACK = ("127.0.0.1", "localhost", "[::1]")
 
 # The encodings of a body, besides none. zlib recognizes which one it is.
 ENCODINGS, ANY_FORMAT = ("gzip", "deflate"), zlib.MAX_WBITS | 32
+
+# Programs ask for these every few seconds, so the log has only what is not well.
+WATCHED = (f"/{HEALTH}", f"/{METRICS}")
 
 # How many characters the header Error has at most. nginx refuses responses whose headers are longer than 4 KiB.
 MOST_HEADER = 1_000
@@ -70,13 +73,17 @@ class RequestHandler:
         response = await asyncio.shield(asyncio.ensure_future(self._answer(request)))
         agent = request.headers.get("User-Agent", "-").split(" ")[0]
         took = 1000 * (time.monotonic() - started)
+        self._calls.measures.count_response(response.status)
+        if request.path in WATCHED and response.status == 200:
+            return response
         self._note(f"{response.status} {took:.0f} ms {agent} {request.method} {request.path_qs}")
         return response
 
     async def _answer(self, request: web.Request) -> web.Response:
         """Answers a request, also if a call raises an exception."""
         try:
-            self._guard(request)
+            if request.path != f"/{HEALTH}":  # a load balancer may name no host, and learns nothing else
+                self._guard(request)
             response = await self._calls.answer(self._asked(request))
             if request.transport is None or request.transport.is_closing():
                 self._calls.lost(response)

@@ -4,6 +4,7 @@ It does what the API needs: groups of creates, retags, moves, nodes, members and
 an undo is blocked by a later change of the same part of an element: its tags or the rest. Here a group has changed what
 differs in the end, while a room also counts what a group changes and changes back."""
 import asyncio
+import collections
 import copy
 from collections.abc import Awaitable, Callable, Mapping, Sequence
 from dataclasses import dataclass
@@ -55,6 +56,7 @@ class MemoryRoom:
         self.authors: dict[int, str] = {}
         self.journal: list[JournalEntry] = []
         self.groups: list[list[Action]] = []
+        self.sessions, self.refusals = 1, collections.Counter[str]()
         self.holds_news = False
         # awaited before an author is let in
         self.before_join: Callable[[str], Awaitable[None]] | None = None
@@ -112,6 +114,12 @@ class MemoryRoom:
             self._spent[author, message] = answer.seq
         if self.after_group:
             await self.after_group()
+        return self._counted(answer)
+
+    def _counted(self, answer: Answer) -> Answer:
+        """Counts an answer if it is a refusal, and returns it."""
+        if isinstance(answer, Refusal):
+            self.refusals[answer.why] += 1
         return answer
 
     async def undo(self, author: str, seq: int) -> Answer:
@@ -119,12 +127,12 @@ class MemoryRoom:
         await asyncio.sleep(0)
         if self.before_undo:
             await self.before_undo()
-        return self.take_back(author, seq)
+        return self._counted(self.take_back(author, seq))
 
     async def redo(self, author: str) -> Answer:
         """Redoes what the author undid last."""
         await asyncio.sleep(0)
-        return self.redo_now(author)
+        return self._counted(self.redo_now(author))
 
     def redo_now(self, author: str) -> Answer:
         """Redoes what an author undid last."""

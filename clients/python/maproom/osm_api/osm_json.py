@@ -2,7 +2,8 @@
 from collections.abc import Iterable, Mapping
 from typing import Any
 
-from .documents import Bounds, Changeset, ElementState, Limits, instant, user_id
+from ..authors import user_id
+from .documents import Bounds, Changeset, ElementState, Limits, instant
 from .elements import DEGREE, compact
 from .ids import api_id, kind_of
 from .osm_xml import ACCOUNT_CREATED, GENERATOR, PERMISSIONS

@@ -2,7 +2,8 @@
 from collections.abc import Iterable, Mapping, Sequence
 from xml.sax.saxutils import quoteattr
 
-from .documents import Bounds, Changeset, ElementState, Limits, ResultRow, instant, user_id
+from ..authors import user_id
+from .documents import Bounds, Changeset, ElementState, Limits, ResultRow, instant
 from .elements import coordinate_text, sayable
 from .ids import api_id, kind_of
 

@@ -13,6 +13,9 @@ password. The program itself checks no passwords, so without --host it answers p
 The ledger keeps the version of each element. Without a ledger, edits that a mapper has not uploaded become conflicts
 when the program starts again. Each program needs its own ledger.
 
+/metrics has figures for Prometheus (Debian: python3-prometheus-client), and /health is answered with 200 while the room
+can be reached, and otherwise with 503.
+
 If the connection to the room breaks, the program connects again. SIGTERM or Ctrl-C ends it when it has answered the
 requests under way.
 
@@ -95,6 +98,9 @@ def arguments() -> argparse.Namespace:
     parser.add_argument(
         "--patience", type=seconds_of, default=60, metavar="SECONDS", help="how long a request waits for the room (60)"
     )
+    parser.add_argument(
+        "--kept", type=Path, metavar="FOLDER", help="the folder of the room's keeper, for the time of its last save"
+    )
     return parser.parse_args()
 
 
@@ -106,7 +112,14 @@ async def serve(options: argparse.Namespace) -> None:
         loop.add_signal_handler(number, ending.set)
     host, port = options.listen
     settings = Options(
-        options.name, host, port, options.ledger, frozenset(options.host), options.public_url, options.patience
+        options.name,
+        host,
+        port,
+        options.ledger,
+        frozenset(options.host),
+        options.public_url,
+        options.patience,
+        options.kept,
     )
     async with ServerRoom(options.url, options.room, options.name or READER) as room:
         async with bridge(room, settings, note) as url:

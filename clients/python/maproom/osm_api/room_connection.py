@@ -138,6 +138,7 @@ class ServerRoom:
         self._unseen: list[Written] = []
         self._last_seen: Written | None = None
         self._asking_run: asyncio.Task[None] | None = None
+        self.refusals: collections.Counter[str] = collections.Counter()
 
     async def __aenter__(self) -> "ServerRoom":
         """Connects. Raises what `Room.open` raises, and NoGroups."""
@@ -193,6 +194,12 @@ class ServerRoom:
     def authors(self) -> Mapping[int, str]:
         """The authors of the entries of this run that the connection has seen."""
         return self._reader.authors
+
+    @property
+    def sessions(self) -> int:
+        """How many sessions the connection has: that of the reader, and those of authors."""
+        rooms = [self._reader, *(session.room for session in self._sessions.values())]
+        return sum(room is not None and room.state == "open" for room in rooms)
 
     def subscribe(self, listener: Listener) -> None:
         """Sends a listener the map, and then the news."""
@@ -295,15 +302,22 @@ class ServerRoom:
         self, author: str, actions: Sequence[Action], announce: Callable[[int], None]
     ) -> Coroutine[Any, Any, Answer]:
         """Sends actions as one message, after it called `announce` with the message's id."""
-        return self._write(self._run, author, messages.group(actions), announce=announce)
+        return self._counted(self._write(self._run, author, messages.group(actions), announce=announce))
 
     def undo(self, author: str, seq: int) -> Coroutine[Any, Any, Answer]:
         """Undoes an entry of an author."""
-        return self._write(self._run, author, messages.undo(seq), "undid", seq)
+        return self._counted(self._write(self._run, author, messages.undo(seq), "undid", seq))
 
     def redo(self, author: str) -> Coroutine[Any, Any, Answer]:
         """Does again what an author undid last."""
-        return self._write(self._run, author, messages.redo(), "redid")
+        return self._counted(self._write(self._run, author, messages.redo(), "redid"))
+
+    async def _counted(self, writing: Coroutine[Any, Any, Answer]) -> Answer:
+        """Waits for an answer, and counts it if it is a refusal."""
+        answer = await writing
+        if isinstance(answer, Refusal):
+            self.refusals[answer.why] += 1
+        return answer
 
     async def _write(
         self,

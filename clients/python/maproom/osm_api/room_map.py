@@ -113,6 +113,7 @@ class RoomMap:
         self.grid = Grid()
         self.seq, self.run = -1, -1
         self.changes = 0  # how often the map changed
+        self.changed_at: float | None = None  # when the last entry came, if one did
         self.recent: deque[Entry] = deque()
         self._recent_count = 0
         self._own: dict[int, bool] = {}
@@ -132,6 +133,8 @@ class RoomMap:
         """Takes the whole map. Elements that differ from what the ledger knows get a new version."""
         is_other_run = welcome.run != self.run
         self.changes += 1
+        if not is_other_run and welcome.seq != self.seq:
+            self.changed_at = self.clock()
         if is_other_run:
             self.recent.clear()
             self._own.clear()
@@ -153,7 +156,7 @@ class RoomMap:
         before = {name: self.row(name) for name in watched}
         for name, row in rows.items():
             self._put(name, row)
-        now = self.clock()
+        now = self.changed_at = self.clock()
         self.ledger.news(rows, news.seq, news.author, now, self._created)
         versions = {name: self.ledger.known[name].version for name in rows}
         entry = Entry(news.seq, news.author, versions, now, time.monotonic())
